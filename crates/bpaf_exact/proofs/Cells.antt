@@ -16,17 +16,13 @@ use Rattle.bpaf_exact.specs.Pieces.{takes_more}
 pub value_not_key : (w : Arg) → is_value w ≡ true → is_key w ≡ false
 value_not_key (Short c a t) h = cc
 value_not_key (Long c a t) h = cc
-value_not_key (ArgWord t) h = refl
-value_not_key (Word t) h = refl
-value_not_key (PosWord t) h = refl
+value_not_key _ h = refl
 
 -- a word is no key
 pub word_not_key : (w : Arg) → is_positional w ≡ true → is_key w ≡ false
 word_not_key (Short c a t) h = cc
 word_not_key (Long c a t) h = cc
-word_not_key (ArgWord t) h = refl
-word_not_key (Word t) h = refl
-word_not_key (PosWord t) h = refl
+word_not_key _ h = refl
 
 -- an item of a named field is no value
 pub own_not_value : (q : Roles) (k : Arg) → IsNamed q → is_own_role (q k) ≡ true

@@ -70,14 +70,7 @@ flat_either_law T a b own others (alternative q x) (alternative r y) h la lb = (
       (apart_of_names q r own others la.1 lb.1 h),
   either_owns q r own others la.1 lb.1,
 )
-flat_either_law T a b own others (alternative q x) not_flat h la lb = tt
-flat_either_law T a b own others (alternative q x) (single k r g i) h la lb = tt
-flat_either_law T a b own others (alternative q x) (complete k r v) h la lb = tt
-flat_either_law T a b own others (alternative q x) (product named r v) h la lb = tt
-flat_either_law T a b own others not_flat t h la lb = tt
-flat_either_law T a b own others (single k q g i) t h la lb = tt
-flat_either_law T a b own others (complete k q v) t h la lb = tt
-flat_either_law T a b own others (product named q v) t h la lb = tt
+flat_either_law T a b own others _ _ h la lb = tt
 
 -- the same, where the keys are apart
 pub flat_choice_law : (T : Type 0) (a b : Outcome T) (own others : List Names) (s t : FlatForm T)
@@ -90,11 +83,8 @@ flat_choice_law T a b own others s t la lb =
 -- an alternative alone
 pub only_law : (T : Type 0) (outcome : Outcome T) (names : List Names) (s : FlatForm T)
     → FormLaw outcome names s → FormLaw outcome names (alternative_only s)
-only_law T outcome names not_flat l = tt
 only_law T outcome names (alternative q value) l = l
-only_law T outcome names (single k q group gap) l = tt
-only_law T outcome names (complete k q value) l = tt
-only_law T outcome names (product named q fields) l = tt
+only_law T outcome names _ l = tt
 
 -- a repeat has the keys of the field
 repeated_keys : (k : FieldKind) (q : Roles) (names : List Names) → Owns (keys k q) names
@@ -223,14 +213,7 @@ flat_both_law A B first rest own others (complete k q fv) (product named r field
     by_names ByName false l m apart = tt
     by_names (OneWord z) all l m apart = tt
     by_names (EachWord z) all l m apart = tt
-flat_both_law A B first rest own others (complete k q fv) not_flat la lb = tt
-flat_both_law A B first rest own others (complete k q fv) (alternative r v) la lb = tt
-flat_both_law A B first rest own others (complete k q fv) (single j r g h) la lb = tt
-flat_both_law A B first rest own others (complete k q fv) (complete j r v) la lb = tt
-flat_both_law A B first rest own others not_flat t la lb = tt
-flat_both_law A B first rest own others (alternative q v) t la lb = tt
-flat_both_law A B first rest own others (single k q g h) t la lb = tt
-flat_both_law A B first rest own others (product named q v) t la lb = tt
+flat_both_law A B first rest own others _ _ la lb = tt
 
 -- no item without a key
 pub no_names : Owns no_roles []
@@ -261,10 +244,6 @@ flat_alone_law T outcome names (product false q fields) l = l
 pub flat_con_law : (A B : Type 0) (inner : Outcome A) (makes : A → B → Type 0)
     (names : List Names) (s : FlatForm A) → FormLaw inner names s
     → FormLaw (ProductOutcome inner makes) names (flat_con (map_closure makes) s)
-flat_con_law A B inner makes names not_flat l = tt
-flat_con_law A B inner makes names (alternative q value) l = tt
-flat_con_law A B inner makes names (single k q group gap) l = tt
-flat_con_law A B inner makes names (complete k q value) l = tt
 flat_con_law A B inner makes names (product named q fields) l =
     (con_law A B inner makes q fields l.0, l.1, by_name named l.2)
   where
@@ -273,6 +252,7 @@ flat_con_law A B inner makes names (product named q fields) l =
         (made_reading (map_closure makes) fields).value
     by_name true l = named_con_law A B inner makes q fields.value l
     by_name false l = tt
+flat_con_law A B inner makes names _ l = tt
 
 -- a flat record is a product
 pub flat_record_law : (T : Type 0) (outcome : Outcome T) (names : List Names) (s : FlatForm T)

@@ -6,7 +6,7 @@ use Rattle.std.specs.Option.{option_map_or, is_some}
 use Rattle.bpaf_doc.specs.Names.{Names}
 use Rattle.bpaf_doc.specs.Shape.{Part}
 use Rattle.bpaf_base.specs.declared.arg.Arg.{Arg}
-use Rattle.bpaf_base.specs.declared.arg.Arg.TheVariants.{Short, Long, ArgWord, Word, PosWord}
+use Rattle.bpaf_base.specs.declared.arg.Arg.TheVariants.{ArgWord, Word}
 use Rattle.bpaf_base.specs.Items.{is_key_of, value_text, item_text}
 use Rattle.bpaf_line.specs.declared.error.Error.{Error}
 use Rattle.bpaf_line.specs.declared.error.Message.{Message}
@@ -124,11 +124,9 @@ pub record Behind (s : Situation) (p : ℕ) (text : List ℕ) : Type 0 where
 -- the text of a value is that of its item
 value_is : (w : Arg) (text : List ℕ) → value_text w ≡ Some text
     → (is_some (value_text w) ≡ true) × (item_text w ≡ text)
-value_is (Short c attached word) text e = absurd cc
-value_is (Long name attached word) text e = absurd cc
 value_is (ArgWord own) text e = (refl, cc)
 value_is (Word own) text e = (refl, cc)
-value_is (PosWord own) text e = absurd cc
+value_is _ text e = absurd cc
 
 -- a text behind a key is that of an item there
 pub behind_of : (s : Situation) (p : ℕ) (text : List ℕ) → value_after s p ≡ Some text

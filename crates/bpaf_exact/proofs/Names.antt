@@ -110,6 +110,4 @@ either_owns q r keys others a b = record {
 pub named_key : (names : Names) (k : Arg) → is_key_of names k ≡ true → is_key k ≡ true
 named_key names (Short c attached word) h = refl
 named_key names (Long name attached word) h = refl
-named_key names (ArgWord text) h = absurd cc
-named_key names (Word text) h = absurd cc
-named_key names (PosWord text) h = absurd cc
+named_key names _ h = absurd cc

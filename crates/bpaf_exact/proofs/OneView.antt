@@ -63,12 +63,9 @@ module _ (A B X Y : Type 0) (see : A → X) (look : B → Y) (f : Closure A B)
 
   -- what a constructor makes of values that look alike looks alike
   pub con_view : (s : FlatForm A) → HasOneView see s → HasOneView look (flat_con f s)
-  con_view not_flat u = tt
-  con_view (alternative q value) u = tt
-  con_view (single k q group gap) u = tt
-  con_view (complete k q value) u = tt
   con_view (product named q fields) u =
       λ os v w a b. respects.same a.from b.from v w (u os a.from b.from a.read b.read) a.made b.made
+  con_view _ u = tt
 
 -- Leaves.
 
@@ -184,14 +181,7 @@ either_view : (T X : Type 0) (see : T → X) (s t : FlatForm T) → HasOneView s
     → HasOneView see (flat_either s t)
 either_view T X see (alternative q a) (alternative r b) u n =
     λ o. pick_view see (is_own q o) (a o) (b o) (u o) (n o)
-either_view T X see (alternative q a) not_flat u n = tt
-either_view T X see (alternative q a) (single k r g h) u n = tt
-either_view T X see (alternative q a) (complete k r v) u n = tt
-either_view T X see (alternative q a) (product named r v) u n = tt
-either_view T X see not_flat t u n = tt
-either_view T X see (single k q g i) t u n = tt
-either_view T X see (complete k q v) t u n = tt
-either_view T X see (product named q v) t u n = tt
+either_view T X see _ _ u n = tt
 
 -- the same, where the keys are apart
 pub choice_view : (T X : Type 0) (see : T → X) (own others : List Names) (s t : FlatForm T)
@@ -202,11 +192,8 @@ choice_view T X see own others s t u n =
 -- an alternative alone
 only_view : (T X : Type 0) (see : T → X) (s : FlatForm T) → HasOneView see s
     → HasOneView see (alternative_only s)
-only_view T X see not_flat u = tt
 only_view T X see (alternative q value) u = u
-only_view T X see (single k q group gap) u = tt
-only_view T X see (complete k q value) u = tt
-only_view T X see (product named q fields) u = tt
+only_view T X see _ u = tt
 
 module _ (P T X : Type 0) (see : T → X) (keys : P → List Names) (words : P → List (List ℕ))
     (form : P → ProgramForm T) (each : (p : P) → HasOneView see (flat_form (form p))) where
@@ -434,14 +421,7 @@ both_view A B X Y see look own others (complete k q fv) (product named r rv) u n
     if_view (A × B) (X × Y) (pair_view see look) _ (may_follow k own others)
     (λ os v w a b. let d = u _ v.0 w.0 a.0 b.0 in let e = n _ v.1 w.1 a.1 b.1 in
     λ i. (d i, e i))
-both_view A B X Y see look own others (complete k q fv) not_flat u n = tt
-both_view A B X Y see look own others (complete k q fv) (alternative r v) u n = tt
-both_view A B X Y see look own others (complete k q fv) (single j r g h) u n = tt
-both_view A B X Y see look own others (complete k q fv) (complete j r v) u n = tt
-both_view A B X Y see look own others not_flat t u n = tt
-both_view A B X Y see look own others (alternative q v) t u n = tt
-both_view A B X Y see look own others (single k q g h) t u n = tt
-both_view A B X Y see look own others (product named q v) t u n = tt
+both_view A B X Y see look own others _ _ u n = tt
 
 module _ (T X : Type 0) (see : T → X) where
   -- the last field
@@ -468,11 +448,8 @@ module _ (T X : Type 0) (see : T → X) where
   -- the values of a record
   product_view : (s : FlatForm T) → HasOneView see s → (os : List LinePiece)
       → Alike see ((product_reading s).value os)
-  product_view not_flat u os v w a b = absurd a
-  product_view (alternative q value) u os v w a b = absurd a
-  product_view (single k q group gap) u os v w a b = absurd a
-  product_view (complete k q value) u os v w a b = absurd a
   product_view (product named q fields) u os v w a b = u os v w a b
+  product_view _ u os v w a b = absurd a
 
   -- an exact answer looks like each value of the record
   like_this : (inner : Outcome T) (r : Roles) (reading : FieldsReading T) (context : Context)

@@ -18,8 +18,8 @@ use Rattle.bpaf_laws.specs.Product.{BothOutcome, ProductOutcome}
 use Rattle.bpaf_laws.specs.Reading.{Outcome}
 use Rattle.bpaf_exact.specs.Pieces.{Roles}
 use Rattle.bpaf_exact.specs.Flat.{Refused, ByName, GivesAll, cells}
-use Rattle.bpaf_exact.specs.FlatForm.{FlatForm, FormLaw, not_flat, alternative, single, complete}
-use Rattle.bpaf_exact.specs.FlatForm.{product, is_record, product_roles, product_reading}
+use Rattle.bpaf_exact.specs.FlatForm.{FlatForm, FormLaw, not_flat, complete}
+use Rattle.bpaf_exact.specs.FlatForm.{is_record, product_roles, product_reading}
 use Rattle.bpaf_exact.specs.FlatForm.{flat_record, EachAgrees}
 use Rattle.bpaf_exact.specs.Names.{Owns, are_all_apart}
 use Rattle.bpaf_exact.specs.Record.{line_cells, RunAnswer, Accepted, RunRan, IsAcceptedOrWant}
@@ -56,10 +56,7 @@ pub record_owns : (T : Type 0) (outcome : Outcome T) (names : List Names) (s : F
     → is_record s ≡ true → FormLaw outcome names (flat_record s)
     → Owns (product_roles (flat_record s)) names
 record_owns T outcome names not_flat h l = absurd cc
-record_owns T outcome names (alternative q value) h l = l.1
-record_owns T outcome names (single k q group gap) h l = l.1
-record_owns T outcome names (complete k q value) h l = l.1
-record_owns T outcome names (product named q fields) h l = l.1
+record_owns T outcome names _ h l = l.1
 
 -- a whole program
 whole_program_law : (T : Type 0) (outcome : Outcome T) (names : List Names)
@@ -86,9 +83,7 @@ opened_form_law T inner called names words (before_commands r value) l =
     program_if_law T (CommandEval T inner called) names (opening_words called) _
     (are_plain (opening_words called)) (λ h. (command_law T inner r value l.0 called h, l.1))
 opened_form_law T inner called names words no_program l = tt
-opened_form_law T inner called names words (plain wide s) l = tt
-opened_form_law T inner called names words (commands r value) l = tt
-opened_form_law T inner called names words (left_out r value) l = tt
+opened_form_law T inner called names words _ l = tt
 
 -- a command
 pub program_command_law : (T : Type 0) (inner : Outcome T) (apart : Bool) (called : Called)
@@ -107,21 +102,16 @@ pub flat_only_law : {A B : Type 0} (inner : Outcome A) (outcome : Outcome B) (na
     → ((s : FlatForm A) → FormLaw inner names s → FormLaw outcome names (g s))
     → (s : ProgramForm A) → ProgramFormLaw inner names words s
     → ProgramFormLaw outcome names more (flat_only g s)
-flat_only_law inner outcome names words more g law no_program l = tt
 flat_only_law inner outcome names words more g law (plain wide s) l = law s l
-flat_only_law inner outcome names words more g law (commands r value) l = tt
-flat_only_law inner outcome names words more g law (left_out r value) l = tt
-flat_only_law inner outcome names words more g law (before_commands r value) l = tt
+flat_only_law inner outcome names words more g law _ l = tt
 
 -- another look
 pub program_dressed_law : (T : Type 0) (outcome : Outcome T) (names : List Names)
     (words : List (List ℕ)) (s : ProgramForm T) → ProgramFormLaw outcome names words s
     → ProgramFormLaw outcome names words (program_dressed s)
 program_dressed_law T outcome names words no_program l = tt
-program_dressed_law T outcome names words (plain wide s) l = l
-program_dressed_law T outcome names words (commands r value) l = l
-program_dressed_law T outcome names words (left_out r value) l = l
 program_dressed_law T outcome names words (before_commands r value) l = tt
+program_dressed_law T outcome names words _ l = l
 
 -- a closure
 pub program_closed_law : (A B : Type 0) (inner : Outcome A) (f : Closure A B) (names : List Names)
@@ -268,12 +258,10 @@ program_both_law A B first rest own others words _ _ la lb = tt
 pub program_con_law : (A B : Type 0) (inner : Outcome A) (makes : A → B → Type 0)
     (names : List Names) (s : ProgramForm A) → ProgramFormLaw inner names [] s
     → ProgramFormLaw (ProductOutcome inner makes) names [] (program_con (map_closure makes) s)
-program_con_law A B inner makes names no_program l = tt
 program_con_law A B inner makes names (plain wide s) l = flat_con_law A B inner makes names s l
-program_con_law A B inner makes names (commands r value) l = tt
-program_con_law A B inner makes names (left_out r value) l = tt
 program_con_law A B inner makes names (before_commands r value) l =
     (con_program A B inner makes r value l.0, l.1)
+program_con_law A B inner makes names _ l = tt
 
 -- a program keeps to the laws of one
 program_law : (T : Type 0) (outcome : Outcome T) (names : List Names) (words : List (List ℕ))
@@ -338,11 +326,9 @@ narrower_program_form T a b n names words (before_commands r value) l =
 first_only_law : (T : Type 0) (outcome : Outcome T) (names : List Names) (words : List (List ℕ))
     (s : ProgramForm T) → ProgramFormLaw outcome names words s
     → ProgramFormLaw outcome names words (first_only s)
-first_only_law T outcome names words no_program l = tt
 first_only_law T outcome names words (plain wide s) l = only_law T outcome names s l
 first_only_law T outcome names words (commands r value) l = l
-first_only_law T outcome names words (left_out r value) l = tt
-first_only_law T outcome names words (before_commands r value) l = tt
+first_only_law T outcome names words _ l = tt
 
 -- what all parsers of a list have, behind what stands before
 abbrev all_behind : {P X : Type 0} → (P → List X) → List X → List P → List X

@@ -9,7 +9,7 @@ use Rattle.bpaf_laws.specs.Reading.{Outcome}
 use Rattle.bpaf_exact.specs.Pieces.{Roles, LinePiece, pieces}
 use Rattle.bpaf_exact.specs.Flat.{ByName}
 use Rattle.bpaf_exact.specs.Says.{SaidKind, of_kind, repeated_kind}
-use Rattle.bpaf_exact.specs.FlatForm.{FlatForm, not_flat, alternative, single, complete, product}
+use Rattle.bpaf_exact.specs.FlatForm.{FlatForm, alternative, complete}
 use Rattle.bpaf_exact.specs.FlatForm.{EachAgrees, alternative_only, inner_field, is_product}
 use Rattle.bpaf_exact.specs.FlatForm.{is_record}
 use Rattle.bpaf_exact.specs.FlatForm.{product_roles, flat_record, unless, flat_fallback}
@@ -358,11 +358,8 @@ module _ {P Q T : Type 0} (keys : P → List Names) (words : P → List (List �
           by_flat : (s : FlatForm T)
               → FormSays (keys p) (alternative_only s) (of_kind ByName) (says p)
               → FormSays names (alternative_only s) (of_kind ByName) (said q)
-          by_flat not_flat h = tt
           by_flat (alternative r value) h = (refl, λ o v m. into (o ∷ []) v (h.1 o v m))
-          by_flat (single k r group gap) h = tt
-          by_flat (complete k r value) h = tt
-          by_flat (product named r fields) h = tt
+          by_flat _ h = tt
       first_pieces said p (commands r value) h into = absurd h
       first_pieces said p (left_out r value) h into = tt
       first_pieces said p (before_commands r value) h into = tt
@@ -390,11 +387,9 @@ module _ {P Q T : Type 0} (keys : P → List Names) (words : P → List (List �
       first_cells : (said : Q → CellsValue T) (p : P) (s : ProgramForm T)
           → ProgramFormSays (keys p) s (kind p) (of_cells says) p → IsSaid (says p) (said q)
           → ProgramFormSays names (first_only s) (of_kind ByName) (of_cells said) q
-      first_cells said p no_program h into = tt
       first_cells said p (plain wide s) h into = absurd h
       first_cells said p (commands r value) h into = λ cs v c. into cs v (h cs v c)
-      first_cells said p (left_out r value) h into = tt
-      first_cells said p (before_commands r value) h into = tt
+      first_cells said p _ h into = tt
 
   -- of all
   pub program_choices_says : (parsers : Q → List P) (said : ProgramSaid P T)

@@ -232,26 +232,15 @@ choice_into {T} m n names own others kind said this that from_this from_that a b
     by_names : (apart : Bool) (a b : FlatForm T) → FormSays m a (of_kind ByName) this
         → FormSays n b kind that
         → FormSays names (only_if apart (flat_either a b)) (of_kind ByName) said
-    by_names false a b g h = tt
-    by_names true not_flat b g h = tt
-    by_names true (single k q group gap) b g h = tt
-    by_names true (complete k q value) b g h = tt
-    by_names true (product named q fields) b g h = tt
-    by_names true (alternative q first) not_flat g h = tt
-    by_names true (alternative q first) (single k r group gap) g h = tt
-    by_names true (alternative q first) (complete k r value) g h = tt
-    by_names true (alternative q first) (product named r fields) g h = tt
     by_names true (alternative q first) (alternative r second) g h =
         (refl, λ o v m. piece q first second g.1 h.1 o v (is_own q o) m)
+    by_names _ _ _ g h = tt
 
 -- a parser that says so by whichever kind is an alternative or says nothing
 pub by_name : {T : Type 0} (names : List Names) (s : FlatForm T) (kind : SaidKind) (said : Said T)
     → FormSays names s kind said → FormSays names (alternative_only s) (of_kind ByName) said
-by_name names not_flat kind said h = tt
 by_name names (alternative q value) kind said h = (refl, h.1)
-by_name names (single k q group gap) kind said h = tt
-by_name names (complete k q value) kind said h = tt
-by_name names (product named q fields) kind said h = tt
+by_name names _ kind said h = tt
 
 -- a choice is of alternatives alone
 only_alternatives : {T : Type 0} (names own others : List Names) (said : Said T) (a b : FlatForm T)
@@ -262,12 +251,8 @@ only_alternatives {T} names own others said a b h = by_names (are_all_apart own 
     by_names : (apart : Bool) (a : FlatForm T)
         → FormSays names (only_if apart (flat_either (alternative_only a) b)) (of_kind ByName) said
         → FormSays names (only_if apart (flat_either a b)) (of_kind ByName) said
-    by_names false a h = tt
-    by_names true not_flat h = tt
     by_names true (alternative q value) h = h
-    by_names true (single k q group gap) h = tt
-    by_names true (complete k q value) h = tt
-    by_names true (product named q fields) h = tt
+    by_names _ _ h = tt
 
 -- of two
 pub choice_says : {T : Type 0} {m n names : List Names} (own others : List Names)
@@ -343,11 +328,9 @@ pub record OwnsKeys {T : Type 0} (names : List Names) (s : FlatForm T) : Type 0 
 -- of what keeps to its law,
 pub owned : {T : Type 0} (outcome : Outcome T) (names : List Names) (s : FlatForm T)
     → FormLaw outcome names s → OwnsKeys names s
-owned outcome names not_flat law = record { by = tt }
-owned outcome names (alternative q value) law = record { by = tt }
-owned outcome names (single k q group gap) law = record { by = tt }
 owned outcome names (complete k q value) law = record { by = law.1 }
 owned outcome names (product named q fields) law = record { by = law.1 }
+owned outcome names _ law = record { by = tt }
 
 -- as a field
 pub field_says : {T : Type 0} {s : FlatForm T} {kind : SaidKind} {names : List Names}
@@ -629,16 +612,9 @@ both_say {A} {B} {own} {behind} {a} {s} {kind} {said} {rest_said} own_keys behin
         → FormOwns behind s → FormSays own a kind said → FieldsFormSays behind s rest_said
         → FieldsFormSays (own ++ behind) (flat_both own behind a s)
         (BothSaid own kind said rest_said)
-    by_form not_flat s law rest_law h g = tt
-    by_form (alternative q value) s law rest_law h g = tt
-    by_form (single k q group gap) s law rest_law h g = tt
-    by_form (product named q fields) s law rest_law h g = tt
-    by_form (complete k q first) not_flat law rest_law h g = tt
-    by_form (complete k q first) (alternative r value) law rest_law h g = tt
-    by_form (complete k q first) (single j r group gap) law rest_law h g = tt
-    by_form (complete k q first) (complete j r value) law rest_law h g = tt
     by_form (complete k q first) (product named r fields) law rest_law h g =
         by_test k named q r first fields law rest_law h.0 h.1 g (may_follow k own behind) refl
+    by_form _ _ law rest_law h g = tt
 
 -- what a constructor makes of the values of fields
 pub con_says : {A B : Type 0} {names : List Names} {s : FlatForm A} {said : FieldsSaid A}

@@ -46,11 +46,9 @@ module _ (T : Type 0) (group : Groups T) (gap : Gap T) (one : OneByOne group) wh
 -- a closure round a field keeps that
 pub closed_no_surplus : {A B : Type 0} (f : Closure A B) (s : FlatForm A) → HasNoSurplus s
     → HasNoSurplus (flat_closed f s)
-closed_no_surplus f not_flat h = tt
-closed_no_surplus f (alternative q value) h = tt
 closed_no_surplus f (single k q group gap) h = λ os rest v g. h os rest g.from g.read
 closed_no_surplus f (complete k q value) h = λ o p os v i. h o p os i.from i.read
-closed_no_surplus f (product named q fields) h = tt
+closed_no_surplus f _ h = tt
 
 -- a field without a repeat or default has no surplus
 pub field_no_surplus : {T : Type 0} (s : FlatForm T) → HasNoSurplus s → HasNoSurplus (flat_field s)

@@ -108,6 +108,4 @@ pub cut_empty : (r : Roles) {cs : Cells} {os : List LinePiece} → Cut r cs os �
     → NonePresent cs
 cut_empty r at_end e = no_place
 cut_empty r (passed c) e = none_here (cut_empty r c e)
-cut_empty r (flag h c) e = absurd cc
-cut_empty r (argument h v c) e = absurd cc
-cut_empty r (word h c) e = absurd cc
+cut_empty r _ e = absurd cc

@@ -1,5 +1,5 @@
 -- What the definitions of programs say of single lines.
-use Rattle.std.proofs.Common.{◌≡◌, ℕ, Bool, true, false, List, [], ◌∷◌, Option, Some, None, refl}
+use Rattle.std.proofs.Common.{ℕ, Bool, true, false, List, [], ◌∷◌, Option, Some, None, refl}
 use Rattle.bpaf_laws.specs.Command.{named_only}
 use Rattle.bpaf_exact.specs.Pieces.{One, at_end, passed, word}
 use Rattle.bpaf_exact.specs.Flat.{ByName, none_here, no_place}

@@ -142,9 +142,7 @@ three_named = record { only_keys = by_item }
     by_item : (k : Arg) → is_key k ≡ false → three_roles k ≡ Foreign
     by_item (Short c attached whole) h = absurd cc
     by_item (Long name attached whole) h = absurd cc
-    by_item (ArgWord text) h = refl
-    by_item (Word text) h = refl
-    by_item (PosWord text) h = refl
+    by_item _ h = refl
 
 -- what holds of a line that is cut for them
 three_together : (items : List Arg) (os : List LinePiece)
@@ -195,9 +193,7 @@ two_named = record { only_keys = by_item }
     by_item : (k : Arg) → is_key k ≡ false → two_roles k ≡ Foreign
     by_item (Short c attached whole) h = absurd cc
     by_item (Long name attached whole) h = absurd cc
-    by_item (ArgWord text) h = refl
-    by_item (Word text) h = refl
-    by_item (PosWord text) h = refl
+    by_item _ h = refl
 
 -- two pieces aren't one value
 two_pieces : (o p : LinePiece) (v : ℕ) (os : List LinePiece) → os ≡ o ∷ p ∷ [] → NumberValue os v
