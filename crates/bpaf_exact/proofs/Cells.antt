@@ -2,7 +2,7 @@
 use Rattle.std.proofs.Common.{◌≡◌, true, false, List, [], ◌∷◌, Some, None, refl, sym, ap, ◌∙◌}
 use Rattle.std.proofs.Common.{if◌then◌else◌}
 use Rattle.bpaf_base.specs.declared.arg.Arg.{Arg}
-use Rattle.bpaf_base.specs.declared.arg.Arg.TheVariants.{Short, Long, ArgWord, Word, PosWord}
+use Rattle.bpaf_base.specs.declared.arg.Arg.TheVariants.{Short, Long, ArgWord, Word}
 use Rattle.bpaf_base.specs.Items.{is_positional}
 use Rattle.bpaf_exact.specs.Pieces.{Cells, Role, Foreign, Alone, WithNext, Roles, LinePiece, One}
 use Rattle.bpaf_exact.specs.Pieces.{Two}
@@ -27,13 +27,11 @@ word_not_key _ h = refl
 -- an item of a named field is no value
 pub own_not_value : (q : Roles) (k : Arg) → IsNamed q → is_own_role (q k) ≡ true
     → is_value k ≡ false
-own_not_value q (Short c a t) n h = refl
-own_not_value q (Long c a t) n h = refl
 own_not_value q (ArgWord t) n h = let e : is_own_role (q (ArgWord t))
     ≡ false = ap is_own_role (n.only_keys (ArgWord t) refl) in cc
 own_not_value q (Word t) n h = let e : is_own_role (q (Word t))
     ≡ false = ap is_own_role (n.only_keys (Word t) refl) in cc
-own_not_value q (PosWord t) n h = refl
+own_not_value q _ n h = refl
 
 -- a value belongs to no named field
 pub value_foreign : (q : Roles) (w : Arg) → IsNamed q → is_value w ≡ true → q w ≡ Foreign
@@ -150,11 +148,9 @@ pieces_of_cut q r n (word {w = w} {cs = cs} {os = os} h c) =
 
 -- an item of the one is of the same role to both
 either_own : (x y z : Role) → x ≡ z → is_own_role z ≡ true → either_role x y ≡ z
-either_own Foreign y Foreign e h = cc
-either_own Foreign y Alone e h = cc
-either_own Foreign y WithNext e h = cc
 either_own Alone y z e h = e
 either_own WithNext y z e h = e
+either_own _ y _ e h = cc
 
 -- a piece of the field's own isn't one of others
 pub others_own : (q : Roles) (o : LinePiece) (os : List LinePiece) → is_own q o ≡ true

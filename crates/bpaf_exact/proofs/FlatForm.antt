@@ -99,59 +99,49 @@ pub flat_listed_law : (T B : Type 0) (inner : Outcome T) (idle : Bool) (f : Clos
     → FormLaw inner names s
     → FormLaw (ClosedEval (List T) B (RepeatOutcome inner idle) f c) names
     (flat_closed f (flat_repeat s))
-flat_listed_law T B inner idle f c names not_flat g l = tt
 flat_listed_law T B inner idle f c names (alternative q value) g l = let m =
     repeat_law T inner ByName q _ _ (alternative_single T inner q value l.0) idle in
     (closed_law (List T) B _ ByName q _ m f g c, l.1)
 flat_listed_law T B inner idle f c names (single k q group gap) g l = let m =
     repeat_law T inner k q group gap l.0 idle in
     (closed_law (List T) B _ (repeated k) q _ m f g c, repeated_keys k q names l.1)
-flat_listed_law T B inner idle f c names (complete k q value) g l = tt
-flat_listed_law T B inner idle f c names (product named q fields) g l = tt
+flat_listed_law T B inner idle f c names _ g l = tt
 
 -- some needs no premise: of the lists that the same pieces give, all are empty or none is
 pub some_agrees : (T : Type 0) (inner : Outcome T) (names : List Names) (s : FlatForm T)
     → FormLaw inner names s → Agrees (some_closure T) (flat_repeat s)
-some_agrees T inner names not_flat l = tt
 some_agrees T inner names (alternative q value) l =
     some_agrees_on T inner ByName q _ _ (alternative_single T inner q value l.0)
 some_agrees T inner names (single k q group gap) l = some_agrees_on T inner k q group gap l.0
-some_agrees T inner names (complete k q value) l = tt
-some_agrees T inner names (product named q fields) l = tt
+some_agrees T inner names _ l = tt
 
 -- the last value
 pub flat_last_law : (T : Type 0) (inner : Outcome T) (names : List Names) (s : FlatForm T)
     → FormLaw inner names s → FormLaw (LastOutcome inner) names (flat_last s)
-flat_last_law T inner names not_flat l = tt
 flat_last_law T inner names (alternative q value) l =
     (last_of_law T inner ByName q _ _ (alternative_single T inner q value l.0), l.1)
 flat_last_law T inner names (single k q group gap) l =
     (last_of_law T inner k q group gap l.0, repeated_keys k q names l.1)
-flat_last_law T inner names (complete k q value) l = tt
-flat_last_law T inner names (product named q fields) l = tt
+flat_last_law T inner names _ l = tt
 
 -- what may be left out
 pub flat_optional_law : (T : Type 0) (inner : Outcome T) (names : List Names) (s : FlatForm T)
     → FormLaw inner names s → FormLaw (OptionalEval T inner) names (flat_optional s)
-flat_optional_law T inner names not_flat l = tt
 flat_optional_law T inner names (alternative q value) l =
     (optional_law T inner ByName q _ _ (alternative_single T inner q value l.0), l.1)
 flat_optional_law T inner names (single k q group gap) l =
     (optional_law T inner k q group gap l.0, l.1)
-flat_optional_law T inner names (complete k q value) l = tt
-flat_optional_law T inner names (product named q fields) l = tt
+flat_optional_law T inner names _ l = tt
 
 -- what has a value that stands for it
 pub flat_fallback_law : (T : Type 0) (inner : Outcome T) (f : Closure (Unit {0}) T) → Decides f
     → (names : List Names) (s : FlatForm T) → FormLaw inner names s
     → FormLaw (FallbackEval T inner f) names (flat_fallback f s)
-flat_fallback_law T inner f decides names not_flat l = tt
 flat_fallback_law T inner f decides names (alternative q value) l =
     (fallback_law T inner ByName q _ _ (alternative_single T inner q value l.0) f decides, l.1)
 flat_fallback_law T inner f decides names (single k q group gap) l =
     (fallback_law T inner k q group gap l.0 f decides, l.1)
-flat_fallback_law T inner f decides names (complete k q value) l = tt
-flat_fallback_law T inner f decides names (product named q fields) l = tt
+flat_fallback_law T inner f decides names _ l = tt
 
 -- Each flat form is a field of a record.
 pub flat_field_law : (T : Type 0) (outcome : Outcome T) (names : List Names) (s : FlatForm T)
@@ -222,9 +212,6 @@ no_names = record { own = λ k e. absurd cc }
 -- the last field, or one alone
 pub flat_alone_law : (T : Type 0) (outcome : Outcome T) (names : List Names) (s : FlatForm T)
     → FormLaw outcome names s → FormLaw outcome names (flat_alone s)
-flat_alone_law T outcome names not_flat l = tt
-flat_alone_law T outcome names (alternative q value) l = tt
-flat_alone_law T outcome names (single k q group gap) l = tt
 flat_alone_law T outcome names (complete k q value) l = (
   last_law T outcome k q value l.0,
   subst (Owns (either (keys k q) no_roles)) (append-nil names)
@@ -237,8 +224,8 @@ flat_alone_law T outcome names (complete k q value) l = (
     by_name ByName l = named_last_law T outcome q value l
     by_name (OneWord z) l = tt
     by_name (EachWord z) l = tt
-flat_alone_law T outcome names (product true q fields) l = tt
 flat_alone_law T outcome names (product false q fields) l = l
+flat_alone_law T outcome names _ l = tt
 
 -- the constructor of a product
 pub flat_con_law : (A B : Type 0) (inner : Outcome A) (makes : A → B → Type 0)

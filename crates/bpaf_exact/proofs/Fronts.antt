@@ -105,12 +105,10 @@ all_before (o ∷ os) none =
 
 -- where a field leaves none it takes all
 pub all_front : (k : FieldKind) (os : List LinePiece) → back k os ≡ [] → front k os ≡ os
-all_front ByName os none = refl
-all_front (EachWord false) os none = refl
 all_front (EachWord true) os none = all_before os none
-all_front (OneWord stops) [] none = refl
 all_front (OneWord false) (o ∷ os) none = cc
 all_front (OneWord true) (o ∷ os) none =
     elim (is_behind o) as (λ b. (if b then o ∷ os else os) ≡ [] → (if b then [] else o ∷ []) ≡ o ∷
     os)
     [ true ↦ λ none. absurd cc | false ↦ λ none. cc ] none
+all_front _ _ none = refl

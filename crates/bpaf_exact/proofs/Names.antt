@@ -7,7 +7,7 @@ use Rattle.std.proofs.lemmas.List.Folds.{list_any-append}
 use Rattle.std.proofs.lemmas.Slice.Eq.{bytes_eq-Decides}
 use Rattle.bpaf_doc.specs.Names.{Names}
 use Rattle.bpaf_base.specs.declared.arg.Arg.{Arg}
-use Rattle.bpaf_base.specs.declared.arg.Arg.TheVariants.{Short, Long, ArgWord, Word, PosWord}
+use Rattle.bpaf_base.specs.declared.arg.Arg.TheVariants.{Short, Long}
 use Rattle.bpaf_base.specs.Items.{is_among, is_text_among, is_key_of}
 use Rattle.bpaf_exact.specs.Pieces.{Role, Foreign, Alone, WithNext, Roles, is_own_role, is_key}
 use Rattle.bpaf_exact.specs.Pieces.{Apart, either, either_role}
@@ -39,9 +39,7 @@ one_owner own others (Long name attached word) apart e f =
     never_both (is_text_among others.longs name)
     (picked (λ other. not (is_text_among others.longs other)) (λ other. bytes_eq other name) name
     (λ other h. (bytes_eq-Decides other name).0 h) own.longs (and_parts _ _ apart).1 e) f
-one_owner own others (ArgWord text) apart e f = cc
-one_owner own others (Word text) apart e f = cc
-one_owner own others (PosWord text) apart e f = cc
+one_owner own others _ apart e f = cc
 
 -- nor of keys of which each is apart from it
 none_owner : (names : Names) (others : List Names) (k : Arg)

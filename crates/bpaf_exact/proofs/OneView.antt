@@ -32,8 +32,8 @@ use Rattle.bpaf_exact.specs.FlatForm.{flat_last, flat_optional, flat_fallback, f
 use Rattle.bpaf_exact.specs.FlatForm.{may_follow, flat_both, flat_alone, flat_con, flat_record}
 use Rattle.bpaf_exact.specs.FlatForm.{is_record, product_roles, product_reading}
 use Rattle.bpaf_exact.specs.Programs.{ChoiceValue}
-use Rattle.bpaf_exact.specs.ProgramForm.{ProgramForm, no_program, plain, commands, left_out}
-use Rattle.bpaf_exact.specs.ProgramForm.{before_commands, are_words_apart, first_only, flat_form}
+use Rattle.bpaf_exact.specs.ProgramForm.{ProgramForm, plain, commands}
+use Rattle.bpaf_exact.specs.ProgramForm.{are_words_apart, first_only, flat_form}
 use Rattle.bpaf_exact.specs.ProgramForm.{program_choice, program_choices, program_if, program_rest}
 use Rattle.bpaf_exact.specs.OneView.{Alike, OneGroup, HasOneView, Respects, pair_view}
 use Rattle.bpaf_exact.specs.OneView.{LooksLike, RunsToOne}
@@ -227,12 +227,8 @@ module _ (P T X : Type 0) (see : T → X) (keys : P → List Names) (words : P �
   -- the first of them
   first_view : (s : ProgramForm T) → HasOneView see (flat_form s)
       → HasOneView see (flat_form (first_only s))
-  first_view no_program u = tt
-  first_view (plain true s) u = tt
   first_view (plain false s) u = only_view T X see s u
-  first_view (commands r value) u = tt
-  first_view (left_out r value) u = tt
-  first_view (before_commands r value) u = tt
+  first_view _ u = tt
 
   -- a choice of any number of parsers
   pub choices_view : (ps : List P)
@@ -338,50 +334,42 @@ module _ (T X : Type 0) (see : T → X) (inner : Outcome T) where
   -- the list of a repeat
   pub repeat_view : (names : List Names) (s : FlatForm T) → FormLaw inner names s → HasOneView see s
       → HasOneView (map see) (flat_repeat s)
-  repeat_view names not_flat l u = tt
   repeat_view names (alternative q value) l u =
       list_view T X see inner ByName q _ _ (alternative_single T inner q value l.0)
       (front_view T X see value u) (λ v w a b. absurd a)
   repeat_view names (single k q group gap) l u = list_view T X see inner k q group gap l.0 u.0 u.1
-  repeat_view names (complete k q value) l u = tt
-  repeat_view names (product named q fields) l u = tt
+  repeat_view names _ l u = tt
 
   -- its last value
   pub last_of_view : (names : List Names) (s : FlatForm T) → FormLaw inner names s
       → HasOneView see s
       → HasOneView see (flat_last s)
-  last_of_view names not_flat l u = tt
   last_of_view names (alternative q value) l u =
       last_view T X see inner ByName q _ _ (alternative_single T inner q value l.0)
       (front_view T X see value u) (λ v w a b. absurd a)
   last_of_view names (single k q group gap) l u = last_view T X see inner k q group gap l.0 u.0 u.1
-  last_of_view names (complete k q value) l u = tt
-  last_of_view names (product named q fields) l u = tt
+  last_of_view names _ l u = tt
 
   -- a field that may be left out
   pub optional_field_view : (names : List Names) (s : FlatForm T) → FormLaw inner names s
       → HasOneView see s → HasOneView (option_map see) (flat_optional s)
-  optional_field_view names not_flat l u = tt
   optional_field_view names (alternative q value) l u =
       optional_value_view T X see inner ByName q _ _ (alternative_single T inner q value l.0)
       (front_view T X see value u) (λ v w a b. absurd a)
   optional_field_view names (single k q group gap) l u =
       optional_value_view T X see inner k q group gap l.0 u.0 u.1
-  optional_field_view names (complete k q value) l u = tt
-  optional_field_view names (product named q fields) l u = tt
+  optional_field_view names _ l u = tt
 
   -- a field with a default
   pub fallback_view : (f : Closure (Unit {0}) T) → Alike see (λ v. f.yes tt v)
       → (names : List Names) (s : FlatForm T) → FormLaw inner names s → HasOneView see s
       → HasOneView see (flat_fallback f s)
-  fallback_view f given names not_flat l u = tt
   fallback_view f given names (alternative q value) l u =
       fallback_value_view T X see inner ByName q _ _ (alternative_single T inner q value l.0)
       (front_view T X see value u) (λ v w a b. absurd a) f given
   fallback_view f given names (single k q group gap) l u =
       fallback_value_view T X see inner k q group gap l.0 u.0 u.1 f given
-  fallback_view f given names (complete k q value) l u = tt
-  fallback_view f given names (product named q fields) l u = tt
+  fallback_view f given names _ l u = tt
 
   -- any field of a record
   pub field_view : (names : List Names) (s : FlatForm T) → FormLaw inner names s → HasOneView see s
@@ -426,12 +414,9 @@ both_view A B X Y see look own others _ _ u n = tt
 module _ (T X : Type 0) (see : T → X) where
   -- the last field
   pub alone_view : (s : FlatForm T) → HasOneView see s → HasOneView see (flat_alone s)
-  alone_view not_flat u = tt
-  alone_view (alternative q value) u = tt
-  alone_view (single k q group gap) u = tt
   alone_view (complete k q value) u = λ os v w a b. u _ v w a.read b.read
-  alone_view (product true q fields) u = tt
   alone_view (product false q fields) u = u
+  alone_view _ u = tt
 
   record_view : (inner : Outcome T) (names : List Names) (s : FlatForm T) → FormLaw inner names s
       → HasOneView see s → HasOneView see (flat_record s)

@@ -3,7 +3,7 @@ use Rattle.std.proofs.Common.{◌≡◌, ℕ, Bool, true, false, List, [], ◌�
 use Rattle.std.proofs.Common.{sym, ap, ◌∙◌, subst, if◌then◌else◌, option_and_then}
 use Rattle.std.specs.Option.{option_map_or}
 use Rattle.bpaf_base.specs.declared.arg.Arg.{Arg}
-use Rattle.bpaf_base.specs.declared.arg.Arg.TheVariants.{Short, Long, ArgWord, Word, PosWord}
+use Rattle.bpaf_base.specs.declared.arg.Arg.TheVariants.{Word, PosWord}
 use Rattle.bpaf_base.specs.Items.{is_positional, word_text, item_text}
 use Rattle.bpaf_line.specs.declared.error.Error.{Error}
 use Rattle.bpaf_line.specs.Situation.{Situation}
@@ -31,9 +31,6 @@ use Rattle.bpaf_exact.proofs.Matching.{match_of, ByTest, by_test, no_pieces, one
 -- the text and the side of a word are those of its item
 pub word_is : (w : Arg) (strict : Bool) (text : List ℕ) → word_text w ≡ Some (strict, text)
     → (item_text w ≡ text) × (stands_behind w ≡ strict)
-word_is (Short c attached word) strict text e = absurd cc
-word_is (Long name attached word) strict text e = absurd cc
-word_is (ArgWord own) strict text e = absurd cc
 word_is (Word own) strict text e = (
   ap (λ z. option_map_or (λ word. word.1) z own) e,
   ap (λ z. option_map_or (λ word. word.0) z false) e,
@@ -42,6 +39,7 @@ word_is (PosWord own) strict text e = (
   ap (λ z. option_map_or (λ word. word.1) z own) e,
   ap (λ z. option_map_or (λ word. word.0) z false) e,
 )
+word_is _ strict text e = absurd cc
 
 -- a field that stops takes none behind `--`
 passed_by : (b : Bool) → b ≡ true → (o : LinePiece) (os : List LinePiece) → is_behind o ≡ true

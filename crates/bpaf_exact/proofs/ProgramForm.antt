@@ -139,12 +139,10 @@ program_never_refuses A B f n (before_commands r value) = tt
 pub program_optional_law : (T : Type 0) (inner : Outcome T) (names : List Names)
     (words : List (List ℕ)) (s : ProgramForm T) → ProgramFormLaw inner names words s
     → ProgramFormLaw (OptionalEval T inner) names [] (program_optional false s)
-program_optional_law T inner names words no_program l = tt
 program_optional_law T inner names words (plain wide s) l = flat_optional_law T inner names s l
 program_optional_law T inner names words (commands r value) l =
     (optional_commands T inner r words value l.0, l.1)
-program_optional_law T inner names words (left_out r value) l = tt
-program_optional_law T inner names words (before_commands r value) l = tt
+program_optional_law _ inner names words _ l = tt
 
 -- a word that an item is, is one of the words of which it is one
 among : (words : List (List ℕ)) (k : Arg) → is_one_of words k ≡ true
@@ -378,9 +376,5 @@ module _ (P T : Type 0) (outcome : P → Outcome T) (keys : P → List Names)
 pub flat_form_law : (T : Type 0) (outcome : Outcome T) (names : List Names)
     (words : List (List ℕ)) (s : ProgramForm T) → ProgramFormLaw outcome names words s
     → FormLaw outcome names (flat_form s)
-flat_form_law T outcome names words no_program l = tt
-flat_form_law T outcome names words (plain true s) l = tt
 flat_form_law T outcome names words (plain false s) l = l
-flat_form_law T outcome names words (commands r value) l = tt
-flat_form_law T outcome names words (left_out r value) l = tt
-flat_form_law T outcome names words (before_commands r value) l = tt
+flat_form_law _ outcome names words _ l = tt

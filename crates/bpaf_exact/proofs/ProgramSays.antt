@@ -196,14 +196,12 @@ module _ {P Q T : Type 0} (inside : Q → P) (q : Q) where
             (record_owns T outcome names s is (flat_record_law T outcome names s law)) read.cut)
             read.read;
       }
-  whole_says outcome names words (plain wide s) kind (of_cells said) p law h is = absurd h
-  whole_says outcome names words (commands r value) kind (of_pieces said) p law h is = absurd h
   whole_says outcome names words (commands r value) kind (of_cells said) p law h is = h
-  whole_says outcome names words (left_out r value) kind (of_pieces said) p law h is = absurd h
   whole_says outcome names words (left_out r value) kind (of_cells said) p law h is = h
   whole_says outcome names words (before_commands r value) kind (of_pieces said) p law h is =
       absurd h
   whole_says outcome names words (before_commands r value) kind (of_cells said) p law h is = h
+  whole_says outcome names words _ kind _ p law h is = absurd h
 
   -- a command
   pub program_command_says : (outcome : Outcome T) (words : List (List ℕ)) {s : ProgramForm T}
@@ -351,7 +349,6 @@ module _ {P Q T : Type 0} (keys : P → List Names) (words : P → List (List �
           → ProgramFormSays (keys p) s (kind p) (of_pieces says) p
           → ((os : List LinePiece) (v : T) → says p os v → said q os v)
           → ProgramFormSays names (first_only s) (of_kind ByName) (of_pieces said) q
-      first_pieces said p no_program h into = tt
       first_pieces said p (plain wide s) h into =
           record { by = by_flat s (by_name (keys p) s (kind p) (says p) h.by) }
         where
@@ -361,8 +358,7 @@ module _ {P Q T : Type 0} (keys : P → List Names) (words : P → List (List �
           by_flat (alternative r value) h = (refl, λ o v m. into (o ∷ []) v (h.1 o v m))
           by_flat _ h = tt
       first_pieces said p (commands r value) h into = absurd h
-      first_pieces said p (left_out r value) h into = tt
-      first_pieces said p (before_commands r value) h into = tt
+      first_pieces said p _ h into = tt
 
   module _ (says : P → CellsValue T)
       (each : (p : P) → agrees p → ProgramFormSays (keys p) (form p) (kind p) (of_cells says) p)

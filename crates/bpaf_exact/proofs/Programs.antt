@@ -11,7 +11,7 @@ use Rattle.std.proofs.lemmas.Bool.Decides.{nat_tests}
 use Rattle.std.proofs.lemmas.List.{length_push}
 use Rattle.std.proofs.lemmas.Slice.Eq.{bytes_eq-Decides}
 use Rattle.bpaf_base.specs.declared.arg.Arg.{Arg}
-use Rattle.bpaf_base.specs.declared.arg.Arg.TheVariants.{Short, Long, ArgWord, Word, PosWord}
+use Rattle.bpaf_base.specs.declared.arg.Arg.TheVariants.{Short, Long}
 use Rattle.bpaf_base.specs.Items.{any_item}
 use Rattle.bpaf_line.specs.declared.error.Error.{Error}
 use Rattle.bpaf_line.specs.Situation.{Situation, in_scope, is_taken, item_at}
@@ -153,9 +153,7 @@ no_key words plain (Long name true word) s h = absurd (true≢false (sym h ∙ n
     none (w ∷ ws) = none ws
 no_key words plain (Long name false word) s h =
     absurd (true≢false (sym h ∙ plain_word words plain word s))
-no_key words plain (ArgWord text) s h = refl
-no_key words plain (Word text) s h = refl
-no_key words plain (PosWord text) s h = refl
+no_key words plain _ s h = refl
 
 -- a word isn't a named field's own, and so the field has the same pieces behind it
 opens_pieces : (words : List (List ℕ)) (q : Roles) → are_plain words ≡ true → IsNamed q

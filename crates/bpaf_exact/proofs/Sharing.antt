@@ -4,7 +4,7 @@ use Rattle.std.proofs.Common.{refl, sym, ap, ◌∙◌, if◌then◌else◌}
 use Rattle.std.proofs.Common.{◌++◌, ◌||◌, ◌⊎◌, ⊎_elim, None, Some, inl, inr}
 use Rattle.std.proofs.lemmas.List.Folds.{list_any-append}
 use Rattle.bpaf_base.specs.Items.{is_key_of, is_positional}
-use Rattle.bpaf_base.specs.declared.arg.Arg.TheVariants.{Short, Long, ArgWord, Word, PosWord}
+use Rattle.bpaf_base.specs.declared.arg.Arg.TheVariants.{Word, PosWord}
 use Rattle.bpaf_exact.specs.Names.{are_all_apart}
 use Rattle.bpaf_exact.specs.Pieces.{Cells, Cut, argument, at_end, begin_piece, flag, passed, pieces}
 use Rattle.bpaf_exact.specs.Pieces.{word}
@@ -33,13 +33,11 @@ same_truth false false f g = refl
 
 -- a word is no key
 no_key : (names : List Names) (w : Arg) → is_positional w ≡ true → is_key_of_any names w ≡ false
-no_key names (Short c attached text) h = absurd cc
-no_key names (Long name attached text) h = absurd cc
-no_key names (ArgWord text) h = absurd cc
 no_key [] (Word text) h = refl
 no_key (own ∷ names) (Word text) h = no_key names (Word text) h
 no_key [] (PosWord text) h = refl
 no_key (own ∷ names) (PosWord text) h = no_key names (PosWord text) h
+no_key names _ h = absurd cc
 
 -- a piece is one's own by its first item
 own_first : (r : Roles) (o : LinePiece) → is_own r o ≡ is_own_role (r (first_item o))
