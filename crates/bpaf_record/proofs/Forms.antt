@@ -82,12 +82,9 @@ product_is _ = refl
 
 -- a field of a product
 pub field_is : {T : Type 0} (s : FlatForm T) → field_form (form_of s) ≡ form_of (inner_field s)
-field_is not_flat = refl
-field_is (alternative q value) = refl
-field_is (single k q group gap) = refl
-field_is (complete k q value) = refl
 field_is (product true q fields) = refl
 field_is (product false q fields) = refl
+field_is _ = refl
 
 -- a named one
 named_is : (k : FieldKind) → is_named_kind (kind_of k) ≡ is_named k
@@ -97,12 +94,10 @@ named_is (EachWord stops) = refl
 
 -- the last field
 pub alone_is : {T : Type 0} (s : FlatForm T) → alone_form (form_of s) ≡ form_of (flat_alone s)
-alone_is not_flat = refl
-alone_is (alternative q value) = refl
-alone_is (single k q group gap) = refl
 alone_is (complete k q value) = ap Product (named_is k)
 alone_is (product true q fields) = refl
 alone_is (product false q fields) = refl
+alone_is _ = refl
 
 -- a constructor
 pub con_is : {A B : Type 0} (f : Closure A B) (s : FlatForm A)
@@ -143,10 +138,8 @@ stands : (k : FieldKind) (own others : List Names)
     → may_stand (kind_of k) (are_all_apart own others) (list_all (λ names. false) others)
     ≡ may_follow k own others
 stands ByName own others = refl
-stands (OneWord stops) own [] = refl
-stands (OneWord stops) own (names ∷ others) = refl
-stands (EachWord stops) own [] = refl
-stands (EachWord stops) own (names ∷ others) = refl
+stands _ own [] = refl
+stands _ own (names ∷ others) = refl
 
 -- a field before others
 pub both_is : {A B : Type 0} (own others : List Names) (s : FlatForm A) (t : FlatForm B)

@@ -8,7 +8,7 @@ use Rattle.std.proofs.lemmas.List.Concat.{flat_map-append}
 use Rattle.std.proofs.lemmas.List.Folds.{list_all-append}
 use Rattle.bpaf_doc.specs.Names.{Names}
 use Rattle.bpaf_laws.specs.Command.{Called, opening_words}
-use Rattle.bpaf_exact.specs.Flat.{ByName, OneWord, EachWord, ReadOff}
+use Rattle.bpaf_exact.specs.Flat.{ByName, ReadOff}
 use Rattle.bpaf_exact.specs.FlatForm.{FlatForm, complete}
 use Rattle.bpaf_exact.specs.FlatForm.{flat_record, is_record, product_reading}
 use Rattle.bpaf_exact.specs.FlatForm.{product_roles}
@@ -77,12 +77,9 @@ fallback_part_is f _ = refl
 -- what may be left out
 pub optional_part_is : {T : Type 0} (catch : Bool) (s : ProgramForm T)
     → optional_part catch (part_of s) ≡ part_of (program_optional catch s)
-optional_part_is catch no_program = refl
 optional_part_is catch (plain wide s) = ap (Flat wide) (optional_unless catch s)
 optional_part_is true (commands r value) = refl
-optional_part_is false (commands r value) = refl
-optional_part_is catch (left_out r value) = refl
-optional_part_is catch (before_commands r value) = refl
+optional_part_is catch _ = refl
 
 -- a choice of two
 pub choice_part_is : {T : Type 0} (own others : List Names) (words more : List (List ℕ))
@@ -170,12 +167,9 @@ keys_entered test false names b e = refl
 
 -- a field of a product
 field_part_is : {T : Type 0} (s : ProgramForm T) → field_part (part_of s) ≡ part_of (program_field s)
-field_part_is no_program = refl
 field_part_is (plain wide s) =
     ap₂ (λ other form. Flat (wide || other) form) (product_is s) (field_is s)
-field_part_is (commands r value) = refl
-field_part_is (left_out r value) = refl
-field_part_is (before_commands r value) = refl
+field_part_is _ = refl
 
 -- the last field
 pub alone_part_is : {T : Type 0} (s : ProgramForm T)
@@ -193,8 +187,6 @@ named_part_is : {A B : Type 0} (own others : List Names) (wide : Bool) (s : Flat
     ≡ part_of (program_both own others (plain wide s) (before_commands r value))
 named_part_is own others wide (complete ByName q first) r value none =
     if_is (are_all_apart own others) _
-named_part_is own others wide (complete (OneWord stops) q first) r value none = refl
-named_part_is own others wide (complete (EachWord stops) q first) r value none = refl
 named_part_is own others wide _ r value none = refl
 
 -- a field before others
