@@ -7,14 +7,14 @@ use Rattle.bpaf_text.specs.Named.{KeyWithValue, key_named}
 use Rattle.bpaf_words.specs.Arguments.{Given}
 use Rattle.bpaf_words.specs.Spelling.{Known, knowing}
 use Rattle.bpaf_laws.specs.Argument.{ArgumentReads}
-use Rattle.bpaf_laws.specs.Flag.{FlagReads}
 use Rattle.bpaf_laws.specs.Product.{BothReads, ProductReads}
 use Rattle.bpaf_laws.specs.Reading.{Readings}
 use Rattle.bpaf_laws.specs.Repeat.{ManyReads}
 use Rattle.bpaf.specs.declared.leaves.positional.Position.TheVariants.{Unrestricted}
 use Rattle.bpaf.specs.Positional.{PositionalReads}
 use Rattle.bpaf_program.specs.Dealt.{IsDealtBy}
-use Rattle.bpaf_program.specs.Values.{IsKept, MeansText, String}
+use Rattle.bpaf_program.specs.Fields.{SwitchReads}
+use Rattle.bpaf_program.specs.Values.{MeansText, String}
 use Rattle.bpaf_demo.specs.declared.options.Options.{Options}
 
 -- the names of the switch
@@ -51,10 +51,6 @@ FieldValues = Bool × (ℕ × Vec String)
 abbrev pub options_of : FieldValues → Options
 options_of x = record { verbose = x.0; num = x.1.0; files = x.1.1 }
 
--- what the switch reads
-abbrev pub VerboseReads : Readings Bool
-VerboseReads = FlagReads Bool IsKept (key_named verbose_names) true (Some false)
-
 -- what the number reads
 abbrev pub NumReads : Readings ℕ
 NumReads = ArgumentReads ℕ (SpellsUnsigned 64) number_key
@@ -67,7 +63,8 @@ FilesReads = ManyReads (PositionalReads String MeansText Unrestricted)
 abbrev pub OptionsReads : Readings Options
 OptionsReads =
     ProductReads FieldValues Options
-    (BothReads Bool (ℕ × Vec String) VerboseReads (BothReads ℕ (Vec String) NumReads FilesReads))
+    (BothReads Bool (ℕ × Vec String) (SwitchReads verbose_names)
+    (BothReads ℕ (Vec String) NumReads FilesReads))
     (λ x v. v ≡ options_of x)
 
 -- all places of the words' line but the first `--` are dealt out to the switch, the number and the

@@ -1,21 +1,17 @@
 -- What the program shows where it is asked for help.
-use Rattle.std.specs.Prelude.{◌≡◌, ℕ, Bool, false, List, [], ◌∷◌, Some, codes}
+use Rattle.std.specs.Prelude.{◌≡◌, ℕ, Bool, List, [], ◌∷◌, Some, codes}
 use Rattle.bpaf_doc.specs.declared.doc.Piece.{Piece}
 use Rattle.bpaf_doc.specs.Fold.{TextPieces}
 use Rattle.bpaf_doc.specs.Shape.{Shape, And, Many, Optional, members}
-use Rattle.bpaf_text.specs.Named.{Named, KeyWithValue, key_named, with_help}
+use Rattle.bpaf_text.specs.Named.{KeyWithValue, with_help}
 use Rattle.bpaf_line.specs.declared.failure.ParseFailure.{ParseFailure}
 use Rattle.bpaf_laws.specs.Argument.{argument_shape}
-use Rattle.bpaf_laws.specs.Flag.{flag_shape}
 use Rattle.bpaf_keys.specs.Info.{plain_info}
 use Rattle.bpaf.specs.Asked.{IfShown, WasAsked}
 use Rattle.bpaf.specs.declared.leaves.positional.Position.TheVariants.{Unrestricted}
 use Rattle.bpaf.specs.Positional.{positional_shape}
+use Rattle.bpaf_program.specs.Fields.{switch_shape}
 use Rattle.bpaf_demo.specs.Record.{number_key, program_given, verbose_names}
-
--- the switch with its help
-abbrev pub verbose_shown : List Piece → Named
-verbose_shown help = with_help (key_named verbose_names) help
 
 -- the number with its help
 abbrev pub number_shown : List Piece → KeyWithValue
@@ -24,7 +20,7 @@ number_shown help = record number_key { named = with_help number_key.named help 
 -- what the program shows: the switch, the number and the files, each with its help
 abbrev pub program_shape : (verbose num file : List Piece) → Shape
 program_shape verbose num file =
-    And (members (flag_shape (verbose_shown verbose) (Some false)
+    And (members (switch_shape verbose_names verbose
     ∷ argument_shape (number_shown num)
     ∷ Many (Optional (positional_shape Unrestricted (codes "FILE") (Some file)))
     ∷ []))

@@ -1,12 +1,12 @@
 -- Parsers of a program whose makings are known: what each reads, shows and keeps to.
-use Rattle.std.proofs.Common.{◌≡◌, Bool, true, false, ℕ, List, [], ◌∷◌, Some, Result, Ok, Err}
-use Rattle.std.proofs.Common.{IfOk, ap, refl, subst, sym, ◌∙◌}
+use Rattle.std.proofs.Common.{◌≡◌, Bool, true, false, ℕ, List, [], ◌∷◌, Some, Result, Ok, Err, IfOk}
+use Rattle.std.proofs.Common.{ap, refl, subst, sym, ◌∙◌}
 use Rattle.std.specs.Result.{IfErr}
 use Rattle.bpaf_doc.specs.declared.doc.Piece.{Piece}
 use Rattle.bpaf_doc.specs.Names.{Names}
 use Rattle.bpaf_doc.specs.Shape.{Shape, And, Many, Optional, members}
 use Rattle.bpaf_text.specs.declared.params.ParseFlag.{ParseFlag}
-use Rattle.bpaf_text.specs.Named.{KeyWithValue, key_named, with_help}
+use Rattle.bpaf_text.specs.Named.{KeyWithValue, key_named}
 use Rattle.bpaf_words.specs.Arguments.{Given}
 use Rattle.bpaf_line.specs.declared.failure.ParseFailure.{ParseFailure}
 use Rattle.bpaf_laws.specs.Argument.{ArgumentOutcome, ArgumentReads, argument_shape}
@@ -33,11 +33,11 @@ use Rattle.bpaf.proofs.Asking.{argument_hands_on, both_hands_on, flag_hands_on, 
 use Rattle.bpaf.proofs.Asking.{positional_hands_on, product_hands_on}
 use Rattle.bpaf.proofs.Helps.{argument_without_help, flag_without_help, key_with_help}
 use Rattle.bpaf_program.specs.Dealt.{IsDealtBy}
-use Rattle.bpaf_program.specs.Fields.{IsArgument, IsSwitch, IsWord}
+use Rattle.bpaf_program.specs.Fields.{IsArgument, IsSwitch, IsWord, SwitchReads, switch_shape}
 use Rattle.bpaf_program.specs.Values.{IsKept}
 use Rattle.bpaf_program.proofs.ReadsToo.{IsAlso, both_also, many_also, product_also, word_also}
-use Rattle.bpaf_program.proofs.Shown.{both_show, help_asked, last_shows}
-use Rattle.bpaf_program.proofs.Shown.{line_context, many_shows, product_shows}
+use Rattle.bpaf_program.proofs.Shown.{both_show, help_asked, last_shows, line_context, many_shows}
+use Rattle.bpaf_program.proofs.Shown.{product_shows}
 
 -- a parser, or fields, keep to the laws, show nothing by themselves, read what is wanted, and show
 -- this alone
@@ -55,8 +55,7 @@ pub switch_known : {names : Names} {text : List ℕ} {help : List Piece} {switch
     → IsKnown (FlagOutcome IsKept switch.named switch.present switch.absent)
     (FlagReads Bool IsKept switch.named switch.present switch.absent)
     (λ shape. shape ≡ flag_shape switch.named switch.absent)
-    (FlagReads Bool IsKept (key_named names) true (Some false))
-    (flag_shape (with_help (key_named names) help) (Some false))
+    (SwitchReads names) (switch_shape names help)
 switch_known {names} {text} {help} {switch} is = record {
   law = flag_lawful Bool IsKept switch.named switch.present switch.absent;
   nothing = flag_hands_on nothing_shown IsKept switch.named switch.present switch.absent;

@@ -33,11 +33,11 @@ handed_on holds (Err f) is then = then f is.1
 
 -- a refusal answers the words, where the help that it shows does
 pub refusal_answers : (answers : List ℕ → Type 0) (asked : List Piece → Bool → Type 0)
-    → ((doc : List Piece) (full : Bool) → asked doc full → answers (printed full doc))
-    → (f : ParseFailure) → IfShown asked f → AnswersText answers (Err f)
-refusal_answers answers asked help (Stdout doc full) is = help doc full is
-refusal_answers answers asked help (Stderr doc) is = tt
-refusal_answers answers asked help Memory is = tt
+    (f : ParseFailure) → ((doc : List Piece) (full : Bool) → f ≡ Stdout doc full → asked doc full
+    → answers (printed full doc))
+    → IfShown asked f → AnswersText answers (Err f)
+refusal_answers answers asked (Stdout doc full) help is = help doc full refl is
+refusal_answers answers asked f help is = tt
 
 module _ (answers : List ℕ → Type 0) (out err : Written) where
   -- what is told of a failure is a text that was asked for, or a message
@@ -57,8 +57,7 @@ module _ (answers : List ℕ → Type 0) (out err : Written) where
 -- a refusal that shows a page shows one, whatever it is
 page_answers : (said : List ℕ → Type 0) (f : ParseFailure) → AnswersText (OrPage said) (Err f)
 page_answers said (Stdout doc full) = inr (doc, full, refl)
-page_answers said (Stderr doc) = tt
-page_answers said Memory = tt
+page_answers said f = tt
 
 -- where texts of this kind are given, an answer gives one or shows a page
 gives_or_shows : (said : List ℕ → Type 0) (r : Result (String Global) ParseFailure)
@@ -78,9 +77,8 @@ module _ (out err : Written) where
   -- where memory was wanted, that alone is told
   wants : (text : List ℕ) (f : ParseFailure) (status : ℕ) → IsTold out err f status → f ≡ Memory
       → Prints text out err status
-  wants text (Stdout doc full) status is own = absurd cc
-  wants text (Stderr doc) status is own = absurd cc
   wants text Memory status is own = memory_wanted is.0 is.1
+  wants text f status is own = absurd cc
 
   -- an answer that is a text, or want of memory, is printed
   prints : (text : List ℕ) (r : Result (String Global) ParseFailure) (status : ℕ)
@@ -105,8 +103,7 @@ pub text_answers : (answers : List ℕ → Type 0) (text : List ℕ) → answers
     → (r : Result (String Global) ParseFailure) → IsTextOrWant text r → AnswersText answers r
 text_answers answers text own (Ok made) is = subst answers (sym is) own
 text_answers answers text own (Err (Stdout doc full)) is = absurd cc
-text_answers answers text own (Err (Stderr doc)) is = tt
-text_answers answers text own (Err Memory) is = tt
+text_answers answers text own (Err f) is = tt
 
 module _ {answers : List ℕ → Type 0} {V : Type 0} {value : V → Type 0} {text_of : V → List ℕ}
     (alike : Alike text_of value) where

@@ -3,10 +3,14 @@ use Rattle.std.specs.Prelude.{◌≡◌, Bool, true, false, ℕ, List, Option, S
 use Rattle.bpaf_doc.specs.declared.doc.Piece.{Piece}
 use Rattle.bpaf_doc.specs.Fold.{TextPieces}
 use Rattle.bpaf_doc.specs.Names.{Names}
+use Rattle.bpaf_doc.specs.Shape.{Shape}
 use Rattle.bpaf_text.specs.declared.params.ParseFlag.{ParseFlag}
 use Rattle.bpaf_text.specs.Named.{KeyWithValue, key_named, with_help}
+use Rattle.bpaf_laws.specs.Flag.{FlagReads, flag_shape}
+use Rattle.bpaf_laws.specs.Reading.{Readings}
 use Rattle.bpaf.specs.declared.leaves.positional.ParsePositional.{ParsePositional}
 use Rattle.bpaf.specs.declared.leaves.positional.Position.{Position}
+use Rattle.bpaf_program.specs.Values.{IsKept}
 
 -- a flag with these names, its present value and perhaps an absent one, and no help
 abbrev pub plain_flag : {T : Type 0} → Names → T → Option T → ParseFlag T
@@ -28,6 +32,14 @@ plain_argument names metavar = record {
   adjacent = false;
   last = false;
 }
+
+-- what a switch with these names reads
+abbrev pub SwitchReads : Names → Readings Bool
+SwitchReads names = FlagReads Bool IsKept (key_named names) true (Some false)
+
+-- what it shows with this help
+abbrev pub switch_shape : Names → List Piece → Shape
+switch_shape names help = flag_shape (with_help (key_named names) help) (Some false)
 
 -- a switch with these names, and this help of this text
 pub record IsSwitch (names : Names) (text : List ℕ) (help : List Piece) (switch : ParseFlag Bool)

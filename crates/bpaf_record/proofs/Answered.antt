@@ -111,7 +111,7 @@ module _ {T : Type 0} {describes : Shape → Type 0} {info : RunInfo} {form : Fl
   -- Those of them that begin with a key are its own.
   pub of_line : {key : Names} → OwnOf given key (keyed (key ∷ []) line)
   of_line {key} = record {
-    spelled = piece_was_spelled info given told.is_value.context told.is_value.on_line _ key line
+    spelled = piece_was_spelled key info given told.is_value.context told.is_value.on_line _ line
         told.is_value.read.cut;
   }
 
@@ -126,7 +126,7 @@ module _ {T : Type 0} {describes : Shape → Type 0} {info : RunInfo} {form : Fl
   pub spelled_key : {key : Names} → IfKeySpelled key (keyed (key ∷ []) line ≢ [])
   spelled_key {key} names same words are texts spelled =
       let value = told.is_value in
-      spelled_has_piece info given value.context value.on_line _ key value.read.cut_into
+      spelled_has_piece key info given value.context value.on_line _ value.read.cut_into
       value.read.cut (subst (All IsUtf8) (sym are) texts)
       (subst (λ ws. IsSpelledByAny info.numbers key ws) (sym are)
       (subst (λ z. IsSpelledByAny info.numbers z words) (sym same) spelled))

@@ -1,7 +1,12 @@
 -- What an answer of a program says by the words: whose keys were spelled of the fields in front of
 -- commands, and which command's word was.
 use Rattle.std.proofs.Common.{◌≡◌, ◌≢◌, ℕ, Bool, true, false, List, [], ◌∷◌, Some, None, refl, ap}
-use Rattle.std.proofs.Common.{sym, subst, ◌∙◌, if◌then◌else◌, ◌||◌, Option}
+use Rattle.std.proofs.Common.{subst, if◌then◌else◌, Option, arith, ⊎_elim}
+use Rattle.std.specs.List.{Contains}
+use Rattle.std.specs.Option.{option_to_list}
+use Rattle.std.proofs.lemmas.List.Elements.{Contains-append_cases, Contains-append_left}
+use Rattle.std.proofs.lemmas.List.Elements.{Contains-append_right}
+use Rattle.std.proofs.lemmas.Bool.{or_cases}
 use Rattle.bpaf_doc.specs.Names.{Names}
 use Rattle.bpaf_doc.specs.Shape.{Shape}
 use Rattle.bpaf_base.specs.declared.arg.Arg.{Arg}
@@ -13,8 +18,8 @@ use Rattle.bpaf_laws.specs.Command.{is_one_of}
 use Rattle.bpaf.specs.Info.{RunInfo}
 use Rattle.bpaf.specs.Known.{IsLineContext}
 use Rattle.bpaf_exact.specs.Names.{Owns}
-use Rattle.bpaf_exact.specs.Pieces.{Cells, Roles, Role, Foreign, Alone, WithNext}
-use Rattle.bpaf_exact.specs.Pieces.{pieces, begin_piece, is_own_role, is_value}
+use Rattle.bpaf_exact.specs.Pieces.{Cells, Roles, Role, Foreign, Alone, WithNext, pieces}
+use Rattle.bpaf_exact.specs.Pieces.{begin_piece, is_own_role, is_value}
 use Rattle.bpaf_exact.specs.ProgramForm.{ProgramForm}
 use Rattle.bpaf_exact.specs.Programs.{CellsValue, ChoiceValue, first_value, second_value}
 use Rattle.bpaf_exact.specs.Programs.{CommandValue, Opens, opens_here, opens_later, without}
@@ -23,7 +28,8 @@ use Rattle.bpaf_exact.specs.Record.{line_cells}
 use Rattle.bpaf_record.specs.Program.{TellsOfWords}
 use Rattle.bpaf_record.specs.Spelled.{WasCalled}
 use Rattle.bpaf_record.proofs.Answered.{OwnOf}
-use Rattle.bpaf_record.proofs.Spelled.{keys_on, was_spelled}
+use Rattle.bpaf_record.proofs.OnLine.{present}
+use Rattle.bpaf_record.proofs.Spelled.{HasPassing, was_spelled}
 
 -- what is left of cells: at each place what was there, or nothing
 pub data IsLeft : Cells → Cells → Type 0 where
@@ -73,59 +79,46 @@ opens_left : {words : List (List ℕ)} {cs ds : Cells} → Opens words cs ds →
 opens_left (opens_here {cs = cs} is) = gone (all_left cs)
 opens_left (opens_later o) = still_there (opens_left o)
 
--- an item that passes a test stands where it is left
-kept_on : (test : Arg → Bool) {left cs : Cells} → IsLeft left cs → keys_on test left ≢ []
-    → keys_on test cs ≢ []
-kept_on test none_left some = some
-kept_on test (still_there {c = None} l) some = kept_on test l some
-kept_on test (still_there {c = Some k} {left = left} {cs = cs} l) some =
-    by_test (test k) some (kept_on test l)
-  where
-    by_test : (b : Bool) → (if b then (k ∷ keys_on test left) else keys_on test left) ≢ []
-        → (keys_on test left ≢ [] → keys_on test cs ≢ [])
-        → (if b then (k ∷ keys_on test cs) else keys_on test cs) ≢ []
-    by_test true some behind = λ none. cc
-    by_test false some behind = behind some
-kept_on test (gone {c = None} l) some = kept_on test l some
-kept_on test (gone {c = Some k} {cs = cs} l) some = by_test (test k) (kept_on test l some)
-  where
-    by_test : (b : Bool) → keys_on test cs ≢ []
-        → (if b then (k ∷ keys_on test cs) else keys_on test cs) ≢ []
-    by_test true behind = λ none. cc
-    by_test false behind = behind
+-- an item that is left is present where it is left of
+item_there : {left cs : Cells} → IsLeft left cs → (k : Arg) → Contains (present left) k
+    → Contains (present cs) k
+item_there none_left k there = there
+item_there (still_there {c = c} {left = left} {cs = cs} l) k there = ⊎_elim
+    (λ here. Contains-append_left (option_to_list c) (present cs) k here)
+    (λ behind. Contains-append_right (option_to_list c) (present cs) k (item_there l k behind))
+    (Contains-append_cases (option_to_list c) (present left) k there)
+item_there (gone {c = c} {cs = cs} l) k there =
+    Contains-append_right (option_to_list c) (present cs) k (item_there l k there)
+
+-- so is one that passes a test
+kept_on : (test : Arg → Bool) {left cs : Cells} → IsLeft left cs → HasPassing test (present left)
+    → HasPassing test (present cs)
+kept_on test l (k, among, passes) = (k, item_there l k among, passes)
 
 -- the word of a command stands where it opens
 opens_on : (words : List (List ℕ)) {cs ds : Cells} → Opens words cs ds
-    → keys_on (is_one_of words) cs ≢ []
-opens_on words (opens_here {k = k} {cs = cs} is) = λ none.
-    let wrong : k ∷ keys_on (is_one_of words) cs ≡ [] =
-    sym (ap (λ b. if b then (k ∷ keys_on (is_one_of words) cs) else keys_on (is_one_of words) cs)
-    is) ∙ none in
-    cc
+    → HasPassing (is_one_of words) (present cs)
+opens_on words (opens_here {k = k} is) = (k, (0, omega arith, refl), is)
 opens_on words (opens_later o) = opens_on words o
 
 -- own pieces begin with a key where its roles are those of its names
 owned_on : (q : Roles) (key : Names) → Owns q (key ∷ []) → (cs : Cells) → pieces q cs ≢ []
-    → keys_on (is_key_of key) cs ≢ []
+    → HasPassing (is_key_of key) (present cs)
 owned_on q key owns [] some = absurd (some refl)
 owned_on q key owns (None ∷ cs) some = owned_on q key owns cs some
-owned_on q key owns (Some k ∷ cs) some =
-    by_role (q k) refl (is_key_of key k) refl (owned_on q key owns cs)
+owned_on q key owns (Some k ∷ cs) some = by_role (q k) refl some (owned_on q key owns cs)
   where
-    by_role : (r : Role) → q k ≡ r → (b : Bool) → is_key_of key k ≡ b
-        → (pieces q cs ≢ [] → keys_on (is_key_of key) cs ≢ [])
-        → (if b then (k ∷ keys_on (is_key_of key) cs) else keys_on (is_key_of key) cs) ≢ []
-    by_role r is true e behind = λ none. cc
-    by_role Foreign is false e behind =
-        behind (subst (λ r. begin_piece r k cs (pieces q cs) ≢ []) is some)
-    by_role Alone is false e behind =
-        let wrong : true ≡ false =
-        sym (owns.own k (ap is_own_role is)) ∙ ap (λ b. b || false) e in
-        absurd cc
-    by_role WithNext is false e behind =
-        let wrong : true ≡ false =
-        sym (owns.own k (ap is_own_role is)) ∙ ap (λ b. b || false) e in
-        absurd cc
+    own : is_own_role (q k) ≡ true → HasPassing (is_key_of key) (present (Some k ∷ cs))
+    own is = (k, (0, omega arith, refl), ⊎_elim (λ passes. passes) (λ (no : false ≡ true). cc)
+        (or_cases (is_key_of key k) false (owns.own k is)))
+
+    by_role : (r : Role) → q k ≡ r → begin_piece r k cs (pieces q cs) ≢ []
+        → (pieces q cs ≢ [] → HasPassing (is_key_of key) (present cs))
+        → HasPassing (is_key_of key) (present (Some k ∷ cs))
+    by_role Foreign is some behind =
+        let one = behind some in
+        (one.0, Contains-append_right (k ∷ []) (present cs) one.0 one.1, one.2)
+    by_role r is some behind = own (ap is_own_role is)
 
 -- what is left of the line of words
 pub record LeftOfLine (describes : Shape → Type 0) (info : RunInfo) (given : Given) (cs : Cells)

@@ -2,7 +2,7 @@ pub mod Forms
 pub mod Parts
 pub mod OneLine
 pub mod Running
-pub mod SpelledItems
+pub mod OnLine
 pub mod Programs
 pub mod Spelled
 pub mod OwnWords

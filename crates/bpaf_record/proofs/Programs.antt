@@ -24,7 +24,7 @@ use Rattle.bpaf_record.specs.Program.{is_whole_program}
 use Rattle.bpaf_record.specs.Record.{answer_of, IsValueOrWant}
 use Rattle.bpaf_record.proofs.OneLine.{never_without, one_context}
 use Rattle.bpaf_record.proofs.Running.{given_variables, run_ran}
-use Rattle.bpaf_record.proofs.SpelledItems.{context_spelled}
+use Rattle.bpaf_record.proofs.OnLine.{context_spelled}
 
 module _ (T : Type 0) (outcome : Outcome T) (describes : Shape → Type 0) (info : RunInfo)
     (names : List Names) (words : List (List ℕ)) (form : ProgramForm T) (given : Given)

@@ -1,21 +1,19 @@
 -- Steps that are dealt out of the words.
-use Rattle.std.specs.Prelude.{◌≡◌, ℕ, ℤ, Bool, true, false, List, [], ◌∷◌, Some, codes}
+use Rattle.std.specs.Prelude.{◌≡◌, ℕ, ℤ, Bool, List, [], ◌∷◌, Some, codes}
 use Rattle.std.specs.Global.{Vec}
 use mir.Syntax.{w64}
 use Rattle.bpaf_doc.specs.Names.{Names}
 use Rattle.bpaf_text.specs.Meaning.{SpellsSigned, SpellsUnsigned}
-use Rattle.bpaf_text.specs.Named.{key_named}
 use Rattle.bpaf_words.specs.Arguments.{Given}
 use Rattle.bpaf_laws.specs.AdjacentCommand.{AdjacentReads}
 use Rattle.bpaf_laws.specs.Choice.{ChoiceReads}
-use Rattle.bpaf_laws.specs.Flag.{FlagReads}
 use Rattle.bpaf_laws.specs.Product.{BothReads, ProductReads}
 use Rattle.bpaf_laws.specs.Reading.{Readings}
 use Rattle.bpaf_laws.specs.Repeat.{ManyReads}
 use Rattle.bpaf.specs.declared.leaves.positional.Position.TheVariants.{Unrestricted}
 use Rattle.bpaf.specs.Positional.{PositionalReads}
 use Rattle.bpaf_program.specs.Dealt.{IsDealtBySome}
-use Rattle.bpaf_program.specs.Values.{IsKept}
+use Rattle.bpaf_program.specs.Fields.{SwitchReads}
 use Rattle.example_chain.specs.declared.steps.Step.{Step}
 use Rattle.example_chain.specs.declared.steps.Step.TheVariants.{Move, Turn, Repeat}
 
@@ -37,7 +35,7 @@ IntegerReads = PositionalReads ℤ (SpellsSigned w64) Unrestricted
 
 -- the switch `--left`
 abbrev pub LeftReads : Readings Bool
-LeftReads = FlagReads Bool IsKept (key_named left_names) true (Some false)
+LeftReads = SwitchReads left_names
 
 -- a step, by what it is made of
 abbrev pub PartsRead : {V : Type 0} → Readings V → (V → Step) → Readings Step

@@ -2,14 +2,14 @@
 use Rattle.std.proofs.Common.{◌++◌, All, Bool, IsUtf8, List, ap, codes, false, refl}
 use Rattle.std.proofs.Common.{true, ℕ}
 use Rattle.bpaf_exact.specs.OneView.{Alike}
-use Rattle.bpaf_program.specs.Lines.{line, truth}
+use Rattle.bpaf_program.specs.Lines.{line, line_each, truth}
 use Rattle.bpaf_program.proofs.LookAlike.{alone_seen, both_seen, con_seen, field_seen, many_seen}
 use Rattle.bpaf_program.proofs.LookAlike.{side_word_seen, switch_seen}
 use Rattle.bpaf_program.proofs.SeenPrograms.{program_looks_one, record_look}
 use Rattle.example_launch.specs.Dealing.{dry_run_names, launch_of, program_given, program_known}
 use Rattle.example_launch.specs.Dealing.{verbose_names}
 use Rattle.example_launch.specs.Exact.{IsLaunchValue}
-use Rattle.example_launch.specs.Lines.{lines, word_lines}
+use Rattle.example_launch.specs.Lines.{lines}
 
 -- of a launch the lines are seen
 pub same_lines : (words : List (List ℕ)) → All IsUtf8 words → Alike lines (IsLaunchValue words)
@@ -22,5 +22,5 @@ same_lines words =
     (alone_seen (field_seen (many_seen (side_word_seen true))))))) launch_of lines
     (λ x y same. ap (λ (seen : Bool × (Bool × (List ℕ × List (List ℕ)))).
     line (codes "verbose: " ++ truth seen.0) ++ line (codes "dry run: " ++ truth seen.1.0)
-    ++ line (codes "name: " ++ seen.1.1.0) ++ word_lines seen.1.1.1) same)) refl)
+    ++ line (codes "name: " ++ seen.1.1.0) ++ line_each (codes "word: ") seen.1.1.1) same)) refl)
     program_known (program_given words)

@@ -1,12 +1,9 @@
 -- A launch that words ask for.
-use Rattle.std.specs.Prelude.{◌≡◌, ℕ, Bool, true, false, List, [], ◌∷◌, Some, codes}
-use Rattle.std.specs.Prelude.{map, string_bytes, Contains}
+use Rattle.std.specs.Prelude.{◌≡◌, ℕ, Bool, List, [], ◌∷◌, Some, codes, map, string_bytes, Contains}
 use Rattle.std.specs.Global.{Vec}
 use Rattle.bpaf_doc.specs.Names.{Names}
-use Rattle.bpaf_text.specs.Named.{key_named}
 use Rattle.bpaf_words.specs.Arguments.{Given}
 use Rattle.bpaf_words.specs.Spelling.{Known, knowing}
-use Rattle.bpaf_laws.specs.Flag.{FlagReads}
 use Rattle.bpaf_laws.specs.Product.{BothReads, ProductReads}
 use Rattle.bpaf_laws.specs.Reading.{Readings}
 use Rattle.bpaf_laws.specs.Repeat.{ManyReads}
@@ -15,7 +12,8 @@ use Rattle.bpaf.specs.declared.leaves.positional.Position.TheVariants.{Strict, N
 use Rattle.bpaf.specs.Marker.{words_before, words_behind}
 use Rattle.bpaf.specs.Positional.{PositionalReads}
 use Rattle.bpaf_program.specs.Dealt.{IsDealtBy}
-use Rattle.bpaf_program.specs.Values.{IsKept, MeansText, String}
+use Rattle.bpaf_program.specs.Fields.{SwitchReads}
+use Rattle.bpaf_program.specs.Values.{MeansText, String}
 use Rattle.example_launch.specs.declared.options.Launch.{Launch}
 
 -- the names of the switch by which more is told
@@ -33,10 +31,6 @@ program_known = knowing (record { flags = codes "vhV"; arguments = [] })
 -- what the program is given
 abbrev pub program_given : List (List ℕ) → Given
 program_given words = record { words = words; env = []; name = Some (codes "launch") }
-
--- what a switch with these names reads
-abbrev pub SwitchReads : Names → Readings Bool
-SwitchReads names = FlagReads Bool IsKept (key_named names) true (Some false)
 
 -- what a word at this position reads
 abbrev pub WordReads : Position → Readings String

@@ -5,7 +5,7 @@ use Rattle.bpaf.specs.declared.leaves.positional.Position.TheVariants.{Strict, N
 use Rattle.bpaf_exact.specs.ProgramForm.{program_value}
 use Rattle.bpaf_program.specs.KnownFields.{known_many, known_switch, known_word}
 use Rattle.bpaf_program.specs.KnownParser.{KnownParser, known_both, known_con, known_last}
-use Rattle.bpaf_program.specs.ReadBy.{AnswersProgramReadBy, IsProgramReadBy}
+use Rattle.bpaf_program.specs.ReadBy.{IsExactFor, IsProgramReadBy}
 use Rattle.bpaf_program.specs.Values.{MeansText}
 use Rattle.example_launch.specs.declared.options.Launch.{Launch}
 use Rattle.example_launch.specs.Dealing.{FieldValues, dry_run_names, launch_of, program_given}
@@ -30,5 +30,4 @@ IsLaunchValue words =
 -- an answer to words is exact: a launch only where it is one that they have; and where they have
 -- one, one of them, or want of memory
 abbrev pub AnswersLaunch : List (List ℕ) → Result Launch ParseFailure → Type 0
-AnswersLaunch words =
-    AnswersProgramReadBy program_known (program_given words) (program_value launcher.form)
+AnswersLaunch words = IsExactFor (IsLaunchValue words)

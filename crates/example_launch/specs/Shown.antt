@@ -1,21 +1,15 @@
 -- What the program shows where it is asked for help.
-use Rattle.std.specs.Prelude.{◌≡◌, ℕ, Bool, false, List, [], ◌∷◌, Some, codes}
+use Rattle.std.specs.Prelude.{◌≡◌, ℕ, Bool, List, [], ◌∷◌, Some, codes}
 use Rattle.bpaf_doc.specs.declared.doc.Piece.{Piece}
 use Rattle.bpaf_doc.specs.Fold.{TextPieces}
-use Rattle.bpaf_doc.specs.Names.{Names}
 use Rattle.bpaf_doc.specs.Shape.{Shape, And, Many, Optional, members}
-use Rattle.bpaf_text.specs.Named.{key_named, with_help}
 use Rattle.bpaf_line.specs.declared.failure.ParseFailure.{ParseFailure}
-use Rattle.bpaf_laws.specs.Flag.{flag_shape}
 use Rattle.bpaf_keys.specs.Info.{plain_info}
 use Rattle.bpaf.specs.Asked.{IfShown, WasAsked}
 use Rattle.bpaf.specs.declared.leaves.positional.Position.TheVariants.{Strict, NonStrict}
 use Rattle.bpaf.specs.Positional.{positional_shape}
+use Rattle.bpaf_program.specs.Fields.{switch_shape}
 use Rattle.example_launch.specs.Dealing.{dry_run_names, program_given, verbose_names}
-
--- what a switch with these names and this help shows
-abbrev pub switch_shape : Names → List Piece → Shape
-switch_shape names help = flag_shape (with_help (key_named names) help) (Some false)
 
 -- what the program's name shows
 abbrev pub name_shape : List Piece → Shape

@@ -9,8 +9,8 @@ pub returns-in_err-steps : goal.returns-in_err-steps
 returns-in_err-steps c =
     let words = map string_bytes c.args.words.now in
     handed_on (AnswersText (Answers words)) c.from_residual.result c.from_residual.ensures
-    (λ f is. rw is (refusal_answers (Answers words) (IsHelpAsked words) help _
-    c.in_err-steps.ensures.asked))
+    (λ f is. rw is (refusal_answers (Answers words) (IsHelpAsked words) _
+    (λ doc full is. help doc full) c.in_err-steps.ensures.asked))
 
 pub returns : goal.returns
 returns c =

@@ -10,8 +10,8 @@ returns-in_err-launch c =
     let words = map string_bytes c.args.words.now in
     let refused = c.in_err-launch.ensures in
     refused_text (same_lines _ (are_texts c.args.words.now))
-    (refusal_answers (Answers words) (IsHelpAsked words) help _ refused.asked) refused.exact
-    c.from_residual.ensures
+    (refusal_answers (Answers words) (IsHelpAsked words) _ (λ doc full is. help doc full)
+    refused.asked) refused.exact c.from_residual.ensures
 
 pub returns : goal.returns
 returns c =
