@@ -6,8 +6,8 @@ use Rattle.bpaf_doc.specs.declared.doc.Piece.{Piece}
 use Rattle.bpaf_doc.specs.Shape.{Part}
 use Rattle.bpaf_line.specs.Situation.{Situation}
 use Rattle.bpaf_line.specs.declared.error.Message.{Message}
-use Rattle.bpaf_line.specs.declared.error.Message.TheVariants.{Memory, NoEnv, ParseSome, ParseFail}
-use Rattle.bpaf_line.specs.declared.error.Message.TheVariants.{PureFailed, Missing, ParseFailure}
+use Rattle.bpaf_line.specs.declared.error.Message.TheVariants.{Memory}
+use Rattle.bpaf_line.specs.declared.error.Message.TheVariants.{Missing, ParseFailure}
 use Rattle.bpaf_line.specs.declared.error.Message.TheVariants.{StrictPos, NonStrictPos, NoArgument}
 use Rattle.bpaf_line.specs.declared.error.Message.TheVariants.{ParseFailed, GuardFailed, Conflict}
 use Rattle.bpaf_line.specs.declared.error.Message.TheVariants.{Unconsumed, Ambiguity, Expected}
@@ -85,14 +85,11 @@ name_of (StrictPos place metavar) other = (wrong_side, refl)
 name_of (NonStrictPos place metavar) other = (wrong_side, refl)
 name_of (ParseFailed place fault) other = (unreadable_text, refl)
 name_of (GuardFailed place text) other = (refused_value, refl)
-name_of (NoEnv variable) other = (no_value, refl)
-name_of (ParseSome text) other = (no_value, refl)
-name_of (ParseFail text) other = (no_value, refl)
-name_of (PureFailed text) other = (no_value, refl)
 name_of (Conflict winner place) other = (conflict, refl)
 name_of (OnlyOnce earlier place) other = (repeated_key, refl)
 name_of (Unconsumed place) other = (unexpected_item, refl)
 name_of (ParseFailure inner) other = absurd (true≢false other)
+name_of _ other = (no_value, refl)
 
 -- no message but the answer of an inner run shows something
 pub shows_nothing : (m : Message) (s : Situation) (doc : List Piece) (full : Bool)

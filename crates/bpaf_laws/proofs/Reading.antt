@@ -16,6 +16,4 @@ module _ {T : Type 0} (means : List ℕ → T → Type 0) (text : List ℕ) (cur
       subst (FaultsText means text current) (sym told.1) (none, refl)
   reading_told (Err fault.Memory) (Err e) none told =
       subst (FaultsText means text current) (sym told) tt
-  reading_told (Ok v) (Err e) meant told = absurd told
-  reading_told (Err (fault.Fault words)) (Ok w) none told = absurd told
-  reading_told (Err fault.Memory) (Ok w) none told = absurd told
+  reading_told _ _ _ told = absurd told

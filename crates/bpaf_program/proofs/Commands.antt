@@ -154,7 +154,6 @@ module _ {T : Type 0} {showing : Showing} {outcome : Outcome T} {reads wanted : 
   pub hands_asked : IsAlsoShown (IsAskedAt shapes plain_info) showing
       → (r : Result T ParseFailure) → RunsWords T outcome describes info given r
       → IfErr r (IfShown (WordsShow shapes plain_info own showing))
-  hands_asked asks (Ok v) runs = tt
   hands_asked asks (Err (failure.Stdout doc full)) runs =
       let was : WordsShow describes info given (RunShows describes info showing) doc full =
       answer_shows describes info is.law showing is.hands
@@ -165,8 +164,7 @@ module _ {T : Type 0} {showing : Showing} {outcome : Outcome T} {reads wanted : 
       (λ at. asks s d u (asked_at_also describes shapes plain_info is.shows s d u at))
       (λ page. page))
       doc full (rw (plain, same) at was)
-  hands_asked asks (Err (failure.Stderr doc)) runs = tt
-  hands_asked asks (Err failure.Memory) runs = tt
+  hands_asked asks _ runs = tt
 
 -- what is dealt out to the one is to the other
 pub also_dealt : {T : Type 0} {reads wanted : Readings T} → IsAlso reads wanted → (given : Given)

@@ -1,7 +1,7 @@
 -- The words of a flat record or a program have one line, since it shows the same parts each time.
 use Rattle.std.proofs.Common.{◌≡◌, ℕ, [], ◌++◌, All, IsUtf8, List, Option, ⊎_elim, refl, sym, ap}
 use Rattle.std.proofs.Common.{subst, ◌∙◌, ◌∷◌, ap₂, map}
-use Rattle.bpaf_doc.specs.Shape.{Part, Any, Positional, Command, Flag, Argument, Shape}
+use Rattle.bpaf_doc.specs.Shape.{Part, Any, Shape}
 use Rattle.bpaf_doc.specs.Walks.{parts, shorts_of_argument, shorts_of_arguments, shorts_of_flag}
 use Rattle.bpaf_doc.specs.Walks.{shorts_of_flags}
 use Rattle.bpaf_base.specs.declared.arg.Arg.{Arg}
@@ -29,10 +29,7 @@ flags_bare (part ∷ shown) = ap₂ (λ own more. own ++ more) (of_part part) (f
   where
     of_part : (part : Part) → shorts_of_flag (bare part) ≡ shorts_of_flag part
     of_part (Any metavar help anywhere) = refl
-    of_part (Positional metavar help) = refl
-    of_part (Command name short help inner) = refl
-    of_part (Flag name shorts env help) = refl
-    of_part (Argument name shorts metavar env help) = refl
+    of_part _ = refl
 
 -- nor of arguments
 arguments_bare : (shown : List Part)
@@ -42,10 +39,7 @@ arguments_bare (part ∷ shown) = ap₂ (λ own more. own ++ more) (of_part part
   where
     of_part : (part : Part) → shorts_of_argument (bare part) ≡ shorts_of_argument part
     of_part (Any metavar help anywhere) = refl
-    of_part (Positional metavar help) = refl
-    of_part (Command name short help inner) = refl
-    of_part (Flag name shorts env help) = refl
-    of_part (Argument name shorts metavar env help) = refl
+    of_part _ = refl
 
 module _ {describes : Shape → Type 0} (shows : ShowsTheSame describes) (info : RunInfo) where
   -- the names that words are read by, of the parts that are shown
