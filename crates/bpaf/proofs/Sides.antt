@@ -35,8 +35,7 @@ two_sides before rest none first =
     let count = position_or_len_is is_marker_word words (length before) []
     (let size = length-append before rest in omega arith)
     (λ k within. ap is_marker_word (get_or_append_left before rest [] k within)
-    ∙ not_marker _ (none k [] within)) first in
-    (
+    ∙ not_marker _ (none k [] within)) first in (
       ap (λ n. take n words) count ∙ take_at before rest (length before) refl,
       ap (λ n. drop (n + 1) words) count ∙ (sym (drop-drop 1 (length before) words)
           ∙ ap (drop 1) (drop_at before rest (length before) refl)),

@@ -109,17 +109,12 @@ owned_on q key owns (None ∷ cs) some = owned_on q key owns cs some
 owned_on q key owns (Some k ∷ cs) some = by_role (q k) refl some (owned_on q key owns cs)
   where
     own : is_own_role (q k) ≡ true → HasPassing (is_key_of key) (present (Some k ∷ cs))
-<<<<<<< HEAD
-    own is = (k, (0, omega arith, refl), ⊎_elim (λ passes. passes) (λ (no : false ≡ true). cc)
-        (or_cases (is_key_of key k) false (owns.own k is)))
-=======
     own is = (
       k,
       (0, omega arith, refl),
       ⊎_elim (λ passes. passes) (λ (no : false ≡ true). cc)
           (or_cases (is_key_of key k) false (owns.own k is)),
     )
->>>>>>> 5300f653c2ea7706dd57008581f46431f2f89c65
 
     by_role : (r : Role) → q k ≡ r → begin_piece r k cs (pieces q cs) ≢ []
         → (pieces q cs ≢ [] → HasPassing (is_key_of key) (present cs))

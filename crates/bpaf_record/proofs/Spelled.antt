@@ -43,12 +43,7 @@ module _ (known : Known) where
     Contains-append_left items (flat_map (λ items. items) parts),
   )
   part_of (first ∷ words) (items ∷ parts) word spelled (suc k, within, is) =
-<<<<<<< HEAD
-      let part = part_of words parts word spelled.1 (k, omega arith, is) in
-      (
-=======
       let part = part_of words parts word spelled.1 (k, omega arith, is) in (
->>>>>>> 5300f653c2ea7706dd57008581f46431f2f89c65
         part.0,
         part.1,
         λ item there. Contains-append_right items (flat_map (λ items. items) parts) item
@@ -124,12 +119,7 @@ module _ (test : Arg → Bool) where
           → HasPassing (present (line_cells context))
       spelled_item texts one =
           let here = on_line known given.words context.line context.marker is.is_line in
-<<<<<<< HEAD
-          let key = one.spells.key in
-          (
-=======
           let key = one.spells.key in (
->>>>>>> 5300f653c2ea7706dd57008581f46431f2f89c65
             key,
             subst (λ items. Contains items key) (sym here.are)
                 (Contains-append_left here.items (map PosWord (words_behind given.words)) key
