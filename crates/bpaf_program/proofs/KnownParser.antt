@@ -1,5 +1,5 @@
 -- The parsers of a program are known where what they are made of is.
-use Rattle.std.proofs.Common.{◌≡◌, All, true, false, List, [], ℕ, Result, Ok, Err, IfOk, IsUtf8, ap}
+use Rattle.std.proofs.Common.{◌≡◌, All, true, List, [], ℕ, Result, Ok, Err, IfOk, IsUtf8, ap}
 use Rattle.std.proofs.Common.{inl, refl, subst, sym, ◌∙◌}
 use Rattle.bpaf_doc.specs.Shape.{Shape}
 use Rattle.bpaf_words.specs.Arguments.{Given}
@@ -30,6 +30,7 @@ use Rattle.bpaf_record.specs.Program.{AnswersAsProgram, IsProgramValueOf}
 use Rattle.bpaf_record.specs.Record.{IsValueOrWant}
 use Rattle.bpaf_record.proofs.OneLine.{same_names}
 use Rattle.bpaf_record.proofs.Programs as programs
+use Rattle.bpaf_program.specs.Fields.{IsPlainCommand}
 use Rattle.bpaf_program.specs.KnownParser.{AreKnownFields, IsKnownParser, KnownParser, ShowsShorts}
 use Rattle.bpaf_program.specs.KnownParser.{known_both, known_choice, known_command, known_con}
 use Rattle.bpaf_program.specs.KnownParser.{known_last, known_map, program_names}
@@ -59,19 +60,18 @@ module _ {A B : Type 0} (inner : Outcome A) {answers wanted : A → B → Type 0
       by_answer s t (Err e) o = o
 
 -- a command over a program, which is one that was made by its word alone
-pub command_known : {T P : Type 0} (word : List ℕ) (known : KnownParser T)
-    {command made : ParseCommand T P} → command ≡ made → made.names ≡ named_only word
-    → made.adjacent ≡ false → made.info ≡ plain_info → {outcome : Outcome T}
-    {describes : Shape → Type 0} → IsKnownParser known outcome describes
+pub command_known : {T P : Type 0} (word : List ℕ) (known : KnownParser T) {parser : P}
+    {command made : ParseCommand T P} → command ≡ made → IsPlainCommand word parser made
+    → {outcome : Outcome T} {describes : Shape → Type 0} → IsKnownParser known outcome describes
     → IsKnownParser (known_command word known)
     (EitherCommandOutcome command.adjacent T outcome (EndsRun describes command.info)
     command.names (CommandPart command.names command.help describes))
     (CommandDescribes command.names command.help describes)
-command_known {T} word known {command} same called_is plain_is info_is {outcome} {describes} is =
+command_known {T} word known {command = command} same plain {outcome} {describes} is =
     rw (
-      ap (λ c. c.names) same ∙ called_is,
-      ap (λ c. c.adjacent) same ∙ plain_is,
-      ap (λ c. c.info) same ∙ info_is,
+      ap (λ c. c.names) same ∙ plain.names,
+      ap (λ c. c.adjacent) same ∙ plain.adjacent,
+      ap (λ c. c.info) same ∙ plain.info,
     ) (record {
       law = λ env. plain_command_law env T outcome describes plain_info
           (named_only word) _ true known.all

@@ -1,13 +1,16 @@
 -- All that a field is which a function of a program makes: without a help, or with one of some text.
-use Rattle.std.specs.Prelude.{◌≡◌, Bool, true, false, ℕ, List, Option, Some}
+use Rattle.std.specs.Prelude.{◌≡◌, Bool, true, false, ℕ, List, Option, Some, None}
 use Rattle.bpaf_doc.specs.declared.doc.Piece.{Piece}
 use Rattle.bpaf_doc.specs.Fold.{TextPieces}
 use Rattle.bpaf_doc.specs.Names.{Names}
 use Rattle.bpaf_doc.specs.Shape.{Shape}
 use Rattle.bpaf_text.specs.declared.params.ParseFlag.{ParseFlag}
 use Rattle.bpaf_text.specs.Named.{KeyWithValue, key_named, with_help}
+use Rattle.bpaf_core.specs.declared.commands.ParseCommand.{ParseCommand}
+use Rattle.bpaf_laws.specs.Command.{named_only}
 use Rattle.bpaf_laws.specs.Flag.{FlagReads, flag_shape}
 use Rattle.bpaf_laws.specs.Reading.{Readings}
+use Rattle.bpaf.specs.Info.{plain_info}
 use Rattle.bpaf.specs.declared.leaves.positional.ParsePositional.{ParsePositional}
 use Rattle.bpaf.specs.declared.leaves.positional.Position.{Position}
 use Rattle.bpaf_program.specs.Values.{IsKept}
@@ -75,3 +78,12 @@ HasArgument key text argument = (help : List Piece) × IsArgument key text help 
 abbrev pub HasWord : {T : Type 0} (position : Position) (metavar text : List ℕ) → ParsePositional T
     → Type 0
 HasWord position metavar text word = (help : List Piece) × IsWord position metavar text help word
+
+-- a command of one word over a parser, without a help or texts of its own
+pub record IsPlainCommand {T P : Type 0} (word : List ℕ) (parser : P) (command : ParseCommand T P)
+    : Type 0 where
+  pub inner : command.inner ≡ parser
+  pub names : command.names ≡ named_only word
+  pub help : command.help ≡ None
+  pub adjacent : command.adjacent ≡ false
+  pub info : command.info ≡ plain_info

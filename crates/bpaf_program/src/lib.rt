@@ -12,7 +12,7 @@
 //!   beginning stands there and nothing behind it.
 //! - Each takes a [`Sink`], of whose writes a contract can say that the last one failed (`Failed`,
 //!   specs/Sink.antt). Any `Write` is one, of which nothing is known but its bytes.
-//! - [`push_lines`] appends a line for each of some texts.
+//! - [`push_line`] appends a line to a text, and [`push_lines`] one for each of some texts.
 //! - [`key`] is a key of a letter and a name, and [`plain_command`] a command over a parser, without
 //!   help.
 //! - [`words`] are the words of the process.
@@ -43,7 +43,7 @@ mod writing;
 
 pub use ending::{end, print};
 pub use lent::see_texts;
-pub use lines::push_lines;
+pub use lines::{push_line, push_lines};
 pub use making::{key, plain_command};
 pub use options::{Program, run_program, run_record};
 pub use process::words;

@@ -1,8 +1,20 @@
 //! Lines of a text that a program prints.
 ghost use Rattle.std.specs.Prelude.{◌≡◌, ◌++◌, OnOk, map, string_bytes};
-ghost use Rattle.bpaf_program.specs.Lines.{line_each};
+ghost use Rattle.bpaf_program.specs.Lines.{line, line_each};
 
 use std::alloc::AllocError;
+
+/// Appends a line of this text, with the other in front of it; refused only for want of memory.
+///
+/// ```text
+/// push_line(&mut text, "dir: ", dir.as_str())?;             dir: old
+/// ```
+pub fn push_line(text: &mut String, front: &str, rest: &str) -> Result<(), AllocError>
+    ensures { OnOk result (string_bytes text.new
+        ≡ string_bytes text.old ++ line (front.now ++ rest.now)) }
+{
+    writeln!(text, "{front}{rest}")
+}
 
 /// Appends a line for each text, with this in front of it; refused only for want of memory.
 ///
@@ -14,7 +26,7 @@ pub fn push_lines(text: &mut String, front: &str, texts: &[String]) -> Result<()
         ≡ string_bytes text.old ++ line_each front.now (map string_bytes texts.now)) }
 {
     for line in texts {
-        writeln!(text, "{front}{line}")?;
+        push_line(text, front, line.as_str())?;
     }
     Ok(())
 }

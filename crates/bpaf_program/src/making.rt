@@ -1,8 +1,7 @@
 //! What the parser of a program with commands is made of: keys by a letter and a name, and commands
 //! without help or texts of their own.
-ghost use Rattle.std.specs.Prelude.{◌≡◌, IfOk, None, [], ◌∷◌, false};
-ghost use Rattle.bpaf.specs.Info.{plain_info};
-ghost use Rattle.bpaf_laws.specs.Command.{named_only};
+ghost use Rattle.std.specs.Prelude.{◌≡◌, IfOk, [], ◌∷◌};
+ghost use Rattle.bpaf_program.specs.Fields.{IsPlainCommand};
 ghost use Rattle.bpaf_text.specs.Named.{key_named};
 
 use bpaf::parsers::ParseCommand;
@@ -34,11 +33,7 @@ pub fn plain_command<T, P: Drop>(
     name: &str,
     parser: P,
 ) -> Result<ParseCommand<T, P>, AllocError>
-    ensures inner { IfOk result (λ command. command.inner ≡ parser) }
-    ensures names { IfOk result (λ command. command.names ≡ named_only name.now) }
-    ensures help { IfOk result (λ command. command.help ≡ None) }
-    ensures adjacent { IfOk result (λ command. command.adjacent ≡ false) }
-    ensures info { IfOk result (λ command. command.info ≡ plain_info) }
+    ensures { IfOk result (IsPlainCommand name.now parser) }
 {
     let options = OptionParser {
         inner: parser,

@@ -59,9 +59,9 @@ impl<T: Drop, P: Parser<T>> Program<T> for OptionParser<T, P> {
 
 /// The value that the words give a flat record, as [`Program::run`], and exactly.
 ///
-/// Where each field of the record has a value on its portion of the words' line, only want of memory
-/// keeps the value from coming: the status is 1, and on `err` stands `Error: out of memory`, or
-/// a beginning of that where a write failed.
+/// Where each field of the record has a value on its portion of the words' line, only want of
+/// memory keeps the value from coming: the status is 1, and on `err` stands
+/// `Error: out of memory`, or a beginning of that where a write failed.
 ///
 /// ```text
 /// let options = run_record(&options, Args::from(words), out, err)?;

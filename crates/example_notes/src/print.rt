@@ -1,12 +1,12 @@
 //! What the program prints.
 ghost use Rattle.std.specs.Prelude.{◌≡◌, ◌++◌, OnOk, map, string_bytes};
 ghost use Rattle.bpaf_program.specs.Running.{IsTextOrWant};
-ghost use Rattle.example_notes.specs.Lines.{lines, task_lines};
+ghost use Rattle.example_notes.specs.Lines.{lines, tag_lines, task_lines};
 ghost use Rattle.example_notes.specs.Running.{AnswersLines};
 
 use crate::options::{Notes, Tag, Task, read_notes};
 use bpaf::ParseFailure;
-use bpaf_program::push_lines;
+use bpaf_program::{push_line, push_lines};
 use std::alloc::{AllocError, Global};
 
 /// The lines that the words ask for; refused where they ask for nothing.
@@ -25,7 +25,7 @@ fn text_of(alloc: Global, notes: &Notes) -> Result<String, ParseFailure>
     let mut text = String::new(alloc);
     writeln!(text, "verbose: {verbose}")?;
     if let Some(dir) = &notes.dir {
-        writeln!(text, "dir: {dir}")?;
+        push_line(&mut text, "dir: ", dir.as_str())?;
     }
     push_task(&mut text, &notes.task)?;
     Ok(text)
@@ -41,8 +41,17 @@ fn push_task(text: &mut String, task: &Task) -> Result<(), AllocError>
             push_lines(text, "tag: ", tags.as_slice())?;
             push_lines(text, "text: ", texts.as_slice())
         }
-        Task::List { max } => Ok(writeln!(text, "list: {max}")?),
-        Task::Tag(Tag::Add { name }) => Ok(writeln!(text, "tag add: {name}")?),
-        Task::Tag(Tag::Remove { name }) => Ok(writeln!(text, "tag remove: {name}")?),
+        Task::List { max } => writeln!(text, "list: {max}"),
+        Task::Tag(tag) => push_tag(text, tag),
+    }
+}
+
+/// Appends the line of a tag; refused only for want of memory.
+fn push_tag(text: &mut String, tag: &Tag) -> Result<(), AllocError>
+    ensures { OnOk result (string_bytes text.new ≡ string_bytes text.old ++ tag_lines tag.now) }
+{
+    match tag {
+        Tag::Add { name } => push_line(text, "tag add: ", name.as_str()),
+        Tag::Remove { name } => push_line(text, "tag remove: ", name.as_str()),
     }
 }

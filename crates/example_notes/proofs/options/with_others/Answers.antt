@@ -6,8 +6,7 @@ use Rattle.example_notes.proofs.options.with_others.Goals as goal
 pub with_task-requires-clause-task : goal.with_task-requires-clause-task
 with_task-requires-clause-task g c =
     of.choice_known notes.add_command notes.other_commands (of.command_known (codes "add")
-    notes.add_record c.construct-2.ensures.this c.in_ok-add.ensures.names
-    c.in_ok-add.ensures.adjacent c.in_ok-add.ensures.info (of.con_known notes.add_of
+    notes.add_record c.construct-2.ensures.this c.in_ok-add.ensures (of.con_known notes.add_of
     notes.add_fields (of.both_known _ _ (of.many_known (of.argument_known of.MeansText notes.tag_key refl
     (search rules)) (search rules)) (of.last_known _ (of.many_known (of.word_known of.MeansText
     of.Unrestricted (search rules) _) (search rules)))) (λ x v e. search rules)))

@@ -5,8 +5,7 @@ use Rattle.example_notes.proofs.options.with_task.Goals as goal
 
 pub run_notes-requires-clause-known : goal.run_notes-requires-clause-known
 run_notes-requires-clause-known g c =
-    of.con_known notes.notes_of notes.fields
-    (of.both_known notes.verbose notes.dir_fields
+    of.con_known notes.notes_of notes.fields (of.both_known notes.verbose notes.dir_fields
     (of.switch_known notes.verbose_names None (search rules) (search rules) (search rules))
     (of.both_known notes.dir (of.known_last notes.commands)
     (of.optional_known (of.argument_known of.MeansText notes.dir_key refl (search rules)) (search rules))
