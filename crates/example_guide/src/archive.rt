@@ -3,7 +3,8 @@ ghost use Rattle.std.specs.Prelude.{IfOk, map, string_bytes};
 ghost use Rattle.example_guide.specs.Archive.{AreKnown, SaysOf};
 
 use bpaf::params::{ParseArgument, ParseFlag};
-use bpaf::{Args, ParseFailure, Parser, construct, short};
+use bpaf::{Args, ParseFailure, Parser, construct};
+use bpaf_program::key;
 use bpaf_record::Record;
 use std::alloc::{AllocError, Global};
 
@@ -57,15 +58,13 @@ fn make_keys(alloc: Global) -> Result<Keys, AllocError>
     ensures { IfOk result AreKnown }
 {
     Ok(Keys {
-        agreed: short(alloc, 'a')?.long("agree")?.req_flag(true),
-        out: short(alloc, 'o')?.long("out")?.argument::<String>("FILE"),
-        root: short(alloc, 'r')?.long("root")?.argument::<String>("DIR"),
-        level: short(alloc, 'l')?.long("level")?.argument::<u64>("N"),
-        jobs: short(alloc, 'j')?.long("jobs")?.argument::<u64>("N"),
-        without: short(alloc, 'x')?
-            .long("without")?
-            .argument::<String>("NAME"),
-        verbose: short(alloc, 'v')?.long("verbose")?.req_flag(()),
-        quiet: short(alloc, 'q')?.long("quiet")?.switch(),
+        agreed: key(alloc, 'a', "agree")?.req_flag(true),
+        out: key(alloc, 'o', "out")?.argument::<String>("FILE"),
+        root: key(alloc, 'r', "root")?.argument::<String>("DIR"),
+        level: key(alloc, 'l', "level")?.argument::<u64>("N"),
+        jobs: key(alloc, 'j', "jobs")?.argument::<u64>("N"),
+        without: key(alloc, 'x', "without")?.argument::<String>("NAME"),
+        verbose: key(alloc, 'v', "verbose")?.req_flag(()),
+        quiet: key(alloc, 'q', "quiet")?.switch(),
     })
 }

@@ -1,6 +1,7 @@
 //! A record of ten fields, of which it is known which lines it accepts.
 use bpaf::params::{ParseArgument, ParseFlag};
-use bpaf::{Args, ParseFailure, Parser, construct, positional, short};
+use bpaf::{Args, ParseFailure, Parser, construct, positional};
+use bpaf_program::key;
 use bpaf_record::{FlatField, ProgramField, Record};
 use std::alloc::{AllocError, Global};
 
@@ -21,12 +22,12 @@ pub struct Backup {
 
 /// A switch of two names.
 fn switch(alloc: Global, letter: char, name: &str) -> Result<ParseFlag<bool>, AllocError> {
-    Ok(short(alloc, letter)?.long(name)?.switch())
+    Ok(key(alloc, letter, name)?.switch())
 }
 
 /// A number behind a key of two names.
 fn number(alloc: Global, letter: char, name: &str) -> Result<ParseArgument<u64>, AllocError> {
-    Ok(short(alloc, letter)?.long(name)?.argument::<u64>("NUM"))
+    Ok(key(alloc, letter, name)?.argument::<u64>("NUM"))
 }
 
 /// What the words tell a backup; None where its parser is no flat record.

@@ -6,6 +6,7 @@ ghost use Rattle.example_guide.specs.Clean.{IsRemoval};
 ghost use Rattle.example_guide.specs.Remove.{force_names};
 
 use bpaf::{Args, ParseFailure, Parser, construct, positional, short};
+use bpaf_program::{key, plain_command};
 use bpaf_record::CommandLine;
 use std::alloc::Global;
 
@@ -35,15 +36,11 @@ pub fn read_cleaning(alloc: Global, words: &[String]) -> Result<Cleaning, ParseF
         → WasCalled (codes "remove" ∷ []) (map string_bytes words.now)) }
 {
     let long = short(alloc, 'l')?.switch();
-    let list = construct!(Task::List { long })
-        .to_options(alloc)?
-        .command("list")?;
+    let list = plain_command(alloc, "list", construct!(Task::List { long }))?;
     let files = positional::<String>("FILE").many();
-    let remove = construct!(Task::Remove { files })
-        .to_options(alloc)?
-        .command("remove")?;
+    let remove = plain_command(alloc, "remove", construct!(Task::Remove { files }))?;
     let task = construct!([list, remove]);
-    let force = short(alloc, 'f')?.long("force")?.switch();
+    let force = key(alloc, 'f', "force")?.switch();
     let options = construct!(Cleaning { force, task }).to_options(alloc)?;
     options.run_program(Args::from(words).set_name("clean"))
 }

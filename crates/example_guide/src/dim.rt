@@ -4,6 +4,7 @@ ghost use Rattle.bpaf_record.specs.Spelled.{WasSpelled};
 ghost use Rattle.example_guide.specs.Dim.{percent_names};
 
 use bpaf::{Args, ParseFailure, Parser, construct, short};
+use bpaf_program::key;
 use bpaf_record::Record;
 use std::alloc::Global;
 
@@ -21,7 +22,7 @@ pub fn read_dimming(alloc: Global, words: &[String]) -> Result<Dimming, ParseFai
     ensures { IfOk result (λ dimming. WasSpelled percent_names (map string_bytes words.now)
         × (0 < dimming.percent) × (dimming.percent ≤ 100)) }
 {
-    let percent = short(alloc, 'p')?.long("percent")?.argument::<u64>("NUM");
+    let percent = key(alloc, 'p', "percent")?.argument::<u64>("NUM");
     let percent = percent.parse(|n| if n <= 100 { Ok(n) } else { Err("too bright") });
     let percent = percent.guard(|n| *n > 0, "no light");
     let lamp = short(alloc, 'l')?.argument::<u64>("NUM");

@@ -1,6 +1,7 @@
 //! A program with commands, each in a function of its own: it is handed the parser of those before
 //! it, and hands on that of all so far. The last function runs it.
 use bpaf::{Args, ParseFailure, Parser, construct, positional, short};
+use bpaf_program::plain_command;
 use std::alloc::Global;
 
 /// A command, and whether each step of it is told.
@@ -33,8 +34,8 @@ pub type Asked = Result<Git, ParseFailure>;
 pub fn read_git(alloc: Global, words: &[String]) -> Asked {
     let url = positional::<String>("URL");
     let dir = positional::<String>("DIR").optional();
-    let clone = construct!(Command::Clone { url, dir }).to_options(alloc)?;
-    or_commit(alloc, words, clone.command("clone")?)
+    let clone = plain_command(alloc, "clone", construct!(Command::Clone { url, dir }))?;
+    or_commit(alloc, words, clone)
 }
 
 /// A command of those before, or `commit [-a] -m MSG`, and so on.
@@ -43,8 +44,8 @@ fn or_commit<P: Parser<Command> + Drop>(alloc: Global, words: &[String], before:
 {
     let all = short(alloc, 'a')?.switch();
     let message = short(alloc, 'm')?.argument::<String>("MSG");
-    let commit = construct!(Command::Commit { all, message }).to_options(alloc)?;
-    let commit = commit.command("commit")?;
+    let commit = construct!(Command::Commit { all, message });
+    let commit = plain_command(alloc, "commit", commit)?;
     or_remote(alloc, words, construct!([before, commit]))
 }
 
@@ -54,11 +55,9 @@ fn or_remote<P: Parser<Command> + Drop>(alloc: Global, words: &[String], before:
 {
     let name = positional::<String>("NAME");
     let url = positional::<String>("URL");
-    let add = construct!(Remote::Add { name, url }).to_options(alloc)?;
-    let add = add.command("add")?;
+    let add = plain_command(alloc, "add", construct!(Remote::Add { name, url }))?;
     let name = positional::<String>("NAME");
-    let remove = construct!(Remote::Remove { name }).to_options(alloc)?;
-    let remove = remove.command("remove")?;
+    let remove = plain_command(alloc, "remove", construct!(Remote::Remove { name }))?;
     or_one_of_remote(alloc, words, before, construct!([add, remove]))
 }
 
@@ -72,8 +71,7 @@ fn or_one_of_remote<P: Parser<Command> + Drop, R: Parser<Remote> + Drop>(
     requires before { P.can_eval before }
     requires remote { R.can_eval remote }
 {
-    let remote = remote.to_options(alloc)?.command("remote")?;
-    let remote = remote.map(|remote| Command::Remote(remote));
+    let remote = plain_command(alloc, "remote", remote)?.map(Command::Remote);
     run(alloc, words, construct!([before, remote]))
 }
 

@@ -8,8 +8,8 @@ ghost use Rattle.bpaf_record.specs.Spelled.{WasSpelled};
 ghost use Rattle.example_guide.specs.Head.{IsHeadText, bytes_names};
 
 use bpaf::params::ParseArgument;
-use bpaf::{Args, ParseFailure, Parser, construct, positional, short};
-use bpaf_program::{Sink, print, push_lines};
+use bpaf::{Args, ParseFailure, Parser, construct, positional};
+use bpaf_program::{Sink, key, print, push_lines};
 use bpaf_record::Record;
 use std::alloc::{AllocError, Global};
 
@@ -36,7 +36,7 @@ pub fn read_head(alloc: Global, words: &[String]) -> Result<Head, ParseFailure>
 fn bytes(alloc: Global) -> Result<ParseArgument<u64>, AllocError>
     ensures { IfOk result (λ bytes. bytes ≡ plain_argument bytes_names (codes "N")) }
 {
-    Ok(short(alloc, 'c')?.long("bytes")?.argument::<u64>("N"))
+    Ok(key(alloc, 'c', "bytes")?.argument::<u64>("N"))
 }
 
 /// Runs the program on its words and gives its status. Its files are printed a line each, as

@@ -93,17 +93,13 @@ fn show_backup(rt: &HostRuntime) -> io::Result<()> {
         "5",
         "c",
     ];
-    match backup::read_backup(rt.alloc(), &words) {
-        Ok(Some(backup)) => {
+    match backup::read_backup(rt.alloc(), &words).ok() {
+        Some(Some(backup)) => {
             let verbose = backup.verbose;
             let copies = backup.to.len();
             println!(rt; "backup: verbose {verbose}, to {copies} places")
         }
-        Ok(None) => Ok(()),
-        Err(failure) => {
-            drop(failure);
-            Ok(())
-        }
+        _ => Ok(()),
     }
 }
 
@@ -131,17 +127,14 @@ fn show_archive(rt: &HostRuntime) -> io::Result<()> {
     let out = String::from_str(rt.alloc(), "-oa.tar")?;
     let root = String::from_str(rt.alloc(), "--root=b")?;
     let words = [keys, out, root];
-    match archive::read_archive(rt.alloc(), &words) {
-        Ok(archive) => {
+    match archive::read_archive(rt.alloc(), &words).ok() {
+        Some(archive) => {
             let root = archive.root.as_str();
             let jobs = archive.jobs;
             let verbose = archive.verbose;
             println!(rt; "archive: of {root}, {jobs} jobs, told {verbose} times")
         }
-        Err(failure) => {
-            drop(failure);
-            Ok(())
-        }
+        None => Ok(()),
     }
 }
 
@@ -150,17 +143,14 @@ fn show_dimming(rt: &HostRuntime) -> io::Result<()> {
     let percent = String::from_str(rt.alloc(), "--percent=40")?;
     let lamp = String::from_str(rt.alloc(), "-l3")?;
     let words = [percent, lamp];
-    match dim::read_dimming(rt.alloc(), &words) {
-        Ok(dimming) => {
+    match dim::read_dimming(rt.alloc(), &words).ok() {
+        Some(dimming) => {
             let percent = dimming.percent;
             let lamp = dimming.lamp;
             let seconds = dimming.seconds;
             println!(rt; "dimming: lamp {lamp} to {percent} percent, in {seconds} s")
         }
-        Err(failure) => {
-            drop(failure);
-            Ok(())
-        }
+        None => Ok(()),
     }
 }
 
@@ -170,8 +160,8 @@ fn show_cleaning(rt: &HostRuntime) -> io::Result<()> {
     let key = String::from_str(rt.alloc(), "-f")?;
     let file = String::from_str(rt.alloc(), "a")?;
     let words = [command, key, file];
-    match clean::read_cleaning(rt.alloc(), &words) {
-        Ok(cleaning) => {
+    match clean::read_cleaning(rt.alloc(), &words).ok() {
+        Some(cleaning) => {
             let force = cleaning.force;
             match cleaning.task {
                 Task::List { long } => println!(rt; "cleaning: list, long {long}"),
@@ -181,50 +171,38 @@ fn show_cleaning(rt: &HostRuntime) -> io::Result<()> {
                 }
             }
         }
-        Err(failure) => {
-            drop(failure);
-            Ok(())
-        }
+        None => Ok(()),
     }
 }
 
 /// Tells what a row's words have of seconds.
 fn show_row(rt: &HostRuntime) -> io::Result<()> {
-    match row::read_seconds(rt.alloc(), &["-s", "5"]) {
-        Ok(seconds) => println!(rt; "row: {seconds} s"),
-        Err(failure) => {
-            drop(failure);
-            Ok(())
-        }
+    match row::read_seconds(rt.alloc(), &["-s", "5"]).ok() {
+        Some(seconds) => println!(rt; "row: {seconds} s"),
+        None => Ok(()),
     }
 }
 
 /// Tells what a sum reads off words of its own.
 fn show_sum(rt: &HostRuntime) -> io::Result<()> {
-    match read_sum(rt.alloc(), &["-n", "-2", "-5", "3"]) {
-        Ok(sum) => {
+    match read_sum(rt.alloc(), &["-n", "-2", "-5", "3"]).ok() {
+        Some(sum) => {
             let times = sum.times;
             let terms = sum.terms.len();
             println!(rt; "sum: {times} times {terms} terms")
         }
-        Err(failure) => {
-            drop(failure);
-            Ok(())
-        }
+        None => Ok(()),
     }
 }
 
 /// Tells what a parser of one's own reads off words of its own.
 fn show_color(rt: &HostRuntime) -> io::Result<()> {
-    match read_color(rt.alloc(), &["--no-color"]) {
-        Ok(color) => {
+    match read_color(rt.alloc(), &["--no-color"]).ok() {
+        Some(color) => {
             let on = color.unwrap_or(true);
             println!(rt; "color: {on}")
         }
-        Err(failure) => {
-            drop(failure);
-            Ok(())
-        }
+        None => Ok(()),
     }
 }
 
@@ -233,16 +211,13 @@ fn show_commit(rt: &HostRuntime) -> io::Result<()> {
     let command = String::from_str(rt.alloc(), "commit")?;
     let message = String::from_str(rt.alloc(), "-mdone")?;
     let words = [command, message];
-    match read_git(rt.alloc(), &words) {
-        Ok(git) => match git.command {
+    match read_git(rt.alloc(), &words).ok() {
+        Some(git) => match git.command {
             Command::Commit { all, message } => {
                 println!(rt; "git: commit, all {all}, message {message}")
             }
             _ => Ok(()),
         },
-        Err(failure) => {
-            drop(failure);
-            Ok(())
-        }
+        None => Ok(()),
     }
 }

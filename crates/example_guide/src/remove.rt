@@ -8,7 +8,7 @@ ghost use Rattle.bpaf_record.specs.Spelled.{WasSpelled};
 ghost use Rattle.example_guide.specs.Remove.{IsRemovalText, force_names};
 
 use bpaf::{Args, OptionParser, ParseFailure, Parser, construct, positional, short};
-use bpaf_program::{Sink, print, push_lines};
+use bpaf_program::{Sink, key, print, push_lines};
 use bpaf_record::Record;
 use std::alloc::{AllocError, Global};
 
@@ -27,7 +27,7 @@ pub fn read_removal(alloc: Global, words: &[String]) -> Result<Removal, ParseFai
         removal.force ≡ true → WasSpelled force_names (map string_bytes words.now)) }
 {
     let depth = short(alloc, 'd')?.argument::<u64>("N").optional();
-    let force = short(alloc, 'f')?.long("force")?.switch();
+    let force = key(alloc, 'f', "force")?.switch();
     let files = positional::<String>("FILE").many();
     let options = construct!(Removal {
         depth,
