@@ -5,7 +5,7 @@ use bpaf_text::short;
 use std::alloc::{AllocError, Global};
 use std::cell::Cell;
 use std::test::Fail;
-use test_support::{num, switch, value};
+use test_support::{num, prints, switch, value};
 
 /// One call more, which gives the value on.
 fn counted(calls: &Cell<u64>, value: u64) -> u64 {
@@ -30,9 +30,8 @@ fn calls_of_branches(alloc: Global, words: &[&str]) -> Result<(u64, u64), AllocE
 #[test]
 fn branches_are_evaluated_once_a_step(rt: HostRuntime) -> Result<(), Fail> {
     let a = rt.alloc();
-    assert_eq!(rt; calls_of_branches(a, &["-a", "-b", "-a"])?, (3, 2));
-    assert_eq!(rt; calls_of_branches(a, &[])?, (0, 0));
-    Ok(())
+    prints(a, calls_of_branches(a, &["-a", "-b", "-a"]), "(3, 2)")?;
+    prints(a, calls_of_branches(a, &[]), "(0, 0)")
 }
 
 /// How often the closures behind a number and behind its default are called; the first refuses 5.
@@ -59,11 +58,10 @@ fn calls_before_kept(alloc: Global, words: &[&str]) -> Result<u64, AllocError> {
 #[test]
 fn defaults_evaluate_once(rt: HostRuntime) -> Result<(), Fail> {
     let a = rt.alloc();
-    assert_eq!(rt; calls_of_default(a, &["-n", "3"])?, (1, 0));
-    assert_eq!(rt; calls_of_default(a, &[])?, (0, 1));
-    assert_eq!(rt; calls_of_default(a, &["-n", "5"])?, (1, 0));
-    assert_eq!(rt; calls_before_kept(a, &["-n", "3"])?, 1);
-    Ok(())
+    prints(a, calls_of_default(a, &["-n", "3"]), "(1, 0)")?;
+    prints(a, calls_of_default(a, &[]), "(0, 1)")?;
+    prints(a, calls_of_default(a, &["-n", "5"]), "(1, 0)")?;
+    prints(a, calls_before_kept(a, &["-n", "3"]), "1")
 }
 
 /// How often the closure inside the adjacent command `a` over the switch `-x` is called.
@@ -78,11 +76,10 @@ fn calls_of_attempts(alloc: Global, words: &[&str]) -> Result<u64, AllocError> {
 #[test]
 fn adjacent_command_is_evaluated_for_each_attempt(rt: HostRuntime) -> Result<(), Fail> {
     let a = rt.alloc();
-    assert_eq!(rt; calls_of_attempts(a, &["a", "-x"])?, 1);
-    assert_eq!(rt; calls_of_attempts(a, &["a", "-x", "w"])?, 2);
-    assert_eq!(rt; calls_of_attempts(a, &["a", "w", "-x"])?, 2);
-    assert_eq!(rt; calls_of_attempts(a, &["w", "a"])?, 0);
-    Ok(())
+    prints(a, calls_of_attempts(a, &["a", "-x"]), "1")?;
+    prints(a, calls_of_attempts(a, &["a", "-x", "w"]), "2")?;
+    prints(a, calls_of_attempts(a, &["a", "w", "-x"]), "2")?;
+    prints(a, calls_of_attempts(a, &["w", "a"]), "0")
 }
 
 /// How often the closures of `map`, `parse` and `guard`, one round the other, are called.
@@ -104,28 +101,63 @@ fn calls_of_transforms(alloc: Global, words: &[&str]) -> Result<(u64, u64, u64),
 #[test]
 fn transforms_call_their_closures_once(rt: HostRuntime) -> Result<(), Fail> {
     let a = rt.alloc();
-    assert_eq!(rt; calls_of_transforms(a, &["-n", "3"])?, (1, 1, 1));
-    assert_eq!(rt; calls_of_transforms(a, &["-n", "9"])?, (1, 1, 1));
-    assert_eq!(rt; calls_of_transforms(a, &["-n", "5"])?, (1, 1, 0));
-    assert_eq!(rt; calls_of_transforms(a, &["-n", "x"])?, (0, 0, 0));
-    assert_eq!(rt; calls_of_transforms(a, &[])?, (0, 0, 0));
-    Ok(())
+    prints(a, calls_of_transforms(a, &["-n", "3"]), "(1, 1, 1)")?;
+    prints(a, calls_of_transforms(a, &["-n", "9"]), "(1, 1, 1)")?;
+    prints(a, calls_of_transforms(a, &["-n", "5"]), "(1, 1, 0)")?;
+    prints(a, calls_of_transforms(a, &["-n", "x"]), "(0, 0, 0)")?;
+    prints(a, calls_of_transforms(a, &[]), "(0, 0, 0)")
+}
+
+/// The value of a number with three `map`s of one closure round it.
+fn mapped_by_three<P: Parser<u64> + Drop, F: Fn(u64) -> u64 + Copy>(
+    alloc: Global,
+    number: P,
+    map: F,
+    words: &[&str],
+) -> Result<Option<u64>, AllocError>
+    requires evaluated { P.can_eval number }
+    requires callable { F.IsAlwaysCallable map }
+{
+    value(alloc, number.map(map).map(map).map(map), words)
+}
+
+/// The same of six.
+fn mapped_by_six<P: Parser<u64> + Drop, F: Fn(u64) -> u64 + Copy>(
+    alloc: Global,
+    number: P,
+    map: F,
+    words: &[&str],
+) -> Result<Option<u64>, AllocError>
+    requires evaluated { P.can_eval number }
+    requires callable { F.IsAlwaysCallable map }
+{
+    mapped_by_three(alloc, number.map(map).map(map).map(map), map, words)
+}
+
+/// The same of ten.
+fn mapped_by_ten<P: Parser<u64> + Drop, F: Fn(u64) -> u64 + Copy>(
+    alloc: Global,
+    number: P,
+    map: F,
+    words: &[&str],
+) -> Result<Option<u64>, AllocError>
+    requires evaluated { P.can_eval number }
+    requires callable { F.IsAlwaysCallable map }
+{
+    let four = number.map(map).map(map).map(map).map(map);
+    mapped_by_six(alloc, four, map, words)
 }
 
 /// How often the closures of ten `map`s in one another are called.
 fn calls_of_maps(alloc: Global, words: &[&str]) -> Result<u64, AllocError> {
     let calls = Cell::new(0);
-    let map = |number: u64| counted(&calls, number);
-    let number = num(alloc)?.map(&map).map(&map).map(&map).map(&map);
-    let number = number.map(&map).map(&map).map(&map).map(&map);
-    let _ = value(alloc, number.map(&map).map(&map), words)?;
+    let _ = mapped_by_ten(alloc, num(alloc)?, |number| counted(&calls, number), words)?;
     Ok(calls.get())
 }
 
 #[test]
 fn ten_maps_call_ten_closures(rt: HostRuntime) -> Result<(), Fail> {
     let a = rt.alloc();
-    assert_eq!(rt; calls_of_maps(a, &["-n", "3"])?, 10);
-    assert_eq!(rt; calls_of_maps(a, &["-n", "x"])?, 0);
-    Ok(())
+    prints(a, calls_of_maps(a, &["-n", "3"]), "10")?;
+    prints(a, calls_of_maps(a, &["-n", "x"]), "0")
 }

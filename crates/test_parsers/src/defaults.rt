@@ -4,23 +4,25 @@ use std::alloc::{AllocError, Global};
 use std::test::Fail;
 use test_support::{answers, num, reads};
 
-/// A number with a default as Display prints it.
-fn displayed(alloc: Global) -> Result<String, AllocError> {
-    let n = num(alloc)?.fallback(7).display_fallback(alloc)?;
-    answers(alloc, n, &[&["--help"], &[]])
+/// How a default is shown: as Display or Debug prints it, or as a closure writes it.
+#[derive(Clone, Copy)]
+enum Shown {
+    Displayed,
+    Debugged,
+    Formatted,
 }
 
-/// A number with a default as Debug prints it.
-fn debugged(alloc: Global) -> Result<String, AllocError> {
-    let n = num(alloc)?.fallback(7).debug_fallback(alloc)?;
-    answers(alloc, n, &[&["--help"]])
-}
-
-/// A number with a default as a closure writes it.
-fn formatted(alloc: Global) -> Result<String, AllocError> {
+/// A number with a default.
+fn kept(alloc: Global, shown: Shown, lines: &[&[&str]]) -> Result<String, AllocError> {
     let n = num(alloc)?.fallback(7);
-    let n = n.format_fallback(alloc, |n| format!(in alloc; "{n} or so"))?;
-    answers(alloc, n, &[&["--help"]])
+    match shown {
+        Shown::Displayed => answers(alloc, n.display_fallback(alloc)?, lines),
+        Shown::Debugged => answers(alloc, n.debug_fallback(alloc)?, lines),
+        Shown::Formatted => {
+            let n = n.format_fallback(alloc, |n| format!(in alloc; "{n} or so"))?;
+            answers(alloc, n, lines)
+        }
+    }
 }
 
 /// The page of a number and its default.
@@ -47,37 +49,37 @@ const FORMATTED: &str = "out Usage: [-n=NUM]\n\n\
 
 #[test]
 fn defaults_are_shown(rt: HostRuntime) -> Result<(), Fail> {
-    reads(displayed(rt.alloc()), PAGE_AND_VALUE)?;
-    reads(debugged(rt.alloc()), PAGE)?;
-    reads(formatted(rt.alloc()), FORMATTED)
+    let a = rt.alloc();
+    reads(
+        kept(a, Shown::Displayed, &[&["--help"], &[]]),
+        PAGE_AND_VALUE,
+    )?;
+    reads(kept(a, Shown::Debugged, &[&["--help"]]), PAGE)?;
+    reads(kept(a, Shown::Formatted, &[&["--help"]]), FORMATTED)
 }
 
-/// A number with the answer of a closure as its default, as Display prints it.
-fn displayed_answer(alloc: Global) -> Result<String, AllocError> {
+/// A number with the answer of a closure as its default.
+fn answered(alloc: Global, shown: Shown, lines: &[&[&str]]) -> Result<String, AllocError> {
     let n = num(alloc)?.fallback_with(|| Ok::<u64, &str>(7));
-    let n = n.display_fallback(alloc)?;
-    answers(alloc, n, &[&["--help"], &[]])
-}
-
-/// The same as Debug prints it.
-fn debugged_answer(alloc: Global) -> Result<String, AllocError> {
-    let n = num(alloc)?.fallback_with(|| Ok::<u64, &str>(7));
-    let n = n.debug_fallback(alloc)?;
-    answers(alloc, n, &[&["--help"]])
-}
-
-/// The same as another closure writes it.
-fn formatted_answer(alloc: Global) -> Result<String, AllocError> {
-    let n = num(alloc)?.fallback_with(|| Ok::<u64, &str>(7));
-    let n = n.format_fallback(alloc, |n| format!(in alloc; "{n} or so"))?;
-    answers(alloc, n, &[&["--help"]])
+    match shown {
+        Shown::Displayed => answers(alloc, n.display_fallback(alloc)?, lines),
+        Shown::Debugged => answers(alloc, n.debug_fallback(alloc)?, lines),
+        Shown::Formatted => {
+            let n = n.format_fallback(alloc, |n| format!(in alloc; "{n} or so"))?;
+            answers(alloc, n, lines)
+        }
+    }
 }
 
 #[test]
 fn answers_of_closures_are_shown(rt: HostRuntime) -> Result<(), Fail> {
-    reads(displayed_answer(rt.alloc()), PAGE_AND_VALUE)?;
-    reads(debugged_answer(rt.alloc()), PAGE)?;
-    reads(formatted_answer(rt.alloc()), FORMATTED)
+    let a = rt.alloc();
+    reads(
+        answered(a, Shown::Displayed, &[&["--help"], &[]]),
+        PAGE_AND_VALUE,
+    )?;
+    reads(answered(a, Shown::Debugged, &[&["--help"]]), PAGE)?;
+    reads(answered(a, Shown::Formatted, &[&["--help"]]), FORMATTED)
 }
 
 /// Whether a default is made whose closure refuses for want of memory.

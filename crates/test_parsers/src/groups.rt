@@ -27,6 +27,11 @@ fn behind_switch<T: Debug + Drop, P: Parser<T> + Drop>(
 /// A group between a switch and its words, and behind it.
 const SWITCH_AND_POINT: &[&[&str]] = &[&["--point", "1", "-v", "2"], &["-v", "--point", "1", "2"]];
 
+/// Answers for which nothing but memory was wanted.
+fn answered(answers: Result<String, AllocError>) -> Result<String, AdjacentError> {
+    Ok(answers?)
+}
+
 /// What the group of `--point` and two numbers answers behind a switch, or any number of groups.
 fn points(alloc: Global, many: bool) -> Result<String, AdjacentError> {
     let point = required(alloc, "point")?;
@@ -35,9 +40,9 @@ fn points(alloc: Global, many: bool) -> Result<String, AdjacentError> {
     let group = construct!(point, x, y).adjacent(alloc)?;
     if many {
         let words: [&str; 6] = ["--point", "1", "2", "--point", "3", "4"];
-        return Ok(answers(alloc, group.many(), &[&words])?);
+        return answered(answers(alloc, group.many(), &[&words]));
     }
-    Ok(behind_switch(alloc, group, SWITCH_AND_POINT)?)
+    answered(behind_switch(alloc, group, SWITCH_AND_POINT))
 }
 
 /// A group whose first field shows no item.
@@ -45,7 +50,7 @@ fn without_first_item(alloc: Global) -> Result<String, AdjacentError> {
     let a = pure(1);
     let num = num(alloc)?;
     let group = construct!(a, num).adjacent(alloc)?;
-    Ok(answers(alloc, group, &[&["-n", "3"]])?)
+    answered(answers(alloc, group, &[&["-n", "3"]]))
 }
 
 /// The answers of a group, or why it can't be made.
@@ -87,9 +92,9 @@ fn behind_a<T: Debug + Drop, P: Parser<T> + Drop>(
     let a = required(alloc, "a")?;
     let group = construct!(a, inner).adjacent(alloc)?;
     if broken {
-        return Ok(behind_switch(alloc, group, BROKEN)?);
+        return answered(behind_switch(alloc, group, BROKEN));
     }
-    Ok(answers(alloc, group, WHOLE)?)
+    answered(answers(alloc, group, WHOLE))
 }
 
 /// The same of `--b` inside.
@@ -144,26 +149,23 @@ fn groups_stand_in_one_another(rt: HostRuntime) -> Result<(), Fail> {
     reads(made(a, five(a, true)), broken)
 }
 
-/// How often the closure of a group's field is called; None where the group can't be made.
-fn calls_inside(alloc: Global, words: &[&str]) -> Result<Option<u64>, AllocError> {
+/// How often the closure of a group's field is called, or why the group can't be made.
+fn calls_inside(alloc: Global, words: &[&str]) -> Result<String, AdjacentError> {
     let calls = Cell::new(0u64);
     let key = long(alloc, "point")?.req_flag(1).map(|n: u64| {
         calls.set(calls.get().wrapping_add(1));
         n
     });
     let x = positional::<u64>("X");
-    let Ok(group) = construct!(key, x).adjacent(alloc) else {
-        return Ok(None);
-    };
-    let _ = value(alloc, group, words)?;
-    Ok(Some(calls.get()))
+    let _ = value(alloc, construct!(key, x).adjacent(alloc)?, words)?;
+    let calls = calls.get();
+    Ok(format!(in alloc; "{calls}")?)
 }
 
 #[test]
 fn group_is_evaluated_for_its_probe_and_each_attempt(rt: HostRuntime) -> Result<(), Fail> {
     let a = rt.alloc();
-    assert_eq!(rt; calls_inside(a, &["--point", "1"])?, Some(2));
-    assert_eq!(rt; calls_inside(a, &["--point", "1", "2"])?, Some(3));
-    assert_eq!(rt; calls_inside(a, &["1"])?, Some(0));
-    Ok(())
+    reads(made(a, calls_inside(a, &["--point", "1"])), "2")?;
+    reads(made(a, calls_inside(a, &["--point", "1", "2"])), "3")?;
+    reads(made(a, calls_inside(a, &["1"])), "0")
 }

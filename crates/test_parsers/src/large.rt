@@ -6,12 +6,22 @@ use std::collections::VecDeque;
 use std::test::Fail;
 use test_support::{answers, num, reads, value, verbose};
 
-/// How many of so many words are read.
-fn words_read(alloc: Global, number: usize) -> Result<Option<usize>, AllocError> {
+/// A line of one word so many times.
+fn repeated(
+    alloc: Global,
+    word: &'static str,
+    number: usize,
+) -> Result<Vec<&'static str>, AllocError> {
     let mut words = Vec::new(alloc);
     for _ in 0..number {
-        words.push("w")?;
+        words.push(word)?;
     }
+    Ok(words)
+}
+
+/// How many of so many words are read.
+fn words_read(alloc: Global, number: usize) -> Result<Option<usize>, AllocError> {
+    let words = repeated(alloc, "w", number)?;
     let files = positional::<String>("FILE").count();
     value(alloc, files, words.as_slice())
 }
@@ -24,10 +34,7 @@ fn a_hundred_thousand_words_are_read(rt: HostRuntime) -> Result<(), Fail> {
 
 /// How many of so many numbers are collected.
 fn numbers_collected(alloc: Global, number: usize) -> Result<Option<usize>, AllocError> {
-    let mut words = Vec::new(alloc);
-    for _ in 0..number {
-        words.push("-n3")?;
-    }
+    let words = repeated(alloc, "-n3", number)?;
     let numbers = num(alloc)?.collect::<VecDeque<u64>>();
     let numbers = value(alloc, numbers, words.as_slice())?;
     Ok(numbers.map(|numbers| numbers.len()))
@@ -63,14 +70,26 @@ fn deeper<T: Drop, P: Parser<T> + Drop>(
     parser.to_options(alloc)?.command("a")
 }
 
+/// Three commands in one another over a parser.
+type Three<T, P> = ParseCommand<T, ParseCommand<T, ParseCommand<T, P>>>;
+
+/// Five of them.
+type Five<T, P> = ParseCommand<T, ParseCommand<T, Three<T, P>>>;
+
+/// Five commands `a` in one another over a parser.
+fn five_deeper<T: Drop, P: Parser<T> + Drop>(
+    alloc: Global,
+    parser: P,
+) -> Result<Five<T, P>, AllocError> {
+    let three = deeper(alloc, deeper(alloc, deeper(alloc, parser)?)?)?;
+    deeper(alloc, deeper(alloc, three)?)
+}
+
 /// What ten commands in one another answer to their words, and to help behind them.
 fn ten_commands(alloc: Global) -> Result<String, AllocError> {
-    let five = deeper(alloc, deeper(alloc, deeper(alloc, verbose(alloc)?)?)?)?;
-    let five = deeper(alloc, deeper(alloc, five)?)?;
-    let ten = deeper(alloc, deeper(alloc, deeper(alloc, five)?)?)?;
-    let ten = deeper(alloc, deeper(alloc, ten)?)?;
+    let five = five_deeper(alloc, verbose(alloc)?)?;
     let full = ["a", "a", "a", "a", "a", "a", "a", "a", "a", "a", "-v"];
-    answers(alloc, ten, &[&full, &full[1..]])
+    answers(alloc, five_deeper(alloc, five)?, &[&full, &full[1..]])
 }
 
 #[test]

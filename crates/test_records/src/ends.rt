@@ -6,7 +6,7 @@ use bpaf_record::Record;
 use std::alloc::Global;
 use std::fmt::Debug;
 use std::test::Fail;
-use test_support::Narrow;
+use test_support::{Narrow, reads};
 
 /// Words, parted by spaces; the room of the two writers; the value or the status, and what then
 /// stands on them, with bars between.
@@ -87,8 +87,7 @@ pub(crate) fn shown<T: Debug + Drop>(
 fn runs_end_with_a_value_or_a_status(rt: HostRuntime) -> Result<(), Fail> {
     for row in ENDS {
         for exact in [false, true] {
-            let end = ended(rt.alloc(), row, exact)?;
-            assert_eq!(rt; end.as_str(), row.3);
+            reads(Ok(ended(rt.alloc(), row, exact)?), row.3)?;
         }
     }
     Ok(())
@@ -117,8 +116,7 @@ fn texts_are_printed(rt: HostRuntime) -> Result<(), Fail> {
         (None, 40, 3, "Err(1)||Erro"),
     ];
     for (text, room, failing, wanted) in rows {
-        let found = printed(rt.alloc(), text, room, failing)?;
-        assert_eq!(rt; found.as_str(), wanted);
+        reads(Ok(printed(rt.alloc(), text, room, failing)?), wanted)?;
     }
     Ok(())
 }

@@ -14,8 +14,8 @@ fn compare_numbers<T: Debug + Drop, P: ProgramField<T> + FlatField<T> + Drop>(
 ) -> Result<(), Fail>
     requires { P.can_eval parser }
 {
-    let options = parser.to_options(alloc)?;
-    compare_options(alloc, options.numbers_as_words(), rows)
+    let options = parser.to_options(alloc)?.numbers_as_words();
+    compare_options(alloc, &options, rows)
 }
 
 /// The same of a product of two fields.

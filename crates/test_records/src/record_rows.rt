@@ -21,7 +21,8 @@ pub(crate) fn word() -> ParsePositional<String> {
 
 /// A refusal as a row tells it.
 fn refused(alloc: Global, failure: ParseFailure) -> Result<String, AllocError> {
-    match failure.unwrap_stderr()? {
+    let message = failure.unwrap_stderr()?;
+    match &message {
         Some(message) => format!(in alloc; "err {message}"),
         None => String::from_str(alloc, "shown"),
     }
@@ -47,16 +48,17 @@ pub(crate) fn compare<T: Debug + Drop, P: ProgramField<T> + FlatField<T> + Drop>
 ) -> Result<(), Fail>
     requires { P.can_eval parser }
 {
-    compare_options(alloc, parser.to_options(alloc)?, rows)
+    let options = parser.to_options(alloc)?;
+    compare_options(alloc, &options, rows)
 }
 
 /// The same of options, as a flat record and as a program.
 pub(crate) fn compare_options<T: Debug + Drop, P: ProgramField<T> + FlatField<T> + Drop>(
     alloc: Global,
-    options: OptionParser<T, P>,
+    options: &OptionParser<T, P>,
     rows: &[Row<'_>],
 ) -> Result<(), Fail>
-    requires { P.can_eval options.inner }
+    requires { P.can_eval options.now.inner }
 {
     if !options.is_record() {
         return Err(Fail::new("no flat record"));
