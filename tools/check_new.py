@@ -1,6 +1,6 @@
 #!/usr/bin/env python3
 """Makes a repository by ./new in a folder that goes again, and looks at it without any proof: that it has its files and
-no other, that `rt fmt` finds its program laid out, and that its run and its tests end as its gate wants.
+no other, that `rt fmt` finds its program laid out, and that its tests pass, of which the first row is the run of its gate.
 """
 import os
 import re
@@ -47,9 +47,6 @@ def look(there):
     said(own, "rt", "fmt")
     if said(there, "git", "diff", "--name-only"):
         stop(f"its program isn't laid out as `rt fmt` does it:\n{said(there, 'git', 'diff')}")
-    printed, stdout = said(own, "rt", "try", "--", *text_of(own, "args").split("\n")[:-1]), text_of(own, "stdout")
-    if printed != stdout:
-        stop(f"its program prints\n{printed}where its gate wants\n{stdout}")
     said(own, "rt", "try", "--test")
     return len(found)
 
@@ -58,7 +55,7 @@ def main():
     with tempfile.TemporaryDirectory() as folder:
         there = os.path.join(folder, "first")
         said(crates.HERE, "./new", there)
-        print(f"new: {look(there)} files, laid out; its program and its tests run")
+        print(f"new: {look(there)} files, laid out; its tests run")
 
 
 main()

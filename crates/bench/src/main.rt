@@ -4,9 +4,9 @@
 //! bench [--all] [--beginnings=N] [FILE]...
 //! ```
 //!
-//! It runs files of descriptions, variables of the environment and rows by `bench_rows`, on the
-//! parsers of `bench_described`. With `--beginnings` it also runs the first N beginnings of each
-//! row's words. Its own options are read by `bpaf`.
+//! It runs files of descriptions, variables of the environment and rows by `bench_rows`. With
+//! `--beginnings` it also runs the first N beginnings of each row's words. Its own options are read
+//! by `bpaf`.
 //!
 //! A described parser is a lawful one, so what the bench answers is dealt out of the words as for
 //! any parser.
@@ -14,8 +14,7 @@
 
 mod options;
 
-use bench_described::SixLevels;
-use bench_rows::{Options, run_bench};
+use bench_rows::{Options, SixLevels, run_bench};
 use bpaf::ParseFailure;
 use bpaf_program::{end, words};
 use options::read_options;

@@ -1,0 +1,14 @@
+use Rattle.bench_rows.proofs.Members.{two_members, three_members}
+use Rattle.bench_rows.proofs.groups.group.Goals as goal
+
+pub returns-in-len2 : goal.returns-in-len2
+returns-in-len2 g c =
+    let members =
+    two_members _ _ _ c.in-len2.len_at_least c.in-len2.len_below c.a-item.is c.b-item.is in
+    rw members c.two_together.ensures
+
+pub returns-in-len3 : goal.returns-in-len3
+returns-in-len3 g c =
+    let members = three_members _ _ _ _ c.in-len3.len_at_least c.in-len3.len_below
+    c.a-item-then-parsers-lt4.is c.b-item-then-parsers-lt4.is c.c-item.is in
+    rw members c.three_together.ensures

@@ -1,0 +1,19 @@
+use Rattle.std.proofs.Common.{rules}
+use Rattle.bpaf_doc.specs.Shape.{part_of}
+use Rattle.bench_rows.specs.Groups.{begun, headless, wanted}
+use Rattle.bench_rows.proofs.Grouping.{begun_by}
+use Rattle.bench_rows.proofs.groups.grouped.Goals as goal
+
+pub returns-in-Ok : goal.returns-in-Ok
+returns-in-Ok g c =
+    begun c.in-Ok.group.first _ _ c.in-Ok.ensures.first
+    (begun_by (g.F.Fields.fast_outcome c.args.fields) _ g.V.Told.told
+    (part_of c.in-Ok.group.first) c.args.state.now c.told.new.state c.told.result
+    (rw c.in-Ok.ensures.inner at c.told.ensures) (λ x y e. search rules))
+
+pub returns-in-Err-NoFirstItem : goal.returns-in-Err-NoFirstItem
+returns-in-Err-NoFirstItem g c =
+    headless _ _ (search rules) (search rules)
+
+pub returns-in-Err-Memory : goal.returns-in-Err-Memory
+returns-in-Err-Memory g c = wanted _ (search rules)

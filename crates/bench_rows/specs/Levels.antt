@@ -1,0 +1,66 @@
+-- A level: what its kind makes of the inner parsers.
+use Rattle.std.specs.Prelude.{List, None}
+use Rattle.bpaf_doc.specs.Shape.{Shape}
+use Rattle.bpaf_laws.specs.Reading.{Readings, Outcome}
+use Rattle.bpaf_laws.specs.Laws.{Lawful}
+use Rattle.bpaf_laws.specs.Choices.{ChoicesOutcome, ChoicesReads, ChoicesDescribes}
+use Rattle.bpaf_laws.proofs.ChoicesLaws.{choices_lawful}
+use Rattle.bpaf_laws.specs.Command.{CommandDescribes}
+use Rattle.bench_values.specs.Commands.{CalledOutcome, CalledReads, called_lawful}
+use Rattle.bpaf_laws.specs.AdjacentGroup.{GroupDescribes}
+use Rattle.bench_values.specs.Modifiers.{Clones, OverOutcome, OverReads, OverDescribes, over_lawful}
+use Rattle.bench_rows.specs.Groups.{TogetherOutcome, TogetherReads, together_lawful}
+use Rattle.bench_rows.specs.Several.{TupleOutcome, TupleReads, TupleDescribes, tuple_lawful}
+use Rattle.bench_rows.specs.Several.{OrElseOutcome, OrElseReads, OrElseDescribes}
+use Rattle.bench_rows.specs.Several.{or_else_lawful}
+use Rattle.bench_values.specs.declared.value.Value.{Value}
+use Rattle.bench_values.specs.declared.kind.Kind.{Kind}
+use Rattle.bench_values.specs.declared.kind.Kind.TheVariants as kind
+
+-- what a level answers: a modifier and a command are over the choice of all its parsers
+abbrev pub LevelOutcome : {P : Type 0} → (P → Outcome Value) → (P → Shape → Type 0) → Clones → Kind
+    → List P → Outcome Value
+LevelOutcome outcome describes clones (kind.Over m) ps =
+    OverOutcome clones m (ChoicesOutcome outcome ps)
+LevelOutcome outcome describes clones kind.Product ps = TupleOutcome outcome ps
+LevelOutcome outcome describes clones kind.Group ps = TogetherOutcome outcome describes ps
+LevelOutcome outcome describes clones kind.OrElse ps = OrElseOutcome outcome ps
+LevelOutcome outcome describes clones (kind.Command called adjacent) ps =
+    CalledOutcome adjacent called (ChoicesOutcome outcome ps) (ChoicesDescribes describes ps)
+
+-- what is read of it
+abbrev pub LevelReads : {P : Type 0} → (P → Readings Value) → Clones → Kind → List P
+    → Readings Value
+LevelReads reads clones (kind.Over m) ps = OverReads clones m (ChoicesReads reads ps)
+LevelReads reads clones kind.Product ps = TupleReads reads ps
+LevelReads reads clones kind.Group ps = TogetherReads reads ps
+LevelReads reads clones kind.OrElse ps = OrElseReads reads ps
+LevelReads reads clones (kind.Command called adjacent) ps =
+    CalledReads adjacent called (ChoicesReads reads ps)
+
+-- what it shows
+abbrev pub LevelDescribes : {P : Type 0} → (P → Shape → Type 0) → Kind → List P → Shape → Type 0
+LevelDescribes describes (kind.Over m) ps shape =
+    OverDescribes m (ChoicesDescribes describes ps) shape
+LevelDescribes describes kind.Product ps shape = TupleDescribes describes ps shape
+LevelDescribes describes kind.Group ps shape = GroupDescribes (TupleDescribes describes ps) shape
+LevelDescribes describes kind.OrElse ps shape = OrElseDescribes describes ps shape
+LevelDescribes describes (kind.Command called adjacent) ps shape =
+    CommandDescribes called None (ChoicesDescribes describes ps) shape
+
+-- it keeps to the laws where its parsers do
+pub level_lawful : {P : Type 0} (outcome : P → Outcome Value) (reads : P → Readings Value)
+    (describes : P → Shape → Type 0) (clones : Clones) (k : Kind) (ps : List P)
+    → ((p : P) → Lawful Value (outcome p) (reads p))
+    → Lawful Value (LevelOutcome outcome describes clones k ps) (LevelReads reads clones k ps)
+level_lawful outcome reads describes clones (kind.Over m) ps each =
+    over_lawful clones m (choices_lawful outcome reads ps each)
+level_lawful outcome reads describes clones kind.Product ps each =
+    tuple_lawful outcome reads ps each
+level_lawful outcome reads describes clones kind.Group ps each =
+    together_lawful outcome reads describes ps each
+level_lawful outcome reads describes clones kind.OrElse ps each =
+    or_else_lawful outcome reads ps each
+level_lawful outcome reads describes clones (kind.Command called adjacent) ps each =
+    called_lawful adjacent called (ChoicesDescribes describes ps)
+    (choices_lawful outcome reads ps each)

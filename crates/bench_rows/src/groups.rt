@@ -1,0 +1,93 @@
+//! Adjacent groups of described parsers.
+ghost use Rattle.std.specs.Prelude.{All, IfOk};
+ghost use Rattle.bpaf_doc.specs.Shape.{shape_of};
+ghost use Rattle.bpaf_laws.specs.AdjacentGroup.{GroupDescribes};
+ghost use Rattle.bench_rows.specs.Groups.{GroupedOutcome, ThreeGrouped, TogetherOutcome};
+ghost use Rattle.bench_rows.specs.Groups.{TwoGrouped};
+ghost use Rattle.bench_rows.specs.Several.{TupleDescribes};
+ghost use Rattle.bench_values.specs.Told.{ToldOutcome};
+
+use crate::several::{Three, ThreeFields, Two, TwoFields, product_meta, three_fields, two_fields};
+use bench_values::{AsValue, Told, Value};
+use bpaf::parsers::ParseCon;
+use bpaf::{AdjacentError, Error, Fields, Meta, Parser, State, fail};
+use std::alloc::{AllocError, Global};
+use std::marker::PhantomData;
+
+/// The value of a parser, told as one of all parsers.
+fn told<T: Told + Drop, P: Parser<T> + Drop>(inner: P, state: &mut State) -> Result<Value, Error>
+    requires { P.can_eval inner }
+    ensures { ToldOutcome (P.outcome inner) T.told state.old result state.new }
+{
+    let parser: AsValue<T, P> = AsValue {
+        inner,
+        of: PhantomData,
+    };
+    parser.eval(state)
+}
+
+/// The values of an adjacent group of fields, as one; a refusal where they show no item first.
+fn grouped<V, F>(fields: F, state: &mut State) -> Result<Value, Error>
+where
+    V: Told + Drop,
+    F: Fields<V> + Drop,
+    requires { F.can_eval fields }
+    ensures { GroupedOutcome (F.fast_outcome fields) (F.describes fields) V.told
+        state.old result state.new }
+{
+    let product = ParseCon {
+        fields,
+        make: |values: V| values,
+        values: PhantomData,
+    };
+    match product.adjacent(state.alloc()) {
+        Ok(group) => told(group, state),
+        Err(AdjacentError::NoFirstItem) => fail::<Value>("no first item").eval(state),
+        Err(AdjacentError::Memory) => Err(Error::from(AllocError)),
+    }
+}
+
+/// The values of an adjacent group of two parsers.
+fn two_together<P: Parser<Value>>(a: &P, b: &P, state: &mut State) -> Result<Value, Error>
+    requires a { P.can_eval a.now }
+    requires b { P.can_eval b.now }
+    ensures { TwoGrouped (P.outcome a.now) (P.outcome b.now) (P.describes a.now)
+        (P.describes b.now) state.old result state.new }
+{
+    grouped::<Two, TwoFields<'_, P>>(two_fields(a, b), state)
+}
+
+/// The values of an adjacent group of three parsers.
+fn three_together<P: Parser<Value>>(a: &P, b: &P, c: &P, state: &mut State) -> Result<Value, Error>
+    requires a { P.can_eval a.now }
+    requires b { P.can_eval b.now }
+    requires c { P.can_eval c.now }
+    ensures { ThreeGrouped (P.outcome a.now) (P.outcome b.now) (P.outcome c.now)
+        (P.describes a.now) (P.describes b.now) (P.describes c.now)
+        state.old result state.new }
+{
+    grouped::<Three, ThreeFields<'_, P>>(three_fields(a, b, c), state)
+}
+
+/// The values of an adjacent group of two or three parsers; a refusal where the first of them shows
+/// no item first.
+pub fn group<P: Parser<Value>>(parsers: &[P], state: &mut State) -> Result<Value, Error>
+    requires { All P.can_eval parsers.now }
+    ensures { TogetherOutcome P.outcome P.describes parsers.now state.old result state.new }
+{
+    match parsers {
+        [a, b] => two_together(a, b, state),
+        [a, b, c] => three_together(a, b, c, state),
+        _ => fail::<Value>("wrong number of parsers").eval(state),
+    }
+}
+
+/// What a group shows: its product, as what stands together.
+pub fn group_meta<P: Parser<Value>>(parsers: &[P], alloc: Global) -> Result<Meta, AllocError>
+    requires { All P.can_eval parsers.now }
+    ensures { IfOk result (λ meta.
+        GroupDescribes (TupleDescribes P.describes parsers.now) (shape_of meta)) }
+{
+    let within = product_meta(parsers, alloc)?;
+    Ok(Meta::Adjacent(Box::new(alloc, within)?))
+}

@@ -1,0 +1,73 @@
+//! A described parser whose inner ones are of the level below.
+use crate::groups::{group, group_meta};
+use crate::several::{or_else, or_else_meta, product, product_meta};
+use bench_values::{
+    Described, Fault, Kind, Tokens, Value, called, called_meta, modified, modified_meta,
+    read_combination, read_several,
+};
+use bpaf::parsers::ParseChoice;
+use bpaf::{Error, Meta, Parser, State, choice};
+use std::alloc::{AllocError, Global};
+
+/// A parser over inner parsers of one type.
+#[derive(Drop)]
+pub struct Level<P> {
+    /// What it makes of them.
+    pub kind: Kind,
+    /// The choice of them all.
+    pub inner: ParseChoice<P>,
+}
+
+impl<P: Parser<Value> + Drop> Parser<Value> for Level<P> {
+    ghost use Rattle.std.specs.Prelude.{All};
+    ghost use Rattle.bench_rows.specs.Levels.{LevelOutcome, LevelReads, LevelDescribes};
+    ghost use Rattle.bench_rows.specs.Levels.{level_lawful};
+
+    ghost can_eval = { λ p. All P.can_eval p.inner.parsers.items };
+
+    ghost describes = { λ p. LevelDescribes P.describes p.kind p.inner.parsers.items };
+
+    ghost reads = { λ p.
+        LevelReads P.reads ⟦<Value as Clone>⟧.is_clone p.kind p.inner.parsers.items };
+
+    ghost outcome = { λ p.
+        LevelOutcome P.outcome P.describes ⟦<Value as Clone>⟧.is_clone p.kind
+        p.inner.parsers.items };
+
+    fn eval(&self, state: &mut State) -> Result<Value, Error> {
+        match &self.kind {
+            Kind::Over(modifier) => modified(*modifier, &self.inner, state),
+            Kind::Product => product(self.inner.parsers.as_slice(), state),
+            Kind::Group => group(self.inner.parsers.as_slice(), state),
+            Kind::OrElse => or_else(self.inner.parsers.as_slice(), state),
+            Kind::Command(names, adjacent) => called(names, *adjacent, &self.inner, state),
+        }
+    }
+
+    fn meta(&self, alloc: Global) -> Result<Meta, AllocError> {
+        match &self.kind {
+            Kind::Over(modifier) => modified_meta(*modifier, &self.inner, alloc),
+            Kind::Product => product_meta(self.inner.parsers.as_slice(), alloc),
+            Kind::Group => group_meta(self.inner.parsers.as_slice(), alloc),
+            Kind::OrElse => or_else_meta(self.inner.parsers.as_slice(), alloc),
+            Kind::Command(names, _) => called_meta(names, &self.inner, alloc),
+        }
+    }
+
+    ghost lawful = { λ p. level_lawful P.outcome P.reads P.describes ⟦<Value as Clone>⟧.is_clone
+        p.kind p.inner.parsers.items P.lawful };
+}
+
+impl<P: Described> Described for Level<P> {
+    ghost use Rattle.bench_values.specs.Values.{all_of};
+
+    fn read(tokens: &mut Tokens<'_>) -> Result<Level<P>, Fault> {
+        let opened = tokens.open();
+        let (kind, count) = read_combination(tokens)?;
+        let inner = choice(read_several(count, tokens)?);
+        tokens.close(opened)?;
+        Ok(Level { kind, inner })
+    }
+
+    ghost ready = { λ p. all_of P.ready p.inner.parsers.items };
+}

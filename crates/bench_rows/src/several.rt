@@ -1,0 +1,212 @@
+//! Products and choices of several described parsers.
+ghost use Rattle.std.specs.Prelude.{◌≡◌, All, IfOk};
+ghost use Rattle.bpaf_doc.specs.Shape.{shape_of};
+ghost use Rattle.bpaf_laws.specs.Product.{ProductDescribes};
+ghost use Rattle.bench_rows.specs.Several.{FourOutcome, NestedOutcome, ThreeOutcome};
+ghost use Rattle.bench_rows.specs.Several.{TwoOutcome};
+ghost use Rattle.bench_rows.specs.Several.{OrElseDescribes, OrElseOutcome};
+ghost use Rattle.bench_rows.specs.Several.{TupleDescribes, TupleOutcome};
+
+use crate::product::Product;
+use bench_values::{AsValue, Lent, Told, Value};
+use bpaf::parsers::ParseOrElse;
+use bpaf::{Both, Error, Fields, Last, Meta, Parser, State, fail};
+use std::alloc::{AllocError, Global};
+use std::marker::PhantomData;
+
+/// Two values.
+pub type Two = (Value, Value);
+
+/// Three values.
+pub type Three = (Value, Two);
+
+/// Four values.
+type Four = (Value, Three);
+
+/// The fields of two parsers.
+pub type TwoFields<'p, P> = Both<Lent<'p, P>, Last<Lent<'p, P>>>;
+
+/// The fields of three parsers.
+pub type ThreeFields<'p, P> = Both<Lent<'p, P>, TwoFields<'p, P>>;
+
+/// The fields of four parsers.
+type FourFields<'p, P> = Both<Lent<'p, P>, ThreeFields<'p, P>>;
+
+/// The values of fields, as one.
+fn nested<V: Told + Drop, F: Fields<V> + Drop>(fields: F, state: &mut State) -> Result<Value, Error>
+    requires { F.can_eval fields }
+    ensures { NestedOutcome (F.outcome fields) V.told state.old result state.new }
+{
+    let parser: AsValue<V, Product<V, F>> = AsValue {
+        inner: Product {
+            fields,
+            values: PhantomData,
+        },
+        of: PhantomData,
+    };
+    parser.eval(state)
+}
+
+/// What fields show.
+fn nested_meta<V: Drop, F: Fields<V> + Drop>(fields: F, alloc: Global) -> Result<Meta, AllocError>
+    requires { F.can_eval fields }
+    ensures { IfOk result (λ meta. ProductDescribes (F.describes fields) (shape_of meta)) }
+{
+    let product: Product<V, F> = Product {
+        fields,
+        values: PhantomData,
+    };
+    product.meta(alloc)
+}
+
+/// The fields of two lent parsers.
+pub fn two_fields<'p, P>(a: &'p P, b: &'p P) -> TwoFields<'p, P>
+    ensures a { result.first.inner.now ≡ a.now }
+    ensures b { result.rest.last.inner.now ≡ b.now }
+{
+    let last = Lent { inner: b };
+    let rest = Last { last };
+    let first = Lent { inner: a };
+    Both { first, rest }
+}
+
+/// The fields of three lent parsers.
+pub fn three_fields<'p, P>(a: &'p P, b: &'p P, c: &'p P) -> ThreeFields<'p, P>
+    ensures a { result.first.inner.now ≡ a.now }
+    ensures b { result.rest.first.inner.now ≡ b.now }
+    ensures c { result.rest.rest.last.inner.now ≡ c.now }
+{
+    let rest = two_fields(b, c);
+    let first = Lent { inner: a };
+    Both { first, rest }
+}
+
+/// The fields of four lent parsers.
+fn four_fields<'p, P>(a: &'p P, b: &'p P, c: &'p P, d: &'p P) -> FourFields<'p, P>
+    ensures a { result.first.inner.now ≡ a.now }
+    ensures b { result.rest.first.inner.now ≡ b.now }
+    ensures c { result.rest.rest.first.inner.now ≡ c.now }
+    ensures d { result.rest.rest.rest.last.inner.now ≡ d.now }
+{
+    let rest = three_fields(b, c, d);
+    let first = Lent { inner: a };
+    Both { first, rest }
+}
+
+/// The values of two parsers, the one after the other.
+fn two_values<P: Parser<Value>>(a: &P, b: &P, state: &mut State) -> Result<Value, Error>
+    requires a { P.can_eval a.now }
+    requires b { P.can_eval b.now }
+    ensures { TwoOutcome (P.outcome a.now) (P.outcome b.now) state.old result state.new }
+{
+    nested::<Two, TwoFields<'_, P>>(two_fields(a, b), state)
+}
+
+/// The values of three parsers, the one after the other.
+fn three_values<P: Parser<Value>>(a: &P, b: &P, c: &P, state: &mut State) -> Result<Value, Error>
+    requires a { P.can_eval a.now }
+    requires b { P.can_eval b.now }
+    requires c { P.can_eval c.now }
+    ensures { ThreeOutcome (P.outcome a.now) (P.outcome b.now) (P.outcome c.now)
+        state.old result state.new }
+{
+    nested::<Three, ThreeFields<'_, P>>(three_fields(a, b, c), state)
+}
+
+/// The values of four parsers, the one after the other.
+fn four_values<P: Parser<Value>>(
+    a: &P,
+    b: &P,
+    c: &P,
+    d: &P,
+    state: &mut State,
+) -> Result<Value, Error>
+    requires a { P.can_eval a.now }
+    requires b { P.can_eval b.now }
+    requires c { P.can_eval c.now }
+    requires d { P.can_eval d.now }
+    ensures { FourOutcome (P.outcome a.now) (P.outcome b.now) (P.outcome c.now)
+        (P.outcome d.now) state.old result state.new }
+{
+    nested::<Four, FourFields<'_, P>>(four_fields(a, b, c, d), state)
+}
+
+/// The values of two, three or four parsers, the one after the other.
+pub fn product<P: Parser<Value>>(parsers: &[P], state: &mut State) -> Result<Value, Error>
+    requires { All P.can_eval parsers.now }
+    ensures { TupleOutcome P.outcome parsers.now state.old result state.new }
+{
+    match parsers {
+        [a, b] => two_values(a, b, state),
+        [a, b, c] => three_values(a, b, c, state),
+        [a, b, c, d] => four_values(a, b, c, d, state),
+        _ => fail::<Value>("wrong number of parsers").eval(state),
+    }
+}
+
+/// What a product shows.
+pub fn product_meta<P: Parser<Value>>(parsers: &[P], alloc: Global) -> Result<Meta, AllocError>
+    requires { All P.can_eval parsers.now }
+    ensures { IfOk result (λ meta. TupleDescribes P.describes parsers.now (shape_of meta)) }
+{
+    match parsers {
+        [a, b] => nested_meta::<Two, TwoFields<'_, P>>(two_fields(a, b), alloc),
+        [a, b, c] => nested_meta::<Three, ThreeFields<'_, P>>(three_fields(a, b, c), alloc),
+        [a, b, c, d] => nested_meta::<Four, FourFields<'_, P>>(four_fields(a, b, c, d), alloc),
+        _ => fail::<Value>("wrong number of parsers").meta(alloc),
+    }
+}
+
+/// The choice of two lent parsers.
+type EitherOf<'p, P> = ParseOrElse<Lent<'p, P>, Lent<'p, P>>;
+
+/// The choice of three lent parsers.
+type AnyOf<'p, P> = ParseOrElse<EitherOf<'p, P>, Lent<'p, P>>;
+
+/// The value of one of two or three parsers.
+pub fn or_else<P: Parser<Value>>(parsers: &[P], state: &mut State) -> Result<Value, Error>
+    requires { All P.can_eval parsers.now }
+    ensures { OrElseOutcome P.outcome parsers.now state.old result state.new }
+{
+    match parsers {
+        [a, b] => {
+            let this = Lent { inner: a };
+            let that = Lent { inner: b };
+            let parser: EitherOf<'_, P> = ParseOrElse { this, that };
+            parser.eval(state)
+        }
+        [a, b, c] => {
+            let this = Lent { inner: a };
+            let that = Lent { inner: b };
+            let this = ParseOrElse { this, that };
+            let that = Lent { inner: c };
+            let parser: AnyOf<'_, P> = ParseOrElse { this, that };
+            parser.eval(state)
+        }
+        _ => fail::<Value>("wrong number of parsers").eval(state),
+    }
+}
+
+/// What a choice shows.
+pub fn or_else_meta<P: Parser<Value>>(parsers: &[P], alloc: Global) -> Result<Meta, AllocError>
+    requires { All P.can_eval parsers.now }
+    ensures { IfOk result (λ meta. OrElseDescribes P.describes parsers.now (shape_of meta)) }
+{
+    match parsers {
+        [a, b] => {
+            let this = Lent { inner: a };
+            let that = Lent { inner: b };
+            let parser: EitherOf<'_, P> = ParseOrElse { this, that };
+            <EitherOf<'_, P> as Parser<Value>>::meta(&parser, alloc)
+        }
+        [a, b, c] => {
+            let this = Lent { inner: a };
+            let that = Lent { inner: b };
+            let this = ParseOrElse { this, that };
+            let that = Lent { inner: c };
+            let parser: AnyOf<'_, P> = ParseOrElse { this, that };
+            <AnyOf<'_, P> as Parser<Value>>::meta(&parser, alloc)
+        }
+        _ => fail::<Value>("wrong number of parsers").meta(alloc),
+    }
+}
