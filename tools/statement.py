@@ -10,7 +10,7 @@ import sys
 
 sys.dont_write_bytecode = True
 from places import text_of
-from specs import LIBRARIES, RustType, all_cited, cited, uses_of
+from specs import LIBRARIES, RustType, all_cited, cited, of_path, uses_of
 
 PAGE = "docs/STATEMENT.md"
 HEAD = """# What is proved, whole
@@ -30,7 +30,7 @@ KINDS_OF = ("Parser", "Fields", "ProgramField", "ProgramFields", "FromText", "Fr
 FIRST = """ParseFlag FromText ParseArgument ParsePositional ParseMap ParseWith ParseGuard ParseOptional ParseFallback
     ParseFallbackWith ParseMany ParseSome FromList ParseCollect ParseCount ParseLast ParseOrElse ParseChoice Last Both
     ParseCon ParseCommand""".split()
-MEANINGS = "can_eval describes reads keys words program_form agrees means fills"
+MEANINGS = "can_eval describes reads grammar agrees means fills"
 TABLES = "outcome fast_outcome"
 PARTS = (
     (
@@ -45,24 +45,27 @@ is. What each kind of parser proves for it, its law, is told in the last part.""
         bpaf_doc/src/doc.rt; impl Model for Doc; ; Value view
         bpaf_base/src/text.rt; impl Model for Text; ; Value view""",
         "",
+        "",
     ),
     (
         "A flat record and a program with commands are exact",
         """Where the parser says that it is a flat record or a program, each answer is exact, for closures that keep to the premise `agrees`
-(clauses `exact` and `each_exact`). What `answers` allows is told in the last part.""",
+(clauses `exact` and `each_exact`). Of what a parser is made (`grammar`), and what it is to a flat record and to a program by that, is told in
+the next part, and what `answers` allows in the last.""",
         """bpaf_record/src/record.rt; pub trait Record; run_record exact each_exact; is_flat answers_exactly
         bpaf_record/src/record.rt; impl<T: Drop, P: ProgramField<T> + FlatField<T>> Record; ; is_flat answers_exactly
         bpaf_record/src/command_line.rt; pub trait CommandLine; run_program exact each_exact; \
 is_whole can_run agrees answers answers_as_program
         bpaf_record/src/command_line.rt; impl<T: Drop, P: ProgramField<T>> CommandLine; ; \
 is_whole can_run agrees answers_as_program
-        bpaf_record/src/field.rt; pub trait ProgramField; ; keys words program_form agrees""",
+        bpaf_record/src/field.rt; pub trait ProgramField; ; grammar agrees""",
         "",
+        "bpaf_record.specs.Grammar",
     ),
     (
         "Each kind of parser",
-        """What the members are that the parts above take as given: which values each kind reads off which places, what it shows, and what it is to a
-flat record and to a program. A kind without `program_form` stands in neither.""",
+        """What the members are that the parts above take as given: which values each kind reads off which places, what it shows, and of what it is made,
+which tells what it is to a flat record and to a program. A kind without `grammar` stands in neither.""",
         f"""bpaf/src/product.rt; pub trait Fields; ; {MEANINGS}
         bpaf_record/src/field.rt; pub trait ProgramFields; ; {MEANINGS}
         bpaf_text/src/from_text.rt; pub trait FromText; ; {MEANINGS}
@@ -70,6 +73,7 @@ flat record and to a program. A kind without `program_form` stands in neither.""
         bpaf_text/src/params.rt; impl<T> Model for ParseArgument; ; Value view
         bpaf_keys/src/names.rt; impl Model for CommandNames; ; Value view""",
         MEANINGS,
+        "",
     ),
     (
         "The tables: what a run and each kind of parser may answer",
@@ -84,6 +88,7 @@ say what they do without these.""",
         bpaf_line/src/state.rt; impl Model for State; ; Value view
         bpaf_line/src/missing.rt; impl Model for MissingItems; ; Value view""",
         TABLES,
+        "",
     ),
 )
 
@@ -133,7 +138,9 @@ def shown(found):
 def page():
     """The page, whose table counts what stands below it."""
     known, rows, below = set(), [], []
-    for number, (title, said, quoted, members) in enumerate(PARTS, 1):
+    for number, (title, said, quoted, members, left) in enumerate(PARTS, 1):
+        later = {*of_path(left).names.values()} if left else set()
+        known |= later
         own = [Quote(*line.strip().split("; ")) for line in quoted.split("\n")]
         texts, counted = [], []
         for kind, quotes in [("", own), *(kinds(members) if members else ())]:
@@ -141,6 +148,7 @@ def page():
             texts += [f"### {kind}\n"] if kind and quotes else []
             texts += [*shown(quotes), *shown(new)]
             counted += new
+        known -= later
         lines = sum(it.count("\n") - 4 for it in texts if "```" in it)
         types = sum(isinstance(it, RustType) for it in counted)
         rows.append((f"{number}. {title}", sum(len(it.heads) for it in counted), types, lines))

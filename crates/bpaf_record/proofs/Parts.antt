@@ -8,7 +8,7 @@ use Rattle.std.proofs.lemmas.List.Concat.{flat_map-append}
 use Rattle.std.proofs.lemmas.List.Folds.{list_all-append}
 use Rattle.bpaf_doc.specs.Names.{Names}
 use Rattle.bpaf_laws.specs.Command.{Called, opening_words}
-use Rattle.bpaf_exact.specs.Flat.{ByName, OneWord, EachWord, ReadOff}
+use Rattle.bpaf_exact.specs.Flat.{ByName, OneWord, EachWord, ReadOff, Variables}
 use Rattle.bpaf_exact.specs.FlatForm.{FlatForm, complete, flat_record, is_record, product_reading}
 use Rattle.bpaf_exact.specs.FlatForm.{product_roles}
 use Rattle.bpaf_exact.specs.Names.{are_all_apart}
@@ -16,7 +16,7 @@ use Rattle.bpaf_exact.specs.ProgramForm.{ProgramForm, no_program, plain, command
 use Rattle.bpaf_exact.specs.ProgramForm.{before_commands, program_if, program_closed}
 use Rattle.bpaf_exact.specs.ProgramForm.{program_dressed, program_repeat, program_last}
 use Rattle.bpaf_exact.specs.ProgramForm.{program_fallback, program_optional, are_words_apart}
-use Rattle.bpaf_exact.specs.ProgramForm.{program_choice, program_choices, program_rest, first_only}
+use Rattle.bpaf_exact.specs.ProgramForm.{program_choice, program_rest, first_only}
 use Rattle.bpaf_exact.specs.ProgramForm.{whole_program, opened_form, program_command, is_program}
 use Rattle.bpaf_exact.specs.ProgramForm.{program_field, program_alone, program_both, program_con}
 use Rattle.bpaf_exact.specs.ProgramForm.{flat_form}
@@ -28,10 +28,11 @@ use Rattle.bpaf_record.specs.declared.part.ProgramPart.TheVariants.{NoPart, Flat
 use Rattle.bpaf_record.specs.declared.part.ProgramPart.TheVariants.{BeforeCommands}
 use Rattle.bpaf_record.specs.Commands.{keys_inside}
 use Rattle.bpaf_record.specs.Form.{form_of, is_record_form}
+use Rattle.bpaf_record.specs.Grammar.{Grammar, choices, command_words, keys_of, program_form}
 use Rattle.bpaf_record.specs.Part.{part_of, part_if, flat_part, closed_part, completed_part}
 use Rattle.bpaf_record.specs.Part.{dressed_part, optional_part, chosen_part, first_part}
 use Rattle.bpaf_record.specs.Part.{is_program_part, command_part, field_part, last_part}
-use Rattle.bpaf_record.specs.Part.{before_part, made_part, parts_rest}
+use Rattle.bpaf_record.specs.Part.{before_part, joined_part, made_part, parts_rest}
 use Rattle.bpaf_record.proofs.Forms.{alone_is, both_is, choice_is, closed_is, con_is, fallback_is}
 use Rattle.bpaf_record.proofs.Forms.{field_is, last_is, listed_unless, only_is, optional_unless}
 use Rattle.bpaf_record.proofs.Forms.{product_is, record_is}
@@ -210,63 +211,60 @@ pub con_part_is : {A B : Type 0} (f : Closure A B) (s : ProgramForm A)
 con_part_is f (plain wide s) = ap (Flat wide) (con_is f s)
 con_part_is f _ = refl
 
--- a choice of what stands before and of parsers
-rest_part_is : {P T : Type 0} (keys : P → List Names) (words : P → List (List ℕ))
-    (form : P → ProgramForm T) (own : List Names) (said : List (List ℕ)) (s : ProgramForm T)
-    (ps : List P)
-    → parts_rest keys words (λ p. part_of (form p)) own said (part_of s) ps
-    ≡ part_of (program_rest keys words form own said s ps)
-rest_part_is keys words form own said s [] = refl
-rest_part_is keys words form own said s (p ∷ ps) =
-    ap (λ part. parts_rest keys words (λ q. part_of (form q)) (own ++ keys p) (said ++ words p)
-    part ps) (choice_part_is own (keys p) said (words p) s (form p))
-    ∙ rest_part_is keys words form (own ++ keys p) (said ++ words p)
-    (program_choice own (keys p) said (words p) s (form p)) ps
+module _ {P T : Type 0} (of : P → Grammar T) (variables : Variables) where
+  -- what one parser more adds
+  one_more : {X : Type 0} (each : P → List X) (before : List P) (p : P) (own : List X)
+      → flat_map each before ≡ own → flat_map each (before ++ p ∷ []) ≡ own ++ each p
+  one_more each before p own e =
+      flat_map-append each before (p ∷ []) ∙ ap₂ (λ xs ys. xs ++ ys) e (append-nil (each p))
 
--- what one parser more adds
-one_more : {P X : Type 0} (each : P → List X) (ps : List P) (i : ℕ) (d : P) → i < length ps
-    → flat_map each (take (i + 1) ps) ≡ flat_map each (take i ps) ++ each (slice_index_or ps i d)
-one_more each ps i d l =
-    ap (flat_map each) (take_more ps i d l)
-    ∙ (flat_map-append each (take i ps) (slice_index_or ps i d ∷ [])
-    ∙ ap (λ more. flat_map each (take i ps) ++ more) (append-nil (each (slice_index_or ps i d))))
+  -- a choice of what stands before and of parsers
+  rest_part_is : (before : List P) (own : List Names) (said : List (List ℕ)) (s : ProgramForm T)
+      (ps : List P) → keys_of (choices of before) true ≡ own
+      → command_words (choices of before) ≡ said
+      → parts_rest of variables before (part_of s) ps
+      ≡ part_of (program_rest (λ p. keys_of (of p) true) (λ p. command_words (of p))
+      (λ p. program_form (of p) variables) own said s ps)
+  rest_part_is before own said s [] keys words = refl
+  rest_part_is before own said s (p ∷ ps) keys words =
+      ap (λ part. parts_rest of variables (before ++ p ∷ []) part ps)
+      (ap₂ (λ own said. chosen_part (are_all_apart own (keys_of (of p) true))
+      (are_words_apart said (command_words (of p))) (part_of s)
+      (part_of (program_form (of p) variables))) keys words
+      ∙ choice_part_is own (keys_of (of p) true) said (command_words (of p)) s
+      (program_form (of p) variables))
+      ∙ rest_part_is (before ++ p ∷ []) (own ++ keys_of (of p) true)
+      (said ++ command_words (of p))
+      (program_choice own (keys_of (of p) true) said (command_words (of p)) s
+      (program_form (of p) variables)) ps
+      (one_more (λ q. keys_of (of q) true) before p own keys)
+      (one_more (λ q. command_words (of q)) before p said words)
 
--- one parser more is joined
-pub join_step : {P : Type 0} (keys : P → List Names) (words : P → List (List ℕ))
-    (part : P → ProgramPart) (f : ProgramPart) (ps : List P) (i : ℕ) (d : P) → i < length ps
-    → parts_rest keys words part (flat_map keys (take (i + 1) ps))
-    (flat_map words (take (i + 1) ps))
-    (chosen_part (are_all_apart (flat_map keys (take i ps)) (keys (slice_index_or ps i d)))
-    (are_words_apart (flat_map words (take i ps)) (words (slice_index_or ps i d))) f
-    (part (slice_index_or ps i d))) (drop (i + 1) ps)
-    ≡ parts_rest keys words part (flat_map keys (take i ps)) (flat_map words (take i ps)) f
-    (drop i ps)
-join_step keys words part f ps i d l =
-    ap₂ (λ own said. parts_rest keys words part own said
-    (chosen_part (are_all_apart (flat_map keys (take i ps)) (keys (slice_index_or ps i d)))
-    (are_words_apart (flat_map words (take i ps)) (words (slice_index_or ps i d))) f
-    (part (slice_index_or ps i d))) (drop (i + 1) ps)) (one_more keys ps i d l)
-    (one_more words ps i d l)
-    ∙ sym (ap (parts_rest keys words part (flat_map keys (take i ps)) (flat_map words (take i ps))
-    f) (drop_more ps i d l))
+  -- one parser more is joined
+  pub join_step : (f : ProgramPart) (ps : List P) (i : ℕ) (d : P) → i < length ps
+      → parts_rest of variables (take (i + 1) ps)
+      (joined_part of variables (take i ps) f (slice_index_or ps i d)) (drop (i + 1) ps)
+      ≡ parts_rest of variables (take i ps) f (drop i ps)
+  join_step f ps i d l =
+      ap (λ before. parts_rest of variables before
+      (joined_part of variables (take i ps) f (slice_index_or ps i d)) (drop (i + 1) ps))
+      (take_more ps i d l)
+      ∙ sym (ap (parts_rest of variables (take i ps) f) (drop_more ps i d l))
 
--- all of them are joined
-pub joined_all : {P : Type 0} (keys : P → List Names) (words : P → List (List ℕ))
-    (part : P → ProgramPart) (own : List Names) (said : List (List ℕ)) (f : ProgramPart)
-    (ps : List P) (i : ℕ) → length ps ≤ i → parts_rest keys words part own said f (drop i ps) ≡ f
-joined_all keys words part own said f ps i l =
-    ap (parts_rest keys words part own said f) (drop_all i ps l)
+  -- all of them are joined
+  pub joined_all : (before : List P) (f : ProgramPart) (ps : List P) (i : ℕ) → length ps ≤ i
+      → parts_rest of variables before f (drop i ps) ≡ f
+  joined_all before f ps i l = ap (parts_rest of variables before f) (drop_all i ps l)
 
--- the choice of all parsers
-pub choices_are : {P T : Type 0} (keys : P → List Names) (words : P → List (List ℕ))
-    (form : P → ProgramForm T) (ps : List P) (d : P) → 1 ≤ length ps
-    → parts_rest keys words (λ p. part_of (form p)) (flat_map keys (take 1 ps))
-    (flat_map words (take 1 ps)) (first_part (part_of (form (slice_index_or ps 0 d)))) (drop 1 ps)
-    ≡ part_of (program_choices keys words form ps)
-choices_are keys words form [] d l = absurd (omega arith)
-choices_are keys words form (p ∷ ps) d l =
-    ap₂ (λ own said. parts_rest keys words (λ q. part_of (form q)) own said
-    (first_part (part_of (form p))) ps) (append-nil (keys p)) (append-nil (words p))
-    ∙ (ap (λ part. parts_rest keys words (λ q. part_of (form q)) (keys p) (words p) part ps)
-    (first_part_is (form p))
-    ∙ rest_part_is keys words form (keys p) (words p) (first_only (form p)) ps)
+  -- the choice of all parsers
+  pub choices_are : (ps : List P) (d : P) → 1 ≤ length ps
+      → parts_rest of variables (take 1 ps)
+      (first_part (part_of (program_form (of (slice_index_or ps 0 d)) variables))) (drop 1 ps)
+      ≡ part_of (program_form (choices of ps) variables)
+  choices_are [] d l = absurd (omega arith)
+  choices_are (p ∷ ps) d l =
+      ap (λ part. parts_rest of variables (p ∷ []) part ps)
+      (first_part_is (program_form (of p) variables))
+      ∙ rest_part_is (p ∷ []) (keys_of (of p) true) (command_words (of p))
+      (first_only (program_form (of p) variables)) ps (append-nil (keys_of (of p) true))
+      (append-nil (command_words (of p)))

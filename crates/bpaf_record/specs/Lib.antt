@@ -5,4 +5,5 @@ pub mod Commands
 pub mod Positional
 pub mod Record
 pub mod Program
+pub mod Grammar
 pub mod Spelled

@@ -1,6 +1,6 @@
 -- What a parser is to a program with commands, as the program tells it.
-use Rattle.std.specs.Prelude.{Bool, true, false, ◌&&◌, ◌||◌, List, [], ◌∷◌, ◌++◌, ℕ}
-use Rattle.bpaf_doc.specs.Names.{Names}
+use Rattle.std.specs.Prelude.{Bool, true, false, ◌&&◌, ◌||◌, List, [], ◌∷◌, ◌++◌}
+use Rattle.bpaf_exact.specs.Flat.{Variables}
 use Rattle.bpaf_exact.specs.Names.{are_all_apart}
 use Rattle.bpaf_exact.specs.ProgramForm.{ProgramForm, no_program, plain, commands, left_out}
 use Rattle.bpaf_exact.specs.ProgramForm.{before_commands, are_words_apart}
@@ -13,6 +13,7 @@ use Rattle.bpaf_record.specs.declared.part.ProgramPart.TheVariants.{BeforeComman
 use Rattle.bpaf_record.specs.Form.{form_of, closed_form, completed_form, unless_form, joined_form}
 use Rattle.bpaf_record.specs.Form.{alternative_form, field_form, alone_form, before_form, made_form}
 use Rattle.bpaf_record.specs.Form.{is_product_form, is_record_form}
+use Rattle.bpaf_record.specs.Grammar.{Grammar, choices, command_words, keys_of, program_form}
 
 -- that of a form, without its items
 abbrev pub part_of : {T : Type 0} → ProgramForm T → ProgramPart
@@ -102,10 +103,17 @@ made_part (Flat wide form) = Flat wide (made_form form)
 made_part BeforeCommands = BeforeCommands
 made_part _ = NoPart
 
--- the choice of what stands before and of parsers, by their keys, words and parts
-abbrev pub parts_rest : {P : Type 0} → (P → List Names) → (P → List (List ℕ)) → (P → ProgramPart)
-    → List Names → List (List ℕ) → ProgramPart → List P → ProgramPart
-parts_rest keys words part own said before [] = before
-parts_rest keys words part own said before (p ∷ ps) =
-    parts_rest keys words part (own ++ keys p) (said ++ words p)
-    (chosen_part (are_all_apart own (keys p)) (are_words_apart said (words p)) before (part p)) ps
+-- the choice of parsers before, which are this part, and of one more
+abbrev pub joined_part : {P T : Type 0} → (P → Grammar T) → Variables → List P → ProgramPart → P
+    → ProgramPart
+joined_part of variables before part p =
+    chosen_part (are_all_apart (keys_of (choices of before) true) (keys_of (of p) true))
+    (are_words_apart (command_words (choices of before)) (command_words (of p))) part
+    (part_of (program_form (of p) variables))
+
+-- the choice of them and of others
+abbrev pub parts_rest : {P T : Type 0} → (P → Grammar T) → Variables → List P → ProgramPart
+    → List P → ProgramPart
+parts_rest of variables before part [] = part
+parts_rest of variables before part (p ∷ ps) =
+    parts_rest of variables (before ++ p ∷ []) (joined_part of variables before part p) ps

@@ -1,8 +1,9 @@
 //! Choices of fields, and of commands.
-ghost use Rattle.std.specs.Prelude.{◌≡◌, ◌≤◌, length, take, drop, flat_map, true};
+ghost use Rattle.std.specs.Prelude.{◌≡◌, ◌≤◌, length, take, drop, true};
 ghost use Rattle.std.specs.List.{list_all};
-ghost use Rattle.bpaf_exact.specs.ProgramForm.{program_choices};
 ghost use Rattle.bpaf_exact.specs.Flat.{Variables};
+ghost use Rattle.bpaf_record.specs.Grammar.{choices, command_words, keys_of, program_form};
+ghost use Rattle.bpaf_record.specs.Grammar.{said_kind};
 ghost use Rattle.bpaf_record.specs.Part.{part_of, parts_rest};
 
 use crate::field::{FlatField, ProgramField};
@@ -15,24 +16,13 @@ use std::marker::PhantomData;
 /// Of required flags and arguments alone, whose names are apart; or of commands alone, whose words
 /// are.
 impl<T: Drop, A: ProgramField<T>, B: ProgramField<T>> ProgramField<T> for ParseOrElse<A, B> {
-    ghost use Rattle.std.specs.Prelude.{◌++◌};
-    ghost use Rattle.bpaf_exact.specs.Flat.{ByName};
-    ghost use Rattle.bpaf_exact.specs.Says.{of_kind};
-    ghost use Rattle.bpaf_exact.specs.ProgramForm.{program_choice};
     ghost use Rattle.bpaf_exact.specs.ProgramSays.{said_choice};
     ghost use Rattle.bpaf_exact.proofs.ProgramForm.{program_choice_law};
     ghost use Rattle.bpaf_exact.proofs.ProgramSays.{program_choice_says};
     ghost use Rattle.bpaf_exact.proofs.SameParts.{choice_shows};
+    ghost use Rattle.bpaf_record.specs.Grammar.{choice};
 
-    ghost keys = { λ p deep. A.keys p.this deep ++ B.keys p.that deep };
-
-    ghost words = { λ p. A.words p.this ++ B.words p.that };
-
-    ghost program_form = { λ p variables. program_choice (A.keys p.this true) (B.keys p.that true)
-        (A.words p.this) (B.words p.that) (A.program_form p.this variables)
-        (B.program_form p.that variables) };
-
-    ghost kind = { λ p variables. of_kind ByName };
+    ghost grammar = { λ p. choice (A.grammar p.this) (B.grammar p.that) };
 
     ghost says = { λ variables. said_choice (λ p. p.this) (λ p. p.that) (A.says variables)
         (B.says variables) };
@@ -68,18 +58,18 @@ impl<T: Drop, A: ProgramField<T>, B: ProgramField<T>> ProgramField<T> for ParseO
         this && that
     }
 
-    ghost law = { λ p a variables.
-        program_choice_law variables T _ _ (A.keys p.this true) (B.keys p.that true)
-        (A.words p.this) (B.words p.that) (A.program_form p.this variables)
-        (B.program_form p.that variables) (A.law p.this a.0 variables)
-        (B.law p.that a.1 variables) };
+    ghost law = { λ p a variables. program_choice_law variables T _ _
+        (keys_of (A.grammar p.this) true) (keys_of (B.grammar p.that) true)
+        (command_words (A.grammar p.this)) (command_words (B.grammar p.that))
+        (program_form (A.grammar p.this) variables) (program_form (B.grammar p.that) variables)
+        (A.law p.this a.0 variables) (B.law p.that a.1 variables) };
 
     ghost shows = { λ p. choice_shows (A.shows p.this) (B.shows p.that) };
 
     ghost said = { λ p a variables. program_choice_says (λ p. p.this) (λ p. p.that) p
-        (A.keys p.this true)
-        (B.keys p.that true) (A.words p.this) (B.words p.that) (A.said p.this a.0 variables)
-        (B.said p.that a.1 variables) };
+        (keys_of (A.grammar p.this) true) (keys_of (B.grammar p.that) true)
+        (command_words (A.grammar p.this)) (command_words (B.grammar p.that))
+        (A.said p.this a.0 variables) (B.said p.that a.1 variables) };
 }
 
 impl<T: Drop, A: FlatField<T>, B: FlatField<T>> FlatField<T> for ParseOrElse<A, B> {}
@@ -88,7 +78,7 @@ impl<T: Drop, A: FlatField<T>, B: FlatField<T>> FlatField<T> for ParseOrElse<A, 
 #[tactic(auto, using(crate::proofs::Parts::all_joined))]
 fn all_keys_of<T, P: ProgramField<T>, N: KeyTest>(parsers: &[P], test: &N) -> bool
     ensures { result ≡ list_all (N.accepts test.now)
-        (flat_map (λ p. P.keys p (N.deep test.now)) parsers.now) }
+        (keys_of (choices P.grammar parsers.now) (N.deep test.now)) }
 {
     match parsers {
         [] => true,
@@ -103,7 +93,8 @@ fn all_keys_of<T, P: ProgramField<T>, N: KeyTest>(parsers: &[P], test: &N) -> bo
 /// Whether each word of the commands of each of these parsers passes a test.
 #[tactic(auto, using(crate::proofs::Parts::all_joined))]
 fn all_words_of<T, P: ProgramField<T>, W: WordTest>(parsers: &[P], test: &W) -> bool
-    ensures { result ≡ list_all (W.accepts test.now) (flat_map P.words parsers.now) }
+    ensures { result ≡ list_all (W.accepts test.now)
+        (command_words (choices P.grammar parsers.now)) }
 {
     match parsers {
         [] => true,
@@ -119,9 +110,7 @@ fn all_words_of<T, P: ProgramField<T>, W: WordTest>(parsers: &[P], test: &W) -> 
 fn join_rest<T, P: ProgramField<T>>(parsers: &[P], first: ProgramPart) -> ProgramPart
     requires { 1 ≤ length parsers.now }
     ensures { (variables : Variables) → result
-        ≡ parts_rest (λ p. P.keys p true) P.words (λ p. part_of (P.program_form p variables))
-        (flat_map (λ p. P.keys p true) (take 1 parsers.now))
-        (flat_map P.words (take 1 parsers.now)) first (drop 1 parsers.now) }
+        ≡ parts_rest P.grammar variables (take 1 parsers.now) first (drop 1 parsers.now) }
 {
     let mut part = first;
     for index in 1..parsers.len() {
@@ -143,8 +132,8 @@ fn join_rest<T, P: ProgramField<T>>(parsers: &[P], first: ProgramPart) -> Progra
 
 /// The choice of these parsers; of none it is nothing.
 fn join_all<T, P: ProgramField<T>>(parsers: &[P]) -> ProgramPart
-    ensures { (variables : Variables) → result ≡ part_of (program_choices (λ p. P.keys p true)
-        P.words (λ p. P.program_form p variables) parsers.now) }
+    ensures { (variables : Variables) →
+        result ≡ part_of (program_form (choices P.grammar parsers.now) variables) }
 {
     match parsers {
         [] => ProgramPart::NoPart,
@@ -155,23 +144,13 @@ fn join_all<T, P: ProgramField<T>>(parsers: &[P]) -> ProgramPart
 /// Of required flags and arguments alone, whose names are apart; or of commands alone, whose words
 /// are. A choice of none is nothing.
 impl<T: Drop, P: ProgramField<T> + Drop> ProgramField<T> for ParseChoice<P> {
-    ghost use Rattle.bpaf_exact.specs.Flat.{ByName};
-    ghost use Rattle.bpaf_exact.specs.Says.{of_kind};
     ghost use Rattle.bpaf_exact.specs.FlatForm.{EachAgrees};
     ghost use Rattle.bpaf_exact.specs.ProgramSays.{said_choices};
     ghost use Rattle.bpaf_exact.proofs.ProgramForm.{program_choices_law};
     ghost use Rattle.bpaf_exact.proofs.ProgramSays.{program_choices_says};
     ghost use Rattle.bpaf_exact.proofs.SameParts.{choices_show};
 
-    ghost keys = { λ p deep. flat_map (λ q. P.keys q deep) p.parsers.items };
-
-    ghost words = { λ p. flat_map P.words p.parsers.items };
-
-    ghost program_form = { λ p variables.
-        program_choices (λ q. P.keys q true) P.words (λ q. P.program_form q variables)
-        p.parsers.items };
-
-    ghost kind = { λ p variables. of_kind ByName };
+    ghost grammar = { λ p. choices P.grammar p.parsers.items };
 
     ghost says = { λ variables. said_choices (λ p. p.parsers.items) (P.says variables) };
 
@@ -189,16 +168,17 @@ impl<T: Drop, P: ProgramField<T> + Drop> ProgramField<T> for ParseChoice<P> {
         all_words_of::<T, P, W>(self.parsers.as_slice(), test)
     }
 
-    ghost law = { λ p a variables.
-        program_choices_law variables _ T P.outcome (λ q. P.keys q true)
-        P.words (λ q. P.program_form q variables) P.agrees (λ q b. P.law q b variables)
+    ghost law = { λ p a variables. program_choices_law variables _ T P.outcome
+        (λ q. keys_of (P.grammar q) true) (λ q. command_words (P.grammar q))
+        (λ q. program_form (P.grammar q) variables) P.agrees (λ q b. P.law q b variables)
         p.parsers.items a };
 
     ghost shows = { λ p. choices_show P.describes P.shows p.parsers.items };
 
-    ghost said = { λ p a variables. program_choices_says (λ q. P.keys q true) P.words
-        (λ q. P.program_form q variables) (λ q. P.kind q variables) P.agrees p _
-        (λ p. p.parsers.items) (P.says variables) (λ q b. P.said q b variables) a };
+    ghost said = { λ p a variables. program_choices_says (λ q. keys_of (P.grammar q) true)
+        (λ q. command_words (P.grammar q)) (λ q. program_form (P.grammar q) variables)
+        (λ q. said_kind (P.grammar q) variables) P.agrees p _ (λ p. p.parsers.items)
+        (P.says variables) (λ q b. P.said q b variables) a };
 }
 
 impl<T: Drop, P: FlatField<T> + Drop> FlatField<T> for ParseChoice<P> {}

@@ -1,5 +1,6 @@
 //! Fields and commands whose value a closure makes or checks.
 ghost use Rattle.std.specs.Prelude.{◌≡◌, true};
+ghost use Rattle.bpaf_record.specs.Grammar.{command_words, keys_of, program_form};
 
 use crate::field::{FlatField, ProgramField};
 use crate::keys::KeyTest;
@@ -11,20 +12,12 @@ use std::fmt::Display;
 /// A closure that never refuses needs no premise.
 impl<T, R, P: ProgramField<T>, F: Fn(T) -> R> ProgramField<R> for ParseMap<T, P, F, R> {
     ghost use Rattle.bpaf_exact.specs.Wrappers.{map_closure};
-    ghost use Rattle.bpaf_exact.specs.ProgramForm.{program_closed};
     ghost use Rattle.bpaf_exact.specs.ProgramSays.{said_closed};
     ghost use Rattle.bpaf_exact.proofs.ByTables.{map_law};
     ghost use Rattle.bpaf_exact.proofs.ProgramSays.{program_closed_says};
+    ghost use Rattle.bpaf_record.specs.Grammar.{closed};
 
-    ghost keys = { λ p deep. P.keys p.inner deep };
-
-    ghost words = { λ p. P.words p.inner };
-
-    ghost program_form = { λ p variables.
-        program_closed (map_closure (λ x y. F.post p.map_fn x y))
-        (P.program_form p.inner variables) };
-
-    ghost kind = { λ p. P.kind p.inner };
+    ghost grammar = { λ p. closed (map_closure (λ x y. F.post p.map_fn x y)) (P.grammar p.inner) };
 
     ghost says = { λ variables. said_closed (λ p. p.inner)
         (λ p. map_closure (λ x y. F.post p.map_fn x y)) (P.says variables) };
@@ -44,9 +37,9 @@ impl<T, R, P: ProgramField<T>, F: Fn(T) -> R> ProgramField<R> for ParseMap<T, P,
         self.inner.all_words(test)
     }
 
-    ghost law = { λ p a variables.
-        map_law variables T R _ (λ x y. F.post p.map_fn x y) (P.keys p.inner true) (P.words p.inner)
-        (P.program_form p.inner variables) (P.law p.inner a variables) };
+    ghost law = { λ p a variables. map_law variables T R _ (λ x y. F.post p.map_fn x y)
+        (keys_of (P.grammar p.inner) true) (command_words (P.grammar p.inner))
+        (program_form (P.grammar p.inner) variables) (P.law p.inner a variables) };
 
     ghost shows = { λ p. P.shows p.inner };
 
@@ -62,27 +55,21 @@ impl<T, R, E: Display + Drop, P: ProgramField<T>, F: Fn(T) -> Result<R, E>> Prog
     for ParseWith<T, P, F, E, R> {
     ghost use Rattle.bpaf_exact.specs.Flat.{Variables};
     ghost use Rattle.bpaf_exact.specs.Wrappers.{parse_closure};
-    ghost use Rattle.bpaf_exact.specs.ProgramForm.{program_closed, ProgramAgrees};
+    ghost use Rattle.bpaf_exact.specs.ProgramForm.{ProgramAgrees};
     ghost use Rattle.bpaf_exact.specs.ProgramSays.{said_closed};
     ghost use Rattle.bpaf_exact.proofs.ByTables.{parse_law};
     ghost use Rattle.bpaf_exact.proofs.ProgramSays.{program_closed_says};
+    ghost use Rattle.bpaf_record.specs.Grammar.{closed};
 
-    ghost keys = { λ p deep. P.keys p.inner deep };
-
-    ghost words = { λ p. P.words p.inner };
-
-    ghost program_form = { λ p variables.
-        program_closed (parse_closure (λ x y. F.post p.parse_fn x y))
-        (P.program_form p.inner variables) };
-
-    ghost kind = { λ p. P.kind p.inner };
+    ghost grammar = { λ p.
+        closed (parse_closure (λ x y. F.post p.parse_fn x y)) (P.grammar p.inner) };
 
     ghost says = { λ variables. said_closed (λ p. p.inner)
         (λ p. parse_closure (λ x y. F.post p.parse_fn x y)) (P.says variables) };
 
     ghost agrees = { λ p. P.agrees p.inner
         × ((variables : Variables) → ProgramAgrees (parse_closure (λ x y. F.post p.parse_fn x y))
-        (P.program_form p.inner variables)) };
+        (program_form (P.grammar p.inner) variables)) };
 
     #[tactic(auto, using(crate::proofs::Parts::closed_part_is))]
     fn part(&self) -> ProgramPart {
@@ -97,9 +84,9 @@ impl<T, R, E: Display + Drop, P: ProgramField<T>, F: Fn(T) -> Result<R, E>> Prog
         self.inner.all_words(test)
     }
 
-    ghost law = { λ p a variables.
-        parse_law variables T R _ _ (λ x y. F.post p.parse_fn x y) E.output (P.keys p.inner true)
-        (P.words p.inner) (P.program_form p.inner variables) (a.1 variables)
+    ghost law = { λ p a variables. parse_law variables T R _ _ (λ x y. F.post p.parse_fn x y)
+        E.output (keys_of (P.grammar p.inner) true) (command_words (P.grammar p.inner))
+        (program_form (P.grammar p.inner) variables) (a.1 variables)
         (P.law p.inner a.0 variables) };
 
     ghost shows = { λ p. P.shows p.inner };
@@ -116,27 +103,20 @@ impl<'m, T: Drop, P: ProgramField<T>, F: Fn(&T) -> bool> ProgramField<T> for Par
     ghost use Rattle.bpaf_exact.specs.Flat.{Variables};
     ghost use Rattle.std.specs.Fn.{FnReturnsAt};
     ghost use Rattle.bpaf_exact.specs.Wrappers.{guard_closure};
-    ghost use Rattle.bpaf_exact.specs.ProgramForm.{program_closed, ProgramAgrees};
+    ghost use Rattle.bpaf_exact.specs.ProgramForm.{ProgramAgrees};
     ghost use Rattle.bpaf_exact.specs.ProgramSays.{said_closed};
     ghost use Rattle.bpaf_exact.proofs.ByTables.{guard_law};
     ghost use Rattle.bpaf_exact.proofs.ProgramSays.{program_closed_says};
+    ghost use Rattle.bpaf_record.specs.Grammar.{closed};
 
-    ghost keys = { λ p deep. P.keys p.inner deep };
-
-    ghost words = { λ p. P.words p.inner };
-
-    ghost program_form = { λ p variables.
-        program_closed (guard_closure (FnReturnsAt F.Fn p.check))
-        (P.program_form p.inner variables) };
-
-    ghost kind = { λ p. P.kind p.inner };
+    ghost grammar = { λ p. closed (guard_closure (FnReturnsAt F.Fn p.check)) (P.grammar p.inner) };
 
     ghost says = { λ variables. said_closed (λ p. p.inner)
         (λ p. guard_closure (FnReturnsAt F.Fn p.check)) (P.says variables) };
 
     ghost agrees = { λ p. P.agrees p.inner
         × ((variables : Variables) → ProgramAgrees (guard_closure (FnReturnsAt F.Fn p.check))
-        (P.program_form p.inner variables)) };
+        (program_form (P.grammar p.inner) variables)) };
 
     #[tactic(auto, using(crate::proofs::Parts::closed_part_is))]
     fn part(&self) -> ProgramPart {
@@ -151,9 +131,9 @@ impl<'m, T: Drop, P: ProgramField<T>, F: Fn(&T) -> bool> ProgramField<T> for Par
         self.inner.all_words(test)
     }
 
-    ghost law = { λ p a variables.
-        guard_law variables T _ (FnReturnsAt F.Fn p.check) p.message.now (P.keys p.inner true)
-        (P.words p.inner) (P.program_form p.inner variables) (a.1 variables)
+    ghost law = { λ p a variables. guard_law variables T _ (FnReturnsAt F.Fn p.check) p.message.now
+        (keys_of (P.grammar p.inner) true) (command_words (P.grammar p.inner))
+        (program_form (P.grammar p.inner) variables) (a.1 variables)
         (P.law p.inner a.0 variables) };
 
     ghost shows = { λ p. P.shows p.inner };

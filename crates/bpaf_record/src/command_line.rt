@@ -1,6 +1,7 @@
 //! Whether options are a program, perhaps with commands, and the run of one.
 ghost use Rattle.std.specs.Prelude.{◌≡◌, Result, false, true};
 ghost use Rattle.bpaf_words.specs.Arguments.{given_of};
+ghost use Rattle.bpaf_record.specs.Grammar.{keys_of, program_form};
 
 use crate::field::ProgramField;
 use crate::usual::are_unusual;
@@ -98,8 +99,8 @@ impl<T: Drop, P: ProgramField<T>> CommandLine<T> for OptionParser<T, P> {
     ghost use Rattle.bpaf.specs.Run.{RunsWords};
     ghost use Rattle.bpaf_laws.specs.Spared.{WithoutMemory};
 
-    ghost is_whole = { λ p variables.
-        is_whole_program (P.program_form p.inner variables) (P.keys p.inner false) p.info };
+    ghost is_whole = { λ p variables. is_whole_program (program_form (P.grammar p.inner) variables)
+        (keys_of (P.grammar p.inner) false) p.info };
 
     #[tactic(auto, using(crate::proofs::Parts::program_part_is))]
     fn is_program(&self) -> bool {
@@ -122,13 +123,14 @@ impl<T: Drop, P: ProgramField<T>> CommandLine<T> for OptionParser<T, P> {
         IsDealtOut T (P.reads p.inner) (P.describes p.inner) p.info given };
 
     ghost tells = { λ p given. TellsOfWords (P.describes p.inner) p.info
-        (P.program_form p.inner given.env) (cells_said (P.says given.env) p.inner) given };
+        (program_form (P.grammar p.inner) given.env) (cells_said (P.says given.env) p.inner)
+        given };
 
     ghost answers_spared = { λ p given. RunsWords T (WithoutMemory (P.outcome p.inner))
         (P.describes p.inner) p.info given };
 
     ghost answers_as_program = { λ p given. AnswersAsProgram T (P.describes p.inner) p.info
-        (P.program_form p.inner given.env) given };
+        (program_form (P.grammar p.inner) given.env) given };
 
     fn run_program(&self, args: Args<'_>) -> Result<T, ParseFailure> {
         self.run_inner(args)

@@ -1,5 +1,6 @@
 //! Commands of a program.
 ghost use Rattle.std.specs.Prelude.{◌≡◌, ◌&&◌, false, not, true};
+ghost use Rattle.bpaf_record.specs.Grammar.{command_words, keys_of, program_form};
 
 use crate::field::ProgramField;
 use crate::keys::KeyTest;
@@ -11,24 +12,15 @@ use bpaf::parsers::ParseCommand;
 /// A plain command over a program whose own keys are apart from those of its help and version. Its
 /// words aren't empty, and none begins with a dash. An adjacent command is nothing to a program.
 impl<T: Drop, P: ProgramField<T>> ProgramField<T> for ParseCommand<T, P> {
-    ghost use Rattle.bpaf_laws.specs.Command.{CommandPart, opening_words};
-    ghost use Rattle.bpaf_exact.specs.Flat.{ByName};
-    ghost use Rattle.bpaf_exact.specs.Says.{of_kind};
-    ghost use Rattle.bpaf_exact.specs.ProgramForm.{program_command};
+    ghost use Rattle.bpaf_laws.specs.Command.{CommandPart};
     ghost use Rattle.bpaf_exact.specs.ProgramSays.{said_command};
     ghost use Rattle.bpaf_exact.proofs.ProgramSays.{program_command_says};
     ghost use Rattle.bpaf_exact.proofs.SameParts.{command_shows};
-    ghost use Rattle.bpaf_record.specs.Commands.{either_command_law, keys_inside};
+    ghost use Rattle.bpaf_record.specs.Commands.{either_command_law};
     ghost use Rattle.bpaf_record.specs.Record.{are_unusual};
+    ghost use Rattle.bpaf_record.specs.Grammar.{command};
 
-    ghost keys = { λ p deep. keys_inside deep (P.keys p.inner deep) };
-
-    ghost words = { λ p. opening_words p.names };
-
-    ghost program_form = { λ p variables. program_command p.adjacent
-        (are_unusual (P.keys p.inner false) p.info) p.names (P.program_form p.inner variables) };
-
-    ghost kind = { λ p variables. of_kind ByName };
+    ghost grammar = { λ p. command p.adjacent p.names p.info (P.grammar p.inner) };
 
     ghost says = { λ variables. said_command (λ p. p.inner) (λ p. p.names) (P.says variables) };
 
@@ -58,14 +50,14 @@ impl<T: Drop, P: ProgramField<T>> ProgramField<T> for ParseCommand<T, P> {
 
     ghost law = { λ p a variables. either_command_law variables T (P.outcome p.inner)
         (P.describes p.inner) p.info p.names (CommandPart p.names p.help (P.describes p.inner))
-        p.adjacent (are_unusual (P.keys p.inner false) p.info) (P.keys p.inner true)
-        (P.words p.inner) (P.program_form p.inner variables)
-        (P.law p.inner a variables) };
+        p.adjacent (are_unusual (keys_of (P.grammar p.inner) false) p.info)
+        (keys_of (P.grammar p.inner) true) (command_words (P.grammar p.inner))
+        (program_form (P.grammar p.inner) variables) (P.law p.inner a variables) };
 
     ghost shows = { λ p. command_shows (P.shows p.inner) p.names p.help };
 
     ghost said = { λ p a variables. program_command_says (λ p. p.inner) p variables
-        (P.outcome p.inner)
-        (P.words p.inner) p.adjacent (are_unusual (P.keys p.inner false) p.info) (λ p. p.names)
+        (P.outcome p.inner) (command_words (P.grammar p.inner)) p.adjacent
+        (are_unusual (keys_of (P.grammar p.inner) false) p.info) (λ p. p.names)
         (P.law p.inner a variables) (P.said p.inner a variables) };
 }

@@ -1,5 +1,6 @@
 //! Fields that may be missing, and commands that may be left out.
-ghost use Rattle.std.specs.Prelude.{◌≡◌, [], true};
+ghost use Rattle.std.specs.Prelude.{◌≡◌, true};
+ghost use Rattle.bpaf_record.specs.Grammar.{command_words, keys_of, program_form};
 
 use crate::field::{FlatField, ProgramField};
 use crate::keys::KeyTest;
@@ -11,19 +12,12 @@ use std::fmt::Display;
 /// With `catch` it is no flat field, nor optional commands.
 impl<T: Drop, P: ProgramField<T>> ProgramField<Option<T>> for ParseOptional<P> {
     ghost use Rattle.bpaf_exact.proofs.SameParts.{optional_shows};
-    ghost use Rattle.bpaf_exact.specs.ProgramForm.{program_optional};
     ghost use Rattle.bpaf_exact.specs.ProgramSays.{said_optional};
     ghost use Rattle.bpaf_exact.proofs.ByTables.{optional_law};
     ghost use Rattle.bpaf_exact.proofs.ProgramSays.{program_optional_says};
+    ghost use Rattle.bpaf_record.specs.Grammar.{optional};
 
-    ghost keys = { λ p deep. P.keys p.inner deep };
-
-    ghost words = { λ p. [] };
-
-    ghost program_form = { λ p variables. program_optional p.catch
-        (P.program_form p.inner variables) };
-
-    ghost kind = { λ p. P.kind p.inner };
+    ghost grammar = { λ p. optional p.catch (P.grammar p.inner) };
 
     ghost says = { λ variables. said_optional (λ p. p.inner) (P.says variables) };
 
@@ -42,9 +36,9 @@ impl<T: Drop, P: ProgramField<T>> ProgramField<Option<T>> for ParseOptional<P> {
         true
     }
 
-    ghost law = { λ p a variables.
-        optional_law variables T _ p.catch (P.keys p.inner true) (P.words p.inner)
-        (P.program_form p.inner variables) (P.law p.inner a variables) };
+    ghost law = { λ p a variables. optional_law variables T _ p.catch
+        (keys_of (P.grammar p.inner) true) (command_words (P.grammar p.inner))
+        (program_form (P.grammar p.inner) variables) (P.law p.inner a variables) };
 
     ghost shows = { λ p. optional_shows (P.shows p.inner) };
 
@@ -56,21 +50,13 @@ impl<T: Drop, P: FlatField<T>> FlatField<Option<T>> for ParseOptional<P> {}
 
 impl<T: Clone, P: ProgramField<T>> ProgramField<T> for ParseFallback<P, T> {
     ghost use Rattle.bpaf_exact.specs.Wrappers.{kept_closure};
-    ghost use Rattle.bpaf_laws.specs.Default.{GivesClone};
     ghost use Rattle.bpaf_exact.proofs.SameParts.{default_shows};
-    ghost use Rattle.bpaf_exact.specs.ProgramForm.{program_fallback};
     ghost use Rattle.bpaf_exact.specs.ProgramSays.{said_fallback};
     ghost use Rattle.bpaf_exact.proofs.ByTables.{fallback_law};
     ghost use Rattle.bpaf_exact.proofs.ProgramSays.{program_fallback_says};
+    ghost use Rattle.bpaf_record.specs.Grammar.{fallback};
 
-    ghost keys = { λ p deep. P.keys p.inner deep };
-
-    ghost words = { λ p. [] };
-
-    ghost program_form = { λ p variables.
-        program_fallback (kept_closure (T.is_clone p.value)) (P.program_form p.inner variables) };
-
-    ghost kind = { λ p. P.kind p.inner };
+    ghost grammar = { λ p. fallback (kept_closure (T.is_clone p.value)) (P.grammar p.inner) };
 
     ghost says = { λ variables. said_fallback (λ p. p.inner)
         (λ p. kept_closure (T.is_clone p.value)) (P.says variables) };
@@ -90,9 +76,9 @@ impl<T: Clone, P: ProgramField<T>> ProgramField<T> for ParseFallback<P, T> {
         true
     }
 
-    ghost law = { λ p a variables.
-        fallback_law variables T _ T.is_clone p.value (P.keys p.inner true) (P.words p.inner)
-        (P.program_form p.inner variables) (P.law p.inner a variables) };
+    ghost law = { λ p a variables. fallback_law variables T _ T.is_clone p.value
+        (keys_of (P.grammar p.inner) true) (command_words (P.grammar p.inner))
+        (program_form (P.grammar p.inner) variables) (P.law p.inner a variables) };
 
     ghost shows = { λ p. default_shows (P.shows p.inner) p.shown };
 
@@ -106,22 +92,14 @@ impl<T: Clone, P: FlatField<T>> FlatField<T> for ParseFallback<P, T> {}
 impl<T, E: Display + Drop, P: ProgramField<T>, F: Fn() -> Result<T, E>> ProgramField<T>
     for ParseFallbackWith<T, P, F, E> {
     ghost use Rattle.bpaf_exact.specs.Wrappers.{Decides, answer_closure};
-    ghost use Rattle.bpaf_laws.specs.Default.{GivesAnswer};
     ghost use Rattle.bpaf_exact.proofs.SameParts.{default_shows};
-    ghost use Rattle.bpaf_exact.specs.ProgramForm.{program_fallback};
     ghost use Rattle.bpaf_exact.specs.ProgramSays.{said_fallback};
     ghost use Rattle.bpaf_exact.proofs.ByTables.{fallback_with_law};
     ghost use Rattle.bpaf_exact.proofs.ProgramSays.{program_fallback_says};
+    ghost use Rattle.bpaf_record.specs.Grammar.{fallback};
 
-    ghost keys = { λ p deep. P.keys p.inner deep };
-
-    ghost words = { λ p. [] };
-
-    ghost program_form = { λ p variables.
-        program_fallback (answer_closure (λ r. F.post p.fallback r))
-        (P.program_form p.inner variables) };
-
-    ghost kind = { λ p. P.kind p.inner };
+    ghost grammar = { λ p.
+        fallback (answer_closure (λ r. F.post p.fallback r)) (P.grammar p.inner) };
 
     ghost says = { λ variables. said_fallback (λ p. p.inner)
         (λ p. answer_closure (λ r. F.post p.fallback r)) (P.says variables) };
@@ -141,9 +119,9 @@ impl<T, E: Display + Drop, P: ProgramField<T>, F: Fn() -> Result<T, E>> ProgramF
         true
     }
 
-    ghost law = { λ p a variables.
-        fallback_with_law variables T _ _ (λ r. F.post p.fallback r) E.output (P.keys p.inner true)
-        (P.words p.inner) (P.program_form p.inner variables) a.1 (P.law p.inner a.0 variables) };
+    ghost law = { λ p a variables. fallback_with_law variables T _ _ (λ r. F.post p.fallback r)
+        E.output (keys_of (P.grammar p.inner) true) (command_words (P.grammar p.inner))
+        (program_form (P.grammar p.inner) variables) a.1 (P.law p.inner a.0 variables) };
 
     ghost shows = { λ p. default_shows (P.shows p.inner) p.shown };
 

@@ -9,28 +9,18 @@ use bpaf::{Fields, Parser};
 
 /// A parser that may be a field of a program, a command, or a program itself.
 pub trait ProgramField<T>: Parser<T> {
-    ghost use Rattle.std.specs.Prelude.{Bool, true, ℕ, List};
-    ghost use Rattle.bpaf_doc.specs.Names.{Names};
+    ghost use Rattle.std.specs.Prelude.{true};
     ghost use Rattle.bpaf_exact.specs.SameParts.{ShowsTheSame};
-    ghost use Rattle.bpaf_exact.specs.ProgramForm.{ProgramForm, ProgramFormLaw};
+    ghost use Rattle.bpaf_exact.specs.ProgramForm.{ProgramFormLaw};
     ghost use Rattle.bpaf_exact.specs.ProgramSays.{ProgramSaid, ProgramSays};
-    ghost use Rattle.bpaf_exact.specs.Says.{SaidKind};
     ghost use Rattle.bpaf_exact.specs.Flat.{Variables};
+    ghost use Rattle.bpaf_record.specs.Grammar.{Grammar, command_words, keys_of, program_form};
+    ghost use Rattle.bpaf_record.specs.Grammar.{said_kind};
     ghost use Rattle.bpaf_record.specs.Part.{part_of};
 
-    /// The names of its flags and arguments, one after the other, with or without those inside its
-    /// commands.
-    ghost keys: { Self → Bool → List Names };
-
-    /// The words of its commands, where it is a command or a choice of such.
-    ghost words: { Self → List (List ℕ) };
-
-    /// What it is to a program where the environment has some variables: to a flat record how it
-    /// reads its pieces, else which values it has on the cells of its scope.
-    ghost program_form: { Self → Variables → ProgramForm T };
-
-    /// Whether its pieces are keys or words, and how many of the words it takes.
-    ghost kind: { Self → Variables → SaidKind };
+    /// Of what it is made: what it is by itself, or a step and the parsers inside. That tells its
+    /// keys, the words of its commands and what it is to a program.
+    ghost grammar: { Self → Grammar T };
 
     /// What its value says of the pieces that are its own, or of all where it is a record; or of
     /// the cells of its scope, where it ends in commands.
@@ -41,28 +31,31 @@ pub trait ProgramField<T>: Parser<T> {
 
     /// What it is to a program, which is the same in each environment. It takes no memory.
     fn part(&self) -> ProgramPart
-        ensures { (variables : Variables) → result ≡ part_of (program_form self.now variables) };
+        ensures { (variables : Variables) → result ≡ part_of
+            (program_form (grammar self.now) variables) };
 
     /// Whether each of its keys passes a test, which may ask for those inside its commands too. It
     /// takes no memory.
     fn all_keys<N: KeyTest>(&self, test: &N) -> bool
-        ensures { result ≡ list_all (N.accepts test.now) (keys self.now (N.deep test.now)) };
+        ensures { result ≡ list_all (N.accepts test.now)
+            (keys_of (grammar self.now) (N.deep test.now)) };
 
     /// Whether each word of its commands passes a test. It takes no memory.
     fn all_words<W: WordTest>(&self, test: &W) -> bool
-        ensures { result ≡ list_all (W.accepts test.now) (words self.now) };
+        ensures { result ≡ list_all (W.accepts test.now) (command_words (grammar self.now)) };
 
     /// What it answers and takes depends on what is its own alone, as its form says.
     ghost law: { (p : Self) → agrees p → (variables : Variables)
-        → ProgramFormLaw variables (Self.Parser.outcome p) (keys p true) (words p)
-        (program_form p variables) };
+        → ProgramFormLaw variables (Self.Parser.outcome p) (keys_of (grammar p) true)
+        (command_words (grammar p)) (program_form (grammar p) variables) };
 
     /// It shows the same parts, whichever shape it shows, so that words have one line.
     ghost shows: { (p : Self) → ShowsTheSame (Self.Parser.describes p) };
 
     /// Its value says so.
     ghost said: { (p : Self) → agrees p → (variables : Variables)
-        → ProgramSays (keys p true) (program_form p variables) (kind p variables) (says variables) p };
+        → ProgramSays (keys_of (grammar p) true) (program_form (grammar p) variables)
+        (said_kind (grammar p) variables) (says variables) p };
 }
 
 /// The mark of a parser that may be a field of a flat record, or a flat record itself. It has no
@@ -71,20 +64,15 @@ pub trait FlatField<T> {}
 
 /// The fields of a program.
 pub trait ProgramFields<V>: Fields<V> {
-    ghost use Rattle.std.specs.Prelude.{Bool, true, List};
-    ghost use Rattle.bpaf_doc.specs.Names.{Names};
+    ghost use Rattle.std.specs.Prelude.{true};
     ghost use Rattle.bpaf_exact.specs.SameParts.{FieldsShowTheSame};
-    ghost use Rattle.bpaf_exact.specs.ProgramForm.{ProgramForm};
     ghost use Rattle.bpaf_exact.specs.ProgramSays.{FieldsKeep, ProgramFieldsSaid};
     ghost use Rattle.bpaf_exact.specs.Flat.{Variables};
+    ghost use Rattle.bpaf_record.specs.Grammar.{Grammar, keys_of, program_form};
     ghost use Rattle.bpaf_record.specs.Part.{part_of};
 
-    /// The names of their flags and arguments, one after the other, with or without those inside
-    /// commands.
-    ghost keys: { Self → Bool → List Names };
-
-    /// What they are to a program where the environment has some variables.
-    ghost program_form: { Self → Variables → ProgramForm V };
+    /// Of what they are made. That tells their keys and what they are to a program.
+    ghost grammar: { Self → Grammar V };
 
     /// What their values say: of the pieces of a line and of the words that are left to them, or of
     /// the cells of their scope, where they end in commands.
@@ -95,18 +83,20 @@ pub trait ProgramFields<V>: Fields<V> {
 
     /// What they are to a program, which is the same in each environment. It takes no memory.
     fn fields_part(&self) -> ProgramPart
-        ensures { (variables : Variables) → result ≡ part_of (program_form self.now variables) };
+        ensures { (variables : Variables) → result ≡ part_of
+            (program_form (grammar self.now) variables) };
 
     /// Whether each of their keys passes a test, which may ask for those inside commands too. It
     /// takes no memory.
     fn all_keys<N: KeyTest>(&self, test: &N) -> bool
-        ensures { result ≡ list_all (N.accepts test.now) (keys self.now (N.deep test.now)) };
+        ensures { result ≡ list_all (N.accepts test.now)
+            (keys_of (grammar self.now) (N.deep test.now)) };
 
     /// What they answer and take depends on what is present alone, as their form says, and their
     /// values say so.
     ghost keeps: { (p : Self) → agrees p → (variables : Variables)
-        → FieldsKeep variables (Self.Fields.outcome p) (keys p true)
-        (program_form p variables) (says variables) p };
+        → FieldsKeep variables (Self.Fields.outcome p) (keys_of (grammar p) true)
+        (program_form (grammar p) variables) (says variables) p };
 
     /// They show the same parts, whichever shapes they show.
     ghost shows: { (p : Self) → FieldsShowTheSame (Self.Fields.describes p) };

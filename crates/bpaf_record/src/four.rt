@@ -1,5 +1,7 @@
 //! Four fields of a program at once.
 
+ghost use Rattle.bpaf_record.specs.Grammar.{command_words, keys_of, said_kind};
+
 use crate::field::{FlatField, FlatFields, ProgramField, ProgramFields};
 use crate::keys::KeyTest;
 use crate::part::ProgramPart;
@@ -22,11 +24,8 @@ impl<
     ghost use Rattle.bpaf_exact.proofs.Keeping.{keep_before, keep_inside};
     ghost use Rattle.std.specs.Prelude.{true};
 
-    ghost keys = { λ p.
-        ⟦<FourFields<A, B, C, D, R> as ProgramFields<FourValues<S, T, U, V, W>>>⟧.keys p.fields };
-
-    ghost program_form = { λ p.
-        ⟦<FourFields<A, B, C, D, R> as ProgramFields<FourValues<S, T, U, V, W>>>⟧.program_form
+    ghost grammar = { λ p.
+        ⟦<FourFields<A, B, C, D, R> as ProgramFields<FourValues<S, T, U, V, W>>>⟧.grammar
         p.fields };
 
     ghost says = { λ variables. fields_said_inside (λ p. p.fields)
@@ -46,19 +45,22 @@ impl<
     }
 
     ghost keeps = { λ p a variables. keep_inside (λ q. q.fields) p
-        (keep_before (λ q. q.first) (λ q. q.rest) p.fields _ (λ q. A.kind q variables)
-        (λ q. A.keys q true) (A.words p.fields.first) _ (A.says variables)
+        (keep_before (λ q. q.first) (λ q. q.rest) p.fields _
+        (λ q. said_kind (A.grammar q) variables) (λ q. keys_of (A.grammar q) true)
+        (command_words (A.grammar p.fields.first)) _ (A.says variables)
         (A.law p.fields.first a.0 variables) (A.said p.fields.first a.0 variables)
-        (keep_before (λ q. q.first) (λ q. q.rest) p.fields.rest _ (λ q. B.kind q variables)
-        (λ q. B.keys q true) (B.words p.fields.rest.first) _ (B.says variables)
+        (keep_before (λ q. q.first) (λ q. q.rest) p.fields.rest _
+        (λ q. said_kind (B.grammar q) variables) (λ q. keys_of (B.grammar q) true)
+        (command_words (B.grammar p.fields.rest.first)) _ (B.says variables)
         (B.law p.fields.rest.first a.1.0 variables) (B.said p.fields.rest.first a.1.0 variables)
-        (keep_before (λ q. q.first) (λ q. q.rest) p.fields.rest.rest _ (λ q. C.kind q variables)
-        (λ q. C.keys q true) (C.words p.fields.rest.rest.first) _ (C.says variables)
+        (keep_before (λ q. q.first) (λ q. q.rest) p.fields.rest.rest _
+        (λ q. said_kind (C.grammar q) variables) (λ q. keys_of (C.grammar q) true)
+        (command_words (C.grammar p.fields.rest.rest.first)) _ (C.says variables)
         (C.law p.fields.rest.rest.first a.1.1.0 variables)
         (C.said p.fields.rest.rest.first a.1.1.0 variables)
         (keep_before (λ q. q.first) (λ q. q.rest) p.fields.rest.rest.rest _
-        (λ q. D.kind q variables) (λ q. D.keys q true)
-        (D.words p.fields.rest.rest.rest.first) _ (D.says variables)
+        (λ q. said_kind (D.grammar q) variables) (λ q. keys_of (D.grammar q) true)
+        (command_words (D.grammar p.fields.rest.rest.rest.first)) _ (D.says variables)
         (D.law p.fields.rest.rest.rest.first a.1.1.1.0 variables)
         (D.said p.fields.rest.rest.rest.first a.1.1.1.0 variables)
         (R.keeps p.fields.rest.rest.rest.rest a.1.1.1.1 variables))))) };

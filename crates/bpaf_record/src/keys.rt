@@ -4,6 +4,7 @@ ghost use Rattle.std.specs.List.{list_all};
 ghost use Rattle.bpaf_base.specs.Items.{is_among, is_text_among};
 ghost use Rattle.bpaf_exact.specs.Names.{are_apart};
 ghost use Rattle.bpaf_record.specs.Keys.{has_no_short, has_no_long};
+ghost use Rattle.bpaf_record.specs.Grammar.{keys_of};
 
 use crate::field::{ProgramField, ProgramFields};
 use bpaf::{NamedArg, Text};
@@ -99,7 +100,8 @@ impl<T, P: ProgramField<T>> KeyTest for ApartFromField<'_, T, P> {
         true
     }
 
-    ghost accepts = { λ t names. list_all (are_apart names) (P.keys t.other.now true) };
+    ghost accepts = { λ t names.
+        list_all (are_apart names) (keys_of (P.grammar t.other.now) true) };
 
     fn test(&self, key: &NamedArg) -> bool {
         self.other.all_keys(&ApartFrom { key, deep: true })
@@ -120,7 +122,8 @@ impl<V, R: ProgramFields<V>> KeyTest for ApartFromFields<'_, V, R> {
         true
     }
 
-    ghost accepts = { λ t names. list_all (are_apart names) (R.keys t.others.now true) };
+    ghost accepts = { λ t names.
+        list_all (are_apart names) (keys_of (R.grammar t.others.now) true) };
 
     fn test(&self, key: &NamedArg) -> bool {
         self.others.all_keys(&ApartFrom { key, deep: true })

@@ -1,5 +1,5 @@
 //! Flags, arguments and words as fields.
-ghost use Rattle.std.specs.Prelude.{◌≡◌, [], ◌∷◌, false, true};
+ghost use Rattle.std.specs.Prelude.{◌≡◌, [], false, true};
 
 use crate::field::{FlatField, ProgramField};
 use crate::form::{Form, Kind};
@@ -11,28 +11,18 @@ use bpaf::{FromText, ParsePositional, Position};
 
 /// With a name in the environment it may stand in a program, but in no flat record.
 impl<T: Clone> ProgramField<T> for ParseFlag<T> {
-    ghost use Rattle.bpaf_exact.specs.Flat.{ByName};
-    ghost use Rattle.bpaf_exact.specs.Says.{of_kind};
     ghost use Rattle.bpaf_exact.specs.Says.{FlagSays};
     ghost use Rattle.bpaf_exact.proofs.ProgramSays.{key_says};
     ghost use Rattle.bpaf_exact.proofs.Says.{flag_field_says, variable_flag_says};
     ghost use Rattle.bpaf_exact.specs.Leaves.{flag_field, variable_flag};
-    ghost use Rattle.bpaf_exact.specs.Variables.{flag_form};
     ghost use Rattle.bpaf_exact.proofs.Flags.{flag_form_law};
     ghost use Rattle.bpaf_laws.specs.Environment.{first_set};
     ghost use Rattle.bpaf_exact.proofs.SameParts.{one_shape};
     ghost use Rattle.bpaf_laws.specs.Flag.{flag_shape};
-    ghost use Rattle.bpaf_exact.specs.ProgramForm.{plain};
     ghost use Rattle.bpaf_exact.specs.ProgramSays.{of_pieces};
+    ghost use Rattle.bpaf_record.specs.Grammar.{flag};
 
-    ghost keys = { λ p deep. p.named.names ∷ [] };
-
-    ghost words = { λ p. [] };
-
-    ghost program_form = { λ p variables.
-        flag_form T.is_clone p.named p.present p.absent variables };
-
-    ghost kind = { λ p variables. of_kind ByName };
+    ghost grammar = { λ p. flag T.is_clone p.named p.present p.absent };
 
     ghost says = { λ variables. of_pieces (λ p.
         FlagSays T.is_clone p.present p.absent (first_set variables p.named.envs)) };
@@ -75,27 +65,18 @@ impl<T: Clone> FlatField<T> for ParseFlag<T> {}
 /// With a name in the environment, or with `adjacent`, it may stand in a program, but in no flat
 /// record. With such a name or `take_last` it is a field by itself, and no alternative of a choice.
 impl<T: FromText> ProgramField<T> for ParseArgument<T> {
-    ghost use Rattle.bpaf_exact.specs.Flat.{ByName};
-    ghost use Rattle.bpaf_exact.specs.Says.{of_kind};
     ghost use Rattle.bpaf_exact.specs.Says.{ArgumentSays};
     ghost use Rattle.bpaf_exact.proofs.ProgramSays.{key_says};
     ghost use Rattle.bpaf_exact.proofs.Says.{argument_field_says, variable_argument_says};
     ghost use Rattle.bpaf_exact.specs.Leaves.{argument_field, variable_argument};
-    ghost use Rattle.bpaf_exact.specs.Variables.{argument_form};
     ghost use Rattle.bpaf_exact.proofs.Arguments.{argument_form_law};
     ghost use Rattle.bpaf_laws.specs.Environment.{first_set};
     ghost use Rattle.bpaf_exact.proofs.SameParts.{one_shape};
     ghost use Rattle.bpaf_laws.specs.Argument.{argument_shape};
-    ghost use Rattle.bpaf_exact.specs.ProgramForm.{plain};
     ghost use Rattle.bpaf_exact.specs.ProgramSays.{of_pieces};
+    ghost use Rattle.bpaf_record.specs.Grammar.{argument};
 
-    ghost keys = { λ p deep. p.named.names ∷ [] };
-
-    ghost words = { λ p. [] };
-
-    ghost program_form = { λ p variables. argument_form T.means p variables };
-
-    ghost kind = { λ p variables. of_kind ByName };
+    ghost grammar = { λ p. argument T.means p };
 
     ghost says = { λ variables. of_pieces (λ p.
         ArgumentSays T.means p.last (first_set variables p.named.envs)) };
@@ -135,25 +116,16 @@ impl<T: FromText> FlatField<T> for ParseArgument<T> {}
 /// With `strict` or `non_strict` it may stand in a program, but in no flat record. A repeat or a
 /// default of it with `non_strict` leaves words behind `--` to the fields after it.
 impl<T: FromText> ProgramField<T> for ParsePositional<T> {
-    ghost use Rattle.bpaf_exact.specs.Flat.{OneWord};
-    ghost use Rattle.bpaf_exact.specs.Says.{of_kind};
     ghost use Rattle.bpaf_exact.specs.Says.{WordSays};
     ghost use Rattle.bpaf.specs.Positional.{accepts};
-    ghost use Rattle.bpaf_record.specs.Positional.{is_sided, positional_says, positional_field};
-    ghost use Rattle.bpaf_record.specs.Positional.{positional_field_law, stops_at};
+    ghost use Rattle.bpaf_record.specs.Positional.{positional_says};
+    ghost use Rattle.bpaf_record.specs.Positional.{positional_field_law};
     ghost use Rattle.bpaf_exact.proofs.SameParts.{one_shape};
     ghost use Rattle.bpaf.specs.Positional.{positional_shape};
-    ghost use Rattle.bpaf_exact.specs.ProgramForm.{plain};
     ghost use Rattle.bpaf_exact.specs.ProgramSays.{of_pieces};
+    ghost use Rattle.bpaf_record.specs.Grammar.{word};
 
-    ghost keys = { λ p deep. [] };
-
-    ghost words = { λ p. [] };
-
-    ghost program_form = { λ p variables. plain (is_sided p.position)
-        (positional_field T.means p.position) };
-
-    ghost kind = { λ p variables. of_kind (OneWord (stops_at p.position)) };
+    ghost grammar = { λ p. word T.means p.position };
 
     ghost says = { λ variables. of_pieces (λ p. WordSays (accepts p.position) T.means) };
 
@@ -187,21 +159,12 @@ impl<T: FromText> FlatField<T> for ParsePositional<T> {}
 /// A kept value may stand in a program, as a field that takes no piece, but in no flat record.
 impl<T: Clone> ProgramField<T> for ParsePure<T> {
     ghost use Rattle.bpaf_doc.specs.Shape.{Skip};
-    ghost use Rattle.bpaf_exact.specs.Flat.{ByName};
-    ghost use Rattle.bpaf_exact.specs.Says.{of_kind};
-    ghost use Rattle.bpaf_exact.specs.Leaves.{pure_field};
-    ghost use Rattle.bpaf_exact.specs.ProgramForm.{plain};
     ghost use Rattle.bpaf_exact.specs.ProgramSays.{of_pieces};
     ghost use Rattle.bpaf_exact.proofs.Pure.{pure_field_law, pure_says};
     ghost use Rattle.bpaf_exact.proofs.SameParts.{one_shape};
+    ghost use Rattle.bpaf_record.specs.Grammar.{kept};
 
-    ghost keys = { λ p deep. [] };
-
-    ghost words = { λ p. [] };
-
-    ghost program_form = { λ p variables. plain true (pure_field (T.is_clone p.value)) };
-
-    ghost kind = { λ p variables. of_kind ByName };
+    ghost grammar = { λ p. kept (T.is_clone p.value) };
 
     ghost says = { λ variables. of_pieces (λ p os v. T.is_clone p.value v) };
 

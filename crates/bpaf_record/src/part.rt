@@ -1,8 +1,9 @@
 //! What a parser is to a program with commands.
 ghost use Rattle.std.specs.Prelude.{◌≡◌};
 ghost use Rattle.bpaf_record.specs.Part.{before_part, chosen_part, closed_part, command_part};
-ghost use Rattle.bpaf_record.specs.Part.{completed_part, dressed_part, field_part, first_part, flat_part};
-ghost use Rattle.bpaf_record.specs.Part.{is_program_part, last_part, made_part, optional_part};
+ghost use Rattle.bpaf_record.specs.Part.{completed_part, dressed_part, field_part, first_part};
+ghost use Rattle.bpaf_record.specs.Part.{flat_part, is_program_part, last_part, made_part};
+ghost use Rattle.bpaf_record.specs.Part.{optional_part};
 
 use crate::form::{Form, Kind};
 

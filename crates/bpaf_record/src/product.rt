@@ -1,5 +1,6 @@
 //! Products of fields.
-ghost use Rattle.std.specs.Prelude.{◌≡◌, [], true};
+ghost use Rattle.std.specs.Prelude.{◌≡◌, true};
+ghost use Rattle.bpaf_record.specs.Grammar.{command_words, keys_of, program_form, said_kind};
 
 use crate::field::{FlatField, FlatFields, ProgramField, ProgramFields};
 use crate::keys::{ApartFromFields, KeyTest, NoKey};
@@ -10,18 +11,15 @@ use bpaf::{Both, Last};
 use std::marker::PhantomData;
 
 impl<T: Drop, A: ProgramField<T>> ProgramFields<T> for Last<A> {
-    ghost use Rattle.bpaf_exact.specs.ProgramForm.{program_alone, program_field};
     ghost use Rattle.bpaf_exact.specs.ProgramSays.{said_alone};
     ghost use Rattle.bpaf_exact.proofs.Keeping.{keep_last};
     ghost use Rattle.bpaf_exact.proofs.SameParts.{last_shows};
+    ghost use Rattle.bpaf_record.specs.Grammar.{alone};
 
-    ghost keys = { λ p deep. A.keys p.last deep };
+    ghost grammar = { λ p. alone (A.grammar p.last) };
 
-    ghost program_form = { λ p variables. program_alone
-        (program_field (A.program_form p.last variables)) };
-
-    ghost says = { λ variables. said_alone (λ p. p.last) (λ q. A.kind q variables)
-        (λ q. A.keys q true) (A.says variables) };
+    ghost says = { λ variables. said_alone (λ p. p.last) (λ q. said_kind (A.grammar q) variables)
+        (λ q. keys_of (A.grammar q) true) (A.says variables) };
 
     ghost agrees = { λ p. A.agrees p.last };
 
@@ -35,8 +33,8 @@ impl<T: Drop, A: ProgramField<T>> ProgramFields<T> for Last<A> {
     }
 
     ghost keeps = { λ p a variables. keep_last (λ q. q.last) p
-        (A.outcome p.last) (λ q. A.kind q variables)
-        (λ q. A.keys q true) (A.words p.last) _ (A.says variables)
+        (A.outcome p.last) (λ q. said_kind (A.grammar q) variables)
+        (λ q. keys_of (A.grammar q) true) (command_words (A.grammar p.last)) _ (A.says variables)
         (A.law p.last a variables) (A.said p.last a variables) };
 
     ghost shows = { λ p. last_shows (A.shows p.last) };
@@ -47,19 +45,16 @@ impl<T: Drop, A: FlatField<T>> FlatFields<T> for Last<A> {}
 /// Where a named field stands behind a positional one, a positional one before commands, or two
 /// share a name, they are nothing.
 impl<T: Drop, V, A: ProgramField<T>, R: ProgramFields<V>> ProgramFields<(T, V)> for Both<A, R> {
-    ghost use Rattle.std.specs.Prelude.{◌++◌};
-    ghost use Rattle.bpaf_exact.specs.ProgramForm.{program_both, program_field};
     ghost use Rattle.bpaf_exact.specs.ProgramSays.{said_both};
     ghost use Rattle.bpaf_exact.proofs.Keeping.{keep_before};
     ghost use Rattle.bpaf_exact.proofs.SameParts.{both_show};
+    ghost use Rattle.bpaf_record.specs.Grammar.{both};
 
-    ghost keys = { λ p deep. A.keys p.first deep ++ R.keys p.rest deep };
-
-    ghost program_form = { λ p variables. program_both (A.keys p.first true) (R.keys p.rest true)
-        (program_field (A.program_form p.first variables)) (R.program_form p.rest variables) };
+    ghost grammar = { λ p. both (A.grammar p.first) (R.grammar p.rest) };
 
     ghost says = { λ variables. said_both (λ p. p.first) (λ p. p.rest)
-        (λ q. A.kind q variables) (λ q. A.keys q true) (A.says variables) (R.says variables) };
+        (λ q. said_kind (A.grammar q) variables) (λ q. keys_of (A.grammar q) true)
+        (A.says variables) (R.says variables) };
 
     ghost agrees = { λ p. A.agrees p.first × R.agrees p.rest };
 
@@ -82,9 +77,9 @@ impl<T: Drop, V, A: ProgramField<T>, R: ProgramFields<V>> ProgramFields<(T, V)> 
     }
 
     ghost keeps = { λ p a variables. keep_before (λ q. q.first) (λ q. q.rest) p _
-        (λ q. A.kind q variables) (λ q. A.keys q true) (A.words p.first) _ (A.says variables)
-        (A.law p.first a.0 variables) (A.said p.first a.0 variables)
-        (R.keeps p.rest a.1 variables) };
+        (λ q. said_kind (A.grammar q) variables) (λ q. keys_of (A.grammar q) true)
+        (command_words (A.grammar p.first)) _ (A.says variables) (A.law p.first a.0 variables)
+        (A.said p.first a.0 variables) (R.keeps p.rest a.1 variables) };
 
     ghost shows = { λ p. both_show (A.shows p.first) (R.shows p.rest) };
 }
@@ -92,23 +87,16 @@ impl<T: Drop, V, A: ProgramField<T>, R: ProgramFields<V>> ProgramFields<(T, V)> 
 impl<T: Drop, V, A: FlatField<T>, R: FlatFields<V>> FlatFields<(T, V)> for Both<A, R> {}
 
 impl<V, T, P: ProgramFields<V>, F: Fn(V) -> T> ProgramField<T> for ParseCon<V, P, F> {
-    ghost use Rattle.bpaf_exact.specs.ProgramForm.{program_con};
-    ghost use Rattle.bpaf_exact.specs.ProgramSays.{program_kind, said_con};
+    ghost use Rattle.bpaf_exact.specs.ProgramSays.{said_con};
     ghost use Rattle.bpaf_exact.specs.Wrappers.{map_closure};
     ghost use Rattle.bpaf_exact.proofs.ProgramForm.{program_con_law};
     ghost use Rattle.bpaf_exact.proofs.ProgramSays.{program_con_says};
     ghost use Rattle.bpaf_exact.proofs.SameParts.{product_shows};
+    ghost use Rattle.bpaf_record.specs.Grammar.{product};
 
-    ghost keys = { λ p deep. P.keys p.fields deep };
+    ghost grammar = { λ p. product (map_closure (λ x y. F.post p.make x y)) (P.grammar p.fields) };
 
-    ghost words = { λ p. [] };
-
-    ghost program_form = { λ p variables.
-        program_con (map_closure (λ x y. F.post p.make x y)) (P.program_form p.fields variables) };
-
-    ghost kind = { λ p variables. program_kind (P.program_form p.fields variables) };
-
-    ghost says = { λ variables. said_con (λ p. p.fields) (λ q. P.keys q true)
+    ghost says = { λ variables. said_con (λ p. p.fields) (λ q. keys_of (P.grammar q) true)
         (λ p. map_closure (λ x y. F.post p.make x y)) (P.says variables) };
 
     ghost agrees = { λ p. P.agrees p.fields };
@@ -126,15 +114,15 @@ impl<V, T, P: ProgramFields<V>, F: Fn(V) -> T> ProgramField<T> for ParseCon<V, P
         true
     }
 
-    ghost law = { λ p a variables.
-        program_con_law variables V T _ (λ x y. F.post p.make x y) (P.keys p.fields true)
-        (P.program_form p.fields variables) (P.keeps p.fields a variables).law };
+    ghost law = { λ p a variables. program_con_law variables V T _ (λ x y. F.post p.make x y)
+        (keys_of (P.grammar p.fields) true) (program_form (P.grammar p.fields) variables)
+        (P.keeps p.fields a variables).law };
 
     ghost shows = { λ p. product_shows (P.shows p.fields) };
 
     ghost said = { λ p a variables. program_con_says variables (λ p. p.fields) p
         (P.outcome p.fields)
-        (λ q. P.keys q true) (λ p. map_closure (λ x y. F.post p.make x y))
+        (λ q. keys_of (P.grammar q) true) (λ p. map_closure (λ x y. F.post p.make x y))
         (P.keeps p.fields a variables).law (P.keeps p.fields a variables).says };
 }
 

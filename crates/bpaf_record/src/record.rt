@@ -1,6 +1,7 @@
 //! Whether options are a flat record, and the run of one.
 ghost use Rattle.std.specs.Prelude.{◌≡◌, Result, false, true};
 ghost use Rattle.bpaf_words.specs.Arguments.{given_of};
+ghost use Rattle.bpaf_record.specs.Grammar.{keys_of, program_form};
 
 use crate::command_line::CommandLine;
 use crate::field::{FlatField, ProgramField};
@@ -76,7 +77,8 @@ impl<T: Drop, P: ProgramField<T> + FlatField<T>> Record<T> for OptionParser<T, P
     ghost use Rattle.bpaf_record.specs.Record.{is_flat_record, AnswersExactly, SaysOfWords};
 
     ghost is_flat = { λ p variables. is_flat_record
-        (flat_form (P.program_form p.inner variables)) (P.keys p.inner false) p.info };
+        (flat_form (program_form (P.grammar p.inner) variables)) (keys_of (P.grammar p.inner) false)
+        p.info };
 
     #[tactic(auto, using(crate::proofs::Parts::record_part_is))]
     fn is_record(&self) -> bool {
@@ -86,11 +88,11 @@ impl<T: Drop, P: ProgramField<T> + FlatField<T>> Record<T> for OptionParser<T, P
     }
 
     ghost says = { λ p given. SaysOfWords (P.describes p.inner) p.info
-        (flat_form (P.program_form p.inner given.env)) (pieces_said (P.says given.env) p.inner)
-        given };
+        (flat_form (program_form (P.grammar p.inner) given.env))
+        (pieces_said (P.says given.env) p.inner) given };
 
     ghost answers_exactly = { λ p given. AnswersExactly T (P.describes p.inner) p.info
-        (flat_form (P.program_form p.inner given.env)) given };
+        (flat_form (program_form (P.grammar p.inner) given.env)) given };
 
     fn run_record(&self, args: Args<'_>) -> Result<T, ParseFailure> {
         self.run_inner(args)

@@ -1,5 +1,6 @@
 //! Fields that may be given again and again.
-ghost use Rattle.std.specs.Prelude.{◌≡◌, [], true};
+ghost use Rattle.std.specs.Prelude.{◌≡◌, true};
+ghost use Rattle.bpaf_record.specs.Grammar.{command_words, keys_of, program_form};
 
 use crate::field::{FlatField, ProgramField};
 use crate::keys::KeyTest;
@@ -10,22 +11,14 @@ use bpaf::parsers::{ParseCollect, ParseCount, ParseLast, ParseMany, ParseSome};
 
 /// With `catch` it is no flat field, nor round another repeat or a default.
 impl<T: Drop, P: ProgramField<T>> ProgramField<Vec<T>> for ParseMany<P> {
-    ghost use Rattle.bpaf_exact.specs.Says.{repeated_kind};
     ghost use Rattle.bpaf_exact.specs.Gathered.{list_closure};
     ghost use Rattle.bpaf_exact.proofs.SameParts.{many_shows};
-    ghost use Rattle.bpaf_exact.specs.ProgramForm.{program_repeat};
     ghost use Rattle.bpaf_exact.specs.ProgramSays.{said_repeat};
     ghost use Rattle.bpaf_exact.proofs.ByTables.{many_law};
     ghost use Rattle.bpaf_exact.proofs.ProgramSays.{program_repeat_says};
+    ghost use Rattle.bpaf_record.specs.Grammar.{repeat};
 
-    ghost keys = { λ p deep. P.keys p.inner deep };
-
-    ghost words = { λ p. [] };
-
-    ghost program_form = { λ p variables. program_repeat p.catch (list_closure T)
-        (P.program_form p.inner variables) };
-
-    ghost kind = { λ p variables. repeated_kind (P.kind p.inner variables) };
+    ghost grammar = { λ p. repeat p.catch (list_closure T) (P.grammar p.inner) };
 
     ghost says = { λ variables. said_repeat (λ p. p.inner) (list_closure T) (P.says variables) };
 
@@ -44,9 +37,9 @@ impl<T: Drop, P: ProgramField<T>> ProgramField<Vec<T>> for ParseMany<P> {
         true
     }
 
-    ghost law = { λ p a variables.
-        many_law variables T _ p.catch (P.keys p.inner true) (P.words p.inner)
-        (P.program_form p.inner variables) (P.law p.inner a variables) };
+    ghost law = { λ p a variables. many_law variables T _ p.catch (keys_of (P.grammar p.inner) true)
+        (command_words (P.grammar p.inner)) (program_form (P.grammar p.inner) variables)
+        (P.law p.inner a variables) };
 
     ghost shows = { λ p. many_shows (P.shows p.inner) };
 
@@ -58,22 +51,14 @@ impl<T: Drop, P: FlatField<T>> FlatField<Vec<T>> for ParseMany<P> {}
 
 /// As `many`.
 impl<'m, T: Drop, P: ProgramField<T>> ProgramField<Vec<T>> for ParseSome<'m, P> {
-    ghost use Rattle.bpaf_exact.specs.Says.{repeated_kind};
     ghost use Rattle.bpaf_exact.specs.Gathered.{some_closure};
     ghost use Rattle.bpaf_exact.proofs.SameParts.{some_shows};
-    ghost use Rattle.bpaf_exact.specs.ProgramForm.{program_repeat};
     ghost use Rattle.bpaf_exact.specs.ProgramSays.{said_repeat};
     ghost use Rattle.bpaf_exact.proofs.ByTables.{some_law};
     ghost use Rattle.bpaf_exact.proofs.ProgramSays.{program_repeat_says};
+    ghost use Rattle.bpaf_record.specs.Grammar.{repeat};
 
-    ghost keys = { λ p deep. P.keys p.inner deep };
-
-    ghost words = { λ p. [] };
-
-    ghost program_form = { λ p variables. program_repeat p.catch (some_closure T)
-        (P.program_form p.inner variables) };
-
-    ghost kind = { λ p variables. repeated_kind (P.kind p.inner variables) };
+    ghost grammar = { λ p. repeat p.catch (some_closure T) (P.grammar p.inner) };
 
     ghost says = { λ variables. said_repeat (λ p. p.inner) (some_closure T) (P.says variables) };
 
@@ -92,9 +77,9 @@ impl<'m, T: Drop, P: ProgramField<T>> ProgramField<Vec<T>> for ParseSome<'m, P> 
         true
     }
 
-    ghost law = { λ p a variables.
-        some_law variables T _ p.catch p.message.now (P.keys p.inner true) (P.words p.inner)
-        (P.program_form p.inner variables) (P.law p.inner a variables) };
+    ghost law = { λ p a variables. some_law variables T _ p.catch p.message.now
+        (keys_of (P.grammar p.inner) true) (command_words (P.grammar p.inner))
+        (program_form (P.grammar p.inner) variables) (P.law p.inner a variables) };
 
     ghost shows = { λ p. some_shows (P.shows p.inner) };
 
@@ -106,22 +91,14 @@ impl<'m, T: Drop, P: FlatField<T>> FlatField<Vec<T>> for ParseSome<'m, P> {}
 
 /// As `many`.
 impl<T: Drop, C: FromList<T> + Drop, P: ProgramField<T>> ProgramField<C> for ParseCollect<P, C, T> {
-    ghost use Rattle.bpaf_exact.specs.Says.{repeated_kind};
     ghost use Rattle.bpaf_exact.specs.Gathered.{collect_closure};
     ghost use Rattle.bpaf_exact.proofs.SameParts.{many_shows};
-    ghost use Rattle.bpaf_exact.specs.ProgramForm.{program_repeat};
     ghost use Rattle.bpaf_exact.specs.ProgramSays.{said_repeat};
     ghost use Rattle.bpaf_exact.proofs.ByTables.{collect_law};
     ghost use Rattle.bpaf_exact.proofs.ProgramSays.{program_repeat_says};
+    ghost use Rattle.bpaf_record.specs.Grammar.{repeat};
 
-    ghost keys = { λ p deep. P.keys p.inner deep };
-
-    ghost words = { λ p. [] };
-
-    ghost program_form = { λ p variables. program_repeat p.catch (collect_closure C.fills)
-        (P.program_form p.inner variables) };
-
-    ghost kind = { λ p variables. repeated_kind (P.kind p.inner variables) };
+    ghost grammar = { λ p. repeat p.catch (collect_closure C.fills) (P.grammar p.inner) };
 
     ghost says = { λ variables. said_repeat (λ p. p.inner) (collect_closure C.fills)
         (P.says variables) };
@@ -141,9 +118,9 @@ impl<T: Drop, C: FromList<T> + Drop, P: ProgramField<T>> ProgramField<C> for Par
         true
     }
 
-    ghost law = { λ p a variables.
-        collect_law variables T C _ p.catch C.fills (P.keys p.inner true) (P.words p.inner)
-        (P.program_form p.inner variables) (P.law p.inner a variables) };
+    ghost law = { λ p a variables. collect_law variables T C _ p.catch C.fills
+        (keys_of (P.grammar p.inner) true) (command_words (P.grammar p.inner))
+        (program_form (P.grammar p.inner) variables) (P.law p.inner a variables) };
 
     ghost shows = { λ p. many_shows (P.shows p.inner) };
 
@@ -155,23 +132,15 @@ impl<T: Drop, C: FromList<T> + Drop, P: ProgramField<T>> ProgramField<C> for Par
 impl<T: Drop, C: FromList<T> + Drop, P: FlatField<T>> FlatField<C> for ParseCollect<P, C, T> {}
 
 impl<T: Drop, P: ProgramField<T>> ProgramField<usize> for ParseCount<P, T> {
-    ghost use Rattle.bpaf_exact.specs.Says.{repeated_kind};
     ghost use Rattle.bpaf_exact.specs.Gathered.{count_closure};
     ghost use Rattle.bpaf_exact.proofs.SameParts.{many_shows};
-    ghost use Rattle.bpaf_exact.specs.ProgramForm.{program_repeat};
     ghost use Rattle.bpaf_exact.specs.ProgramSays.{said_repeat};
     ghost use Rattle.bpaf_exact.proofs.ByTables.{count_law};
     ghost use Rattle.bpaf_exact.proofs.ProgramSays.{program_repeat_says};
     ghost use Rattle.std.specs.Prelude.{false};
+    ghost use Rattle.bpaf_record.specs.Grammar.{repeat};
 
-    ghost keys = { λ p deep. P.keys p.inner deep };
-
-    ghost words = { λ p. [] };
-
-    ghost program_form = { λ p variables. program_repeat false (count_closure T)
-        (P.program_form p.inner variables) };
-
-    ghost kind = { λ p variables. repeated_kind (P.kind p.inner variables) };
+    ghost grammar = { λ p. repeat false (count_closure T) (P.grammar p.inner) };
 
     ghost says = { λ variables. said_repeat (λ p. p.inner) (count_closure T) (P.says variables) };
 
@@ -190,9 +159,9 @@ impl<T: Drop, P: ProgramField<T>> ProgramField<usize> for ParseCount<P, T> {
         true
     }
 
-    ghost law = { λ p a variables.
-        count_law variables T _ (P.keys p.inner true) (P.words p.inner)
-        (P.program_form p.inner variables) (P.law p.inner a variables) };
+    ghost law = { λ p a variables. count_law variables T _ (keys_of (P.grammar p.inner) true)
+        (command_words (P.grammar p.inner)) (program_form (P.grammar p.inner) variables)
+        (P.law p.inner a variables) };
 
     ghost shows = { λ p. many_shows (P.shows p.inner) };
 
@@ -203,20 +172,13 @@ impl<T: Drop, P: ProgramField<T>> ProgramField<usize> for ParseCount<P, T> {
 impl<T: Drop, P: FlatField<T>> FlatField<usize> for ParseCount<P, T> {}
 
 impl<T: Drop, P: ProgramField<T>> ProgramField<T> for ParseLast<P> {
-    ghost use Rattle.bpaf_exact.specs.Says.{repeated_kind};
     ghost use Rattle.bpaf_exact.proofs.SameParts.{some_shows};
-    ghost use Rattle.bpaf_exact.specs.ProgramForm.{program_last};
     ghost use Rattle.bpaf_exact.specs.ProgramSays.{said_last};
     ghost use Rattle.bpaf_exact.proofs.ByTables.{last_law};
     ghost use Rattle.bpaf_exact.proofs.ProgramSays.{program_last_says};
+    ghost use Rattle.bpaf_record.specs.Grammar.{last};
 
-    ghost keys = { λ p deep. P.keys p.inner deep };
-
-    ghost words = { λ p. [] };
-
-    ghost program_form = { λ p variables. program_last (P.program_form p.inner variables) };
-
-    ghost kind = { λ p variables. repeated_kind (P.kind p.inner variables) };
+    ghost grammar = { λ p. last (P.grammar p.inner) };
 
     ghost says = { λ variables. said_last (λ p. p.inner) (P.says variables) };
 
@@ -235,13 +197,14 @@ impl<T: Drop, P: ProgramField<T>> ProgramField<T> for ParseLast<P> {
         true
     }
 
-    ghost law = { λ p a variables.
-        last_law variables T _ (P.keys p.inner true) (P.words p.inner)
-        (P.program_form p.inner variables) (P.law p.inner a variables) };
+    ghost law = { λ p a variables. last_law variables T _ (keys_of (P.grammar p.inner) true)
+        (command_words (P.grammar p.inner)) (program_form (P.grammar p.inner) variables)
+        (P.law p.inner a variables) };
 
     ghost shows = { λ p. some_shows (P.shows p.inner) };
 
-    ghost said = { λ p a variables. program_last_says (λ p. p.inner) p (P.said p.inner a variables) };
+    ghost said = { λ p a variables.
+        program_last_says (λ p. p.inner) p (P.said p.inner a variables) };
 }
 
 impl<T: Drop, P: FlatField<T>> FlatField<T> for ParseLast<P> {}

@@ -2,6 +2,7 @@
 //! of such. A product of flat fields with such a look round it may stand in a program, but is no
 //! flat record; one that ends in commands is no program then.
 ghost use Rattle.std.specs.Prelude.{◌≡◌, true};
+ghost use Rattle.bpaf_record.specs.Grammar.{command_words, keys_of, program_form};
 
 use crate::field::{FlatField, ProgramField};
 use crate::keys::KeyTest;
@@ -11,18 +12,12 @@ use bpaf::parsers::{ParseGroupHelp, ParseHide, ParseUsage};
 
 impl<T, P: ProgramField<T>> ProgramField<T> for ParseUsage<P> {
     ghost use Rattle.bpaf_exact.proofs.SameParts.{usage_shows};
-    ghost use Rattle.bpaf_exact.specs.ProgramForm.{program_dressed};
     ghost use Rattle.bpaf_exact.specs.ProgramSays.{said_dressed};
     ghost use Rattle.bpaf_exact.proofs.ProgramForm.{program_dressed_law};
     ghost use Rattle.bpaf_exact.proofs.ProgramSays.{program_dressed_says};
+    ghost use Rattle.bpaf_record.specs.Grammar.{dressed};
 
-    ghost keys = { λ p deep. P.keys p.inner deep };
-
-    ghost words = { λ p. P.words p.inner };
-
-    ghost program_form = { λ p variables. program_dressed (P.program_form p.inner variables) };
-
-    ghost kind = { λ p. P.kind p.inner };
+    ghost grammar = { λ p. dressed (P.grammar p.inner) };
 
     ghost says = { λ variables. said_dressed (λ p. p.inner) (P.says variables) };
 
@@ -41,9 +36,9 @@ impl<T, P: ProgramField<T>> ProgramField<T> for ParseUsage<P> {
         self.inner.all_words(test)
     }
 
-    ghost law = { λ p a variables.
-        program_dressed_law variables T _ (P.keys p.inner true) (P.words p.inner)
-        (P.program_form p.inner variables) (P.law p.inner a variables) };
+    ghost law = { λ p a variables. program_dressed_law variables T _
+        (keys_of (P.grammar p.inner) true) (command_words (P.grammar p.inner))
+        (program_form (P.grammar p.inner) variables) (P.law p.inner a variables) };
 
     ghost shows = { λ p. usage_shows (P.shows p.inner) p.usage };
 
@@ -55,18 +50,12 @@ impl<T, P: FlatField<T>> FlatField<T> for ParseUsage<P> {}
 
 impl<T, P: ProgramField<T>> ProgramField<T> for ParseGroupHelp<P> {
     ghost use Rattle.bpaf_exact.proofs.SameParts.{section_shows};
-    ghost use Rattle.bpaf_exact.specs.ProgramForm.{program_dressed};
     ghost use Rattle.bpaf_exact.specs.ProgramSays.{said_dressed};
     ghost use Rattle.bpaf_exact.proofs.ProgramForm.{program_dressed_law};
     ghost use Rattle.bpaf_exact.proofs.ProgramSays.{program_dressed_says};
+    ghost use Rattle.bpaf_record.specs.Grammar.{dressed};
 
-    ghost keys = { λ p deep. P.keys p.inner deep };
-
-    ghost words = { λ p. P.words p.inner };
-
-    ghost program_form = { λ p variables. program_dressed (P.program_form p.inner variables) };
-
-    ghost kind = { λ p. P.kind p.inner };
+    ghost grammar = { λ p. dressed (P.grammar p.inner) };
 
     ghost says = { λ variables. said_dressed (λ p. p.inner) (P.says variables) };
 
@@ -85,9 +74,9 @@ impl<T, P: ProgramField<T>> ProgramField<T> for ParseGroupHelp<P> {
         self.inner.all_words(test)
     }
 
-    ghost law = { λ p a variables.
-        program_dressed_law variables T _ (P.keys p.inner true) (P.words p.inner)
-        (P.program_form p.inner variables) (P.law p.inner a variables) };
+    ghost law = { λ p a variables. program_dressed_law variables T _
+        (keys_of (P.grammar p.inner) true) (command_words (P.grammar p.inner))
+        (program_form (P.grammar p.inner) variables) (P.law p.inner a variables) };
 
     ghost shows = { λ p. section_shows (P.shows p.inner) p.message };
 
@@ -102,18 +91,12 @@ impl<T, P: FlatField<T>> FlatField<T> for ParseGroupHelp<P> {}
 impl<T, P: ProgramField<T>> ProgramField<T> for ParseHide<P> {
     ghost use Rattle.bpaf_doc.specs.Shape.{Skip};
     ghost use Rattle.bpaf_exact.proofs.SameParts.{one_shape};
-    ghost use Rattle.bpaf_exact.specs.ProgramForm.{program_dressed};
     ghost use Rattle.bpaf_exact.specs.ProgramSays.{said_dressed};
     ghost use Rattle.bpaf_exact.proofs.ByTables.{hide_law};
     ghost use Rattle.bpaf_exact.proofs.ProgramSays.{program_dressed_says};
+    ghost use Rattle.bpaf_record.specs.Grammar.{dressed};
 
-    ghost keys = { λ p deep. P.keys p.inner deep };
-
-    ghost words = { λ p. P.words p.inner };
-
-    ghost program_form = { λ p variables. program_dressed (P.program_form p.inner variables) };
-
-    ghost kind = { λ p. P.kind p.inner };
+    ghost grammar = { λ p. dressed (P.grammar p.inner) };
 
     ghost says = { λ variables. said_dressed (λ p. p.inner) (P.says variables) };
 
@@ -132,9 +115,9 @@ impl<T, P: ProgramField<T>> ProgramField<T> for ParseHide<P> {
         self.inner.all_words(test)
     }
 
-    ghost law = { λ p a variables.
-        hide_law variables T _ (P.keys p.inner true) (P.words p.inner)
-        (P.program_form p.inner variables) (P.law p.inner a variables) };
+    ghost law = { λ p a variables. hide_law variables T _ (keys_of (P.grammar p.inner) true)
+        (command_words (P.grammar p.inner)) (program_form (P.grammar p.inner) variables)
+        (P.law p.inner a variables) };
 
     ghost shows = { λ p. one_shape Skip };
 

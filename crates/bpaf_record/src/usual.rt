@@ -3,6 +3,7 @@ ghost use Rattle.std.specs.Prelude.{◌≡◌, false};
 ghost use Rattle.std.specs.List.{list_all};
 ghost use Rattle.bpaf_exact.specs.Names.{are_apart};
 ghost use Rattle.bpaf_record.specs.Record.{are_unusual};
+ghost use Rattle.bpaf_record.specs.Grammar.{keys_of};
 
 use crate::field::ProgramField;
 use crate::keys::{ApartFrom, ApartFromUsual};
@@ -10,7 +11,8 @@ use bpaf::Info;
 
 /// Whether its keys, but for those inside commands, are apart from the key for help.
 fn apart_from_help<T, P: ProgramField<T>>(parser: &P, info: &Info) -> bool
-    ensures { result ≡ list_all (are_apart info.now.help_arg.names) (P.keys parser.now false) }
+    ensures { result ≡ list_all (are_apart info.now.help_arg.names)
+        (keys_of (P.grammar parser.now) false) }
 {
     match &info.help_arg {
         Some(key) => parser.all_keys(&ApartFrom { key, deep: false }),
@@ -23,7 +25,8 @@ fn apart_from_help<T, P: ProgramField<T>>(parser: &P, info: &Info) -> bool
 
 /// Whether they are apart from the key for the version.
 fn apart_from_version<T, P: ProgramField<T>>(parser: &P, info: &Info) -> bool
-    ensures { result ≡ list_all (are_apart info.now.version_arg.names) (P.keys parser.now false) }
+    ensures { result ≡ list_all (are_apart info.now.version_arg.names)
+        (keys_of (P.grammar parser.now) false) }
 {
     match &info.version_arg {
         Some(key) => parser.all_keys(&ApartFrom { key, deep: false }),
@@ -37,7 +40,7 @@ fn apart_from_version<T, P: ProgramField<T>>(parser: &P, info: &Info) -> bool
 /// Whether its keys, but for those inside commands, are apart from both. The names of version count
 /// also where no version is set.
 pub(crate) fn are_unusual<T, P: ProgramField<T>>(parser: &P, info: &Info) -> bool
-    ensures { result ≡ are_unusual (P.keys parser.now false) info.now }
+    ensures { result ≡ are_unusual (keys_of (P.grammar parser.now) false) info.now }
 {
     let help = apart_from_help::<T, P>(parser, info);
     let version = apart_from_version::<T, P>(parser, info);

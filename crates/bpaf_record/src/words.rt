@@ -3,6 +3,7 @@ ghost use Rattle.std.specs.Prelude.{◌≡◌, ◌++◌, not, bytes_eq, encode_u
 ghost use Rattle.std.specs.List.{list_all};
 ghost use Rattle.bpaf_laws.specs.Command.{opening_words};
 ghost use Rattle.bpaf_exact.specs.Programs.{is_dashed};
+ghost use Rattle.bpaf_record.specs.Grammar.{command_words};
 
 use crate::field::ProgramField;
 use bpaf::Text;
@@ -43,7 +44,8 @@ pub(crate) struct NoWordOf<'a, T, P> {
 }
 
 impl<T, P: ProgramField<T>> WordTest for NoWordOf<'_, T, P> {
-    ghost accepts = { λ t word. list_all (λ other. not (bytes_eq word other)) (P.words t.other.now) };
+    ghost accepts = { λ t word. list_all (λ other. not (bytes_eq word other))
+        (command_words (P.grammar t.other.now)) };
 
     fn test(&self, word: &str) -> bool {
         self.other.all_words(&OtherThan { word })

@@ -1,6 +1,7 @@
 //! A row of a test: a program, and words that are lent.
 ghost use Rattle.std.specs.Prelude.{◌≡◌, false, true};
 ghost use Rattle.bpaf_words.specs.Arguments.{given_of};
+ghost use Rattle.bpaf_record.specs.Grammar.{keys_of, program_form};
 ghost use Rattle.bpaf_record.specs.Program.{IsProgramValueOf, is_whole_program};
 ghost use Rattle.bpaf_record.specs.Record.{IsValueOrWant};
 
@@ -17,14 +18,12 @@ pub fn answer_row<T: Drop, P: ProgramField<T>>(
 ) -> Result<T, ParseFailure>
     requires can { P.can_eval options.now.inner }
     requires agrees { P.agrees options.now.inner }
-    requires program { is_whole_program (P.program_form options.now.inner (given_of args).env)
-        (P.keys options.now.inner false) options.now.info ≡ true }
-    ensures { (value : T)
-        → IsProgramValueOf (P.describes options.now.inner) options.now.info
-        (P.program_form options.now.inner (given_of args.entry).env) (given_of args.entry) value
-        → IsValueOrWant (IsProgramValueOf (P.describes options.now.inner) options.now.info
-        (P.program_form options.now.inner (given_of args.entry).env) (given_of args.entry))
-        result }
+    requires program { is_whole_program (program_form (P.grammar options.now.inner) (given_of args).env)
+        (keys_of (P.grammar options.now.inner) false) options.now.info ≡ true }
+    ensures { let form = program_form (P.grammar options.now.inner) (given_of args.entry).env in
+        let is_value = IsProgramValueOf (P.describes options.now.inner) options.now.info form
+        (given_of args.entry) in
+        (value : T) → is_value value → IsValueOrWant is_value result }
 {
     see_texts(args);
     options.run_program(args)

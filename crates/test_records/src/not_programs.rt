@@ -112,12 +112,14 @@ fn is_one_product(alloc: Global) -> Result<bool, AllocError> {
     )
 }
 
-/// Whether a product is one as a field before a command, or with a closure round it.
-fn is_round_whole<T: Drop, P: ProgramField<T> + Drop>(
+/// Whether a product of two fields is one as a field before a command, or with a closure round it.
+fn are_round_whole<A: Drop, B: Drop, P: ProgramField<A> + Drop, Q: ProgramField<B> + Drop>(
     alloc: Global,
-    product: P,
+    first: P,
+    second: Q,
     inside: bool,
 ) -> Result<bool, AllocError> {
+    let product = construct!(first, second);
     if inside {
         are_whole(alloc, product, add(alloc)?)
     } else {
@@ -128,13 +130,10 @@ fn is_round_whole<T: Drop, P: ProgramField<T> + Drop>(
 /// Of products that stand where none may, whether one is: with a word, before a command; and with a
 /// closure round it.
 fn is_one_inside(alloc: Global) -> Result<bool, AllocError> {
-    let verbose = switch(alloc, 'v')?;
-    let file = word();
-    let fields = construct!(verbose, file);
-    let quiet = switch(alloc, 'q')?;
-    let add = add(alloc)?;
-    let ends = construct!(quiet, add);
-    Ok(is_round_whole(alloc, fields, true)? || is_round_whole(alloc, ends, false)?)
+    Ok(
+        are_round_whole(alloc, switch(alloc, 'v')?, word(), true)?
+            || are_round_whole(alloc, switch(alloc, 'q')?, add(alloc)?, false)?,
+    )
 }
 
 /// Of a command that may be left out and catches, and of one under a repeat, whether one is.

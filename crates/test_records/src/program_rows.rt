@@ -6,18 +6,20 @@ use bpaf::parsers::{ParseCommand, ParseOrElse};
 use bpaf::{Args, Doc, Parser, choice, construct, long, pure, short};
 use bpaf_record::{CommandLine, ProgramField};
 use std::alloc::{AllocError, Global};
+use std::collections::BTreeMap;
 use std::fmt::Debug;
 use std::test::Fail;
 use test_support::{number, switch};
 
 /// Whether an answer is that of a row: its text, or a message where it is refused.
-pub(crate) fn is_answer(found: &str, wanted: &str) -> bool {
+fn is_answer(found: &str, wanted: &str) -> bool {
     found == wanted || (wanted == "refused" && found.starts_with("err "))
 }
 
-/// Runs a program on the words of each row, and compares the answers.
-fn compare<T: Debug + Drop, P: ProgramField<T> + Drop>(
+/// Runs a program in an environment on the words of each row, and compares the answers.
+pub(crate) fn compare_in<T: Debug + Drop, P: ProgramField<T> + Drop>(
     alloc: Global,
+    variables: &BTreeMap<String, String>,
     parser: P,
     rows: &[Row<'_>],
 ) -> Result<(), Fail>
@@ -29,13 +31,38 @@ fn compare<T: Debug + Drop, P: ProgramField<T> + Drop>(
     }
     for (words, wanted) in rows {
         let line: Vec<&str> = words.split_whitespace().collect(alloc)?;
-        let answer = options.run_program(Args::from(line.as_slice()));
+        let args = Args::from(line.as_slice()).set_env(variables);
+        let answer = options.run_program(args);
         let found = told(alloc, answer)?;
         if !is_answer(found.as_str(), wanted) {
             return Err(Fail::new(found));
         }
     }
     Ok(())
+}
+
+/// The same where no variable is set.
+fn compare<T: Debug + Drop, P: ProgramField<T> + Drop>(
+    alloc: Global,
+    parser: P,
+    rows: &[Row<'_>],
+) -> Result<(), Fail>
+    requires { P.can_eval parser }
+{
+    compare_in(alloc, &BTreeMap::new(alloc), parser, rows)
+}
+
+/// The same of two fields.
+fn compare_two<
+    A: Debug + Drop,
+    B: Debug + Drop,
+    P: ProgramField<A> + Drop,
+    Q: ProgramField<B> + Drop,
+>(alloc: Global, first: P, last: Q, rows: &[Row<'_>]) -> Result<(), Fail>
+    requires first { P.can_eval first }
+    requires last { Q.can_eval last }
+{
+    compare(alloc, construct!(first, last), rows)
 }
 
 /// The same of the switch `-v`, and commands behind it.
@@ -46,8 +73,7 @@ fn compare_behind<T: Debug + Drop, P: ProgramField<T> + Drop>(
 ) -> Result<(), Fail>
     requires { P.can_eval last }
 {
-    let verbose = switch(alloc, 'v')?;
-    compare(alloc, construct!(verbose, last), rows)
+    compare_two(alloc, switch(alloc, 'v')?, last, rows)
 }
 
 /// A command over a number.
@@ -157,11 +183,9 @@ fn products_with_words_run_inside_others(rt: HostRuntime) -> Result<(), Fail> {
     let quiet = switch(alloc, 'q')?;
     let files = word().many();
     compare_behind(alloc, construct!(quiet, files), PRODUCT_WITH_WORDS)?;
-    let first = word();
     let second = word();
     let files = word().many();
-    let rest = construct!(second, files);
-    compare(alloc, construct!(first, rest), WORDS_OF_PRODUCTS)
+    compare_two(alloc, word(), construct!(second, files), WORDS_OF_PRODUCTS)
 }
 
 const COMMAND_CLOSED: &[Row<'static>] = &[
@@ -377,11 +401,9 @@ const WORD_BEFORE_LEFT_OUT: &[Row<'static>] = &[
 fn words_on_both_sides_run_as_programs(rt: HostRuntime) -> Result<(), Fail> {
     let alloc = rt.alloc();
     let before = word().non_strict().many();
-    let behind = word().strict().many();
-    compare(alloc, construct!(before, behind), WORDS_ON_BOTH_SIDES)?;
+    compare_two(alloc, before, word().strict().many(), WORDS_ON_BOTH_SIDES)?;
     let before = word().non_strict().optional();
-    let behind = word().strict().many();
-    compare(alloc, construct!(before, behind), WORD_BEFORE_LEFT_OUT)
+    compare_two(alloc, before, word().strict().many(), WORD_BEFORE_LEFT_OUT)
 }
 
 const ADJACENT: &[Row<'static>] = &[
@@ -412,6 +434,5 @@ fn a_group_of_options_runs_as_a_program(rt: HostRuntime) -> Result<(), Fail> {
     let verbose = switch(alloc, 'v')?;
     let num = number(alloc, 'n')?;
     let group = construct!(verbose, num).group_help(Doc::new(alloc));
-    let file = word();
-    compare(alloc, construct!(group, file), GROUP)
+    compare_two(alloc, group, word(), GROUP)
 }

@@ -1,9 +1,9 @@
 //! Worked rows of keys with names in the environment through `run_program`.
-use crate::program_rows::is_answer;
-use crate::record_rows::{Row, told};
+use crate::program_rows::compare_in;
+use crate::record_rows::Row;
 use bpaf::params::ParseArgument;
-use bpaf::{Args, Parser, construct, env, short};
-use bpaf_record::{CommandLine, ProgramField};
+use bpaf::{Parser, construct, env, short};
+use bpaf_record::ProgramField;
 use std::alloc::{AllocError, Global};
 use std::collections::BTreeMap;
 use std::fmt::Debug;
@@ -28,21 +28,7 @@ fn compare<T: Debug + Drop, P: ProgramField<T> + Drop>(
 ) -> Result<(), Fail>
     requires { P.can_eval parser }
 {
-    let options = parser.to_options(alloc)?;
-    if !options.is_program() {
-        return Err(Fail::new("no program"));
-    }
-    let variables = variables(alloc)?;
-    for (words, wanted) in rows {
-        let line: Vec<&str> = words.split_whitespace().collect(alloc)?;
-        let args = Args::from(line.as_slice()).set_env(&variables);
-        let answer = options.run_program(args);
-        let found = told(alloc, answer)?;
-        if !is_answer(found.as_str(), wanted) {
-            return Err(Fail::new(found));
-        }
-    }
-    Ok(())
+    compare_in(alloc, &variables(alloc)?, parser, rows)
 }
 
 /// The argument `NUM` of a name, or of a variable.

@@ -1,0 +1,113 @@
+-- The grammar of programs: of which parsers they are made, and by which steps.
+use Rattle.std.specs.Prelude.{ℕ, Bool, false, true, List, [], ◌∷◌, ◌++◌, Option, flat_map}
+use Rattle.bpaf_doc.specs.Names.{Names}
+use Rattle.bpaf_text.specs.Named.{Named as Key, KeyWithValue}
+use Rattle.bpaf_laws.specs.Command.{Called, opening_words}
+use Rattle.bpaf.specs.declared.leaves.positional.Position.{Position}
+use Rattle.bpaf.specs.Info.{RunInfo}
+use Rattle.bpaf_exact.specs.Flat.{ByName, OneWord, Variables}
+use Rattle.bpaf_exact.specs.Leaves.{pure_field}
+use Rattle.bpaf_exact.specs.ProgramForm.{ProgramForm, no_program, plain, program_alone}
+use Rattle.bpaf_exact.specs.ProgramForm.{program_both, program_choice, program_choices}
+use Rattle.bpaf_exact.specs.ProgramForm.{program_closed, program_command, program_con}
+use Rattle.bpaf_exact.specs.ProgramForm.{program_dressed, program_fallback, program_field}
+use Rattle.bpaf_exact.specs.ProgramForm.{program_last, program_optional, program_repeat}
+use Rattle.bpaf_exact.specs.ProgramSays.{program_kind}
+use Rattle.bpaf_exact.specs.Says.{SaidKind, of_kind, repeated_kind}
+use Rattle.bpaf_exact.specs.Variables.{argument_form, flag_form}
+use Rattle.bpaf_exact.specs.Wrappers.{Closure}
+use Rattle.bpaf_record.specs.Commands.{keys_inside}
+use Rattle.bpaf_record.specs.Positional.{is_sided, positional_field, stops_at}
+use Rattle.bpaf_record.specs.Record.{are_unusual}
+
+-- what a parser is made of: what it is by itself, or a step and the parsers inside
+pub data Grammar : Type 0 → Type 1 where
+  flag : {T : Type 0} → (clones : T → T → Type 0) → Key → (present : T) → (absent : Option T)
+      → Grammar T
+  argument : {T : Type 0} → (means : List ℕ → T → Type 0) → KeyWithValue → Grammar T
+  word : {T : Type 0} → (means : List ℕ → T → Type 0) → Position → Grammar T
+  kept : {T : Type 0} → (given : T → Type 0) → Grammar T
+  -- a parser of a caller's own, which is nothing to a program
+  other : {T : Type 0} → Grammar T
+  closed : {A B : Type 0} → Closure A B → Grammar A → Grammar B
+  dressed : {T : Type 0} → Grammar T → Grammar T
+  optional : {T : Type 0} → (catch : Bool) → Grammar T → Grammar (Option T)
+  fallback : {T : Type 0} → Closure (Unit {0}) T → Grammar T → Grammar T
+  repeat : {A B : Type 0} → (catch : Bool) → Closure (List A) B → Grammar A → Grammar B
+  last : {T : Type 0} → Grammar T → Grammar T
+  choice : {T : Type 0} → Grammar T → Grammar T → Grammar T
+  choices : {P T : Type 0} → (P → Grammar T) → List P → Grammar T
+  command : {T : Type 0} → (adjacent : Bool) → Called → RunInfo → Grammar T → Grammar T
+  -- the fields of a product, of which the last stands alone, and what makes a value of theirs
+  alone : {T : Type 0} → Grammar T → Grammar T
+  both : {A B : Type 0} → Grammar A → Grammar B → Grammar (A × B)
+  product : {A B : Type 0} → Closure A B → Grammar A → Grammar B
+
+-- the names of its flags and arguments, one after the other, with or without those inside commands
+abbrev pub keys_of : {T : Type 0} → Grammar T → Bool → List Names
+keys_of (flag clones key present absent) deep = key.names ∷ []
+keys_of (argument means key) deep = key.named.names ∷ []
+keys_of (closed f g) deep = keys_of g deep
+keys_of (dressed g) deep = keys_of g deep
+keys_of (optional catch g) deep = keys_of g deep
+keys_of (fallback f g) deep = keys_of g deep
+keys_of (repeat catch f g) deep = keys_of g deep
+keys_of (last g) deep = keys_of g deep
+keys_of (choice g h) deep = keys_of g deep ++ keys_of h deep
+keys_of (choices of ps) deep = flat_map (λ p. keys_of (of p) deep) ps
+keys_of (command adjacent called info g) deep = keys_inside deep (keys_of g deep)
+keys_of (alone g) deep = keys_of g deep
+keys_of (both g h) deep = keys_of g deep ++ keys_of h deep
+keys_of (product f g) deep = keys_of g deep
+keys_of _ deep = []
+
+-- the words of its commands, where it is a command or a choice of such
+abbrev pub command_words : {T : Type 0} → Grammar T → List (List ℕ)
+command_words (closed f g) = command_words g
+command_words (dressed g) = command_words g
+command_words (choice g h) = command_words g ++ command_words h
+command_words (choices of ps) = flat_map (λ p. command_words (of p)) ps
+command_words (command adjacent called info g) = opening_words called
+command_words _ = []
+
+-- what it is to a program where the environment has these variables
+abbrev pub program_form : {T : Type 0} → Grammar T → Variables → ProgramForm T
+program_form (flag clones key present absent) variables =
+    flag_form clones key present absent variables
+program_form (argument means key) variables = argument_form means key variables
+program_form (word means position) variables =
+    plain (is_sided position) (positional_field means position)
+program_form (kept given) variables = plain true (pure_field given)
+program_form other variables = no_program
+program_form (closed f g) variables = program_closed f (program_form g variables)
+program_form (dressed g) variables = program_dressed (program_form g variables)
+program_form (optional catch g) variables = program_optional catch (program_form g variables)
+program_form (fallback f g) variables = program_fallback f (program_form g variables)
+program_form (repeat catch f g) variables = program_repeat catch f (program_form g variables)
+program_form (last g) variables = program_last (program_form g variables)
+program_form (choice g h) variables =
+    program_choice (keys_of g true) (keys_of h true) (command_words g) (command_words h)
+    (program_form g variables) (program_form h variables)
+program_form (choices of ps) variables =
+    program_choices (λ p. keys_of (of p) true) (λ p. command_words (of p))
+    (λ p. program_form (of p) variables) ps
+program_form (command adjacent called info g) variables =
+    program_command adjacent (are_unusual (keys_of g false) info) called
+    (program_form g variables)
+program_form (alone g) variables = program_alone (program_field (program_form g variables))
+program_form (both g h) variables =
+    program_both (keys_of g true) (keys_of h true) (program_field (program_form g variables))
+    (program_form h variables)
+program_form (product f g) variables = program_con f (program_form g variables)
+
+-- whether its pieces are keys or words, and how many of the words it takes
+abbrev pub said_kind : {T : Type 0} → Grammar T → Variables → SaidKind
+said_kind (word means position) variables = of_kind (OneWord (stops_at position))
+said_kind (closed f g) variables = said_kind g variables
+said_kind (dressed g) variables = said_kind g variables
+said_kind (optional catch g) variables = said_kind g variables
+said_kind (fallback f g) variables = said_kind g variables
+said_kind (repeat catch f g) variables = repeated_kind (said_kind g variables)
+said_kind (last g) variables = repeated_kind (said_kind g variables)
+said_kind (product f g) variables = program_kind (program_form g variables)
+said_kind _ variables = of_kind ByName
