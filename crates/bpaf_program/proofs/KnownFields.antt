@@ -15,13 +15,15 @@ use Rattle.bpaf.specs.declared.leaves.positional.Position.{Position}
 use Rattle.bpaf.specs.declared.leaves.positional.Position.TheVariants.{Unrestricted, Strict}
 use Rattle.bpaf.specs.declared.leaves.positional.Position.TheVariants.{NonStrict}
 use Rattle.bpaf.specs.Positional.{PositionalOutcome, positional_shape}
-use Rattle.bpaf_exact.proofs.Arguments.{argument_field_law}
-use Rattle.bpaf_exact.proofs.Flags.{flag_field_law}
+use Rattle.bpaf_exact.proofs.Arguments.{argument_form_law}
+use Rattle.bpaf_exact.proofs.Flags.{flag_form_law}
 use Rattle.bpaf_exact.proofs.ByTables.{fallback_law, many_law, optional_law}
+use Rattle.bpaf_record.specs.Grammar.{Grammar, argument, command_words, keys_of, program_form}
+use Rattle.bpaf_record.specs.Grammar.{word}
 use Rattle.bpaf_record.specs.Positional.{positional_field_law}
-use Rattle.bpaf_program.specs.KnownFields.{known_argument, known_default, known_many}
-use Rattle.bpaf_program.specs.KnownFields.{known_optional, known_switch, known_word}
-use Rattle.bpaf_program.specs.KnownParser.{IsKnownParser, KnownParser, ShowsShorts, no_shorts}
+use Rattle.bpaf_program.specs.KnownFields.{known_default, known_many, known_optional}
+use Rattle.bpaf_program.specs.KnownFields.{known_switch}
+use Rattle.bpaf_program.specs.KnownParser.{IsKnownParser, ShowsShorts, no_shorts, shown_shorts}
 use Rattle.bpaf_exact.proofs.Narrow.{no_more}
 use Rattle.bpaf_exact.proofs.ProgramForm.{narrower_program_form}
 use Rattle.bpaf_laws.proofs.Clones.{fallback_kept}
@@ -33,7 +35,7 @@ switch_shows : (shorts : List ℕ) (longs : List (List ℕ)) (help : Option (Lis
     → let names : Names = record { shorts = shorts; longs = longs } in
     ShowsShorts
     (λ shape. shape ≡ flag_shape (record (key_named names) { help = help }) (Some false))
-    (known_switch names).shorts
+    (shown_shorts (known_switch names))
 switch_shows [] [] help = one_shows _
 switch_shows [] (long ∷ longs) help = one_shows _
 switch_shows (short ∷ shorts) [] help = one_shows _
@@ -47,18 +49,18 @@ pub switch_known : (names : Names) (help : Option (List Piece)) {named : Named}
     (λ shape. shape ≡ flag_shape named absent)
 switch_known names help named_is present_is absent_is =
     rw (named_is, present_is, absent_is) (record {
-      law = λ env. flag_field_law env Bool IsKept (record (key_named names) { help = help }) true
-          (Some false) refl;
+      law = λ env. flag_form_law Bool IsKept (record (key_named names) { help = help }) true
+          (Some false) env [];
       shown = switch_shows names.shorts names.longs help;
     })
 
--- an argument without a name in the environment
+-- an argument
 pub argument_known : {T : Type 0} (means : List ℕ → T → Type 0) (key : KeyWithValue)
-    → key.named.envs ≡ [] → {argument : KeyWithValue} → argument ≡ key
-    → IsKnownParser (known_argument means key) (ArgumentOutcome means argument)
-    (λ shape. shape ≡ argument_shape argument)
-argument_known {T} means key bare is =
-    rw is (record { law = λ env. argument_field_law env T means key bare; shown = one_shows _ })
+    {own : KeyWithValue} → own ≡ key
+    → IsKnownParser (argument means key) (ArgumentOutcome means own)
+    (λ shape. shape ≡ argument_shape own)
+argument_known {T} means key is =
+    rw is (record { law = λ env. argument_form_law T means key env []; shown = one_shows _ })
 
 -- a word shows no short name
 word_shows : (place : Position) (metavar : List ℕ) (help : Option (List Piece))
@@ -70,7 +72,7 @@ word_shows NonStrict metavar help = one_shows _
 -- a word
 pub word_known : {T : Type 0} (means : List ℕ → T → Type 0) (place : Position)
     {position : Position} → position ≡ place → {metavar : List ℕ} (help : Option (List Piece))
-    → IsKnownParser (known_word means place) (PositionalOutcome means position metavar)
+    → IsKnownParser (word means place) (PositionalOutcome means position metavar)
     (λ shape. shape ≡ positional_shape position metavar help)
 word_known {T} means place is {metavar} help =
     rw is (record {
@@ -78,14 +80,15 @@ word_known {T} means place is {metavar} help =
       shown = word_shows place metavar help;
     })
 
-module _ {T : Type 0} {known : KnownParser T} {outcome : Outcome T} {describes : Shape → Type 0}
+module _ {T : Type 0} {known : Grammar T} {outcome : Outcome T} {describes : Shape → Type 0}
     (is : IsKnownParser known outcome describes) where
   -- a repeat
   pub many_known : {catch : Bool} → catch ≡ false
       → IsKnownParser (known_many known) (ManyOutcome outcome catch) (ManyDescribes describes)
   many_known none =
       rw none (record {
-        law = λ env. many_law env T outcome false known.all known.words known.form (is.law env);
+        law = λ env. many_law env T outcome false (keys_of known true) (command_words known)
+            (program_form known env) (is.law env);
         shown = many_shows is.shown;
       })
 
@@ -95,7 +98,8 @@ module _ {T : Type 0} {known : KnownParser T} {outcome : Outcome T} {describes :
       (OptionalDescribes describes)
   optional_known none =
       rw none (record {
-        law = λ env. optional_law env T outcome false known.all known.words known.form (is.law env);
+        law = λ env. optional_law env T outcome false (keys_of known true)
+            (command_words known) (program_form known env) (is.law env);
         shown = optional_shows is.shown;
       })
 
@@ -108,7 +112,8 @@ module _ {T : Type 0} {known : KnownParser T} {outcome : Outcome T} {describes :
   default_known {clones} equal value is_kept shown =
       rw is_kept (record {
         law = λ env. narrower_program_form env T _ _
-            (no_more (λ s t r o. fallback_kept equal outcome value s r t o)) known.all [] _
-            (fallback_law env T outcome IsKept value known.all known.words known.form (is.law env));
+            (no_more (λ s t r o. fallback_kept equal outcome value s r t o))
+            (keys_of known true) [] _ (fallback_law env T outcome IsKept value
+            (keys_of known true) (command_words known) (program_form known env) (is.law env));
         shown = default_shows is.shown shown;
       })

@@ -19,22 +19,24 @@ use Rattle.bpaf.specs.Ending.{EndsRun}
 use Rattle.bpaf.specs.Info.{RunInfo, plain_info}
 use Rattle.bpaf.specs.Known.{known_names}
 use Rattle.bpaf.specs.Run.{RunsWords}
-use Rattle.bpaf_exact.specs.ProgramForm.{is_program, program_field, program_value}
+use Rattle.bpaf_exact.specs.ProgramForm.{is_program, program_field}
 use Rattle.bpaf_exact.proofs.Narrow.{AllowsNoMore, no_more}
 use Rattle.bpaf_exact.proofs.ProgramForm.{narrower_program_form, program_alone_law}
 use Rattle.bpaf_exact.proofs.ProgramForm.{program_both_law, program_choice_law, program_con_law}
 use Rattle.bpaf_exact.proofs.ProgramForm.{program_field_law}
 use Rattle.bpaf_exact.proofs.ByTables.{map_law}
 use Rattle.bpaf_record.specs.Commands.{plain_command_law}
+use Rattle.bpaf_record.specs.Grammar.{Grammar, alone, both, choice, command_words, keys_of}
+use Rattle.bpaf_record.specs.Grammar.{program_form}
 use Rattle.bpaf_record.specs.Program.{AnswersAsProgram, IsProgramValueOf}
 use Rattle.bpaf_record.specs.Record.{IsValueOrWant}
 use Rattle.bpaf_record.proofs.OneLine.{same_names}
 use Rattle.bpaf_record.proofs.Programs as programs
 use Rattle.bpaf_program.specs.Fields.{IsPlainCommand}
-use Rattle.bpaf_program.specs.KnownParser.{AreKnownFields, IsKnownParser, KnownParser, ShowsShorts}
-use Rattle.bpaf_program.specs.KnownParser.{known_both, known_choice, known_command, known_con}
-use Rattle.bpaf_program.specs.KnownParser.{known_last, known_map, program_names}
-use Rattle.bpaf_program.specs.ReadBy.{AnswersProgramReadBy, IsProgramReadBy}
+use Rattle.bpaf_program.specs.KnownFields.{known_command, known_con, known_map}
+use Rattle.bpaf_program.specs.KnownParser.{AreKnownFields, IsKnownParser, IsValueBy, ShowsShorts}
+use Rattle.bpaf_program.specs.KnownParser.{program_names, shown_shorts}
+use Rattle.bpaf_program.specs.ReadBy.{IsExactFor}
 use Rattle.bpaf_program.proofs.Shown.{line_context}
 use Rattle.bpaf_program.proofs.ShownShorts.{both_show, choice_shows, command_shows, last_shows}
 use Rattle.bpaf_program.proofs.ShownShorts.{product_shows}
@@ -60,7 +62,7 @@ module _ {A B : Type 0} (inner : Outcome A) {answers wanted : A → B → Type 0
       by_answer s t (Err e) o = o
 
 -- a command over a program, which is one that was made by its word alone
-pub command_known : {T P : Type 0} (word : List ℕ) (known : KnownParser T) {parser : P}
+pub command_known : {T P : Type 0} (word : List ℕ) (known : Grammar T) {parser : P}
     {command made : ParseCommand T P} → command ≡ made → IsPlainCommand word parser made
     → {outcome : Outcome T} {describes : Shape → Type 0} → IsKnownParser known outcome describes
     → IsKnownParser (known_command word known)
@@ -74,110 +76,111 @@ command_known {T} word known {command = command} same plain {outcome} {describes
       ap (λ c. c.info) same ∙ plain.info,
     ) (record {
       law = λ env. plain_command_law env T outcome describes plain_info
-          (named_only word) _ true known.all
-          known.words known.form (is.law env);
+          (named_only word) _ _ (keys_of known true) (command_words known)
+          (program_form known env) (is.law env);
       shown = command_shows is.shown (named_only word) command.help;
     })
 
 -- a choice of commands
-pub choice_known : {T : Type 0} (first second : KnownParser T) {one two : Outcome T}
+pub choice_known : {T : Type 0} (first second : Grammar T) {one two : Outcome T}
     {describes shows : Shape → Type 0} → IsKnownParser first one describes
     → IsKnownParser second two shows
-    → IsKnownParser (known_choice first second) (ChoiceOutcome one two)
+    → IsKnownParser (choice first second) (ChoiceOutcome one two)
     (ChoiceDescribes describes shows)
 choice_known {T} first second {one} {two} these those = record {
-  law = λ env. program_choice_law env T one two first.all second.all first.words second.words
-      first.form
-      second.form (these.law env) (those.law env);
+  law = λ env. program_choice_law env T one two (keys_of first true) (keys_of second true)
+      (command_words first) (command_words second) (program_form first env)
+      (program_form second env) (these.law env) (those.law env);
   shown = choice_shows these.shown those.shown;
 }
 
 -- commands with a closure round them
-pub map_known : {A B : Type 0} (make : A → B) (known : KnownParser A) {outcome : Outcome A}
+pub map_known : {A B : Type 0} (make : A → B) (known : Grammar A) {outcome : Outcome A}
     {describes : Shape → Type 0} → IsKnownParser known outcome describes
     → {answers : A → B → Type 0} → ((x : A) (v : B) → answers x v → v ≡ make x)
     → IsKnownParser (known_map make known) (MapOutcome outcome answers) describes
 map_known {A} {B} make known {outcome} inner {answers} only = record {
-  law = λ env. narrower_program_form env B _ _ (map_within outcome only) known.all known.words _
-      (map_law env A B outcome (λ x v. v ≡ make x) known.all known.words known.form
-      (inner.law env));
+  law = λ env. narrower_program_form env B _ _ (map_within outcome only) (keys_of known true)
+      (command_words known) _ (map_law env A B outcome (λ x v. v ≡ make x)
+      (keys_of known true) (command_words known) (program_form known env) (inner.law env));
   shown = inner.shown;
 }
 
 -- commands as the last field
-pub last_known : {T : Type 0} (known : KnownParser T) {outcome : Outcome T}
+pub last_known : {T : Type 0} (known : Grammar T) {outcome : Outcome T}
     {describes : Shape → Type 0} → IsKnownParser known outcome describes
-    → AreKnownFields (known_last known) outcome (LastDescribes describes)
+    → AreKnownFields (alone known) outcome (LastDescribes describes)
 last_known {T} known {outcome} inner = record {
-  law = λ env. program_alone_law env T outcome known.all known.words (program_field known.form)
-      (program_field_law env T outcome known.all known.words known.form (inner.law env));
+  law = λ env. program_alone_law env T outcome (keys_of known true) (command_words known)
+      (program_field (program_form known env)) (program_field_law env T outcome
+      (keys_of known true) (command_words known) (program_form known env) (inner.law env));
   shown = last_shows inner.shown;
 }
 
 -- a field in front of others
-pub both_known : {A B : Type 0} (first : KnownParser A) (rest : KnownParser B) {one : Outcome A}
+pub both_known : {A B : Type 0} (first : Grammar A) (rest : Grammar B) {one : Outcome A}
     {outcome : Outcome B} {describes : Shape → Type 0} {describe : List Shape → Type 0}
     → IsKnownParser first one describes → AreKnownFields rest outcome describe
-    → AreKnownFields (known_both first rest) (BothOutcome one outcome)
+    → AreKnownFields (both first rest) (BothOutcome one outcome)
     (BothDescribes describes describe)
 both_known {A} {B} first rest {one} {outcome} is more = record {
-  law = λ env. program_both_law env A B one outcome first.all rest.all first.words
-      (program_field first.form)
-      rest.form (program_field_law env A one first.all first.words first.form (is.law env))
-      (more.law env);
+  law = λ env. program_both_law env A B one outcome (keys_of first true) (keys_of rest true)
+      (command_words first) (program_field (program_form first env)) (program_form rest env)
+      (program_field_law env A one (keys_of first true) (command_words first)
+      (program_form first env) (is.law env)) (more.law env);
   shown = both_show is.shown more.shown;
 }
 
 -- with a constructor
-pub con_known : {A B : Type 0} (make : A → B) (known : KnownParser A) {outcome : Outcome A}
+pub con_known : {A B : Type 0} (make : A → B) (known : Grammar A) {outcome : Outcome A}
     {describe : List Shape → Type 0} → AreKnownFields known outcome describe
     → {answers : A → B → Type 0} → ((x : A) (v : B) → answers x v → v ≡ make x)
     → IsKnownParser (known_con make known) (ProductOutcome outcome answers)
     (ProductDescribes describe)
 con_known {A} {B} make known {outcome} fields {answers} only = record {
-  law = λ env. narrower_program_form env B _ _ (con_within outcome only) known.all [] _
-      (program_con_law env A B outcome (λ x v. v ≡ make x) known.all known.form (fields.law env));
+  law = λ env. narrower_program_form env B _ _ (con_within outcome only) (keys_of known true) []
+      _ (program_con_law env A B outcome (λ x v. v ≡ make x) (keys_of known true)
+      (program_form known env) (fields.law env));
   shown = product_shows fields.shown;
 }
 
-module _ {T : Type 0} (known : KnownParser T) {describes : Shape → Type 0}
-    (shown : ShowsShorts describes known.shorts) (own : Given) where
+module _ {T : Type 0} (known : Grammar T) {describes : Shape → Type 0}
+    (shown : ShowsShorts describes (shown_shorts known)) (own : Given) where
   -- all that is shown has the known names
   names_are : (shape : Shape) → describes shape
-      → known_names plain_info shape ≡ program_names known.shorts
+      → known_names plain_info shape ≡ program_names (shown_shorts known)
   names_are shape is =
       same_names shown.same plain_info shape shown.shape is shown.shown
       ∙ ap program_names shown.are
 
   -- a value of the parser is one of the program's
-  to_own : (v : T) → IsProgramValueOf describes plain_info known.form own v
-      → IsProgramReadBy (program_names known.shorts) own (program_value known.form) v
+  to_own : (v : T) → IsProgramValueOf describes plain_info (program_form known own.env) own v
+      → IsValueBy known own v
   to_own v value = record {
     context = value.context;
-    is_context = line_context describes plain_info own (program_names known.shorts) names_are refl
-        value.context value.on_line;
+    is_context = line_context describes plain_info own (program_names (shown_shorts known))
+        names_are refl value.context value.on_line;
     read = value.read;
   }
 
   -- so is one that is answered, but for want of memory
   own_or_want : (r : Result T ParseFailure)
-      → IsValueOrWant (IsProgramValueOf describes plain_info known.form own) r
-      → IsValueOrWant (IsProgramReadBy (program_names known.shorts) own
-      (program_value known.form)) r
+      → IsValueOrWant (IsProgramValueOf describes plain_info (program_form known own.env) own) r
+      → IsValueOrWant (IsValueBy known own) r
   own_or_want (Ok v) value = to_own v value
   own_or_want (Err f) memory = memory
 
   -- an accepted value is one
   own_value : (r : Result T ParseFailure)
-      → IfOk r (IsProgramValueOf describes plain_info known.form own)
-      → IfOk r (IsProgramReadBy (program_names known.shorts) own (program_value known.form))
+      → IfOk r (IsProgramValueOf describes plain_info (program_form known own.env) own)
+      → IfOk r (IsValueBy known own)
   own_value (Ok v) value = to_own v value
   own_value (Err f) none = tt
 
   -- so an exact answer is exact for the program
   own_exactly : All IsUtf8 own.words → (r : Result T ParseFailure)
-      → AnswersAsProgram T describes plain_info known.form own r
-      → AnswersProgramReadBy (program_names known.shorts) own (program_value known.form) r
+      → AnswersAsProgram T describes plain_info (program_form known own.env) own r
+      → IsExactFor (IsValueBy known own) r
   own_exactly texts r exact = record {
     sound = own_value r exact.sound;
     complete = λ v value. own_or_want r (exact.answered texts v
@@ -194,14 +197,12 @@ module _ {T : Type 0} (known : KnownParser T) {describes : Shape → Type 0}
   }
 
 -- an answer of a run of a known program is exact for it
-pub program_exactly : {T : Type 0} (known : KnownParser T) → is_program known.form ≡ true
-    → {outcome : Outcome T} {describes : Shape → Type 0} {info : RunInfo} {given : Given}
-    {r : Result T ParseFailure} → RunsWords T outcome describes info given r
-    → IsKnownParser known outcome describes → info ≡ plain_info → (own : Given) → given ≡ own
-    → All IsUtf8 own.words
-    → AnswersProgramReadBy (program_names known.shorts) own (program_value known.form) r
-program_exactly {T} known program {outcome} {describes} {r = r} runs is info_is own given_is texts =
+pub program_exactly : {T : Type 0} (known : Grammar T) (own : Given)
+    → is_program (program_form known own.env) ≡ true → {outcome : Outcome T}
+    {describes : Shape → Type 0} {info : RunInfo} {given : Given} {r : Result T ParseFailure}
+    → RunsWords T outcome describes info given r → IsKnownParser known outcome describes
+    → info ≡ plain_info → given ≡ own → All IsUtf8 own.words → IsExactFor (IsValueBy known own) r
+program_exactly {T} known own program {outcome} {describes} {r = r} runs is info_is given_is texts =
     own_exactly known is.shown own texts r (programs.answers_as_program T outcome describes
-    plain_info known.all known.words known.form own
-    (is.law own.env) program
-    is.shown.same r (rw (info_is, given_is) at runs))
+    plain_info (keys_of known true) (command_words known) (program_form known own.env) own
+    (is.law own.env) program is.shown.same r (rw (info_is, given_is) at runs))

@@ -2,7 +2,9 @@
 pub use Rattle.bpaf_text.specs.Meaning.{SpellsUnsigned}
 pub use Rattle.bpaf.specs.declared.leaves.positional.Position.TheVariants.{Unrestricted}
 pub use Rattle.bpaf_exact.specs.OneView.{Alike}
-pub use Rattle.bpaf_program.specs.KnownParser.{known_last, known_map, program_names}
+pub use Rattle.bpaf_record.specs.Grammar.{alone}
+pub use Rattle.bpaf_program.specs.KnownFields.{known_map}
+pub use Rattle.bpaf_program.specs.KnownParser.{program_names, shown_shorts}
 pub use Rattle.bpaf_program.specs.Values.{MeansText}
 pub use Rattle.bpaf_program.proofs.KnownFields.{argument_known, default_known, many_known}
 pub use Rattle.bpaf_program.proofs.KnownFields.{optional_known}

@@ -1,18 +1,21 @@
--- What is known of the parsers that a function of a program is handed: keys, words of commands,
--- short names and form, each told by the program alone.
-use Rattle.std.specs.Prelude.{◌≡◌, true, false, List, [], ◌∷◌, ◌++◌, ℕ, codes}
-use Rattle.bpaf_doc.specs.Names.{Names}
+-- What is known of the parsers that a function of a program is handed: of what they are made, and
+-- the short names that they show.
+use Rattle.std.specs.Prelude.{◌≡◌, true, List, [], ◌++◌, codes, flat_map}
 use Rattle.bpaf_doc.specs.Shape.{Part, Shape, members}
 use Rattle.bpaf_doc.specs.Walks.{parts, parts_of_all, shorts_of_arguments, shorts_of_flags}
+use Rattle.bpaf_words.specs.Arguments.{Given}
 use Rattle.bpaf_words.specs.Spelling.{Known, ShortNames, knowing}
-use Rattle.bpaf_laws.specs.Command.{named_only}
+use Rattle.bpaf_laws.specs.Argument.{argument_shape}
+use Rattle.bpaf_laws.specs.Flag.{flag_shape}
 use Rattle.bpaf_laws.specs.Reading.{Outcome}
-use Rattle.bpaf_exact.specs.ProgramForm.{ProgramForm, ProgramFormLaw}
-use Rattle.bpaf_exact.specs.ProgramForm.{program_alone, program_both, program_choice, program_closed}
-use Rattle.bpaf_exact.specs.ProgramForm.{program_command, program_con, program_field}
+use Rattle.bpaf_exact.specs.Flat.{Variables}
+use Rattle.bpaf_exact.specs.ProgramForm.{ProgramFormLaw, program_value}
 use Rattle.bpaf_exact.specs.SameParts.{FieldsShowTheSame, ShowsTheSame}
 use Rattle.bpaf_exact.specs.Wrappers.{Closure, map_closure}
-use Rattle.bpaf_exact.specs.Flat.{Variables}
+use Rattle.bpaf_record.specs.Grammar.{Grammar, alone, argument, both, choice, choices, closed}
+use Rattle.bpaf_record.specs.Grammar.{command, command_words, dressed, fallback, flag, keys_of}
+use Rattle.bpaf_record.specs.Grammar.{last, optional, product, program_form, repeat}
+use Rattle.bpaf_program.specs.ReadBy.{IsProgramReadBy}
 
 -- the short names of flags and of arguments among parts
 abbrev pub shorts_of : List Part → ShortNames
@@ -42,66 +45,32 @@ program_names shorts =
       arguments = shorts.arguments;
     })
 
--- a parser: the names of its keys, those inside commands too; the words of its commands; the short
--- names that it shows; and what it is to a program
-pub record KnownParser (T : Type 0) : Type 1 where
-  pub all : List Names
-  pub words : List (List ℕ)
-  pub shorts : ShortNames
-  pub form : ProgramForm T
-
--- a command over a program
-abbrev pub known_command : {T : Type 0} → List ℕ → KnownParser T → KnownParser T
-known_command word program = record {
-  all = program.all;
-  words = word ∷ [];
-  shorts = program.shorts;
-  form = program_command false true (named_only word) program.form;
+-- the short names that a parser shows which is made so, of keys inside commands too
+abbrev pub shown_shorts : {T : Type 0} → Grammar T → ShortNames
+shown_shorts (flag clones key present absent) = shorts_of (parts (flag_shape key absent))
+shown_shorts (argument means key) = shorts_of (parts (argument_shape key))
+shown_shorts (closed f g) = shown_shorts g
+shown_shorts (dressed g) = shown_shorts g
+shown_shorts (optional catch g) = shown_shorts g
+shown_shorts (fallback f g) = shown_shorts g
+shown_shorts (repeat catch f g) = shown_shorts g
+shown_shorts (last g) = shown_shorts g
+shown_shorts (choice g h) = joined (shown_shorts g) (shown_shorts h)
+shown_shorts (choices of ps) = record {
+  flags = flat_map (λ p. (shown_shorts (of p)).flags) ps;
+  arguments = flat_map (λ p. (shown_shorts (of p)).arguments) ps;
 }
+shown_shorts (command adjacent called info g) = shown_shorts g
+shown_shorts (alone g) = shown_shorts g
+shown_shorts (both g h) = joined (shown_shorts g) (shown_shorts h)
+shown_shorts (product f g) = shown_shorts g
+shown_shorts _ = no_shorts
 
--- a choice of two
-abbrev pub known_choice : {T : Type 0} → KnownParser T → KnownParser T → KnownParser T
-known_choice first second = record {
-  all = first.all ++ second.all;
-  words = first.words ++ second.words;
-  shorts = joined first.shorts second.shorts;
-  form = program_choice first.all second.all first.words second.words first.form second.form;
-}
-
--- with a closure round it that makes this of a value
-abbrev pub known_map : {A B : Type 0} → (A → B) → KnownParser A → KnownParser B
-known_map make inner = record {
-  all = inner.all;
-  words = inner.words;
-  shorts = inner.shorts;
-  form = program_closed (makes make) inner.form;
-}
-
--- with this form in place of its own, and without the words of its commands
-abbrev pub known_as : {A B : Type 0} → ProgramForm B → KnownParser A → KnownParser B
-known_as form inner = record {
-  all = inner.all;
-  words = [];
-  shorts = inner.shorts;
-  form = form;
-}
-
--- as the last field
-abbrev pub known_last : {T : Type 0} → KnownParser T → KnownParser T
-known_last inner = known_as (program_alone (program_field inner.form)) inner
-
--- a field in front of others
-abbrev pub known_both : {A B : Type 0} → KnownParser A → KnownParser B → KnownParser (A × B)
-known_both first rest = record {
-  all = first.all ++ rest.all;
-  words = [];
-  shorts = joined first.shorts rest.shorts;
-  form = program_both first.all rest.all (program_field first.form) rest.form;
-}
-
--- with a constructor that makes this of the fields
-abbrev pub known_con : {A B : Type 0} → (A → B) → KnownParser A → KnownParser B
-known_con make fields = known_as (program_con (makes make) fields.form) fields
+-- v is a value of a program that is made so on the line of what it is given
+abbrev pub IsValueBy : {T : Type 0} → Grammar T → Given → T → Type 0
+IsValueBy g given =
+    IsProgramReadBy (program_names (shown_shorts g)) given
+    (program_value (program_form g given.env))
 
 -- a parser shows these short names, in each shape
 pub record ShowsShorts (describes : Shape → Type 0) (names : ShortNames) : Type 0 where
@@ -117,15 +86,17 @@ pub record FieldsShowShorts (describe : List Shape → Type 0) (names : ShortNam
   pub are : shorts_of (parts_of_all (members shapes)) ≡ names
   pub same : FieldsShowTheSame describe
 
--- a parser is known: it keeps to the law of its form, and shows the known short names
-pub record IsKnownParser {T : Type 0} (known : KnownParser T) (outcome : Outcome T)
+-- a parser is known: it keeps to the law of what it is made of, and shows the short names of that
+pub record IsKnownParser {T : Type 0} (made : Grammar T) (outcome : Outcome T)
     (describes : Shape → Type 0) : Type 0 where
   pub law : (variables : Variables)
-      → ProgramFormLaw variables outcome known.all known.words known.form
-  pub shown : ShowsShorts describes known.shorts
+      → ProgramFormLaw variables outcome (keys_of made true) (command_words made)
+      (program_form made variables)
+  pub shown : ShowsShorts describes (shown_shorts made)
 
 -- so are fields
-pub record AreKnownFields {T : Type 0} (known : KnownParser T) (outcome : Outcome T)
+pub record AreKnownFields {T : Type 0} (made : Grammar T) (outcome : Outcome T)
     (describe : List Shape → Type 0) : Type 0 where
-  pub law : (variables : Variables) → ProgramFormLaw variables outcome known.all [] known.form
-  pub shown : FieldsShowShorts describe known.shorts
+  pub law : (variables : Variables)
+      → ProgramFormLaw variables outcome (keys_of made true) [] (program_form made variables)
+  pub shown : FieldsShowShorts describe (shown_shorts made)

@@ -37,8 +37,3 @@ pub record IsExactFor {T : Type 0} (value : T → Type 0) (r : Result T ParseFai
 abbrev pub AnswersReadBy : {T : Type 0} → Known → Given → FlatForm T → Result T ParseFailure
     → Type 0
 AnswersReadBy known given form = IsExactFor (IsReadBy known given form)
-
--- for those of a program
-abbrev pub AnswersProgramReadBy : {T : Type 0} → Known → Given → CellsValue T
-    → Result T ParseFailure → Type 0
-AnswersProgramReadBy known given value = IsExactFor (IsProgramReadBy known given value)

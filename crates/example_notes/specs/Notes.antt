@@ -7,13 +7,12 @@ use Rattle.bpaf_text.specs.Named.{KeyWithValue}
 use Rattle.bpaf_words.specs.Arguments.{Given}
 use Rattle.bpaf_line.specs.declared.failure.ParseFailure.{ParseFailure}
 use Rattle.bpaf.specs.declared.leaves.positional.Position.TheVariants.{Unrestricted}
-use Rattle.bpaf_exact.specs.ProgramForm.{program_value}
+use Rattle.bpaf_record.specs.Grammar.{Grammar, alone, argument, both, choice, word}
 use Rattle.bpaf_program.specs.Fields.{plain_argument}
-use Rattle.bpaf_program.specs.KnownFields.{known_argument, known_default, known_many}
-use Rattle.bpaf_program.specs.KnownFields.{known_optional, known_switch, known_word}
-use Rattle.bpaf_program.specs.KnownParser.{KnownParser, known_both, known_choice, known_command}
-use Rattle.bpaf_program.specs.KnownParser.{known_con, known_last, known_map, program_names}
-use Rattle.bpaf_program.specs.ReadBy.{IsExactFor, IsProgramReadBy}
+use Rattle.bpaf_program.specs.KnownFields.{known_command, known_con, known_default, known_many}
+use Rattle.bpaf_program.specs.KnownFields.{known_map, known_optional, known_switch}
+use Rattle.bpaf_program.specs.KnownParser.{IsValueBy}
+use Rattle.bpaf_program.specs.ReadBy.{IsExactFor}
 use Rattle.bpaf_program.specs.Values.{MeansText, String}
 use Rattle.example_notes.specs.declared.options.Notes.{Notes}
 use Rattle.example_notes.specs.declared.options.Tag.{Tag}
@@ -42,89 +41,89 @@ abbrev pub max_key : KeyWithValue
 max_key = plain_argument (key (codes "n") (codes "max")) (codes "NUM")
 
 -- the texts behind each `-t`, and all words
-abbrev pub add_fields : KnownParser (Vec String × Vec String)
+abbrev pub add_fields : Grammar (Vec String × Vec String)
 add_fields =
-    known_both (known_many (known_argument MeansText tag_key))
-    (known_last (known_many (known_word MeansText Unrestricted)))
+    both (known_many (argument MeansText tag_key))
+    (alone (known_many (word MeansText Unrestricted)))
 
 -- a note of these
 abbrev pub add_of : Vec String × Vec String → Task
 add_of x = task.Add x.0 x.1
 
 -- `[-t TAG].. [TEXT]..`
-abbrev pub add_record : KnownParser Task
+abbrev pub add_record : Grammar Task
 add_record = known_con add_of add_fields
 
 -- the number behind `-n`, or 10
-abbrev pub max : KnownParser ℕ
-max = known_last (known_default 10 (known_argument (SpellsUnsigned 64) max_key))
+abbrev pub max : Grammar ℕ
+max = alone (known_default 10 (argument (SpellsUnsigned 64) max_key))
 
 -- `[-n NUM]`
-abbrev pub list_record : KnownParser Task
+abbrev pub list_record : Grammar Task
 list_record = known_con task.List max
 
 -- one word
-abbrev pub name : KnownParser String
-name = known_last (known_word MeansText Unrestricted)
+abbrev pub name : Grammar String
+name = alone (word MeansText Unrestricted)
 
 -- `NAME`, of which this is made
-abbrev pub name_record : (String → Tag) → KnownParser Tag
+abbrev pub name_record : (String → Tag) → Grammar Tag
 name_record make = known_con make name
 
 -- `add [-t TAG].. [TEXT]..`
-abbrev pub add_command : KnownParser Task
+abbrev pub add_command : Grammar Task
 add_command = known_command (codes "add") add_record
 
 -- `list [-n NUM]`
-abbrev pub list_command : KnownParser Task
+abbrev pub list_command : Grammar Task
 list_command = known_command (codes "list") list_record
 
 -- `add NAME`
-abbrev pub add_name : KnownParser Tag
+abbrev pub add_name : Grammar Tag
 add_name = known_command (codes "add") (name_record tag.Add)
 
 -- `remove NAME`
-abbrev pub remove_name : KnownParser Tag
+abbrev pub remove_name : Grammar Tag
 remove_name = known_command (codes "remove") (name_record tag.Remove)
 
 -- one of these two
-abbrev pub tag_commands : KnownParser Tag
-tag_commands = known_choice add_name remove_name
+abbrev pub tag_commands : Grammar Tag
+tag_commands = choice add_name remove_name
 
 -- `tag` and one of these
-abbrev pub on_tag : KnownParser Tag
+abbrev pub on_tag : Grammar Tag
 on_tag = known_command (codes "tag") tag_commands
 
 -- `list`, or this
-abbrev pub other_commands : KnownParser Task
-other_commands = known_choice list_command (known_map task.Tag on_tag)
+abbrev pub other_commands : Grammar Task
+other_commands = choice list_command (known_map task.Tag on_tag)
 
 -- one of all three
-abbrev pub commands : KnownParser Task
-commands = known_choice add_command other_commands
+abbrev pub commands : Grammar Task
+commands = choice add_command other_commands
 
 -- true where the switch stands, else false
-abbrev pub verbose : KnownParser Bool
+abbrev pub verbose : Grammar Bool
 verbose = known_switch verbose_names
 
 -- the directory, or None
-abbrev pub dir : KnownParser (Option String)
-dir = known_optional (known_argument MeansText dir_key)
+abbrev pub dir : Grammar (Option String)
+dir = known_optional (argument MeansText dir_key)
 
 -- the argument and a command
-abbrev pub dir_fields : KnownParser (Option String × Task)
-dir_fields = known_both dir (known_last commands)
+abbrev pub dir_fields : Grammar (Option String × Task)
+dir_fields = both dir (alone commands)
 
 -- the switch and these
-abbrev pub fields : KnownParser (Bool × (Option String × Task))
-fields = known_both verbose dir_fields
+abbrev pub fields : Grammar (Bool × (Option String × Task))
+fields = both verbose dir_fields
 
 -- what is asked for of these
 abbrev pub notes_of : Bool × (Option String × Task) → Notes
 notes_of x = record { verbose = x.0; dir = x.1.0; task = x.1.1 }
 
 -- the program: the switch and the argument, wherever they stand, and a command
-abbrev pub notes_parser : KnownParser Notes
+abbrev pub notes_parser : Grammar Notes
 notes_parser = known_con notes_of fields
 
 -- what the program is given
@@ -133,8 +132,7 @@ program_given words = record { words = words; env = []; name = Some (codes "note
 
 -- v is a value of the program on words
 abbrev pub IsNotesOf : List (List ℕ) → Notes → Type 0
-IsNotesOf words = IsProgramReadBy (program_names notes_parser.shorts) (program_given words)
-    (program_value notes_parser.form)
+IsNotesOf words = IsValueBy notes_parser (program_given words)
 
 -- an answer to words is exact: notes only where they are a value of the program on the words; and
 -- where it has one there, one of them, or want of memory
