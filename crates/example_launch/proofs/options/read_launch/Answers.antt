@@ -2,7 +2,8 @@ use Rattle.std.proofs.Common.{◌≡◌, Some, codes, false, map, refl, rules, s
 use Rattle.bpaf_words.specs.Arguments.{given_of}
 use Rattle.bpaf.specs.declared.leaves.positional.Position.TheVariants.{Strict, NonStrict}
 use Rattle.bpaf_program.specs.Fields.{HasSwitch, HasWord}
-use Rattle.bpaf_program.specs.KnownFields.{known_switch, known_word}
+use Rattle.bpaf_record.specs.Grammar.{word}
+use Rattle.bpaf_program.specs.KnownFields.{known_switch}
 use Rattle.bpaf_program.specs.Values.{MeansText}
 use Rattle.bpaf_program.proofs.Known as dealt
 use Rattle.bpaf_program.proofs.KnownFields.{many_known, switch_known, word_known}
@@ -35,7 +36,7 @@ returns c =
     (dealt.last_known
     (dealt.many_known positionals.rest.last.catch (dealt.word_known MeansText passed.1))))) in
     let exact : AnswersLaunch (map string_bytes c.args.words.now) c.run_once.result =
-    program_exactly launcher refl c.run_once.ensures.outcome
+    program_exactly launcher _ refl c.run_once.ensures.outcome
     (con_known launch_of fields
     (both_known (known_switch verbose_names) _
     (switch_known verbose_names (Some _) verbose.1.named_is verbose.1.present_is
@@ -43,10 +44,10 @@ returns c =
     (both_known (known_switch dry_run_names) _
     (switch_known dry_run_names (Some _) dry_run.1.named_is dry_run.1.present_is
     dry_run.1.absent_is)
-    (both_known (known_word MeansText NonStrict) _
+    (both_known (word MeansText NonStrict) _
     (word_known MeansText NonStrict name.1.position_is _)
     (last_known _ (many_known (word_known MeansText Strict passed.1.position_is _) catch)))))
-    (λ x v e. search rules)) refl _ given (are_texts c.args.words.now) in
+    (λ x v e. search rules)) refl given (are_texts c.args.words.now) in
     record {
       exact = exact;
       launch = launch_asked _ _
