@@ -40,6 +40,10 @@ class Definition:
         self.names = [*inside.split(), *self.heads]
         self.code = INSIDE.sub(" :", code)
 
+    def cited(self):
+        """The definitions and the types that it names."""
+        return cited(self.code, self.file.uses, self.file.names)
+
 
 class File:
     """A file of specs: its definitions, what they name, and what it uses."""
@@ -66,6 +70,10 @@ class RustType:
         end = r"\b(?:[^\n{]*;|.*?^\})"
         declared = r"(?ms)^((?:///[^\n]*\n)*)(?:#\[[^\n]*\n)*((?:pub(?:\(crate\))? )?(?:struct|enum) " + name + end + ")"
         self.text = "".join(found[0] if (found := re.findall(declared, text_of(self.path))) else ())
+
+    def cited(self):
+        """None: its specs are made of it."""
+        return []
 
 
 @functools.cache
@@ -108,5 +116,5 @@ def all_cited(found, known):
         if it not in known:
             known.add(it)
             new.append(it)
-            todo += cited(it.code, it.file.uses, it.file.names) if isinstance(it, Definition) else []
+            todo += it.cited()
     return sorted(new, key=lambda it: it.place)

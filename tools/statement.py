@@ -23,8 +23,8 @@ A definition stands below those that it is made of, with its crate and its file,
 declared, and its specs are made of that; one that has a model, as a `Doc` has the list of its pieces, is to all specs what its `view` gives.
 `x.now` is the value of `x` when a call is made, `x.entry` that of a parameter, and `P.reads` what the type `P` gives by its own impl.
 
-| Part | definitions | types of Rust | lines |
-|---|---|---|---|
+| Part | definitions | their lines of code | types of Rust | lines |
+|---|---|---|---|---|
 """
 KINDS_OF = ("Parser", "Fields", "ProgramField", "ProgramFields", "FromText", "FromList")
 FIRST = """ParseFlag FromText ParseArgument ParsePositional ParseMap ParseWith ParseGuard ParseOptional ParseFallback
@@ -50,22 +50,23 @@ is. What each kind of parser proves for it, its law, is told in the last part.""
     (
         "A flat record and a program with commands are exact",
         """Where the parser says that it is a flat record or a program, each answer is exact, for closures that keep to the premise `agrees`
-(clauses `exact` and `each_exact`). Of what a parser is made (`grammar`), and what it is to a flat record and to a program by that, is told in
-the next part, and what `answers` allows in the last.""",
-        """bpaf_record/src/record.rt; pub trait Record; run_record exact each_exact; is_flat answers_exactly
-        bpaf_record/src/record.rt; impl<T: Drop, P: ProgramField<T> + FlatField<T>> Record; ; is_flat answers_exactly
+(clauses `exact` and `each_exact`, the same of both). Of what a parser is made (`grammar`), whether it is a flat record or a program by that, and
+which values it has then on what stands on the line (`program_form`, `is_record`, `is_program`, `program_value`), is told in the next part, and
+what `answers` allows in the last.""",
+        """bpaf_record/src/record.rt; pub trait Record; run_record exact each_exact; is_flat
+        bpaf_record/src/record.rt; impl<T: Drop, P: ProgramField<T> + FlatField<T>> Record; ; is_flat
         bpaf_record/src/command_line.rt; pub trait CommandLine; run_program exact each_exact; \
 is_whole can_run agrees answers answers_as_program
         bpaf_record/src/command_line.rt; impl<T: Drop, P: ProgramField<T>> CommandLine; ; \
 is_whole can_run agrees answers_as_program
         bpaf_record/src/field.rt; pub trait ProgramField; ; grammar agrees""",
         "",
-        "bpaf_record.specs.Grammar",
+        "bpaf_record.specs.Grammar bpaf_exact.specs.ProgramForm bpaf_exact.specs.FlatForm",
     ),
     (
         "Each kind of parser",
-        """What the members are that the parts above take as given: which values each kind reads off which places, what it shows, and of what it is made,
-which tells what it is to a flat record and to a program. A kind without `grammar` stands in neither.""",
+        """What a program is by what its parsers are made of, and which values it has. And what the members are that the parts above take as given: which
+values each kind reads off which places, what it shows, and of what it is made. A kind without `grammar` stands in no program.""",
         f"""bpaf/src/product.rt; pub trait Fields; ; {MEANINGS}
         bpaf_record/src/field.rt; pub trait ProgramFields; ; {MEANINGS}
         bpaf_text/src/from_text.rt; pub trait FromText; ; {MEANINGS}
@@ -135,23 +136,38 @@ def shown(found):
         yield f"`{crate}`, {path.removeprefix(f'crates/{crate}/')}:\n\n```{'antt' if path.endswith('.antt') else 'rust'}\n{text}\n```\n"
 
 
+def lines_of_code(definition):
+    """How many lines a definition has, without comments and empty ones; a type of Rust is none."""
+    return 0 if isinstance(definition, RustType) else len(re.findall(r"(?m)^\s*(?!--)\S", definition.text))
+
+
+def part(told, members, left, known):
+    """The texts of a part and what it newly tells, by what is quoted; and what it leaves to the next part."""
+    later = {it for path in left.split() for it in of_path(path).names.values()}
+    known |= later
+    texts, counted, met = [], [], []
+    for kind, quotes, rest in [*told, *((kind, quotes, []) for kind, quotes in (kinds(members) if members else ()))]:
+        found = [*rest, *(it for quote in quotes for it in quote.cited())]
+        new = all_cited(found, known)
+        texts += [f"### {kind}\n"] if kind and (quotes or new) else []
+        texts += [*shown(quotes), *shown(new)]
+        counted += new
+        met += [*found, *(it for one in new for it in one.cited())]
+    known -= later
+    return texts, counted, [it for it in dict.fromkeys(met) if it in later]
+
+
 def page():
     """The page, whose table counts what stands below it."""
-    known, rows, below = set(), [], []
+    known, rows, below, handed = set(), [], [], []
     for number, (title, said, quoted, members, left) in enumerate(PARTS, 1):
-        later = {*of_path(left).names.values()} if left else set()
-        known |= later
         own = [Quote(*line.strip().split("; ")) for line in quoted.split("\n")]
-        texts, counted = [], []
-        for kind, quotes in [("", own), *(kinds(members) if members else ())]:
-            new = all_cited((it for quote in quotes for it in quote.cited()), known)
-            texts += [f"### {kind}\n"] if kind and quotes else []
-            texts += [*shown(quotes), *shown(new)]
-            counted += new
-        known -= later
+        told = [("What a program is, and which values it has", [], handed), ("What the kinds share", own, [])] if handed else [("", own, [])]
+        texts, counted, handed = part(told, members, left, known)
         lines = sum(it.count("\n") - 4 for it in texts if "```" in it)
         types = sum(isinstance(it, RustType) for it in counted)
-        rows.append((f"{number}. {title}", sum(len(it.heads) for it in counted), types, lines))
+        heads, code = sum(len(it.heads) for it in counted), sum(map(lines_of_code, counted))
+        rows.append((f"{number}. {title}", heads, code, types, lines))
         below += [f"## {number}. {title}\n", said + "\n", *texts]
     rows.append(("all", *(sum(it) for it in [*zip(*rows)][1:])))
     table = "".join("| " + " | ".join(f"{it:,}" if isinstance(it, int) else it for it in row) + " |\n" for row in rows)

@@ -13,7 +13,6 @@ use Rattle.bpaf_line.specs.declared.error.Message.{Message}
 use Rattle.bpaf_line.specs.declared.error.Message.TheVariants as message
 use Rattle.bpaf_line.specs.declared.failure.ParseFailure.{ParseFailure}
 use Rattle.bpaf_line.specs.declared.failure.ParseFailure.TheVariants as failure
-use Rattle.bpaf_core.specs.Leftover.{IsLeftover, conflict, only_once, not_expected}
 use Rattle.bpaf_line.specs.Messages.{is_memory}
 use Rattle.bpaf_core.specs.Rendering.{Renders}
 use Rattle.bpaf_line.specs.Situation.{Situation, beginning}
@@ -25,6 +24,7 @@ use Rattle.bpaf_laws.specs.Product.{BothOutcome, ProductOutcome, joined}
 use Rattle.bpaf_laws.specs.Reading.{Readings, Outcome}
 use Rattle.bpaf_laws.specs.Repeat.{ManyOutcome, Turns}
 use Rattle.bpaf_laws.proofs.Keeping.{keeps_same, keeps_trans}
+use Rattle.bpaf_core.specs.EndingLaws.{leftover_is_told}
 use Rattle.bpaf_core.specs.ExtraParams.{ExtraParams}
 use Rattle.bpaf_core.specs.ExtraParams.TheVariants as extra
 use Rattle.bpaf_core.specs.Ending.{EndsRun, Tells, leftover, memory, passed_on, refused, shown}
@@ -179,21 +179,7 @@ module _ (describes : Shape → Type 0) (info : RunInfo) where
       → is_answer m ≡ false → ¬ (Renders m s (failure.Stdout doc full))
   renders_nothing (message.ParseFailure f) s doc full plain says = absurd (true≢false plain)
   renders_nothing message.Memory s doc full plain says = cc
-  renders_nothing (message.NoEnv a) s doc full plain says = says
-  renders_nothing (message.ParseSome a) s doc full plain says = says
-  renders_nothing (message.ParseFail a) s doc full plain says = says
-  renders_nothing (message.PureFailed a) s doc full plain says = says
-  renders_nothing (message.Missing a) s doc full plain says = says
-  renders_nothing (message.StrictPos a b) s doc full plain says = says
-  renders_nothing (message.NonStrictPos a b) s doc full plain says = says
-  renders_nothing (message.ParseFailed a b) s doc full plain says = says
-  renders_nothing (message.GuardFailed a b) s doc full plain says = says
-  renders_nothing (message.NoArgument a b) s doc full plain says = says
-  renders_nothing (message.Unconsumed a) s doc full plain says = says
-  renders_nothing (message.Ambiguity a b) s doc full plain says = says
-  renders_nothing (message.Conflict a b) s doc full plain says = says
-  renders_nothing (message.Expected a b) s doc full plain says = says
-  renders_nothing (message.OnlyOnce a b) s doc full plain says = says
+  renders_nothing _ s doc full plain says = says
 
   -- what is told of a message was asked for, if it shows anything
   tells_asked : (m : Message) (s t : Situation) (doc : List Piece) (full : Bool)
@@ -208,12 +194,6 @@ module _ (describes : Shape → Type 0) (info : RunInfo) where
   tells_asked m s t doc full plain f (told e g u looked other renders) is =
       absurd (renders_nothing m t doc full plain (rw is at renders))
   tells_asked m s t doc full plain f (wanting e u looked wants) is = cc
-
-  -- the message of an item that is left is none of an inner run
-  leftover_plain : (s : Situation) (m : Message) → IsLeftover s m → is_answer m ≡ false
-  leftover_plain s m (conflict p winner next noted) = refl
-  leftover_plain s m (only_once p earlier next unnoted found) = refl
-  leftover_plain s m (not_expected p next unnoted none) = refl
 
   module _ {T : Type 0} {inner : Outcome T} {reads : Readings T} (law : Lawful T inner reads)
       (showing : Showing) (inside : HandsOn showing inner)
@@ -252,7 +232,7 @@ module _ (describes : Shape → Type 0) (info : RunInfo) where
         (refused n before from g u spared unwanted other tells) is =
         told_asked n s left t doc full keeps other f tells is
     end_shows m s left t f doc full keeps handed (leftover n before from g u is_left tells) is =
-        told_asked n s left t doc full keeps (leftover_plain left n is_left) f tells is
+        told_asked n s left t doc full keeps (leftover_is_told left n is_left) f tells is
 
     -- so does a run
     pub run_shows : (s t : Situation) (f : ParseFailure) (doc : List Piece) (full : Bool)

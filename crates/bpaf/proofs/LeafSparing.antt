@@ -5,13 +5,7 @@ use Rattle.std.proofs.Common.{true≢false, subst, sym, ◌∙◌, ap, inl, inr}
 use Rattle.bpaf_doc.specs.Shape.{Part}
 use Rattle.bpaf_line.specs.declared.error.Error.{Error}
 use Rattle.bpaf_line.specs.declared.error.Message.{Message}
-use Rattle.bpaf_line.specs.declared.error.Message.TheVariants.{Memory, NoEnv, ParseSome, ParseFail}
-use Rattle.bpaf_line.specs.declared.error.Message.TheVariants.{PureFailed, Missing, StrictPos}
-use Rattle.bpaf_line.specs.declared.error.Message.TheVariants.{NonStrictPos, ParseFailed}
-use Rattle.bpaf_line.specs.declared.error.Message.TheVariants.{GuardFailed}
-use Rattle.bpaf_line.specs.declared.error.Message.TheVariants.{NoArgument, Unconsumed, Ambiguity}
-use Rattle.bpaf_line.specs.declared.error.Message.TheVariants.{Conflict, Expected, OnlyOnce}
-use Rattle.bpaf_line.specs.declared.error.Message.TheVariants.{ParseFailure}
+use Rattle.bpaf_line.specs.declared.error.Message.TheVariants.{Memory, Missing}
 use Rattle.bpaf_line.specs.Messages.{is_memory}
 use Rattle.bpaf_line.specs.Situation.{Situation}
 use Rattle.bpaf_laws.specs.Any.{AnyFails, AnyOutcome, ArePassed, Looks, looked_at}
@@ -27,21 +21,7 @@ module _ {T : Type 0} (looks : Looks T) (part : Part) (anywhere : Bool) (s t : S
       → ArePassed looks (looked_at anywhere s)
   by_message Memory fails spared = absurd (true≢false spared)
   by_message (Missing items) fails spared = fails.0.0
-  by_message (NoEnv x) fails spared = absurd fails
-  by_message (ParseSome x) fails spared = absurd fails
-  by_message (ParseFail x) fails spared = absurd fails
-  by_message (PureFailed x) fails spared = absurd fails
-  by_message (StrictPos x y) fails spared = absurd fails
-  by_message (NonStrictPos x y) fails spared = absurd fails
-  by_message (ParseFailed x y) fails spared = absurd fails
-  by_message (GuardFailed x y) fails spared = absurd fails
-  by_message (NoArgument x y) fails spared = absurd fails
-  by_message (Unconsumed x) fails spared = absurd fails
-  by_message (Ambiguity x y) fails spared = absurd fails
-  by_message (Conflict x y) fails spared = absurd fails
-  by_message (Expected x y) fails spared = absurd fails
-  by_message (OnlyOnce x y) fails spared = absurd fails
-  by_message (ParseFailure x) fails spared = absurd fails
+  by_message _ fails spared = absurd fails
 
   -- an item is passed by where no memory was wanted for it
   pub any_passes_all : (r : Result T Error) → AnyOutcome looks part anywhere s r t

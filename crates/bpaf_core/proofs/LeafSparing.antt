@@ -4,13 +4,7 @@ use Rattle.std.specs.Result.{IfErr}
 use Rattle.std.proofs.Common.{true≢false, sym, ◌∙◌, ap}
 use Rattle.bpaf_line.specs.declared.error.Error.{Error}
 use Rattle.bpaf_line.specs.declared.error.Message.{Message}
-use Rattle.bpaf_line.specs.declared.error.Message.TheVariants.{Memory, NoEnv, ParseSome, ParseFail}
-use Rattle.bpaf_line.specs.declared.error.Message.TheVariants.{PureFailed, Missing, StrictPos}
-use Rattle.bpaf_line.specs.declared.error.Message.TheVariants.{NonStrictPos, ParseFailed}
-use Rattle.bpaf_line.specs.declared.error.Message.TheVariants.{GuardFailed}
-use Rattle.bpaf_line.specs.declared.error.Message.TheVariants.{NoArgument, Unconsumed, Ambiguity}
-use Rattle.bpaf_line.specs.declared.error.Message.TheVariants.{Conflict, Expected, OnlyOnce}
-use Rattle.bpaf_line.specs.declared.error.Message.TheVariants.{ParseFailure}
+use Rattle.bpaf_line.specs.declared.error.Message.TheVariants.{Memory}
 use Rattle.bpaf_line.specs.Messages.{is_memory}
 use Rattle.bpaf_line.specs.Situation.{Situation}
 use Rattle.bpaf_text.specs.Named.{Named}
@@ -25,22 +19,7 @@ module _ {T : Type 0} (named : Named) (absent : Option T) (s t : Situation) wher
   by_message : (m : Message) → FlagFails named absent s m t → is_memory m ≡ false
       → IsFlagAbsent named s t × (absent ≡ None)
   by_message Memory fails spared = absurd (true≢false spared)
-  by_message (NoEnv x) fails spared = (fails.0, fails.1)
-  by_message (ParseSome x) fails spared = (fails.0, fails.1)
-  by_message (ParseFail x) fails spared = (fails.0, fails.1)
-  by_message (PureFailed x) fails spared = (fails.0, fails.1)
-  by_message (Missing x) fails spared = (fails.0, fails.1)
-  by_message (StrictPos x y) fails spared = (fails.0, fails.1)
-  by_message (NonStrictPos x y) fails spared = (fails.0, fails.1)
-  by_message (ParseFailed x y) fails spared = (fails.0, fails.1)
-  by_message (GuardFailed x y) fails spared = (fails.0, fails.1)
-  by_message (NoArgument x y) fails spared = (fails.0, fails.1)
-  by_message (Unconsumed x) fails spared = (fails.0, fails.1)
-  by_message (Ambiguity x y) fails spared = (fails.0, fails.1)
-  by_message (Conflict x y) fails spared = (fails.0, fails.1)
-  by_message (Expected x y) fails spared = (fails.0, fails.1)
-  by_message (OnlyOnce x y) fails spared = (fails.0, fails.1)
-  by_message (ParseFailure x) fails spared = (fails.0, fails.1)
+  by_message _ fails spared = (fails.0, fails.1)
 
   -- a flag tells a refused clone as want of memory
   pub flag_clones_nothing : (clones : T → T → Type 0) (present : T) (r : Result T Error)

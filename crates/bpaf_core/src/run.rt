@@ -71,9 +71,9 @@ impl<T: Drop, P: Parser<T>> Run<'_, T, P> {
         ensures { PassesOrTells (P.describes self.now.inner.now) self.now.info.now message
             state.old result state.new }
     {
-        match message {
-            Message::ParseFailure(failure) => failure,
-            message => self.tell(message, state),
+        match message.into_answer() {
+            Ok(failure) => failure,
+            Err(message) => self.tell(message, state),
         }
     }
 

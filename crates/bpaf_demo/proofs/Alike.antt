@@ -1,31 +1,25 @@
 -- All values of the program's record on words print the same lines.
-use Rattle.std.proofs.Common.{◌++◌, ℕ, Bool, List, [], ◌∷◌, All, IsUtf8, ap, codes, refl}
+use Rattle.std.proofs.Common.{◌++◌, ℕ, Bool, List, All, IsUtf8, ap, codes, refl}
 use Rattle.std.specs.Fmt.{decimal}
 use Rattle.bpaf_exact.specs.OneView.{Alike}
 use Rattle.bpaf_program.specs.Lines.{line, truth}
-use Rattle.bpaf_program.proofs.LookAlike.{IsSeen, alone_seen, both_seen, con_seen, field_seen}
-use Rattle.bpaf_program.proofs.LookAlike.{many_seen, number_seen, reads_one, switch_seen, text_word_seen}
-use Rattle.bpaf_demo.specs.Exact.{IsOptionsOf, options_form}
+use Rattle.bpaf_program.proofs.LookAlike.{alone_seen, both_seen, con_seen, field_seen, many_seen}
+use Rattle.bpaf_program.proofs.LookAlike.{number_seen, switch_seen, text_word_seen}
+use Rattle.bpaf_program.proofs.SeenPrograms.{program_looks_one, record_look}
+use Rattle.bpaf_demo.specs.Exact.{IsOptionsOf}
 use Rattle.bpaf_demo.specs.Lines.{file_lines, lines}
-use Rattle.bpaf_demo.specs.Record.{num_names, number_key, options_of, program_given, program_known}
+use Rattle.bpaf_demo.specs.Record.{number_key, options_of, program_given, program_known}
 use Rattle.bpaf_demo.specs.Record.{verbose_names}
-use Rattle.bpaf_demo.specs.declared.options.Options.{Options}
-use Rattle.bpaf_laws.specs.Reading.{Outcome}
 
--- of the record's values the lines are seen
-pub options_seen : (outcome : Outcome Options)
-    × IsSeen outcome lines (verbose_names ∷ num_names ∷ []) options_form
-options_seen = (
-  _,
-  con_seen
-      (both_seen (field_seen (switch_seen verbose_names))
-      (both_seen (field_seen (number_seen 64 number_key refl))
-      (alone_seen (field_seen (many_seen (text_word_seen (codes "FILE"))))))) options_of lines
-      (λ x y same. ap (λ (seen : Bool × (ℕ × List (List ℕ))).
-      line (codes "verbose: " ++ truth seen.0) ++ line (codes "num: " ++ decimal seen.1.0)
-      ++ file_lines seen.1.1) same),
-)
-
--- so they are the same for the same words
+-- of options the lines are seen
 pub same_lines : (words : List (List ℕ)) → All IsUtf8 words → Alike lines (IsOptionsOf words)
-same_lines words = reads_one options_seen.1 refl program_known (program_given words)
+same_lines words =
+    program_looks_one
+    (record_look (con_seen
+    (both_seen (field_seen (switch_seen verbose_names))
+    (both_seen (field_seen (number_seen 64 number_key refl))
+    (alone_seen (field_seen (many_seen (text_word_seen (codes "FILE"))))))) options_of lines
+    (λ x y same. ap (λ (seen : Bool × (ℕ × List (List ℕ))).
+    line (codes "verbose: " ++ truth seen.0) ++ line (codes "num: " ++ decimal seen.1.0)
+    ++ file_lines seen.1.1) same)) refl)
+    program_known (program_given words)

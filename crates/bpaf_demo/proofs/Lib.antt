@@ -1,2 +1,2 @@
 pub mod Alike
-pub mod Form
+pub mod Flat

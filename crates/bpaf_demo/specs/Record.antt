@@ -21,14 +21,10 @@ use Rattle.bpaf_demo.specs.declared.options.Options.{Options}
 abbrev pub verbose_names : Names
 verbose_names = record { shorts = codes "v"; longs = codes "verbose" ∷ [] }
 
--- the names of the number
-abbrev pub num_names : Names
-num_names = record { shorts = codes "n"; longs = codes "num" ∷ [] }
-
--- the number: its key, what stands for its value where it is shown, and that the last one counts
+-- the number: its names, what stands for its value where it is shown, and that the last one counts
 abbrev pub number_key : KeyWithValue
 number_key = record {
-  named = key_named num_names;
+  named = key_named (record { shorts = codes "n"; longs = codes "num" ∷ [] });
   metavar = codes "NUM";
   adjacent = false;
   last = true;

@@ -192,36 +192,38 @@ module _ {env : Variables} (T X : Type 0) (see : T → X) (inner : Outcome T) (k
   -- the value of a single field
   pub value_view : (os : List LinePiece) → Alike see (SingleValue T group gap os)
   value_view os v w (of_group g) (of_group h) = (one os [] [] v w g h).0
-  value_view os v w (of_group g) (of_gap a) = absurd (l.starts v [] g)
-  value_view os v w (of_gap a) (of_group h) = absurd (l.starts w [] h)
-  value_view os v w (of_gap a) (of_gap b) = absent v w a b
+  value_view os v w (of_group g) (of_gap e a) =
+      absurd (l.starts v [] (subst (λ z. group z v []) e g))
+  value_view os v w (of_gap e a) (of_group h) =
+      absurd (l.starts w [] (subst (λ z. group z w []) e h))
+  value_view os v w (of_gap e a) (of_gap f b) = absent v w a b
 
   -- where there is no piece there is none
   none_single : (os : List LinePiece) (v : T) → os ≡ [] → gap.has ≡ false
       → SingleValue T group gap os v → ⊥
   none_single os v e h (of_group g) = l.starts v [] (subst (λ z. group z v []) e g)
-  none_single os v e h (of_gap a) = l.no_absent v h a
+  none_single os v e h (of_gap f a) = l.no_absent v h a
 
   -- what may be left out
   pub optional_value_view : (os : List LinePiece)
       → Alike (option_map see) (OptionalValue T group gap os)
   optional_value_view os v w (some_value {v = x} g) (some_value {v = y} h) =
       ap Some (value_view os x y g h)
-  optional_value_view os v w (some_value {v = x} g) (no_value h) =
-      absurd (none_single [] x refl h g)
-  optional_value_view os v w (no_value h) (some_value {v = y} g) =
-      absurd (none_single [] y refl h g)
-  optional_value_view os v w (no_value h) (no_value i) = refl
+  optional_value_view os v w (some_value {v = x} g) (no_value e h) =
+      absurd (none_single os x e h g)
+  optional_value_view os v w (no_value e h) (some_value {v = y} g) =
+      absurd (none_single os y e h g)
+  optional_value_view os v w (no_value e h) (no_value f i) = refl
 
   -- what has a default
   pub fallback_value_view : (f : Closure (Unit {0}) T) → Alike see (λ v. f.yes tt v)
       → (os : List LinePiece) → Alike see (FallbackValue T group gap f os)
   fallback_value_view f given os v w (own_value g) (own_value h) = value_view os v w g h
-  fallback_value_view f given os v w (own_value g) (kept_value h y) =
-      absurd (none_single [] v refl h g)
-  fallback_value_view f given os v w (kept_value h y) (own_value g) =
-      absurd (none_single [] w refl h g)
-  fallback_value_view f given os v w (kept_value h y) (kept_value i z) = given v w y z
+  fallback_value_view f given os v w (own_value g) (kept_value e h y) =
+      absurd (none_single os v e h g)
+  fallback_value_view f given os v w (kept_value e h y) (own_value g) =
+      absurd (none_single os w e h g)
+  fallback_value_view f given os v w (kept_value e h y) (kept_value d i z) = given v w y z
 
 module _ (env : Variables) (T X : Type 0) (see : T → X) (inner : Outcome T) where
   -- a repeat or default round a field, all values of which look alike

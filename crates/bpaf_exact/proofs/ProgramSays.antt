@@ -13,7 +13,7 @@ use Rattle.bpaf_exact.specs.ProgramForm.{ProgramForm, no_program, plain, command
 use Rattle.bpaf_exact.specs.ProgramForm.{before_commands, ProgramFormLaw, program_if, flat_only}
 use Rattle.bpaf_exact.specs.ProgramForm.{program_closed, program_dressed, program_optional}
 use Rattle.bpaf_exact.specs.ProgramForm.{program_choice, program_choices, program_rest, first_only}
-use Rattle.bpaf_exact.specs.ProgramForm.{whole_program, opened_form, program_command, flat_form}
+use Rattle.bpaf_exact.specs.ProgramForm.{whole_program, opened_form, program_command}
 use Rattle.bpaf_exact.specs.ProgramForm.{program_field, program_alone, program_both, program_con}
 use Rattle.bpaf_exact.specs.ProgramForm.{is_program, program_value, are_words_apart}
 use Rattle.bpaf_exact.specs.ProgramForm.{program_fallback, program_last, program_repeat}
@@ -22,7 +22,7 @@ use Rattle.bpaf_exact.specs.Programs.{second_value, OptionalCommands, some_comma
 use Rattle.bpaf_exact.specs.ProgramSays.{ProgramSaid, of_pieces, of_cells, ProgramFieldsSaid}
 use Rattle.bpaf_exact.specs.ProgramSays.{of_all_pieces, of_all_cells, IsSaid, ProgramFormSays}
 use Rattle.bpaf_exact.specs.ProgramSays.{program_kind, ProgramSays, ProgramFieldsFormSay}
-use Rattle.bpaf_exact.specs.ProgramSays.{ProgramFieldsSay, cells_said, pieces_said, said_choice}
+use Rattle.bpaf_exact.specs.ProgramSays.{ProgramFieldsSay, cells_said, said_choice}
 use Rattle.bpaf_exact.specs.ProgramSays.{said_alone, said_both, said_con, said_choices, said_closed}
 use Rattle.bpaf_exact.specs.ProgramSays.{said_command, said_dressed, said_flat, said_optional}
 use Rattle.bpaf_exact.specs.ProgramSays.{said_fallback, said_last, said_repeat, fields_said_inside}
@@ -458,14 +458,6 @@ pub program_says : (env : Variables) {P T : Type 0} (outcome : Outcome T) (words
     → is_program s ≡ true → IsSaid (program_value s) (cells_said said p)
 program_says env outcome words s {kind} {names} {said} {p} law h is =
     whole_says (λ q. q) p env outcome names words s kind said p law h.by is
-
--- a value of a flat record says so of the pieces
-pub flat_says : {P T : Type 0} (s : ProgramForm T) {kind : SaidKind} {names : List Names}
-    {said : ProgramSaid P T}
-    {p : P} → ProgramSays names s kind said p → Says names (flat_form s) kind (pieces_said said p)
-flat_says (plain wide s) {said = of_pieces said} h = unless_says wide h.by
-flat_says (plain wide s) {said = of_cells said} h = absurd h.by
-flat_says _ h = record { by = tt }
 
 -- a key, by what its field says without a name in the environment and with some
 pub key_says : {P T : Type 0} {names : List Names} {kind : SaidKind}

@@ -240,7 +240,7 @@ module _ {T : Type 0} (said : Said T) (group : Groups T) (gap : Gap T)
   whole_says : (os : List LinePiece) (v : T) → SingleValue T group gap os v → said os v
   whole_says os v (of_group g) = let there = fronts os [] v g in
       subst (λ z. said z v) (sym (there.is ∙ append-nil there.part)) there.told
-  whole_says [] v (of_gap a) = absent v a
+  whole_says os v (of_gap e a) = subst (λ z. said z v) (sym e) (absent v a)
 
   -- values in turn
   turns_say : (os : List LinePiece) (vs : List T) → Own T group os vs → Own T (FrontSays said) os vs
@@ -260,14 +260,13 @@ module _ {T : Type 0} (said : Said T) (group : Groups T) (gap : Gap T)
   optional_by : (os : List LinePiece) (r : Option T) → OptionalValue T group gap os r
       → OptionalSays said os r
   optional_by os (Some v) (some_value h) = says_some v refl (whole_says os v h)
-  optional_by [] None (no_value h) = says_none refl refl
-  optional_by (o ∷ os) None h = elim h [ ]
+  optional_by os None (no_value e h) = says_none refl e
 
   -- one, or what stands in its place
   fallback_by : (f : Closure (Unit {0}) T) (os : List LinePiece) (v : T)
       → FallbackValue T group gap f os v → FallbackSays said (f.yes tt) os v
   fallback_by f os v (own_value h) = says_own (whole_says os v h)
-  fallback_by f [] v (kept_value h m) = says_kept refl m
+  fallback_by f os v (kept_value e h m) = says_kept e m
 
 -- a repeat or default round a field, of which each value says so
 whole_form_says : {T B : Type 0} (kind : FieldKind → FieldKind) (lift : SaidKind → SaidKind)

@@ -29,15 +29,17 @@ module _ (T : Type 0) (group : Groups T) (gap : Gap T) (one : OneByOne group) wh
   -- nor have two where there is no repeat or default
   single_once : AtMostOne (SingleValue T group gap)
   single_once o p os v (of_group g) = group_once group one o p os v g
+  single_once o p os v (of_gap e a) = cc
 
   -- nor where they may be left out
   optional_once : AtMostOne (OptionalValue T group gap)
   optional_once o p os (Some v) (some_value h) = single_once o p os v h
-  optional_once o p os None h = elim h [ ]
+  optional_once o p os None (no_value e h) = cc
 
   -- nor where a value stands for them
   fallback_once : (f : Closure (Unit {0}) T) → AtMostOne (FallbackValue T group gap f)
   fallback_once f o p os v (own_value h) = single_once o p os v h
+  fallback_once f o p os v (kept_value e h m) = cc
 
 -- a closure round a field keeps that
 pub closed_no_surplus : {A B : Type 0} (f : Closure A B) (s : FlatForm A) → HasNoSurplus s
@@ -94,6 +96,11 @@ word_no_surplus {T = T} means = front_one T _
 
 -- An occurrence without a value, as the key of a failed alternative.
 module _ (T : Type 0) (value : LinePiece → T → Type 0) (gap : Gap T) where
+  -- it is among some
+  none_bad : (os : List LinePiece) → os ≡ [] → ¬ (HasBad T value os)
+  none_bad [] e b = elim b [ ]
+  none_bad (o ∷ os) e b = cc
+
   -- a repeat has no value then
   pub repeat_bad : (os : List LinePiece) (vs : List T) → HasBad T value os
       → OwnList T (FrontOf T value) gap os vs → ⊥
@@ -110,19 +117,19 @@ module _ (T : Type 0) (value : LinePiece → T → Type 0) (gap : Gap T) where
   pub single_bad : (os : List LinePiece) (v : T) → HasBad T value os
       → SingleValue T (FrontOf T value) gap os v → ⊥
   single_bad os v b (of_group g) = own_bad T value os (v ∷ []) b (own_more g own_none)
-  single_bad os v b (of_gap a) = elim b [ ]
+  single_bad os v b (of_gap e a) = none_bad os e b
 
   -- nor what may be left out
   pub optional_bad : (os : List LinePiece) (v : Option T) → HasBad T value os
       → OptionalValue T (FrontOf T value) gap os v → ⊥
   optional_bad os (Some v) b (some_value h) = single_bad os v b h
-  optional_bad os None b (no_value h) = elim b [ ]
+  optional_bad os None b (no_value e h) = none_bad os e b
 
   -- nor what has a value that stands for it
   pub fallback_bad : (f : Closure (Unit {0}) T) (os : List LinePiece) (v : T) → HasBad T value os
       → FallbackValue T (FrontOf T value) gap f os v → ⊥
   fallback_bad f os v b (own_value h) = single_bad os v b h
-  fallback_bad f os v b (kept_value h a) = elim b [ ]
+  fallback_bad f os v b (kept_value e h a) = none_bad os e b
 
 -- Which parts a record has: each of its fields, and that no piece is left.
 module _ {A B : Type 0} (k : FieldKind) (q : Roles) (first : List LinePiece → A → Type 0)

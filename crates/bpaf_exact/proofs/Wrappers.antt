@@ -61,22 +61,7 @@ module _ {env : Variables} (A B : Type 0) (inner : Outcome A) (k : FieldKind) (q
 
 module _ {env : Variables} (T : Type 0) (inner : Outcome T) (k : FieldKind) (q : Roles)
     (group : Groups T) (gap : Gap T) (l : SingleLaw env T inner k q group gap) where
-  -- the value of a single field: of a group, or the absent one
-  data SingleView (os : List LinePiece) (v : T) : Type 0 where
-    view_group : group os v [] → SingleView os v
-    view_gap : os ≡ [] → gap.absent v → SingleView os v
-
-  -- by its constructors
-  single_view : (os : List LinePiece) (v : T) → SingleValue T group gap os v → SingleView os v
-  single_view os v (of_group g) = view_group g
-  single_view os v (of_gap a) = view_gap refl a
-
-  -- the absent value where there is no piece
-  nothing_read : (os : List LinePiece) (v : T) → front k os ≡ [] → gap.absent v
-      → SingleValue T group gap (front k os) v
-  nothing_read os v e a = subst (λ z. SingleValue T group gap z v) (sym e) (of_gap a)
-
-  -- and nothing is left
+  -- where there is no piece nothing is left
   nothing_left : (os ps : List LinePiece) → front k os ≡ [] → ps ≡ os → ps ≡ back k os
   nothing_left os ps e same = same ∙ sym (back_all k os e)
 
@@ -101,7 +86,7 @@ module _ {env : Variables} (T : Type 0) (inner : Outcome T) (k : FieldKind) (q :
   single_took s t v (gave_absent h p ab same st) = record {
     steady = st;
     takes = same_takes q same;
-    read = λ n. nothing_read (pieces q (cells s)) v p ab;
+    read = λ n. of_gap p ab;
     rest = λ n. nothing_left _ _ p (ap (pieces q) same);
   }
   single_took s t v (took h) = record {
@@ -124,33 +109,33 @@ module _ {env : Variables} (T : Type 0) (inner : Outcome T) (k : FieldKind) (q :
 
   -- where the portion has a value, all is taken
   ok_takes : (s t : Situation) (v w : T) → SingleOk T k q group gap s v t
-      → SingleView (front k (pieces q (cells s))) w
+      → SingleValue T group gap (front k (pieces q (cells s))) w
       → pieces q (cells t) ≡ back k (pieces q (cells s))
   ok_takes s t v w (gave_absent h p ab same st) view = nothing_left _ _ p (ap (pieces q) same)
-  ok_takes s t v w (took h) (view_group g) = (h.readable w _ (of_front k _ w l.words g)).1
-  ok_takes s t v w (took h) (view_gap e a) = absurd (h.found e)
+  ok_takes s t v w (took h) (of_group g) = (h.readable w _ (of_front k _ w l.words g)).1
+  ok_takes s t v w (took h) (of_gap e a) = absurd (h.found e)
 
   -- and a refusal is want of memory
   err_gives : (s t : Situation) (e : Error) (w : T) → SingleErr T k q group gap s e t
-      → SingleView (front k (pieces q (cells s))) w → class e ≡ OfMemory
+      → SingleValue T group gap (front k (pieces q (cells s))) w → class e ≡ OfMemory
   err_gives s t e w (of_memory c) v = c
-  err_gives s t e w (of_missing c h p same) (view_group g) = absurd (not_empty _ w p g)
-  err_gives s t e w (of_missing c h p same) (view_gap x a) = absurd (l.no_absent w h a)
-  err_gives s t e w (of_absent c h p n) (view_group g) = absurd (not_empty _ w p g)
-  err_gives s t e w (of_absent c h p n) (view_gap x a) = absurd (n w a)
-  err_gives s t e w (of_piece c ne n) (view_group g) = absurd (n w _ (of_front k _ w l.words g))
-  err_gives s t e w (of_piece c ne n) (view_gap x a) = absurd (ne x)
+  err_gives s t e w (of_missing c h p same) (of_group g) = absurd (not_empty _ w p g)
+  err_gives s t e w (of_missing c h p same) (of_gap x a) = absurd (l.no_absent w h a)
+  err_gives s t e w (of_absent c h p n) (of_group g) = absurd (not_empty _ w p g)
+  err_gives s t e w (of_absent c h p n) (of_gap x a) = absurd (n w a)
+  err_gives s t e w (of_piece c ne n) (of_group g) = absurd (n w _ (of_front k _ w l.words g))
+  err_gives s t e w (of_piece c ne n) (of_gap x a) = absurd (ne x)
 
   -- so it is of each answer
   single_takes : (s t : Situation) (v w : T) → IsWholeIn env s → inner s (Ok v) t
       → SingleValue T group gap (front k (pieces q (cells s))) w → NoKeysLeft k q (cells t)
   single_takes s t v w h i g =
-      no_keys_left k q (cells t) _ (ok_takes s t v w (l.ok s t v h i) (single_view _ w g))
+      no_keys_left k q (cells t) _ (ok_takes s t v w (l.ok s t v h i) g)
 
   -- and of each refusal
   single_refuses : (s t : Situation) (e : Error) (w : T) → IsWholeIn env s → inner s (Err e) t
       → SingleValue T group gap (front k (pieces q (cells s))) w → class e ≡ OfMemory
-  single_refuses s t e w h i g = err_gives s t e w (l.err s t e h i) (single_view _ w g)
+  single_refuses s t e w h i g = err_gives s t e w (l.err s t e h i) g
 
   -- a field without a repeat or default keeps to the laws of a field
   pub single_law : FieldLaw env T inner k q (SingleValue T group gap)
@@ -179,29 +164,17 @@ module _ {env : Variables} (T : Type 0) (inner : Outcome T) (k : FieldKind) (q :
       record {
         steady = steady_refl s;
         takes = takes_none;
-        read = λ n. subst (λ z. OptionalValue T group gap z None)
-            (sym a.1) (no_value a.0);
+        read = λ n. no_value a.1 a.0;
         rest = λ n. nothing_left _ _ a.1 refl;
       }
 
-  -- a value that may be left out: it is there, or not
-  data OptionalView (os : List LinePiece) (v : Option T) : Type 0 where
-    view_some : (x : T) → v ≡ Some x → SingleValue T group gap os x → OptionalView os v
-    view_none : os ≡ [] → v ≡ None → gap.has ≡ false → OptionalView os v
-
-  -- by its constructors
-  optional_view : (os : List LinePiece) (v : Option T) → OptionalValue T group gap os v
-      → OptionalView os v
-  optional_view os v (some_value {v = x} g) = view_some x refl g
-  optional_view os v (no_value h) = view_none refl refl h
-
   -- where the portion has a value, Some took all
   some_takes : (s t : Situation) (x : T) (v : Option T) → IsWholeIn env s → inner s (Ok x) t
-      → SingleOk T k q group gap s x t → OptionalView (front k (pieces q (cells s))) v
+      → SingleOk T k q group gap s x t → OptionalValue T group gap (front k (pieces q (cells s))) v
       → NoKeysLeft k q (cells t)
-  some_takes s t x v w i o (view_some y e g) = single_takes s t x y w i g
-  some_takes s t x v w i (gave_absent h p ab same st) (view_none e n b) = absurd cc
-  some_takes s t x v w i (took h) (view_none e n b) = absurd (h.found e)
+  some_takes s t x v w i o (some_value {v = y} g) = single_takes s t x y w i g
+  some_takes s t x v w i (gave_absent h p ab same st) (no_value e b) = absurd cc
+  some_takes s t x v w i (took h) (no_value e b) = absurd (h.found e)
 
   -- None took all that is there
   none_takes : (s : Situation) → front k (pieces q (cells s)) ≡ [] → NoKeysLeft k q (cells s)
@@ -219,7 +192,7 @@ module _ {env : Variables} (T : Type 0) (inner : Outcome T) (k : FieldKind) (q :
 
   -- where the portion has a value, all is taken
   optional_takes : (s t : Situation) (u v : Option T) → IsWholeIn env s
-      → OptionalEval T inner s (Ok u) t → OptionalView (front k (pieces q (cells s))) v
+      → OptionalEval T inner s (Ok u) t → OptionalValue T group gap (front k (pieces q (cells s))) v
       → NoKeysLeft k q (cells t)
   optional_takes s t u v w (optional_some {v = x} i) g = some_takes s t x v w i (l.ok s t x w i) g
   optional_takes s t u v w (optional_none {e = e} {m = m} i h) g =
@@ -227,10 +200,11 @@ module _ {env : Variables} (T : Type 0) (inner : Outcome T) (k : FieldKind) (q :
 
   -- and a refusal is want of memory
   optional_refuses : (s t : Situation) (e : Error) (v : Option T) → IsWholeIn env s
-      → OptionalEval T inner s (Err e) t → OptionalView (front k (pieces q (cells s))) v
-      → class e ≡ OfMemory
-  optional_refuses s t e v w (optional_err i n) (view_some y x g) = single_refuses s t e y w i g
-  optional_refuses s t e v w (optional_err i n) (view_none x y b) =
+      → OptionalEval T inner s (Err e) t
+      → OptionalValue T group gap (front k (pieces q (cells s))) v → class e ≡ OfMemory
+  optional_refuses s t e v w (optional_err i n) (some_value {v = y} g) =
+      single_refuses s t e y w i g
+  optional_refuses s t e v w (optional_err i n) (no_value x b) =
       none_fails s t e (λ c same. n (stops_by s t e c same)) x b (l.err s t e w i)
   optional_refuses s t e v w (optional_memory c) g = c
 
@@ -239,8 +213,8 @@ module _ {env : Variables} (T : Type 0) (inner : Outcome T) (k : FieldKind) (q :
   optional_law = record {
     own = l.own;
     ok = optional_ok;
-    takes_all = λ s t u v w i g. optional_takes s t u v w i (optional_view _ v g);
-    refuses = λ s t e v w i g. optional_refuses s t e v w i (optional_view _ v g);
+    takes_all = optional_takes;
+    refuses = optional_refuses;
   }
 
   -- fallback
@@ -261,20 +235,9 @@ module _ {env : Variables} (T : Type 0) (inner : Outcome T) (k : FieldKind) (q :
         record {
           steady = steady_refl s;
           takes = takes_none;
-          read = λ n. subst (λ z. FallbackValue T group gap f z v)
-              (sym a.1) (kept_value a.0 y);
+          read = λ n. kept_value a.1 a.0 y;
           rest = λ n. nothing_left _ _ a.1 refl;
         }
-
-    -- a value with a default: its own, or the one that is kept
-    data FallbackView (os : List LinePiece) (v : T) : Type 0 where
-      view_own : SingleValue T group gap os v → FallbackView os v
-      view_kept : os ≡ [] → gap.has ≡ false → f.yes tt v → FallbackView os v
-
-    fallback_view : (os : List LinePiece) (v : T) → FallbackValue T group gap f os v
-        → FallbackView os v
-    fallback_view os v (own_value g) = view_own g
-    fallback_view os v (kept_value h y) = view_kept refl h y
 
     kept_ok : (s t : Situation) (v : T) → front k (pieces q (cells s)) ≡ [] → gap.has ≡ false
         → SingleOk T k q group gap s v t → ⊥
@@ -282,37 +245,37 @@ module _ {env : Variables} (T : Type 0) (inner : Outcome T) (k : FieldKind) (q :
     kept_ok s t v e h (took g) = g.found e
 
     own_missing : (s : Situation) (v : T) → (gap.has ≡ false) × (front k (pieces q (cells s)) ≡ [])
-        → SingleView (front k (pieces q (cells s))) v → ⊥
-    own_missing s v a (view_group z) = not_empty _ v a.1 z
-    own_missing s v a (view_gap z ab) = l.no_absent v a.0 ab
+        → SingleValue T group gap (front k (pieces q (cells s))) v → ⊥
+    own_missing s v a (of_group z) = not_empty _ v a.1 z
+    own_missing s v a (of_gap z ab) = l.no_absent v a.0 ab
 
     -- where the portion has a value, all is taken
     fallback_takes : (s t : Situation) (u v : T) → IsWholeIn env s
-        → FallbackEval T inner f s (Ok u) t → FallbackView (front k (pieces q (cells s))) v
-        → NoKeysLeft k q (cells t)
-    fallback_takes s t u v w (fallback_ok i) (view_own g) = single_takes s t u v w i g
-    fallback_takes s t u v w (fallback_ok i) (view_kept e h y) =
+        → FallbackEval T inner f s (Ok u) t
+        → FallbackValue T group gap f (front k (pieces q (cells s))) v → NoKeysLeft k q (cells t)
+    fallback_takes s t u v w (fallback_ok i) (own_value g) = single_takes s t u v w i g
+    fallback_takes s t u v w (fallback_ok i) (kept_value e h y) =
         absurd (kept_ok s t u e h (l.ok s t u w i))
     fallback_takes s t u v w (fallback_given {e = e} {m = m} i h y) g =
         none_takes s (catch_none s m e h (l.err s m e w i)).1
 
     -- and a refusal is want of memory
     fallback_refuses : (s t : Situation) (g : Error) (v : T) → IsWholeIn env s
-        → FallbackEval T inner f s (Err g) t → FallbackView (front k (pieces q (cells s))) v
-        → class g ≡ OfMemory
-    fallback_refuses s t g v w (fallback_no {e = e} {m = m} i h n c) (view_own o) =
-        absurd (own_missing s v (catch_none s m e h (l.err s m e w i)) (single_view _ v o))
-    fallback_refuses s t g v w (fallback_no i h n c) (view_kept p b z) = absurd (decides tt v z n)
+        → FallbackEval T inner f s (Err g) t
+        → FallbackValue T group gap f (front k (pieces q (cells s))) v → class g ≡ OfMemory
+    fallback_refuses s t g v w (fallback_no {e = e} {m = m} i h n c) (own_value o) =
+        absurd (own_missing s v (catch_none s m e h (l.err s m e w i)) o)
+    fallback_refuses s t g v w (fallback_no i h n c) (kept_value p b z) = absurd (decides tt v z n)
     fallback_refuses s t g v w (fallback_memory c) view = c
-    fallback_refuses s t g v w (fallback_err {m = m} i n) (view_own o) =
+    fallback_refuses s t g v w (fallback_err {m = m} i n) (own_value o) =
         single_refuses s m g v w i o
-    fallback_refuses s t g v w (fallback_err {m = m} i n) (view_kept p b z) =
+    fallback_refuses s t g v w (fallback_err {m = m} i n) (kept_value p b z) =
         none_fails s m g (λ c same. n c) p b (l.err s m g w i)
 
     pub fallback_law : FieldLaw env T (FallbackEval T inner f) k q (FallbackValue T group gap f)
     fallback_law = record {
       own = l.own;
       ok = fallback_took;
-      takes_all = λ s t u v w i g. fallback_takes s t u v w i (fallback_view _ v g);
-      refuses = λ s t e v w i g. fallback_refuses s t e v w i (fallback_view _ v g);
+      takes_all = fallback_takes;
+      refuses = fallback_refuses;
     }

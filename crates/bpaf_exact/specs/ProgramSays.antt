@@ -40,11 +40,6 @@ abbrev pub cells_said : {P T : Type 0} → ProgramSaid P T → P → CellsValue 
 cells_said (of_pieces said) = λ p. CutSays (said p)
 cells_said (of_cells said) = said
 
--- what the value of a field says of its own pieces
-abbrev pub pieces_said : {P T : Type 0} → ProgramSaid P T → P → Said T
-pieces_said (of_pieces said) = said
-pieces_said (of_cells said) = λ p os v. Unit {0}
-
 -- of a parser round another, by what it makes of either
 abbrev pub said_round : {P Q A B : Type 0} → (Q → P) → (Q → Said A → Said B)
     → (Q → CellsValue A → CellsValue B) → ProgramSaid P A → ProgramSaid Q B

@@ -133,7 +133,7 @@ pub data OwnList (T : Type 0) (group : Groups T) (gap : Gap T) : List LinePiece 
 pub data SingleValue (T : Type 0) (group : Groups T) (gap : Gap T) : List LinePiece → T
     → Type 0 where
   of_group : {os : List LinePiece} {v : T} → group os v [] → SingleValue T group gap os v
-  of_gap : {v : T} → gap.absent v → SingleValue T group gap [] v
+  of_gap : {os : List LinePiece} {v : T} → os ≡ [] → gap.absent v → SingleValue T group gap os v
 
 -- with a repeat a positional field gets all words
 abbrev pub repeated : FieldKind → FieldKind

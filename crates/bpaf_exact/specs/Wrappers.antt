@@ -78,7 +78,7 @@ pub data OptionalValue (T : Type 0) (group : Groups T) (gap : Gap T) : List Line
     → Type 0 where
   some_value : {os : List LinePiece} {v : T} → SingleValue T group gap os v
       → OptionalValue T group gap os (Some v)
-  no_value : gap.has ≡ false → OptionalValue T group gap [] None
+  no_value : {os : List LinePiece} → os ≡ [] → gap.has ≡ false → OptionalValue T group gap os None
 
 -- what fallback gives: a clone of the value that it keeps
 abbrev pub kept_closure : {T : Type 0} → (T → Type 0) → Closure (Unit {0}) T
@@ -101,7 +101,8 @@ pub data FallbackValue (T : Type 0) (group : Groups T) (gap : Gap T)
     (f : Closure (Unit {0}) T) : List LinePiece → T → Type 0 where
   own_value : {os : List LinePiece} {v : T} → SingleValue T group gap os v
       → FallbackValue T group gap f os v
-  kept_value : {v : T} → gap.has ≡ false → f.yes tt v → FallbackValue T group gap f [] v
+  kept_value : {os : List LinePiece} {v : T} → os ≡ [] → gap.has ≡ false → f.yes tt v
+      → FallbackValue T group gap f os v
 
 -- the same round a field without a repeat or default
 pub record ClosedGroup (A B : Type 0) (group : Groups A) (f : Closure A B) (os : List LinePiece)

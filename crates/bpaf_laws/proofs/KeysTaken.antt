@@ -9,7 +9,7 @@ use Rattle.std.proofs.lemmas.Bool.{cases_eq, cases_lt, or_left, or_right}
 use Rattle.std.proofs.lemmas.Bool.Decides.{nat_tests}
 use Rattle.bpaf_text.specs.Named.{KeyWithValue}
 use Rattle.bpaf_base.specs.declared.arg.Arg.{Arg}
-use Rattle.bpaf_base.specs.declared.arg.Arg.TheVariants.{Short, Long, ArgWord, Word, PosWord}
+use Rattle.bpaf_base.specs.declared.arg.Arg.TheVariants.{Short}
 use Rattle.bpaf_base.specs.Items.{value_text}
 use Rattle.bpaf_line.specs.Situation.{Situation, is_open, is_taken, in_scope, item_at, item_in}
 use Rattle.bpaf_line.specs.Situation.{take_place}
@@ -101,10 +101,7 @@ value_is_no_key : (argument : KeyWithValue) (item : Option Arg) (text : List ℕ
     → option_and_then value_text item ≡ Some text → ⊥
 value_is_no_key argument None text key value = cc
 value_is_no_key argument (Some (Short c attached word)) text key value = cc
-value_is_no_key argument (Some (Long name attached word)) text key value = cc
-value_is_no_key argument (Some (ArgWord own)) text key value = cc
-value_is_no_key argument (Some (Word own)) text key value = cc
-value_is_no_key argument (Some (PosWord own)) text key value = cc
+value_is_no_key argument (Some _) text key value = cc
 
 -- at one place: four tests in another order
 other_order : (a b c d : Bool) → ((a || b) || (c || d)) ≡ ((a || c) || (b || d))

@@ -1,7 +1,7 @@
 //! What an evaluation refuses with, and which refusals are caught.
-ghost use Rattle.std.specs.Prelude.{◌≡◌, if◌then◌else◌};
+ghost use Rattle.std.specs.Prelude.{◌≡◌, MatchResult, false, if◌then◌else◌};
 ghost use Rattle.bpaf_line.specs.Combining.{Combines, CombinesSpared};
-ghost use Rattle.bpaf_line.specs.Messages.{is_memory, can_catch, is_wrong_input};
+ghost use Rattle.bpaf_line.specs.Messages.{is_answer, is_memory, can_catch, is_wrong_input};
 
 use crate::failure::ParseFailure;
 use crate::missing::MissingItems;
@@ -13,7 +13,6 @@ use std::alloc::{AllocError, AllocFailed};
 ///
 /// A place is that of an item in the line. bpaf keeps some of the texts as `&'static str`, here
 /// each is a [`Text`].
-#[derive(Drop)]
 pub enum Message {
     /// Memory was wanted and refused. bpaf has no such case.
     Memory,
@@ -58,6 +57,30 @@ pub enum Message {
     /// The places of two keys of one name that may stand once only: that of the earlier one, and
     /// that of the one which is left.
     OnlyOnce(usize, usize),
+}
+
+/// One call, so that a function that drops a refusal isn't checked for each kind of it.
+impl Drop for Message {
+    fn drop(self) {
+        match self {
+            Message::Memory
+            | Message::Unconsumed(_)
+            | Message::Conflict(_, _)
+            | Message::OnlyOnce(_, _) => {}
+            Message::NoEnv(_text)
+            | Message::ParseSome(_text)
+            | Message::ParseFail(_text)
+            | Message::PureFailed(_text) => {}
+            Message::Missing(_items) => {}
+            Message::ParseFailure(_failure) => {}
+            Message::StrictPos(_, _text)
+            | Message::NonStrictPos(_, _text)
+            | Message::NoArgument(_, _text) => {}
+            Message::ParseFailed(_, _text) | Message::GuardFailed(_, _text) => {}
+            Message::Ambiguity(_text, _) => {}
+            Message::Expected(_items, _) => {}
+        }
+    }
 }
 
 /// A refusal of a parser (bpaf's `Error`).
@@ -106,6 +129,17 @@ impl Message {
         )
     }
 
+    /// The answer of an inner run; or the message itself, where it is none. It takes no memory.
+    pub fn into_answer(self) -> Result<ParseFailure, Message>
+        ensures { MatchResult result (λ failure. self ≡ Message.ParseFailure failure)
+            (λ message. (message ≡ self) × (is_answer self ≡ false)) }
+    {
+        match self {
+            Message::ParseFailure(failure) => Ok(failure),
+            other => Err(other),
+        }
+    }
+
     /// The first where it can't be caught, else the other.
     fn or_other(self, other: Message) -> Message
         ensures { result ≡ (if can_catch self then other else self) }
@@ -139,20 +173,39 @@ impl Message {
     fn combine_spared(self, other: Message) -> Message
         ensures { CombinesSpared self other result }
     {
-        match (self, other) {
-            (Message::ParseFailure(failure), second) => {
-                drop(second);
+        match self {
+            Message::ParseFailure(failure) => {
+                drop(other);
                 Message::ParseFailure(failure)
             }
-            (first, Message::ParseFailure(failure)) => {
-                drop(first);
+            Message::Missing(items) => Message::combine_missing(items, other),
+            first => match other {
+                Message::ParseFailure(failure) => {
+                    drop(first);
+                    Message::ParseFailure(failure)
+                }
+                second => first.or_other(second),
+            },
+        }
+    }
+
+    /// The same where the first is of items that were missing.
+    fn combine_missing(items: MissingItems, other: Message) -> Message
+        ensures { CombinesSpared (Message.Missing items) other result }
+    {
+        match other {
+            Message::ParseFailure(failure) => {
+                drop(items);
                 Message::ParseFailure(failure)
             }
-            (Message::Missing(items), Message::Missing(others)) => match items.join(others) {
+            Message::Missing(others) => match items.join(others) {
                 Ok(all) => Message::Missing(all),
                 Err(_refused) => Message::Memory,
             },
-            (first, second) => first.or_other(second),
+            second => {
+                drop(items);
+                second
+            }
         }
     }
 }

@@ -9,20 +9,36 @@ use std::ops::Range;
 
 /// An item that a parser looked for in vain, the place from which it looked, and the scope in which
 /// it looked (bpaf's `MissingItem`).
-#[derive(Drop)]
 pub struct MissingItem {
     pub item: Item,
     pub position: usize,
     pub scope: Range<usize>,
 }
 
+/// One call, as for the list of them and for a message.
+impl Drop for MissingItem {
+    fn drop(self) {
+        let MissingItem {
+            item: _item,
+            position: _,
+            scope: _scope,
+        } = self;
+    }
+}
+
 /// The items that parsers looked for in vain, in order.
 ///
 /// bpaf has a `Vec` in its place; contracts see this list without its room, and compare it by what
 /// its items are seen as (`missed_of`, specs/Missing.antt).
-#[derive(Drop)]
 pub struct MissingItems {
     items: Vec<MissingItem>,
+}
+
+/// One call, so that a function that drops a refusal isn't checked for what is inside.
+impl Drop for MissingItems {
+    fn drop(self) {
+        let MissingItems { items: _items } = self;
+    }
 }
 
 impl Model for MissingItems {
@@ -92,8 +108,8 @@ impl MissingItems {
     pub fn join(self, other: MissingItems) -> Result<MissingItems, AllocError>
         ensures { IfOk result (λ items. items ≡ self ++ other) }
     {
-        let mut items = self.items;
-        let mut others = other.items;
+        let MissingItems { mut items } = self;
+        let MissingItems { items: mut others } = other;
         items.append(&mut others)?;
         Ok(MissingItems { items })
     }

@@ -243,9 +243,11 @@ fn refusal(message: &Message, state: &State) -> ParseFailure
 pub fn render(message: Message, state: &State) -> ParseFailure
     ensures { Renders message state.now result }
 {
-    match message {
-        Message::Memory => ParseFailure::Memory,
-        Message::ParseFailure(failure) => failure,
-        message => refusal(&message, state),
+    match message.into_answer() {
+        Ok(failure) => failure,
+        Err(message) => match &message {
+            Message::Memory => ParseFailure::Memory,
+            message => refusal(message, state),
+        },
     }
 }

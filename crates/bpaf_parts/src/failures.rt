@@ -24,13 +24,11 @@ pub fn end_message(failure: ParseFailure) -> Message
 pub fn hide(alloc: Global, message: Message) -> Message
     ensures { result ≡ hidden message }
 {
-    match message {
-        Message::Missing(items) => {
-            drop(items);
-            Message::Missing(MissingItems::none(alloc))
-        }
-        other => other,
+    if matches!(message, Message::Missing(..)) {
+        drop(message);
+        return Message::Missing(MissingItems::none(alloc));
     }
+    message
 }
 
 /// Whether an inner run ended for want of memory. It takes none.

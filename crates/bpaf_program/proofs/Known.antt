@@ -153,7 +153,7 @@ product_known {makes = makes} made fields = record {
 }
 
 -- the known names of what it shows
-pub names_shown : {T : Type 0} {outcome : Outcome T} {reads wanted : Readings T}
+names_shown : {T : Type 0} {outcome : Outcome T} {reads wanted : Readings T}
     {describes : Shape → Type 0} {shape : Shape} → IsKnown outcome reads describes wanted shape
     → (info : RunInfo) → info ≡ plain_info → (other : Shape) → describes other
     → known_names info other ≡ known_names plain_info shape

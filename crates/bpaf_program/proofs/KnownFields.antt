@@ -3,6 +3,7 @@ use Rattle.std.proofs.Common.{◌≡◌, Bool, true, false, List, [], ◌∷◌,
 use Rattle.bpaf_doc.specs.declared.doc.Piece.{Piece}
 use Rattle.bpaf_doc.specs.Names.{Names}
 use Rattle.bpaf_doc.specs.Shape.{Shape}
+use Rattle.bpaf_doc.specs.Walks.{parts}
 use Rattle.bpaf_text.specs.Named.{KeyWithValue, Named, key_named}
 use Rattle.bpaf_laws.specs.Argument.{ArgumentOutcome, argument_shape}
 use Rattle.bpaf_laws.specs.Default.{DefaultDescribes, FallbackOutcome, GivesClone}
@@ -23,7 +24,8 @@ use Rattle.bpaf_record.specs.Grammar.{word}
 use Rattle.bpaf_record.specs.Positional.{positional_field_law}
 use Rattle.bpaf_program.specs.KnownFields.{known_default, known_many, known_optional}
 use Rattle.bpaf_program.specs.KnownFields.{known_switch}
-use Rattle.bpaf_program.specs.KnownParser.{IsKnownParser, ShowsShorts, no_shorts, shown_shorts}
+use Rattle.bpaf_program.specs.KnownParser.{IsKnownParser, ShowsShorts, no_shorts, shorts_of}
+use Rattle.bpaf_program.specs.KnownParser.{shown_shorts}
 use Rattle.bpaf_exact.proofs.Narrow.{no_more}
 use Rattle.bpaf_exact.proofs.ProgramForm.{narrower_program_form}
 use Rattle.bpaf_laws.proofs.Clones.{fallback_kept}
@@ -54,13 +56,30 @@ switch_known names help named_is present_is absent_is =
       shown = switch_shows names.shorts names.longs help;
     })
 
--- an argument
+-- an argument shows the same short names, whatever its help is
+argument_shows : (shorts : List ℕ) (longs : List (List ℕ)) (key : KeyWithValue)
+    (help : Option (List Piece)) → let names : Names = record { shorts = shorts; longs = longs } in
+    let named : Named = record key.named { names = names } in
+    ShowsShorts
+    (λ shape. shape ≡ argument_shape (record key { named = record named { help = help } }))
+    (shorts_of (parts (argument_shape (record key { named = named }))))
+argument_shows [] [] key help = one_shows _
+argument_shows [] (long ∷ longs) key help = one_shows _
+argument_shows (short ∷ shorts) [] key help = one_shows _
+argument_shows (short ∷ shorts) (long ∷ longs) key help = one_shows _
+
+-- an argument, with some help or none
 pub argument_known : {T : Type 0} (means : List ℕ → T → Type 0) (key : KeyWithValue)
-    {own : KeyWithValue} → own ≡ key
+    (help : Option (List Piece)) {own : KeyWithValue}
+    → own ≡ record key { named = record key.named { help = help } }
     → IsKnownParser (argument means key) (ArgumentOutcome means own)
     (λ shape. shape ≡ argument_shape own)
-argument_known {T} means key is =
-    rw is (record { law = λ env. argument_form_law T means key env []; shown = one_shows _ })
+argument_known {T} means key help is =
+    rw is (record {
+      law = λ env. argument_form_law T means
+          (record key { named = record key.named { help = help } }) env [];
+      shown = argument_shows key.named.names.shorts key.named.names.longs key help;
+    })
 
 -- a word shows no short name
 word_shows : (place : Position) (metavar : List ℕ) (help : Option (List Piece))

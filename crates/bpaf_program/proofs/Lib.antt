@@ -2,7 +2,6 @@ pub mod ReadsToo
 pub mod WordBefore
 pub mod Commands
 pub mod Ended
-pub mod Exactly
 pub mod Known
 pub mod Parts
 pub mod Pieces

@@ -1,12 +1,10 @@
--- Flat records all of whose values on the same words look alike.
-use Rattle.std.proofs.Common.{refl, ◌≡◌, All, Bool, true, false, IsUtf8, List, [], ◌∷◌, ◌++◌, Some}
-use Rattle.std.proofs.Common.{map, ℕ, ap, string_bytes, subst, sym, ◌∙◌}
+-- Flat fields and records all of whose values on the same pieces look alike.
+use Rattle.std.proofs.Common.{refl, ◌≡◌, Bool, true, false, List, [], ◌∷◌, ◌++◌, Some, map, ℕ}
+use Rattle.std.proofs.Common.{ap, string_bytes, sym, ◌∙◌}
 use Rattle.std.specs.Prelude.{option_map, not}
 use Rattle.bpaf_doc.specs.Names.{Names}
 use Rattle.bpaf_text.specs.Meaning.{SpellsUnsigned}
 use Rattle.bpaf_text.specs.Named.{KeyWithValue, key_named}
-use Rattle.bpaf_words.specs.Arguments.{Given}
-use Rattle.bpaf_words.specs.Spelling.{Known}
 use Rattle.bpaf_laws.specs.Default.{FallbackOutcome, GivesClone}
 use Rattle.bpaf_laws.specs.Argument.{ArgumentOutcome}
 use Rattle.bpaf_laws.specs.Flag.{FlagOutcome}
@@ -18,7 +16,6 @@ use Rattle.bpaf.specs.declared.leaves.positional.Position.TheVariants.{Unrestric
 use Rattle.bpaf.specs.Positional.{PositionalOutcome}
 use Rattle.bpaf_exact.specs.FlatForm.{FlatForm, FormLaw, flat_alone, flat_both, flat_con}
 use Rattle.bpaf_exact.specs.FlatForm.{flat_fallback, flat_field, flat_optional, flat_many}
-use Rattle.bpaf_exact.specs.FlatForm.{flat_record, is_record, product_reading, product_roles}
 use Rattle.bpaf_exact.specs.Flat.{is_behind, Variables}
 use Rattle.bpaf_exact.specs.Pieces.{LinePiece}
 use Rattle.bpaf_record.specs.Positional.{value_before, positional_field_law}
@@ -26,18 +23,15 @@ use Rattle.bpaf_exact.specs.Leaves.{SideValue, WordEval, argument_field, flag_fi
 use Rattle.bpaf_exact.specs.Leaves.{word_field}
 use Rattle.bpaf_exact.specs.ProgramForm.{plain}
 use Rattle.bpaf_exact.specs.OneView.{Alike, HasOneView, pair_view}
-use Rattle.bpaf_exact.specs.Record.{RecordValue, line_cells}
 use Rattle.bpaf_exact.specs.Wrappers.{kept_closure, map_closure}
 use Rattle.bpaf_exact.proofs.Arguments.{argument_field_law}
 use Rattle.bpaf_exact.proofs.FlatForm.{flat_alone_law, flat_both_law, flat_con_law, flat_field_law}
 use Rattle.bpaf_exact.proofs.Flags.{flag_field_law}
 use Rattle.bpaf_exact.proofs.OneView.{alone_view, argument_view, both_view, con_view, field_view}
 use Rattle.bpaf_exact.proofs.OneView.{fallback_view, flag_view, many_view, optional_field_view}
-use Rattle.bpaf_exact.proofs.OneView.{record_looks_one, side_view, word_view}
+use Rattle.bpaf_exact.proofs.OneView.{side_view, word_view}
 use Rattle.bpaf_exact.proofs.Positionals.{word_by_law}
 use Rattle.bpaf_exact.proofs.ByTables.{fallback_law, many_law, optional_law}
-use Rattle.bpaf_record.proofs.OneLine.{same_context}
-use Rattle.bpaf_program.specs.ReadBy.{IsReadBy}
 use Rattle.bpaf_program.specs.Values.{IsKept, MeansText, String}
 
 -- a form that this outcome, of a parser with these keys, keeps to, and whose values look alike
@@ -173,16 +167,6 @@ module _ {T X : Type 0} {outcome : Outcome T} {see : T → X} {names : List Name
         })
         form is.view;
   }
-
-  -- all values of the record on the same words look alike
-  pub reads_one : is_record form ≡ true → (known : Known) (given : Given) → All IsUtf8 given.words
-      → Alike see (IsReadBy known given form)
-  reads_one record_is known given texts v w a b =
-      let one = same_context given texts known a.context b.context a.is_context b.is_context in
-      record_looks_one T X see [] outcome names form record_is (is.law []) is.view
-      (line_cells b.context) v w
-      (subst (λ context. RecordValue (product_roles (flat_record form))
-      (product_reading (flat_record form)).value context v) one a.read) b.read
 
 -- a field before others
 pub both_seen : {A B X Y : Type 0} {see : A → X} {look : B → Y} {own others : List Names}

@@ -6,10 +6,10 @@ use Rattle.bpaf_doc.specs.Names.{Names}
 use Rattle.bpaf_doc.specs.Shape.{Shape}
 use Rattle.bpaf_text.specs.declared.params.ParseFlag.{ParseFlag}
 use Rattle.bpaf_text.specs.Named.{KeyWithValue, key_named, with_help}
-use Rattle.bpaf_core.specs.declared.commands.ParseCommand.{ParseCommand}
 use Rattle.bpaf_laws.specs.Command.{named_only}
 use Rattle.bpaf_laws.specs.Flag.{FlagReads, flag_shape}
 use Rattle.bpaf_laws.specs.Reading.{Readings}
+use Rattle.bpaf_core.specs.declared.commands.ParseCommand.{ParseCommand}
 use Rattle.bpaf.specs.Info.{plain_info}
 use Rattle.bpaf.specs.declared.leaves.positional.ParsePositional.{ParsePositional}
 use Rattle.bpaf.specs.declared.leaves.positional.Position.{Position}

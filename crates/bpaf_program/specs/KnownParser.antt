@@ -45,7 +45,8 @@ program_names shorts =
       arguments = shorts.arguments;
     })
 
--- the short names that a parser shows which is made so, of keys inside commands too
+-- the short names that a parser shows which is made so, of keys inside commands too; but a hidden
+-- one shows none, and isn't known by these
 abbrev pub shown_shorts : {T : Type 0} → Grammar T → ShortNames
 shown_shorts (flag clones key present absent) = shorts_of (parts (flag_shape key absent))
 shown_shorts (argument means key) = shorts_of (parts (argument_shape key))

@@ -1,24 +1,14 @@
--- The values of a flat record, and of a program, on words whose line is read by known names, and
--- answers that are exact for them.
+-- The values of a program on words whose line is read by known names, and answers that are exact for
+-- them.
 use Rattle.std.specs.Prelude.{IfOk, Result}
 use Rattle.bpaf_words.specs.Arguments.{Given}
 use Rattle.bpaf_words.specs.Spelling.{Known}
 use Rattle.bpaf_line.specs.Constructing.{IsContext}
 use Rattle.bpaf_line.specs.Situation.{Context}
 use Rattle.bpaf_line.specs.declared.failure.ParseFailure.{ParseFailure}
-use Rattle.bpaf_exact.specs.FlatForm.{FlatForm, flat_record, product_reading, product_roles}
 use Rattle.bpaf_exact.specs.Programs.{CellsValue}
-use Rattle.bpaf_exact.specs.Record.{RecordValue, line_cells}
+use Rattle.bpaf_exact.specs.Record.{line_cells}
 use Rattle.bpaf_record.specs.Record.{IsValueOrWant}
-
--- v is a value of the record on the line, by these known short names, of what is given: read off the
--- pieces that the line is cut into
-pub record IsReadBy {T : Type 0} (known : Known) (given : Given) (form : FlatForm T) (v : T)
-    : Type 0 where
-  pub context : Context
-  pub is_context : IsContext known given context
-  pub read : RecordValue (product_roles (flat_record form))
-      (product_reading (flat_record form)).value context v
 
 -- v is a value of a program on the line, by these known short names, of what is given
 pub record IsProgramReadBy {T : Type 0} (known : Known) (given : Given) (value : CellsValue T)
@@ -32,8 +22,3 @@ pub record IsProgramReadBy {T : Type 0} (known : Known) (given : Given) (value :
 pub record IsExactFor {T : Type 0} (value : T → Type 0) (r : Result T ParseFailure) : Type 0 where
   pub sound : IfOk r value
   pub complete : (v : T) → value v → IsValueOrWant value r
-
--- for those of a record
-abbrev pub AnswersReadBy : {T : Type 0} → Known → Given → FlatForm T → Result T ParseFailure
-    → Type 0
-AnswersReadBy known given form = IsExactFor (IsReadBy known given form)

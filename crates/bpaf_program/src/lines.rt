@@ -4,7 +4,7 @@ ghost use Rattle.bpaf_program.specs.Lines.{line, line_each};
 
 use std::alloc::AllocError;
 
-/// Appends a line of this text, with the other in front of it; refused only for want of memory.
+/// Appends a line: `front`, and then `rest`; refused only for want of memory.
 ///
 /// ```text
 /// push_line(&mut text, "dir: ", dir.as_str())?;             dir: old
@@ -16,7 +16,7 @@ pub fn push_line(text: &mut String, front: &str, rest: &str) -> Result<(), Alloc
     writeln!(text, "{front}{rest}")
 }
 
-/// Appends a line for each text, with this in front of it; refused only for want of memory.
+/// Appends a line for each text, with `front` before it; refused only for want of memory.
 ///
 /// ```text
 /// push_lines(&mut text, "file: ", files.as_slice())?;      file: a, file: b, a line each

@@ -78,8 +78,9 @@ pub fn run_record<T: Drop, R: Record<T>, S: Sink, E: Sink>(
         × (IfErr r (R.refuses options.now (given_of args.entry))
         × (IfOk r (R.deals options.now (given_of args.entry))
         × ((IsNotWant r → R.answers_spared options.now (given_of args.entry) r)
-        × ((R.agrees options.now → IfOk r (R.says options.now (given_of args.entry)))
-        × (R.agrees options.now → R.answers_exactly options.now (given_of args.entry) r))))))
+        × ((R.agrees options.now → IfOk r (R.tells options.now (given_of args.entry)))
+        × ((R.agrees options.now → R.answers_as_program options.now (given_of args.entry) r)
+        × (R.agrees options.now → R.answers_by_fields options.now (given_of args.entry) r)))))))
         (wrote S.known out.old out.new) (wrote E.known err.old err.new) result }
 {
     end(options.run_record(args), out, err)

@@ -6,14 +6,15 @@ use Rattle.bpaf_doc.specs.Shape.{Shape}
 use Rattle.bpaf_words.specs.Arguments.{Given}
 use Rattle.bpaf_line.specs.declared.failure.ParseFailure.{ParseFailure}
 use Rattle.bpaf.specs.Info.{RunInfo}
-use Rattle.bpaf_exact.specs.FlatForm.{FlatForm}
 use Rattle.bpaf_exact.specs.Pieces.{LinePiece}
+use Rattle.bpaf_exact.specs.ProgramForm.{ProgramForm}
+use Rattle.bpaf_exact.specs.ProgramSays.{CutSays}
 use Rattle.bpaf_exact.specs.Says.{Said, FlagSays, says_present, says_variable, says_absent}
 use Rattle.bpaf_exact.specs.Says.{ArgumentSays, keyed}
 use Rattle.bpaf_exact.specs.Says.{OptionalSays, says_some, says_none, FallbackSays, says_own}
 use Rattle.bpaf_exact.specs.Says.{says_kept, RepeatSays}
 use Rattle.bpaf_exact.proofs.Needed.{NeedsPiece, argument_needs, no_values, repeat_needs}
-use Rattle.bpaf_record.specs.Record.{SaysOfWords}
+use Rattle.bpaf_record.specs.Program.{TellsOfWords}
 use Rattle.bpaf_record.specs.Spelled.{IsSpelledByAny, WasSpelled}
 use Rattle.bpaf_record.proofs.Spelled.{piece_was_spelled, spelled_has_piece}
 
@@ -25,21 +26,17 @@ answer_says (Err f) holds so = tt
 
 -- pieces that are a key's own on the line of words: where there is one, one of the words before the
 -- first `--` spells the key
-pub record OwnOf (given : Given) (key : Names) (os : List LinePiece) : Type 0 where
-  pub spelled : os ≢ [] → WasSpelled key given.words
+pub record OwnOf (words : List (List ℕ)) (key : Names) (os : List LinePiece) : Type 0 where
+  pub spelled : os ≢ [] → WasSpelled key words
 
-module _ {given : Given} {key : Names} {os : List LinePiece} (own : OwnOf given key os) where
-  -- one of the words before the first `--` spells the key, by its names and the words of a caller
+module _ {words : List (List ℕ)} {key : Names} {os : List LinePiece} (own : OwnOf words key os) where
+  -- one of the words before the first `--` spells the key, by the names of a caller
   abbrev IsKeySpelled : Type 0
-  IsKeySpelled =
-      (names : Names) → key ≡ names → (words : List (List ℕ)) → given.words ≡ words
-      → WasSpelled names words
+  IsKeySpelled = (names : Names) → key ≡ names → WasSpelled names words
 
   -- A key with a piece of its own was spelled.
   pub key_spelled : os ≢ [] → IsKeySpelled
-  key_spelled some names same words are =
-      subst (WasSpelled names) are
-      (subst (λ z. WasSpelled z given.words) same (own.spelled some))
+  key_spelled some names same = subst (λ z. WasSpelled z words) same (own.spelled some)
 
   -- So was that of a value that needs a piece,
   pub value_spelled : {A : Type 0} {inside : Said A} {x : A} → NeedsPiece inside
@@ -57,25 +54,22 @@ module _ {given : Given} {key : Names} {os : List LinePiece} (own : OwnOf given 
   -- of a switch that is true then,
   pub switch_spelled : {present : Bool} {absent : Option Bool} {set : Option (List ℕ)} {b : Bool}
       → FlagSays (λ kept x. x ≡ kept) present absent set os b → absent ≡ Some false → set ≡ None
-      → (names : Names) → key ≡ names → (words : List (List ℕ)) → given.words ≡ words
-      → (switch : Bool) → switch ≡ b → switch ≡ true → WasSpelled names words
-  switch_spelled (says_present k one is) off unset names same words are switch value on =
-      key_spelled (λ none. cc) names same words are
-  switch_spelled (says_variable text none set is) off unset names same words are switch value on =
-      absurd cc
-  switch_spelled (says_absent a none set kept is) off unset names same words are switch value on =
-      absurd cc
+      → (names : Names) → key ≡ names → (switch : Bool) → switch ≡ b → switch ≡ true
+      → WasSpelled names words
+  switch_spelled (says_present k one is) off unset names same switch value on =
+      key_spelled (λ none. cc) names same
+  switch_spelled (says_variable text none set is) off unset names same switch value on = absurd cc
+  switch_spelled (says_absent a none set kept is) off unset names same switch value on = absurd cc
 
   -- of a required flag that has its value then,
   pub flag_spelled : {A : Type 0} {clones : A → A → Type 0} {present : A}
       {absent : Option A} {set : Option (List ℕ)} {x : A}
       → FlagSays clones present absent set os x → absent ≡ None → set ≡ None
-      → (names : Names) → key ≡ names → (words : List (List ℕ)) → given.words ≡ words
-      → clones present x × WasSpelled names words
-  flag_spelled (says_present k one is) required unset names same words are =
-      (is, key_spelled (λ none. cc) names same words are)
-  flag_spelled (says_variable text none set is) required unset names same words are = absurd cc
-  flag_spelled (says_absent a none set kept is) required unset names same words are = absurd cc
+      → (names : Names) → key ≡ names → clones present x × WasSpelled names words
+  flag_spelled (says_present k one is) required unset names same =
+      (is, key_spelled (λ none. cc) names same)
+  flag_spelled (says_variable text none set is) required unset names same = absurd cc
+  flag_spelled (says_absent a none set kept is) required unset names same = absurd cc
 
   -- of an optional value that is Some,
   pub optional_spelled : {A : Type 0} {inside : Said A} {o : Option A}
@@ -101,61 +95,76 @@ module _ {given : Given} {key : Names} {os : List LinePiece} (own : OwnOf given 
       key_spelled (λ none. repeat_needs needs xs (λ empty. some (same ∙ empty))
       (subst (λ os. RepeatSays inside os xs) none so))
 
-module _ {T : Type 0} {describes : Shape → Type 0} {info : RunInfo} {form : FlatForm T}
-    {said : Said T} {given : Given} {v : T}
-    (told : SaysOfWords describes info form said given v) where
-  -- the pieces that the line is cut into
-  abbrev line : List LinePiece
-  line = told.is_value.read.cut_into
+-- pieces are those of the line of words: those that begin with a key are its own, and where one of
+-- the words before the first `--` spells the key, whatever names are known, there is one
+pub record AreOfLine (info : RunInfo) (words : List (List ℕ)) (os : List LinePiece) : Type 0 where
+  pub own : (key : Names) → OwnOf words key (keyed (key ∷ []) os)
+  pub spelled : (key : Names) → All IsUtf8 words → IsSpelledByAny info.numbers key words
+      → keyed (key ∷ []) os ≢ []
 
+-- What a value says of the pieces of the line of words is told of these.
+pub told_of_line : {T : Type 0} {describes : Shape → Type 0} {info : RunInfo} {form : ProgramForm T}
+    {said : Said T} {given : Given} {v : T} {Q : Type 0}
+    → TellsOfWords describes info form (CutSays said) given v
+    → (words : List (List ℕ)) → given.words ≡ words
+    → ((os : List LinePiece) → AreOfLine info words os → said os v → Q) → Q
+told_of_line {info = info} {given = given} told words same so =
+    let line = told.is_value in
+    let cut = told.told in
+    so cut.cut_into (record {
+      own = λ key. record {
+        spelled = λ some. subst (WasSpelled key) same
+            (piece_was_spelled key info given line.context line.on_line _ cut.cut_into cut.cut
+            some);
+      };
+      spelled = λ key texts spelled.
+          spelled_has_piece key info given line.context line.on_line _ cut.cut_into cut.cut
+          (subst (All IsUtf8) (sym same) texts)
+          (subst (λ ws. IsSpelledByAny info.numbers key ws) (sym same) spelled);
+    }) cut.told
+
+module _ {info : RunInfo} {words : List (List ℕ)} {os : List LinePiece}
+    (line : AreOfLine info words os) where
   -- Those of them that begin with a key are its own.
-  pub of_line : {key : Names} → OwnOf given key (keyed (key ∷ []) line)
-  of_line {key} = record {
-    spelled = piece_was_spelled key info given told.is_value.context told.is_value.on_line _ line
-        told.is_value.read.cut;
-  }
+  pub of_line : {key : Names} → OwnOf words key (keyed (key ∷ []) os)
+  of_line {key} = line.own key
 
   -- what follows where one of the words before the first `--` spells the key, whatever names are
   -- known
   abbrev IfKeySpelled : Names → Type 0 → Type 0
   IfKeySpelled key A =
-      (names : Names) → key ≡ names → (words : List (List ℕ)) → given.words ≡ words
-      → All IsUtf8 words → IsSpelledByAny info.numbers names words → A
+      (names : Names) → key ≡ names → All IsUtf8 words → IsSpelledByAny info.numbers names words → A
 
   -- A key that was spelled has a piece of its own,
-  pub spelled_key : {key : Names} → IfKeySpelled key (keyed (key ∷ []) line ≢ [])
-  spelled_key {key} names same words are texts spelled =
-      let value = told.is_value in
-      spelled_has_piece key info given value.context value.on_line _ value.read.cut_into
-      value.read.cut (subst (All IsUtf8) (sym are) texts)
-      (subst (λ ws. IsSpelledByAny info.numbers key ws) (sym are)
-      (subst (λ z. IsSpelledByAny info.numbers z words) (sym same) spelled))
+  pub spelled_key : {key : Names} → IfKeySpelled key (keyed (key ∷ []) os ≢ [])
+  spelled_key {key} names same texts spelled =
+      line.spelled key texts (subst (λ z. IsSpelledByAny info.numbers z words) (sym same) spelled)
 
   -- so its switch is true,
   pub spelled_switch : {key : Names} {present : Bool} {absent : Option Bool}
       {set : Option (List ℕ)} {b : Bool}
-      → FlagSays (λ kept x. x ≡ kept) present absent set (keyed (key ∷ []) line) b
+      → FlagSays (λ kept x. x ≡ kept) present absent set (keyed (key ∷ []) os) b
       → present ≡ true
       → (switch : Bool) → switch ≡ b → IfKeySpelled key (switch ≡ true)
-  spelled_switch (says_present k one is) on switch value names same words are texts spelled = cc
-  spelled_switch (says_variable text none set is) on switch value names same words are texts
+  spelled_switch (says_present k one is) on switch value names same texts spelled = cc
+  spelled_switch (says_variable text none set is) on switch value names same texts
       spelled = cc
-  spelled_switch (says_absent a none set kept is) on switch value names same words are texts
-      spelled = absurd (spelled_key names same words are texts spelled none)
+  spelled_switch (says_absent a none set kept is) on switch value names same texts
+      spelled = absurd (spelled_key names same texts spelled none)
 
   -- an optional value Some,
   pub spelled_optional : {key : Names} {A : Type 0} {inside : Said A} {o : Option A}
-      → OptionalSays inside (keyed (key ∷ []) line) o → (value : Option A) → value ≡ o
+      → OptionalSays inside (keyed (key ∷ []) os) o → (value : Option A) → value ≡ o
       → IfKeySpelled key (IsSome value)
-  spelled_optional (says_some x is so) value e names same words are texts spelled =
+  spelled_optional (says_some x is so) value e names same texts spelled =
       subst IsSome (sym (e ∙ is)) refl
-  spelled_optional (says_none is none) value e names same words are texts spelled =
-      absurd (spelled_key names same words are texts spelled none)
+  spelled_optional (says_none is none) value e names same texts spelled =
+      absurd (spelled_key names same texts spelled none)
 
   -- and a repeat not empty.
   pub spelled_repeat : {key : Names} {A : Type 0} {inside : Said A} {xs : List A}
-      → RepeatSays inside (keyed (key ∷ []) line) xs → (values : List A) → values ≡ xs
+      → RepeatSays inside (keyed (key ∷ []) os) xs → (values : List A) → values ≡ xs
       → IfKeySpelled key (values ≢ [])
-  spelled_repeat {key} {A} {inside} {xs} so values e names same words are texts spelled =
-      λ none. spelled_key names same words are texts spelled
-      (no_values (subst (RepeatSays inside (keyed (key ∷ []) line)) (sym e ∙ none) so))
+  spelled_repeat {key} {A} {inside} {xs} so values e names same texts spelled =
+      λ none. spelled_key names same texts spelled
+      (no_values (subst (RepeatSays inside (keyed (key ∷ []) os)) (sym e ∙ none) so))

@@ -26,7 +26,7 @@ use Rattle.bpaf_exact.specs.Programs.{CommandValue, Opens, opens_here, opens_lat
 use Rattle.bpaf_exact.specs.Programs.{without_piece, without_value}
 use Rattle.bpaf_exact.specs.Record.{line_cells}
 use Rattle.bpaf_record.specs.Program.{TellsOfWords}
-use Rattle.bpaf_record.specs.Spelled.{WasCalled}
+use Rattle.bpaf_record.specs.Spelled.{WasCalled, WasSpelled}
 use Rattle.bpaf_record.proofs.Answered.{OwnOf}
 use Rattle.bpaf_record.proofs.OnLine.{present}
 use Rattle.bpaf_record.proofs.Spelled.{HasPassing, was_spelled}
@@ -125,8 +125,9 @@ owned_on q key owns (Some k ∷ cs) some = by_role (q k) refl some (owned_on q k
     by_role r is some behind = own (ap is_own_role is)
 
 -- what is left of the line of words
-pub record LeftOfLine (describes : Shape → Type 0) (info : RunInfo) (given : Given) (cs : Cells)
-    : Type 0 where
+pub record LeftOfLine (describes : Shape → Type 0) (info : RunInfo) (given : Given)
+    (words : List (List ℕ)) (cs : Cells) : Type 0 where
+  pub are : given.words ≡ words
   pub context : Context
   pub on_line : IsLineContext describes info given context
   pub left : IsLeft cs (line_cells context)
@@ -135,39 +136,43 @@ pub record LeftOfLine (describes : Shape → Type 0) (info : RunInfo) (given : G
 pub told_line : {T : Type 0} {describes : Shape → Type 0} {info : RunInfo} {form : ProgramForm T}
     {said : CellsValue T} {given : Given} {v : T}
     → (told : TellsOfWords describes info form said given v)
-    → LeftOfLine describes info given (line_cells told.is_value.context)
-told_line told = record {
+    → (words : List (List ℕ)) → given.words ≡ words
+    → LeftOfLine describes info given words (line_cells told.is_value.context)
+told_line told words are = record {
+  are = are;
   context = told.is_value.context;
   on_line = told.is_value.on_line;
   left = all_left (line_cells told.is_value.context);
 }
 
-module _ {describes : Shape → Type 0} {info : RunInfo} {given : Given} {cs : Cells}
-    (line : LeftOfLine describes info given cs) where
+module _ {describes : Shape → Type 0} {info : RunInfo} {given : Given} {words : List (List ℕ)}
+    {cs : Cells} (line : LeftOfLine describes info given words cs) where
   -- So it is without the pieces of a field.
-  pub without_field : (q : Roles) → LeftOfLine describes info given (without q cs)
+  pub without_field : (q : Roles) → LeftOfLine describes info given words (without q cs)
   without_field q = record {
+    are = line.are;
     context = line.context;
     on_line = line.on_line;
     left = left_again (without_left q cs) line.left;
   }
 
   -- The pieces of a named field are its key's own there.
-  pub of_field : {key : Names} (q : Roles) → Owns q (key ∷ []) → OwnOf given key (pieces q cs)
+  pub of_field : {key : Names} (q : Roles) → Owns q (key ∷ []) → OwnOf words key (pieces q cs)
   of_field {key} q owns = record {
-    spelled = λ some. was_spelled (is_key_of key) (λ text. refl) info given line.context
-        line.on_line (kept_on (is_key_of key) line.left (owned_on q key owns cs some));
+    spelled = λ some. subst (WasSpelled key) line.are
+        (was_spelled (is_key_of key) (λ text. refl) info given line.context
+        line.on_line (kept_on (is_key_of key) line.left (owned_on q key owns cs some)));
   }
 
   -- The word of a command that has the value was spelled.
-  pub command_called : {T : Type 0} {words : List (List ℕ)} {inner : CellsValue T} {v : T}
-      → CommandValue T words inner cs v → (names : List (List ℕ)) → words ≡ names
-      → (said : List (List ℕ)) → given.words ≡ said → WasCalled names said
-  command_called {T} {words} command names same said are =
-      subst (WasCalled names) are
+  pub command_called : {T : Type 0} {opens : List (List ℕ)} {inner : CellsValue T} {v : T}
+      → CommandValue T opens inner cs v → (names : List (List ℕ)) → opens ≡ names
+      → WasCalled names words
+  command_called {T} {opens} command names same =
+      subst (WasCalled names) line.are
       (subst (λ those. WasCalled those given.words) same
-      (was_spelled (is_one_of words) (none_behind words) info given line.context line.on_line
-      (kept_on (is_one_of words) line.left (opens_on words command.opens))))
+      (was_spelled (is_one_of opens) (none_behind opens) info given line.context line.on_line
+      (kept_on (is_one_of opens) line.left (opens_on opens command.opens))))
     where
       none_behind : (words : List (List ℕ)) (text : List ℕ) → is_one_of words (PosWord text) ≡ false
       none_behind [] text = refl

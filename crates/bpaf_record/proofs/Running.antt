@@ -1,5 +1,5 @@
--- Each answer that the table of a run allows to a flat record is exact.
-use Rattle.std.proofs.Common.{◌≡◌, true, List, Some, None, Result, Ok, Err, IfOk, All, IsUtf8, refl}
+-- Each answer that the table of a run allows to a flat record keeps to its fields.
+use Rattle.std.proofs.Common.{◌≡◌, true, false, List, Some, None, Result, Ok, Err, IfOk, All, IsUtf8, refl}
 use Rattle.std.proofs.Common.{[], ap, subst, sym, ⊎_elim}
 use Rattle.std.proofs.lemmas.Bool.{and_parts}
 use Rattle.bpaf_doc.specs.Names.{Names}
@@ -14,9 +14,9 @@ use Rattle.bpaf.specs.Ending.{EndsRun, memory, usage, passed_on, refused as told
 use Rattle.bpaf.specs.Ending.{leftover as told_leftover}
 use Rattle.bpaf.specs.Info.{RunInfo}
 use Rattle.bpaf.specs.Known.{IsLineContext}
-use Rattle.bpaf.specs.Run.{Runs, value, leftover, refused, ran, no_line as none_there}
-use Rattle.bpaf.specs.Run.{no_memory as wanted}
-use Rattle.bpaf_exact.specs.Flat.{FieldsLaw, FieldsReading, Variables}
+use Rattle.bpaf.specs.Run.{Runs, RunsWords, value, leftover, refused, ran}
+use Rattle.bpaf.specs.Run.{no_line as none_there, no_memory as wanted}
+use Rattle.bpaf_exact.specs.Flat.{FieldsLaw, FieldsReading}
 use Rattle.bpaf_exact.specs.Pieces.{Cut, Roles}
 use Rattle.bpaf_exact.specs.Record.{RunRan, run_value, run_leftover, run_memory, run_refusal}
 use Rattle.bpaf_exact.specs.Record.{IsNoValue, IsAcceptedOrWant, IsExact, RecordValue, line_cells}
@@ -25,14 +25,12 @@ use Rattle.bpaf_exact.specs.FlatForm.{flat_record}
 use Rattle.bpaf_exact.proofs.Classes.{memory_class, not_memory}
 use Rattle.bpaf_exact.proofs.Accepted.{cut_holds_together}
 use Rattle.bpaf_exact.proofs.Exact.{runs_exactly}
-use Rattle.bpaf_exact.proofs.FlatForm.{record_law, flat_record_law}
-use Rattle.bpaf_exact.proofs.Says.{record_says}
+use Rattle.bpaf_exact.proofs.FlatForm.{record_law}
 use Rattle.bpaf_exact.specs.SameParts.{ShowsTheSame}
-use Rattle.bpaf_exact.specs.Says.{Said, SaidKind, Says}
-use Rattle.bpaf_exact.proofs.ProgramForm.{record_owns}
-use Rattle.bpaf_exact.proofs.Sharing.{cut_fit}
-use Rattle.bpaf_record.specs.Record.{is_flat_record, answer_of, AnswersExactly, RunsWordsExactly}
-use Rattle.bpaf_record.specs.Record.{IsValueOf, IsValueOrWant, HasWholeLine, PiecesOf, SaysOfWords}
+use Rattle.bpaf_exact.specs.ProgramForm.{ProgramForm, flat_form, plain}
+use Rattle.bpaf_record.specs.Program.{is_whole_program}
+use Rattle.bpaf_record.specs.Record.{is_flat_record, answer_of, AnswersByFields, IsValueOf}
+use Rattle.bpaf_record.specs.Record.{IsValueOrWant, HasWholeLine, PiecesOf}
 use Rattle.bpaf_record.specs.Commands.{left_over}
 use Rattle.bpaf_record.proofs.OneLine.{never_without, one_context}
 
@@ -63,7 +61,7 @@ module _ (T : Type 0) (outcome : Outcome T) (describes : Shape → Type 0) (info
       run_refusal o (not_memory e.0 spared) (no_value T f)
   refused_ran s left t e f o (passed_on g before after spared shows) =
       run_refusal o (not_memory e.0 spared) (no_value T f)
-  refused_ran s left t e f o (told_refusal m before after g u spared shows plain tells) =
+  refused_ran s left t e f o (told_refusal m before after g u spared shows other tells) =
       run_refusal o (not_memory e.0 spared) (no_value T f)
 
   -- a run from its beginning
@@ -143,43 +141,31 @@ module _ (T : Type 0) (outcome : Outcome T) (describes : Shape → Type 0) (info
           exact.refused line.cut_into (pieces_on texts line) none v (ap answer_of e)
       refused_on texts line none (Err f) e = tt
 
-    -- the pieces of a value
-    abbrev line_of : (v : T) → IsValue v → Line
-    line_of v is = record {
-      context = is.context;
-      on_line = is.on_line;
-      cut_into = is.read.cut_into;
-      cut = is.read.cut;
-    }
-
-    -- each answer to words is exact
-    pub answers_exactly : RunsWordsExactly outcome describes info form given
-    answers_exactly r (ran context answer t is run) =
+    -- each answer to words keeps to the fields
+    pub answers_by_fields : (r : Result T ParseFailure)
+        → RunsWords T outcome describes info given r
+        → AnswersByFields T describes info form given r
+    answers_by_fields r (ran context answer t is run) =
         let here = subst (λ env. FormLaw env outcome names form)
         (sym (given_variables info given context is)) law in
         let exact = runs_exactly T outcome names form flat context here (answer_of r)
         (run_ran T outcome describes info (beginning context) t r run) in
         record {
-          sound = sound_on context is r exact r refl;
+          whole = sound_on context is r exact r refl;
           complete = complete_on context is r exact;
           refused = λ texts line none. refused_on context is r exact texts line none r refl;
-          answered = λ texts v there. complete_on context is r exact texts (line_of v there)
-              (fields_law.has_each there.read.cut_into v there.read.read);
         }
-    answers_exactly (Err f) (none_there shown word number context told is none line name renders) =
+    answers_by_fields (Err f) (none_there shown word number context told is none line name renders) =
         record {
-          sound = tt;
+          whole = tt;
           complete = λ texts there each. absurd (never_without given texts shows info there.context
               shown word number there.on_line is none);
           refused = λ texts there none_has. tt;
-          answered = λ texts v there. absurd (never_without given texts shows info there.context
-              shown word number there.on_line is none);
         }
-    answers_exactly (Err f) wanted = record {
-      sound = tt;
+    answers_by_fields (Err f) wanted = record {
+      whole = tt;
       complete = λ texts there each. refl;
       refused = λ texts there none_has. tt;
-      answered = λ texts v there. refl;
     }
 
 -- options that are a flat record have a parser that is one
@@ -187,20 +173,8 @@ pub is_flat_form : {T : Type 0} (form : FlatForm T) (names : List Names) (info :
     → is_flat_record form names info ≡ true → is_record form ≡ true
 is_flat_form form names info e = (and_parts (is_record form) _ e).0
 
--- a value of an exact answer says what its parser says
-pub says_of_words : {T : Type 0} {describes : Shape → Type 0} {info : RunInfo} {form : FlatForm T}
-    {kind : SaidKind} {said : Said T} (env : Variables) (outcome : Outcome T) {names : List Names}
-    → is_record form ≡ true → FormLaw env outcome names form → Says names form kind said
-    → {given : Given} (r : Result T ParseFailure) → AnswersExactly T describes info form given r
-    → IfOk r (SaysOfWords describes info form said given)
-says_of_words {T} {form = form} env outcome {names} flat law says (Ok v) exact =
-    let value = exact.sound.is_value in
-    record {
-      is_value = value;
-      told = record_says form says value.read.cut_into v
-          (cut_fit (product_roles (flat_record form)) names
-          (record_owns env T outcome names form flat
-          (flat_record_law env T outcome names form law))
-          value.read.cut) value.read.read;
-    }
-says_of_words env outcome flat law says (Err f) exact = tt
+-- and are a program
+pub flat_is_whole : {T : Type 0} (form : ProgramForm T) (names : List Names) (info : RunInfo)
+    → is_flat_record (flat_form form) names info ≡ true → is_whole_program form names info ≡ true
+flat_is_whole (plain false s) names info e = e
+flat_is_whole _ names info e = absurd cc

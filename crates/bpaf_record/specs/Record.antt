@@ -7,17 +7,14 @@ use Rattle.bpaf_words.specs.Arguments.{Given}
 use Rattle.bpaf_line.specs.declared.failure.ParseFailure.{ParseFailure}
 use Rattle.bpaf_line.specs.declared.failure.ParseFailure.TheVariants as failure
 use Rattle.bpaf_line.specs.Situation.{Context}
-use Rattle.bpaf_laws.specs.Reading.{Outcome}
 use Rattle.bpaf.specs.Info.{RunInfo}
 use Rattle.bpaf.specs.Known.{IsLineContext}
-use Rattle.bpaf.specs.Run.{RunsWords}
 use Rattle.bpaf_exact.specs.Accepted.{HoldsTogether}
 use Rattle.bpaf_exact.specs.Names.{are_apart}
 use Rattle.bpaf_exact.specs.Pieces.{LinePiece, Cut}
 use Rattle.bpaf_exact.specs.Record.{RunAnswer, Accepted, NoMemory, Refusal, RecordValue, line_cells}
 use Rattle.bpaf_exact.specs.FlatForm.{FlatForm, is_record, product_roles, product_reading}
 use Rattle.bpaf_exact.specs.FlatForm.{flat_record}
-use Rattle.bpaf_exact.specs.Says.{Said}
 
 -- none of these keys shares a name with those of help and version
 abbrev pub are_unusual : List Names → RunInfo → Bool
@@ -44,12 +41,6 @@ pub record IsValueOf {T : Type 0} (describes : Shape → Type 0) (info : RunInfo
   pub read : RecordValue (product_roles (flat_record form))
       (product_reading (flat_record form)).value context v
 
--- v is a value of the record on words, and says so of the pieces that their line is cut into
-pub record SaysOfWords {T : Type 0} (describes : Shape → Type 0) (info : RunInfo)
-    (form : FlatForm T) (said : Said T) (given : Given) (v : T) : Type 0 where
-  pub is_value : IsValueOf describes info form given v
-  pub told : said is_value.read.cut_into v
-
 -- v is a value of the record on words whose line, as it is cut for v, holds together
 pub record HasWholeLine {T : Type 0} (describes : Shape → Type 0) (info : RunInfo)
     (form : FlatForm T) (given : Given) (v : T) : Type 0 where
@@ -74,11 +65,11 @@ abbrev pub IsValueOrWant : {T : Type 0} → (T → Type 0) → Result T ParseFai
 IsValueOrWant value (Ok v) = value v
 IsValueOrWant value (Err f) = f ≡ failure.Memory
 
--- An answer to words is exact. That words have a value is said of words that are texts.
-pub record AnswersExactly (T : Type 0) (describes : Shape → Type 0) (info : RunInfo)
+-- An answer to words, field by field. That fields have values is said of words that are texts.
+pub record AnswersByFields (T : Type 0) (describes : Shape → Type 0) (info : RunInfo)
     (form : FlatForm T) (given : Given) (r : Result T ParseFailure) : Type 0 where
   -- it is a value only where that is one of the record's, on a line that holds together
-  pub sound : IfOk r (HasWholeLine describes info form given)
+  pub whole : IfOk r (HasWholeLine describes info form given)
   -- where each field has a value on its portion of the pieces, it is one of the record's, made of
   -- such, or want of memory
   pub complete : All IsUtf8 given.words → (line : PiecesOf describes info form given)
@@ -86,13 +77,3 @@ pub record AnswersExactly (T : Type 0) (describes : Shape → Type 0) (info : Ru
   -- where a field has none, it is no value
   pub refused : All IsUtf8 given.words → (line : PiecesOf describes info form given)
       → ¬ (EachHasValue form line.cut_into) → IfOk r (λ v. ⊥)
-  -- where the record has a value, it is one of its values, or want of memory
-  pub answered : All IsUtf8 given.words → (v : T) → IsValueOf describes info form given v
-      → IsValueOrWant (IsValueOf describes info form given) r
-
--- each answer that the table of a run allows on the words is exact
-abbrev pub RunsWordsExactly : {T : Type 0} → Outcome T → (Shape → Type 0) → RunInfo
-    → FlatForm T → Given → Type 0
-RunsWordsExactly {T = T} outcome describes info form given =
-    (r : Result T ParseFailure) → RunsWords T outcome describes info given r
-    → AnswersExactly T describes info form given r

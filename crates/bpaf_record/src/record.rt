@@ -26,28 +26,23 @@ pub trait Record<T>: CommandLine<T> {
     fn is_record(&self) -> bool
         ensures { (variables : Variables) → result ≡ is_flat self.now variables };
 
-    /// What a value says of words, field by field.
-    ghost says: { Self → Given → T → Type 0 };
+    /// What a run of a flat record answers to words, told field by field.
+    ghost answers_by_fields: { Self → Given → Result T ParseFailure → Type 0 };
 
-    /// What a run of a flat record answers to words.
-    ghost answers_exactly: { Self → Given → Result T ParseFailure → Type 0 };
-
-    /// The value that the words give, as `run_inner`, and exactly. The record's values are read
-    /// off the words' line by itself: it is cut into pieces, and each field has its portion of
-    /// them.
+    /// The value that the words give, as `run_inner`, and exactly. A flat record is a program, and
+    /// its values are those that [`CommandLine::run_program`] tells, in the same clauses: they are
+    /// read off the words' line by itself, which is cut into pieces, and each field has its portion
+    /// of them.
     ///
-    /// - Ok(v) comes only where v is a value of the record there. Its line is whole: each key on
-    ///   it is one of the record's; behind each argument's key stands its value, and no positional
-    ///   field gets that one; an attached value stands nowhere else; and what is left to
-    ///   positional fields are words by themselves.
+    /// The clause `by_fields` says more of every answer that the table of a run allows:
+    ///
+    /// - Ok(v) comes only on a line that is whole: each key on it is one of the record's; behind
+    ///   each argument's key stands its value, and no positional field gets that one; an attached
+    ///   value stands nowhere else; and what is left to positional fields are words by themselves.
     /// - Where each field has a value on its portion, the answer is the constructor's on such
-    ///   values, or want of memory; where the record has a value, it is one of the record's, or
-    ///   want of memory.
+    ///   values, or want of memory.
     /// - Where a field has none, as for an occurrence or a word too many or one that can't be read,
     ///   no Ok is answered.
-    ///
-    /// The clause `exact` says it of the answer, `each_exact` of every answer that the table of a
-    /// run allows. The other clauses are those of `run_inner`.
     ///
     /// ```text
     /// if !options.is_record() {
@@ -64,17 +59,20 @@ pub trait Record<T>: CommandLine<T> {
         ensures memory_is_never_caught { IsNotWant result →
             Self.answers_spared self.now (given_of args.entry) result }
         ensures fields { Self.agrees self.now →
-            IfOk result (says self.now (given_of args.entry)) }
-        ensures exact { Self.agrees self.now → answers_exactly self.now (given_of args.entry) result }
+            IfOk result (Self.tells self.now (given_of args.entry)) }
+        ensures exact { Self.agrees self.now →
+            Self.answers_as_program self.now (given_of args.entry) result }
         ensures each_exact { Self.agrees self.now → (r : Result T ParseFailure)
             → Self.answers self.now (given_of args.entry) r
-            → answers_exactly self.now (given_of args.entry) r };
+            → Self.answers_as_program self.now (given_of args.entry) r }
+        ensures by_fields { Self.agrees self.now → (r : Result T ParseFailure)
+            → Self.answers self.now (given_of args.entry) r
+            → answers_by_fields self.now (given_of args.entry) r };
 }
 
 impl<T: Drop, P: ProgramField<T> + FlatField<T>> Record<T> for OptionParser<T, P> {
     ghost use Rattle.bpaf_exact.specs.ProgramForm.{flat_form};
-    ghost use Rattle.bpaf_exact.specs.ProgramSays.{pieces_said};
-    ghost use Rattle.bpaf_record.specs.Record.{is_flat_record, AnswersExactly, SaysOfWords};
+    ghost use Rattle.bpaf_record.specs.Record.{is_flat_record, AnswersByFields};
 
     ghost is_flat = { λ p variables. is_flat_record
         (flat_form (program_form (P.grammar p.inner) variables)) (keys_of (P.grammar p.inner) false)
@@ -87,14 +85,10 @@ impl<T: Drop, P: ProgramField<T> + FlatField<T>> Record<T> for OptionParser<T, P
         flat && unusual
     }
 
-    ghost says = { λ p given. SaysOfWords (P.describes p.inner) p.info
-        (flat_form (program_form (P.grammar p.inner) given.env))
-        (pieces_said (P.says given.env) p.inner) given };
-
-    ghost answers_exactly = { λ p given. AnswersExactly T (P.describes p.inner) p.info
+    ghost answers_by_fields = { λ p given. AnswersByFields T (P.describes p.inner) p.info
         (flat_form (program_form (P.grammar p.inner) given.env)) given };
 
     fn run_record(&self, args: Args<'_>) -> Result<T, ParseFailure> {
-        self.run_inner(args)
+        self.run_program(args)
     }
 }

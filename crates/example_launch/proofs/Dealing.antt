@@ -28,7 +28,7 @@ name_says : (os : List LinePiece) (v : String)
     → WordSays (accepts NonStrict) MeansText os v
 name_says os v (of_group g) = subst (λ os. WordSays (accepts NonStrict) MeansText os v) (sym g.is)
     (side_says (accepts NonStrict) false MeansText refl g.piece v g.means)
-name_says os v (of_gap none) = absurd none
+name_says os v (of_gap e none) = absurd none
 
 -- what is passed on are all words behind the first `--`
 launch_passes : (own : List (List ℕ)) (v : Launch) → IsLaunchValue own v

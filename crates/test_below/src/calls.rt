@@ -43,8 +43,7 @@ pub(crate) enum Call<'a> {
 #[derive(Clone, Copy)]
 pub(crate) struct Row<'a> {
     pub(crate) words: &'a [&'a str],
-    pub(crate) flags: &'a [char],
-    pub(crate) arguments: &'a [char],
+    pub(crate) known: (&'a [char], &'a [char]),
     pub(crate) calls: &'a [Call<'a>],
     pub(crate) wanted: &'a str,
 }
@@ -72,7 +71,8 @@ fn answer(
     row: Row<'_>,
     answers: &mut String,
 ) -> Result<(), AllocError> {
-    let line = State::construct(alloc, args, row.flags, row.arguments);
+    let (flags, arguments) = row.known;
+    let line = State::construct(alloc, args, flags, arguments);
     answer_of(alloc, line, row.calls, answers)
 }
 

@@ -6,127 +6,110 @@ use std::test::Fail;
 const SPELLED: &[Row<'static>] = &[
     Row {
         words: &["", "x", "-"],
-        flags: &[],
-        arguments: &[],
+        known: (&[], &[]),
         calls: &[Call::Spelled],
         wanted: "Word ;Word x;Word -;",
     },
     Row {
         words: &["--n", "--n=v", "--n=", "--=x"],
-        flags: &[],
-        arguments: &[],
+        known: (&[], &[]),
         calls: &[Call::Spelled],
         wanted: "Long --n false --n;Long --n true --n=v;ArgWord v;Long --n true --n=;ArgWord ;\
             Long -- true --=x;ArgWord x;",
     },
     Row {
         words: &["--=", "---"],
-        flags: &[],
-        arguments: &[],
+        known: (&[], &[]),
         calls: &[Call::Spelled],
         wanted: "Long -- true --=;ArgWord ;Long --- false ---;",
     },
     Row {
         words: &["-c", "-c=v", "-cr=v"],
-        flags: &[],
-        arguments: &[],
+        known: (&[], &[]),
         calls: &[Call::Spelled],
         wanted: "Short -c false -c;Short -c true -c=v;ArgWord v;Short -c true -cr=v;ArgWord r=v;",
     },
     Row {
         words: &["-==x", "-=x", "-="],
-        flags: &[],
-        arguments: &[],
+        known: (&[], &[]),
         calls: &[Call::Spelled],
         wanted: "Short -= true -==x;ArgWord x;Word -=x;Short -= false -=;",
     },
     // items_of_name_beyond_ascii
     Row {
         words: &["-ñ=x", "-ñ"],
-        flags: &[],
-        arguments: &[],
+        known: (&[], &[]),
         calls: &[Call::Spelled],
         wanted: "Short -ñ true -ñ=x;ArgWord x;Short -ñ false -ñ;",
     },
     // items_of_attached_value_with_equals
     Row {
         words: &["-Obits=2048"],
-        flags: &[],
-        arguments: &[],
+        known: (&[], &[]),
         calls: &[Call::Spelled],
         wanted: "Short -O true -Obits=2048;ArgWord bits=2048;",
     },
     Row {
         words: &["-Obits=2048"],
-        flags: &['b'],
-        arguments: &['O'],
+        known: (&['b'], &['O']),
         calls: &[Call::Spelled],
         wanted: "Short -O true -Obits=2048;ArgWord bits=2048;",
     },
     // unknown_joined_word_is_one_word
     Row {
         words: &["-abc"],
-        flags: &[],
-        arguments: &[],
+        known: (&[], &[]),
         calls: &[Call::Spelled],
         wanted: "Word -abc;",
     },
     Row {
         words: &["-жжж"],
-        flags: &['ж'],
-        arguments: &[],
+        known: (&['ж'], &[]),
         calls: &[Call::Spelled],
         wanted: "Short -ж false -жжж;Short -ж false ;Short -ж false ;",
     },
     Row {
         words: &["-vn3", "-vn", "-vx"],
-        flags: &['v'],
-        arguments: &['n'],
+        known: (&['v'], &['n']),
         calls: &[Call::Spelled],
         wanted: "Short -v false -vn3;Short -n true -vn3;Word 3;Short -v false -vn;\
             Short -n false -vn;Word -vx;",
     },
     Row {
         words: &["a", "--", "--", "-b"],
-        flags: &[],
-        arguments: &[],
+        known: (&[], &[]),
         calls: &[Call::Spelled],
         wanted: "Word a;none;PosWord --;PosWord -b;",
     },
     // last_character_ambiguous
     Row {
         words: &["-va"],
-        flags: &['v', 'a'],
-        arguments: &['a'],
+        known: (&['v', 'a'], &['a']),
         calls: &[Call::Len],
         wanted: "ambiguity -va 2;",
     },
     // first_character_ambiguous
     Row {
         words: &["-abc"],
-        flags: &['a', 'b', 'c'],
-        arguments: &['a'],
+        known: (&['a', 'b', 'c'], &['a']),
         calls: &[Call::Len],
         wanted: "ambiguity -abc 1;",
     },
     Row {
         words: &["x", "-abc"],
-        flags: &['a', 'b', 'c'],
-        arguments: &['a'],
+        known: (&['a', 'b', 'c'], &['a']),
         calls: &[Call::Len],
         wanted: "ambiguity -abc 1;",
     },
     Row {
         words: &["-b"],
-        flags: &['a', 'b', 'c'],
-        arguments: &['a'],
+        known: (&['a', 'b', 'c'], &['a']),
         calls: &[Call::Len],
         wanted: "1;",
     },
     Row {
         words: &["--", "-va"],
-        flags: &['v', 'a'],
-        arguments: &['a'],
+        known: (&['v', 'a'], &['a']),
         calls: &[Call::Len],
         wanted: "1;",
     },
@@ -142,8 +125,7 @@ const TAKEN: &[Row<'static>] = &[
     // detached_long_value_taken
     Row {
         words: &["--speed", "12"],
-        flags: &[],
-        arguments: &[],
+        known: (&[], &[]),
         calls: &[
             Call::TakeArg(&[], &["speed"], false),
             Call::IsEmpty,
@@ -154,8 +136,7 @@ const TAKEN: &[Row<'static>] = &[
     // attached_long_value_with_dash_taken
     Row {
         words: &["--speed=-12"],
-        flags: &[],
-        arguments: &[],
+        known: (&[], &[]),
         calls: &[
             Call::TakeArg(&[], &["speed"], true),
             Call::IsEmpty,
@@ -166,8 +147,7 @@ const TAKEN: &[Row<'static>] = &[
     // attached_long_value_taken
     Row {
         words: &["--speed=12"],
-        flags: &[],
-        arguments: &[],
+        known: (&[], &[]),
         calls: &[
             Call::TakeArg(&[], &["speed"], false),
             Call::IsEmpty,
@@ -178,8 +158,7 @@ const TAKEN: &[Row<'static>] = &[
     // attached_short_value_with_dash_taken
     Row {
         words: &["-s=-12"],
-        flags: &[],
-        arguments: &[],
+        known: (&[], &[]),
         calls: &[
             Call::TakeArg(&['s'], &[], true),
             Call::IsEmpty,
@@ -190,8 +169,7 @@ const TAKEN: &[Row<'static>] = &[
     // the same, not adjacent
     Row {
         words: &["-s=-12"],
-        flags: &[],
-        arguments: &[],
+        known: (&[], &[]),
         calls: &[
             Call::TakeArg(&['s'], &[], false),
             Call::IsEmpty,
@@ -202,8 +180,7 @@ const TAKEN: &[Row<'static>] = &[
     // attached_short_value_taken
     Row {
         words: &["-s=12"],
-        flags: &[],
-        arguments: &[],
+        known: (&[], &[]),
         calls: &[
             Call::TakeArg(&['s'], &[], false),
             Call::IsEmpty,
@@ -214,8 +191,7 @@ const TAKEN: &[Row<'static>] = &[
     // detached_short_value_taken
     Row {
         words: &["-s", "12"],
-        flags: &[],
-        arguments: &[],
+        known: (&[], &[]),
         calls: &[
             Call::TakeArg(&['s'], &[], false),
             Call::IsEmpty,
@@ -226,8 +202,7 @@ const TAKEN: &[Row<'static>] = &[
     // long_flag_taken_before_word
     Row {
         words: &["--speed", "12"],
-        flags: &[],
-        arguments: &[],
+        known: (&[], &[]),
         calls: &[
             Call::TakeFlag(&[], &["speed"]),
             Call::Current,
@@ -240,8 +215,7 @@ const TAKEN: &[Row<'static>] = &[
     // word_left_by_flag_taken
     Row {
         words: &["--speed", "12"],
-        flags: &[],
-        arguments: &[],
+        known: (&[], &[]),
         calls: &[
             Call::TakeFlag(&[], &["speed"]),
             Call::TakeWord,
@@ -252,16 +226,14 @@ const TAKEN: &[Row<'static>] = &[
     // word_after_marker_taken
     Row {
         words: &["-v", "--", "-x"],
-        flags: &[],
-        arguments: &[],
+        known: (&[], &[]),
         calls: &[Call::TakeFlag(&['v'], &[]), Call::TakeWord, Call::IsEmpty],
         wanted: r#"true;(2, true, "-x");true;"#,
     },
     // value_then_word_after_marker_taken
     Row {
         words: &["-v", "12", "--", "-x"],
-        flags: &[],
-        arguments: &[],
+        known: (&[], &[]),
         calls: &[
             Call::TakeArg(&['v'], &[], false),
             Call::TakeWord,
@@ -273,8 +245,7 @@ const TAKEN: &[Row<'static>] = &[
     // flags_taken_in_either_order
     Row {
         words: &["-s", "-v"],
-        flags: &[],
-        arguments: &[],
+        known: (&[], &[]),
         calls: &[
             Call::TakeFlag(&['s'], &[]),
             Call::TakeFlag(&['s'], &[]),
@@ -287,8 +258,7 @@ const TAKEN: &[Row<'static>] = &[
     // the other way round
     Row {
         words: &["-s", "-v"],
-        flags: &[],
-        arguments: &[],
+        known: (&[], &[]),
         calls: &[
             Call::TakeFlag(&['v'], &[]),
             Call::TakeFlag(&['v'], &[]),
@@ -301,8 +271,7 @@ const TAKEN: &[Row<'static>] = &[
     // joined_flag_taken_three_times
     Row {
         words: &["-vvv"],
-        flags: &['v'],
-        arguments: &[],
+        known: (&['v'], &[]),
         calls: &[
             Call::TakeFlag(&['v'], &[]),
             Call::TakeFlag(&['v'], &[]),
@@ -315,16 +284,14 @@ const TAKEN: &[Row<'static>] = &[
     // joined_value_taken
     Row {
         words: &["-abc"],
-        flags: &[],
-        arguments: &['a'],
+        known: (&[], &['a']),
         calls: &[Call::TakeArg(&['a'], &[], false), Call::IsEmpty],
         wanted: r#"Some("bc");true;"#,
     },
     // joined_flags_taken
     Row {
         words: &["-abc"],
-        flags: &['a', 'b', 'c'],
-        arguments: &[],
+        known: (&['a', 'b', 'c'], &[]),
         calls: &[
             Call::TakeFlag(&['a'], &[]),
             Call::TakeFlag(&['b'], &[]),
@@ -336,8 +303,7 @@ const TAKEN: &[Row<'static>] = &[
     // a refusal takes nothing, nor does a name that is not there
     Row {
         words: &["-s", "-v"],
-        flags: &[],
-        arguments: &[],
+        known: (&[], &[]),
         calls: &[
             Call::TakeArg(&['s'], &[], false),
             Call::Len,
@@ -359,8 +325,7 @@ const COMMANDS: &[Row<'static>] = &[
     // command_then_word_taken
     Row {
         words: &["cmd", "pos"],
-        flags: &[],
-        arguments: &[],
+        known: (&[], &[]),
         calls: &[
             Call::TakeCmd("cmd"),
             Call::Current,
@@ -372,8 +337,7 @@ const COMMANDS: &[Row<'static>] = &[
     // command_then_value_taken
     Row {
         words: &["cmd", "-s", "v"],
-        flags: &[],
-        arguments: &[],
+        known: (&[], &[]),
         calls: &[
             Call::TakeCmd("cmd"),
             Call::TakeArg(&['s'], &[], false),
@@ -384,8 +348,7 @@ const COMMANDS: &[Row<'static>] = &[
     // a command that is not the first item
     Row {
         words: &["-s", "cmd"],
-        flags: &[],
-        arguments: &[],
+        known: (&[], &[]),
         calls: &[
             Call::SetCurrent(Some(1)),
             Call::TakeCmd("cmd"),
@@ -397,37 +360,32 @@ const COMMANDS: &[Row<'static>] = &[
     // keys are commands where no value is attached to a long one
     Row {
         words: &["-s"],
-        flags: &[],
-        arguments: &[],
+        known: (&[], &[]),
         calls: &[Call::TakeCmd("-s")],
         wanted: "true;",
     },
     Row {
         words: &["-s=v"],
-        flags: &[],
-        arguments: &[],
+        known: (&[], &[]),
         calls: &[Call::TakeCmd("-s=v")],
         wanted: "true;",
     },
     Row {
         words: &["--long"],
-        flags: &[],
-        arguments: &[],
+        known: (&[], &[]),
         calls: &[Call::TakeCmd("--long")],
         wanted: "true;",
     },
     Row {
         words: &["--long=v"],
-        flags: &[],
-        arguments: &[],
+        known: (&[], &[]),
         calls: &[Call::TakeCmd("--long=v")],
         wanted: "false;",
     },
     // words behind the marker are none
     Row {
         words: &["--", "cmd"],
-        flags: &[],
-        arguments: &[],
+        known: (&[], &[]),
         calls: &[Call::TakeCmd("cmd"), Call::Len],
         wanted: "false;1;",
     },
@@ -443,8 +401,7 @@ const SCOPED: &[Row<'static>] = &[
     // the scope is narrowed, emptied and widened
     Row {
         words: &["a", "b", "c", "d"],
-        flags: &[],
-        arguments: &[],
+        known: (&[], &[]),
         calls: &[
             Call::TakeWord,
             Call::Scope,
@@ -463,8 +420,7 @@ const SCOPED: &[Row<'static>] = &[
     // a place is removed in scope alone, and once
     Row {
         words: &["a", "b", "c"],
-        flags: &[],
-        arguments: &[],
+        known: (&[], &[]),
         calls: &[
             Call::Scope,
             Call::SetScope(1, 3),
@@ -486,8 +442,7 @@ const SCOPED: &[Row<'static>] = &[
     // a key is looked for before a place, of one kind and name, taken or not
     Row {
         words: &["-n", "--n", "-n=3", "--n=3", "-m", "n", "-n"],
-        flags: &[],
-        arguments: &[],
+        known: (&[], &[]),
         calls: &[
             Call::Remove(2),
             Call::EarlierKey(8),
@@ -503,8 +458,7 @@ const SCOPED: &[Row<'static>] = &[
     // names are put on the path
     Row {
         words: &["x"],
-        flags: &[],
-        arguments: &[],
+        known: (&[], &[]),
         calls: &[
             Call::Depth,
             Call::PushPath("build"),
@@ -521,8 +475,7 @@ const LEFT: &[Row<'static>] = &[
     // a key is told with the last earlier one of its kind and name
     Row {
         words: &["-v", "--v", "-v", "v", "-v"],
-        flags: &[],
-        arguments: &[],
+        known: (&[], &[]),
         calls: &[
             Call::Leftover,
             Call::TakeFlag(&['v'], &["v"]),

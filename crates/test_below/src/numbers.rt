@@ -9,7 +9,8 @@ use test_support::reads;
 /// The items of the line of a row's words, in which numbers are words, or why they have none.
 fn spelled(alloc: Global, row: Row<'_>) -> Result<String, AllocError> {
     let mut answers = String::new(alloc);
-    let line = State::construct_numbers(alloc, Args::from(row.words), row.flags, row.arguments);
+    let (flags, arguments) = row.known;
+    let line = State::construct_numbers(alloc, Args::from(row.words), flags, arguments);
     answer_of(alloc, line, row.calls, &mut answers)?;
     Ok(answers)
 }
@@ -32,8 +33,7 @@ fn numbers_spell_words(rt: HostRuntime) -> Result<(), Fail> {
         let words = [*word];
         let row = Row {
             words: &words,
-            flags: &[],
-            arguments: &[],
+            known: (&[], &[]),
             calls: &[Call::Spelled],
             wanted: *wanted,
         };
@@ -47,30 +47,26 @@ const KNOWN: &[Row<'static>] = &[
     // the names `1` and `2` are known, `1` both as a flag and as an argument
     Row {
         words: &["-12"],
-        flags: &['1', '2'],
-        arguments: &['1'],
+        known: (&['1', '2'], &['1']),
         calls: &[Call::Spelled],
         wanted: "Word -12;",
     },
     Row {
         words: &["-n", "-5", "--", "-6"],
-        flags: &[],
-        arguments: &['n'],
+        known: (&[], &['n']),
         calls: &[Call::Spelled],
         wanted: "Short -n false -n;Word -5;none;PosWord -6;",
     },
     // letters behind a number are joined to it
     Row {
         words: &["-1a"],
-        flags: &['a'],
-        arguments: &['1'],
+        known: (&['a'], &['1']),
         calls: &[Call::Spelled],
         wanted: "Short -1 true -1a;Word a;",
     },
     Row {
         words: &["-a1"],
-        flags: &['a'],
-        arguments: &['a'],
+        known: (&['a'], &['a']),
         calls: &[Call::Spelled],
         wanted: "ambiguity -a1 1;",
     },

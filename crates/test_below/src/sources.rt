@@ -11,8 +11,7 @@ use test_support::{prints, reads};
 /// What a run was given beside its words.
 const GIVEN: Row<'static> = Row {
     words: &[],
-    flags: &[],
-    arguments: &[],
+    known: (&[], &[]),
     calls: &[
         Call::Env("NUM"),
         Call::Env("num"),

@@ -108,8 +108,8 @@ fn transforms_call_their_closures_once(rt: HostRuntime) -> Result<(), Fail> {
     prints(a, calls_of_transforms(a, &[]), "(0, 0, 0)")
 }
 
-/// The value of a number with three `map`s of one closure round it.
-fn mapped_by_three<P: Parser<u64> + Drop, F: Fn(u64) -> u64 + Copy>(
+/// The value of a number with five `map`s of one closure round it.
+fn mapped_by_five<P: Parser<u64> + Drop, F: Fn(u64) -> u64 + Copy>(
     alloc: Global,
     number: P,
     map: F,
@@ -118,20 +118,8 @@ fn mapped_by_three<P: Parser<u64> + Drop, F: Fn(u64) -> u64 + Copy>(
     requires evaluated { P.can_eval number }
     requires callable { F.IsAlwaysCallable map }
 {
-    value(alloc, number.map(map).map(map).map(map), words)
-}
-
-/// The same of six.
-fn mapped_by_six<P: Parser<u64> + Drop, F: Fn(u64) -> u64 + Copy>(
-    alloc: Global,
-    number: P,
-    map: F,
-    words: &[&str],
-) -> Result<Option<u64>, AllocError>
-    requires evaluated { P.can_eval number }
-    requires callable { F.IsAlwaysCallable map }
-{
-    mapped_by_three(alloc, number.map(map).map(map).map(map), map, words)
+    let number = number.map(map).map(map).map(map).map(map).map(map);
+    value(alloc, number, words)
 }
 
 /// The same of ten.
@@ -144,8 +132,8 @@ fn mapped_by_ten<P: Parser<u64> + Drop, F: Fn(u64) -> u64 + Copy>(
     requires evaluated { P.can_eval number }
     requires callable { F.IsAlwaysCallable map }
 {
-    let four = number.map(map).map(map).map(map).map(map);
-    mapped_by_six(alloc, four, map, words)
+    let five = number.map(map).map(map).map(map).map(map).map(map);
+    mapped_by_five(alloc, five, map, words)
 }
 
 /// How often the closures of ten `map`s in one another are called.

@@ -16,22 +16,36 @@ fn is_answer(found: &str, wanted: &str) -> bool {
     found == wanted || (wanted == "refused" && found.starts_with("err "))
 }
 
+/// An environment of these variables, each with its value.
+fn environment(
+    alloc: Global,
+    variables: &[(&str, &str)],
+) -> Result<BTreeMap<String, String>, AllocError> {
+    let mut set = BTreeMap::new(alloc);
+    for (name, value) in variables {
+        let name = String::from_str(alloc, name)?;
+        set.insert(name, String::from_str(alloc, value)?)?;
+    }
+    Ok(set)
+}
+
 /// Runs a program in an environment on the words of each row, and compares the answers.
 pub(crate) fn compare_in<T: Debug + Drop, P: ProgramField<T> + Drop>(
     alloc: Global,
-    variables: &BTreeMap<String, String>,
+    variables: &[(&str, &str)],
     parser: P,
     rows: &[Row<'_>],
 ) -> Result<(), Fail>
     requires { P.can_eval parser }
 {
+    let variables = environment(alloc, variables)?;
     let options = parser.to_options(alloc)?;
     if !options.is_program() {
         return Err(Fail::new("no program"));
     }
     for (words, wanted) in rows {
         let line: Vec<&str> = words.split_whitespace().collect(alloc)?;
-        let args = Args::from(line.as_slice()).set_env(variables);
+        let args = Args::from(line.as_slice()).set_env(&variables);
         let answer = options.run_program(args);
         let found = told(alloc, answer)?;
         if !is_answer(found.as_str(), wanted) {
@@ -49,7 +63,7 @@ fn compare<T: Debug + Drop, P: ProgramField<T> + Drop>(
 ) -> Result<(), Fail>
     requires { P.can_eval parser }
 {
-    compare_in(alloc, &BTreeMap::new(alloc), parser, rows)
+    compare_in(alloc, &[], parser, rows)
 }
 
 /// The same of two fields.

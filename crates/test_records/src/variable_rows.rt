@@ -3,33 +3,11 @@ use crate::program_rows::compare_in;
 use crate::record_rows::Row;
 use bpaf::params::ParseArgument;
 use bpaf::{Parser, construct, env, short};
-use bpaf_record::ProgramField;
 use std::alloc::{AllocError, Global};
-use std::collections::BTreeMap;
-use std::fmt::Debug;
 use std::test::Fail;
 
 /// An environment in which `NUM` is 5 and `BAD` is no number.
-fn variables(alloc: Global) -> Result<BTreeMap<String, String>, AllocError> {
-    let mut variables = BTreeMap::new(alloc);
-    for (name, value) in [("NUM", "5"), ("BAD", "z")] {
-        let name = String::from_str(alloc, name)?;
-        let value = String::from_str(alloc, value)?;
-        variables.insert(name, value)?;
-    }
-    Ok(variables)
-}
-
-/// Runs a program in that environment on the words of each row, and compares the answers.
-fn compare<T: Debug + Drop, P: ProgramField<T> + Drop>(
-    alloc: Global,
-    parser: P,
-    rows: &[Row<'_>],
-) -> Result<(), Fail>
-    requires { P.can_eval parser }
-{
-    compare_in(alloc, &variables(alloc)?, parser, rows)
-}
+const VARIABLES: &[(&str, &str)] = &[("NUM", "5"), ("BAD", "z")];
 
 /// The argument `NUM` of a name, or of a variable.
 fn number(alloc: Global, name: char, variable: &str) -> Result<ParseArgument<u64>, AllocError> {
@@ -42,7 +20,12 @@ fn compare_fields(alloc: Global, variable: &str, rows: &[Row<'_>]) -> Result<(),
     let width = number(alloc, 'w', variable)?.optional();
     let depths = number(alloc, 'd', variable)?.many();
     let verbose = short(alloc, 'v')?.env(variable)?.switch();
-    compare(alloc, construct!(num, width, depths, verbose), rows)
+    compare_in(
+        alloc,
+        VARIABLES,
+        construct!(num, width, depths, verbose),
+        rows,
+    )
 }
 
 const SET: &[Row<'static>] = &[
@@ -84,7 +67,7 @@ fn unreadable_variables_run_as_programs(rt: HostRuntime) -> Result<(), Fail> {
     let alloc = rt.alloc();
     let num = number(alloc, 'n', "BAD")?;
     let width = number(alloc, 'w', "BAD")?.optional();
-    compare(alloc, construct!(num, width), UNREADABLE_ONCE)
+    compare_in(alloc, VARIABLES, construct!(num, width), UNREADABLE_ONCE)
 }
 
 const VARIABLES_ALONE: &[Row<'static>] = &[("", "ok (5, None)"), ("5", "refused")];
@@ -96,6 +79,11 @@ fn variables_alone_run_as_programs(rt: HostRuntime) -> Result<(), Fail> {
     let alloc = rt.alloc();
     let num = env(alloc, "NUM")?.argument::<u64>("NUM");
     let unset = env(alloc, "K")?.argument::<u64>("K").optional();
-    compare(alloc, construct!(num, unset), VARIABLES_ALONE)?;
-    compare(alloc, env(alloc, "K")?.argument::<u64>("K"), VARIABLE_UNSET)
+    compare_in(alloc, VARIABLES, construct!(num, unset), VARIABLES_ALONE)?;
+    compare_in(
+        alloc,
+        VARIABLES,
+        env(alloc, "K")?.argument::<u64>("K"),
+        VARIABLE_UNSET,
+    )
 }

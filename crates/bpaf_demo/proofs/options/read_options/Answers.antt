@@ -1,17 +1,20 @@
-use Rattle.std.proofs.Common.{◌≡◌, codes, false, map, refl, rules, string_bytes}
+use Rattle.std.proofs.Common.{◌≡◌, Some, codes, false, map, refl, rules, string_bytes}
 use Rattle.bpaf_words.specs.Arguments.{given_of}
 use Rattle.bpaf_text.specs.Meaning.{SpellsUnsigned}
 use Rattle.bpaf_keys.specs.Info.{plain_info}
 use Rattle.bpaf.specs.declared.leaves.positional.Position.TheVariants.{Unrestricted}
+use Rattle.bpaf_record.specs.Grammar.{word}
 use Rattle.bpaf_program.specs.Fields.{HasArgument, HasSwitch, HasWord}
+use Rattle.bpaf_program.specs.KnownFields.{known_switch}
 use Rattle.bpaf_program.specs.Values.{MeansText}
-use Rattle.bpaf_program.proofs.Known.{argument_known, both_known}
-use Rattle.bpaf_program.proofs.Known.{known_asked, known_dealt, last_known, many_known}
-use Rattle.bpaf_program.proofs.Known.{product_known, switch_known, word_known}
+use Rattle.bpaf_program.proofs.Known as dealt
+use Rattle.bpaf_program.proofs.KnownFields.{argument_known, many_known, switch_known, word_known}
+use Rattle.bpaf_program.proofs.KnownParser.{both_known, con_known, last_known, program_exactly}
 use Rattle.bpaf_program.proofs.Running.{are_texts}
-use Rattle.bpaf_demo.specs.Record.{number_key, program_given, verbose_names}
+use Rattle.bpaf_demo.specs.Exact.{fields as record_fields, record_of}
+use Rattle.bpaf_demo.specs.Record.{number_key, options_of, program_given, verbose_names}
 use Rattle.bpaf_demo.specs.Shown.{IsProgramShape}
-use Rattle.bpaf_demo.proofs.Form.{program_exact, program_flat}
+use Rattle.bpaf_demo.proofs.Flat.{is_flat}
 use Rattle.bpaf_demo.proofs.options.read_options.Goals as goal
 
 pub run_record-requires-clause-record : goal.run_record-requires-clause-record
@@ -24,7 +27,7 @@ run_record-requires-clause-record c =
     fields.rest.rest.last.inner = search rules in
     let catch : fields.rest.rest.last.catch ≡ false = search rules in
     let info : options.info ≡ plain_info = search rules in
-    program_flat verbose.1 num.1 files.1 catch _ _ info
+    is_flat _ verbose.1 num.1 files.1 catch info _
 
 pub returns : goal.returns
 returns c =
@@ -39,13 +42,14 @@ returns c =
     let given : given_of c.set_name.result ≡ program_given (map string_bytes c.args.words.now) =
     search rules in
     let known =
-    both_known (switch_known verbose.1)
-    (both_known (argument_known (SpellsUnsigned 64) num.1)
-    (last_known (many_known fields.rest.rest.last.catch (word_known MeansText files.1)))) in
+    dealt.both_known (dealt.switch_known verbose.1)
+    (dealt.both_known (dealt.argument_known (SpellsUnsigned 64) num.1)
+    (dealt.last_known (dealt.many_known fields.rest.rest.last.catch
+    (dealt.word_known MeansText files.1)))) in
     record {
-      dealt = known_dealt (product_known (λ x v e. search rules) known) info given _
+      dealt = dealt.known_dealt (dealt.product_known (λ x v e. search rules) known) info given _
           c.run_record.ensures.dealt;
-      asked = known_asked (product_known (λ x v e. e) known) info given IsProgramShape
+      asked = dealt.known_asked (dealt.product_known (λ x v e. e) known) info given IsProgramShape
           (record {
             verbose = verbose.0;
             num = num.0;
@@ -56,7 +60,13 @@ returns c =
             is = refl;
           })
           _ c.run_record.ensures.outcome;
-      exact = program_exact verbose.1 num.1 files.1 catch _ _ info (product_known (λ x v e. e) known)
-          _ (are_texts c.args.words.now) given _ (c.run_record.ensures.exact (tt, (tt, tt)))
-          (λ x v e. search rules);
+      exact = program_exactly record_of _ refl c.run_record.ensures.outcome
+          (con_known options_of record_fields
+          (both_known (known_switch verbose_names) _
+          (switch_known verbose_names (Some _) verbose.1.named_is verbose.1.present_is
+          verbose.1.absent_is)
+          (both_known _ _ (argument_known (SpellsUnsigned 64) number_key (Some _) num.1.key_is)
+          (last_known _ (many_known (word_known MeansText Unrestricted files.1.position_is _)
+          catch))))
+          (λ x v e. search rules)) info given (are_texts c.args.words.now);
     }

@@ -10,9 +10,9 @@ pub returns-clause-forced : goal.returns-clause-forced
 returns-clause-forced c =
     answer_says c.run_program.result (c.run_program.ensures.fields (tt, (tt, tt)))
     (λ cleaning told. let force = told.told.read in
-    switch_spelled (of_field (told_line told) force.roles force.owns) force.own (search rules)
-    (search rules) force_names (search rules) (map string_bytes c.args.words.now) (search rules)
-    cleaning.force (search rules))
+    let line = told_line told (map string_bytes c.args.words.now) (search rules) in
+    switch_spelled (of_field line force.roles force.owns) force.own (search rules) (search rules)
+    force_names (search rules) cleaning.force (search rules))
 
 pub returns-clause-called : goal.returns-clause-called
 returns-clause-called c =
@@ -21,5 +21,5 @@ returns-clause-called c =
     of_either force.left
     (λ list. let made : cleaning.task ≡ List list.read.told.from = search rules in
     absurd (subst IsRemoval made is))
-    (λ remove. command_called (without_field (told_line told) force.roles) remove
-    (codes "remove" ∷ []) (search rules) (map string_bytes c.args.words.now) (search rules)))
+    (λ remove. let line = told_line told (map string_bytes c.args.words.now) (search rules) in
+    command_called (without_field line force.roles) remove (codes "remove" ∷ []) (search rules)))

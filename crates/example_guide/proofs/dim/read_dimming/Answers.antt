@@ -1,7 +1,7 @@
 use Rattle.std.proofs.Common.{rules, map, string_bytes}
 use Rattle.bpaf_exact.proofs.Agreeing.{argument_one, closed_one, closure_agrees, number_one}
 use Rattle.bpaf_exact.proofs.Needed.{argument_needs, made_needs}
-use Rattle.bpaf_record.proofs.Answered.{answer_says, of_line, value_spelled}
+use Rattle.bpaf_record.proofs.Answered.{answer_says, of_line, value_spelled, told_of_line}
 use Rattle.example_guide.specs.Dim.{percent_names}
 use Rattle.example_guide.proofs.dim.read_dimming.Goals as goal
 
@@ -28,10 +28,11 @@ returns c =
         (tt, λ x v made refused. search rules),
       ),
     ))
-    (λ dimming told. let percent = told.told.fields.0 in (
-      value_spelled (of_line told) (made_needs (made_needs (argument_needs (search rules)))) percent
-          percent_names (search rules) (map string_bytes c.args.words.now) (search rules),
-      (let lit = percent.made in let made = told.told.made in search rules),
-      (let lit = percent.made in let checked = percent.told.made in let made = told.told.made in
+    (λ dimming told. told_of_line told (map string_bytes c.args.words.now) (search rules)
+    (λ os line said. let percent = said.fields.0 in (
+      value_spelled (of_line line) (made_needs (made_needs (argument_needs (search rules)))) percent
+          percent_names (search rules),
+      (let lit = percent.made in let made = said.made in search rules),
+      (let lit = percent.made in let checked = percent.told.made in let made = said.made in
           search rules),
-    ))
+    )))

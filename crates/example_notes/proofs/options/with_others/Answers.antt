@@ -1,4 +1,4 @@
-use Rattle.std.proofs.Common.{codes, rules}
+use Rattle.std.proofs.Common.{codes, None, rules}
 use Rattle.bpaf_program.proofs.OfCommands as of
 use Rattle.example_notes.specs.Notes as notes
 use Rattle.example_notes.proofs.options.with_others.Goals as goal
@@ -8,6 +8,6 @@ with_task-requires-clause-task g c =
     of.choice_known notes.add_command notes.other_commands (of.command_known (codes "add")
     notes.add_record c.construct-2.ensures.this c.in_ok-add.ensures (of.con_known notes.add_of
     notes.add_fields (of.both_known _ _ (of.many_known (of.argument_known of.MeansText notes.tag_key
-    (search rules)) (search rules)) (of.last_known _ (of.many_known (of.word_known of.MeansText
+    None (search rules)) (search rules)) (of.last_known _ (of.many_known (of.word_known of.MeansText
     of.Unrestricted (search rules) _) (search rules)))) (λ x v e. search rules)))
     (rw (← c.construct-2.ensures.that) at c.requires.others)

@@ -1,4 +1,4 @@
-use Rattle.std.proofs.Common.{ap, codes, rules, ◌∙◌}
+use Rattle.std.proofs.Common.{ap, codes, None, rules, ◌∙◌}
 use Rattle.bpaf_program.proofs.OfCommands as of
 use Rattle.example_notes.specs.Notes.{list_command, list_record, max, max_key, on_tag, tag_commands}
 use Rattle.example_notes.specs.declared.options.Task.TheVariants as task
@@ -11,7 +11,7 @@ with_others-requires-clause-others g c =
     of.choice_known list_command (of.known_map task.Tag on_tag)
     (of.command_known (codes "list") list_record c.construct-2.ensures.this c.in_ok-list.ensures
     (of.con_known task.List max (of.last_known _ (of.default_known (of.argument_known
-    (of.SpellsUnsigned 64) max_key (search rules)) (λ own v same. same) 10 (search rules) _))
+    (of.SpellsUnsigned 64) max_key None (search rules)) (λ own v same. same) 10 (search rules) _))
     (λ x v e. search rules)))
     (of.map_known task.Tag on_tag (of.command_known (codes "tag") tag_commands tag told
     (rw (← (ap (λ x. x.inner) tag ∙ told.inner)) at c.requires.tag)) (λ x v e. search rules))

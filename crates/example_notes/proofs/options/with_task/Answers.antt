@@ -8,6 +8,6 @@ run_notes-requires-clause-known g c =
     of.con_known notes.notes_of notes.fields (of.both_known notes.verbose notes.dir_fields
     (of.switch_known notes.verbose_names None (search rules) (search rules) (search rules))
     (of.both_known notes.dir (of.alone notes.commands)
-    (of.optional_known (of.argument_known of.MeansText notes.dir_key (search rules)) (search rules))
+    (of.optional_known (of.argument_known of.MeansText notes.dir_key None (search rules)) (search rules))
     (of.last_known notes.commands (rw (← (ap (λ x. x.rest.rest.last) c.construct.ensures.fields))
     at c.requires.task)))) (λ x v e. search rules)
