@@ -28,9 +28,9 @@ use Rattle.bpaf.specs.EndingLaws.{run_ending}
 use Rattle.bpaf.specs.Run.{RunsWords}
 use Rattle.bpaf.specs.Asked.{BehindWord, HandsOn, IfShown, IsAskedAt, RunShows, Showing}
 use Rattle.bpaf.specs.Asked.{ShowsNothing, WordsShow, nothing_shown}
-use Rattle.bpaf.proofs.Asking.{IsAlsoShown, answer_shows, asked_at_also, hands_also, many_hands_on}
-use Rattle.bpaf.proofs.Asking.{words_also}
-use Rattle.bpaf.proofs.Handing.{behind_also, choice_hands_on, command_hands_on}
+use Rattle.bpaf.proofs.Asked.{IsAlsoShown, answer_shows, asked_at_also, hands_also, many_hands_on}
+use Rattle.bpaf.proofs.Asked.{words_also}
+use Rattle.bpaf.proofs.HandsOn.{behind_also, choice_hands_on, command_hands_on}
 use Rattle.bpaf_program.specs.Dealt.{IsDealtBySome}
 use Rattle.bpaf_program.proofs.ReadsToo.{IsAlso, adjacent_also, choice_also, many_also}
 

@@ -29,8 +29,8 @@ use Rattle.bpaf.specs.declared.leaves.positional.Position.{Position}
 use Rattle.bpaf.specs.Asked.{IfShown, ShowsNothing, WasAsked, nothing_shown}
 use Rattle.bpaf.specs.Positional.{PositionalOutcome, PositionalReads, positional_shape}
 use Rattle.bpaf.specs.PositionalLaws.{positional_lawful}
-use Rattle.bpaf.proofs.Asking.{argument_hands_on, both_hands_on, flag_hands_on, many_hands_on}
-use Rattle.bpaf.proofs.Asking.{positional_hands_on, product_hands_on}
+use Rattle.bpaf.proofs.Asked.{argument_hands_on, both_hands_on, flag_hands_on, many_hands_on}
+use Rattle.bpaf.proofs.Asked.{positional_hands_on, product_hands_on}
 use Rattle.bpaf.proofs.Helps.{argument_without_help, flag_without_help, key_with_help}
 use Rattle.bpaf_program.specs.Dealt.{IsDealtBy}
 use Rattle.bpaf_program.specs.Fields.{IsArgument, IsSwitch, IsWord, SwitchReads, switch_shape}

@@ -16,7 +16,7 @@ use Rattle.bpaf.specs.Info.{RunInfo, plain_info}
 use Rattle.bpaf.specs.Known.{IsLineContext, known_names}
 use Rattle.bpaf.specs.Run.{RunsWords}
 use Rattle.bpaf.specs.Asked.{IfShown, ShowsNothing, WasAsked}
-use Rattle.bpaf.proofs.Asking.{answer_asked, asked_also}
+use Rattle.bpaf.proofs.Asked.{answer_asked, asked_also}
 
 -- this shape alone is shown
 abbrev pub ShowsOnly : (Shape → Type 0) → Shape → Type 0

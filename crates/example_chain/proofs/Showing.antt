@@ -6,7 +6,7 @@ use Rattle.bpaf_laws.specs.Reading.{Outcome, Readings}
 use Rattle.bpaf_keys.specs.Info.{short_descr}
 use Rattle.bpaf_core.specs.Adjacent.{EitherCommandReads, OutcomeOfCommand}
 use Rattle.bpaf_core.specs.declared.commands.ParseCommand.{ParseCommand}
-use Rattle.bpaf.proofs.Asking.{hands_also}
+use Rattle.bpaf.proofs.Asked.{hands_also}
 use Rattle.bpaf_program.proofs.Commands.{Hands, command_hands}
 use Rattle.example_chain.specs.declared.steps.Step.{Step}
 use Rattle.example_chain.specs.Dealing.{ChainedReads}

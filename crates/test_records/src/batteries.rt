@@ -6,18 +6,31 @@ use bpaf_batteries::{
     cargo_helper, get_usage, toggle_flag, verbose_and_quiet_by_number, verbose_by_slice,
 };
 use std::alloc::{AllocError, Global};
-use std::fmt::Debug;
+use std::fmt::{self, Debug};
 use std::test::Fail;
 use test_support::reads;
 
 /// Levels of verbosity.
-#[derive(Debug, Clone, Copy)]
+#[derive(Clone, Copy)]
 enum Level {
     Error,
     Warning,
     Info,
     Debug,
     Trace,
+}
+
+/// As a derived one prints it, by one write.
+impl Debug for Level {
+    fn fmt<W: fmt::Write>(&self, f: &mut fmt::Formatter<W>) -> fmt::Result {
+        f.write_str(match self {
+            Level::Error => "Error",
+            Level::Warning => "Warning",
+            Level::Info => "Info",
+            Level::Debug => "Debug",
+            Level::Trace => "Trace",
+        })
+    }
 }
 
 /// What a toggle selects.

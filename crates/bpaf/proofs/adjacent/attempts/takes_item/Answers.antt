@@ -1,4 +1,4 @@
-use Rattle.bpaf.proofs.Searching.{takes_from}
+use Rattle.bpaf.proofs.Remembering.{takes_from}
 use Rattle.bpaf.proofs.adjacent.attempts.takes_item.Goals as goal
 
 pub returns-clause-takes : goal.returns-clause-takes

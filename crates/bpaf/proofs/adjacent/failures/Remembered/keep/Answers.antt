@@ -1,4 +1,4 @@
-use Rattle.bpaf.proofs.Searching.{now_remembered, not_remembered}
+use Rattle.bpaf.proofs.Remembering.{now_remembered, not_remembered}
 use Rattle.bpaf.proofs.adjacent.failures.Remembered.keep.Goals as goal
 
 pub returns-then-self-left-clause-ok : goal.returns-then-self-left-clause-ok

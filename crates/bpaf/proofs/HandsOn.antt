@@ -30,7 +30,7 @@ use Rattle.bpaf_core.specs.Failures.{end_message}
 use Rattle.bpaf_core.specs.Ending.{Ending, EndsRun}
 use Rattle.bpaf_core.specs.Info.{RunInfo}
 use Rattle.bpaf.specs.Asked.{BehindWord, CameTo, HandsOn, RunShows, Showing, inner_answer}
-use Rattle.bpaf.proofs.Asking.{IsAlsoShown, came_also, came_from, run_shows}
+use Rattle.bpaf.proofs.Asked.{IsAlsoShown, came_also, came_from, run_shows}
 
 -- one of two, by a test
 of_either : (caught : Bool) (first second both : Message) (f : Failure)
