@@ -5,8 +5,7 @@ use Rattle.bpaf_line.specs.declared.failure.ParseFailure.{ParseFailure}
 use Rattle.bpaf.specs.declared.leaves.positional.Position.TheVariants.{Unrestricted}
 use Rattle.bpaf_record.specs.Grammar.{Grammar, alone, argument, both, word}
 use Rattle.bpaf_program.specs.KnownFields.{known_con, known_many, known_switch}
-use Rattle.bpaf_program.specs.KnownParser.{IsValueBy}
-use Rattle.bpaf_program.specs.ReadBy.{IsExactFor}
+use Rattle.bpaf_program.specs.KnownParser.{IsExactFor, IsValueBy}
 use Rattle.bpaf_program.specs.Values.{MeansText}
 use Rattle.bpaf_demo.specs.declared.options.Options.{Options}
 use Rattle.bpaf_demo.specs.Record.{FieldValues, number_key, options_of, program_given}

@@ -25,7 +25,7 @@ pub mod Narrow
 pub mod FlatForm
 pub mod Exact
 pub mod ByTables
-pub mod SameParts
+pub mod ShownNames
 pub mod OneView
 pub mod Agreeing
 pub mod Accepted

@@ -139,11 +139,10 @@ module _ {P Q T : Type 0} (inside : Q → P) (q : Q) where
   whole_says : (env : Variables) (outcome : Outcome T) (names : List Names) (words : List (List ℕ))
       (s : ProgramForm T) (kind : SaidKind) (said : ProgramSaid P T) (p : P)
       → ProgramFormLaw env outcome names words s → ProgramFormSays names s kind said p
-      → is_program s ≡ true → IsSaid (program_value s) (cells_said said p)
+      → is_program s ≡ true → IsSaid (program_value s) (cells_said s said p)
   whole_says env outcome names words no_program kind said p law h is = absurd cc
   whole_says env outcome names words (plain wide s) kind (of_pieces said) p law h is =
       λ cs v read. record {
-        roles = product_roles (flat_record s);
         cut_into = read.cut_into;
         cut = read.cut;
         told = record_says s h read.cut_into v
@@ -159,20 +158,21 @@ module _ {P Q T : Type 0} (inside : Q → P) (q : Q) where
 
   -- a command
   pub program_command_says : (env : Variables) (outcome : Outcome T) (words : List (List ℕ))
-      {s : ProgramForm T}
-      {said : ProgramSaid P T} {kind : SaidKind} {names : List Names} (adjacent apart : Bool)
-      (called : Q → Called) → ProgramFormLaw env outcome names words s
-      → ProgramSays names s kind said (inside q)
-      → ProgramSays names (program_command adjacent apart (called q) s) (of_kind ByName)
-      (said_command inside called said) q
-  program_command_says env outcome words {s} {said} {kind} {names} adjacent apart called law h =
+      (form : P → ProgramForm T) {said : ProgramSaid P T} {kind : SaidKind} {names : List Names}
+      (adjacent apart : Bool) (called : Q → Called)
+      → ProgramFormLaw env outcome names words (form (inside q))
+      → ProgramSays names (form (inside q)) kind said (inside q)
+      → ProgramSays names (program_command adjacent apart (called q) (form (inside q)))
+      (of_kind ByName) (said_command inside called form said) q
+  program_command_says env outcome words form {said} {kind} {names} adjacent apart called law h =
       record {
-        by = if_says names (not adjacent && apart) _ (of_kind ByName) _ q (λ on. by_form s
-            (whole_says env outcome names words s kind said (inside q) law h.by));
+        by = if_says names (not adjacent && apart) _ (of_kind ByName) _ q
+            (λ on. by_form (form (inside q))
+            (whole_says env outcome names words (form (inside q)) kind said (inside q) law h.by));
       }
     where
       Told : CellsValue T
-      Told = cells_said said (inside q)
+      Told = cells_said (form (inside q)) said (inside q)
 
       opened : (value : CellsValue T) → IsSaid value Told
           → IsSaid (CommandValue T (opening_words (called q)) value)
@@ -183,7 +183,7 @@ module _ {P Q T : Type 0} (inside : Q → P) (q : Q) where
       by_whole : (r : Roles) (value : CellsValue T) → IsSaid value Told
           → ProgramFormSays names (opened_form (opening_words (called q)) (before_commands r value))
           (of_kind ByName)
-          (said_command inside called said) q
+          (said_command inside called form said) q
       by_whole r value h =
           if_says names (are_plain (opening_words (called q))) _ (of_kind ByName) _ q
           (λ on. opened value h)
@@ -191,7 +191,7 @@ module _ {P Q T : Type 0} (inside : Q → P) (q : Q) where
       by_form : (s : ProgramForm T) → (is_program s ≡ true → IsSaid (program_value s) Told)
           → ProgramFormSays names (opened_form (opening_words (called q)) (whole_program s))
           (of_kind ByName)
-          (said_command inside called said) q
+          (said_command inside called form said) q
       by_form no_program h = tt
       by_form (plain wide s) h = by_test (is_record s) refl
         where
@@ -199,7 +199,7 @@ module _ {P Q T : Type 0} (inside : Q → P) (q : Q) where
               → ProgramFormSays names (opened_form (opening_words (called q))
               (program_if b (before_commands (product_roles (flat_record s))
               (program_value (plain wide s))))) (of_kind ByName)
-              (said_command inside called said) q
+              (said_command inside called form said) q
           by_test true e = by_whole _ _ (h e)
           by_test false e = tt
       by_form (commands r value) h = by_whole r value (h refl)
@@ -455,7 +455,7 @@ program_con_says env fields q outcome names makes law g = record { by = tt }
 pub program_says : (env : Variables) {P T : Type 0} (outcome : Outcome T) (words : List (List ℕ))
     (s : ProgramForm T) {kind : SaidKind} {names : List Names} {said : ProgramSaid P T} {p : P}
     → ProgramFormLaw env outcome names words s → ProgramSays names s kind said p
-    → is_program s ≡ true → IsSaid (program_value s) (cells_said said p)
+    → is_program s ≡ true → IsSaid (program_value s) (cells_said s said p)
 program_says env outcome words s {kind} {names} {said} {p} law h is =
     whole_says (λ q. q) p env outcome names words s kind said p law h.by is
 

@@ -12,7 +12,7 @@ pub mod Theorem
 pub mod Programs
 pub mod ProgramForm
 pub mod Variables
-pub mod SameParts
+pub mod ShownNames
 pub mod OneView
 pub mod Accepted
 pub mod Says

@@ -9,7 +9,7 @@ use Rattle.bpaf_exact.specs.Flat.{ByName, Variables}
 use Rattle.bpaf_exact.specs.Names.{Owns}
 use Rattle.bpaf_exact.specs.Pieces.{Cells, Roles, LinePiece, Cut, pieces}
 use Rattle.bpaf_exact.specs.ProgramForm.{ProgramForm, no_program, plain, commands, left_out}
-use Rattle.bpaf_exact.specs.ProgramForm.{ProgramFormLaw, before_commands}
+use Rattle.bpaf_exact.specs.ProgramForm.{ProgramFormLaw, before_commands, program_roles}
 use Rattle.bpaf_exact.specs.Programs.{CellsValue, ChoiceValue, ClosedCells, CommandValue}
 use Rattle.bpaf_exact.specs.Programs.{OptionalCommands, without}
 use Rattle.bpaf_exact.specs.Says.{EitherSays, FallbackSays, FieldsSaid, FieldsSay, LastSays}
@@ -28,17 +28,17 @@ pub data ProgramFieldsSaid (P V : Type 0) : Type 1 where
   of_all_pieces : (P → FieldsSaid V) → ProgramFieldsSaid P V
   of_all_cells : (P → CellsValue V) → ProgramFieldsSaid P V
 
--- the cells are cut into pieces of which a value says so
-pub record CutSays {T : Type 0} (said : Said T) (cs : Cells) (v : T) : Type 0 where
-  pub roles : Roles
-  pub cut_into : List LinePiece
-  pub cut : Cut roles cs cut_into
-  pub told : said cut_into v
+-- the cells are cut into pieces, by these roles, of which a value says so
+pub record CutSays {T : Type 0} (roles : Roles) (said : Said T) (cs : Cells) (v : T) : Type 0
+  where
+    pub cut_into : List LinePiece
+    pub cut : Cut roles cs cut_into
+    pub told : said cut_into v
 
--- what the value of a whole program says of cells
-abbrev pub cells_said : {P T : Type 0} → ProgramSaid P T → P → CellsValue T
-cells_said (of_pieces said) = λ p. CutSays (said p)
-cells_said (of_cells said) = said
+-- what the value of a whole program of this form says of cells
+abbrev pub cells_said : {P T : Type 0} → ProgramForm T → ProgramSaid P T → P → CellsValue T
+cells_said form (of_pieces said) = λ p. CutSays (program_roles form) (said p)
+cells_said form (of_cells said) = said
 
 -- of a parser round another, by what it makes of either
 abbrev pub said_round : {P Q A B : Type 0} → (Q → P) → (Q → Said A → Said B)
@@ -80,11 +80,11 @@ abbrev pub said_fallback : {P Q T : Type 0} → (Q → P) → (Q → Closure (Un
     → ProgramSaid P T → ProgramSaid Q T
 said_fallback inside f = said_flat inside (λ q said. FallbackSays said ((f q).yes tt))
 
--- of a command
-abbrev pub said_command : {P Q T : Type 0} → (Q → P) → (Q → Called) → ProgramSaid P T
-    → ProgramSaid Q T
-said_command {T = T} inside called said =
-    of_cells (λ q. CommandValue T (opening_words (called q)) (cells_said said (inside q)))
+-- of a command over a program of this form
+abbrev pub said_command : {P Q T : Type 0} → (Q → P) → (Q → Called) → (P → ProgramForm T)
+    → ProgramSaid P T → ProgramSaid Q T
+said_command {T = T} inside called form said = of_cells (λ q.
+    CommandValue T (opening_words (called q)) (cells_said (form (inside q)) said (inside q)))
 
 -- of a choice of two
 abbrev pub said_choice : {P Q R T : Type 0} → (R → P) → (R → Q) → ProgramSaid P T → ProgramSaid Q T

@@ -1,9 +1,8 @@
 -- The fields of a program are known where what they are made of is.
-use Rattle.std.proofs.Common.{◌≡◌, Bool, true, false, List, [], ◌∷◌, ℕ, Option, Some, refl}
+use Rattle.std.proofs.Common.{◌≡◌, Bool, true, false, List, [], ℕ, Option, Some}
 use Rattle.bpaf_doc.specs.declared.doc.Piece.{Piece}
 use Rattle.bpaf_doc.specs.Names.{Names}
 use Rattle.bpaf_doc.specs.Shape.{Shape}
-use Rattle.bpaf_doc.specs.Walks.{parts}
 use Rattle.bpaf_text.specs.Named.{KeyWithValue, Named, key_named}
 use Rattle.bpaf_laws.specs.Argument.{ArgumentOutcome, argument_shape}
 use Rattle.bpaf_laws.specs.Default.{DefaultDescribes, FallbackOutcome, GivesClone}
@@ -13,35 +12,22 @@ use Rattle.bpaf_laws.specs.Reading.{Outcome}
 use Rattle.bpaf_laws.specs.Repeat.{ManyDescribes, ManyOutcome}
 use Rattle.bpaf_laws.specs.Turn.{TurnOutcome}
 use Rattle.bpaf.specs.declared.leaves.positional.Position.{Position}
-use Rattle.bpaf.specs.declared.leaves.positional.Position.TheVariants.{Unrestricted, Strict}
-use Rattle.bpaf.specs.declared.leaves.positional.Position.TheVariants.{NonStrict}
 use Rattle.bpaf.specs.Positional.{PositionalOutcome, positional_shape}
 use Rattle.bpaf_exact.proofs.Arguments.{argument_form_law}
 use Rattle.bpaf_exact.proofs.Flags.{flag_form_law}
 use Rattle.bpaf_exact.proofs.ByTables.{fallback_law, many_law, optional_law}
+use Rattle.bpaf_exact.proofs.ShownNames.{argument_shows, default_shows, flag_shows, many_shows}
+use Rattle.bpaf_exact.proofs.ShownNames.{optional_shows}
 use Rattle.bpaf_record.specs.Grammar.{Grammar, argument, command_words, keys_of, program_form}
 use Rattle.bpaf_record.specs.Grammar.{word}
-use Rattle.bpaf_record.specs.Positional.{positional_field_law}
+use Rattle.bpaf_record.specs.Positional.{positional_field_law, positional_shows}
 use Rattle.bpaf_program.specs.KnownFields.{known_default, known_many, known_optional}
 use Rattle.bpaf_program.specs.KnownFields.{known_switch}
-use Rattle.bpaf_program.specs.KnownParser.{IsKnownParser, ShowsShorts, no_shorts, shorts_of}
-use Rattle.bpaf_program.specs.KnownParser.{shown_shorts}
+use Rattle.bpaf_program.specs.KnownParser.{IsKnownParser}
 use Rattle.bpaf_exact.proofs.Narrow.{no_more}
 use Rattle.bpaf_exact.proofs.ProgramForm.{narrower_program_form}
 use Rattle.bpaf_laws.proofs.Clones.{fallback_kept}
 use Rattle.bpaf_program.specs.Values.{IsKept}
-use Rattle.bpaf_program.proofs.ShownShorts.{default_shows, many_shows, one_shows, optional_shows}
-
--- a switch shows the same short names, whatever its help is
-switch_shows : (shorts : List ℕ) (longs : List (List ℕ)) (help : Option (List Piece))
-    → let names : Names = record { shorts = shorts; longs = longs } in
-    ShowsShorts
-    (λ shape. shape ≡ flag_shape (record (key_named names) { help = help }) (Some false))
-    (shown_shorts (known_switch names))
-switch_shows [] [] help = one_shows _
-switch_shows [] (long ∷ longs) help = one_shows _
-switch_shows (short ∷ shorts) [] help = one_shows _
-switch_shows (short ∷ shorts) (long ∷ longs) help = one_shows _
 
 -- a switch, with some help or none
 pub switch_known : (names : Names) (help : Option (List Piece)) {named : Named}
@@ -53,20 +39,8 @@ switch_known names help named_is present_is absent_is =
     rw (named_is, present_is, absent_is) (record {
       law = λ env. flag_form_law Bool IsKept (record (key_named names) { help = help }) true
           (Some false) env [];
-      shown = switch_shows names.shorts names.longs help;
+      shown = flag_shows (record (key_named names) { help = help }) (Some false);
     })
-
--- an argument shows the same short names, whatever its help is
-argument_shows : (shorts : List ℕ) (longs : List (List ℕ)) (key : KeyWithValue)
-    (help : Option (List Piece)) → let names : Names = record { shorts = shorts; longs = longs } in
-    let named : Named = record key.named { names = names } in
-    ShowsShorts
-    (λ shape. shape ≡ argument_shape (record key { named = record named { help = help } }))
-    (shorts_of (parts (argument_shape (record key { named = named }))))
-argument_shows [] [] key help = one_shows _
-argument_shows [] (long ∷ longs) key help = one_shows _
-argument_shows (short ∷ shorts) [] key help = one_shows _
-argument_shows (short ∷ shorts) (long ∷ longs) key help = one_shows _
 
 -- an argument, with some help or none
 pub argument_known : {T : Type 0} (means : List ℕ → T → Type 0) (key : KeyWithValue)
@@ -78,15 +52,8 @@ argument_known {T} means key help is =
     rw is (record {
       law = λ env. argument_form_law T means
           (record key { named = record key.named { help = help } }) env [];
-      shown = argument_shows key.named.names.shorts key.named.names.longs key help;
+      shown = argument_shows (record key { named = record key.named { help = help } });
     })
-
--- a word shows no short name
-word_shows : (place : Position) (metavar : List ℕ) (help : Option (List Piece))
-    → ShowsShorts (λ shape. shape ≡ positional_shape place metavar help) no_shorts
-word_shows Unrestricted metavar help = one_shows _
-word_shows Strict metavar help = one_shows _
-word_shows NonStrict metavar help = one_shows _
 
 -- a word
 pub word_known : {T : Type 0} (means : List ℕ → T → Type 0) (place : Position)
@@ -96,7 +63,7 @@ pub word_known : {T : Type 0} (means : List ℕ → T → Type 0) (place : Posit
 word_known {T} means place is {metavar} help =
     rw is (record {
       law = λ env. positional_field_law env T means place metavar;
-      shown = word_shows place metavar help;
+      shown = positional_shows place metavar help;
     })
 
 module _ {T : Type 0} {known : Grammar T} {outcome : Outcome T} {describes : Shape → Type 0}

@@ -1,9 +1,7 @@
 -- The parsers of a program are known where what they are made of is.
-use Rattle.std.proofs.Common.{◌≡◌, All, true, List, [], ℕ, Result, Ok, Err, IfOk, IsUtf8, ap}
-use Rattle.std.proofs.Common.{inl, refl, subst, sym, ◌∙◌}
+use Rattle.std.proofs.Common.{◌≡◌, All, true, List, [], ℕ, Result, Ok, Err, IsUtf8, ap, refl, ◌∙◌}
 use Rattle.bpaf_doc.specs.Shape.{Shape}
 use Rattle.bpaf_words.specs.Arguments.{Given}
-use Rattle.bpaf_line.specs.Constructing.{IsContext}
 use Rattle.bpaf_line.specs.Situation.{Situation}
 use Rattle.bpaf_line.specs.declared.error.Error.{Error}
 use Rattle.bpaf_line.specs.declared.failure.ParseFailure.{ParseFailure}
@@ -17,7 +15,6 @@ use Rattle.bpaf_laws.specs.Transform.{MapOutcome}
 use Rattle.bpaf.specs.Adjacent.{EitherCommandOutcome}
 use Rattle.bpaf.specs.Ending.{EndsRun}
 use Rattle.bpaf.specs.Info.{RunInfo, plain_info}
-use Rattle.bpaf.specs.Known.{known_names}
 use Rattle.bpaf.specs.Run.{RunsWords}
 use Rattle.bpaf_exact.specs.ProgramForm.{is_program, program_field}
 use Rattle.bpaf_exact.proofs.Narrow.{AllowsNoMore, no_more}
@@ -25,21 +22,18 @@ use Rattle.bpaf_exact.proofs.ProgramForm.{narrower_program_form, program_alone_l
 use Rattle.bpaf_exact.proofs.ProgramForm.{program_both_law, program_choice_law, program_con_law}
 use Rattle.bpaf_exact.proofs.ProgramForm.{program_field_law}
 use Rattle.bpaf_exact.proofs.ByTables.{map_law}
+use Rattle.bpaf_exact.proofs.ShownNames.{both_show, choice_shows, command_shows, last_shows}
+use Rattle.bpaf_exact.proofs.ShownNames.{product_shows}
 use Rattle.bpaf_record.specs.Commands.{plain_command_law}
 use Rattle.bpaf_record.specs.Grammar.{Grammar, alone, both, choice, command_words, keys_of}
-use Rattle.bpaf_record.specs.Grammar.{program_form}
-use Rattle.bpaf_record.specs.Program.{AnswersAsProgram, IsProgramValueOf}
-use Rattle.bpaf_record.specs.Record.{IsValueOrWant}
-use Rattle.bpaf_record.proofs.OneLine.{same_names}
-use Rattle.bpaf_record.proofs.Programs as programs
+use Rattle.bpaf_record.specs.Grammar.{program_form, shown_shorts}
+use Rattle.bpaf_record.specs.Program.{AnswersAsProgram}
+use Rattle.bpaf_record.specs.Record.{names_by}
+use Rattle.bpaf_record.proofs.Programs.{answers_as_program}
 use Rattle.bpaf_program.specs.Fields.{IsPlainCommand}
 use Rattle.bpaf_program.specs.KnownFields.{known_command, known_con, known_map}
-use Rattle.bpaf_program.specs.KnownParser.{AreKnownFields, IsKnownParser, IsValueBy, ShowsShorts}
-use Rattle.bpaf_program.specs.KnownParser.{program_names, shown_shorts}
-use Rattle.bpaf_program.specs.ReadBy.{IsExactFor}
-use Rattle.bpaf_program.proofs.Shown.{line_context}
-use Rattle.bpaf_program.proofs.ShownShorts.{both_show, choice_shows, command_shows, last_shows}
-use Rattle.bpaf_program.proofs.ShownShorts.{product_shows}
+use Rattle.bpaf_program.specs.KnownParser.{AreKnownFields, IsExactFor, IsKnownParser, IsValueBy}
+use Rattle.bpaf_program.specs.KnownParser.{program_names}
 
 module _ {A B : Type 0} (inner : Outcome A) {answers wanted : A → B → Type 0}
     (only : (x : A) (v : B) → answers x v → wanted x v) where
@@ -144,65 +138,24 @@ con_known {A} {B} make known {outcome} fields {answers} only = record {
   shown = product_shows fields.shown;
 }
 
-module _ {T : Type 0} (known : Grammar T) {describes : Shape → Type 0}
-    (shown : ShowsShorts describes (shown_shorts known)) (own : Given) where
-  -- all that is shown has the known names
-  names_are : (shape : Shape) → describes shape
-      → known_names plain_info shape ≡ program_names (shown_shorts known)
-  names_are shape is =
-      same_names shown.same plain_info shape shown.shape is shown.shown
-      ∙ ap program_names shown.are
+-- an answer that is exact by the names and the form of a grammar is exact for its values, where
+-- words are texts
+pub exact_for : {T : Type 0} (known : Grammar T) {own : Given} {info : RunInfo} {given : Given}
+    {r : Result T ParseFailure} → AnswersAsProgram T (names_by info (shown_shorts known))
+    (program_form known given.env) given r
+    → info ≡ plain_info → given ≡ own → All IsUtf8 own.words → IsExactFor (IsValueBy known own) r
+exact_for {T} known {own} {r = r} exact info_is given_is texts =
+    let here : AnswersAsProgram T (program_names known) (program_form known own.env) own r =
+    rw (info_is, given_is) at exact in
+    record { sound = here.sound; complete = here.answered texts }
 
-  -- a value of the parser is one of the program's
-  to_own : (v : T) → IsProgramValueOf describes plain_info (program_form known own.env) own v
-      → IsValueBy known own v
-  to_own v value = record {
-    context = value.context;
-    is_context = line_context describes plain_info own (program_names (shown_shorts known))
-        names_are refl value.context value.on_line;
-    read = value.read;
-  }
-
-  -- so is one that is answered, but for want of memory
-  own_or_want : (r : Result T ParseFailure)
-      → IsValueOrWant (IsProgramValueOf describes plain_info (program_form known own.env) own) r
-      → IsValueOrWant (IsValueBy known own) r
-  own_or_want (Ok v) value = to_own v value
-  own_or_want (Err f) memory = memory
-
-  -- an accepted value is one
-  own_value : (r : Result T ParseFailure)
-      → IfOk r (IsProgramValueOf describes plain_info (program_form known own.env) own)
-      → IfOk r (IsValueBy known own)
-  own_value (Ok v) value = to_own v value
-  own_value (Err f) none = tt
-
-  -- so an exact answer is exact for the program
-  own_exactly : All IsUtf8 own.words → (r : Result T ParseFailure)
-      → AnswersAsProgram T describes plain_info (program_form known own.env) own r
-      → IsExactFor (IsValueBy known own) r
-  own_exactly texts r exact = record {
-    sound = own_value r exact.sound;
-    complete = λ v value. own_or_want r (exact.answered texts v
-        (record {
-          context = value.context;
-          on_line = inl (
-            shown.shape,
-            shown.shown,
-            subst (λ names. IsContext names own value.context)
-                (sym (names_are shown.shape shown.shown)) value.is_context,
-          );
-          read = value.read;
-        }));
-  }
-
--- an answer of a run of a known program is exact for it
+-- so is one of a run of a known program
 pub program_exactly : {T : Type 0} (known : Grammar T) (own : Given)
     → is_program (program_form known own.env) ≡ true → {outcome : Outcome T}
     {describes : Shape → Type 0} {info : RunInfo} {given : Given} {r : Result T ParseFailure}
     → RunsWords T outcome describes info given r → IsKnownParser known outcome describes
     → info ≡ plain_info → given ≡ own → All IsUtf8 own.words → IsExactFor (IsValueBy known own) r
-program_exactly {T} known own program {outcome} {describes} {r = r} runs is info_is given_is texts =
-    own_exactly known is.shown own texts r (programs.answers_as_program T outcome describes
-    plain_info (keys_of known true) (command_words known) (program_form known own.env) own
-    (is.law own.env) program is.shown.same r (rw (info_is, given_is) at runs))
+program_exactly {T} known own program {outcome} {describes} {r = r} runs is info_is given_is =
+    exact_for known (answers_as_program T outcome describes plain_info (keys_of known true)
+    (command_words known) (shown_shorts known) (program_form known own.env) own (is.law own.env)
+    program is.shown r (rw (info_is, given_is) at runs)) refl refl

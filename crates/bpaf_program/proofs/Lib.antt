@@ -8,7 +8,6 @@ pub mod Pieces
 pub mod Running
 pub mod LookAlike
 pub mod Shown
-pub mod ShownShorts
 pub mod KnownFields
 pub mod KnownParser
 pub mod SeenPrograms

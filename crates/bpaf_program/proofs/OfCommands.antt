@@ -4,13 +4,13 @@ pub use Rattle.bpaf.specs.declared.leaves.positional.Position.TheVariants.{Unres
 pub use Rattle.bpaf_exact.specs.OneView.{Alike}
 pub use Rattle.bpaf_record.specs.Grammar.{alone}
 pub use Rattle.bpaf_program.specs.KnownFields.{known_map}
-pub use Rattle.bpaf_program.specs.KnownParser.{program_names, shown_shorts}
+pub use Rattle.bpaf_program.specs.KnownParser.{program_names}
 pub use Rattle.bpaf_program.specs.Values.{MeansText}
 pub use Rattle.bpaf_program.proofs.KnownFields.{argument_known, default_known, many_known}
 pub use Rattle.bpaf_program.proofs.KnownFields.{optional_known}
 pub use Rattle.bpaf_program.proofs.KnownFields.{switch_known, word_known}
 pub use Rattle.bpaf_program.proofs.KnownParser.{both_known, choice_known, command_known, con_known}
-pub use Rattle.bpaf_program.proofs.KnownParser.{last_known, map_known, program_exactly}
+pub use Rattle.bpaf_program.proofs.KnownParser.{exact_for, last_known, map_known}
 pub use Rattle.bpaf_program.proofs.Running.{are_texts, given_text, prints_text, refused_page}
 pub use Rattle.bpaf_program.proofs.Running.{runs_to}
 pub use Rattle.bpaf_program.proofs.LookAlike.{default_seen, field_seen, many_seen, number_seen}

@@ -13,7 +13,7 @@ use Rattle.bpaf_line.specs.declared.failure.ParseFailure.TheVariants.{Stdout, St
 use Rattle.bpaf.specs.Asked.{IfShown}
 use Rattle.bpaf_exact.specs.OneView.{Alike}
 use Rattle.bpaf_program.specs.Ending.{IsPrinted, IsShown, IsTold, given, told}
-use Rattle.bpaf_program.specs.ReadBy.{IsExactFor}
+use Rattle.bpaf_program.specs.KnownParser.{IsExactFor}
 use Rattle.bpaf_program.specs.Running.{AnswersByText, AnswersText, AnswersTextOf, IsTextOrWant}
 use Rattle.bpaf_program.specs.Running.{OrPage, Prints, PrintsTextOf, RunsTo, memory_wanted, shows}
 use Rattle.bpaf_program.specs.Running.{tells, written}

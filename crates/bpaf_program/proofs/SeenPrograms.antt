@@ -11,7 +11,7 @@ use Rattle.bpaf_exact.specs.FlatForm.{FlatForm, complete, flat_alone, flat_both,
 use Rattle.bpaf_exact.specs.FlatForm.{flat_field, is_record}
 use Rattle.bpaf_exact.specs.OneView.{Alike, HasOneView, pair_view}
 use Rattle.bpaf_exact.specs.Pieces.{Cells, LinePiece, Roles}
-use Rattle.bpaf_exact.specs.ProgramForm.{are_words_apart, plain, program_value}
+use Rattle.bpaf_exact.specs.ProgramForm.{ProgramForm, are_words_apart, plain, program_value}
 use Rattle.bpaf_exact.specs.Programs.{CellsValue, ChoiceValue, ClosedCells, CommandValue, FieldThen}
 use Rattle.bpaf_exact.specs.Programs.{Opens, first_value}
 use Rattle.bpaf_exact.specs.Programs.{second_value}
@@ -20,9 +20,9 @@ use Rattle.bpaf_exact.proofs.OneView.{record_looks_one}
 use Rattle.bpaf_exact.proofs.ProgramForm.{words_apart}
 use Rattle.bpaf_exact.proofs.Programs.{opens_one}
 use Rattle.bpaf_exact.specs.Record.{line_cells}
+use Rattle.bpaf_record.specs.Program.{IsProgramValueOf}
 use Rattle.bpaf_record.proofs.OneLine.{same_context}
 use Rattle.bpaf_program.specs.KnownParser.{makes}
-use Rattle.bpaf_program.specs.ReadBy.{IsProgramReadBy}
 use Rattle.bpaf_program.proofs.LookAlike.{IsSeen, alone_seen, both_seen, con_seen, field_seen}
 
 -- all values on the same cells look alike
@@ -128,11 +128,11 @@ then_look one more cs v w a b =
     ap₂ (λ x y. (x, y)) (one _ v.0 w.0 a.own b.own) (more _ v.1 w.1 a.left b.left)
 
 -- all values of the program on the same words look alike
-pub program_looks_one : {T X : Type 0} {see : T → X} {value : CellsValue T} → LooksOne see value
-    → (known : Known) (given : Given) → All IsUtf8 given.words
-    → Alike see (IsProgramReadBy known given value)
-program_looks_one {value = value} one known given texts v w a b =
+pub program_looks_one : {T X : Type 0} {see : T → X} {form : ProgramForm T}
+    → LooksOne see (program_value form) → (known : Known) (given : Given) → All IsUtf8 given.words
+    → Alike see (IsProgramValueOf known form given)
+program_looks_one {form = form} one known given texts v w a b =
     one _ v w
-    (subst (λ context. value (line_cells context) v)
-    (same_context given texts known a.context b.context a.is_context b.is_context) a.read)
+    (subst (λ context. program_value form (line_cells context) v)
+    (same_context given texts known a.context b.context a.on_line b.on_line) a.read)
     b.read

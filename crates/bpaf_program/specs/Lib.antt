@@ -4,7 +4,6 @@ pub mod Words
 pub mod Running
 pub mod Dealt
 pub mod Lines
-pub mod ReadBy
 pub mod Values
 pub mod Fields
 pub mod Texts

@@ -14,7 +14,8 @@
 //!   specs/Sink.antt). Any `Write` is one, of which nothing is known but its bytes.
 //! - [`push_line`] appends a line to a text, and [`push_lines`] one for each of some texts.
 //! - [`key`] is a key of a letter and a name, and [`plain_command`] a command over a parser, without
-//!   help.
+//!   help. A parser that is made of these in functions of the program's own runs by
+//!   [`KnownOptions`], exactly for what the program says that it is made of ([`KnownProgram`]).
 //! - [`words`] are the words of the process.
 //! - [`see_texts`] tells a contract that lent words are texts, as a run that is exact asks.
 //!
@@ -33,6 +34,7 @@
 #![tactic(auto)]
 
 mod ending;
+mod known_options;
 mod lent;
 mod lines;
 mod making;
@@ -42,6 +44,7 @@ mod sink;
 mod writing;
 
 pub use ending::{end, print};
+pub use known_options::{KnownOptions, KnownProgram};
 pub use lent::see_texts;
 pub use lines::{push_line, push_lines};
 pub use making::{key, plain_command};

@@ -2,11 +2,10 @@
 use Rattle.std.proofs.Common.{◌≡◌, ◌≢◌, ℕ, Bool, true, false, List, [], ◌∷◌, None, Some, Option}
 use Rattle.std.proofs.Common.{IsSome, Result, Ok, Err, IfOk, All, IsUtf8, sym, ◌∙◌, subst, refl}
 use Rattle.bpaf_doc.specs.Names.{Names}
-use Rattle.bpaf_doc.specs.Shape.{Shape}
 use Rattle.bpaf_words.specs.Arguments.{Given}
+use Rattle.bpaf_words.specs.Spelling.{Known}
 use Rattle.bpaf_line.specs.declared.failure.ParseFailure.{ParseFailure}
-use Rattle.bpaf.specs.Info.{RunInfo}
-use Rattle.bpaf_exact.specs.Pieces.{LinePiece}
+use Rattle.bpaf_exact.specs.Pieces.{LinePiece, Roles}
 use Rattle.bpaf_exact.specs.ProgramForm.{ProgramForm}
 use Rattle.bpaf_exact.specs.ProgramSays.{CutSays}
 use Rattle.bpaf_exact.specs.Says.{Said, FlagSays, says_present, says_variable, says_absent}
@@ -97,34 +96,34 @@ module _ {words : List (List ℕ)} {key : Names} {os : List LinePiece} (own : Ow
 
 -- pieces are those of the line of words: those that begin with a key are its own, and where one of
 -- the words before the first `--` spells the key, whatever names are known, there is one
-pub record AreOfLine (info : RunInfo) (words : List (List ℕ)) (os : List LinePiece) : Type 0 where
+pub record AreOfLine (known : Known) (words : List (List ℕ)) (os : List LinePiece) : Type 0 where
   pub own : (key : Names) → OwnOf words key (keyed (key ∷ []) os)
-  pub spelled : (key : Names) → All IsUtf8 words → IsSpelledByAny info.numbers key words
+  pub spelled : (key : Names) → All IsUtf8 words → IsSpelledByAny known.numbers key words
       → keyed (key ∷ []) os ≢ []
 
 -- What a value says of the pieces of the line of words is told of these.
-pub told_of_line : {T : Type 0} {describes : Shape → Type 0} {info : RunInfo} {form : ProgramForm T}
+pub told_of_line : {T : Type 0} {known : Known} {form : ProgramForm T} {roles : Roles}
     {said : Said T} {given : Given} {v : T} {Q : Type 0}
-    → TellsOfWords describes info form (CutSays said) given v
+    → TellsOfWords known form (CutSays roles said) given v
     → (words : List (List ℕ)) → given.words ≡ words
-    → ((os : List LinePiece) → AreOfLine info words os → said os v → Q) → Q
-told_of_line {info = info} {given = given} told words same so =
+    → ((os : List LinePiece) → AreOfLine known words os → said os v → Q) → Q
+told_of_line {known = known} {given = given} told words same so =
     let line = told.is_value in
     let cut = told.told in
     so cut.cut_into (record {
       own = λ key. record {
         spelled = λ some. subst (WasSpelled key) same
-            (piece_was_spelled key info given line.context line.on_line _ cut.cut_into cut.cut
+            (piece_was_spelled key known given line.context line.on_line _ cut.cut_into cut.cut
             some);
       };
       spelled = λ key texts spelled.
-          spelled_has_piece key info given line.context line.on_line _ cut.cut_into cut.cut
+          spelled_has_piece key known given line.context line.on_line _ cut.cut_into cut.cut
           (subst (All IsUtf8) (sym same) texts)
-          (subst (λ ws. IsSpelledByAny info.numbers key ws) (sym same) spelled);
+          (subst (λ ws. IsSpelledByAny known.numbers key ws) (sym same) spelled);
     }) cut.told
 
-module _ {info : RunInfo} {words : List (List ℕ)} {os : List LinePiece}
-    (line : AreOfLine info words os) where
+module _ {known : Known} {words : List (List ℕ)} {os : List LinePiece}
+    (line : AreOfLine known words os) where
   -- Those of them that begin with a key are its own.
   pub of_line : {key : Names} → OwnOf words key (keyed (key ∷ []) os)
   of_line {key} = line.own key
@@ -133,12 +132,13 @@ module _ {info : RunInfo} {words : List (List ℕ)} {os : List LinePiece}
   -- known
   abbrev IfKeySpelled : Names → Type 0 → Type 0
   IfKeySpelled key A =
-      (names : Names) → key ≡ names → All IsUtf8 words → IsSpelledByAny info.numbers names words → A
+      (names : Names) → key ≡ names → All IsUtf8 words → IsSpelledByAny known.numbers names words
+      → A
 
   -- A key that was spelled has a piece of its own,
   pub spelled_key : {key : Names} → IfKeySpelled key (keyed (key ∷ []) os ≢ [])
   spelled_key {key} names same texts spelled =
-      line.spelled key texts (subst (λ z. IsSpelledByAny info.numbers z words) (sym same) spelled)
+      line.spelled key texts (subst (λ z. IsSpelledByAny known.numbers z words) (sym same) spelled)
 
   -- so its switch is true,
   pub spelled_switch : {key : Names} {present : Bool} {absent : Option Bool}

@@ -8,15 +8,14 @@ use Rattle.std.proofs.lemmas.List.Elements.{Contains-append_cases, Contains-appe
 use Rattle.std.proofs.lemmas.List.Elements.{Contains-append_right}
 use Rattle.std.proofs.lemmas.Bool.{or_cases}
 use Rattle.bpaf_doc.specs.Names.{Names}
-use Rattle.bpaf_doc.specs.Shape.{Shape}
 use Rattle.bpaf_base.specs.declared.arg.Arg.{Arg}
 use Rattle.bpaf_base.specs.declared.arg.Arg.TheVariants.{PosWord}
 use Rattle.bpaf_base.specs.Items.{is_key_of}
 use Rattle.bpaf_words.specs.Arguments.{Given}
+use Rattle.bpaf_words.specs.Spelling.{Known}
+use Rattle.bpaf_line.specs.Constructing.{IsContext}
 use Rattle.bpaf_line.specs.Situation.{Context}
 use Rattle.bpaf_laws.specs.Command.{is_one_of}
-use Rattle.bpaf.specs.Info.{RunInfo}
-use Rattle.bpaf.specs.Known.{IsLineContext}
 use Rattle.bpaf_exact.specs.Names.{Owns}
 use Rattle.bpaf_exact.specs.Pieces.{Cells, Roles, Role, Foreign, Alone, WithNext, pieces}
 use Rattle.bpaf_exact.specs.Pieces.{begin_piece, is_own_role, is_value}
@@ -29,7 +28,7 @@ use Rattle.bpaf_record.specs.Program.{TellsOfWords}
 use Rattle.bpaf_record.specs.Spelled.{WasCalled, WasSpelled}
 use Rattle.bpaf_record.proofs.Answered.{OwnOf}
 use Rattle.bpaf_record.proofs.OnLine.{present}
-use Rattle.bpaf_record.proofs.Spelled.{HasPassing, was_spelled}
+use Rattle.bpaf_record.proofs.Spelled.{HasPassing, item_spelled}
 
 -- what is left of cells: at each place what was there, or nothing
 pub data IsLeft : Cells → Cells → Type 0 where
@@ -125,19 +124,18 @@ owned_on q key owns (Some k ∷ cs) some = by_role (q k) refl some (owned_on q k
     by_role r is some behind = own (ap is_own_role is)
 
 -- what is left of the line of words
-pub record LeftOfLine (describes : Shape → Type 0) (info : RunInfo) (given : Given)
-    (words : List (List ℕ)) (cs : Cells) : Type 0 where
-  pub are : given.words ≡ words
-  pub context : Context
-  pub on_line : IsLineContext describes info given context
-  pub left : IsLeft cs (line_cells context)
+pub record LeftOfLine (known : Known) (given : Given) (words : List (List ℕ)) (cs : Cells) : Type 0
+  where
+    pub are : given.words ≡ words
+    pub context : Context
+    pub on_line : IsContext known given context
+    pub left : IsLeft cs (line_cells context)
 
 -- Of what a value of a program is told, all of the line is left.
-pub told_line : {T : Type 0} {describes : Shape → Type 0} {info : RunInfo} {form : ProgramForm T}
-    {said : CellsValue T} {given : Given} {v : T}
-    → (told : TellsOfWords describes info form said given v)
+pub told_line : {T : Type 0} {known : Known} {form : ProgramForm T} {said : CellsValue T}
+    {given : Given} {v : T} → (told : TellsOfWords known form said given v)
     → (words : List (List ℕ)) → given.words ≡ words
-    → LeftOfLine describes info given words (line_cells told.is_value.context)
+    → LeftOfLine known given words (line_cells told.is_value.context)
 told_line told words are = record {
   are = are;
   context = told.is_value.context;
@@ -145,10 +143,10 @@ told_line told words are = record {
   left = all_left (line_cells told.is_value.context);
 }
 
-module _ {describes : Shape → Type 0} {info : RunInfo} {given : Given} {words : List (List ℕ)}
-    {cs : Cells} (line : LeftOfLine describes info given words cs) where
+module _ {known : Known} {given : Given} {words : List (List ℕ)} {cs : Cells}
+    (line : LeftOfLine known given words cs) where
   -- So it is without the pieces of a field.
-  pub without_field : (q : Roles) → LeftOfLine describes info given words (without q cs)
+  pub without_field : (q : Roles) → LeftOfLine known given words (without q cs)
   without_field q = record {
     are = line.are;
     context = line.context;
@@ -159,9 +157,11 @@ module _ {describes : Shape → Type 0} {info : RunInfo} {given : Given} {words 
   -- The pieces of a named field are its key's own there.
   pub of_field : {key : Names} (q : Roles) → Owns q (key ∷ []) → OwnOf words key (pieces q cs)
   of_field {key} q owns = record {
-    spelled = λ some. subst (WasSpelled key) line.are
-        (was_spelled (is_key_of key) (λ text. refl) info given line.context
-        line.on_line (kept_on (is_key_of key) line.left (owned_on q key owns cs some)));
+    spelled = λ some. subst (WasSpelled key) line.are (
+      known,
+      item_spelled (is_key_of key) known given line.context line.on_line (λ text. refl)
+          (kept_on (is_key_of key) line.left (owned_on q key owns cs some)),
+    );
   }
 
   -- The word of a command that has the value was spelled.
@@ -170,9 +170,11 @@ module _ {describes : Shape → Type 0} {info : RunInfo} {given : Given} {words 
       → WasCalled names words
   command_called {T} {opens} command names same =
       subst (WasCalled names) line.are
-      (subst (λ those. WasCalled those given.words) same
-      (was_spelled (is_one_of opens) (none_behind opens) info given line.context line.on_line
-      (kept_on (is_one_of opens) line.left (opens_on opens command.opens))))
+      (subst (λ those. WasCalled those given.words) same (
+        known,
+        item_spelled (is_one_of opens) known given line.context line.on_line (none_behind opens)
+            (kept_on (is_one_of opens) line.left (opens_on opens command.opens)),
+      ))
     where
       none_behind : (words : List (List ℕ)) (text : List ℕ) → is_one_of words (PosWord text) ≡ false
       none_behind [] text = refl

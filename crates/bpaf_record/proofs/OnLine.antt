@@ -2,7 +2,7 @@
 -- the words behind it.
 use Rattle.std.proofs.Common.{◌≡◌, ◌<◌, ℕ, zero, suc, Bool, true, false, List, [], ◌∷◌, ◌++◌, ◌==◌}
 use Rattle.std.proofs.Common.{Option, Some, None, length, map, refl, sym, ap, ◌∙◌, arith, All}
-use Rattle.std.proofs.Common.{subst, codes, slice_get, if◌then◌else◌, append-nil, cond, ⊎_elim}
+use Rattle.std.proofs.Common.{subst, codes, slice_get, if◌then◌else◌, append-nil, cond}
 use Rattle.std.proofs.Common.{drop}
 use Rattle.std.specs.Prelude.{flat_map, get_or}
 use Rattle.std.specs.List.{Contains, filter}
@@ -12,16 +12,13 @@ use Rattle.std.proofs.lemmas.List.Elements.{All-append, All-contains, All-map}
 use Rattle.std.proofs.lemmas.List.Elements.{Contains-append_right}
 use Rattle.std.proofs.lemmas.Option.{slice_get_within}
 use Prim.Native.Nat.compare
-use Rattle.bpaf_doc.specs.Shape.{Shape}
 use Rattle.bpaf_base.specs.declared.arg.Arg.{Arg}
 use Rattle.bpaf_base.specs.declared.arg.Arg.TheVariants.{PosWord}
 use Rattle.bpaf_words.specs.Arguments.{Given}
 use Rattle.bpaf_words.specs.Line.{HasNoMarker, IsLine, SpellAll, with_marker, without_marker}
-use Rattle.bpaf_words.specs.Spelling.{Known, ShortNames, known_at}
+use Rattle.bpaf_words.specs.Spelling.{Known}
 use Rattle.bpaf_line.specs.Constructing.{IsContext}
 use Rattle.bpaf_line.specs.Situation.{Context, is_marker, item_in}
-use Rattle.bpaf.specs.Info.{RunInfo}
-use Rattle.bpaf.specs.Known.{IsLineContext, known_names}
 use Rattle.bpaf.specs.Marker.{is_marker_word, words_before, words_behind}
 use Rattle.bpaf.proofs.Sides.{EachOf, all_spelled, of_words, two_sides}
 use Rattle.bpaf_exact.specs.Flat.{first_cells}
@@ -137,20 +134,12 @@ module _ (test : Arg → Bool) (fails : (w : Arg) → is_value w ≡ true → te
       (ap (λ b. cond b (w ∷ kept) kept) (fails w v) ∙ cut_kept c)
   cut_kept (word {w = w} h c) = ap (λ ks. cond (test w) (w ∷ ks) ks) (cut_kept c)
 
--- The line of words is their line by some known names.
-pub some_names : {describes : Shape → Type 0} (info : RunInfo) (given : Given) (context : Context)
-    → IsLineContext describes info given context
-    → (names : ShortNames) × IsContext (known_at info.numbers names) given context
-some_names info given context is = ⊎_elim
-    (λ one. ((known_names info one.0).names, one.2))
-    (λ any. (record { flags = []; arguments = [] }, any _)) is
-
--- Each key on it has a whole word that begins with a dash, or none.
-pub context_spelled : {describes : Shape → Type 0} (info : RunInfo) (given : Given)
-    (context : Context) → IsLineContext describes info given context → IsSpelledLine context
-context_spelled info given context is =
+-- Each key on the line of words has a whole word that begins with a dash, or none.
+pub context_spelled : {known : Known} {given : Given} {context : Context}
+    → IsContext known given context → IsSpelledLine context
+context_spelled is =
     let Is : Arg → Type 0 = λ item. is_spelled item ≡ true in
-    each_at Is (some_names info given context is).1
+    each_at Is is
     (λ word among items. all_spelled Is _ word (λ c attached rest e. ap is_dashed e) (λ c. refl)
     (λ name attached rest e. ap is_dashed e) (λ text. refl) refl (λ c text is. refl) items)
     (λ text. refl)

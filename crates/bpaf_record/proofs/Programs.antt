@@ -3,16 +3,17 @@ use Rattle.std.proofs.Common.{◌≡◌, ℕ, true, List, Result, Ok, Err, IfOk,
 use Rattle.bpaf_doc.specs.Names.{Names}
 use Rattle.bpaf_doc.specs.Shape.{Shape}
 use Rattle.bpaf_words.specs.Arguments.{Given}
+use Rattle.bpaf_words.specs.Spelling.{Known, ShortNames}
+use Rattle.bpaf_line.specs.Constructing.{IsContext}
 use Rattle.bpaf_line.specs.declared.failure.ParseFailure.{ParseFailure}
 use Rattle.bpaf_line.specs.declared.failure.ParseFailure.TheVariants as failure
 use Rattle.bpaf_line.specs.Situation.{Context, beginning}
 use Rattle.bpaf_laws.specs.Reading.{Outcome}
 use Rattle.bpaf.specs.Info.{RunInfo}
-use Rattle.bpaf.specs.Known.{IsLineContext}
 use Rattle.bpaf.specs.Run.{RunsWords, ran, no_line as none_there, no_memory as wanted}
 use Rattle.bpaf_exact.specs.ProgramForm.{ProgramForm, ProgramFormLaw, is_program, program_value}
 use Rattle.bpaf_exact.specs.Record.{Accepted, IsAcceptedOrWant, line_cells}
-use Rattle.bpaf_exact.specs.SameParts.{ShowsTheSame}
+use Rattle.bpaf_exact.specs.ShownNames.{ShowsNames}
 use Rattle.bpaf_exact.specs.Flat.{Variables}
 use Rattle.bpaf_exact.proofs.ProgramForm.{runs_as_program}
 use Rattle.std.proofs.lemmas.Bool.{and_parts}
@@ -21,21 +22,25 @@ use Rattle.bpaf_exact.specs.ProgramSays.{ProgramSaid, ProgramSays, cells_said}
 use Rattle.bpaf_exact.proofs.ProgramSays.{program_says}
 use Rattle.bpaf_record.specs.Program.{AnswersAsProgram, IsProgramValueOf, TellsOfWords}
 use Rattle.bpaf_record.specs.Program.{is_whole_program}
-use Rattle.bpaf_record.specs.Record.{answer_of, IsValueOrWant}
-use Rattle.bpaf_record.proofs.OneLine.{never_without, one_context}
-use Rattle.bpaf_record.proofs.Running.{given_variables, run_ran}
+use Rattle.bpaf_record.specs.Record.{answer_of, IsValueOrWant, names_by}
+use Rattle.bpaf_record.proofs.OneLine.{line_by, never_without, same_context}
+use Rattle.bpaf_record.proofs.Running.{run_ran}
 use Rattle.bpaf_record.proofs.OnLine.{context_spelled}
 
 module _ (T : Type 0) (outcome : Outcome T) (describes : Shape → Type 0) (info : RunInfo)
-    (names : List Names) (words : List (List ℕ)) (form : ProgramForm T) (given : Given)
-    (law : ProgramFormLaw given.env outcome names words form)
-    (program : is_program form ≡ true) (shows : ShowsTheSame describes) where
+    (names : List Names) (words : List (List ℕ)) (shorts : ShortNames) (form : ProgramForm T)
+    (given : Given) (law : ProgramFormLaw given.env outcome names words form)
+    (program : is_program form ≡ true) (shows : ShowsNames describes shorts) where
+  -- the names by which words are read
+  abbrev known : Known
+  known = names_by info shorts
+
   -- a value of the program on the words
   abbrev IsValue : T → Type 0
-  IsValue = IsProgramValueOf describes info form given
+  IsValue = IsProgramValueOf known form given
 
   -- an answer that is one of the values on this line, or want of memory
-  answer_on : (context : Context) → IsLineContext describes info given context
+  answer_on : (context : Context) → IsContext known given context
       → (a : Result T ParseFailure)
       → IsAcceptedOrWant (program_value form (line_cells context)) (answer_of a)
       → IsValueOrWant IsValue a
@@ -45,7 +50,7 @@ module _ (T : Type 0) (outcome : Outcome T) (describes : Shape → Type 0) (info
   answer_on context is (Err failure.Memory) none = refl
 
   -- a value is one of the program's on this line
-  sound_on : (context : Context) → IsLineContext describes info given context
+  sound_on : (context : Context) → IsContext known given context
       → (r : Result T ParseFailure)
       → ((v : T) → answer_of r ≡ Accepted v → program_value form (line_cells context) v)
       → IfOk r IsValue
@@ -54,24 +59,24 @@ module _ (T : Type 0) (outcome : Outcome T) (describes : Shape → Type 0) (info
 
   -- THE THEOREM: on words each answer of a run of a program is exact.
   pub answers_as_program : (r : Result T ParseFailure) → RunsWords T outcome describes info given r
-      → AnswersAsProgram T describes info form given r
-  answers_as_program r (ran context answer t is run) =
-      let here = subst (λ env. ProgramFormLaw env outcome names words form)
-      (sym (given_variables info given context is)) law in
+      → AnswersAsProgram T known form given r
+  answers_as_program r (ran context answer t line run) =
+      let is = line_by shows info given context line in
+      let here = subst (λ env. ProgramFormLaw env outcome names words form) (sym is.env) law in
       let exact = runs_as_program T outcome names words form program context here
-      (context_spelled info given context is) (answer_of r)
+      (context_spelled is) (answer_of r)
       (run_ran T outcome describes info (beginning context) t r run) in
       record {
         sound = sound_on context is r exact.0;
         answered = λ texts v there. answer_on context is r (exact.1 v
             (subst (λ c. program_value form (line_cells c) v)
-            (one_context given texts shows info there.context context there.on_line is) there.read));
+            (same_context given texts known there.context context there.on_line is) there.read));
       }
   answers_as_program (Err f) (none_there shown word number context told is none line name renders) =
       record {
         sound = tt;
-        answered = λ texts v there. absurd (never_without given texts shows info there.context
-            shown word number there.on_line is none);
+        answered = λ texts v there. absurd (never_without shows info given texts there.context
+            there.on_line shown is word number none);
       }
   answers_as_program (Err f) wanted = record { sound = tt; answered = λ texts v there. refl }
 
@@ -81,13 +86,12 @@ pub is_program_form : {T : Type 0} (form : ProgramForm T) (names : List Names) (
 is_program_form form names info e = (and_parts (is_program form) _ e).0
 
 -- a value of an exact answer says what its parser says
-pub tells_of_words : {P T : Type 0} {describes : Shape → Type 0} {info : RunInfo}
-    {form : ProgramForm T} {kind : SaidKind} {said : ProgramSaid P T} {p : P}
+pub tells_of_words : {P T : Type 0} {known : Known} {form : ProgramForm T} {kind : SaidKind} {said : ProgramSaid P T} {p : P}
     (env : Variables) (outcome : Outcome T) {names : List Names} (words : List (List ℕ))
     → ProgramFormLaw env outcome names words form → ProgramSays names form kind said p
     → is_program form ≡ true → {given : Given}
-    (r : Result T ParseFailure) → AnswersAsProgram T describes info form given r
-    → IfOk r (TellsOfWords describes info form (cells_said said p) given)
+    (r : Result T ParseFailure) → AnswersAsProgram T known form given r
+    → IfOk r (TellsOfWords known form (cells_said form said p) given)
 tells_of_words {form = form} env outcome words law says is (Ok v) exact =
     let value = exact.sound in record {
       is_value = value;

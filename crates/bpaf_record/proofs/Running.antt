@@ -1,10 +1,12 @@
 -- Each answer that the table of a run allows to a flat record keeps to its fields.
 use Rattle.std.proofs.Common.{◌≡◌, true, false, List, Some, None, Result, Ok, Err, IfOk, All, IsUtf8, refl}
-use Rattle.std.proofs.Common.{[], ap, subst, sym, ⊎_elim}
+use Rattle.std.proofs.Common.{ap, subst, sym}
 use Rattle.std.proofs.lemmas.Bool.{and_parts}
 use Rattle.bpaf_doc.specs.Names.{Names}
 use Rattle.bpaf_doc.specs.Shape.{Shape}
 use Rattle.bpaf_words.specs.Arguments.{Given}
+use Rattle.bpaf_words.specs.Spelling.{Known, ShortNames}
+use Rattle.bpaf_line.specs.Constructing.{IsContext}
 use Rattle.bpaf_line.specs.declared.error.Error.{Error}
 use Rattle.bpaf_line.specs.declared.failure.ParseFailure.{ParseFailure}
 use Rattle.bpaf_line.specs.declared.failure.ParseFailure.TheVariants as failure
@@ -13,7 +15,6 @@ use Rattle.bpaf_laws.specs.Reading.{Outcome}
 use Rattle.bpaf.specs.Ending.{EndsRun, memory, usage, passed_on, refused as told_refusal}
 use Rattle.bpaf.specs.Ending.{leftover as told_leftover}
 use Rattle.bpaf.specs.Info.{RunInfo}
-use Rattle.bpaf.specs.Known.{IsLineContext}
 use Rattle.bpaf.specs.Run.{Runs, RunsWords, value, leftover, refused, ran}
 use Rattle.bpaf.specs.Run.{no_line as none_there, no_memory as wanted}
 use Rattle.bpaf_exact.specs.Flat.{FieldsLaw, FieldsReading}
@@ -26,25 +27,19 @@ use Rattle.bpaf_exact.proofs.Classes.{memory_class, not_memory}
 use Rattle.bpaf_exact.proofs.Accepted.{cut_holds_together}
 use Rattle.bpaf_exact.proofs.Exact.{runs_exactly}
 use Rattle.bpaf_exact.proofs.FlatForm.{record_law}
-use Rattle.bpaf_exact.specs.SameParts.{ShowsTheSame}
+use Rattle.bpaf_exact.specs.ShownNames.{ShowsNames}
 use Rattle.bpaf_exact.specs.ProgramForm.{ProgramForm, flat_form, plain}
 use Rattle.bpaf_record.specs.Program.{is_whole_program}
 use Rattle.bpaf_record.specs.Record.{is_flat_record, answer_of, AnswersByFields, IsValueOf}
-use Rattle.bpaf_record.specs.Record.{IsValueOrWant, HasWholeLine, PiecesOf}
+use Rattle.bpaf_record.specs.Record.{IsValueOrWant, HasWholeLine, PiecesOf, names_by}
 use Rattle.bpaf_record.specs.Commands.{left_over}
-use Rattle.bpaf_record.proofs.OneLine.{never_without, one_context}
+use Rattle.bpaf_record.proofs.OneLine.{line_by, never_without, same_context}
 
 -- what a run answers that gives no value is none
 no_value : (T : Type 0) (f : ParseFailure) → IsNoValue (answer_of {T = T} (Err f))
 no_value T (failure.Stdout doc full) = tt
 no_value T (failure.Stderr doc) = tt
 no_value T failure.Memory = tt
-
--- the environment of the words' line is the one that is given
-pub given_variables : {describes : Shape → Type 0} (info : RunInfo) (given : Given)
-    (context : Context) → IsLineContext describes info given context → context.env ≡ given.env
-given_variables info given context is = ⊎_elim (λ one. one.2.env)
-    (λ any. (any (record { flags = []; arguments = [] })).env) is
 
 module _ (T : Type 0) (outcome : Outcome T) (describes : Shape → Type 0) (info : RunInfo) where
   -- a run that leaves items
@@ -72,12 +67,16 @@ module _ (T : Type 0) (outcome : Outcome T) (describes : Shape → Type 0) (info
   run_ran s t r (refused e left f after o ends) = refused_ran s left after e f o ends
 
 module _ (T : Type 0) (outcome : Outcome T) (describes : Shape → Type 0) (info : RunInfo) where
-  module _ (names : List Names) (form : FlatForm T) (given : Given)
+  module _ (names : List Names) (shorts : ShortNames) (form : FlatForm T) (given : Given)
       (law : FormLaw given.env outcome names form)
-      (flat : is_record form ≡ true) (shows : ShowsTheSame describes) where
+      (flat : is_record form ≡ true) (shows : ShowsNames describes shorts) where
+    -- the names by which words are read
+    abbrev known : Known
+    known = names_by info shorts
+
     -- a value of the record on words
     abbrev IsValue : T → Type 0
-    IsValue = IsValueOf describes info form given
+    IsValue = IsValueOf known form given
 
     -- the keys of the record
     abbrev roles : Roles
@@ -93,21 +92,21 @@ module _ (T : Type 0) (outcome : Outcome T) (describes : Shape → Type 0) (info
 
     -- the pieces that the words are cut into
     abbrev Line : Type 0
-    Line = PiecesOf describes info form given
+    Line = PiecesOf known form given
 
     -- the line of a value of the record is whole
-    whole_line : (v : T) → IsValue v → HasWholeLine describes info form given v
+    whole_line : (v : T) → IsValue v → HasWholeLine known form given v
     whole_line v is = record {
       is_value = is;
       together = cut_holds_together roles fields_law.named (line_cells is.context)
           is.read.cut_into is.read.cut;
     }
 
-    module _ (context : Context) (is : IsLineContext describes info given context)
+    module _ (context : Context) (is : IsContext known given context)
         (r : Result T ParseFailure) (exact : IsExact T roles reading context (answer_of r)) where
       -- what is exact on the words' line is a value only where that is one of the record's
       sound_on : (a : Result T ParseFailure) → r ≡ a
-          → IfOk a (HasWholeLine describes info form given)
+          → IfOk a (HasWholeLine known form given)
       sound_on (Ok v) e = whole_line v
           (record { context = context; on_line = is; read = exact.sound v (ap answer_of e) })
       sound_on (Err f) e = tt
@@ -126,7 +125,7 @@ module _ (T : Type 0) (outcome : Outcome T) (describes : Shape → Type 0) (info
       pieces_on : All IsUtf8 given.words → (line : Line)
           → Cut roles (line_cells context) line.cut_into
       pieces_on texts line = subst (λ c. Cut roles (line_cells c) line.cut_into)
-          (one_context given texts shows info line.context context line.on_line is) line.cut
+          (same_context given texts known line.context context line.on_line is) line.cut
 
       -- where each field has a value
       complete_on : All IsUtf8 given.words → (line : Line) → reading.each line.cut_into
@@ -144,10 +143,10 @@ module _ (T : Type 0) (outcome : Outcome T) (describes : Shape → Type 0) (info
     -- each answer to words keeps to the fields
     pub answers_by_fields : (r : Result T ParseFailure)
         → RunsWords T outcome describes info given r
-        → AnswersByFields T describes info form given r
-    answers_by_fields r (ran context answer t is run) =
-        let here = subst (λ env. FormLaw env outcome names form)
-        (sym (given_variables info given context is)) law in
+        → AnswersByFields T known form given r
+    answers_by_fields r (ran context answer t line run) =
+        let is = line_by shows info given context line in
+        let here = subst (λ env. FormLaw env outcome names form) (sym is.env) law in
         let exact = runs_exactly T outcome names form flat context here (answer_of r)
         (run_ran T outcome describes info (beginning context) t r run) in
         record {
@@ -158,8 +157,8 @@ module _ (T : Type 0) (outcome : Outcome T) (describes : Shape → Type 0) (info
     answers_by_fields (Err f) (none_there shown word number context told is none line name renders) =
         record {
           whole = tt;
-          complete = λ texts there each. absurd (never_without given texts shows info there.context
-              shown word number there.on_line is none);
+          complete = λ texts there each. absurd (never_without shows info given texts there.context
+              there.on_line shown is word number none);
           refused = λ texts there none_has. tt;
         }
     answers_by_fields (Err f) wanted = record {

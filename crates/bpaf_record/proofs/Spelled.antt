@@ -10,24 +10,21 @@ use Rattle.std.proofs.lemmas.List.Elements.{Contains-append_left, Contains-appen
 use Rattle.std.proofs.lemmas.List.Elements.{Contains-get_or, filter_passes}
 use Rattle.std.proofs.lemmas.List.Sums.{count_by_more_yes, length-filter, sum_by-take-le}
 use Rattle.bpaf_doc.specs.Names.{Names}
-use Rattle.bpaf_doc.specs.Shape.{Shape}
 use Rattle.bpaf_base.specs.Items.{is_key_of}
 use Rattle.bpaf_base.specs.declared.arg.Arg.{Arg}
 use Rattle.bpaf_base.specs.declared.arg.Arg.TheVariants.{Short, Long, PosWord}
 use Rattle.bpaf_words.specs.Arguments.{Given}
 use Rattle.bpaf_words.specs.Line.{HasNoMarker, SpellAll}
-use Rattle.bpaf_words.specs.Spelling.{Known, Items, Spells, known_at}
+use Rattle.bpaf_words.specs.Spelling.{Known, Items, Spells}
 use Rattle.bpaf_words.proofs.OneSpelling.{one_spelling}
 use Rattle.bpaf_line.specs.Constructing.{IsContext}
 use Rattle.bpaf_line.specs.Situation.{Context}
-use Rattle.bpaf.specs.Info.{RunInfo}
-use Rattle.bpaf.specs.Known.{IsLineContext}
 use Rattle.bpaf.specs.Marker.{is_marker_word, words_before, words_behind}
 use Rattle.bpaf_exact.specs.Pieces.{Roles, LinePiece, Cut, is_value}
 use Rattle.bpaf_exact.specs.Record.{line_cells}
 use Rattle.bpaf_exact.specs.Says.{first_item, keyed}
 use Rattle.bpaf_record.specs.Spelled.{IsSpelledByAny, IsSpelledItem, WasSpelled}
-use Rattle.bpaf_record.proofs.OnLine.{cut_kept, each_present, on_line, present, some_names}
+use Rattle.bpaf_record.proofs.OnLine.{cut_kept, each_present, on_line, present}
 
 module _ (known : Known) where
   -- one of these words spells a part, whose items are among those of all
@@ -94,7 +91,7 @@ module _ (test : Arg → Bool) where
   module _ (known : Known) (given : Given) (context : Context) (is : IsContext known given context)
     where
       -- an item of the line that passes is spelled by one of the words before the first `--`,
-      item_spelled : ((text : List ℕ) → test (PosWord text) ≡ false)
+      pub item_spelled : ((text : List ℕ) → test (PosWord text) ≡ false)
           → HasPassing (present (line_cells context)) → IsSpelledItem known test given.words
       item_spelled not_behind (item, among, passes) =
           All-contains (λ item. test item ≡ true → IsSpelledItem known test given.words)
@@ -130,16 +127,6 @@ module _ (test : Arg → Bool) where
             one.spells.is_key,
           )
 
--- So it is by the names that the line is read by.
-pub was_spelled : {describes : Shape → Type 0} (test : Arg → Bool)
-    → ((text : List ℕ) → test (PosWord text) ≡ false) → (info : RunInfo) (given : Given)
-    (context : Context) → IsLineContext describes info given context
-    → HasPassing test (present (line_cells context))
-    → (known : Known) × IsSpelledItem known test given.words
-was_spelled test not_behind info given context on some =
-    let by = some_names info given context on in
-    (_, item_spelled test (known_at info.numbers by.0) given context by.1 not_behind some)
-
 module _ (names : Names) where
   -- the value of a key is none
   value_is_no_key : (w : Arg) → is_value w ≡ true → is_key_of names w ≡ false
@@ -160,9 +147,8 @@ module _ (names : Names) where
       by_test true ps e = ap (λ ks. first_item o ∷ ks) e
       by_test false ps e = e
 
-  module _ {describes : Shape → Type 0} (info : RunInfo) (given : Given) (context : Context)
-      (on : IsLineContext describes info given context) (r : Roles) (os : List LinePiece)
-      (cut : Cut r (line_cells context) os) where
+  module _ (known : Known) (given : Given) (context : Context) (on : IsContext known given context)
+      (r : Roles) (os : List LinePiece) (cut : Cut r (line_cells context) os) where
     -- the keys on a line are those that begin its pieces
     keys_on : filter (is_key_of names) (present (line_cells context))
         ≡ map first_item (keyed (names ∷ []) os)
@@ -170,20 +156,21 @@ module _ (names : Names) where
 
     -- A piece that begins with a key is spelled by one of the words before the first `--`,
     pub piece_was_spelled : keyed (names ∷ []) os ≢ [] → WasSpelled names given.words
-    piece_was_spelled some =
-        was_spelled (is_key_of names) (λ text. refl) info given context on
-        (of_kept (is_key_of names) (present (line_cells context))
-        (λ none. some (map_none (keyed (names ∷ []) os) (sym keys_on ∙ none))))
+    piece_was_spelled some = (
+      known,
+      item_spelled (is_key_of names) known given context on (λ text. refl)
+          (of_kept (is_key_of names) (present (line_cells context))
+          (λ none. some (map_none (keyed (names ∷ []) os) (sym keys_on ∙ none)))),
+    )
       where
         map_none : (ps : List LinePiece) → map first_item ps ≡ [] → ps ≡ []
         map_none [] e = refl
         map_none (p ∷ ps) e = absurd cc
 
     -- and where one of them spells it, whatever names are known, there is such a piece.
-    pub spelled_has_piece : All IsUtf8 given.words → IsSpelledByAny info.numbers names given.words
+    pub spelled_has_piece : All IsUtf8 given.words → IsSpelledByAny known.numbers names given.words
         → keyed (names ∷ []) os ≢ []
     spelled_has_piece texts spelled none =
-        let by = some_names info given context on in
         some_kept (is_key_of names) (present (line_cells context))
-        (spelled_item (is_key_of names) (known_at info.numbers by.0) given context by.1 texts
-        (spelled by.0)) (keys_on ∙ ap (map first_item) none)
+        (spelled_item (is_key_of names) known given context on texts (spelled known.names))
+        (keys_on ∙ ap (map first_item) none)

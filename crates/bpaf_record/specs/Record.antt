@@ -1,14 +1,14 @@
 -- Flat records.
-use Rattle.std.specs.Prelude.{◌≡◌, All, Bool, ◌&&◌, IfOk, IsUtf8, List, Result, Ok, Err}
+use Rattle.std.specs.Prelude.{◌≡◌, All, Bool, ◌&&◌, ◌++◌, IfOk, IsUtf8, List, Result, Ok, Err}
 use Rattle.std.specs.List.{list_all}
 use Rattle.bpaf_doc.specs.Names.{Names}
-use Rattle.bpaf_doc.specs.Shape.{Shape}
 use Rattle.bpaf_words.specs.Arguments.{Given}
+use Rattle.bpaf_words.specs.Spelling.{Known, ShortNames, known_at}
+use Rattle.bpaf_line.specs.Constructing.{IsContext}
 use Rattle.bpaf_line.specs.declared.failure.ParseFailure.{ParseFailure}
 use Rattle.bpaf_line.specs.declared.failure.ParseFailure.TheVariants as failure
 use Rattle.bpaf_line.specs.Situation.{Context}
 use Rattle.bpaf.specs.Info.{RunInfo}
-use Rattle.bpaf.specs.Known.{IsLineContext}
 use Rattle.bpaf_exact.specs.Accepted.{HoldsTogether}
 use Rattle.bpaf_exact.specs.Names.{are_apart}
 use Rattle.bpaf_exact.specs.Pieces.{LinePiece, Cut}
@@ -22,6 +22,14 @@ are_unusual keys info =
     list_all (are_apart info.help_arg.names) keys
     && list_all (are_apart info.version_arg.names) keys
 
+-- the names by which the words of a run are read whose parser shows these: with those of help and
+-- version, as flags; and whether the setting makes a negative number a word
+abbrev pub names_by : RunInfo → ShortNames → Known
+names_by info shorts = known_at info.numbers (record {
+  flags = shorts.flags ++ info.help_arg.names.shorts ++ info.version_arg.names.shorts;
+  arguments = shorts.arguments;
+})
+
 -- a flat record none of whose keys shares a name with those of help and version
 abbrev pub is_flat_record : {T : Type 0} → FlatForm T → List Names → RunInfo → Bool
 is_flat_record form keys info = is_record form && are_unusual keys info
@@ -33,26 +41,25 @@ answer_of (Err (failure.Stdout doc full)) = Refusal
 answer_of (Err (failure.Stderr doc)) = Refusal
 answer_of (Err failure.Memory) = NoMemory
 
--- v is a value of the record on words: on their line
-pub record IsValueOf {T : Type 0} (describes : Shape → Type 0) (info : RunInfo)
-    (form : FlatForm T) (given : Given) (v : T) : Type 0 where
+-- v is a value of the record on words: on their line, by the names that it knows
+pub record IsValueOf {T : Type 0} (known : Known) (form : FlatForm T) (given : Given) (v : T)
+    : Type 0 where
   pub context : Context
-  pub on_line : IsLineContext describes info given context
+  pub on_line : IsContext known given context
   pub read : RecordValue (product_roles (flat_record form))
       (product_reading (flat_record form)).value context v
 
 -- v is a value of the record on words whose line, as it is cut for v, holds together
-pub record HasWholeLine {T : Type 0} (describes : Shape → Type 0) (info : RunInfo)
-    (form : FlatForm T) (given : Given) (v : T) : Type 0 where
-  pub is_value : IsValueOf describes info form given v
+pub record HasWholeLine {T : Type 0} (known : Known) (form : FlatForm T) (given : Given) (v : T)
+    : Type 0 where
+  pub is_value : IsValueOf known form given v
   pub together : HoldsTogether (product_roles (flat_record form)) (line_cells is_value.context)
       is_value.read.cut_into
 
 -- the pieces that the line of words is cut into for the record
-pub record PiecesOf {T : Type 0} (describes : Shape → Type 0) (info : RunInfo)
-    (form : FlatForm T) (given : Given) : Type 0 where
+pub record PiecesOf {T : Type 0} (known : Known) (form : FlatForm T) (given : Given) : Type 0 where
   pub context : Context
-  pub on_line : IsLineContext describes info given context
+  pub on_line : IsContext known given context
   pub cut_into : List LinePiece
   pub cut : Cut (product_roles (flat_record form)) (line_cells context) cut_into
 
@@ -66,14 +73,14 @@ IsValueOrWant value (Ok v) = value v
 IsValueOrWant value (Err f) = f ≡ failure.Memory
 
 -- An answer to words, field by field. That fields have values is said of words that are texts.
-pub record AnswersByFields (T : Type 0) (describes : Shape → Type 0) (info : RunInfo)
-    (form : FlatForm T) (given : Given) (r : Result T ParseFailure) : Type 0 where
+pub record AnswersByFields (T : Type 0) (known : Known) (form : FlatForm T) (given : Given)
+    (r : Result T ParseFailure) : Type 0 where
   -- it is a value only where that is one of the record's, on a line that holds together
-  pub whole : IfOk r (HasWholeLine describes info form given)
+  pub whole : IfOk r (HasWholeLine known form given)
   -- where each field has a value on its portion of the pieces, it is one of the record's, made of
   -- such, or want of memory
-  pub complete : All IsUtf8 given.words → (line : PiecesOf describes info form given)
-      → EachHasValue form line.cut_into → IsValueOrWant (IsValueOf describes info form given) r
+  pub complete : All IsUtf8 given.words → (line : PiecesOf known form given)
+      → EachHasValue form line.cut_into → IsValueOrWant (IsValueOf known form given) r
   -- where a field has none, it is no value
-  pub refused : All IsUtf8 given.words → (line : PiecesOf describes info form given)
+  pub refused : All IsUtf8 given.words → (line : PiecesOf known form given)
       → ¬ (EachHasValue form line.cut_into) → IfOk r (λ v. ⊥)

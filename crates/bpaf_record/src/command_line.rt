@@ -93,7 +93,9 @@ pub trait CommandLine<T> {
 
 impl<T: Drop, P: ProgramField<T>> CommandLine<T> for OptionParser<T, P> {
     ghost use Rattle.bpaf_exact.specs.ProgramSays.{cells_said};
+    ghost use Rattle.bpaf_record.specs.Grammar.{shown_shorts};
     ghost use Rattle.bpaf_record.specs.Program.{is_whole_program, AnswersAsProgram, TellsOfWords};
+    ghost use Rattle.bpaf_record.specs.Record.{names_by};
     ghost use Rattle.bpaf.specs.Dealt.{IsDealtOut};
     ghost use Rattle.bpaf.specs.Refusals.{IsOneOfTwelve};
     ghost use Rattle.bpaf.specs.Run.{RunsWords};
@@ -122,14 +124,16 @@ impl<T: Drop, P: ProgramField<T>> CommandLine<T> for OptionParser<T, P> {
     ghost deals = { λ p given.
         IsDealtOut T (P.reads p.inner) (P.describes p.inner) p.info given };
 
-    ghost tells = { λ p given. TellsOfWords (P.describes p.inner) p.info
-        (program_form (P.grammar p.inner) given.env) (cells_said (P.says given.env) p.inner)
+    ghost tells = { λ p given. TellsOfWords (names_by p.info (shown_shorts (P.grammar p.inner)))
+        (program_form (P.grammar p.inner) given.env)
+        (cells_said (program_form (P.grammar p.inner) given.env) (P.says given.env) p.inner)
         given };
 
     ghost answers_spared = { λ p given. RunsWords T (WithoutMemory (P.outcome p.inner))
         (P.describes p.inner) p.info given };
 
-    ghost answers_as_program = { λ p given. AnswersAsProgram T (P.describes p.inner) p.info
+    ghost answers_as_program = { λ p given. AnswersAsProgram T
+        (names_by p.info (shown_shorts (P.grammar p.inner)))
         (program_form (P.grammar p.inner) given.env) given };
 
     fn run_program(&self, args: Args<'_>) -> Result<T, ParseFailure> {

@@ -15,14 +15,15 @@ impl<T: Drop, P: ProgramField<T>> ProgramField<T> for ParseCommand<T, P> {
     ghost use Rattle.bpaf_laws.specs.Command.{CommandPart};
     ghost use Rattle.bpaf_exact.specs.ProgramSays.{said_command};
     ghost use Rattle.bpaf_exact.proofs.ProgramSays.{program_command_says};
-    ghost use Rattle.bpaf_exact.proofs.SameParts.{command_shows};
+    ghost use Rattle.bpaf_exact.proofs.ShownNames.{command_shows};
     ghost use Rattle.bpaf_record.specs.Commands.{either_command_law};
     ghost use Rattle.bpaf_record.specs.Record.{are_unusual};
     ghost use Rattle.bpaf_record.specs.Grammar.{command};
 
     ghost grammar = { λ p. command p.adjacent p.names p.info (P.grammar p.inner) };
 
-    ghost says = { λ variables. said_command (λ p. p.inner) (λ p. p.names) (P.says variables) };
+    ghost says = { λ variables. said_command (λ p. p.inner) (λ p. p.names)
+        (λ p. program_form (P.grammar p) variables) (P.says variables) };
 
     ghost agrees = { λ p. P.agrees p.inner };
 
@@ -57,7 +58,8 @@ impl<T: Drop, P: ProgramField<T>> ProgramField<T> for ParseCommand<T, P> {
     ghost shows = { λ p. command_shows (P.shows p.inner) p.names p.help };
 
     ghost said = { λ p a variables. program_command_says (λ p. p.inner) p variables
-        (P.outcome p.inner) (command_words (P.grammar p.inner)) p.adjacent
+        (P.outcome p.inner) (command_words (P.grammar p.inner))
+        (λ p. program_form (P.grammar p) variables) p.adjacent
         (are_unusual (keys_of (P.grammar p.inner) false) p.info) (λ p. p.names)
         (P.law p.inner a variables) (P.said p.inner a variables) };
 }

@@ -11,7 +11,7 @@ use std::fmt::Display;
 
 /// With `catch` it is no flat field, nor optional commands.
 impl<T: Drop, P: ProgramField<T>> ProgramField<Option<T>> for ParseOptional<P> {
-    ghost use Rattle.bpaf_exact.proofs.SameParts.{optional_shows};
+    ghost use Rattle.bpaf_exact.proofs.ShownNames.{optional_shows};
     ghost use Rattle.bpaf_exact.specs.ProgramSays.{said_optional};
     ghost use Rattle.bpaf_exact.proofs.ByTables.{optional_law};
     ghost use Rattle.bpaf_exact.proofs.ProgramSays.{program_optional_says};
@@ -50,7 +50,7 @@ impl<T: Drop, P: FlatField<T>> FlatField<Option<T>> for ParseOptional<P> {}
 
 impl<T: Clone, P: ProgramField<T>> ProgramField<T> for ParseFallback<P, T> {
     ghost use Rattle.bpaf_exact.specs.Wrappers.{kept_closure};
-    ghost use Rattle.bpaf_exact.proofs.SameParts.{default_shows};
+    ghost use Rattle.bpaf_exact.proofs.ShownNames.{default_shows};
     ghost use Rattle.bpaf_exact.specs.ProgramSays.{said_fallback};
     ghost use Rattle.bpaf_exact.proofs.ByTables.{fallback_law};
     ghost use Rattle.bpaf_exact.proofs.ProgramSays.{program_fallback_says};
@@ -92,7 +92,7 @@ impl<T: Clone, P: FlatField<T>> FlatField<T> for ParseFallback<P, T> {}
 impl<T, E: Display + Drop, P: ProgramField<T>, F: Fn() -> Result<T, E>> ProgramField<T>
     for ParseFallbackWith<T, P, F, E> {
     ghost use Rattle.bpaf_exact.specs.Wrappers.{Decides, answer_closure};
-    ghost use Rattle.bpaf_exact.proofs.SameParts.{default_shows};
+    ghost use Rattle.bpaf_exact.proofs.ShownNames.{default_shows};
     ghost use Rattle.bpaf_exact.specs.ProgramSays.{said_fallback};
     ghost use Rattle.bpaf_exact.proofs.ByTables.{fallback_with_law};
     ghost use Rattle.bpaf_exact.proofs.ProgramSays.{program_fallback_says};

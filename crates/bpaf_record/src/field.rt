@@ -10,12 +10,12 @@ use bpaf::{Fields, Parser};
 /// A parser that may be a field of a program, a command, or a program itself.
 pub trait ProgramField<T>: Parser<T> {
     ghost use Rattle.std.specs.Prelude.{true};
-    ghost use Rattle.bpaf_exact.specs.SameParts.{ShowsTheSame};
+    ghost use Rattle.bpaf_exact.specs.ShownNames.{ShowsNames};
     ghost use Rattle.bpaf_exact.specs.ProgramForm.{ProgramFormLaw};
     ghost use Rattle.bpaf_exact.specs.ProgramSays.{ProgramSaid, ProgramSays};
     ghost use Rattle.bpaf_exact.specs.Flat.{Variables};
     ghost use Rattle.bpaf_record.specs.Grammar.{Grammar, command_words, keys_of, program_form};
-    ghost use Rattle.bpaf_record.specs.Grammar.{said_kind};
+    ghost use Rattle.bpaf_record.specs.Grammar.{said_kind, shown_shorts};
     ghost use Rattle.bpaf_record.specs.Part.{part_of};
 
     /// Of what it is made: what it is by itself, or a step and the parsers inside. That tells its
@@ -49,8 +49,9 @@ pub trait ProgramField<T>: Parser<T> {
         → ProgramFormLaw variables (Self.Parser.outcome p) (keys_of (grammar p) true)
         (command_words (grammar p)) (program_form (grammar p) variables) };
 
-    /// It shows the same parts, whichever shape it shows, so that words have one line.
-    ghost shows: { (p : Self) → ShowsTheSame (Self.Parser.describes p) };
+    /// Whichever shape it shows, its short names are those of what it is made of: by these joined
+    /// words are read.
+    ghost shows: { (p : Self) → ShowsNames (Self.Parser.describes p) (shown_shorts (grammar p)) };
 
     /// Its value says so.
     ghost said: { (p : Self) → agrees p → (variables : Variables)
@@ -65,10 +66,10 @@ pub trait FlatField<T> {}
 /// The fields of a program.
 pub trait ProgramFields<V>: Fields<V> {
     ghost use Rattle.std.specs.Prelude.{true};
-    ghost use Rattle.bpaf_exact.specs.SameParts.{FieldsShowTheSame};
+    ghost use Rattle.bpaf_exact.specs.ShownNames.{FieldsShowNames};
     ghost use Rattle.bpaf_exact.specs.ProgramSays.{FieldsKeep, ProgramFieldsSaid};
     ghost use Rattle.bpaf_exact.specs.Flat.{Variables};
-    ghost use Rattle.bpaf_record.specs.Grammar.{Grammar, keys_of, program_form};
+    ghost use Rattle.bpaf_record.specs.Grammar.{Grammar, keys_of, program_form, shown_shorts};
     ghost use Rattle.bpaf_record.specs.Part.{part_of};
 
     /// Of what they are made. That tells their keys and what they are to a program.
@@ -98,8 +99,9 @@ pub trait ProgramFields<V>: Fields<V> {
         → FieldsKeep variables (Self.Fields.outcome p) (keys_of (grammar p) true)
         (program_form (grammar p) variables) (says variables) p };
 
-    /// They show the same parts, whichever shapes they show.
-    ghost shows: { (p : Self) → FieldsShowTheSame (Self.Fields.describes p) };
+    /// Whichever shapes they show, their short names are those of what they are made of.
+    ghost shows: { (p : Self) → FieldsShowNames (Self.Fields.describes p)
+        (shown_shorts (grammar p)) };
 }
 
 /// The mark of the fields of a flat record.

@@ -20,7 +20,7 @@ impl<
     R: ProgramFields<W>,
 > ProgramFields<FourValues<S, T, U, V, W>> for Four<A, B, C, D, R> {
     ghost use Rattle.bpaf_exact.specs.ProgramSays.{fields_said_inside};
-    ghost use Rattle.bpaf_exact.proofs.SameParts.{both_show};
+    ghost use Rattle.bpaf_exact.proofs.ShownNames.{both_show};
     ghost use Rattle.bpaf_exact.proofs.Keeping.{keep_before, keep_inside};
     ghost use Rattle.std.specs.Prelude.{true};
 

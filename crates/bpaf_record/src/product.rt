@@ -13,7 +13,7 @@ use std::marker::PhantomData;
 impl<T: Drop, A: ProgramField<T>> ProgramFields<T> for Last<A> {
     ghost use Rattle.bpaf_exact.specs.ProgramSays.{said_alone};
     ghost use Rattle.bpaf_exact.proofs.Keeping.{keep_last};
-    ghost use Rattle.bpaf_exact.proofs.SameParts.{last_shows};
+    ghost use Rattle.bpaf_exact.proofs.ShownNames.{last_shows};
     ghost use Rattle.bpaf_record.specs.Grammar.{alone};
 
     ghost grammar = { λ p. alone (A.grammar p.last) };
@@ -47,7 +47,7 @@ impl<T: Drop, A: FlatField<T>> FlatFields<T> for Last<A> {}
 impl<T: Drop, V, A: ProgramField<T>, R: ProgramFields<V>> ProgramFields<(T, V)> for Both<A, R> {
     ghost use Rattle.bpaf_exact.specs.ProgramSays.{said_both};
     ghost use Rattle.bpaf_exact.proofs.Keeping.{keep_before};
-    ghost use Rattle.bpaf_exact.proofs.SameParts.{both_show};
+    ghost use Rattle.bpaf_exact.proofs.ShownNames.{both_show};
     ghost use Rattle.bpaf_record.specs.Grammar.{both};
 
     ghost grammar = { λ p. both (A.grammar p.first) (R.grammar p.rest) };
@@ -91,7 +91,7 @@ impl<V, T, P: ProgramFields<V>, F: Fn(V) -> T> ProgramField<T> for ParseCon<V, P
     ghost use Rattle.bpaf_exact.specs.Wrappers.{map_closure};
     ghost use Rattle.bpaf_exact.proofs.ProgramForm.{program_con_law};
     ghost use Rattle.bpaf_exact.proofs.ProgramSays.{program_con_says};
-    ghost use Rattle.bpaf_exact.proofs.SameParts.{product_shows};
+    ghost use Rattle.bpaf_exact.proofs.ShownNames.{product_shows};
     ghost use Rattle.bpaf_record.specs.Grammar.{product};
 
     ghost grammar = { λ p. product (map_closure (λ x y. F.post p.make x y)) (P.grammar p.fields) };

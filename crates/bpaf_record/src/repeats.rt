@@ -12,7 +12,7 @@ use bpaf::parsers::{ParseCollect, ParseCount, ParseLast, ParseMany, ParseSome};
 /// With `catch` it is no flat field, nor round another repeat or a default.
 impl<T: Drop, P: ProgramField<T>> ProgramField<Vec<T>> for ParseMany<P> {
     ghost use Rattle.bpaf_exact.specs.Gathered.{list_closure};
-    ghost use Rattle.bpaf_exact.proofs.SameParts.{many_shows};
+    ghost use Rattle.bpaf_exact.proofs.ShownNames.{many_shows};
     ghost use Rattle.bpaf_exact.specs.ProgramSays.{said_repeat};
     ghost use Rattle.bpaf_exact.proofs.ByTables.{many_law};
     ghost use Rattle.bpaf_exact.proofs.ProgramSays.{program_repeat_says};
@@ -52,7 +52,7 @@ impl<T: Drop, P: FlatField<T>> FlatField<Vec<T>> for ParseMany<P> {}
 /// As `many`.
 impl<'m, T: Drop, P: ProgramField<T>> ProgramField<Vec<T>> for ParseSome<'m, P> {
     ghost use Rattle.bpaf_exact.specs.Gathered.{some_closure};
-    ghost use Rattle.bpaf_exact.proofs.SameParts.{some_shows};
+    ghost use Rattle.bpaf_exact.proofs.ShownNames.{some_shows};
     ghost use Rattle.bpaf_exact.specs.ProgramSays.{said_repeat};
     ghost use Rattle.bpaf_exact.proofs.ByTables.{some_law};
     ghost use Rattle.bpaf_exact.proofs.ProgramSays.{program_repeat_says};
@@ -92,7 +92,7 @@ impl<'m, T: Drop, P: FlatField<T>> FlatField<Vec<T>> for ParseSome<'m, P> {}
 /// As `many`.
 impl<T: Drop, C: FromList<T> + Drop, P: ProgramField<T>> ProgramField<C> for ParseCollect<P, C, T> {
     ghost use Rattle.bpaf_exact.specs.Gathered.{collect_closure};
-    ghost use Rattle.bpaf_exact.proofs.SameParts.{many_shows};
+    ghost use Rattle.bpaf_exact.proofs.ShownNames.{many_shows};
     ghost use Rattle.bpaf_exact.specs.ProgramSays.{said_repeat};
     ghost use Rattle.bpaf_exact.proofs.ByTables.{collect_law};
     ghost use Rattle.bpaf_exact.proofs.ProgramSays.{program_repeat_says};
@@ -133,7 +133,7 @@ impl<T: Drop, C: FromList<T> + Drop, P: FlatField<T>> FlatField<C> for ParseColl
 
 impl<T: Drop, P: ProgramField<T>> ProgramField<usize> for ParseCount<P, T> {
     ghost use Rattle.bpaf_exact.specs.Gathered.{count_closure};
-    ghost use Rattle.bpaf_exact.proofs.SameParts.{many_shows};
+    ghost use Rattle.bpaf_exact.proofs.ShownNames.{many_shows};
     ghost use Rattle.bpaf_exact.specs.ProgramSays.{said_repeat};
     ghost use Rattle.bpaf_exact.proofs.ByTables.{count_law};
     ghost use Rattle.bpaf_exact.proofs.ProgramSays.{program_repeat_says};
@@ -172,7 +172,7 @@ impl<T: Drop, P: ProgramField<T>> ProgramField<usize> for ParseCount<P, T> {
 impl<T: Drop, P: FlatField<T>> FlatField<usize> for ParseCount<P, T> {}
 
 impl<T: Drop, P: ProgramField<T>> ProgramField<T> for ParseLast<P> {
-    ghost use Rattle.bpaf_exact.proofs.SameParts.{some_shows};
+    ghost use Rattle.bpaf_exact.proofs.ShownNames.{some_shows};
     ghost use Rattle.bpaf_exact.specs.ProgramSays.{said_last};
     ghost use Rattle.bpaf_exact.proofs.ByTables.{last_law};
     ghost use Rattle.bpaf_exact.proofs.ProgramSays.{program_last_says};

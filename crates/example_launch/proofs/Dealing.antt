@@ -45,7 +45,7 @@ launch_passes own v value =
     ∙ (texts_are _ passed.from (strict_words passed.told)
     ∙ (name_before _ (name_says _ _ words.0)
     ∙ (flag_leaves dry_run_names (others (flag_roles verbose_names) cut)
-    ∙ (flag_leaves verbose_names cut ∙ line_behind value.is_context value.read.cut)))))
+    ∙ (flag_leaves verbose_names cut ∙ line_behind value.on_line value.read.cut)))))
 
 -- so the words ask for the launch that is dealt out of them
 pub launch_asked : (own : List (List ℕ)) (r : Result Launch ParseFailure)

@@ -23,5 +23,4 @@ same_lines words =
     (of.made_seen task.Tag task_lines (λ x y same. same) (of.command_seen (codes "tag")
     (of.choice_seen (of.record_seen (codes "add") tag.Add tag_lines name (λ x y same. cc) refl)
     (of.record_seen (codes "remove") tag.Remove tag_lines name (λ x y same. cc) refl) refl).look))
-    refl) refl).look))) (of.program_names (of.shown_shorts notes.notes_parser)) _
-    (of.are_texts words)
+    refl) refl).look))) (of.program_names notes.notes_parser) _ (of.are_texts words)

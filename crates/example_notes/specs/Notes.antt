@@ -11,8 +11,7 @@ use Rattle.bpaf_record.specs.Grammar.{Grammar, alone, argument, both, choice, wo
 use Rattle.bpaf_program.specs.Fields.{plain_argument}
 use Rattle.bpaf_program.specs.KnownFields.{known_command, known_con, known_default, known_many}
 use Rattle.bpaf_program.specs.KnownFields.{known_map, known_optional, known_switch}
-use Rattle.bpaf_program.specs.KnownParser.{IsValueBy}
-use Rattle.bpaf_program.specs.ReadBy.{IsExactFor}
+use Rattle.bpaf_program.specs.KnownParser.{IsExactFor, IsValueBy}
 use Rattle.bpaf_program.specs.Values.{MeansText, String}
 use Rattle.example_notes.specs.declared.options.Notes.{Notes}
 use Rattle.example_notes.specs.declared.options.Tag.{Tag}

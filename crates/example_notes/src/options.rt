@@ -6,7 +6,8 @@ ghost use Rattle.example_notes.specs.Notes.{AnswersNotes, commands, notes_parser
 ghost use Rattle.example_notes.specs.Notes.{tag_commands};
 
 use bpaf::{Args, ParseFailure, Parser, construct, positional};
-use bpaf_program::{key, plain_command};
+use bpaf_program::{KnownOptions, KnownProgram, key, plain_command};
+use bpaf_record::CommandLine;
 use std::alloc::Global;
 
 /// What the program is asked for.
@@ -38,6 +39,18 @@ pub enum Task {
 pub enum Tag {
     Add { name: String },
     Remove { name: String },
+}
+
+/// What is known of the program: of what its parser is made.
+#[derive(Drop)]
+struct NotesProgram {}
+
+impl KnownProgram<Notes> for NotesProgram {
+    ghost grammar = { notes_parser };
+
+    fn is_program(&self) -> bool {
+        true
+    }
 }
 
 /// What the words ask for; refused where they ask for nothing, or for want of memory. The options
@@ -109,5 +122,9 @@ fn run_notes<P: Parser<Notes> + Drop>(
     requires known { IsKnownParser notes_parser (P.outcome notes) (P.describes notes) }
     ensures { AnswersNotes (map string_bytes words.now) result }
 {
-    notes.run_once(alloc, Args::from(words).set_name("notes"))
+    let notes = KnownOptions {
+        options: notes.to_options(alloc)?,
+        program: NotesProgram {},
+    };
+    notes.run_program(Args::from(words).set_name("notes"))
 }

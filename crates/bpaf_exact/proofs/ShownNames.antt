@@ -1,0 +1,212 @@
+-- Which short names each type shows, by those that its inner parsers show.
+use Rattle.std.proofs.Common.{◌≡◌, List, [], ◌∷◌, ◌++◌, ℕ, Option, Some, None, refl, sym, ap, ap₂}
+use Rattle.std.proofs.Common.{◌∙◌, append_assoc, append-nil, flat_map}
+use Rattle.std.proofs.lemmas.List.Concat.{flat_map-append}
+use Rattle.bpaf_doc.specs.Names.{Names}
+use Rattle.bpaf_doc.specs.Shape.{Shown, Shape, Shapes, Or, Optional, Required, Many, Part}
+use Rattle.bpaf_doc.specs.Shape.{Suffix, Subsection, CustomUsage, none, ◌then◌, members}
+use Rattle.bpaf_doc.specs.{Shape.alternatives, Shape.shapes_of, declared.doc.Piece.Piece}
+use Rattle.bpaf_doc.specs.Walks.{parts, parts_of_all, shorts_of_argument, shorts_of_flag}
+use Rattle.bpaf_words.specs.Spelling.{ShortNames}
+use Rattle.bpaf_text.specs.Named.{KeyWithValue, Named}
+use Rattle.bpaf_laws.specs.{Argument.argument_shape, Flag.flag_shape}
+use Rattle.bpaf_laws.specs.{Choice.ChoiceDescribes, Choice.either_shape, Choices.ChoicesDescribes}
+use Rattle.bpaf_laws.specs.{Choices.Nested, Default.DefaultDescribes, Default.OptionalDescribes}
+use Rattle.bpaf_laws.specs.{Hide.SectionDescribes, Hide.UsageDescribes, Hide.usage_pieces}
+use Rattle.bpaf_laws.specs.{Product.BothDescribes, Product.LastDescribes, Product.ProductDescribes}
+use Rattle.bpaf_laws.specs.{Repeat.ManyDescribes, Repeat.SomeDescribes, Command.Called}
+use Rattle.bpaf_laws.specs.{Command.CommandDescribes}
+use Rattle.bpaf_exact.specs.ShownNames.{FieldsShowNames, ShowsNames, joined_shorts}
+use Rattle.bpaf_exact.specs.ShownNames.{shorts_of}
+
+-- a parser of one shape, of these names
+pub one_shape : {shape : Shape} {names : ShortNames} → shorts_of (parts shape) ≡ names
+    → ShowsNames (λ shown. shown ≡ shape) names
+one_shape are = record { each = λ shown is. ap (λ shape. shorts_of (parts shape)) is ∙ are }
+
+-- short names of flags alone
+abbrev of_flags : List ℕ → ShortNames
+of_flags shorts = record { flags = shorts; arguments = [] }
+
+-- and of arguments alone
+abbrev of_arguments : List ℕ → ShortNames
+of_arguments shorts = record { flags = []; arguments = shorts }
+
+-- a flag
+pub flag_shows : {T : Type 0} (named : Named) (absent : Option T)
+    → ShowsNames (λ shown. shown ≡ flag_shape named absent) (of_flags named.names.shorts)
+flag_shows {T} named absent = one_shape (of_names named.names.shorts named.names.longs absent)
+  where
+    of_names : (shorts : List ℕ) (longs : List (List ℕ)) (absent : Option T)
+        → let names : Names = record { shorts = shorts; longs = longs } in
+        shorts_of (parts (flag_shape (record named { names = names }) absent)) ≡ of_flags shorts
+    of_names [] [] absent = refl
+    of_names [] (long ∷ longs) None = refl
+    of_names [] (long ∷ longs) (Some kept) = refl
+    of_names (short ∷ shorts) [] None = ap of_flags (append-nil _)
+    of_names (short ∷ shorts) [] (Some kept) = ap of_flags (append-nil _)
+    of_names (short ∷ shorts) (long ∷ longs) None = ap of_flags (append-nil _)
+    of_names (short ∷ shorts) (long ∷ longs) (Some kept) = ap of_flags (append-nil _)
+
+-- an argument
+pub argument_shows : (key : KeyWithValue)
+    → ShowsNames (λ shown. shown ≡ argument_shape key) (of_arguments key.named.names.shorts)
+argument_shows key = one_shape (of_names key.named.names.shorts key.named.names.longs)
+  where
+    of_names : (shorts : List ℕ) (longs : List (List ℕ))
+        → let names : Names = record { shorts = shorts; longs = longs } in
+        let named : Named = record key.named { names = names } in
+        shorts_of (parts (argument_shape (record key { named = named }))) ≡ of_arguments shorts
+    of_names [] [] = refl
+    of_names [] (long ∷ longs) = refl
+    of_names (short ∷ shorts) [] = ap of_arguments (append-nil _)
+    of_names (short ∷ shorts) (long ∷ longs) = ap of_arguments (append-nil _)
+
+module _ {inner : Shape → Type 0} {names : ShortNames} (inside : ShowsNames inner names) where
+  -- a wrapper whose parts are those inside it
+  around : (wrap : Shape → Shape) → ((shape : Shape) → parts (wrap shape) ≡ parts shape)
+      → ShowsNames (λ shape. (within : Shape) × inner within × (shape ≡ wrap within)) names
+  around wrap as_inside = record {
+    each = λ shape is.
+        ap (λ shape. shorts_of (parts shape)) is.2 ∙ (ap shorts_of (as_inside is.0)
+        ∙ inside.each is.0 is.1);
+  }
+
+  -- what may be left out
+  pub optional_shows : ShowsNames (OptionalDescribes inner) names
+  optional_shows = around (λ shape. Optional shape) (λ shape. refl)
+
+  -- what may stand any number of times
+  pub many_shows : ShowsNames (ManyDescribes inner) names
+  many_shows = around (λ shape. Many (Optional shape)) (λ shape. refl)
+
+  -- what stands once at least
+  pub some_shows : ShowsNames (SomeDescribes inner) names
+  some_shows = around (λ shape. Many (Required shape)) (λ shape. refl)
+
+  -- what has a default
+  pub default_shows : (shown : Option (List Piece))
+      → ShowsNames (DefaultDescribes inner shown) names
+  default_shows None = optional_shows
+  default_shows (Some text) = around (λ shape. Suffix (Optional shape) text) (λ shape. refl)
+
+  -- what has a usage text of its own
+  pub usage_shows : (usage : Option (List Piece)) → ShowsNames (UsageDescribes inner usage) names
+  usage_shows usage = around (λ shape. CustomUsage shape (usage_pieces usage)) (λ shape. refl)
+
+  -- what stands in a section
+  pub section_shows : (title : List Piece) → ShowsNames (SectionDescribes inner title) names
+  section_shows title = around (λ shape. Subsection shape title) (λ shape. refl)
+
+  -- a command
+  pub command_shows : (called : Called) (help : Option (List Piece))
+      → ShowsNames (CommandDescribes called help inner) names
+  command_shows called help = record {
+    each = λ shape is.
+        ap (λ shape. shorts_of (parts shape)) (is.2 ∙ ap (λ part. Shown part) is.1.2)
+        ∙ inside.each is.1.0 is.1.1;
+  }
+
+  -- the last field
+  pub last_shows : FieldsShowNames (LastDescribes inner) names
+  last_shows = record {
+    each = λ all is.
+        ap (λ shapes. shorts_of (parts_of_all (members shapes))) is.2
+        ∙ (ap shorts_of (append-nil (parts is.0)) ∙ inside.each is.0 is.1);
+  }
+
+-- the short names of two lists of parts
+of_joined : (first second : List Part)
+    → shorts_of (first ++ second) ≡ joined_shorts (shorts_of first) (shorts_of second)
+of_joined first second =
+    ap₂ (λ flags arguments. record { flags = flags; arguments = arguments })
+    (flat_map-append shorts_of_flag first second) (flat_map-append shorts_of_argument first second)
+
+-- a field and those after it
+pub both_show : {first : Shape → Type 0} {rest : List Shape → Type 0} {own others : ShortNames}
+    → ShowsNames first own → FieldsShowNames rest others
+    → FieldsShowNames (BothDescribes first rest) (joined_shorts own others)
+both_show one more = record {
+  each = λ all is.
+      ap (λ shapes. shorts_of (parts_of_all (members shapes))) is.4
+      ∙ (of_joined (parts is.0) (parts_of_all (members is.1))
+      ∙ ap₂ joined_shorts (one.each is.0 is.2) (more.each is.1 is.3));
+}
+
+-- a product
+pub product_shows : {fields : List Shape → Type 0} {names : ShortNames}
+    → FieldsShowNames fields names → ShowsNames (ProductDescribes fields) names
+product_shows all = record {
+  each = λ shape is. ap (λ shape. shorts_of (parts shape)) is.2 ∙ all.each is.0 is.1;
+}
+
+-- the parts of two lists of members, one after the other
+parts_joined : (xs ys : List Shape)
+    → parts_of_all (members (xs ++ ys)) ≡ parts_of_all (members xs) ++ parts_of_all (members ys)
+parts_joined [] ys = refl
+parts_joined (x ∷ xs) ys =
+    ap (λ rest. parts x ++ rest) (parts_joined xs ys)
+    ∙ sym (append_assoc (parts x) (parts_of_all (members xs)) (parts_of_all (members ys)))
+
+-- the members as a list have the same parts
+listed : (all : Shapes) → parts_of_all (members (shapes_of all)) ≡ parts_of_all all
+listed none = refl
+listed (first then rest) = ap (λ others. parts first ++ others) (listed rest)
+
+-- what a shape adds to a choice has its parts
+added : (shape : Shape) → parts_of_all (members (alternatives shape)) ≡ parts shape
+added (Or all) = listed all
+added shape = append-nil (parts shape)
+
+-- the parts of a choice are those of both
+either_parts : (a b : Shape) → parts (either_shape a b) ≡ parts a ++ parts b
+either_parts a b =
+    parts_joined (alternatives a) (alternatives b)
+    ∙ (ap (λ first. first ++ parts_of_all (members (alternatives b))) (added a)
+    ∙ ap (λ second. parts a ++ second) (added b))
+
+-- a choice of two
+pub choice_shows : {first second : Shape → Type 0} {own others : ShortNames} → ShowsNames first own
+    → ShowsNames second others
+    → ShowsNames (ChoiceDescribes first second) (joined_shorts own others)
+choice_shows one other = record {
+  each = λ shape is.
+      ap (λ shape. shorts_of (parts shape)) is.4
+      ∙ (ap shorts_of (either_parts is.0 is.1)
+      ∙ (of_joined (parts is.0) (parts is.1)
+      ∙ ap₂ joined_shorts (one.each is.0 is.2) (other.each is.1 is.3)));
+}
+
+module _ {P : Type 0} (describes : P → Shape → Type 0) (names : P → ShortNames)
+    (each : (p : P) → ShowsNames (describes p) (names p)) where
+  -- the names of some parsers, one after the other
+  abbrev all_shorts : List P → ShortNames
+  all_shorts ps = record {
+    flags = flat_map (λ p. (names p).flags) ps;
+    arguments = flat_map (λ p. (names p).arguments) ps;
+  }
+
+  -- a choice, and others after it
+  nested_shows : (before : Shape → Type 0) (own : ShortNames) → ShowsNames before own
+      → (ps : List P)
+      → ShowsNames (Nested ChoiceDescribes describes before ps) (joined_shorts own (all_shorts ps))
+  nested_shows before own first [] = record {
+    each = λ shape is. first.each shape is
+        ∙ ap₂ (λ flags arguments. record { flags = flags; arguments = arguments })
+        (sym (append-nil own.flags)) (sym (append-nil own.arguments));
+  }
+  nested_shows before own first (p ∷ ps) =
+      let more = nested_shows (ChoiceDescribes before (describes p)) (joined_shorts own (names p))
+      (choice_shows first (each p)) ps in
+      record {
+        each = λ shape is. more.each shape is
+            ∙ ap₂ (λ flags arguments. record { flags = flags; arguments = arguments })
+            (append_assoc own.flags (names p).flags (flat_map (λ p. (names p).flags) ps))
+            (append_assoc own.arguments (names p).arguments
+            (flat_map (λ p. (names p).arguments) ps));
+      }
+
+  -- a choice of any number
+  pub choices_show : (ps : List P) → ShowsNames (ChoicesDescribes describes ps) (all_shorts ps)
+  choices_show [] = one_shape refl
+  choices_show (p ∷ ps) = nested_shows (describes p) (names p) (each p) ps

@@ -1,0 +1,28 @@
+-- Which short names of keys parsers show, by which joined words are read.
+use Rattle.std.specs.Prelude.{◌≡◌, List, [], ◌++◌}
+use Rattle.bpaf_doc.specs.Shape.{Part, Shape, members}
+use Rattle.bpaf_doc.specs.Walks.{parts, parts_of_all, shorts_of_arguments, shorts_of_flags}
+use Rattle.bpaf_words.specs.Spelling.{ShortNames}
+
+-- none
+abbrev pub no_shorts : ShortNames
+no_shorts = record { flags = []; arguments = [] }
+
+-- those of the one, and of the other
+abbrev pub joined_shorts : ShortNames → ShortNames → ShortNames
+joined_shorts one other = record {
+  flags = one.flags ++ other.flags;
+  arguments = one.arguments ++ other.arguments;
+}
+
+-- those of flags and of arguments among parts
+abbrev pub shorts_of : List Part → ShortNames
+shorts_of shown = record { flags = shorts_of_flags shown; arguments = shorts_of_arguments shown }
+
+-- whichever shape a parser shows, these are its short names, those of keys inside commands too
+pub record ShowsNames (describes : Shape → Type 0) (names : ShortNames) : Type 0 where
+  pub each : (shape : Shape) → describes shape → shorts_of (parts shape) ≡ names
+
+-- so it is with fields
+pub record FieldsShowNames (describe : List Shape → Type 0) (names : ShortNames) : Type 0 where
+  pub each : (all : List Shape) → describe all → shorts_of (parts_of_all (members all)) ≡ names

@@ -1,0 +1,22 @@
+use Rattle.std.proofs.Common.{true}
+use Rattle.bpaf_words.specs.Arguments.{given_of}
+use Rattle.bpaf_record.specs.Grammar.{command_words, keys_of, program_form, shown_shorts}
+use Rattle.bpaf_record.proofs.Programs.{answers_as_program}
+use Rattle.bpaf_program.proofs.known_options.KnownOptionsCommandLine.run_program.Goals as goal
+
+pub returns-clause-each_exact : goal.returns-clause-each_exact
+returns-clause-each_exact g c known r o =
+    let parser = c.args.self.now.options.inner in
+    let grammar = g.K.KnownProgram.grammar in
+    let given = given_of c.args.args in
+    answers_as_program g.row.T.Denot (g.P.Parser.outcome parser) (g.P.Parser.describes parser)
+    c.args.self.now.options.info (keys_of grammar true) (command_words grammar)
+    (shown_shorts grammar) (program_form grammar given.env) given (known.law given.env)
+    c.requires.program known.shown r o
+
+pub returns-clause-exact : goal.returns-clause-exact
+returns-clause-exact g c known =
+    returns-clause-each_exact g c known _ c.run_inner.ensures.outcome
+
+pub returns-clause-fields : goal.returns-clause-fields
+returns-clause-fields g c known = (returns-clause-exact g c known).sound

@@ -1,0 +1,84 @@
+//! A run of options whose parser is made in functions of the program's own.
+ghost use Rattle.std.specs.Prelude.{◌≡◌};
+
+use bpaf::{Args, OptionParser, ParseFailure, Parser};
+use bpaf_record::CommandLine;
+
+/// What a program knows of the parser that it makes: of what it is made.
+pub trait KnownProgram<T> {
+    ghost use Rattle.bpaf_exact.specs.Flat.{Variables};
+    ghost use Rattle.bpaf_exact.specs.ProgramForm.{is_program};
+    ghost use Rattle.bpaf_record.specs.Grammar.{Grammar, program_form};
+
+    /// Of what it is made.
+    ghost grammar: { Grammar T };
+
+    /// Whether that is a program, in each environment. It takes no memory.
+    fn is_program(&self) -> bool
+        ensures { (variables : Variables) → result ≡ is_program (program_form grammar variables) };
+}
+
+/// Options whose parser is the one that a program knows, whatever functions it is made in. Each
+/// answer of their `run_program` is exact, for the values that the program's grammar has on the
+/// words' line, where the parser is known to be made so (`agrees`, `IsKnownParser`). So nothing is
+/// asked of what a parser tells of itself, and what was made before may be any parser to the
+/// function that it is handed to.
+///
+/// ```text
+/// let notes = KnownOptions { options: notes.to_options(alloc)?, program: NotesProgram {} };
+/// notes.run_program(Args::from(words))
+/// ```
+#[derive(Drop)]
+pub struct KnownOptions<T, P, K> {
+    /// The options.
+    pub options: OptionParser<T, P>,
+    /// What the program knows of their parser.
+    pub program: K,
+}
+
+impl<T: Drop, P: Parser<T>, K: KnownProgram<T>> CommandLine<T> for KnownOptions<T, P, K> {
+    ghost use Rattle.bpaf.specs.Dealt.{IsDealtOut};
+    ghost use Rattle.bpaf.specs.Refusals.{IsOneOfTwelve};
+    ghost use Rattle.bpaf.specs.Run.{RunsWords};
+    ghost use Rattle.bpaf_exact.specs.ProgramForm.{is_program};
+    ghost use Rattle.bpaf_laws.specs.Spared.{WithoutMemory};
+    ghost use Rattle.bpaf_record.specs.Grammar.{program_form, shown_shorts};
+    ghost use Rattle.bpaf_record.specs.Program.{AnswersAsProgram, IsProgramValueOf};
+    ghost use Rattle.bpaf_record.specs.Record.{names_by};
+    ghost use Rattle.bpaf_program.specs.KnownParser.{IsKnownParser};
+
+    ghost is_whole = { λ p variables. is_program (program_form K.grammar variables) };
+
+    fn is_program(&self) -> bool {
+        self.program.is_program()
+    }
+
+    ghost can_run = { λ p. P.can_eval p.options.inner };
+
+    ghost agrees = { λ p.
+        IsKnownParser K.grammar (P.outcome p.options.inner) (P.describes p.options.inner) };
+
+    ghost answers = { λ p given. RunsWords T (P.outcome p.options.inner)
+        (P.describes p.options.inner) p.options.info given };
+
+    ghost refuses = { λ p given. IsOneOfTwelve (P.outcome p.options.inner)
+        (P.describes p.options.inner) p.options.info given };
+
+    ghost deals = { λ p given. IsDealtOut T (P.reads p.options.inner)
+        (P.describes p.options.inner) p.options.info given };
+
+    ghost tells = { λ p given. IsProgramValueOf
+        (names_by p.options.info (shown_shorts K.grammar)) (program_form K.grammar given.env)
+        given };
+
+    ghost answers_spared = { λ p given. RunsWords T (WithoutMemory (P.outcome p.options.inner))
+        (P.describes p.options.inner) p.options.info given };
+
+    ghost answers_as_program = { λ p given. AnswersAsProgram T
+        (names_by p.options.info (shown_shorts K.grammar)) (program_form K.grammar given.env)
+        given };
+
+    fn run_program(&self, args: Args<'_>) -> Result<T, ParseFailure> {
+        self.options.run_inner(args)
+    }
+}
