@@ -11,7 +11,7 @@ use Rattle.bpaf_exact.specs.Wrappers.{closed_memory, closed_err, ClosedGroup, cl
 use Rattle.bpaf_exact.specs.Alternative.{TakesFirst, HasBad, bad_here, bad_later, AlternativeOk}
 use Rattle.bpaf_exact.specs.Alternative.{AlternativeErr, alternative_memory, alternative_missing}
 use Rattle.bpaf_exact.specs.{Flat.ByName, Flat.OneWord, Flat.EachWord, Flat.Variables}
-use Rattle.bpaf_exact.specs.{Single.SingleLaw, Wrappers.ClosedPiece}
+use Rattle.bpaf_exact.specs.{Single.SingleLaw, Wrappers.ClosedValue}
 use Rattle.bpaf_exact.specs.{Alternative.alternative_refused, Alternative.AlternativeLaw}
 use Rattle.bpaf_exact.specs.{Pieces.Roles, Pieces.LinePiece, Pieces.pieces, Pieces.takes_none}
 use Rattle.bpaf_exact.proofs.First.{first_pieces, first_takes, takes_nonempty, bad_given_back}
@@ -103,19 +103,19 @@ module _ {env : Variables} (A B : Type 0) (inner : Outcome A) (q : Roles)
     (value : LinePiece → A → Type 0) (l : AlternativeLaw env A inner q value) (f : Closure A B)
     (agrees : (o : LinePiece) → AgreesOn (value o) f) where
   -- a piece that can't be read can't be read through a closure either
-  closed_bad : (os : List LinePiece) → HasBad A value os → HasBad B (ClosedPiece A B value f) os
+  closed_bad : (os : List LinePiece) → HasBad A value os → HasBad B (ClosedValue value f) os
   closed_bad os (bad_here n) = bad_here (λ v c. n c.from c.read)
   closed_bad os (bad_later h) = bad_later (closed_bad _ h)
 
   -- nor can one whose value the closure refuses
   refused_value : (x : A) (o : LinePiece) → value o x → f.no x → (v : B)
-      → ClosedPiece A B value f o v → ⊥
+      → ClosedValue value f o v → ⊥
   refused_value x o g n v c = agrees o c.from x v c.read g c.made n
 
   -- a value that the closure gave
   closed_alternative_ok : (s t : Situation) (v : B) → IsWholeIn env s
       → ClosedEval A B inner f Refused s (Ok v) t
-      → AlternativeOk B q (ClosedPiece A B value f) s v t
+      → AlternativeOk B q (ClosedValue value f) s v t
   closed_alternative_ok s t v w (closed_yes {x = x} i y) =
       let a = l.ok s t x w i in
       record {
@@ -130,22 +130,22 @@ module _ {env : Variables} (A B : Type 0) (inner : Outcome A) (q : Roles)
       by_first : {o : LinePiece}
           → TakesFirst q (cells s) o (cells t) ⊎ HasBad A value (pieces q (cells t))
           → TakesFirst q (cells s) o (cells t)
-          ⊎ HasBad B (ClosedPiece A B value f) (pieces q (cells t))
+          ⊎ HasBad B (ClosedValue value f) (pieces q (cells t))
       by_first (inl h) = inl h
       by_first (inr h) = inr (closed_bad _ h)
 
   -- a value that the closure refuses is that of a piece which can't be read through it
   no_bad : (s t : Situation) (x : A) (a : AlternativeOk A q value s x t) → f.no x
       → TakesFirst q (cells s) a.piece (cells t) ⊎ HasBad A value (pieces q (cells t))
-      → HasBad B (ClosedPiece A B value f) (pieces q (cells s))
+      → HasBad B (ClosedValue value f) (pieces q (cells s))
   no_bad s t x a n (inl h) =
-      subst (HasBad B (ClosedPiece A B value f)) (sym (first_pieces q l.named h))
+      subst (HasBad B (ClosedValue value f)) (sym (first_pieces q l.named h))
       (bad_here (refused_value x a.piece a.means n))
   no_bad s t x a n (inr h) = closed_bad _ (bad_given_back A value q l.named a.takes h)
 
   -- an inner refusal is passed on
   err_closed : (s t : Situation) (e : Error) → AlternativeErr A q value s e t
-      → AlternativeErr B q (ClosedPiece A B value f) s e t
+      → AlternativeErr B q (ClosedValue value f) s e t
   err_closed s t e (alternative_memory c) = alternative_memory c
   err_closed s t e (alternative_missing c p same st) = alternative_missing c p same st
   err_closed s t e (alternative_refused c p b n) =
@@ -154,7 +154,7 @@ module _ {env : Variables} (A B : Type 0) (inner : Outcome A) (q : Roles)
   -- a refusal, of the closure or from inside
   closed_alternative_err : (s t : Situation) (e : Error) → IsWholeIn env s
       → ClosedEval A B inner f Refused s (Err e) t
-      → AlternativeErr B q (ClosedPiece A B value f) s e t
+      → AlternativeErr B q (ClosedValue value f) s e t
   closed_alternative_err s t e w (closed_no {x = x} i n c) =
       let a = l.ok s t x w i in
       alternative_refused c a.steady.path (no_bad s t x a n a.first)
@@ -162,13 +162,13 @@ module _ {env : Variables} (A B : Type 0) (inner : Outcome A) (q : Roles)
       let p = first_pieces q l.named (a.readable o os g.from h g.read) in
       let d : a.piece ∷ pieces q (cells t) ≡ o ∷ os = sym p ∙ h in
       let r : o ≡ a.piece = cc in
-      refused_value x a.piece a.means n v (subst (λ z. ClosedPiece A B value f z v) r g))
+      refused_value x a.piece a.means n v (subst (λ z. ClosedValue value f z v) r g))
   closed_alternative_err s t e w (closed_memory i c) = alternative_memory c
   closed_alternative_err s t e w (closed_err i) = err_closed s t e (l.err s t e w i)
 
   -- a closure round an alternative is one
   pub closed_alternative : AlternativeLaw env B (ClosedEval A B inner f Refused) q
-      (ClosedPiece A B value f)
+      (ClosedValue value f)
   closed_alternative = record {
     named = l.named;
     ok = closed_alternative_ok;

@@ -11,7 +11,8 @@ use Rattle.bpaf_exact.specs.Pieces.{Apart, is_own_role, is_value, IsNamed, Takes
 use Rattle.bpaf_exact.specs.Pieces.{takes_two, takes_later, TakesPieces, takes_none, takes_more}
 use Rattle.bpaf_exact.specs.Flat.{OfMemory, class, cells, NonePresent, IsWholeIn, ByName, FieldLaw}
 use Rattle.bpaf_exact.specs.Programs.{CellsValue, without, without_piece, without_value, FieldThen}
-use Rattle.bpaf_exact.specs.Programs.{LeavesToOthers, ProgramLaw, ClosedCells, is_spelled}
+use Rattle.bpaf_exact.specs.Programs.{LeavesToOthers, ProgramLaw, is_spelled}
+use Rattle.bpaf_exact.specs.Wrappers.{ClosedValue}
 use Rattle.bpaf_exact.specs.Programs.{IsSpelledLine, AllSpelled, no_cell, empty_cell, spelled_cell}
 use Rattle.bpaf_exact.specs.{Pieces.either, Pieces.either_role, Flat.Variables, Programs.GivesAll}
 use Rattle.bpaf_exact.specs.{Wrappers.map_closure}
@@ -225,7 +226,7 @@ module _ {env : Variables} (A B : Type 0) (fields : Outcome A) (makes : A → B 
     (inner : CellsValue A) (l : ProgramLaw env A fields r inner) where
   -- what it makes of the fields' values
   abbrev made : CellsValue B
-  made = ClosedCells A B inner (map_closure makes)
+  made = ClosedValue inner (map_closure makes)
 
   -- it changes nothing
   con_deep : (s t : Situation) (v : B) → IsWholeIn env s → ProductOutcome fields makes s (Ok v) t

@@ -19,7 +19,8 @@ use Rattle.bpaf_exact.specs.Wrappers.{Closure, AgreesOn, ClosedEval, closed_yes,
 use Rattle.bpaf_exact.specs.Wrappers.{closed_memory, closed_err, OptionalEval, optional_some}
 use Rattle.bpaf_exact.specs.Programs.{CellsValue, Opens, opens_here, opens_later, OpensNone}
 use Rattle.bpaf_exact.specs.Programs.{ChoiceValue, first_value, second_value, OptionalCommands}
-use Rattle.bpaf_exact.specs.Programs.{some_command, no_command, ClosedCells, ProgramLaw}
+use Rattle.bpaf_exact.specs.Programs.{some_command, no_command, ProgramLaw}
+use Rattle.bpaf_exact.specs.Wrappers.{ClosedValue}
 use Rattle.bpaf_exact.specs.Programs.{CommandsLaw, FindsNoCommand, WordsApart, IsSpelledLine}
 use Rattle.bpaf_exact.specs.Wrappers.{optional_none, optional_err, optional_memory}
 use Rattle.bpaf_exact.specs.Programs.{GivesAll}
@@ -37,7 +38,7 @@ module _ (A B : Type 0) (inner : Outcome A) (r : Roles) (value : CellsValue A) (
     (agrees : (cs : Cells) → AgreesOn (value cs) f) (c : ErrorClass) where
   -- what the closure makes of the values
   abbrev closed : CellsValue B
-  closed = ClosedCells A B value f
+  closed = ClosedValue value f
 
   -- round a program
   pub closed_program : {env : Variables} → ProgramLaw env A inner r value

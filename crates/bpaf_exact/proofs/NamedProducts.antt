@@ -244,7 +244,7 @@ module _ {env : Variables} (A B : Type 0) (fields : Outcome A) (makes : A → B 
     (value : List LinePiece → A → Type 0) (l : FieldLaw env A fields ByName q value) where
   -- what it makes of their values
   abbrev made : List LinePiece → B → Type 0
-  made = ClosedValue A B value (map_closure makes)
+  made = ClosedValue value (map_closure makes)
 
   -- a value is made of one
   con_took : (s t : Situation) (v : B) → IsWholeIn env s → ProductOutcome fields makes s (Ok v) t

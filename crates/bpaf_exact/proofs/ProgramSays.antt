@@ -27,7 +27,7 @@ use Rattle.bpaf_exact.specs.ProgramSays.{said_alone, said_both, said_con, said_c
 use Rattle.bpaf_exact.specs.ProgramSays.{said_command, said_dressed, said_flat, said_optional}
 use Rattle.bpaf_exact.specs.ProgramSays.{said_fallback, said_last, said_repeat, fields_said_inside}
 use Rattle.bpaf_exact.specs.{Says.FallbackSays, Says.LastSays, Says.RepeatSays}
-use Rattle.bpaf_exact.specs.{Programs.ClosedCells, Programs.are_plain, Programs.without}
+use Rattle.bpaf_exact.specs.{Wrappers.ClosedValue, Programs.are_plain, Programs.without}
 use Rattle.bpaf_exact.specs.{Pieces.Roles, Pieces.LinePiece, Pieces.pieces, Flat.ByName}
 use Rattle.bpaf_exact.specs.{Flat.Variables, Names.are_all_apart, Wrappers.Closure}
 use Rattle.bpaf_exact.specs.{Variables.key_form}
@@ -46,7 +46,7 @@ if_says names false s kind said p h = tt
 
 -- what says so with a closure round it
 closed_said : {A B : Type 0} (f : Closure A B) (value said : CellsValue A) → IsSaid value said
-    → IsSaid (ClosedCells A B value f) (ClosedCells A B said f)
+    → IsSaid (ClosedValue value f) (ClosedValue said f)
 closed_said f value said h cs v c =
     record { from = c.from; read = h cs c.from c.read; made = c.made }
 

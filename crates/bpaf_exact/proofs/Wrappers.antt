@@ -25,7 +25,7 @@ module _ {env : Variables} (A B : Type 0) (inner : Outcome A) (k : FieldKind) (q
     (agrees : (os : List LinePiece) → AgreesOn (value os) f) (c : ErrorClass) where
   -- a value that the closure gave
   closed_ok : (s t : Situation) (v : B) → IsWholeIn env s → ClosedEval A B inner f c s (Ok v) t
-      → FieldTook B k q (ClosedValue A B value f) s v t
+      → FieldTook B k q (ClosedValue value f) s v t
   closed_ok s t v w (closed_yes {x = x} i y) =
       let a = l.ok s t x w i in
       record {
@@ -37,13 +37,13 @@ module _ {env : Variables} (A B : Type 0) (inner : Outcome A) (k : FieldKind) (q
 
   -- where the portion has a value it takes all,
   closed_takes : (s t : Situation) (u v : B) → IsWholeIn env s → ClosedEval A B inner f c s (Ok u) t
-      → ClosedValue A B value f (front k (pieces q (cells s))) v → NoKeysLeft k q (cells t)
+      → ClosedValue value f (front k (pieces q (cells s))) v → NoKeysLeft k q (cells t)
   closed_takes s t u v w (closed_yes {x = x} i y) h = l.takes_all s t x h.from w i h.read
 
   -- and a refusal is want of memory
   closed_refuses : (s t : Situation) (e : Error) (v : B) → IsWholeIn env s
       → ClosedEval A B inner f c s (Err e) t
-      → ClosedValue A B value f (front k (pieces q (cells s))) v → class e ≡ OfMemory
+      → ClosedValue value f (front k (pieces q (cells s))) v → class e ≡ OfMemory
   closed_refuses s t e v w (closed_no {x = x} i n g) h =
       let read = (l.ok s t x w i).read (l.takes_all s t x h.from w i h.read) in
       absurd (agrees (front k (pieces q (cells s))) h.from x v h.read read h.made n)
@@ -51,7 +51,7 @@ module _ {env : Variables} (A B : Type 0) (inner : Outcome A) (k : FieldKind) (q
   closed_refuses s t e v w (closed_err i) h = l.refuses s t e h.from w i h.read
 
   -- a closure round a field is one
-  pub closed_law : FieldLaw env B (ClosedEval A B inner f c) k q (ClosedValue A B value f)
+  pub closed_law : FieldLaw env B (ClosedEval A B inner f c) k q (ClosedValue value f)
   closed_law = record {
     own = l.own;
     ok = closed_ok;

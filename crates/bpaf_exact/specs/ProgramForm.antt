@@ -14,8 +14,8 @@ use Rattle.bpaf_exact.specs.FlatForm.{flat_fallback, flat_last, flat_repeat, fla
 use Rattle.bpaf_exact.specs.FlatForm.{alternative_only, is_product, unless}
 use Rattle.bpaf_exact.specs.Names.{Owns, are_all_apart}
 use Rattle.bpaf_exact.specs.Programs.{CellsValue, CommandValue, ChoiceValue, OptionalCommands}
-use Rattle.bpaf_exact.specs.Programs.{ClosedCells, FieldThen, ProgramLaw, CommandsLaw, are_plain}
-use Rattle.bpaf_exact.specs.Wrappers.{Closure, AgreesOn}
+use Rattle.bpaf_exact.specs.Programs.{FieldThen, ProgramLaw, CommandsLaw, are_plain}
+use Rattle.bpaf_exact.specs.Wrappers.{Closure, AgreesOn, ClosedValue}
 
 -- what a parser is to a program, each with the keys that may stand in it and with its values
 pub data ProgramForm (T : Type 0) : Type 1 where
@@ -58,8 +58,8 @@ program_if false s = no_program
 -- a closure round a field or commands
 abbrev pub program_closed : {A B : Type 0} → Closure A B → ProgramForm A → ProgramForm B
 program_closed f (plain wide s) = plain wide (flat_closed f s)
-program_closed {A = A} {B = B} f (commands r value) = commands r (ClosedCells A B value f)
-program_closed {A = A} {B = B} f (left_out r value) = left_out r (ClosedCells A B value f)
+program_closed {A = A} {B = B} f (commands r value) = commands r (ClosedValue value f)
+program_closed {A = A} {B = B} f (left_out r value) = left_out r (ClosedValue value f)
 program_closed f _ = no_program
 
 -- what a combinator makes that takes flat fields alone
@@ -180,7 +180,7 @@ program_both own others _ _ = no_program
 abbrev pub program_con : {A B : Type 0} → Closure A B → ProgramForm A → ProgramForm B
 program_con f (plain wide s) = plain wide (flat_con f s)
 program_con {A = A} {B = B} f (before_commands r value) =
-    before_commands r (ClosedCells A B value f)
+    before_commands r (ClosedValue value f)
 program_con f _ = no_program
 
 -- it is a program

@@ -10,12 +10,12 @@ use Rattle.bpaf_exact.specs.Names.{Owns}
 use Rattle.bpaf_exact.specs.Pieces.{Cells, Roles, LinePiece, Cut, pieces}
 use Rattle.bpaf_exact.specs.ProgramForm.{ProgramForm, no_program, plain, commands, left_out}
 use Rattle.bpaf_exact.specs.ProgramForm.{ProgramFormLaw, before_commands, program_roles}
-use Rattle.bpaf_exact.specs.Programs.{CellsValue, ChoiceValue, ClosedCells, CommandValue}
+use Rattle.bpaf_exact.specs.Programs.{CellsValue, ChoiceValue, CommandValue}
 use Rattle.bpaf_exact.specs.Programs.{OptionalCommands, without}
 use Rattle.bpaf_exact.specs.Says.{EitherSays, FallbackSays, FieldsSaid, FieldsSay, LastSays}
 use Rattle.bpaf_exact.specs.Says.{MadeSays, OneOfSays, OptionalSays, RecordSays, RepeatSays, Said}
 use Rattle.bpaf_exact.specs.Says.{SaidKind, Says, form_kind, its_pieces, of_kind, words_after}
-use Rattle.bpaf_exact.specs.Wrappers.{Closure}
+use Rattle.bpaf_exact.specs.Wrappers.{ClosedValue, Closure}
 
 -- what the value of each parser of a type says: of the pieces that are its own; or, where it ends in
 -- commands, of the cells of its scope
@@ -50,7 +50,7 @@ said_round inside pieces cells (of_cells said) = of_cells (λ q. cells q (said (
 abbrev pub said_closed : {P Q A B : Type 0} → (Q → P) → (Q → Closure A B) → ProgramSaid P A
     → ProgramSaid Q B
 said_closed {A = A} {B = B} inside f =
-    said_round inside (λ q said. MadeSays said (f q)) (λ q said. ClosedCells A B said (f q))
+    said_round inside (λ q said. MadeSays said (f q)) (λ q said. ClosedValue said (f q))
 
 -- of another look
 abbrev pub said_dressed : {P Q T : Type 0} → (Q → P) → ProgramSaid P T → ProgramSaid Q T
@@ -152,7 +152,7 @@ abbrev pub said_con : {P Q A B : Type 0} → (Q → P) → (P → List Names) �
 said_con fields names makes (of_all_pieces said) =
     of_pieces (λ q. RecordSays (said (fields q)) (names (fields q)) (makes q))
 said_con {A = A} {B = B} fields names makes (of_all_cells said) =
-    of_cells (λ q. ClosedCells A B (said (fields q)) (makes q))
+    of_cells (λ q. ClosedValue (said (fields q)) (makes q))
 
 -- That a value says so.
 

@@ -15,7 +15,6 @@ use Rattle.bpaf_exact.specs.Pieces.{Cells, Role, Foreign, Alone, WithNext, Roles
 use Rattle.bpaf_exact.specs.Pieces.{is_value, pieces, Apart, IsNamed}
 use Rattle.bpaf_exact.specs.Flat.{OfMemory, OfMissing, class, cells, NonePresent, IsWholeIn}
 use Rattle.bpaf_exact.specs.Flat.{Variables}
-use Rattle.bpaf_exact.specs.Wrappers.{Closure}
 
 -- which values some cells have
 abbrev pub CellsValue : Type 0 → Type 1
@@ -101,13 +100,6 @@ pub data OptionalCommands (T : Type 0) (inner : CellsValue T) (cs : Cells) : Opt
     → Type 0 where
   some_command : {v : T} → inner cs v → OptionalCommands T inner cs (Some v)
   no_command : NonePresent cs → OptionalCommands T inner cs None
-
--- a closure round any of these
-pub record ClosedCells (A B : Type 0) (inner : CellsValue A) (f : Closure A B) (cs : Cells)
-    (v : B) : Type 0 where
-  pub from : A
-  pub read : inner cs from
-  pub made : f.yes from v
 
 -- a named field before others, the last of which are commands: it has its value on its own pieces,
 -- and they have theirs on what is left without these

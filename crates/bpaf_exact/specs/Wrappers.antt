@@ -54,11 +54,11 @@ pub data ClosedEval (A B : Type 0) (inner : Outcome A) (f : Closure A B) (c : Er
   closed_err : {e : Error} {t : Situation} → inner s (Err e) t → ClosedEval A B inner f c s
       (Err e) t
 
--- a closure's answer on a value
-pub record ClosedValue (A B : Type 0) (value : List LinePiece → A → Type 0) (f : Closure A B)
-    (os : List LinePiece) (v : B) : Type 0 where
+-- a closure's answer on a value that pieces have, or cells
+pub record ClosedValue {X A B : Type 0} (value : X → A → Type 0) (f : Closure A B) (x : X) (v : B)
+    : Type 0 where
   pub from : A
-  pub read : value os from
+  pub read : value x from
   pub made : f.yes from v
 
 -- what may be left out
@@ -104,7 +104,7 @@ pub data FallbackValue (T : Type 0) (group : Groups T) (gap : Gap T)
   kept_value : {os : List LinePiece} {v : T} → os ≡ [] → gap.has ≡ false → f.yes tt v
       → FallbackValue T group gap f os v
 
--- the same round a field without a repeat or default
+-- one on what an evaluation of a field without a repeat or default reads
 pub record ClosedGroup (A B : Type 0) (group : Groups A) (f : Closure A B) (os : List LinePiece)
     (v : B) (rest : List LinePiece) : Type 0 where
   pub from : A
@@ -115,10 +115,3 @@ pub record ClosedGroup (A B : Type 0) (group : Groups A) (f : Closure A B) (os :
 abbrev pub closed_gap : {A B : Type 0} → Gap A → Closure A B → Gap B
 closed_gap {A = A} gap f =
     record { has = gap.has; absent = λ v. (x : A) × gap.absent x × f.yes x v }
-
--- and round an alternative
-pub record ClosedPiece (A B : Type 0) (value : LinePiece → A → Type 0) (f : Closure A B)
-    (o : LinePiece) (v : B) : Type 0 where
-  pub from : A
-  pub read : value o from
-  pub made : f.yes from v

@@ -12,7 +12,7 @@ use Rattle.bpaf_exact.specs.FlatForm.{flat_field, is_record}
 use Rattle.bpaf_exact.specs.OneView.{Alike, HasOneView, pair_view}
 use Rattle.bpaf_exact.specs.Pieces.{Cells, LinePiece, Roles}
 use Rattle.bpaf_exact.specs.ProgramForm.{ProgramForm, are_words_apart, plain, program_value}
-use Rattle.bpaf_exact.specs.Programs.{CellsValue, ChoiceValue, ClosedCells, CommandValue, FieldThen}
+use Rattle.bpaf_exact.specs.Programs.{CellsValue, ChoiceValue, CommandValue, FieldThen}
 use Rattle.bpaf_exact.specs.Programs.{Opens, first_value}
 use Rattle.bpaf_exact.specs.Programs.{second_value}
 use Rattle.bpaf_exact.proofs.Commands.{opens_apart, opens_left, opens_right}
@@ -20,6 +20,7 @@ use Rattle.bpaf_exact.proofs.OneView.{record_looks_one}
 use Rattle.bpaf_exact.proofs.ProgramForm.{words_apart}
 use Rattle.bpaf_exact.proofs.Programs.{opens_one}
 use Rattle.bpaf_exact.specs.Record.{line_cells}
+use Rattle.bpaf_exact.specs.Wrappers.{ClosedValue}
 use Rattle.bpaf_record.specs.Program.{IsProgramValueOf}
 use Rattle.bpaf_record.proofs.OneLine.{same_context}
 use Rattle.bpaf_program.specs.KnownParser.{makes}
@@ -106,14 +107,14 @@ module _ {T X B Y : Type 0} {see : T → X} (make : T → B) (look : B → Y)
     (same : (x y : T) → see x ≡ see y → look (make x) ≡ look (make y)) where
   -- what is made of values that look alike
   pub made_look : {value : CellsValue T} → LooksOne see value
-      → LooksOne look (ClosedCells T B value (makes make))
+      → LooksOne look (ClosedValue value (makes make))
   made_look one cs v w a b =
       ap look a.made ∙ (same a.from b.from (one cs a.from b.from a.read b.read)
       ∙ sym (ap look b.made))
 
   -- so it is of commands
   pub made_seen : {words : List (List ℕ)} {value : CellsValue T} → AreSeen see words value
-      → AreSeen look words (ClosedCells T B value (makes make))
+      → AreSeen look words (ClosedValue value (makes make))
   made_seen are = record {
     look = made_look are.look;
     opened = λ cs v a. are.opened cs a.from a.read;

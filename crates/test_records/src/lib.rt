@@ -12,6 +12,8 @@ mod command_ends;
 #[cfg(test)]
 mod ends;
 #[cfg(test)]
+mod known_rows;
+#[cfg(test)]
 mod not_flat;
 #[cfg(test)]
 mod not_programs;

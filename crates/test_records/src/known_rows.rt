@@ -1,0 +1,39 @@
+//! A worked row of options that a program knows, through `run_program`.
+use crate::record_rows::told;
+use bpaf::{Args, Parser, short};
+use bpaf_program::{KnownOptions, KnownProgram};
+use bpaf_record::CommandLine;
+use std::test::Fail;
+
+/// The program of a switch `-v`.
+#[derive(Drop)]
+struct Verbose {}
+
+impl KnownProgram<bool> for Verbose {
+    ghost use Rattle.std.specs.Prelude.{[], codes};
+    ghost use Rattle.bpaf_program.specs.KnownFields.{known_switch};
+
+    ghost grammar = { known_switch (record { shorts = codes "v"; longs = [] }) };
+
+    fn is_program(&self) -> bool {
+        true
+    }
+}
+
+#[test]
+fn known_options_run_as_programs(rt: HostRuntime) -> Result<(), Fail> {
+    let alloc = rt.alloc();
+    let options = KnownOptions {
+        options: short(alloc, 'v')?.switch().to_options(alloc)?,
+        program: Verbose {},
+    };
+    if !options.is_program() {
+        return Err(Fail::new("no program"));
+    }
+    let found = told(alloc, options.run_program(Args::from(&["-v"])))?;
+    if found.as_str() == "ok true" {
+        Ok(())
+    } else {
+        Err(Fail::new(found))
+    }
+}
