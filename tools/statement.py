@@ -30,8 +30,8 @@ KINDS_OF = ("Parser", "Fields", "ProgramField", "ProgramFields", "FromText", "Fr
 FIRST = """ParseFlag FromText ParseArgument ParsePositional ParseMap ParseWith ParseGuard ParseOptional ParseFallback
     ParseFallbackWith ParseMany ParseSome FromList ParseCollect ParseCount ParseLast ParseOrElse ParseChoice Last Both
     ParseCon ParseCommand""".split()
-MEANINGS = "can_eval describes reads grammar agrees means fills"
-TABLES = "outcome fast_outcome"
+MEANINGS = "can_eval shorts reads grammar agrees means fills"
+TABLES = "describes outcome fast_outcome"
 PARTS = (
     (
         "Each item of the line is used once",
@@ -39,7 +39,7 @@ PARTS = (
 is. What each kind of parser proves for it, its law, is told in the last part.""",
         """bpaf_core/src/options/running.rt; impl<T: Drop, P: Parser<T>> OptionParser; run_inner dealt
         bpaf_core/src/options/running.rt; impl<T: Drop, P: Parser<T> + Drop> OptionParser; run_once dealt
-        bpaf_core/src/parser.rt; pub trait Parser; ; can_eval describes reads
+        bpaf_core/src/parser.rt; pub trait Parser; ; can_eval shorts reads
         bpaf_keys/src/info.rt; impl Model for Info; ; Value view
         bpaf_text/src/named.rt; impl Model for NamedArg; ; Value view
         bpaf_doc/src/doc.rt; impl Model for Doc; ; Value view

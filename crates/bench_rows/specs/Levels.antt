@@ -1,6 +1,9 @@
 -- A level: what its kind makes of the inner parsers.
 use Rattle.std.specs.Prelude.{List, None}
 use Rattle.bpaf_doc.specs.Shape.{Shape}
+use Rattle.bpaf_words.specs.Spelling.{ShortNames}
+use Rattle.bpaf_laws.specs.ShownNames.{ShowsNames, all_shorts}
+use Rattle.bpaf_laws.proofs.ShownNames.{choices_show, command_shows, group_shows}
 use Rattle.bpaf_laws.specs.Reading.{Readings, Outcome}
 use Rattle.bpaf_laws.specs.Laws.{Lawful}
 use Rattle.bpaf_laws.specs.Choices.{ChoicesOutcome, ChoicesReads, ChoicesDescribes}
@@ -9,10 +12,12 @@ use Rattle.bpaf_laws.specs.Command.{CommandDescribes}
 use Rattle.bench_values.specs.Commands.{CalledOutcome, CalledReads, called_lawful}
 use Rattle.bpaf_laws.specs.AdjacentGroup.{GroupDescribes}
 use Rattle.bench_values.specs.Modifiers.{Clones, OverOutcome, OverReads, OverDescribes, over_lawful}
+use Rattle.bench_values.specs.Modifiers.{over_shorts, over_shows}
 use Rattle.bench_rows.specs.Groups.{TogetherOutcome, TogetherReads, together_lawful}
 use Rattle.bench_rows.specs.Several.{TupleOutcome, TupleReads, TupleDescribes, tuple_lawful}
 use Rattle.bench_rows.specs.Several.{OrElseOutcome, OrElseReads, OrElseDescribes}
-use Rattle.bench_rows.specs.Several.{or_else_lawful}
+use Rattle.bench_rows.specs.Several.{or_else_lawful, or_else_shorts, or_else_shows}
+use Rattle.bench_rows.specs.Several.{tuple_shorts, tuple_shows}
 use Rattle.bench_values.specs.declared.value.Value.{Value}
 use Rattle.bench_values.specs.declared.kind.Kind.{Kind}
 use Rattle.bench_values.specs.declared.kind.Kind.TheVariants as kind
@@ -47,6 +52,26 @@ LevelDescribes describes kind.Group ps shape = GroupDescribes (TupleDescribes de
 LevelDescribes describes kind.OrElse ps shape = OrElseDescribes describes ps shape
 LevelDescribes describes (kind.Command called adjacent) ps shape =
     CommandDescribes called None (ChoicesDescribes describes ps) shape
+
+-- the short names that it shows
+abbrev pub level_shorts : {P : Type 0} → (P → ShortNames) → Kind → List P → ShortNames
+level_shorts names (kind.Over m) ps = over_shorts m (all_shorts names ps)
+level_shorts names kind.Product ps = tuple_shorts names ps
+level_shorts names kind.Group ps = tuple_shorts names ps
+level_shorts names kind.OrElse ps = or_else_shorts names ps
+level_shorts names (kind.Command called adjacent) ps = all_shorts names ps
+
+-- so it does where its parsers show theirs
+pub level_shows : {P : Type 0} (describes : P → Shape → Type 0) (names : P → ShortNames)
+    → ((p : P) → ShowsNames (describes p) (names p)) → (k : Kind) (ps : List P)
+    → ShowsNames (LevelDescribes describes k ps) (level_shorts names k ps)
+level_shows describes names each (kind.Over m) ps =
+    over_shows m (choices_show describes names each ps)
+level_shows describes names each kind.Product ps = tuple_shows describes names each ps
+level_shows describes names each kind.Group ps = group_shows (tuple_shows describes names each ps)
+level_shows describes names each kind.OrElse ps = or_else_shows describes names each ps
+level_shows describes names each (kind.Command called adjacent) ps =
+    command_shows (choices_show describes names each ps) called None
 
 -- it keeps to the laws where its parsers do
 pub level_lawful : {P : Type 0} (outcome : P → Outcome Value) (reads : P → Readings Value)

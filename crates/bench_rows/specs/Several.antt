@@ -1,6 +1,10 @@
 -- Several parsers of one type: their product, and the first of them that reads.
-use Rattle.std.specs.Prelude.{◌≡◌, List, [], ◌∷◌, ℕ, codes}
+use Rattle.std.specs.Prelude.{◌≡◌, List, [], ◌∷◌, ℕ, codes, refl}
 use Rattle.bpaf_doc.specs.Shape.{Shape, Skip}
+use Rattle.bpaf_words.specs.Spelling.{ShortNames}
+use Rattle.bpaf_laws.specs.ShownNames.{ShowsNames, joined_shorts, no_shorts}
+use Rattle.bpaf_laws.proofs.ShownNames.{both_show, choice_shows, last_shows, one_shape}
+use Rattle.bpaf_laws.proofs.ShownNames.{product_shows}
 use Rattle.bpaf_laws.specs.Reading.{Readings, Outcome}
 use Rattle.bpaf_laws.specs.Laws.{Lawful}
 use Rattle.bpaf_laws.specs.Transform.{MapReads}
@@ -103,6 +107,28 @@ TupleDescribes d [] shape = shape ≡ Skip
 TupleDescribes d (p ∷ []) shape = shape ≡ Skip
 TupleDescribes d (p ∷ q ∷ r ∷ s ∷ t ∷ ps) shape = shape ≡ Skip
 
+-- the short names that it shows
+abbrev pub tuple_shorts : {P : Type 0} → (P → ShortNames) → List P → ShortNames
+tuple_shorts n (p ∷ q ∷ []) = joined_shorts (n p) (n q)
+tuple_shorts n (p ∷ q ∷ r ∷ []) = joined_shorts (n p) (joined_shorts (n q) (n r))
+tuple_shorts n (p ∷ q ∷ r ∷ s ∷ []) =
+    joined_shorts (n p) (joined_shorts (n q) (joined_shorts (n r) (n s)))
+tuple_shorts n _ = no_shorts
+
+-- so it does where its parsers show theirs
+pub tuple_shows : {P : Type 0} (d : P → Describes) (n : P → ShortNames)
+    → ((p : P) → ShowsNames (d p) (n p)) → (ps : List P)
+    → ShowsNames (TupleDescribes d ps) (tuple_shorts n ps)
+tuple_shows d n each (p ∷ q ∷ []) = product_shows (both_show (each p) (last_shows (each q)))
+tuple_shows d n each (p ∷ q ∷ r ∷ []) =
+    product_shows (both_show (each p) (both_show (each q) (last_shows (each r))))
+tuple_shows d n each (p ∷ q ∷ r ∷ s ∷ []) =
+    let last_two = both_show (each r) (last_shows (each s)) in
+    product_shows (both_show (each p) (both_show (each q) last_two))
+tuple_shows d n each [] = one_shape refl
+tuple_shows d n each (p ∷ []) = one_shape refl
+tuple_shows d n each (p ∷ q ∷ r ∷ s ∷ t ∷ ps) = one_shape refl
+
 -- it keeps to the laws where its parsers do
 pub tuple_lawful : {P : Type 0} (o : P → Outcome Value) (f : P → Readings Value) (ps : List P)
     → ((p : P) → Lawful Value (o p) (f p)) → Lawful Value (TupleOutcome o ps) (TupleReads f ps)
@@ -139,6 +165,23 @@ OrElseDescribes d (p ∷ q ∷ r ∷ []) shape = ChoiceDescribes (ChoiceDescribe
 OrElseDescribes d [] shape = shape ≡ Skip
 OrElseDescribes d (p ∷ []) shape = shape ≡ Skip
 OrElseDescribes d (p ∷ q ∷ r ∷ s ∷ ps) shape = shape ≡ Skip
+
+-- the short names that it shows
+abbrev pub or_else_shorts : {P : Type 0} → (P → ShortNames) → List P → ShortNames
+or_else_shorts n (p ∷ q ∷ []) = joined_shorts (n p) (n q)
+or_else_shorts n (p ∷ q ∷ r ∷ []) = joined_shorts (joined_shorts (n p) (n q)) (n r)
+or_else_shorts n _ = no_shorts
+
+-- so it does where its parsers show theirs
+pub or_else_shows : {P : Type 0} (d : P → Describes) (n : P → ShortNames)
+    → ((p : P) → ShowsNames (d p) (n p)) → (ps : List P)
+    → ShowsNames (OrElseDescribes d ps) (or_else_shorts n ps)
+or_else_shows d n each (p ∷ q ∷ []) = choice_shows (each p) (each q)
+or_else_shows d n each (p ∷ q ∷ r ∷ []) =
+    choice_shows (choice_shows (each p) (each q)) (each r)
+or_else_shows d n each [] = one_shape refl
+or_else_shows d n each (p ∷ []) = one_shape refl
+or_else_shows d n each (p ∷ q ∷ r ∷ s ∷ ps) = one_shape refl
 
 -- it keeps to the laws where its parsers do
 pub or_else_lawful : {P : Type 0} (o : P → Outcome Value) (f : P → Readings Value) (ps : List P)

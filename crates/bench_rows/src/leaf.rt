@@ -15,15 +15,19 @@ pub struct Answer {
 }
 
 impl Parser<Value> for Answer {
-    ghost use Rattle.std.specs.Prelude.{◌≡◌};
+    ghost use Rattle.std.specs.Prelude.{◌≡◌, refl};
     ghost use Rattle.bpaf_doc.specs.Shape.{Skip};
     ghost use Rattle.bpaf_laws.specs.Pure.{PureReads, PureWithOutcome};
     ghost use Rattle.bpaf_laws.proofs.PureLaws.{pure_with_lawful};
     ghost use Rattle.bench_values.specs.Modifiers.{GivesNumber, number_named};
+    ghost use Rattle.bpaf_laws.specs.ShownNames.{no_shorts};
+    ghost use Rattle.bpaf_laws.proofs.ShownNames.{one_shape};
 
     ghost can_eval = { λ p. Unit {0} };
 
     ghost describes = { λ p shape. shape ≡ Skip };
+
+    ghost shorts = { λ p. no_shorts };
 
     ghost reads = { λ p. PureReads (GivesNumber p.number) };
 
@@ -44,6 +48,8 @@ impl Parser<Value> for Answer {
     }
 
     ghost lawful = { λ p. pure_with_lawful (GivesNumber p.number) (number_named p.number) };
+
+    ghost shows = { λ p. one_shape refl };
 }
 
 /// A parser without inner parsers.
@@ -82,7 +88,9 @@ pub enum Leaf {
 impl Parser<Value> for Leaf {
     ghost use Rattle.bpaf_laws.proofs.FlagLaws.{flag_lawful};
     ghost use Rattle.bpaf_laws.proofs.ArgumentLaws.{argument_lawful};
-    ghost use Rattle.bpaf.specs.PositionalLaws.{positional_lawful};
+    ghost use Rattle.std.specs.Prelude.{refl};
+    ghost use Rattle.bpaf.specs.PositionalLaws.{positional_lawful, positional_shows};
+    ghost use Rattle.bpaf_laws.proofs.ShownNames.{argument_shows, flag_shows, one_shape};
     ghost use Rattle.bpaf_laws.proofs.AppnameLaws.{appname_lawful};
     ghost use Rattle.bpaf_laws.proofs.NamesAnswer.{names_want};
     ghost use Rattle.bpaf_laws.proofs.PureLaws.{pure_lawful, pure_with_lawful, refusal_lawful};
@@ -129,6 +137,23 @@ impl Parser<Value> for Leaf {
       | Pure p ↦ ⟦<ParsePure<Value> as Parser<Value>>⟧.describes p
       | PureWith p ↦ ⟦<Answer as Parser<Value>>⟧.describes p
       | Fail p ↦ ⟦<ParseFail<Value> as Parser<Value>>⟧.describes p
+    ] };
+
+    ghost shorts = { elim [
+      | Switch p ↦ ⟦<AsValue<bool, ParseFlag<bool>> as Parser<Value>>⟧.shorts p
+      | Flag p ↦ ⟦<AsValue<u64, ParseFlag<u64>> as Parser<Value>>⟧.shorts p
+      | Number p ↦ ⟦<AsValue<u64, ParseArgument<u64>> as Parser<Value>>⟧.shorts p
+      | Integer p ↦ ⟦<AsValue<i64, ParseArgument<i64>> as Parser<Value>>⟧.shorts p
+      | Text p ↦ ⟦<AsValue<String, ParseArgument<String>> as Parser<Value>>⟧.shorts p
+      | Unread p ↦ ⟦<AsValue<Refused, ParseArgument<Refused>> as Parser<Value>>⟧.shorts p
+      | NumberWord p ↦ ⟦<AsValue<u64, ParsePositional<u64>> as Parser<Value>>⟧.shorts p
+      | Word p ↦ ⟦<AsValue<String, ParsePositional<String>> as Parser<Value>>⟧.shorts p
+      | Literal p ↦ ⟦<AsValue<(), ParseLiteral> as Parser<Value>>⟧.shorts p
+      | Any p ↦ ⟦<OneText as Parser<Value>>⟧.shorts p
+      | Appname p ↦ ⟦<AsValue<String, ParseAppname> as Parser<Value>>⟧.shorts p
+      | Pure p ↦ ⟦<ParsePure<Value> as Parser<Value>>⟧.shorts p
+      | PureWith p ↦ ⟦<Answer as Parser<Value>>⟧.shorts p
+      | Fail p ↦ ⟦<ParseFail<Value> as Parser<Value>>⟧.shorts p
     ] };
 
     ghost reads = { elim [
@@ -218,5 +243,22 @@ impl Parser<Value> for Leaf {
       | Pure p ↦ pure_lawful _ (λ e. names_want e.0)
       | PureWith p ↦ pure_with_lawful _ (number_named p.number)
       | Fail p ↦ refusal_lawful _
+    ] };
+
+    ghost shows = { elim [
+      | Switch p ↦ flag_shows _ _
+      | Flag p ↦ flag_shows _ _
+      | Number p ↦ argument_shows p.inner
+      | Integer p ↦ argument_shows p.inner
+      | Text p ↦ argument_shows p.inner
+      | Unread p ↦ argument_shows p.inner
+      | NumberWord p ↦ positional_shows _ _ _
+      | Word p ↦ positional_shows _ _ _
+      | Literal p ↦ one_shape refl
+      | Any p ↦ one_shape refl
+      | Appname p ↦ one_shape refl
+      | Pure p ↦ one_shape refl
+      | PureWith p ↦ one_shape refl
+      | Fail p ↦ one_shape refl
     ] };
 }

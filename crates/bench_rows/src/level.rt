@@ -21,11 +21,13 @@ pub struct Level<P> {
 impl<P: Parser<Value> + Drop> Parser<Value> for Level<P> {
     ghost use Rattle.std.specs.Prelude.{All};
     ghost use Rattle.bench_rows.specs.Levels.{LevelOutcome, LevelReads, LevelDescribes};
-    ghost use Rattle.bench_rows.specs.Levels.{level_lawful};
+    ghost use Rattle.bench_rows.specs.Levels.{level_lawful, level_shorts, level_shows};
 
     ghost can_eval = { λ p. All P.can_eval p.inner.parsers.items };
 
     ghost describes = { λ p. LevelDescribes P.describes p.kind p.inner.parsers.items };
+
+    ghost shorts = { λ p. level_shorts P.shorts p.kind p.inner.parsers.items };
 
     ghost reads = { λ p.
         LevelReads P.reads ⟦<Value as Clone>⟧.is_clone p.kind p.inner.parsers.items };
@@ -56,6 +58,8 @@ impl<P: Parser<Value> + Drop> Parser<Value> for Level<P> {
 
     ghost lawful = { λ p. level_lawful P.outcome P.reads P.describes ⟦<Value as Clone>⟧.is_clone
         p.kind p.inner.parsers.items P.lawful };
+
+    ghost shows = { λ p. level_shows P.describes P.shorts P.shows p.kind p.inner.parsers.items };
 }
 
 impl<P: Described> Described for Level<P> {

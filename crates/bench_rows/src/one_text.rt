@@ -70,16 +70,20 @@ impl OneText {
 }
 
 impl Parser<Value> for OneText {
-    ghost use Rattle.std.specs.Prelude.{◌≡◌, None, string_bytes};
+    ghost use Rattle.std.specs.Prelude.{◌≡◌, None, string_bytes, refl};
     ghost use Rattle.bpaf_doc.specs.Shape.{Shown, Any};
     ghost use Rattle.bpaf_laws.specs.Any.{AnyOutcome, AnyReads};
     ghost use Rattle.bpaf_laws.proofs.AnyLaws.{any_lawful};
     ghost use Rattle.bench_values.specs.declared.value.Value.{Value};
     ghost use Rattle.bench_rows.specs.OneText.{AcceptsText};
+    ghost use Rattle.bpaf_laws.specs.ShownNames.{no_shorts};
+    ghost use Rattle.bpaf_laws.proofs.ShownNames.{one_shape};
 
     ghost can_eval = { λ p. Unit {0} };
 
     ghost describes = { λ p shape. shape ≡ Shown (Any p.metavar None p.anywhere) };
+
+    ghost shorts = { λ p. no_shorts };
 
     ghost reads = { λ p. AnyReads Value (AcceptsText (string_bytes p.text)) };
 
@@ -103,4 +107,6 @@ impl Parser<Value> for OneText {
     ghost lawful = { λ p.
         any_lawful Value (AcceptsText (string_bytes p.text)) (Any p.metavar None p.anywhere)
         p.anywhere };
+
+    ghost shows = { λ p. one_shape refl };
 }

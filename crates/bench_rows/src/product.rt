@@ -15,6 +15,8 @@ impl<'p, V, P: Fields<V>> Fields<V> for LentFields<'p, P> {
 
     ghost describes = { λ p. P.describes p.inner.now };
 
+    ghost shorts = { λ p. P.shorts p.inner.now };
+
     ghost reads = { λ p. P.reads p.inner.now };
 
     ghost outcome = { λ p. P.outcome p.inner.now };
@@ -39,6 +41,8 @@ impl<'p, V, P: Fields<V>> Fields<V> for LentFields<'p, P> {
 
     ghost lawful = { λ p. P.lawful p.inner.now };
 
+    ghost shows = { λ p. P.shows p.inner.now };
+
     ghost fast_lawful = { λ p. P.fast_lawful p.inner.now };
 
     ghost spared_outcome = { λ p. P.spared_outcome p.inner.now };
@@ -61,10 +65,13 @@ impl<V: Drop, P: Fields<V>> Parser<V> for Product<V, P> {
     ghost use Rattle.std.specs.Prelude.{◌≡◌};
     ghost use Rattle.bpaf_laws.specs.Product.{ProductOutcome, ProductReads, ProductDescribes};
     ghost use Rattle.bpaf_laws.proofs.ProductLaws.{product_lawful};
+    ghost use Rattle.bpaf_laws.proofs.ShownNames.{product_shows};
 
     ghost can_eval = { λ p. P.can_eval p.fields };
 
     ghost describes = { λ p. ProductDescribes (P.describes p.fields) };
+
+    ghost shorts = { λ p. P.shorts p.fields };
 
     ghost reads = { λ p. ProductReads V V (P.reads p.fields) (λ x v. v ≡ x) };
 
@@ -93,4 +100,6 @@ impl<V: Drop, P: Fields<V>> Parser<V> for Product<V, P> {
     }
 
     ghost lawful = { λ p. product_lawful (λ x v. v ≡ x) (P.lawful p.fields) };
+
+    ghost shows = { λ p. product_shows (P.shows p.fields) };
 }

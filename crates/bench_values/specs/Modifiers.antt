@@ -1,9 +1,12 @@
 -- What one parser answers under a modifier.
-use Rattle.std.specs.Prelude.{◌≡◌, List, ℕ, Option, codes, true}
+use Rattle.std.specs.Prelude.{◌≡◌, List, ℕ, Option, codes, refl, true}
 use Rattle.std.specs.Global.{Vec}
 use Rattle.std.specs.declared.collections.VecDeque.{VecDeque}
 use Rattle.std.specs.declared.alloc.Global.{Global}
 use Rattle.bpaf_doc.specs.Shape.{Shape, Skip}
+use Rattle.bpaf_words.specs.Spelling.{ShortNames}
+use Rattle.bpaf_laws.specs.ShownNames.{ShowsNames, no_shorts}
+use Rattle.bpaf_laws.proofs.ShownNames.{many_shows, one_shape, optional_shows, some_shows}
 use Rattle.bpaf_laws.specs.Reading.{Readings, Outcome}
 use Rattle.bpaf_laws.specs.Laws.{Lawful}
 use Rattle.bpaf_laws.specs.Transform.{MapOutcome, MapReads, ParseOutcome, GuardOutcome, GuardReads}
@@ -120,6 +123,28 @@ OverDescribes (over.Parse limit) inner shape = inner shape
 OverDescribes (over.Fallback n) inner shape = OptionalDescribes inner shape
 OverDescribes (over.FallbackWith number) inner shape = OptionalDescribes inner shape
 OverDescribes over.Hide inner shape = shape ≡ Skip
+
+-- the short names that it shows
+abbrev pub over_shorts : Modifier → ShortNames → ShortNames
+over_shorts over.Hide names = no_shorts
+over_shorts _ names = names
+
+-- so it does where its parser shows its own
+pub over_shows : {inner : Shape → Type 0} {names : ShortNames} (m : Modifier)
+    → ShowsNames inner names → ShowsNames (OverDescribes m inner) (over_shorts m names)
+over_shows over.Same shows = shows
+over_shows (over.Optional catch) shows = optional_shows shows
+over_shows (over.Many catch) shows = many_shows shows
+over_shows (over.Some catch) shows = some_shows shows
+over_shows (over.Collect catch) shows = many_shows shows
+over_shows over.Count shows = many_shows shows
+over_shows over.Last shows = some_shows shows
+over_shows over.Map shows = shows
+over_shows (over.Guard limit) shows = shows
+over_shows (over.Parse limit) shows = shows
+over_shows (over.Fallback n) shows = optional_shows shows
+over_shows (over.FallbackWith number) shows = optional_shows shows
+over_shows over.Hide shows = one_shape refl
 
 -- a number that is refused is the answer of no run inside
 pub number_named : (number : Option ℕ) → NamesGiven (GivesNumber number)

@@ -24,6 +24,8 @@ impl<T: Told + Drop, P: Parser<T>> Parser<Value> for AsValue<T, P> {
 
     ghost describes = { λ p. P.describes p.inner };
 
+    ghost shorts = { λ p. P.shorts p.inner };
+
     ghost reads = { λ p. MapReads T Value (P.reads p.inner) T.told };
 
     ghost outcome = { λ p. ToldOutcome (P.outcome p.inner) T.told };
@@ -38,4 +40,6 @@ impl<T: Told + Drop, P: Parser<T>> Parser<Value> for AsValue<T, P> {
     }
 
     ghost lawful = { λ p. told_lawful T.told (P.lawful p.inner) };
+
+    ghost shows = { λ p. P.shows p.inner };
 }

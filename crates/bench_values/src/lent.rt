@@ -16,6 +16,8 @@ impl<'p, T, P: Parser<T>> Parser<T> for Lent<'p, P> {
 
     ghost describes = { λ p. P.describes p.inner.now };
 
+    ghost shorts = { λ p. P.shorts p.inner.now };
+
     ghost reads = { λ p. P.reads p.inner.now };
 
     ghost outcome = { λ p. P.outcome p.inner.now };
@@ -29,4 +31,6 @@ impl<'p, T, P: Parser<T>> Parser<T> for Lent<'p, P> {
     }
 
     ghost lawful = { λ p. P.lawful p.inner.now };
+
+    ghost shows = { λ p. P.shows p.inner.now };
 }

@@ -8,6 +8,7 @@ use Rattle.bpaf_doc.specs.declared.doc.Piece.{Piece}
 use Rattle.bpaf_doc.specs.Shape.{Part, Shape}
 use Rattle.bpaf_text.specs.Named.{Named, KeyWithValue, flag_part, argument_part}
 use Rattle.bpaf_words.specs.Arguments.{Given}
+use Rattle.bpaf_words.specs.Spelling.{Known}
 use Rattle.bpaf_line.specs.declared.error.Error.{Error}
 use Rattle.bpaf_line.specs.declared.error.Message.{Message}
 use Rattle.bpaf_line.specs.declared.error.Message.TheVariants as message
@@ -246,29 +247,29 @@ module _ (describes : Shape → Type 0) (info : RunInfo) where
         (λ said same answer. inside.all s e left doc full answered cc) ends is
 
     -- so does a run over words
-    words_show : (given : Given) (f : ParseFailure) (doc : List Piece) (full : Bool)
-        → RunsWords T inner describes info given (Err f) → f ≡ failure.Stdout doc full
-        → WordsShow describes info given Either doc full
-    words_show given f doc full (run.ran context q t line runs) is = record {
+    words_show : (known : Known) (given : Given) (f : ParseFailure) (doc : List Piece) (full : Bool)
+        → RunsWords T inner describes info known given (Err f) → f ≡ failure.Stdout doc full
+        → WordsShow known given Either doc full
+    words_show known given f doc full (run.ran context q t line runs) is = record {
       context = context;
       on_line = line;
       run = run_shows (beginning context) t f doc full runs is;
     }
-    words_show given f doc full
-        (run.no_line shape word number context g can lacks empty name renders) is =
+    words_show known given f doc full
+        (run.no_line word number context g lacks empty name renders) is =
         absurd (renders_nothing (message.Ambiguity word number) (beginning context) doc full refl
         (subst (λ h. Renders (message.Ambiguity word number) (beginning context) h) is renders))
-    words_show given f doc full run.no_memory is = cc
+    words_show known given f doc full run.no_memory is = cc
 
     -- so does an answer without a value
-    pub answer_shows : (given : Given) (r : Result T ParseFailure)
-        → RunsWords T inner describes info given r
-        → IfErr r (IfShown (WordsShow describes info given Either))
-    answer_shows given (Ok v) runs = tt
-    answer_shows given (Err (failure.Stdout doc full)) runs =
-        words_show given (failure.Stdout doc full) doc full runs refl
-    answer_shows given (Err (failure.Stderr doc)) runs = tt
-    answer_shows given (Err failure.Memory) runs = tt
+    pub answer_shows : (known : Known) (given : Given) (r : Result T ParseFailure)
+        → RunsWords T inner describes info known given r
+        → IfErr r (IfShown (WordsShow known given Either))
+    answer_shows known given (Ok v) runs = tt
+    answer_shows known given (Err (failure.Stdout doc full)) runs =
+        words_show known given (failure.Stdout doc full) doc full runs refl
+    answer_shows known given (Err (failure.Stderr doc)) runs = tt
+    answer_shows known given (Err failure.Memory) runs = tt
 
 -- what is asked of a parser is asked of each whose shapes are among those of another
 pub asked_at_also : (describes others : Shape → Type 0) (info : RunInfo)
@@ -291,36 +292,36 @@ asked_at_also describes others info also s doc full at = record {
     shows_also (extra.Version version) shows = shows
 
 -- so it is of a run over words, of which more may be shown
-pub words_also : (describes others : Shape → Type 0) (info : RunInfo) (given : Given)
-    (showing wider : Showing) → ((shape : Shape) → describes shape → others shape)
+pub words_also : (known : Known) (given : Given) (showing wider : Showing)
     → IsAlsoShown showing wider → (doc : List Piece) (full : Bool)
-    → WordsShow describes info given showing doc full → WordsShow others info given wider doc full
-words_also describes others info given showing wider also more doc full was = record {
+    → WordsShow known given showing doc full → WordsShow known given wider doc full
+words_also known given showing wider more doc full was = record {
   context = was.context;
-  on_line = ⊎_elim (λ line. inl (line.0, also line.0 line.1, line.2)) (λ any. inr any) was.on_line;
+  on_line = was.on_line;
   run = came_also showing wider more (beginning was.context) doc full was.run;
 }
 
 -- a run over words of a parser that shows nothing by itself was asked for what it shows
-pub answer_asked : (describes : Shape → Type 0) (info : RunInfo) (given : Given) {T : Type 0}
-    {inner : Outcome T} {reads : Readings T} → Lawful T inner reads → ShowsNothing inner
-    → info.help_if_no_args ≡ false → (r : Result T ParseFailure)
-    → RunsWords T inner describes info given r
-    → IfErr r (IfShown (WasAsked describes info given))
-answer_asked describes info given law nothing plain (Ok v) runs = tt
-answer_asked describes info given law nothing plain (Err (failure.Stdout doc full)) runs =
-    words_also describes describes info given (RunShows describes info nothing_shown)
-    (IsAskedAt describes info) (λ shape shown. shown)
+pub answer_asked : (describes : Shape → Type 0) (info : RunInfo) (known : Known) (given : Given)
+    {T : Type 0} {inner : Outcome T} {reads : Readings T} → Lawful T inner reads
+    → ShowsNothing inner → info.help_if_no_args ≡ false → (r : Result T ParseFailure)
+    → RunsWords T inner describes info known given r
+    → IfErr r (IfShown (WasAsked describes info known given))
+answer_asked describes info known given law nothing plain (Ok v) runs = tt
+answer_asked describes info known given law nothing plain (Err (failure.Stdout doc full)) runs =
+    words_also known given (RunShows describes info nothing_shown)
+    (IsAskedAt describes info)
     (λ s d u. ⊎_elim (λ at. at) (λ none. absurd none)) doc full
-    (answer_shows describes info law nothing_shown nothing plain given
+    (answer_shows describes info law nothing_shown nothing plain known given
     (Err (failure.Stdout doc full)) runs)
-answer_asked describes info given law nothing plain (Err (failure.Stderr doc)) runs = tt
-answer_asked describes info given law nothing plain (Err failure.Memory) runs = tt
+answer_asked describes info known given law nothing plain (Err (failure.Stderr doc)) runs = tt
+answer_asked describes info known given law nothing plain (Err failure.Memory) runs = tt
 
 -- what was asked of a parser was asked of each whose shapes are among those of another
-pub asked_also : (describes others : Shape → Type 0) (info : RunInfo) (given : Given)
-    (doc : List Piece) (full : Bool) → ((shape : Shape) → describes shape → others shape)
-    → WasAsked describes info given doc full → WasAsked others info given doc full
-asked_also describes others info given doc full also was =
-    words_also describes others info given (IsAskedAt describes info) (IsAskedAt others info) also
+pub asked_also : (describes others : Shape → Type 0) (info : RunInfo) (known : Known)
+    (given : Given) (doc : List Piece) (full : Bool)
+    → ((shape : Shape) → describes shape → others shape)
+    → WasAsked describes info known given doc full → WasAsked others info known given doc full
+asked_also describes others info known given doc full also was =
+    words_also known given (IsAskedAt describes info) (IsAskedAt others info)
     (asked_at_also describes others info also) doc full was

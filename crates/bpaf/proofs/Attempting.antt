@@ -1,5 +1,5 @@
 -- How the attempts of an adjacent group follow one another.
-use Rattle.std.proofs.Common.{◌≡◌, ℕ, ◌≤◌, ◌<◌, Result, Ok, Err, subst, sym}
+use Rattle.std.proofs.Common.{◌≡◌, ℕ, ◌<◌, Result, Ok, Err, subst, sym}
 use Rattle.bpaf_line.specs.declared.error.Error.{Error}
 use Rattle.bpaf_line.specs.Situation.{Situation, with_scope}
 use Rattle.bpaf_line.proofs.Places.{open_in_scope}

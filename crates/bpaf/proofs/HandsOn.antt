@@ -1,7 +1,7 @@
 -- What choices and commands show is what their parsers do.
-use Rattle.std.proofs.Common.{◌≡◌, ◌⊎◌, Bool, true, false, ℕ, ◌+◌, List, Option, Some, None, Result}
+use Rattle.std.proofs.Common.{◌≡◌, ◌⊎◌, Bool, true, false, ℕ, ◌+◌, List, Result}
 use Rattle.std.proofs.Common.{Ok}
-use Rattle.std.proofs.Common.{inl, inr, Err, refl, sym, subst, ap, ◌∙◌, ⊎_elim, true≢false}
+use Rattle.std.proofs.Common.{inl, inr, Err, sym, subst, ap, ◌∙◌, ⊎_elim, true≢false}
 use Rattle.std.proofs.Common.{if◌then◌else◌}
 use Rattle.bpaf_doc.specs.declared.doc.Piece.{Piece}
 use Rattle.bpaf_doc.specs.Shape.{Part, Shape}

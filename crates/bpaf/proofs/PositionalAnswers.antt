@@ -1,13 +1,11 @@
 -- How the answer of a positional word is put together.
-use Rattle.std.proofs.Common.{◌≡◌, ℕ, Bool, true, false, List, Result, Ok, Err, Some, inr, ap, sym}
-use Rattle.std.proofs.Common.{◌∙◌}
-use Rattle.std.proofs.Common.{refl, subst, option_and_then, if◌then◌else◌}
-use Rattle.bpaf_base.specs.Items.{is_positional, word_text}
+use Rattle.std.proofs.Common.{◌≡◌, ℕ, Bool, true, false, List, Result, Ok, Err, inr, sym}
+use Rattle.std.proofs.Common.{refl, subst}
 use Rattle.bpaf_line.specs.declared.error.Error.{Error}
 use Rattle.bpaf_line.specs.declared.error.Message.{Message}
 use Rattle.bpaf_line.specs.declared.error.Message.TheVariants.{Memory, ParseFailed}
-use Rattle.bpaf_line.specs.Situation.{Situation, item_at, is_open, take_place}
-use Rattle.bpaf_line.specs.Taking.{TakesText, IsFirst}
+use Rattle.bpaf_line.specs.Situation.{Situation}
+use Rattle.bpaf_line.specs.Taking.{TakesText}
 use Rattle.bpaf_laws.specs.Value.{ReadsValue, FaultsText}
 use Rattle.bpaf.specs.declared.leaves.positional.Position.{Position}
 use Rattle.bpaf.specs.Positional.{PositionalOutcome, PositionalFails, accepts, misplaced}

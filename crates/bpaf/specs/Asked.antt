@@ -16,7 +16,8 @@ use Rattle.bpaf_core.specs.ExtraParams.{ExtraParams}
 use Rattle.bpaf_core.specs.Ending.{Shows}
 use Rattle.bpaf_core.specs.Extra.{ExtraOutcome}
 use Rattle.bpaf_core.specs.Info.{RunInfo}
-use Rattle.bpaf_core.specs.Known.{IsLineContext}
+use Rattle.bpaf_words.specs.Spelling.{Known}
+use Rattle.bpaf_line.specs.Constructing.{IsContext}
 
 -- what may be shown in a situation, in full or not
 abbrev pub Showing : Type 1
@@ -50,16 +51,16 @@ abbrev pub RunShows : (Shape → Type 0) → RunInfo → Showing → Showing
 RunShows describes info inner s doc full = IsAskedAt describes info s doc full ⊎ inner s doc full
 
 -- a run over words came to where this may be shown
-pub record WordsShow (describes : Shape → Type 0) (info : RunInfo) (given : Given)
-    (showing : Showing) (doc : List Piece) (full : Bool) : Type 0 where
+pub record WordsShow (known : Known) (given : Given) (showing : Showing) (doc : List Piece)
+    (full : Bool) : Type 0 where
   pub context : Context
-  pub on_line : IsLineContext describes info given context
+  pub on_line : IsContext known given context
   pub run : CameTo showing (beginning context) doc full
 
 -- a run over words was asked itself for what it shows
-abbrev pub WasAsked : (Shape → Type 0) → RunInfo → Given → List Piece → Bool → Type 0
-WasAsked describes info given doc full =
-    WordsShow describes info given (IsAskedAt describes info) doc full
+abbrev pub WasAsked : (Shape → Type 0) → RunInfo → Known → Given → List Piece → Bool → Type 0
+WasAsked describes info known given doc full =
+    WordsShow known given (IsAskedAt describes info) doc full
 
 -- what a run answers that has no value is this, if it shows something
 abbrev pub IfShown : (List Piece → Bool → Type 0) → ParseFailure → Type 0

@@ -1,5 +1,6 @@
 -- Positional words keep to the laws.
-use Rattle.std.specs.Prelude.{◌≡◌, ℕ, Bool, true, List}
+use Rattle.std.specs.Prelude.{◌≡◌, ℕ, Bool, true, List, Option, refl}
+use Rattle.bpaf_doc.specs.declared.doc.Piece.{Piece}
 use Rattle.std.proofs.Common.{sym, subst, ⊎_elim}
 use Rattle.bpaf_line.specs.Situation.{Situation, is_open}
 use Rattle.bpaf_line.specs.declared.error.Message.{Message}
@@ -10,12 +11,16 @@ use Rattle.bpaf_line.specs.Taking.{TakesText}
 use Rattle.bpaf_laws.specs.Reading.{Readings}
 use Rattle.bpaf_laws.specs.Laws.{Keeps, Reads, Lawful}
 use Rattle.bpaf_laws.specs.RefusalNames.{NamesAnswer}
+use Rattle.bpaf_laws.specs.ShownNames.{ShowsNames, no_shorts}
+use Rattle.bpaf_laws.proofs.ShownNames.{one_shape}
 use Rattle.bpaf_laws.proofs.Keeping.{keeps_same, closes_take, keeps_take, newly_take}
 use Rattle.bpaf_base.specs.Items.{is_positional}
 use Rattle.bpaf_line.proofs.Matches.{match_is_open}
 use Rattle.bpaf.specs.declared.leaves.positional.Position.{Position}
+use Rattle.bpaf.specs.declared.leaves.positional.Position.TheVariants.{NonStrict, Strict}
+use Rattle.bpaf.specs.declared.leaves.positional.Position.TheVariants.{Unrestricted}
 use Rattle.bpaf.specs.Positional.{PositionalReads, PositionalOutcome, PositionalFails, TakesSome}
-use Rattle.bpaf.specs.Positional.{accepts}
+use Rattle.bpaf.specs.Positional.{accepts, positional_shape}
 
 module _ (s : Situation) (place : ℕ) (strict : Bool) (text : List ℕ) (t : Situation)
     (takes : TakesText s place strict text t) where
@@ -83,3 +88,10 @@ module _ (T : Type 0) (means : List ℕ → T → Type 0) (position : Position)
     err = λ s t e o. positional_refused s t e.0 o;
     named = λ s t e o. positional_named s t e.0 o;
   }
+
+-- a word shows no short name
+pub positional_shows : (position : Position) (metavar : List ℕ) (help : Option (List Piece))
+    → ShowsNames (λ shown. shown ≡ positional_shape position metavar help) no_shorts
+positional_shows Unrestricted metavar help = one_shape refl
+positional_shows Strict metavar help = one_shape refl
+positional_shows NonStrict metavar help = one_shape refl

@@ -45,11 +45,14 @@ struct FailFast<'p, P> {
 impl<'p, V, T, P: Fields<V>, F: Fn(V) -> T> Parser<T> for FailFast<'p, ParseCon<V, P, F>> {
     ghost use Rattle.bpaf_laws.specs.Product.{ProductOutcome, ProductReads, ProductDescribes};
     ghost use Rattle.bpaf_laws.proofs.ProductLaws.{product_lawful};
+    ghost use Rattle.bpaf_laws.proofs.ShownNames.{product_shows};
 
     ghost can_eval = { λ p. P.can_eval p.product.now.fields
         × F.IsAlwaysCallable p.product.now.make };
 
     ghost describes = { λ p. ProductDescribes (P.describes p.product.now.fields) };
+
+    ghost shorts = { λ p. P.shorts p.product.now.fields };
 
     ghost reads = { λ p. ProductReads V T (P.reads p.product.now.fields)
         (λ x y. F.post p.product.now.make x y) };
@@ -69,6 +72,8 @@ impl<'p, V, T, P: Fields<V>, F: Fn(V) -> T> Parser<T> for FailFast<'p, ParseCon<
 
     ghost lawful = { λ p. product_lawful (λ x y. F.post p.product.now.make x y)
         (P.fast_lawful p.product.now.fields) };
+
+    ghost shows = { λ p. product_shows (P.shows p.product.now.fields) };
 }
 
 /// What a parser shows, as what stands together; refused only for want of memory.
@@ -145,10 +150,13 @@ impl<V, T: Drop, P: Fields<V>, F: Fn(V) -> T> Parser<T> for ParseAdjacent<ParseC
     ghost use Rattle.bpaf_laws.specs.AdjacentGroup.{GroupDescribes, GroupOutcome, GroupReads};
     ghost use Rattle.bpaf_laws.specs.OneStretch.{IsStretch};
     ghost use Rattle.bpaf_laws.proofs.AdjacentGroupLaws.{group_lawful};
+    ghost use Rattle.bpaf_laws.proofs.ShownNames.{group_shows, product_shows};
 
     ghost can_eval = { λ p. P.can_eval p.inner.fields × F.IsAlwaysCallable p.inner.make };
 
     ghost describes = { λ p. GroupDescribes (ProductDescribes (P.describes p.inner.fields)) };
+
+    ghost shorts = { λ p. P.shorts p.inner.fields };
 
     ghost reads = { λ p. GroupReads T (ProductReads V T (P.reads p.inner.fields)
         (λ x y. F.post p.inner.make x y)) };
@@ -180,4 +188,6 @@ impl<V, T: Drop, P: Fields<V>, F: Fn(V) -> T> Parser<T> for ParseAdjacent<ParseC
 
     ghost lawful = { λ p. group_lawful (part_of p.first)
         (product_lawful (λ x y. F.post p.inner.make x y) (P.fast_lawful p.inner.fields)) };
+
+    ghost shows = { λ p. group_shows (product_shows (P.shows p.inner.fields)) };
 }

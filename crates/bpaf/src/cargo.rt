@@ -47,7 +47,7 @@ pub fn cargo_helper<P: Drop>(
 /// The word is evaluated, and then the parser, also after an error; then no word is current. Want
 /// of memory is refused at once.
 impl<T: Drop, P: Parser<T>> Parser<T> for CargoHelper<P> {
-    ghost use Rattle.std.specs.Prelude.{◌≡◌, Option};
+    ghost use Rattle.std.specs.Prelude.{◌≡◌, Option, refl};
     ghost use Rattle.bpaf_laws.specs.Product.{ProductOutcome, ProductReads, ProductDescribes};
     ghost use Rattle.bpaf_laws.specs.Spared.{IsNotMemory};
     ghost use Rattle.bpaf_doc.specs.Shape.{Any};
@@ -56,11 +56,15 @@ impl<T: Drop, P: Parser<T>> Parser<T> for CargoHelper<P> {
     ghost use Rattle.bpaf_laws.proofs.DefaultLaws.{optional_lawful};
     ghost use Rattle.bpaf_laws.proofs.HideLaws.{hide_lawful};
     ghost use Rattle.bpaf_laws.proofs.ProductLaws.{both_lawful, product_lawful};
+    ghost use Rattle.bpaf_laws.proofs.ShownNames.{both_show, last_shows, one_shape};
+    ghost use Rattle.bpaf_laws.proofs.ShownNames.{product_shows};
 
     ghost can_eval = { λ p. P.can_eval p.fields.rest.last };
 
     ghost describes = { λ p. ProductDescribes
         (⟦<Both<SkippedWord, Last<P>> as Fields<(Option<()>, T)>>⟧.describes p.fields) };
+
+    ghost shorts = { λ p. P.shorts p.fields.rest.last };
 
     ghost reads = { λ p. ProductReads (Option (Unit {0}) × T) T
         (⟦<Both<SkippedWord, Last<P>> as Fields<(Option<()>, T)>>⟧.reads p.fields)
@@ -97,4 +101,7 @@ impl<T: Drop, P: Parser<T>> Parser<T> for CargoHelper<P> {
         product_lawful (λ values v. v ≡ values.1)
         (both_lawful (hide_lawful (optional_lawful law p.fields.first.inner.catch))
         (P.lawful p.fields.rest.last)) };
+
+    ghost shows = { λ p. product_shows
+        (both_show (one_shape refl) (last_shows (P.shows p.fields.rest.last))) };
 }

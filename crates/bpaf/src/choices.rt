@@ -123,10 +123,14 @@ impl<T: Drop, P: Parser<T> + Drop> Parser<T> for ParseChoice<P> {
     ghost use Rattle.bpaf_laws.specs.Choices.{ChoicesOutcome, ChoicesReads};
     ghost use Rattle.bpaf_laws.specs.Choices.{ChoicesDescribes, LeftmostOfAll};
     ghost use Rattle.bpaf_laws.proofs.ChoicesLaws.{choices_lawful};
+    ghost use Rattle.bpaf_laws.specs.ShownNames.{all_shorts};
+    ghost use Rattle.bpaf_laws.proofs.ShownNames.{choices_show};
 
     ghost can_eval = { λ p. All P.can_eval p.parsers.items };
 
     ghost describes = { λ p. ChoicesDescribes P.describes p.parsers.items };
+
+    ghost shorts = { λ p. all_shorts P.shorts p.parsers.items };
 
     ghost reads = { λ p. ChoicesReads P.reads p.parsers.items };
 
@@ -154,4 +158,6 @@ impl<T: Drop, P: Parser<T> + Drop> Parser<T> for ParseChoice<P> {
     }
 
     ghost lawful = { λ p. choices_lawful P.outcome P.reads p.parsers.items P.lawful };
+
+    ghost shows = { λ p. choices_show P.describes P.shorts P.shows p.parsers.items };
 }

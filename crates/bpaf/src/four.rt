@@ -42,12 +42,16 @@ impl<
 > Fields<FourValues<S, T, U, V, W>> for Four<A, B, C, D, R> {
     ghost use Rattle.bpaf_laws.proofs.ProductLaws.{both_lawful, fail_fast_lawful};
     ghost use Rattle.bpaf_laws.proofs.ProductSparing.{both_spares, fail_fast_spares};
+    ghost use Rattle.bpaf_laws.proofs.ShownNames.{both_show};
 
     ghost can_eval = { λ p.
         ⟦<FourFields<A, B, C, D, R> as Fields<FourValues<S, T, U, V, W>>>⟧.can_eval p.fields };
 
     ghost describes = { λ p.
         ⟦<FourFields<A, B, C, D, R> as Fields<FourValues<S, T, U, V, W>>>⟧.describes p.fields };
+
+    ghost shorts = { λ p.
+        ⟦<FourFields<A, B, C, D, R> as Fields<FourValues<S, T, U, V, W>>>⟧.shorts p.fields };
 
     ghost reads = { λ p.
         ⟦<FourFields<A, B, C, D, R> as Fields<FourValues<S, T, U, V, W>>>⟧.reads p.fields };
@@ -109,4 +113,10 @@ impl<
         (both_spares (D.outcome p.fields.rest.rest.rest.first)
         (R.outcome p.fields.rest.rest.rest.rest) (R.spared_outcome p.fields.rest.rest.rest.rest)
         (R.memory_is_never_caught p.fields.rest.rest.rest.rest)))) };
+
+    ghost shows = { λ p. both_show (A.shows p.fields.first)
+        (both_show (B.shows p.fields.rest.first)
+        (both_show (C.shows p.fields.rest.rest.first)
+        (both_show (D.shows p.fields.rest.rest.rest.first)
+        (R.shows p.fields.rest.rest.rest.rest)))) };
 }

@@ -9,7 +9,7 @@
 //! of a word that may stand in front and a parser.
 //!
 //! For the layers above: each type here proves the laws of `Parser` from the laws of its inner
-//! parsers alone, and its `outcome`, `reads` and `describes` are definitions over theirs
+//! parsers alone, and its `outcome`, `reads`, `describes` and `shorts` are definitions over theirs
 //! (specs/Positional.antt here; specs/Any.antt, specs/Product.antt, specs/Pure.antt,
 //! specs/Appname.antt and specs/Choices.antt of `bpaf_laws`). [`spellings_are_unique`] and
 //! [`lines_are_unique`] state that words are read in one way alone, and [`count_falls`] that what

@@ -17,6 +17,8 @@ pub trait Fields<V>: Sized {
     ghost use Rattle.bpaf_doc.specs.Shape.{Shape};
     ghost use Rattle.bpaf_laws.specs.Reading.{Outcome, Readings};
     ghost use Rattle.bpaf_laws.specs.Laws.{Lawful};
+    ghost use Rattle.bpaf_laws.specs.ShownNames.{FieldsShowNames};
+    ghost use Rattle.bpaf_words.specs.Spelling.{ShortNames};
     ghost use Rattle.bpaf_laws.specs.Spared.{Spares};
     ghost use Rattle.bpaf.specs.WithoutValue.{WithoutValue};
 
@@ -25,6 +27,9 @@ pub trait Fields<V>: Sized {
 
     /// What the fields may show of themselves, in order.
     ghost describes: { Self → List Shape → Type 0 };
+
+    /// The short names of the flags and arguments that they show.
+    ghost shorts: { Self → ShortNames };
 
     /// Which values may be read off which places of a line.
     ghost reads: { Self → Readings V };
@@ -68,6 +73,9 @@ pub trait Fields<V>: Sized {
     /// What each implementation keeps to.
     ghost lawful: { (p : Self) → Lawful V (outcome p) (reads p) };
 
+    /// Whichever shapes they show, these are their short names.
+    ghost shows: { (p : Self) → FieldsShowNames (describes p) (shorts p) };
+
     /// What it keeps to where a failing first field is the end.
     ghost fast_lawful: { (p : Self) → Lawful V (fast_outcome p) (reads p) };
 
@@ -95,10 +103,13 @@ impl<A: Drop> Drop for Last<A> {
 impl<T: Drop, A: Parser<T>> Fields<T> for Last<A> {
     ghost use Rattle.bpaf_laws.specs.Product.{LastDescribes};
     ghost use Rattle.bpaf_laws.specs.Spared.{WithoutMemory};
+    ghost use Rattle.bpaf_laws.proofs.ShownNames.{last_shows};
 
     ghost can_eval = { λ p. A.can_eval p.last };
 
     ghost describes = { λ p. LastDescribes (A.describes p.last) };
+
+    ghost shorts = { λ p. A.shorts p.last };
 
     ghost reads = { λ p. A.reads p.last };
 
@@ -137,6 +148,8 @@ impl<T: Drop, A: Parser<T>> Fields<T> for Last<A> {
     ghost memory_is_never_caught = { λ p s t r answered spared. (answered, spared) };
 
     ghost fast_memory_is_never_caught = { λ p s t r answered spared. (answered, spared) };
+
+    ghost shows = { λ p. last_shows (A.shows p.last) };
 }
 
 /// A field of a product, and the fields after it.
@@ -162,10 +175,14 @@ impl<T: Drop, V, A: Parser<T>, R: Fields<V>> Fields<(T, V)> for Both<A, R> {
     ghost use Rattle.bpaf_laws.specs.Product.{FailFastOutcome};
     ghost use Rattle.bpaf_laws.proofs.ProductLaws.{both_lawful, fail_fast_lawful};
     ghost use Rattle.bpaf_laws.proofs.ProductSparing.{both_spares, fail_fast_spares};
+    ghost use Rattle.bpaf_laws.specs.ShownNames.{joined_shorts};
+    ghost use Rattle.bpaf_laws.proofs.ShownNames.{both_show};
 
     ghost can_eval = { λ p. A.can_eval p.first × R.can_eval p.rest };
 
     ghost describes = { λ p. BothDescribes (A.describes p.first) (R.describes p.rest) };
+
+    ghost shorts = { λ p. joined_shorts (A.shorts p.first) (R.shorts p.rest) };
 
     ghost reads = { λ p. BothReads T V (A.reads p.first) (R.reads p.rest) };
 
@@ -221,6 +238,8 @@ impl<T: Drop, V, A: Parser<T>, R: Fields<V>> Fields<(T, V)> for Both<A, R> {
 
     ghost fast_memory_is_never_caught = { λ p. fail_fast_spares (A.outcome p.first)
         (R.outcome p.rest) (R.spared_outcome p.rest) (R.memory_is_never_caught p.rest) };
+
+    ghost shows = { λ p. both_show (A.shows p.first) (R.shows p.rest) };
 }
 
 /// The error of a product whose first field has failed: the fields behind it are evaluated too,
@@ -290,10 +309,13 @@ impl<V, T, P: Fields<V>, F: Fn(V) -> T> Parser<T> for ParseCon<V, P, F> {
     ghost use Rattle.bpaf_laws.specs.Spared.{IsNotMemory};
     ghost use Rattle.bpaf_laws.specs.Product.{ProductOutcome, ProductReads, ProductDescribes};
     ghost use Rattle.bpaf_laws.proofs.ProductLaws.{product_lawful};
+    ghost use Rattle.bpaf_laws.proofs.ShownNames.{product_shows};
 
     ghost can_eval = { λ p. P.can_eval p.fields × F.IsAlwaysCallable p.make };
 
     ghost describes = { λ p. ProductDescribes (P.describes p.fields) };
+
+    ghost shorts = { λ p. P.shorts p.fields };
 
     ghost reads = { λ p. ProductReads V T (P.reads p.fields) (λ x y. F.post p.make x y) };
 
@@ -320,4 +342,6 @@ impl<V, T, P: Fields<V>, F: Fn(V) -> T> Parser<T> for ParseCon<V, P, F> {
     }
 
     ghost lawful = { λ p. product_lawful (λ x y. F.post p.make x y) (P.lawful p.fields) };
+
+    ghost shows = { λ p. product_shows (P.shows p.fields) };
 }

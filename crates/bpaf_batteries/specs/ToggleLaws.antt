@@ -1,12 +1,15 @@
 -- Toggles keep to the laws.
 use Rattle.std.specs.Prelude.{Bool, Option}
 use Rattle.bpaf_text.specs.declared.params.ParseFlag.{ParseFlag}
+use Rattle.bpaf_laws.specs.ShownNames.{ShowsNames}
+use Rattle.bpaf_laws.proofs.ShownNames.{choice_shows, flag_shows, many_shows}
 use Rattle.bpaf_laws.proofs.ChoiceLaws.{choice_lawful}
 use Rattle.bpaf_laws.proofs.FlagLaws.{flag_lawful}
 use Rattle.bpaf_laws.proofs.RepeatLaws.{many_lawful}
 use Rattle.bpaf_laws.proofs.TransformLaws.{map_lawful}
 use Rattle.bpaf_laws.specs.Laws.{Lawful}
-use Rattle.bpaf_batteries.specs.Toggle.{IsLastOf, ToggleOutcome, ToggleReads}
+use Rattle.bpaf_batteries.specs.Keys.{shorts_of_both}
+use Rattle.bpaf_batteries.specs.Toggle.{IsLastOf, ToggleDescribes, ToggleOutcome, ToggleReads}
 
 -- toggles keep to the laws
 pub toggle_lawful : {T : Type 0} (clones : T → T → Type 0) (one other : ParseFlag T)
@@ -17,3 +20,10 @@ toggle_lawful {T} clones one other catches =
     (many_lawful (choice_lawful (flag_lawful T clones one.named one.present one.absent)
     (flag_lawful T clones other.named other.present other.absent)) catches)
     (λ values v. IsLastOf values.items v)
+
+-- it shows the short names of both keys
+pub toggle_shows : {T : Type 0} (one other : ParseFlag T)
+    → ShowsNames (ToggleDescribes one other) (shorts_of_both one other)
+toggle_shows one other =
+    many_shows (choice_shows (flag_shows one.named one.absent)
+    (flag_shows other.named other.absent))

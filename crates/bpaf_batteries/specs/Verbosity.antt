@@ -66,13 +66,9 @@ abbrev pub CountsDescribe : {T : Type 0} → ParseFlag T → ParseFlag T → Sha
 CountsDescribe more fewer =
     ProductDescribes (BothDescribes (CountShows more) (LastDescribes (CountShows fewer)))
 
--- the level of two counts
-abbrev pub level_of : (offset min max : ℤ) → ℕ × ℕ → ℤ
-level_of offset min max counts = level offset min max counts.0 counts.1
-
--- a number is that level
+-- a number is the level of two counts
 abbrev pub IsLevelOf : (offset min max : ℤ) → ℕ × ℕ → ℤ → Type 0
-IsLevelOf offset min max counts v = v ≡ level_of offset min max counts
+IsLevelOf offset min max counts v = v ≡ level offset min max counts.0 counts.1
 
 -- the level of the keys that were newly taken
 abbrev pub level_taken : {T : Type 0} → ParseFlag T → ParseFlag T → (offset min max : ℤ) → Situation
@@ -99,7 +95,7 @@ last_place items = pos (length items) -ℤ pos 1
 -- the item at the level of two counts, from the first to the last
 abbrev pub PicksItem : {T : Type 0} → (T → T → Type 0) → ℕ → List T → ℕ × ℕ → T → Type 0
 PicksItem clones offset items counts v =
-    IsItemAt clones items (level_of (pos offset) (pos 0) (last_place items) counts) v
+    IsItemAt clones items (level (pos offset) (pos 0) (last_place items) counts.0 counts.1) v
 
 -- the item at the level of the keys that were newly taken
 abbrev pub VerbosityPicks : {K T : Type 0} → ParseFlag K → ParseFlag K → (T → T → Type 0) → ℕ

@@ -2,6 +2,9 @@
 use Rattle.std.specs.Prelude.{◌≡◌, ℕ}
 use Rattle.std.proofs.Common.{⊎_elim}
 use Rattle.bpaf_text.specs.declared.params.ParseFlag.{ParseFlag}
+use Rattle.bpaf_laws.specs.ShownNames.{ShowsNames}
+use Rattle.bpaf_laws.proofs.ShownNames.{both_show, flag_shows, last_shows, many_shows}
+use Rattle.bpaf_laws.proofs.ShownNames.{product_shows}
 use Rattle.bpaf_laws.proofs.FlagLaws.{flag_lawful}
 use Rattle.bpaf_laws.proofs.ProductLaws.{both_lawful, product_lawful}
 use Rattle.bpaf_laws.proofs.RepeatLaws.{count_lawful}
@@ -11,8 +14,8 @@ use Rattle.bpaf_laws.proofs.NamesAnswer.{names_want}
 use Rattle.bpaf_laws.specs.Reading.{Outcome, Readings}
 use Rattle.bpaf_laws.specs.Repeat.{CountOutcome, CountReads}
 use Rattle.bpaf_laws.specs.Transform.{MapReads}
-use Rattle.bpaf_batteries.specs.Keys.{KeyOutcome, KeyReads}
-use Rattle.bpaf_batteries.specs.Verbosity.{CountsOutcome, CountsReads, PickOutcome}
+use Rattle.bpaf_batteries.specs.Keys.{KeyOutcome, KeyReads, shorts_of_both}
+use Rattle.bpaf_batteries.specs.Verbosity.{CountsDescribe, CountsOutcome, CountsReads, PickOutcome}
 
 -- a parser that picks by the value of an inner one keeps to the laws where that does
 pub pick_lawful : {C T : Type 0} {inner : Outcome C} {reads : Readings C} → Lawful C inner reads
@@ -37,3 +40,10 @@ module _ {T : Type 0} (clones : T → T → Type 0) (more fewer : ParseFlag T) w
       (CountsReads clones more fewer)
   counts_lawful = product_lawful (λ counts v. v ≡ counts)
       (both_lawful (count_key_lawful more) (count_key_lawful fewer))
+
+-- they show the short names of both keys
+pub counts_show : {T : Type 0} (more fewer : ParseFlag T)
+    → ShowsNames (CountsDescribe more fewer) (shorts_of_both more fewer)
+counts_show more fewer =
+    product_shows (both_show (many_shows (flag_shows more.named more.absent))
+    (last_shows (many_shows (flag_shows fewer.named fewer.absent))))

@@ -57,10 +57,14 @@ impl Parser<(usize, usize)> for KeyCounts {
     ghost use Rattle.bpaf_batteries.specs.Verbosity.{CountsSpared, KeysAreCounted};
     ghost use Rattle.bpaf_laws.specs.Spared.{IsNotMemory};
     ghost use Rattle.bpaf_batteries.specs.VerbosityLaws.{counts_lawful};
+    ghost use Rattle.bpaf_batteries.specs.Keys.{shorts_of_both};
+    ghost use Rattle.bpaf_batteries.specs.VerbosityLaws.{counts_show};
 
     ghost can_eval = { λ p. Unit {0} };
 
     ghost describes = { λ p. CountsDescribe p.fields.first.inner p.fields.rest.last.inner };
+
+    ghost shorts = { λ p. shorts_of_both p.fields.first.inner p.fields.rest.last.inner };
 
     ghost reads = { λ p.
         CountsReads ⟦<() as Clone>⟧.is_clone p.fields.first.inner p.fields.rest.last.inner };
@@ -90,4 +94,6 @@ impl Parser<(usize, usize)> for KeyCounts {
 
     ghost lawful = { λ p.
         counts_lawful ⟦<() as Clone>⟧.is_clone p.fields.first.inner p.fields.rest.last.inner };
+
+    ghost shows = { λ p. counts_show p.fields.first.inner p.fields.rest.last.inner };
 }

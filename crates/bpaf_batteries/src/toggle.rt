@@ -44,10 +44,14 @@ impl<T: Clone + Drop> Parser<Option<T>> for ToggleFlag<T> {
     ghost use Rattle.bpaf_batteries.specs.Toggle.{ToggleReads, ToggleSpared};
     ghost use Rattle.bpaf_laws.specs.Spared.{IsNotMemory};
     ghost use Rattle.bpaf_batteries.specs.ToggleLaws.{toggle_lawful};
+    ghost use Rattle.bpaf_batteries.specs.Keys.{shorts_of_both};
+    ghost use Rattle.bpaf_batteries.specs.ToggleLaws.{toggle_shows};
 
     ghost can_eval = { λ p. Unit {0} };
 
     ghost describes = { λ p. ToggleDescribes p.toggles.inner.this p.toggles.inner.that };
+
+    ghost shorts = { λ p. shorts_of_both p.toggles.inner.this p.toggles.inner.that };
 
     ghost reads = { λ p. ToggleReads T.is_clone p.toggles.inner.this p.toggles.inner.that };
 
@@ -75,6 +79,8 @@ impl<T: Clone + Drop> Parser<Option<T>> for ToggleFlag<T> {
 
     ghost lawful = { λ p.
         toggle_lawful T.is_clone p.toggles.inner.this p.toggles.inner.that p.toggles.catch };
+
+    ghost shows = { λ p. toggle_shows p.toggles.inner.this p.toggles.inner.that };
 }
 
 /// The last of some values.

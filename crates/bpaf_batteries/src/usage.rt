@@ -1,5 +1,6 @@
 //! The usage text of a parser, without a run.
 ghost use Rattle.std.specs.Prelude.{IfOk, option_map, string_bytes};
+ghost use Rattle.bpaf_core.specs.Known.{known_names};
 ghost use Rattle.bpaf_core.specs.Run.{RunsWords};
 ghost use Rattle.bpaf_batteries.specs.Usage.{TellsText, TellsUsage, help_asked};
 
@@ -19,7 +20,7 @@ pub fn get_usage<T: Drop, P: Parser<T> + Drop>(
 ) -> Result<Option<String>, AllocError>
     requires { P.can_eval options.inner }
     ensures { TellsUsage (RunsWords T (P.outcome options.inner) (P.describes options.inner)
-        options.info help_asked) result }
+        options.info (known_names options.info (P.shorts options.inner)) help_asked) result }
 {
     let words = ["--help"];
     match options.run_once(Args::from(&words)) {

@@ -71,10 +71,15 @@ impl Parser<isize> for VerboseQuiet {
     ghost use Rattle.bpaf_batteries.specs.Verbosity.{CountsSpared, IsLevelOf, VerbosityCounts};
     ghost use Rattle.bpaf_laws.specs.Spared.{IsNotMemory};
     ghost use Rattle.bpaf_batteries.specs.VerbosityLaws.{counts_lawful};
+    ghost use Rattle.bpaf_batteries.specs.Keys.{shorts_of_both};
+    ghost use Rattle.bpaf_batteries.specs.VerbosityLaws.{counts_show};
 
     ghost can_eval = { λ p. Unit {0} };
 
     ghost describes = { λ p. CountsDescribe
+        p.counts.fields.first.inner p.counts.fields.rest.last.inner };
+
+    ghost shorts = { λ p. shorts_of_both
         p.counts.fields.first.inner p.counts.fields.rest.last.inner };
 
     ghost reads = { λ p. MapReads (ℕ × ℕ) ℤ (CountsReads ⟦<() as Clone>⟧.is_clone
@@ -110,6 +115,9 @@ impl Parser<isize> for VerboseQuiet {
     ghost lawful = { λ p. map_lawful (counts_lawful ⟦<() as Clone>⟧.is_clone
         p.counts.fields.first.inner p.counts.fields.rest.last.inner)
         (IsLevelOf p.offset p.min p.max) };
+
+    ghost shows = { λ p. counts_show
+        p.counts.fields.first.inner p.counts.fields.rest.last.inner };
 }
 
 /// A level of verbosity as the item of an array (bpaf's `verbose_by_slice` answers an
@@ -187,10 +195,15 @@ impl<T: Clone + Drop, const N: usize> Parser<T> for VerboseSlice<T, N> {
     ghost use Rattle.bpaf_batteries.specs.Verbosity.{CountsSpared, PickOutcome, VerbosityPicks};
     ghost use Rattle.bpaf_laws.specs.Spared.{IsNotMemory};
     ghost use Rattle.bpaf_batteries.specs.VerbosityLaws.{counts_lawful, pick_lawful};
+    ghost use Rattle.bpaf_batteries.specs.Keys.{shorts_of_both};
+    ghost use Rattle.bpaf_batteries.specs.VerbosityLaws.{counts_show};
 
     ghost can_eval = { λ p. Unit {0} };
 
     ghost describes = { λ p. CountsDescribe
+        p.counts.fields.first.inner p.counts.fields.rest.last.inner };
+
+    ghost shorts = { λ p. shorts_of_both
         p.counts.fields.first.inner p.counts.fields.rest.last.inner };
 
     ghost reads = { λ p. MapReads (ℕ × ℕ) T (CountsReads ⟦<() as Clone>⟧.is_clone
@@ -226,4 +239,7 @@ impl<T: Clone + Drop, const N: usize> Parser<T> for VerboseSlice<T, N> {
     ghost lawful = { λ p. pick_lawful (counts_lawful ⟦<() as Clone>⟧.is_clone
         p.counts.fields.first.inner p.counts.fields.rest.last.inner)
         (PicksItem T.is_clone p.offset p.items) };
+
+    ghost shows = { λ p. counts_show
+        p.counts.fields.first.inner p.counts.fields.rest.last.inner };
 }

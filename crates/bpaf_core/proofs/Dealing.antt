@@ -6,7 +6,8 @@ use mathlib.Core.Path.{fun_ext}
 use Rattle.bpaf_line.specs.declared.failure.ParseFailure.{ParseFailure}
 use Rattle.bpaf_doc.specs.Shape.{Shape}
 use Rattle.bpaf_keys.specs.Info.{RunInfo}
-use Rattle.bpaf_core.specs.Known.{IsLineContext}
+use Rattle.bpaf_words.specs.Spelling.{Known}
+use Rattle.bpaf_line.specs.Constructing.{IsContext}
 use Rattle.bpaf_words.specs.Arguments.{Given}
 use Rattle.bpaf_line.specs.Situation.{Situation, Context, beginning, is_taken, is_open, in_scope}
 use Rattle.bpaf_line.specs.Situation.{is_marker, is_dealt_place, open_count}
@@ -64,12 +65,12 @@ all_newly context t keeps closed none =
     (none_below (is_open t) (length t.context.line) none p (omega arith))))
 
 module _ {T : Type 0} {inner : Outcome T} {reads : Readings T} {describes : Shape → Type 0}
-    {info : RunInfo} (given : Given) (law : Lawful T inner reads) where
+    {info : RunInfo} {known : Known} (given : Given) (law : Lawful T inner reads) where
   -- a value that a run over the words' line answers is dealt out of the words
   dealt_from : (context : Context) (v : T) (t : Situation)
-      → IsLineContext describes info given context
+      → IsContext known given context
       → Runs T inner (EndsRun describes info) (beginning context) (Ok v) t
-      → IsDealtOut T reads describes info given v
+      → IsDealtOut T reads known given v
   dealt_from context v t is_context (value w left answered none) =
       let read = law.ok (beginning context) left w answered in
       record {
@@ -80,12 +81,12 @@ module _ {T : Type 0} {inner : Outcome T} {reads : Readings T} {describes : Shap
       }
 
   -- a value that a run over words answers is dealt out of them
-  pub words_dealt : (v : T) → RunsWords T inner describes info given (Ok v)
-      → IsDealtOut T reads describes info given v
+  pub words_dealt : (v : T) → RunsWords T inner describes info known given (Ok v)
+      → IsDealtOut T reads known given v
   words_dealt v (ran context r t is_context run) = dealt_from context v t is_context run
 
   -- so is each value among its answers
-  pub if_dealt : (r : Result T ParseFailure) → RunsWords T inner describes info given r
-      → IfOk r (λ v. IsDealtOut T reads describes info given v)
+  pub if_dealt : (r : Result T ParseFailure) → RunsWords T inner describes info known given r
+      → IfOk r (λ v. IsDealtOut T reads known given v)
   if_dealt (Ok v) run = words_dealt v run
   if_dealt (Err f) run = tt

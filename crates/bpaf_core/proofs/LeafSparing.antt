@@ -1,5 +1,5 @@
 -- Leaves tell want of memory as nothing else.
-use Rattle.std.specs.Prelude.{◌≡◌, false, ℕ, Option, None, Result, Ok, Err}
+use Rattle.std.specs.Prelude.{◌≡◌, false, Option, None, Result, Ok, Err}
 use Rattle.std.specs.Result.{IfErr}
 use Rattle.std.proofs.Common.{true≢false, sym, ◌∙◌, ap}
 use Rattle.bpaf_line.specs.declared.error.Error.{Error}

@@ -15,6 +15,7 @@ use Rattle.bpaf_laws.specs.Reading.{Outcome, Readings}
 use Rattle.bpaf_laws.specs.RefusalNames as names
 use Rattle.bpaf_laws.specs.RefusalNames.{NamesAnswer, Refusal, refusal_of}
 use Rattle.bpaf_words.specs.Arguments.{Given}
+use Rattle.bpaf_words.specs.Spelling.{Known}
 use Rattle.bpaf_keys.specs.declared.info.ExtraParams.{ExtraParams}
 use Rattle.bpaf_keys.specs.declared.info.ExtraParams.TheVariants as extra
 use Rattle.bpaf_core.specs.Ending as ending
@@ -112,14 +113,14 @@ module _ {T : Type 0} (inner : Outcome T) (describes : Shape → Type 0) (info :
         refused_is_named s e.0 e left f t ran refl (law.named s left e ran) ends
 
     -- a run over words
-    pub words_are_named : (given : Given) (r : Result T ParseFailure)
-        → RunsWords T inner describes info given r
-        → IfErr r (IsOneOfTwelve inner describes info given)
-    words_are_named given (Ok v) runs = tt
-    words_are_named given (Err f) (run.ran context answer t is_context runs) =
+    pub words_are_named : (known : Known) (given : Given) (r : Result T ParseFailure)
+        → RunsWords T inner describes info known given r
+        → IfErr r (IsOneOfTwelve inner describes info known given)
+    words_are_named known given (Ok v) runs = tt
+    words_are_named known given (Err f) (run.ran context answer t is_context runs) =
         let named = run_is_named (beginning context) f t runs in
         name.named context named.0 f is_context named.1
-    words_are_named given (Err f)
-        (run.no_line shape word number context told shown lacks empty named tells) =
-        name.no_line shape word number context f shown lacks empty named tells
-    words_are_named given (Err f) run.no_memory = name.without_memory
+    words_are_named known given (Err f)
+        (run.no_line word number context told lacks empty named tells) =
+        name.no_line word number context f lacks empty named tells
+    words_are_named known given (Err f) run.no_memory = name.without_memory

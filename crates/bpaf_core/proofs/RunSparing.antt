@@ -5,6 +5,7 @@ use Rattle.bpaf_doc.specs.Shape.{Shape}
 use Rattle.bpaf_line.specs.declared.failure.ParseFailure.{ParseFailure}
 use Rattle.bpaf_line.specs.Situation.{beginning}
 use Rattle.bpaf_words.specs.Arguments.{Given}
+use Rattle.bpaf_words.specs.Spelling.{Known}
 use Rattle.bpaf_laws.specs.Reading.{Outcome}
 use Rattle.bpaf_laws.specs.Spared.{WithoutMemory}
 use Rattle.bpaf_keys.specs.Info.{RunInfo}
@@ -14,12 +15,12 @@ use Rattle.bpaf_core.proofs.CommandSparing.{spared_run}
 
 module _ {T : Type 0} (inner : Outcome T) (describes : Shape → Type 0) (info : RunInfo) where
   -- an answer that isn't told as want of memory comes of an inner one that isn't it
-  pub words_spared : (given : Given) (r : Result T ParseFailure)
-      → RunsWords T inner describes info given r → IsNotWant r
-      → RunsWords T (WithoutMemory inner) describes info given r
-  words_spared given r (ran context answer t line run) spared =
+  pub words_spared : (known : Known) (given : Given) (r : Result T ParseFailure)
+      → RunsWords T inner describes info known given r → IsNotWant r
+      → RunsWords T (WithoutMemory inner) describes info known given r
+  words_spared known given r (ran context answer t line run) spared =
       ran context answer t line
       (spared_run (run_ending describes info) (beginning context) answer t run spared)
-  words_spared given r (no_line shape word number context f shows none empty named renders) spared =
-      no_line shape word number context f shows none empty named renders
-  words_spared given r no_memory spared = absurd (true≢false spared)
+  words_spared known given r (no_line word number context f none empty named renders) spared =
+      no_line word number context f none empty named renders
+  words_spared known given r no_memory spared = absurd (true≢false spared)

@@ -12,13 +12,14 @@ use Rattle.bpaf_line.specs.Rendering.{Renders}
 use Rattle.bpaf_line.specs.Situation.{Context, Situation, beginning}
 use Rattle.bpaf_words.specs.Arguments.{Given}
 use Rattle.bpaf_words.specs.Line.{HasNoLine}
+use Rattle.bpaf_words.specs.Spelling.{Known}
+use Rattle.bpaf_line.specs.Constructing.{IsContext}
 use Rattle.bpaf_laws.specs.Reading.{Outcome}
 use Rattle.bpaf_laws.specs.RefusalNames.{HasName, Refusal, help_or_version, no_memory, refusal_of}
 use Rattle.bpaf_keys.specs.declared.info.ExtraParams.{ExtraParams}
 use Rattle.bpaf_keys.specs.Extra.{ExtraOutcome}
 use Rattle.bpaf_core.specs.Ending.{Shows, ShowsHelp, shows_usage}
 use Rattle.bpaf_keys.specs.Info.{RunInfo}
-use Rattle.bpaf_core.specs.Known.{IsLineContext, known_names}
 
 -- a run from a situation on tells a message: the parser refused with it, or left an item of which
 -- it is the message; in the situation that was left
@@ -54,14 +55,14 @@ pub data IsNamed {T : Type 0} (inner : Outcome T) (describes : Shape → Type 0)
 -- a failure of a run over words has one of the twelve names: that of the run from the beginning of
 -- their line, or of what is told where they have no line
 pub data IsOneOfTwelve {T : Type 0} (inner : Outcome T) (describes : Shape → Type 0)
-    (info : RunInfo) (given : Given) : ParseFailure → Type 0 where
+    (info : RunInfo) (known : Known) (given : Given) : ParseFailure → Type 0 where
   named : (context : Context) (name : Refusal) (f : ParseFailure)
-      → IsLineContext describes info given context
+      → IsContext known given context
       → IsNamed inner describes info (beginning context) name f
-      → IsOneOfTwelve inner describes info given f
-  no_line : (shape : Shape) (word : List ℕ) (number : ℕ) (context : Context) (f : ParseFailure)
-      → describes shape → HasNoLine (known_names info shape) given.words word number
+      → IsOneOfTwelve inner describes info known given f
+  no_line : (word : List ℕ) (number : ℕ) (context : Context) (f : ParseFailure)
+      → HasNoLine known given.words word number
       → context.line ≡ [] → context.name ≡ given.name
       → Renders (message.Ambiguity word number) (beginning context) f
-      → IsOneOfTwelve inner describes info given f
-  without_memory : IsOneOfTwelve inner describes info given failure.Memory
+      → IsOneOfTwelve inner describes info known given f
+  without_memory : IsOneOfTwelve inner describes info known given failure.Memory

@@ -7,13 +7,14 @@ use Rattle.bpaf_line.specs.declared.failure.ParseFailure.TheVariants as failure
 use Rattle.bpaf_line.specs.Messages.{is_memory}
 use Rattle.bpaf_words.specs.Arguments.{Given}
 use Rattle.bpaf_words.specs.Line.{HasNoLine}
+use Rattle.bpaf_words.specs.Spelling.{Known}
+use Rattle.bpaf_line.specs.Constructing.{IsContext}
 use Rattle.bpaf_line.specs.Rendering.{Renders}
 use Rattle.bpaf_line.specs.Situation.{Situation, Context, beginning, open_count}
 use Rattle.bpaf_doc.specs.Shape.{Shape}
 use Rattle.bpaf_core.specs.Ending.{Ending, EndsRun}
 use Rattle.bpaf_parts.specs.Failures.{end_message}
 use Rattle.bpaf_keys.specs.Info.{RunInfo}
-use Rattle.bpaf_core.specs.Known.{known_names, IsLineContext}
 use Rattle.bpaf_laws.specs.Reading.{Outcome}
 
 -- a run's answer that isn't told as want of memory
@@ -32,17 +33,17 @@ pub data Runs (T : Type 0) (inner : Outcome T) (ending : Ending) (s : Situation)
   refused : (e : Error) (left : Situation) (f : ParseFailure) (t : Situation)
       → inner s (Err e) left → ending (Some e.0) s left f t → Runs T inner ending s (Err f) t
 
--- a run over words: over their line; or they have none by the names that the parser shows, which is
--- told where nothing is known but the set name; or there is no memory for it
+-- a run over words: over their line by these known short names; or they have none, which is told
+-- where nothing is known but the set name; or there is no memory for it
 pub data RunsWords (T : Type 0) (inner : Outcome T) (describes : Shape → Type 0) (info : RunInfo)
-    (given : Given) : Result T ParseFailure → Type 0 where
+    (known : Known) (given : Given) : Result T ParseFailure → Type 0 where
   ran : (context : Context) (r : Result T ParseFailure) (t : Situation)
-      → IsLineContext describes info given context
+      → IsContext known given context
       → Runs T inner (EndsRun describes info) (beginning context) r t
-      → RunsWords T inner describes info given r
-  no_line : (shape : Shape) (word : List ℕ) (number : ℕ) (context : Context) (f : ParseFailure)
-      → describes shape → HasNoLine (known_names info shape) given.words word number
+      → RunsWords T inner describes info known given r
+  no_line : (word : List ℕ) (number : ℕ) (context : Context) (f : ParseFailure)
+      → HasNoLine known given.words word number
       → context.line ≡ [] → context.name ≡ given.name
       → Renders (message.Ambiguity word number) (beginning context) f
-      → RunsWords T inner describes info given (Err f)
-  no_memory : RunsWords T inner describes info given (Err failure.Memory)
+      → RunsWords T inner describes info known given (Err f)
+  no_memory : RunsWords T inner describes info known given (Err failure.Memory)

@@ -23,10 +23,14 @@ impl<T: FromText> Parser<T> for ParseArgument<T> {
     ghost use Rattle.bpaf_laws.specs.KeyFirst.{KeyBeforeEnvironment};
     ghost use Rattle.std.specs.Result.{IfErr};
     ghost use Rattle.bpaf_core.specs.Leaves.{FaultsTextAlone};
+    ghost use Rattle.bpaf_laws.specs.ShownNames.{of_arguments};
+    ghost use Rattle.bpaf_laws.proofs.ShownNames.{argument_shows};
 
     ghost can_eval = { λ p. Unit {0} };
 
     ghost describes = { λ p shape. shape ≡ argument_shape p };
+
+    ghost shorts = { λ p. of_arguments p.named.names.shorts };
 
     ghost reads = { λ p. ArgumentReads T T.means p };
 
@@ -51,4 +55,6 @@ impl<T: FromText> Parser<T> for ParseArgument<T> {
     }
 
     ghost lawful = { λ p. argument_lawful T T.means p };
+
+    ghost shows = { λ p. argument_shows p };
 }

@@ -19,10 +19,14 @@ impl<T: Drop, A: Parser<T>, B: Parser<T>> Parser<T> for ParseOrElse<A, B> {
     ghost use Rattle.bpaf_laws.specs.Choice.{LeftmostWins};
     ghost use Rattle.bpaf_laws.proofs.ChoiceLaws.{choice_lawful};
     ghost use Rattle.bpaf_laws.specs.Spared.{IsNotMemory, WithoutMemory};
+    ghost use Rattle.bpaf_laws.specs.ShownNames.{joined_shorts};
+    ghost use Rattle.bpaf_laws.proofs.ShownNames.{choice_shows};
 
     ghost can_eval = { λ p. A.can_eval p.this × B.can_eval p.that };
 
     ghost describes = { λ p. ChoiceDescribes (A.describes p.this) (B.describes p.that) };
+
+    ghost shorts = { λ p. joined_shorts (A.shorts p.this) (B.shorts p.that) };
 
     ghost reads = { λ p. ChoiceReads (A.reads p.this) (B.reads p.that) };
 
@@ -69,4 +73,6 @@ impl<T: Drop, A: Parser<T>, B: Parser<T>> Parser<T> for ParseOrElse<A, B> {
     }
 
     ghost lawful = { λ p. choice_lawful (A.lawful p.this) (B.lawful p.that) };
+
+    ghost shows = { λ p. choice_shows (A.shows p.this) (B.shows p.that) };
 }

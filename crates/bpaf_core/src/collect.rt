@@ -56,10 +56,13 @@ impl<T: Drop, C: FromList<T> + Drop, P: Parser<T>> Parser<C> for ParseCollect<P,
     ghost use Rattle.bpaf_laws.specs.Repeat.{ManyDescribes};
     ghost use Rattle.bpaf_laws.proofs.RepeatLaws.{collect_lawful};
     ghost use Rattle.bpaf_laws.specs.Spared.{IsNotMemory, WithoutMemory};
+    ghost use Rattle.bpaf_laws.proofs.ShownNames.{many_shows};
 
     ghost can_eval = { λ p. P.can_eval p.inner };
 
     ghost describes = { λ p. ManyDescribes (P.describes p.inner) };
+
+    ghost shorts = { λ p. P.shorts p.inner };
 
     ghost reads = { λ p. CollectReads (P.reads p.inner) C.fills };
 
@@ -84,4 +87,6 @@ impl<T: Drop, C: FromList<T> + Drop, P: Parser<T>> Parser<C> for ParseCollect<P,
     }
 
     ghost lawful = { λ p. collect_lawful (P.lawful p.inner) p.catch C.fills };
+
+    ghost shows = { λ p. many_shows (P.shows p.inner) };
 }

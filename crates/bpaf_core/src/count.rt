@@ -61,10 +61,13 @@ impl<T: Drop, P: Parser<T>> Parser<usize> for ParseCount<P, T> {
     ghost use Rattle.bpaf_laws.specs.Repeat.{CountOutcome, CountReads, ManyDescribes};
     ghost use Rattle.bpaf_laws.proofs.RepeatLaws.{count_lawful};
     ghost use Rattle.bpaf_laws.specs.Spared.{IsNotMemory, WithoutMemory};
+    ghost use Rattle.bpaf_laws.proofs.ShownNames.{many_shows};
 
     ghost can_eval = { λ p. P.can_eval p.inner };
 
     ghost describes = { λ p. ManyDescribes (P.describes p.inner) };
+
+    ghost shorts = { λ p. P.shorts p.inner };
 
     ghost reads = { λ p. CountReads (P.reads p.inner) };
 
@@ -84,6 +87,8 @@ impl<T: Drop, P: Parser<T>> Parser<usize> for ParseCount<P, T> {
     }
 
     ghost lawful = { λ p. count_lawful (P.lawful p.inner) };
+
+    ghost shows = { λ p. many_shows (P.shows p.inner) };
 }
 
 /// The last inner value (bpaf's `ParseLast`, in `structs.rs`).
@@ -99,10 +104,13 @@ impl<T: Drop, P: Parser<T>> Parser<T> for ParseLast<P> {
     ghost use Rattle.bpaf_laws.specs.Repeat.{LastOutcome, LastReads, SomeDescribes};
     ghost use Rattle.bpaf_laws.proofs.RepeatLaws.{last_lawful};
     ghost use Rattle.bpaf_laws.specs.Spared.{IsNotMemory, WithoutMemory};
+    ghost use Rattle.bpaf_laws.proofs.ShownNames.{some_shows};
 
     ghost can_eval = { λ p. P.can_eval p.inner };
 
     ghost describes = { λ p. SomeDescribes (P.describes p.inner) };
+
+    ghost shorts = { λ p. P.shorts p.inner };
 
     ghost reads = { λ p. LastReads (P.reads p.inner) };
 
@@ -122,4 +130,6 @@ impl<T: Drop, P: Parser<T>> Parser<T> for ParseLast<P> {
     }
 
     ghost lawful = { λ p. last_lawful (P.lawful p.inner) };
+
+    ghost shows = { λ p. some_shows (P.shows p.inner) };
 }

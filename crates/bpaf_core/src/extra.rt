@@ -16,10 +16,14 @@ impl Parser<ExtraParams> for Info {
     ghost use Rattle.bpaf_core.specs.Leaves.{AsksForNeither};
     ghost use Rattle.bpaf_keys.specs.Extra.{ExtraOutcome, ExtraReads, extra_shape};
     ghost use Rattle.bpaf_keys.proofs.ExtraLaws.{extra_lawful};
+    ghost use Rattle.bpaf_keys.specs.Extra.{extra_shorts};
+    ghost use Rattle.bpaf_keys.proofs.ExtraLaws.{extra_shows};
 
     ghost can_eval = { λ info. Unit {0} };
 
     ghost describes = { λ info shape. shape ≡ extra_shape info };
+
+    ghost shorts = { λ info. extra_shorts info.version info.help_arg info.version_arg };
 
     ghost reads = { λ info. ExtraReads info };
 
@@ -39,4 +43,6 @@ impl Parser<ExtraParams> for Info {
     }
 
     ghost lawful = { λ info. extra_lawful info };
+
+    ghost shows = { λ info. extra_shows info };
 }

@@ -108,10 +108,13 @@ impl<T: Clone, P: Parser<T>> Parser<T> for ParseFallback<P, T> {
     ghost use Rattle.bpaf_laws.proofs.DefaultLaws.{fallback_lawful};
     ghost use Rattle.bpaf_laws.proofs.NamesAnswer.{names_want};
     ghost use Rattle.bpaf_laws.specs.Spared.{IsNotMemory, WithoutMemory, DefaultTakesNothing};
+    ghost use Rattle.bpaf_laws.proofs.ShownNames.{default_shows};
 
     ghost can_eval = { λ p. P.can_eval p.inner };
 
     ghost describes = { λ p. DefaultDescribes (P.describes p.inner) p.shown };
+
+    ghost shorts = { λ p. P.shorts p.inner };
 
     ghost reads = { λ p. FallbackReads (P.reads p.inner) (GivesClone T.is_clone p.value) };
 
@@ -141,6 +144,8 @@ impl<T: Clone, P: Parser<T>> Parser<T> for ParseFallback<P, T> {
 
     ghost lawful = { λ p. fallback_lawful (P.lawful p.inner) (GivesClone T.is_clone p.value)
         (λ e. names_want e.0) };
+
+    ghost shows = { λ p. default_shows (P.shows p.inner) p.shown };
 }
 
 /// A closure's value where the inner parser has none (bpaf's `ParseFallbackWith`, in `structs.rs`).
@@ -256,10 +261,13 @@ impl<T, E: Display + Drop, P: Parser<T>, F: Fn() -> Result<T, E>> Parser<T>
     ghost use Rattle.bpaf_laws.specs.Default.{DefaultDescribes};
     ghost use Rattle.bpaf_laws.proofs.DefaultLaws.{fallback_lawful, names_answer};
     ghost use Rattle.bpaf_laws.specs.Spared.{IsNotMemory, WithoutMemory, DefaultTakesNothing};
+    ghost use Rattle.bpaf_laws.proofs.ShownNames.{default_shows};
 
     ghost can_eval = { λ p. P.can_eval p.inner × F.IsAlwaysCallable p.fallback };
 
     ghost describes = { λ p. DefaultDescribes (P.describes p.inner) p.shown };
+
+    ghost shorts = { λ p. P.shorts p.inner };
 
     ghost reads = { λ p.
         FallbackReads (P.reads p.inner) (GivesAnswer (λ r. F.post p.fallback r) E.output) };
@@ -293,4 +301,6 @@ impl<T, E: Display + Drop, P: Parser<T>, F: Fn() -> Result<T, E>> Parser<T>
     ghost lawful = { λ p.
         fallback_lawful (P.lawful p.inner) (GivesAnswer (λ r. F.post p.fallback r) E.output)
         (names_answer (λ r. F.post p.fallback r) E.output) };
+
+    ghost shows = { λ p. default_shows (P.shows p.inner) p.shown };
 }

@@ -18,10 +18,14 @@ impl<T: Clone> Parser<T> for ParseFlag<T> {
     ghost use Rattle.bpaf_core.specs.Leaves.{ClonesNothing};
     ghost use Rattle.bpaf_laws.specs.Flag.{FlagOutcome, FlagReads, flag_shape};
     ghost use Rattle.bpaf_laws.proofs.FlagLaws.{flag_lawful};
+    ghost use Rattle.bpaf_laws.specs.ShownNames.{of_flags};
+    ghost use Rattle.bpaf_laws.proofs.ShownNames.{flag_shows};
 
     ghost can_eval = { λ p. Unit {0} };
 
     ghost describes = { λ p shape. shape ≡ flag_shape p.named p.absent };
+
+    ghost shorts = { λ p. of_flags p.named.names.shorts };
 
     ghost reads = { λ p. FlagReads T T.is_clone p.named p.present p.absent };
 
@@ -57,4 +61,6 @@ impl<T: Clone> Parser<T> for ParseFlag<T> {
     }
 
     ghost lawful = { λ p. flag_lawful T T.is_clone p.named p.present p.absent };
+
+    ghost shows = { λ p. flag_shows p.named p.absent };
 }

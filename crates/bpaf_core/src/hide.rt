@@ -13,15 +13,19 @@ pub struct ParseHide<P> {
 
 /// The inner answer, with the state that it left; but a refusal with Missing names no item.
 impl<T, P: Parser<T>> Parser<T> for ParseHide<P> {
-    ghost use Rattle.std.specs.Prelude.{◌≡◌};
+    ghost use Rattle.std.specs.Prelude.{◌≡◌, refl};
     ghost use Rattle.bpaf_doc.specs.Shape.{Skip};
     ghost use Rattle.bpaf_laws.specs.Hide.{HideOutcome};
     ghost use Rattle.bpaf_laws.specs.Spared.{IsNotMemory, WithoutMemory};
     ghost use Rattle.bpaf_laws.proofs.HideLaws.{hide_lawful};
+    ghost use Rattle.bpaf_laws.specs.ShownNames.{no_shorts};
+    ghost use Rattle.bpaf_laws.proofs.ShownNames.{one_shape};
 
     ghost can_eval = { λ p. P.can_eval p.inner };
 
     ghost describes = { λ p shape. shape ≡ Skip };
+
+    ghost shorts = { λ p. no_shorts };
 
     ghost reads = { λ p. P.reads p.inner };
 
@@ -44,4 +48,6 @@ impl<T, P: Parser<T>> Parser<T> for ParseHide<P> {
     }
 
     ghost lawful = { λ p. hide_lawful (P.lawful p.inner) };
+
+    ghost shows = { λ p. one_shape refl };
 }

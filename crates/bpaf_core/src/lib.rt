@@ -6,10 +6,12 @@
 //! - [`Parser`] is the trait of every parser. By its ghost members an implementation says what it
 //!   means: `reads`, which values may be read off which places of a line; `outcome`, what one
 //!   evaluation may answer in a situation and which situation it leaves; `describes`, what it may
-//!   show of itself. Its law `lawful` ties the outcome to the readings: the newly taken places with
-//!   the value are a reading, each taken place lay present in the scope, and so on; and what a run
-//!   inside ended with, handed on as a refusal, has one of twelve names (specs/Laws.antt). Every
-//!   implementation proves it, from the laws of its inner parsers alone.
+//!   show of itself; `shorts`, which short names of keys it shows. Its law `lawful` ties the outcome
+//!   to the readings: the newly taken places with the value are a reading, each taken place lay
+//!   present in the scope, and so on; and what a run inside ended with, handed on as a refusal, has
+//!   one of twelve names (specs/Laws.antt). Its law `shows` ties what it may show to the short names
+//!   (specs/ShownNames.antt). Every implementation proves them, from the laws of its inner parsers
+//!   alone.
 //! - [`bpaf_text::ParseFlag`] and [`bpaf_text::ParseArgument`] are the first parsers. Where their
 //!   key isn't on the line, the first of their names in the environment that is set counts
 //!   (specs/Environment.antt).

@@ -75,10 +75,13 @@ impl<T: Drop, P: Parser<T>> Parser<Option<T>> for ParseOptional<P> {
     ghost use Rattle.bpaf_laws.specs.Default.{OptionalReads, OptionalDescribes};
     ghost use Rattle.bpaf_laws.specs.Spared.{IsNotMemory, WithoutMemory, NoneTakesNothing};
     ghost use Rattle.bpaf_laws.proofs.DefaultLaws.{optional_lawful};
+    ghost use Rattle.bpaf_laws.proofs.ShownNames.{optional_shows};
 
     ghost can_eval = { λ p. P.can_eval p.inner };
 
     ghost describes = { λ p. OptionalDescribes (P.describes p.inner) };
+
+    ghost shorts = { λ p. P.shorts p.inner };
 
     ghost reads = { λ p. OptionalReads (P.reads p.inner) };
 
@@ -101,4 +104,6 @@ impl<T: Drop, P: Parser<T>> Parser<Option<T>> for ParseOptional<P> {
     }
 
     ghost lawful = { λ p. optional_lawful (P.lawful p.inner) p.catch };
+
+    ghost shows = { λ p. optional_shows (P.shows p.inner) };
 }

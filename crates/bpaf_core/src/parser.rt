@@ -5,6 +5,7 @@ ghost use Rattle.bpaf_doc.specs.Shape.{shape_of};
 ghost use Rattle.bpaf_words.specs.Arguments.{given_of};
 ghost use Rattle.bpaf_laws.specs.Spared.{WithoutMemory};
 ghost use Rattle.bpaf_keys.specs.Info.{plain_info};
+ghost use Rattle.bpaf_keys.specs.KnownNames.{known_names};
 ghost use Rattle.bpaf_core.specs.Dealt.{IsDealtOut};
 ghost use Rattle.bpaf_core.specs.Refusals.{IsOneOfTwelve};
 ghost use Rattle.bpaf_core.specs.Run.{IsNotWant, RunsWords};
@@ -33,6 +34,8 @@ pub trait Parser<T>: Sized {
     ghost use Rattle.bpaf_doc.specs.Shape.{Shape};
     ghost use Rattle.bpaf_laws.specs.Reading.{Outcome, Readings};
     ghost use Rattle.bpaf_laws.specs.Laws.{Lawful};
+    ghost use Rattle.bpaf_laws.specs.ShownNames.{ShowsNames};
+    ghost use Rattle.bpaf_words.specs.Spelling.{ShortNames};
 
     /// Whether it may be evaluated: its closures may be called on every value. `eval`, `meta` and a
     /// run ask for it; the combinators below don't, so a function that only joins parsers needs
@@ -41,6 +44,9 @@ pub trait Parser<T>: Sized {
 
     /// What it may show of itself.
     ghost describes: { Self → Shape → Type 0 };
+
+    /// The short names of the flags and arguments that it shows, by which joined letters are read.
+    ghost shorts: { Self → ShortNames };
 
     /// Which values may be read off which places of a line.
     ghost reads: { Self → Readings T };
@@ -385,18 +391,21 @@ pub trait Parser<T>: Sized {
         Self: Drop,
         requires { can_eval self }
         ensures outcome { RunsWords T (outcome self) (describes self) plain_info
-            (given_of args.entry) result }
+            (known_names plain_info (shorts self)) (given_of args.entry) result }
         ensures named { IfErr result (IsOneOfTwelve (outcome self) (describes self) plain_info
-            (given_of args.entry)) }
-        ensures dealt { IfOk result (λ v. IsDealtOut T (reads self) (describes self) plain_info
-            (given_of args.entry) v) }
+            (known_names plain_info (shorts self)) (given_of args.entry)) }
+        ensures dealt { IfOk result (λ v. IsDealtOut T (reads self)
+            (known_names plain_info (shorts self)) (given_of args.entry) v) }
         ensures memory_is_never_caught { IsNotWant result →
             RunsWords T (WithoutMemory (outcome self)) (describes self) plain_info
-            (given_of args.entry) result }
+            (known_names plain_info (shorts self)) (given_of args.entry) result }
     {
         self.to_options(alloc)?.run_once(args)
     }
 
     /// What each implementation keeps to, whatever it parses.
     ghost lawful: { (p : Self) → Lawful T (outcome p) (reads p) };
+
+    /// Whichever shape it shows, these are its short names.
+    ghost shows: { (p : Self) → ShowsNames (describes p) (shorts p) };
 }

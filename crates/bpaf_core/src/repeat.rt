@@ -64,10 +64,13 @@ impl<T: Drop, P: Parser<T>> Parser<Vec<T>> for ParseMany<P> {
     ghost use Rattle.bpaf_laws.specs.Repeat.{ManyOutcome, ManyReads, ManyDescribes, IsBounded};
     ghost use Rattle.bpaf_laws.proofs.RepeatLaws.{many_lawful};
     ghost use Rattle.bpaf_laws.specs.Spared.{IsNotMemory, WithoutMemory};
+    ghost use Rattle.bpaf_laws.proofs.ShownNames.{many_shows};
 
     ghost can_eval = { λ p. P.can_eval p.inner };
 
     ghost describes = { λ p. ManyDescribes (P.describes p.inner) };
+
+    ghost shorts = { λ p. P.shorts p.inner };
 
     ghost reads = { λ p. ManyReads (P.reads p.inner) };
 
@@ -91,6 +94,8 @@ impl<T: Drop, P: Parser<T>> Parser<Vec<T>> for ParseMany<P> {
     }
 
     ghost lawful = { λ p. many_lawful (P.lawful p.inner) p.catch };
+
+    ghost shows = { λ p. many_shows (P.shows p.inner) };
 }
 
 /// The values of turns, until one stops; without a value it refuses with ParseSome and the message.
@@ -141,10 +146,13 @@ impl<'m, T: Drop, P: Parser<T>> Parser<Vec<T>> for ParseSome<'m, P> {
     ghost use Rattle.bpaf_laws.specs.Repeat.{SomeOutcome, SomeReads, SomeDescribes, IsBounded};
     ghost use Rattle.bpaf_laws.proofs.RepeatLaws.{some_lawful};
     ghost use Rattle.bpaf_laws.specs.Spared.{IsNotMemory, WithoutMemory};
+    ghost use Rattle.bpaf_laws.proofs.ShownNames.{some_shows};
 
     ghost can_eval = { λ p. P.can_eval p.inner };
 
     ghost describes = { λ p. SomeDescribes (P.describes p.inner) };
+
+    ghost shorts = { λ p. P.shorts p.inner };
 
     ghost reads = { λ p. SomeReads (P.reads p.inner) };
 
@@ -169,4 +177,6 @@ impl<'m, T: Drop, P: Parser<T>> Parser<Vec<T>> for ParseSome<'m, P> {
     }
 
     ghost lawful = { λ p. some_lawful (P.lawful p.inner) p.catch p.message.now };
+
+    ghost shows = { λ p. some_shows (P.shows p.inner) };
 }

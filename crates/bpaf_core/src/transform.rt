@@ -26,6 +26,8 @@ impl<T, R, P: Parser<T>, F: Fn(T) -> R> Parser<R> for ParseMap<T, P, F, R> {
 
     ghost describes = { λ p. P.describes p.inner };
 
+    ghost shorts = { λ p. P.shorts p.inner };
+
     ghost reads = { λ p. MapReads T R (P.reads p.inner) (λ x y. F.post p.map_fn x y) };
 
     ghost outcome = { λ p. MapOutcome (P.outcome p.inner) (λ x y. F.post p.map_fn x y) };
@@ -49,6 +51,8 @@ impl<T, R, P: Parser<T>, F: Fn(T) -> R> Parser<R> for ParseMap<T, P, F, R> {
     }
 
     ghost lawful = { λ p. map_lawful (P.lawful p.inner) (λ x y. F.post p.map_fn x y) };
+
+    ghost shows = { λ p. P.shows p.inner };
 }
 
 /// A closure's value on the inner value, or its fault (bpaf's `ParseWith`, in `structs.rs`).
@@ -73,6 +77,8 @@ impl<T, R, E: Display + Drop, P: Parser<T>, F: Fn(T) -> Result<R, E>> Parser<R>
     ghost can_eval = { λ p. P.can_eval p.inner × F.IsAlwaysCallable p.parse_fn };
 
     ghost describes = { λ p. P.describes p.inner };
+
+    ghost shorts = { λ p. P.shorts p.inner };
 
     ghost reads = { λ p. MapReads T R (P.reads p.inner) (λ x y. F.post p.parse_fn x (Ok y)) };
 
@@ -105,6 +111,8 @@ impl<T, R, E: Display + Drop, P: Parser<T>, F: Fn(T) -> Result<R, E>> Parser<R>
     }
 
     ghost lawful = { λ p. parse_lawful (P.lawful p.inner) (λ x y. F.post p.parse_fn x y) E.output };
+
+    ghost shows = { λ p. P.shows p.inner };
 }
 
 /// The inner value, where a check is true of it (bpaf's `ParseGuard`, in `structs.rs`).
@@ -127,6 +135,8 @@ impl<'m, T: Drop, P: Parser<T>, F: Fn(&T) -> bool> Parser<T> for ParseGuard<'m, 
     ghost can_eval = { λ p. P.can_eval p.inner × F.IsAlwaysCallable p.check };
 
     ghost describes = { λ p. P.describes p.inner };
+
+    ghost shorts = { λ p. P.shorts p.inner };
 
     ghost reads = { λ p. GuardReads (P.reads p.inner) (FnReturnsAt F.Fn p.check) };
 
@@ -158,4 +168,6 @@ impl<'m, T: Drop, P: Parser<T>, F: Fn(&T) -> bool> Parser<T> for ParseGuard<'m, 
 
     ghost lawful = { λ p.
         guard_lawful (P.lawful p.inner) (FnReturnsAt F.Fn p.check) p.message.now };
+
+    ghost shows = { λ p. P.shows p.inner };
 }

@@ -16,10 +16,13 @@ pub struct ParseUsage<P> {
 impl<T, P: Parser<T>> Parser<T> for ParseUsage<P> {
     ghost use Rattle.bpaf_laws.specs.Hide.{UsageDescribes};
     ghost use Rattle.bpaf_laws.specs.Spared.{IsNotMemory, WithoutMemory};
+    ghost use Rattle.bpaf_laws.proofs.ShownNames.{usage_shows};
 
     ghost can_eval = { λ p. P.can_eval p.inner };
 
     ghost describes = { λ p. UsageDescribes (P.describes p.inner) p.usage };
+
+    ghost shorts = { λ p. P.shorts p.inner };
 
     ghost reads = { λ p. P.reads p.inner };
 
@@ -41,6 +44,8 @@ impl<T, P: Parser<T>> Parser<T> for ParseUsage<P> {
     }
 
     ghost lawful = { λ p. P.lawful p.inner };
+
+    ghost shows = { λ p. usage_shows (P.shows p.inner) p.usage };
 }
 
 /// A parser that is shown in a section of its own (bpaf's `ParseGroupHelp`, in `structs.rs`).
@@ -55,10 +60,13 @@ pub struct ParseGroupHelp<P> {
 impl<T, P: Parser<T>> Parser<T> for ParseGroupHelp<P> {
     ghost use Rattle.bpaf_laws.specs.Hide.{SectionDescribes};
     ghost use Rattle.bpaf_laws.specs.Spared.{IsNotMemory, WithoutMemory};
+    ghost use Rattle.bpaf_laws.proofs.ShownNames.{section_shows};
 
     ghost can_eval = { λ p. P.can_eval p.inner };
 
     ghost describes = { λ p. SectionDescribes (P.describes p.inner) p.message };
+
+    ghost shorts = { λ p. P.shorts p.inner };
 
     ghost reads = { λ p. P.reads p.inner };
 
@@ -79,6 +87,8 @@ impl<T, P: Parser<T>> Parser<T> for ParseGroupHelp<P> {
     }
 
     ghost lawful = { λ p. P.lawful p.inner };
+
+    ghost shows = { λ p. section_shows (P.shows p.inner) p.message };
 }
 
 /// A parser that is shown in a section of its own, below what a closure answers on what is shown
@@ -94,11 +104,14 @@ impl<T, P: Parser<T>, F: Fn(MetaInfo<'_>) -> Result<Doc, AllocError>> Parser<T>
     for ParseWithGroupHelp<P, F> {
     ghost use Rattle.bpaf_laws.specs.Hide.{TitledDescribes};
     ghost use Rattle.bpaf_laws.specs.Spared.{IsNotMemory, WithoutMemory};
+    ghost use Rattle.bpaf_laws.proofs.ShownNames.{titled_shows};
 
     ghost can_eval = { λ p. P.can_eval p.inner × F.IsAlwaysCallable p.f };
 
     ghost describes = { λ p.
         TitledDescribes (P.describes p.inner) (λ info title. F.post p.f info title) };
+
+    ghost shorts = { λ p. P.shorts p.inner };
 
     ghost reads = { λ p. P.reads p.inner };
 
@@ -121,4 +134,7 @@ impl<T, P: Parser<T>, F: Fn(MetaInfo<'_>) -> Result<Doc, AllocError>> Parser<T>
     }
 
     ghost lawful = { λ p. P.lawful p.inner };
+
+    ghost shows = { λ p. titled_shows (P.shows p.inner)
+        (λ info title. F.post p.f info title) };
 }

@@ -10,9 +10,9 @@ use Rattle.bpaf_laws.specs.Argument.{ArgumentReads}
 use Rattle.bpaf_laws.specs.Product.{BothReads, ProductReads}
 use Rattle.bpaf_laws.specs.Reading.{Readings}
 use Rattle.bpaf_laws.specs.Repeat.{ManyReads}
+use Rattle.bpaf.specs.Dealt.{IsDealtOut}
 use Rattle.bpaf.specs.declared.leaves.positional.Position.TheVariants.{Unrestricted}
 use Rattle.bpaf.specs.Positional.{PositionalReads}
-use Rattle.bpaf_program.specs.Dealt.{IsDealtBy}
 use Rattle.bpaf_program.specs.Fields.{SwitchReads}
 use Rattle.bpaf_program.specs.Values.{MeansText, String}
 use Rattle.bpaf_demo.specs.declared.options.Options.{Options}
@@ -66,4 +66,4 @@ OptionsReads =
 -- all places of the words' line but the first `--` are dealt out to the switch, the number and the
 -- files, each used once
 abbrev pub IsDealtOptions : List (List ℕ) → Options → Type 0
-IsDealtOptions words = IsDealtBy program_known (program_given words) OptionsReads
+IsDealtOptions words = IsDealtOut Options OptionsReads program_known (program_given words)

@@ -11,7 +11,7 @@ use Rattle.bpaf.specs.Asked.{IfShown, WasAsked}
 use Rattle.bpaf.specs.declared.leaves.positional.Position.TheVariants.{Unrestricted}
 use Rattle.bpaf.specs.Positional.{positional_shape}
 use Rattle.bpaf_program.specs.Fields.{switch_shape}
-use Rattle.bpaf_demo.specs.Record.{number_key, program_given, verbose_names}
+use Rattle.bpaf_demo.specs.Record.{number_key, program_given, program_known, verbose_names}
 
 -- the number with its help
 abbrev pub number_shown : List Piece → KeyWithValue
@@ -37,7 +37,8 @@ pub record IsProgramShape (shape : Shape) : Type 0 where
 
 -- the words ask for help, and this is the help page of the program
 abbrev pub IsHelpAsked : List (List ℕ) → List Piece → Bool → Type 0
-IsHelpAsked words doc full = WasAsked IsProgramShape plain_info (program_given words) doc full
+IsHelpAsked words doc full =
+    WasAsked IsProgramShape plain_info program_known (program_given words) doc full
 
 -- what is shown in place of options is help that the words ask for
 abbrev pub ShowsHelpAsked : List (List ℕ) → ParseFailure → Type 0

@@ -1,6 +1,7 @@
 -- What parsers answer, by their tables, is what the laws of flat fields speak of.
 use Rattle.std.proofs.Common.{◌≡◌, ℕ, Bool, true, false, List, [], Option, Some, None, Result, Ok}
 use Rattle.std.proofs.Common.{Err, refl, sym, ap, ◌∙◌, subst, inl, inr, ◌⊎◌, ⊎_elim, true≢false}
+use Rattle.std.proofs.Common.{length, not}
 use Rattle.std.specs.Global.{Vec}
 use Rattle.bpaf_doc.specs.Names.{Names}
 use Rattle.bpaf_line.specs.{declared.error.Error.Error, Messages.can_catch}
@@ -14,17 +15,17 @@ use Rattle.bpaf_laws.specs.{Transform.MapOutcome, Transform.ParseOutcome, Transf
 use Rattle.bpaf_exact.specs.Flat.{OfMemory, Caught, Refused, class, class_of, Variables, ErrorClass}
 use Rattle.bpaf_exact.specs.Single.{CanCatch, RepeatOutcome, catch_missing, catch_other}
 use Rattle.bpaf_exact.specs.Wrappers.{Closure, Decides, map_closure, parse_closure, guard_closure}
-use Rattle.bpaf_exact.specs.Wrappers.{answer_closure, kept_closure, ClosedEval, closed_yes}
+use Rattle.bpaf_exact.specs.Wrappers.{answer_closure, ClosedEval, closed_yes}
 use Rattle.bpaf_exact.specs.Wrappers.{closed_no, closed_memory, closed_err, OptionalEval}
 use Rattle.bpaf_exact.specs.Wrappers.{optional_some, optional_none, optional_err, optional_memory}
 use Rattle.bpaf_exact.specs.Wrappers.{FallbackEval, fallback_ok, fallback_given, fallback_no}
-use Rattle.bpaf_exact.specs.Gathered.{list_closure, some_closure, count_closure, collect_closure}
+use Rattle.bpaf_exact.specs.Gathered.{list_closure, some_closure}
 use Rattle.bpaf_exact.specs.FlatForm.{FlatForm, FormLaw, flat_repeat, flat_last, flat_fallback}
 use Rattle.bpaf_exact.specs.ProgramForm.{ProgramForm, plain, commands, ProgramFormLaw}
 use Rattle.bpaf_exact.specs.ProgramForm.{ProgramAgrees, program_closed, program_dressed}
-use Rattle.bpaf_exact.specs.ProgramForm.{program_fallback, program_last, program_optional}
-use Rattle.bpaf_exact.specs.{Wrappers.fallback_memory, Wrappers.fallback_err, FlatForm.unless}
-use Rattle.bpaf_exact.specs.{FlatForm.Agrees, FlatForm.flat_closed, ProgramForm.program_repeat}
+use Rattle.bpaf_exact.specs.ProgramForm.{flat_only, program_optional}
+use Rattle.bpaf_exact.specs.{Wrappers.fallback_memory, Wrappers.fallback_err, FlatForm.only_if}
+use Rattle.bpaf_exact.specs.{FlatForm.Agrees, FlatForm.flat_closed}
 use Rattle.bpaf_exact.proofs.Classes.{memory_class, caught_class, kept_class, stops_at, goes_on}
 use Rattle.bpaf_exact.proofs.ProgramForm.{flat_only_law, narrower_program_form, program_closed_law}
 use Rattle.bpaf_exact.proofs.ProgramForm.{program_dressed_law, program_never_refuses}
@@ -145,13 +146,14 @@ listed_law : (env : Variables) {T B : Type 0} (inner : Outcome T) (idle catch : 
     → AllowsNoMore B (ClosedEval (List T) B (RepeatOutcome inner idle) f c) (outcome false) →
     (names : List Names) → ((s : FlatForm T) → FormLaw env inner names s → Agrees f (flat_repeat s))
     → (words : List (List ℕ)) (s : ProgramForm T) → ProgramFormLaw env inner names words s
-    → ProgramFormLaw env (outcome catch) names [] (program_repeat catch f s)
+    → ProgramFormLaw env (outcome catch) names []
+    (flat_only (λ s. only_if (not catch) (flat_closed f (flat_repeat s))) s)
 listed_law env {T} {B} inner idle catch f c outcome within names agrees words =
     flat_only_law env inner (outcome catch) names words []
-    (λ s. unless catch (flat_closed f (flat_repeat s))) (by_catch catch)
+    (λ s. only_if (not catch) (flat_closed f (flat_repeat s))) (by_catch catch)
   where
     by_catch : (catch : Bool) (s : FlatForm T) → FormLaw env inner names s
-        → FormLaw env (outcome catch) names (unless catch (flat_closed f (flat_repeat s)))
+        → FormLaw env (outcome catch) names (only_if (not catch) (flat_closed f (flat_repeat s)))
     by_catch true s l = tt
     by_catch false s l =
         narrower_form env B _ _ within names _
@@ -172,7 +174,7 @@ many_within T inner = no_more by_answer
 pub many_law : (env : Variables) (T : Type 0) (inner : Outcome T) (catch : Bool)
     (names : List Names) (words : List (List ℕ)) (s : ProgramForm T)
     → ProgramFormLaw env inner names words s → ProgramFormLaw env (ManyOutcome inner catch) names []
-    (program_repeat catch (list_closure T) s)
+    (flat_only (λ s. only_if (not catch) (flat_closed (list_closure T) (flat_repeat s))) s)
 many_law env T inner catch names words =
     listed_law env inner false catch (list_closure T) Refused (ManyOutcome inner)
     (many_within T inner) names
@@ -201,19 +203,19 @@ pub some_law : (env : Variables) (T : Type 0) (inner : Outcome T) (catch : Bool)
     (message : List ℕ) (names : List Names) (words : List (List ℕ)) (s : ProgramForm T)
     → ProgramFormLaw env inner names words s
     → ProgramFormLaw env (SomeOutcome inner catch message) names []
-    (program_repeat catch (some_closure T) s)
+    (flat_only (λ s. only_if (not catch) (flat_closed (some_closure T) (flat_repeat s))) s)
 some_law env T inner catch message names words =
     listed_law env inner false catch (some_closure T) Caught (λ c. SomeOutcome inner c message)
     (some_within T inner message) names (some_agrees env T inner names) words
 
 -- collect
 collect_within : (T C : Type 0) (inner : Outcome T) (fills : List T → C → Type 0) → AllowsNoMore C
-    (ClosedEval (List T) C (RepeatOutcome inner false) (collect_closure fills) Refused)
+    (ClosedEval (List T) C (RepeatOutcome inner false) (map_closure fills) Refused)
     (CollectOutcome inner false fills)
 collect_within T C inner fills = no_more by_answer
   where
     by_answer : (s t : Situation) (r : Result C Error) → CollectOutcome inner false fills s r t
-        → ClosedEval (List T) C (RepeatOutcome inner false) (collect_closure fills) Refused s r t
+        → ClosedEval (List T) C (RepeatOutcome inner false) (map_closure fills) Refused s r t
     by_answer s t (Ok v) o = closed_yes o.1 o.2
     by_answer s t (Err e) (inl o) = closed_err o
     by_answer s t (Err e) (inr o) = closed_memory o.1 (memory_class e.0 o.2)
@@ -223,36 +225,40 @@ pub collect_law : (env : Variables) (T C : Type 0) (inner : Outcome T) (catch : 
     (fills : List T → C → Type 0) (names : List Names) (words : List (List ℕ))
     (s : ProgramForm T) → ProgramFormLaw env inner names words s
     → ProgramFormLaw env (CollectOutcome inner catch fills) names []
-    (program_repeat catch (collect_closure fills) s)
+    (flat_only (λ s. only_if (not catch) (flat_closed (map_closure fills) (flat_repeat s))) s)
 collect_law env T C inner catch fills names words =
-    listed_law env inner false catch (collect_closure fills) Refused
+    listed_law env inner false catch (map_closure fills) Refused
     (λ c. CollectOutcome inner c fills) (collect_within T C inner fills) names
-    (λ s l. never_refuses (List T) C (collect_closure fills) (λ x n. n) (flat_repeat s)) words
+    (λ s l. never_refuses (List T) C (map_closure fills) (λ x n. n) (flat_repeat s)) words
 
 -- count
 count_within : (T : Type 0) (inner : Outcome T)
-    → AllowsNoMore ℕ (ClosedEval (List T) ℕ (RepeatOutcome inner true) (count_closure T) Refused)
+    → AllowsNoMore ℕ (ClosedEval (List T) ℕ (RepeatOutcome inner true)
+    (map_closure (λ vs n. n ≡ length vs)) Refused)
     (CountOutcome inner)
 count_within T inner = no_more by_answer
   where
     by_answer : (s t : Situation) (r : Result ℕ Error) → CountOutcome inner s r t
-        → ClosedEval (List T) ℕ (RepeatOutcome inner true) (count_closure T) Refused s r t
+        → ClosedEval (List T) ℕ (RepeatOutcome inner true)
+        (map_closure (λ vs n. n ≡ length vs)) Refused s r t
     by_answer s t (Ok n) o = closed_yes o.1 o.2
     by_answer s t (Err e) o = closed_err o
 
 -- keeps to the laws of its form
 pub count_law : (env : Variables) (T : Type 0) (inner : Outcome T) (names : List Names)
     (words : List (List ℕ)) (s : ProgramForm T) → ProgramFormLaw env inner names words s
-    → ProgramFormLaw env (CountOutcome inner) names [] (program_repeat false (count_closure T) s)
+    → ProgramFormLaw env (CountOutcome inner) names []
+    (flat_only (λ s. flat_closed (map_closure (λ vs n. n ≡ length vs)) (flat_repeat s)) s)
 count_law env T inner names words =
-    listed_law env inner true false (count_closure T) Refused (λ c. CountOutcome inner)
-    (count_within T inner) names
-    (λ s l. never_refuses (List T) ℕ (count_closure T) (λ x n. n) (flat_repeat s)) words
+    listed_law env inner true false (map_closure (λ vs n. n ≡ length vs)) Refused
+    (λ c. CountOutcome inner) (count_within T inner) names
+    (λ s l. never_refuses (List T) ℕ (map_closure (λ vs n. n ≡ length vs)) (λ x n. n)
+    (flat_repeat s)) words
 
 -- last keeps to the laws of its form
 pub last_law : (env : Variables) (T : Type 0) (inner : Outcome T) (names : List Names)
     (words : List (List ℕ)) (s : ProgramForm T) → ProgramFormLaw env inner names words s
-    → ProgramFormLaw env (LastOutcome inner) names [] (program_last s)
+    → ProgramFormLaw env (LastOutcome inner) names [] (flat_only (λ s. flat_last s) s)
 last_law env T inner names words s l =
     flat_only_law env inner (LastOutcome inner) names words [] (λ s. flat_last s)
     (λ s. flat_last_law env T inner names s) s l
@@ -297,14 +303,14 @@ pub fallback_law : (env : Variables) (T : Type 0) (inner : Outcome T) (clones : 
     (kept : T) (names : List Names) (words : List (List ℕ)) (s : ProgramForm T)
     → ProgramFormLaw env inner names words s
     → ProgramFormLaw env (FallbackOutcome inner (GivesClone clones kept)) names []
-    (program_fallback (kept_closure (clones kept)) s)
+    (flat_only (λ s. flat_fallback (map_closure (λ u. clones kept)) s) s)
 fallback_law env T inner clones kept names words =
     flat_only_law env inner (FallbackOutcome inner (GivesClone clones kept)) names words []
-    (λ s. flat_fallback (kept_closure (clones kept)) s)
+    (λ s. flat_fallback (map_closure (λ u. clones kept)) s)
     (λ s l. narrower_form env T _ _
-    (fallback_within T inner (GivesClone clones kept) (kept_closure (clones kept))
+    (fallback_within T inner (GivesClone clones kept) (map_closure (λ u. clones kept))
     (record { yes = λ v g. g; no = λ e g. inl (memory_class e.0 g) })) names _
-    (flat_fallback_law env T inner (kept_closure (clones kept)) (λ u v y n. n) names s l))
+    (flat_fallback_law env T inner (map_closure (λ u. clones kept)) (λ u v y n. n) names s l))
 
 -- a closure's value
 pub fallback_with_law : (env : Variables) (T E : Type 0) (inner : Outcome T)
@@ -312,7 +318,7 @@ pub fallback_with_law : (env : Variables) (T E : Type 0) (inner : Outcome T)
     (words : List (List ℕ)) (s : ProgramForm T) → Decides (answer_closure answers)
     → ProgramFormLaw env inner names words s
     → ProgramFormLaw env (FallbackOutcome inner (GivesAnswer answers shown)) names []
-    (program_fallback (answer_closure answers) s)
+    (flat_only (λ s. flat_fallback (answer_closure answers) s) s)
 fallback_with_law env T E inner answers shown names words s decides =
     flat_only_law env inner (FallbackOutcome inner (GivesAnswer answers shown)) names words []
     (λ s. flat_fallback (answer_closure answers) s)

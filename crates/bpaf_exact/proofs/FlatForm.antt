@@ -12,7 +12,8 @@ use Rattle.bpaf_exact.specs.FlatForm.{FormLaw, Agrees, only_if, flat_closed, fla
 use Rattle.bpaf_exact.specs.FlatForm.{alternative_only, flat_repeat, flat_last, flat_optional}
 use Rattle.bpaf_exact.specs.FlatForm.{flat_fallback, flat_field, may_follow, flat_both, flat_alone}
 use Rattle.bpaf_exact.specs.FlatForm.{flat_con, flat_record, NamedLaw, is_named, is_record}
-use Rattle.bpaf_exact.specs.FlatForm.{made_reading, product_reading, product_roles, flat_whole}
+use Rattle.bpaf_exact.specs.FlatForm.{product_reading, product_roles, flat_whole}
+use Rattle.bpaf_exact.specs.Wrappers.{ClosedValue}
 use Rattle.bpaf_exact.specs.{Flat.FieldLaw, Flat.FieldsLaw, Flat.both_reading, Flat.keys}
 use Rattle.bpaf_exact.specs.{Flat.Variables, Wrappers.FallbackEval, Wrappers.OptionalValue}
 use Rattle.bpaf_exact.specs.{Wrappers.FallbackValue, Pieces.Roles, Pieces.no_roles, Pieces.either}
@@ -234,7 +235,7 @@ flat_con_law env A B inner makes names (product named q fields) l =
   where
     by_name : (all : Bool) → NamedLaw env all inner q fields.value
         → NamedLaw env all (ProductOutcome inner makes) q
-        (made_reading (map_closure makes) fields).value
+        (ClosedValue fields.value (map_closure makes))
     by_name true l = named_con_law A B inner makes q fields.value l
     by_name false l = tt
 flat_con_law env A B inner makes names _ l = tt

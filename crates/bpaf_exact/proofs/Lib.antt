@@ -25,7 +25,6 @@ pub mod Narrow
 pub mod FlatForm
 pub mod Exact
 pub mod ByTables
-pub mod ShownNames
 pub mod OneView
 pub mod Agreeing
 pub mod Accepted

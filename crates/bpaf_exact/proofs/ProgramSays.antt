@@ -8,7 +8,7 @@ use Rattle.bpaf_laws.specs.{Reading.Outcome}
 use Rattle.bpaf_exact.specs.Says.{SaidKind, of_kind, repeated_kind, Said, Says, MadeSays, FormSays}
 use Rattle.bpaf_exact.specs.FlatForm.{FlatForm, alternative, complete, EachAgrees, alternative_only}
 use Rattle.bpaf_exact.specs.FlatForm.{flat_field, is_product, is_record, product_roles, flat_record}
-use Rattle.bpaf_exact.specs.FlatForm.{unless, flat_fallback, flat_closed, flat_last, flat_repeat}
+use Rattle.bpaf_exact.specs.FlatForm.{only_if, flat_fallback, flat_closed, flat_last, flat_repeat}
 use Rattle.bpaf_exact.specs.ProgramForm.{ProgramForm, no_program, plain, commands, left_out}
 use Rattle.bpaf_exact.specs.ProgramForm.{before_commands, ProgramFormLaw, program_if, flat_only}
 use Rattle.bpaf_exact.specs.ProgramForm.{program_closed, program_dressed, program_optional}
@@ -16,7 +16,6 @@ use Rattle.bpaf_exact.specs.ProgramForm.{program_choice, program_choices, progra
 use Rattle.bpaf_exact.specs.ProgramForm.{whole_program, opened_form, program_command}
 use Rattle.bpaf_exact.specs.ProgramForm.{program_field, program_alone, program_both, program_con}
 use Rattle.bpaf_exact.specs.ProgramForm.{is_program, program_value, are_words_apart}
-use Rattle.bpaf_exact.specs.ProgramForm.{program_fallback, program_last, program_repeat}
 use Rattle.bpaf_exact.specs.Programs.{CellsValue, CommandValue, ChoiceValue, first_value}
 use Rattle.bpaf_exact.specs.Programs.{second_value, OptionalCommands, some_command, no_command}
 use Rattle.bpaf_exact.specs.ProgramSays.{ProgramSaid, of_pieces, of_cells, ProgramFieldsSaid}
@@ -82,18 +81,20 @@ module _ {P Q A B : Type 0} (inside : Q → P) (q : Q) where
 pub program_repeat_says : {P Q T B : Type 0} (inside : Q → P) (q : Q) (catch : Bool)
     (f : Closure (List T) B) {s : ProgramForm T} {said : ProgramSaid P T} {kind : SaidKind}
     {names : List Names} → ProgramSays names s kind said (inside q)
-    → ProgramSays names (program_repeat catch f s) (repeated_kind kind)
+    → ProgramSays names (flat_only (λ s. only_if (not catch) (flat_closed f (flat_repeat s))) s)
+    (repeated_kind kind)
     (said_repeat inside f said) q
 program_repeat_says inside q catch f h =
     flat_only_says inside q (λ q said. MadeSays (RepeatSays said) f)
-    (λ s. unless catch (flat_closed f (flat_repeat s)))
+    (λ s. only_if (not catch) (flat_closed f (flat_repeat s)))
     (λ s said h. unless_says catch (listed_says f h)) h
 
 -- its last value
 pub program_last_says : {P Q T : Type 0} (inside : Q → P) (q : Q) {s : ProgramForm T}
     {said : ProgramSaid P T} {kind : SaidKind} {names : List Names}
     → ProgramSays names s kind said (inside q)
-    → ProgramSays names (program_last s) (repeated_kind kind) (said_last inside said) q
+    → ProgramSays names (flat_only (λ s. flat_last s) s) (repeated_kind kind)
+    (said_last inside said) q
 program_last_says inside q h =
     flat_only_says inside q (λ q said. LastSays said) (λ s. flat_last s) (λ s said h. last_says h) h
 
@@ -101,7 +102,8 @@ program_last_says inside q h =
 pub program_fallback_says : {P Q T : Type 0} (inside : Q → P) (q : Q)
     (f : Q → Closure (Unit {0}) T) {s : ProgramForm T} {said : ProgramSaid P T}
     {kind : SaidKind} {names : List Names} → ProgramSays names s kind said (inside q)
-    → ProgramSays names (program_fallback (f q) s) kind (said_fallback inside f said) q
+    → ProgramSays names (flat_only (λ s. flat_fallback (f q) s) s) kind
+    (said_fallback inside f said) q
 program_fallback_says inside q f h =
     flat_only_says inside q (λ q said. FallbackSays said ((f q).yes tt))
     (λ s. flat_fallback (f q) s) (λ s said h. fallback_says (f q) h) h

@@ -8,7 +8,7 @@ use Rattle.bpaf_exact.specs.Flat.{FieldKind, ByName, keys, OwnItems, FieldLaw, F
 use Rattle.bpaf_exact.specs.Flat.{Before, FieldsReading, HasValue, portion, front, Variables}
 use Rattle.bpaf_exact.specs.{Pieces.either_role, Pieces.no_roles, Pieces.pieces}
 use Rattle.bpaf_exact.specs.{Single.present_count, Wrappers.map_closure, Record.LastValue}
-use Rattle.bpaf_exact.specs.{Record.last_reading, FlatForm.made_reading}
+use Rattle.bpaf_exact.specs.{Record.last_reading, Wrappers.ClosedValue}
 use Rattle.bpaf_exact.proofs.Words.{empty_cut, cut_empty}
 use Rattle.bpaf_exact.proofs.Product.{step_back, none_left, own_portion, step_on}
 
@@ -111,7 +111,7 @@ module _ {env : Variables} (A B : Type 0) (fields : Outcome A) (makes : A → B 
     (reading : FieldsReading A) (l : FieldsLaw env A fields r reading) where
   -- what the constructor makes of the fields' values
   abbrev made : FieldsReading B
-  made = made_reading (map_closure makes) reading
+  made = record { value = ClosedValue reading.value (map_closure makes); each = reading.each }
 
   -- a constructor changes nothing
   con_steady : (s t : Situation) (v : B) → IsWholeIn env s → ProductOutcome fields makes s (Ok v) t

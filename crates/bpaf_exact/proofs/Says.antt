@@ -1,6 +1,6 @@
 -- The value of each flat field says of its pieces what its parser says.
 use Rattle.std.proofs.Common.{◌≡◌, ℕ, Bool, true, false, List, [], ◌∷◌, ◌++◌, Option, Some, None}
-use Rattle.std.proofs.Common.{◌&&◌, refl, sym, ap, ◌∙◌, subst, append-nil}
+use Rattle.std.proofs.Common.{◌&&◌, not, refl, sym, ap, ◌∙◌, subst, append-nil}
 use Rattle.bpaf_doc.specs.Names.{Names}
 use Rattle.bpaf_text.specs.Named.{Named as Key, KeyWithValue}
 use Rattle.bpaf_laws.specs.Reading.{Outcome}
@@ -13,7 +13,8 @@ use Rattle.bpaf_exact.specs.Leaves.{flag_field, flag_gap, FlagValue, argument_fi
 use Rattle.bpaf_exact.specs.Leaves.{argument_gap, argument_group, variable_argument, variable_flag}
 use Rattle.bpaf_exact.specs.FlatForm.{FlatForm, FormLaw, not_flat, alternative, single, complete}
 use Rattle.bpaf_exact.specs.FlatForm.{product, only_if, flat_closed, flat_choice, alternative_only}
-use Rattle.bpaf_exact.specs.FlatForm.{flat_repeat, flat_last, flat_optional, flat_fallback, unless}
+use Rattle.bpaf_exact.specs.FlatForm.{flat_repeat, flat_last, flat_optional, flat_fallback}
+use Rattle.bpaf_exact.specs.FlatForm.{only_if}
 use Rattle.bpaf_exact.specs.FlatForm.{flat_field, is_named, may_follow, product_roles, flat_both}
 use Rattle.bpaf_exact.specs.FlatForm.{flat_alone, flat_con, flat_record, product_reading}
 use Rattle.bpaf_exact.specs.Says.{SaidKind, form_kind, of_kind, keyed, repeated_kind, AllOwn, Fits}
@@ -368,7 +369,7 @@ last_says {T} {s} {said = said} h = record {
 -- without `catch`
 pub unless_says : {T : Type 0} (catch : Bool) {s : FlatForm T} {kind : SaidKind}
     {names : List Names} {said : Said T}
-    → Says names s kind said → Says names (unless catch s) kind said
+    → Says names s kind said → Says names (only_if (not catch) s) kind said
 unless_says true h = record { by = tt }
 unless_says false h = h
 

@@ -1,15 +1,17 @@
 -- A surplus occurrence, a surplus word and an occurrence without a value leave a field no value.
-use Rattle.std.proofs.Common.{◌≡◌, ℕ, Bool, true, false, List, [], ◌∷◌, Option, Some, None, subst}
+use Rattle.std.proofs.Common.{◌≡◌, ℕ, Bool, not, true, false, List, [], ◌∷◌, Option, Some, None}
+use Rattle.std.proofs.Common.{subst}
 use Rattle.bpaf_doc.specs.Names.{Names}
+use Rattle.bpaf_text.specs.Named.{Named as Key}
 use Rattle.bpaf_exact.specs.Flat.{FieldKind, FieldsReading, HasValue, both_reading, portion, left}
 use Rattle.bpaf_exact.specs.Single.{Groups, Gap, FrontOf, own_none, own_more, OwnList, listed}
 use Rattle.bpaf_exact.specs.Single.{listed_and_absent, only_absent, SingleValue, of_group, of_gap}
 use Rattle.bpaf_exact.specs.Wrappers.{Closure, OptionalValue, some_value, no_value, FallbackValue}
 use Rattle.bpaf_exact.specs.FlatForm.{FlatForm, not_flat, alternative, single, complete, product}
-use Rattle.bpaf_exact.specs.FlatForm.{flat_closed, flat_optional, flat_fallback, flat_field, unless}
+use Rattle.bpaf_exact.specs.FlatForm.{flat_closed, flat_optional, flat_fallback, flat_field, only_if}
 use Rattle.bpaf_exact.specs.{Wrappers.own_value, Wrappers.kept_value, FlatForm.is_product}
 use Rattle.bpaf_exact.specs.{Pieces.Roles, Pieces.LinePiece, Gathered.LastOf, Alternative.HasBad}
-use Rattle.bpaf_exact.specs.{Record.last_reading, Leaves.flag_by, Leaves.argument_by}
+use Rattle.bpaf_exact.specs.{Record.last_reading, Leaves.flag_field, Leaves.argument_by}
 use Rattle.bpaf_exact.specs.{Leaves.word_field, Accepted.OneByOne, Accepted.AtMostOne}
 use Rattle.bpaf_exact.specs.{Accepted.HasNoSurplus, Accepted.IsPartOf}
 use Rattle.bpaf_exact.proofs.Alternative.{own_bad}
@@ -75,15 +77,15 @@ fallback_no_surplus f _ h = tt
 
 -- whether `catch` is set changes nothing there
 pub unless_no_surplus : {T : Type 0} (catch : Bool) (s : FlatForm T) → HasNoSurplus s
-    → HasNoSurplus (unless catch s)
+    → HasNoSurplus (only_if (not catch) s)
 unless_no_surplus true s h = tt
 unless_no_surplus false s h = h
 
 -- a flag has none
-pub flag_no_surplus : {T : Type 0} (clones : T → T → Type 0) (names : Names) (present : T)
-    (absent : Option T) → HasNoSurplus (flag_by clones names present absent)
-flag_no_surplus clones names present None = tt
-flag_no_surplus {T = T} clones names present (Some absent) = front_one T _
+pub flag_no_surplus : {T : Type 0} (clones : T → T → Type 0) (key : Key) (present : T)
+    (absent : Option T) → HasNoSurplus (flag_field clones key present absent)
+flag_no_surplus clones key present None = tt
+flag_no_surplus {T = T} clones key present (Some absent) = front_one T _
 
 -- nor an argument, but for one that takes all its keys at once
 pub argument_no_surplus : {T : Type 0} (means : List ℕ → T → Type 0) (names : Names)

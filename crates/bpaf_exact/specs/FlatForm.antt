@@ -117,11 +117,6 @@ flat_optional {T = T} s = flat_whole (λ k. k) (OptionalValue T) s
 abbrev pub flat_fallback : {T : Type 0} → Closure (Unit {0}) T → FlatForm T → FlatForm T
 flat_fallback {T = T} f s = flat_whole (λ k. k) (λ group gap. FallbackValue T group gap f) s
 
--- without `catch`
-abbrev pub unless : {T : Type 0} → Bool → FlatForm T → FlatForm T
-unless true s = not_flat
-unless false s = s
-
 -- a field of a product, whichever it is; a product of named fields too
 abbrev pub flat_field : {T : Type 0} → FlatForm T → FlatForm T
 flat_field (complete k q value) = complete k q value
@@ -155,14 +150,10 @@ flat_alone {T = T} (complete k q value) =
 flat_alone (product false q fields) = product false q fields
 flat_alone _ = not_flat
 
--- what a constructor makes of the fields' values
-abbrev pub made_reading : {A B : Type 0} → Closure A B → FieldsReading A → FieldsReading B
-made_reading {A = A} {B = B} f fields =
-    record { value = ClosedValue fields.value f; each = fields.each }
-
 -- the constructor of a product
 abbrev pub flat_con : {A B : Type 0} → Closure A B → FlatForm A → FlatForm B
-flat_con f (product named q fields) = product named q (made_reading f fields)
+flat_con f (product named q fields) =
+    product named q (record { value = ClosedValue fields.value f; each = fields.each })
 flat_con _ _ = not_flat
 
 -- a flat record: a product, or one field

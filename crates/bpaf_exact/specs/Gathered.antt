@@ -1,13 +1,13 @@
--- some, collect, count and last: what they make of the own list.
-use Rattle.std.specs.Prelude.{◌≡◌, ℕ, List, [], ◌∷◌, ◌++◌, length}
+-- many, some and last: what they make of the own list.
+use Rattle.std.specs.Prelude.{◌≡◌, List, [], ◌∷◌, ◌++◌}
 use Rattle.std.specs.Global.{Vec}
 use Rattle.bpaf_exact.specs.Pieces.{LinePiece}
 use Rattle.bpaf_exact.specs.Single.{Groups, Gap, OwnList}
-use Rattle.bpaf_exact.specs.Wrappers.{Closure}
+use Rattle.bpaf_exact.specs.Wrappers.{Closure, map_closure}
 
 -- many: the list
 abbrev pub list_closure : (T : Type 0) → Closure (List T) (Vec T)
-list_closure T = record { yes = λ values filled. filled.items ≡ values; no = λ values. ⊥ }
+list_closure T = map_closure (λ values filled. filled.items ≡ values)
 
 -- some: the list, not empty
 abbrev pub some_closure : (T : Type 0) → Closure (List T) (Vec T)
@@ -15,14 +15,6 @@ some_closure T = record {
   yes = λ values filled. (filled.items ≡ values) × (values ≡ [] → ⊥);
   no = λ values. values ≡ [];
 }
-
--- count: its length
-abbrev pub count_closure : (T : Type 0) → Closure (List T) ℕ
-count_closure T = record { yes = λ vs n. n ≡ length vs; no = λ vs. ⊥ }
-
--- collect: the collection that is filled from it
-abbrev pub collect_closure : {T C : Type 0} → (List T → C → Type 0) → Closure (List T) C
-collect_closure post = record { yes = post; no = λ vs. ⊥ }
 
 -- it is the last of a list
 pub record IsLast (T : Type 0) (vs : List T) (v : T) : Type 0 where

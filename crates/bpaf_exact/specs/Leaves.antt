@@ -47,37 +47,25 @@ SideValue behind means (Two k w) v = ⊥
 abbrev pub switch_gap : {T : Type 0} → (T → Type 0) → Gap T
 switch_gap absent = record { has = true; absent = absent }
 
--- the absent value, where there is one
-abbrev pub absent_gap : {T : Type 0} → (T → T → Type 0) → Option T → Gap T
-absent_gap {T = T} clones None = no_gap T
-absent_gap clones (Some absent) = switch_gap (clones absent)
-
 -- where no key of a flag is there, by the text of its variable: the present value where that is
--- set, else the absent one
+-- set, else the absent one, where there is one
 abbrev pub flag_gap : {T : Type 0} → (T → T → Type 0) → T → Option T → Option (List ℕ) → Gap T
-flag_gap clones present absent None = absent_gap clones absent
 flag_gap clones present absent (Some text) = switch_gap (clones present)
+flag_gap clones present (Some absent) None = switch_gap (clones absent)
+flag_gap {T = T} clones present None None = no_gap T
 
--- a flag with such values where no key is there
-abbrev pub flag_with : {T : Type 0} → (T → T → Type 0) → Names → T → Gap T → FlatForm T
-flag_with {T = T} clones names present gap =
-    single ByName (flag_roles names) (FrontOf T (FlagValue (clones present))) gap
-
--- a flag that must be there, or one with an absent value
-abbrev pub flag_by : {T : Type 0} → (T → T → Type 0) → Names → T → Option T → FlatForm T
-flag_by clones names present None = alternative (flag_roles names) (FlagValue (clones present))
-flag_by clones names present (Some absent) =
-    flag_with clones names present (switch_gap (clones absent))
-
--- a flag without a name in the environment
-abbrev pub flag_field : {T : Type 0} → (T → T → Type 0) → Key → T → Option T → FlatForm T
-flag_field clones key present absent = flag_by clones key.names present absent
-
--- a flag with such names, by the text of the first that is set
+-- a flag with names in the environment, by the text of the first that is set
 abbrev pub variable_flag : {T : Type 0} → (T → T → Type 0) → Key → T → Option T
     → Option (List ℕ) → FlatForm T
-variable_flag clones key present absent set =
-    flag_with clones key.names present (flag_gap clones present absent set)
+variable_flag {T = T} clones key present absent set =
+    single ByName (flag_roles key.names) (FrontOf T (FlagValue (clones present)))
+    (flag_gap clones present absent set)
+
+-- one without such names: it must be there, or has an absent value
+abbrev pub flag_field : {T : Type 0} → (T → T → Type 0) → Key → T → Option T → FlatForm T
+flag_field clones key present None =
+    alternative (flag_roles key.names) (FlagValue (clones present))
+flag_field clones key present (Some absent) = variable_flag clones key present (Some absent) None
 
 -- each of these pieces is a key with its value
 pub data HaveValues : List LinePiece → Type 0 where

@@ -12,7 +12,6 @@ pub mod Theorem
 pub mod Programs
 pub mod ProgramForm
 pub mod Variables
-pub mod ShownNames
 pub mod OneView
 pub mod Accepted
 pub mod Says

@@ -10,8 +10,8 @@ use Rattle.bpaf_exact.specs.Flat.{ByName, ReadOff, Variables}
 use Rattle.bpaf_exact.specs.FlatForm.{FlatForm, FormLaw, Agrees, complete, is_record, not_flat}
 use Rattle.bpaf_exact.specs.FlatForm.{product_roles, product_reading, flat_record, flat_closed}
 use Rattle.bpaf_exact.specs.FlatForm.{flat_optional, flat_choice, flat_alone, flat_both, flat_con}
-use Rattle.bpaf_exact.specs.FlatForm.{flat_fallback, flat_last, flat_repeat, flat_field}
-use Rattle.bpaf_exact.specs.FlatForm.{alternative_only, is_product, unless}
+use Rattle.bpaf_exact.specs.FlatForm.{flat_field}
+use Rattle.bpaf_exact.specs.FlatForm.{alternative_only, is_product, only_if}
 use Rattle.bpaf_exact.specs.Names.{Owns, are_all_apart}
 use Rattle.bpaf_exact.specs.Programs.{CellsValue, CommandValue, ChoiceValue, OptionalCommands}
 use Rattle.bpaf_exact.specs.Programs.{FieldThen, ProgramLaw, CommandsLaw, are_plain}
@@ -67,19 +67,6 @@ abbrev pub flat_only : {A B : Type 0} → (FlatForm A → FlatForm B) → Progra
 flat_only g (plain wide s) = plain wide (g s)
 flat_only g _ = no_program
 
--- what is made of the values of a repeat; with `catch` it is none
-abbrev pub program_repeat : {T B : Type 0} → Bool → Closure (List T) B → ProgramForm T
-    → ProgramForm B
-program_repeat catch f = flat_only (λ s. unless catch (flat_closed f (flat_repeat s)))
-
--- the last of them
-abbrev pub program_last : {T : Type 0} → ProgramForm T → ProgramForm T
-program_last = flat_only (λ s. flat_last s)
-
--- what has a value that stands for it
-abbrev pub program_fallback : {T : Type 0} → Closure (Unit {0}) T → ProgramForm T → ProgramForm T
-program_fallback f = flat_only (λ s. flat_fallback f s)
-
 -- another look; a record with such a look round it is a wide one
 abbrev pub program_dressed : {T : Type 0} → ProgramForm T → ProgramForm T
 program_dressed (plain wide s) = plain (wide || is_product s) s
@@ -89,7 +76,7 @@ program_dressed _ = no_program
 
 -- what may be left out; with `catch` it is none
 abbrev pub program_optional : {T : Type 0} → Bool → ProgramForm T → ProgramForm (Option T)
-program_optional catch (plain wide s) = plain wide (unless catch (flat_optional s))
+program_optional catch (plain wide s) = plain wide (only_if (not catch) (flat_optional s))
 program_optional {T = T} catch (commands r value) =
     program_if (not catch) (left_out r (OptionalCommands T value))
 program_optional catch _ = no_program
@@ -208,5 +195,5 @@ program_value (before_commands r value) = value
 
 -- what it is to a flat record
 abbrev pub flat_form : {T : Type 0} → ProgramForm T → FlatForm T
-flat_form (plain wide s) = unless wide s
+flat_form (plain wide s) = only_if (not wide) s
 flat_form _ = not_flat

@@ -12,7 +12,7 @@ pub record Closure (A B : Type 0) : Type 1 where
   pub yes : A → B → Type 0
   pub no : A → Type 0
 
--- map, a constructor: what it promises
+-- map, a constructor, count, collect, a kept value: what it promises, and never no
 abbrev pub map_closure : {A B : Type 0} → (A → B → Type 0) → Closure A B
 map_closure answers = record { yes = answers; no = λ x. ⊥ }
 
@@ -79,10 +79,6 @@ pub data OptionalValue (T : Type 0) (group : Groups T) (gap : Gap T) : List Line
   some_value : {os : List LinePiece} {v : T} → SingleValue T group gap os v
       → OptionalValue T group gap os (Some v)
   no_value : {os : List LinePiece} → os ≡ [] → gap.has ≡ false → OptionalValue T group gap os None
-
--- what fallback gives: a clone of the value that it keeps
-abbrev pub kept_closure : {T : Type 0} → (T → Type 0) → Closure (Unit {0}) T
-kept_closure clones = record { yes = λ u v. clones v; no = λ u. ⊥ }
 
 -- yes: what the fallback may give; no: that it may refuse, which is a fault of its own
 pub data FallbackEval (T : Type 0) (inner : Outcome T) (f : Closure (Unit {0}) T)

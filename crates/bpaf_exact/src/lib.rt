@@ -36,9 +36,6 @@
 //!   the `FlatForm` is the plain part (specs/ProgramForm.antt); each answer of a run is exact where
 //!   it is a program (`runs_as_program`, proofs/ProgramForm.antt). What its values say of the cells
 //!   stands in specs/ProgramSays.antt and proofs/ProgramSays.antt.
-//! - Which short names a parser shows, by which joined words are read, is the same whichever shape
-//!   it shows (`ShowsNames`, specs/ShownNames.antt; proofs/ShownNames.antt has one lemma for each
-//!   combinator).
 //!
 //! Proofs that closures, repeats, choices and products keep to these laws by their tables stand in
 //! proofs/: proofs/ByTables.antt, proofs/ProgramForm.antt and proofs/FlatForm.antt have one lemma for

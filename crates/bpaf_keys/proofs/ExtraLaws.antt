@@ -1,5 +1,7 @@
 -- Looking for help and the version keeps to the laws.
-use Rattle.std.specs.Prelude.{◌≡◌, Bool, true, false, Some, Ok, Err, refl}
+use Rattle.std.specs.Prelude.{◌≡◌, Bool, true, false, None, Option, List, Some, Ok, Err, refl}
+use Rattle.bpaf_doc.specs.declared.doc.Piece.{Piece}
+use Rattle.bpaf_doc.specs.Walks.{parts}
 use Rattle.std.proofs.Common.{⊎_elim, inl, inr}
 use Rattle.bpaf_text.specs.Named.{Named}
 use Rattle.bpaf_line.specs.declared.error.Error.{Error}
@@ -13,8 +15,11 @@ use Rattle.bpaf_laws.specs.Product.{BothReads}
 use Rattle.bpaf_laws.proofs.FlagLaws.{flag_lawful}
 use Rattle.bpaf_laws.proofs.Keeping.{keeps_same, keeps_trans}
 use Rattle.bpaf_laws.proofs.ProductLaws.{both_lawful}
+use Rattle.bpaf_laws.specs.ShownNames.{ShowsNames, shorts_of}
+use Rattle.bpaf_laws.proofs.ShownNames.{both_show, flag_shows, last_shows, one_shape, product_shows}
 use Rattle.bpaf_keys.specs.declared.info.ExtraParams.{ExtraParams}
 use Rattle.bpaf_keys.specs.Extra.{ExtraOutcome, ExtraReads, IsNoVersion, SwitchReads}
+use Rattle.bpaf_keys.specs.Extra.{extra_shape, extra_shape_of, extra_shorts}
 use Rattle.bpaf_keys.specs.Extra.{help, neither, no_memory, version}
 use Rattle.bpaf_keys.specs.Info.{RunInfo}
 
@@ -88,3 +93,18 @@ module _ (info : RunInfo) where
     err = λ s t e o. extra_refused s t e o;
     named = λ s t e o. extra_named s t e o;
   }
+
+-- and shows the short names of the keys that are looked for
+pub extra_shows : (info : RunInfo)
+    → ShowsNames (λ shape. shape ≡ extra_shape info)
+    (extra_shorts info.version info.help_arg info.version_arg)
+extra_shows info = one_shape (of_version info.version info.help_arg info.version_arg)
+  where
+    of_version : (version : Option (List Piece)) (first second : Named)
+        → shorts_of (parts (extra_shape_of version first second))
+        ≡ extra_shorts version first second
+    of_version None first second = (flag_shows {T = Bool} first None).each _ refl
+    of_version (Some text) first second =
+        (product_shows (both_show (flag_shows {T = Bool} first None)
+        (last_shows (flag_shows {T = Bool} second None)))).each _
+        (_, (_, _, refl, (_, refl, refl), refl), refl)

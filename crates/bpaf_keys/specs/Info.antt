@@ -30,21 +30,13 @@ usual_key name long_name help = record {
   help = Some (shown_as style.Text help ∷ []);
 }
 
--- the letter `h`
-abbrev pub letter_h : ℕ
-letter_h = 104
-
--- the letter `V`
-abbrev pub capital_v : ℕ
-capital_v = 86
-
--- the usual key for help
+-- the usual key for help, whose short name is `h`
 abbrev pub help_key : Named
-help_key = usual_key letter_h (codes "help") (codes "Prints help information")
+help_key = usual_key 104 (codes "help") (codes "Prints help information")
 
--- the usual key for the version
+-- the usual key for the version, whose short name is `V`
 abbrev pub version_key : Named
-version_key = usual_key capital_v (codes "version") (codes "Prints version information")
+version_key = usual_key 86 (codes "version") (codes "Prints version information")
 
 -- a key, or the usual one where none is set
 abbrev pub key_or : Named → Option Named → Named

@@ -6,8 +6,10 @@ ghost use Rattle.std.specs.Prelude.{map, string_bytes};
 ghost use Rattle.bpaf_pages.specs.Help.{help_text};
 ghost use Rattle.bpaf_pages.specs.InsideHelp.{given_by};
 ghost use Rattle.bpaf_doc.specs.Shape.{And, members, shape_of};
+ghost use Rattle.bpaf_doc.specs.Walks.{parts};
 ghost use Rattle.bpaf_keys.specs.Extra.{ExtraOutcome, IsNotAsked, LooksForVersion};
 ghost use Rattle.bpaf_keys.specs.Extra.{extra_shape, key_shape};
+ghost use Rattle.bpaf_laws.specs.ShownNames.{shorts_of};
 ghost use Rattle.bpaf_laws.specs.Version.{ShowsVersion, version_text};
 ghost use Rattle.bpaf_keys.specs.Info.{help_key, key_or, page_texts, plain_info, short_descr};
 ghost use Rattle.bpaf_keys.specs.Info.{usual_key};
@@ -257,8 +259,8 @@ impl Info {
         alloc: Global,
         meta: &Meta,
     ) -> Result<(Vec<char>, Vec<char>), AllocError>
-        ensures { IfOk result (λ r. let names = (known_names self.now (shape_of meta.now)).names in
-            (r.0.items ≡ names.flags) × (r.1.items ≡ names.arguments)) }
+        ensures { IfOk result (λ r. let names = (known_names self.now (shorts_of
+            (parts (shape_of meta.now)))).names in (r.0.items ≡ names.flags) × (r.1.items ≡ names.arguments)) }
     {
         let mut flags = Vec::new(alloc);
         let mut arguments = Vec::new(alloc);

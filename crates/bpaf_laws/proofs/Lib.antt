@@ -22,6 +22,7 @@ pub mod ProductLaws
 pub mod ProductSparing
 pub mod AdjacentGroupLaws
 pub mod Shapes
+pub mod ShownNames
 pub mod ChoicesLaws
 pub mod ChoosingAll
 pub mod LeftmostOfAll

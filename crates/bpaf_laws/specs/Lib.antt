@@ -21,6 +21,7 @@ pub mod OneStretch
 pub mod AdjacentCommand
 pub mod Appname
 pub mod Hide
+pub mod ShownNames
 pub mod Any
 pub mod Version
 pub mod RefusalNames

@@ -1,6 +1,7 @@
 //! What parsers mean, in definitions and lemmas alone: no function stands here.
 //!
-//! It stands on `bpaf_doc`, `bpaf_pages`, `bpaf_line` and `bpaf_text`, whose types it speaks of.
+//! It stands on `bpaf_doc`, `bpaf_pages`, `bpaf_words`, `bpaf_line` and `bpaf_text`, whose types it
+//! speaks of.
 //! For the layers above:
 //!
 //! - A share is a set of places, a reading a relation between a context, a share and a value, an
@@ -13,6 +14,9 @@
 //!   specs/Default.antt, specs/Repeat.antt, specs/Choice.antt, specs/Choices.antt, specs/Pure.antt,
 //!   specs/Product.antt, specs/Hide.antt, specs/Any.antt), and the lemma that it keeps to the laws
 //!   where its inner parsers do, in the file of proofs/ of that name and `Laws`.
+//! - Which short names a parser shows, by which joined words are read, is the same whichever shape
+//!   it shows (`ShowsNames`, specs/ShownNames.antt; proofs/ShownNames.antt has one lemma for each
+//!   combinator).
 //! - A refusal has one of twelve names (specs/RefusalNames.antt). By the laws one that a run inside
 //!   ended with has one too.
 //! - What follows from the laws alone: the count of present items falls by what was newly taken

@@ -6,8 +6,7 @@ use Rattle.std.specs.Result.{IfErr}
 use Rattle.bpaf_doc.specs.declared.doc.Piece.{Piece}
 use Rattle.bpaf_doc.specs.Shape.{Shape}
 use Rattle.bpaf_words.specs.Arguments.{Given}
-use Rattle.bpaf_words.specs.Spelling.{Known, ShortNames, known_at}
-use Rattle.bpaf_line.specs.Constructing.{IsContext}
+use Rattle.bpaf_words.specs.Spelling.{Known}
 use Rattle.bpaf_line.specs.declared.failure.ParseFailure.{ParseFailure}
 use Rattle.bpaf_line.specs.declared.failure.ParseFailure.TheVariants as failure
 use Rattle.bpaf_laws.specs.AdjacentCommand.{AdjacentReads}
@@ -31,7 +30,6 @@ use Rattle.bpaf.specs.Asked.{ShowsNothing, WordsShow, nothing_shown}
 use Rattle.bpaf.proofs.Asked.{IsAlsoShown, answer_shows, asked_at_also, hands_also, many_hands_on}
 use Rattle.bpaf.proofs.Asked.{words_also}
 use Rattle.bpaf.proofs.HandsOn.{behind_also, choice_hands_on, command_hands_on}
-use Rattle.bpaf_program.specs.Dealt.{IsDealtBySome}
 use Rattle.bpaf_program.proofs.ReadsToo.{IsAlso, adjacent_also, choice_also, many_also}
 
 -- a parser keeps to the laws, hands on what may be shown, reads what is wanted, and shows these
@@ -126,56 +124,43 @@ many_hands {showing = showing} catches is = record {
 
 module _ {T : Type 0} {showing : Showing} {outcome : Outcome T} {reads wanted : Readings T}
     {describes shapes : Shape → Type 0}
-    (is : Hands showing outcome reads describes wanted shapes) {info : RunInfo}
-    (plain : info ≡ plain_info) {given own : Given} (same : given ≡ own) where
-  -- what it deals out is dealt out by some known names
+    (is : Hands showing outcome reads describes wanted shapes) {known names : Known}
+    {given own : Given} where
+  -- what it deals out is dealt out as is wanted
   pub hands_dealt : (r : Result T ParseFailure)
-      → IfOk r (λ v. IsDealtOut T reads describes info given v)
-      → IfOk r (λ v. IsDealtBySome own wanted v)
-  hands_dealt (Ok v) dealt =
-      ⊎_elim (λ shown. by _ shown.2)
-      (λ any. by (known_at info.numbers nothing) (any nothing)) dealt.is_context
-    where
-      nothing : ShortNames
-      nothing = record { flags = []; arguments = [] }
-
-      by : (known : Known) → IsContext known given dealt.context → IsDealtBySome own wanted v
-      by known is_context = (
-        known,
-        record {
-          context = dealt.context;
-          is_context = subst (λ g. IsContext known g dealt.context) same is_context;
-          read = is.also dealt.context _ v dealt.read;
-        },
-      )
-  hands_dealt (Err f) dealt = tt
+      → IfOk r (λ v. IsDealtOut T reads known given v) → known ≡ names → given ≡ own
+      → IfOk r (λ v. IsDealtOut T wanted names own v)
+  hands_dealt (Ok v) dealt known_is same = record {
+    context = dealt.context;
+    is_context = rw (known_is, same) at dealt.is_context;
+    read = is.also dealt.context _ v dealt.read;
+  }
+  hands_dealt (Err f) dealt known_is same = tt
 
   -- what it shows in place of a value is a page that the words ask for
   pub hands_asked : IsAlsoShown (IsAskedAt shapes plain_info) showing
-      → (r : Result T ParseFailure) → RunsWords T outcome describes info given r
-      → IfErr r (IfShown (WordsShow shapes plain_info own showing))
-  hands_asked asks (Err (failure.Stdout doc full)) runs =
-      let was : WordsShow describes info given (RunShows describes info showing) doc full =
+      → (r : Result T ParseFailure) → {info : RunInfo}
+      → RunsWords T outcome describes info known given r → info ≡ plain_info → known ≡ names
+      → given ≡ own → IfErr r (IfShown (WordsShow names own showing))
+  hands_asked asks (Err (failure.Stdout doc full)) {info} runs plain known_is same =
+      let was : WordsShow known given (RunShows describes info showing) doc full =
       answer_shows describes info is.law showing is.hands
-      (ap (λ known. known.help_if_no_args) plain) given (Err (failure.Stdout doc full)) runs in
-      words_also describes shapes plain_info own (RunShows describes plain_info showing) showing
-      is.shows
+      (ap (λ settings. settings.help_if_no_args) plain) known given
+      (Err (failure.Stdout doc full)) runs in
+      words_also names own (RunShows describes plain_info showing) showing
       (λ s d u. ⊎_elim
       (λ at. asks s d u (asked_at_also describes shapes plain_info is.shows s d u at))
       (λ page. page))
-      doc full (rw (plain, same) at was)
-  hands_asked asks _ runs = tt
+      doc full (rw (plain, known_is, same) at was)
+  hands_asked asks _ runs plain known_is same = tt
 
 -- what is dealt out to the one is to the other
-pub also_dealt : {T : Type 0} {reads wanted : Readings T} → IsAlso reads wanted → (given : Given)
-    (r : Result T ParseFailure) → IfOk r (λ v. IsDealtBySome given reads v)
-    → IfOk r (λ v. IsDealtBySome given wanted v)
-also_dealt also given (Ok v) dealt = (
-  dealt.0,
-  record {
-    context = dealt.1.context;
-    is_context = dealt.1.is_context;
-    read = also dealt.1.context _ v dealt.1.read;
-  },
-)
-also_dealt also given (Err f) dealt = tt
+pub also_dealt : {T : Type 0} {reads wanted : Readings T} → IsAlso reads wanted → (known : Known)
+    (given : Given) (r : Result T ParseFailure) → IfOk r (λ v. IsDealtOut T reads known given v)
+    → IfOk r (λ v. IsDealtOut T wanted known given v)
+also_dealt also known given (Ok v) dealt = record {
+  context = dealt.context;
+  is_context = dealt.is_context;
+  read = also dealt.context _ v dealt.read;
+}
+also_dealt also known given (Err f) dealt = tt

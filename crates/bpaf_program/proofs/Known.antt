@@ -1,6 +1,6 @@
 -- Parsers of a program whose makings are known: what each reads, shows and keeps to.
 use Rattle.std.proofs.Common.{◌≡◌, Bool, true, false, ℕ, List, [], ◌∷◌, Some, Result, Ok, Err, IfOk}
-use Rattle.std.proofs.Common.{ap, refl, subst, sym, ◌∙◌}
+use Rattle.std.proofs.Common.{refl, subst, sym}
 use Rattle.std.specs.Result.{IfErr}
 use Rattle.bpaf_doc.specs.declared.doc.Piece.{Piece}
 use Rattle.bpaf_doc.specs.Names.{Names}
@@ -8,6 +8,7 @@ use Rattle.bpaf_doc.specs.Shape.{Shape, And, Many, Optional, members}
 use Rattle.bpaf_text.specs.declared.params.ParseFlag.{ParseFlag}
 use Rattle.bpaf_text.specs.Named.{KeyWithValue, key_named}
 use Rattle.bpaf_words.specs.Arguments.{Given}
+use Rattle.bpaf_words.specs.Spelling.{Known}
 use Rattle.bpaf_line.specs.declared.failure.ParseFailure.{ParseFailure}
 use Rattle.bpaf_laws.specs.Argument.{ArgumentOutcome, ArgumentReads, argument_shape}
 use Rattle.bpaf_laws.specs.Flag.{FlagOutcome, FlagReads, flag_shape}
@@ -22,7 +23,6 @@ use Rattle.bpaf_laws.proofs.ProductLaws.{both_lawful, product_lawful}
 use Rattle.bpaf_laws.proofs.RepeatLaws.{many_lawful}
 use Rattle.bpaf.specs.Info.{RunInfo, plain_info}
 use Rattle.bpaf.specs.Dealt.{IsDealtOut}
-use Rattle.bpaf.specs.Known.{IsLineContext, known_names}
 use Rattle.bpaf.specs.Run.{RunsWords}
 use Rattle.bpaf.specs.declared.leaves.positional.ParsePositional.{ParsePositional}
 use Rattle.bpaf.specs.declared.leaves.positional.Position.{Position}
@@ -32,11 +32,10 @@ use Rattle.bpaf.specs.PositionalLaws.{positional_lawful}
 use Rattle.bpaf.proofs.Asked.{argument_hands_on, both_hands_on, flag_hands_on, many_hands_on}
 use Rattle.bpaf.proofs.Asked.{positional_hands_on, product_hands_on}
 use Rattle.bpaf.proofs.Helps.{argument_without_help, flag_without_help, key_with_help}
-use Rattle.bpaf_program.specs.Dealt.{IsDealtBy}
 use Rattle.bpaf_program.specs.Fields.{IsArgument, IsSwitch, IsWord, SwitchReads, switch_shape}
 use Rattle.bpaf_program.specs.Values.{IsKept}
 use Rattle.bpaf_program.proofs.ReadsToo.{IsAlso, both_also, many_also, product_also, word_also}
-use Rattle.bpaf_program.proofs.Shown.{both_show, help_asked, last_shows, line_context, many_shows}
+use Rattle.bpaf_program.proofs.Shown.{both_show, help_asked, last_shows, many_shows}
 use Rattle.bpaf_program.proofs.Shown.{product_shows}
 
 -- a parser, or fields, keep to the laws, show nothing by themselves, read what is wanted, and show
@@ -152,35 +151,26 @@ product_known {makes = makes} made fields = record {
   only = product_shows _ _ fields.only;
 }
 
--- the known names of what it shows
-names_shown : {T : Type 0} {outcome : Outcome T} {reads wanted : Readings T}
-    {describes : Shape → Type 0} {shape : Shape} → IsKnown outcome reads describes wanted shape
-    → (info : RunInfo) → info ≡ plain_info → (other : Shape) → describes other
-    → known_names info other ≡ known_names plain_info shape
-names_shown is info plain other shown =
-    ap (λ x. known_names x other) plain ∙ ap (known_names plain_info) (is.only other shown)
-
 module _ {T : Type 0} {outcome : Outcome T} {reads wanted : Readings T}
     {describes : Shape → Type 0} {shape : Shape}
-    (is : IsKnown outcome reads describes wanted shape) {info : RunInfo}
-    (plain : info ≡ plain_info) {given own : Given} (same : given ≡ own) where
-  -- what it deals out is dealt out by these known names
-  pub known_dealt : (r : Result T ParseFailure)
-      → IfOk r (λ v. IsDealtOut T reads describes info given v)
-      → IfOk r (λ v. IsDealtBy (known_names plain_info shape) own wanted v)
-  known_dealt (Ok v) dealt = record {
-    context = dealt.context;
-    is_context = line_context describes info own (known_names plain_info shape)
-        (names_shown is info plain) (ap (λ x. x.numbers) plain) dealt.context
-        (subst (λ g. IsLineContext describes info g dealt.context) same dealt.is_context);
-    read = is.also dealt.context _ v dealt.read;
-  }
-  known_dealt (Err f) dealt = tt
+    (is : IsKnown outcome reads describes wanted shape) {known names : Known} {given own : Given}
+  where
+    -- what it deals out is dealt out as is wanted
+    pub known_dealt : (r : Result T ParseFailure)
+        → IfOk r (λ v. IsDealtOut T reads known given v) → known ≡ names → given ≡ own
+        → IfOk r (λ v. IsDealtOut T wanted names own v)
+    known_dealt (Ok v) dealt known_is same = record {
+      context = dealt.context;
+      is_context = rw (known_is, same) at dealt.is_context;
+      read = is.also dealt.context _ v dealt.read;
+    }
+    known_dealt (Err f) dealt known_is same = tt
 
-  -- what it shows in place of a value is help that the words ask for
-  pub known_asked : (shapes : Shape → Type 0) → shapes shape → (r : Result T ParseFailure)
-      → RunsWords T outcome describes info given r
-      → IfErr r (IfShown (WasAsked shapes plain_info own))
-  known_asked shapes this r runs =
-      help_asked describes shapes info given own is.law is.nothing
-      (λ other shown. subst shapes (sym (is.only other shown)) this) plain same r runs
+    -- what it shows in place of a value is help that the words ask for
+    pub known_asked : (shapes : Shape → Type 0) → shapes shape → (r : Result T ParseFailure)
+        → {info : RunInfo} → RunsWords T outcome describes info known given r → info ≡ plain_info
+        → known ≡ names → given ≡ own → IfErr r (IfShown (WasAsked shapes plain_info names own))
+    known_asked shapes this r {info} runs plain known_is same =
+        help_asked describes shapes info names own is.law is.nothing
+        (λ other shown. subst shapes (sym (is.only other shown)) this) plain r
+        (rw (known_is, same) at runs)

@@ -23,7 +23,7 @@ use Rattle.bpaf_exact.specs.Leaves.{SideValue, WordEval, argument_field, flag_fi
 use Rattle.bpaf_exact.specs.Leaves.{word_field}
 use Rattle.bpaf_exact.specs.ProgramForm.{plain}
 use Rattle.bpaf_exact.specs.OneView.{Alike, HasOneView, pair_view}
-use Rattle.bpaf_exact.specs.Wrappers.{kept_closure, map_closure}
+use Rattle.bpaf_exact.specs.Wrappers.{map_closure}
 use Rattle.bpaf_exact.proofs.Arguments.{argument_field_law}
 use Rattle.bpaf_exact.proofs.FlatForm.{flat_alone_law, flat_both_law, flat_con_law, flat_field_law}
 use Rattle.bpaf_exact.proofs.Flags.{flag_field_law}
@@ -126,17 +126,17 @@ module _ {T X : Type 0} {outcome : Outcome T} {see : T → X} {names : List Name
   -- what has a default
   pub fallback_seen : (clones : T → T → Type 0) (kept : T) → Alike see (clones kept)
       → IsSeen (FallbackOutcome outcome (GivesClone clones kept)) see names
-      (flat_fallback (kept_closure (clones kept)) form)
+      (flat_fallback (map_closure (λ u. clones kept)) form)
   fallback_seen clones kept one = record {
     law = λ env. fallback_law env T outcome clones kept names [] (plain false form) (is.law env);
-    view = fallback_view [] T X see outcome (kept_closure (clones kept)) one names form
+    view = fallback_view [] T X see outcome (map_closure (λ u. clones kept)) one names form
         (is.law []) is.view;
   }
 
   -- what is this value where it is left out
   pub default_seen : (value : T)
       → IsSeen (FallbackOutcome outcome (GivesClone (λ own v. v ≡ own) value)) see names
-      (flat_fallback (kept_closure (λ v. v ≡ value)) form)
+      (flat_fallback (map_closure (λ u v. v ≡ value)) form)
   default_seen value = fallback_seen (λ own v. v ≡ own) value (λ v w a b. ap see (a ∙ sym b))
 
   -- a field

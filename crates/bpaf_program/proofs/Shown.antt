@@ -1,11 +1,9 @@
 -- What a parser shows that is made of known fields, and what a run shows that is asked for help.
-use Rattle.std.proofs.Common.{◌≡◌, List, [], ◌∷◌, Result, Ok, Err, ap, subst, ◌∙◌, ⊎_elim}
+use Rattle.std.proofs.Common.{◌≡◌, List, [], ◌∷◌, Result, Ok, Err, ap, ◌∙◌}
 use Rattle.std.specs.Result.{IfErr}
 use Rattle.bpaf_doc.specs.Shape.{Shape, And, Many, Optional, members}
 use Rattle.bpaf_words.specs.Arguments.{Given}
-use Rattle.bpaf_words.specs.Spelling.{Known, known_at}
-use Rattle.bpaf_line.specs.Constructing.{IsContext}
-use Rattle.bpaf_line.specs.Situation.{Context}
+use Rattle.bpaf_words.specs.Spelling.{Known}
 use Rattle.bpaf_line.specs.declared.failure.ParseFailure.{ParseFailure}
 use Rattle.bpaf_line.specs.declared.failure.ParseFailure.TheVariants as failure
 use Rattle.bpaf_laws.specs.Laws.{Lawful}
@@ -13,7 +11,6 @@ use Rattle.bpaf_laws.specs.Product.{BothDescribes, LastDescribes, ProductDescrib
 use Rattle.bpaf_laws.specs.Reading.{Outcome, Readings}
 use Rattle.bpaf_laws.specs.Repeat.{ManyDescribes}
 use Rattle.bpaf.specs.Info.{RunInfo, plain_info}
-use Rattle.bpaf.specs.Known.{IsLineContext, known_names}
 use Rattle.bpaf.specs.Run.{RunsWords}
 use Rattle.bpaf.specs.Asked.{IfShown, ShowsNothing, WasAsked}
 use Rattle.bpaf.proofs.Asked.{answer_asked, asked_also}
@@ -51,31 +48,20 @@ pub product_shows : (fields : List Shape → Type 0) (wanted : List Shape) → F
 product_shows fields wanted all shape shown =
     shown.2 ∙ ap (λ xs. And (members xs)) (all shown.0 shown.1)
 
--- where all that is shown has these known names, a context of the words' line is one by them
-pub line_context : (describes : Shape → Type 0) (info : RunInfo) (given : Given) (known : Known)
-    → ((shape : Shape) → describes shape → known_names info shape ≡ known)
-    → info.numbers ≡ known.numbers → (context : Context)
-    → IsLineContext describes info given context → IsContext known given context
-line_context describes info given known names numbers context is =
-    ⊎_elim
-    (λ shown. subst (λ those. IsContext those given context) (names shown.0 shown.1) shown.2)
-    (λ any. subst (λ setting. IsContext (known_at setting known.names) given context) numbers
-    (any known.names))
-    is
-
 -- what a run shows of a parser that shows nothing by itself is help that the words ask for
-pub help_asked : (describes shapes : Shape → Type 0) (info : RunInfo) (given own : Given)
-    {T : Type 0} {inner : Outcome T} {reads : Readings T} → Lawful T inner reads
+pub help_asked : (describes shapes : Shape → Type 0) (info : RunInfo) (known : Known)
+    (given : Given) {T : Type 0} {inner : Outcome T} {reads : Readings T} → Lawful T inner reads
     → ShowsNothing inner → ((shape : Shape) → describes shape → shapes shape)
-    → info ≡ plain_info → given ≡ own → (r : Result T ParseFailure)
-    → RunsWords T inner describes info given r → IfErr r (IfShown (WasAsked shapes plain_info own))
-help_asked describes shapes info given own law nothing also plain is (Ok v) runs = tt
-help_asked describes shapes info given own law nothing also plain is
+    → info ≡ plain_info → (r : Result T ParseFailure)
+    → RunsWords T inner describes info known given r
+    → IfErr r (IfShown (WasAsked shapes plain_info known given))
+help_asked describes shapes info known given law nothing also plain (Ok v) runs = tt
+help_asked describes shapes info known given law nothing also plain
     (Err (failure.Stdout doc full)) runs =
-    let was : WasAsked describes info given doc full =
-    answer_asked describes info given law nothing (ap (λ known. known.help_if_no_args) plain)
-    (Err (failure.Stdout doc full)) runs in
-    asked_also describes shapes plain_info own doc full also (rw (plain, is) at was)
-help_asked describes shapes info given own law nothing also plain is (Err (failure.Stderr doc))
+    let was : WasAsked describes info known given doc full =
+    answer_asked describes info known given law nothing
+    (ap (λ settings. settings.help_if_no_args) plain) (Err (failure.Stdout doc full)) runs in
+    asked_also describes shapes plain_info known given doc full also (rw plain at was)
+help_asked describes shapes info known given law nothing also plain (Err (failure.Stderr doc))
     runs = tt
-help_asked describes shapes info given own law nothing also plain is (Err failure.Memory) runs = tt
+help_asked describes shapes info known given law nothing also plain (Err failure.Memory) runs = tt

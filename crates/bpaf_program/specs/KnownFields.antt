@@ -6,7 +6,7 @@ use Rattle.bpaf_text.specs.Named.{key_named}
 use Rattle.bpaf_laws.specs.Command.{named_only}
 use Rattle.bpaf.specs.Info.{plain_info}
 use Rattle.bpaf_exact.specs.Gathered.{list_closure}
-use Rattle.bpaf_exact.specs.Wrappers.{kept_closure}
+use Rattle.bpaf_exact.specs.Wrappers.{map_closure}
 use Rattle.bpaf_record.specs.Grammar.{Grammar, closed, command, fallback, flag, optional, product}
 use Rattle.bpaf_record.specs.Grammar.{repeat}
 use Rattle.bpaf_program.specs.KnownParser.{makes}
@@ -26,7 +26,7 @@ known_optional = optional false
 
 -- what is this value where it is left out
 abbrev pub known_default : {T : Type 0} → T → Grammar T → Grammar T
-known_default value = fallback (kept_closure (λ v. v ≡ value))
+known_default value = fallback (map_closure (λ u v. v ≡ value))
 
 -- what this is made of
 abbrev pub known_map : {A B : Type 0} → (A → B) → Grammar A → Grammar B

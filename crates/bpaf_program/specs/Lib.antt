@@ -2,7 +2,6 @@ pub mod Sink
 pub mod Ending
 pub mod Words
 pub mod Running
-pub mod Dealt
 pub mod Lines
 pub mod Values
 pub mod Fields

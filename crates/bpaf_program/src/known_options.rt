@@ -38,14 +38,14 @@ pub struct KnownOptions<T, P, K> {
 
 impl<T: Drop, P: Parser<T>, K: KnownProgram<T>> CommandLine<T> for KnownOptions<T, P, K> {
     ghost use Rattle.bpaf.specs.Dealt.{IsDealtOut};
+    ghost use Rattle.bpaf.specs.Known.{known_names};
     ghost use Rattle.bpaf.specs.Refusals.{IsOneOfTwelve};
     ghost use Rattle.bpaf.specs.Run.{RunsWords};
     ghost use Rattle.bpaf_exact.specs.ProgramForm.{is_program};
     ghost use Rattle.bpaf_laws.specs.Spared.{WithoutMemory};
-    ghost use Rattle.bpaf_record.specs.Grammar.{program_form, shown_shorts};
+    ghost use Rattle.bpaf_record.specs.Grammar.{program_form};
     ghost use Rattle.bpaf_record.specs.Program.{AnswersAsProgram, IsProgramValueOf};
-    ghost use Rattle.bpaf_record.specs.Record.{names_by};
-    ghost use Rattle.bpaf_program.specs.KnownParser.{IsKnownParser};
+    ghost use Rattle.bpaf_program.specs.KnownParser.{IsKnownParser, shown_shorts};
 
     ghost is_whole = { λ p variables. is_program (program_form K.grammar variables) };
 
@@ -56,26 +56,29 @@ impl<T: Drop, P: Parser<T>, K: KnownProgram<T>> CommandLine<T> for KnownOptions<
     ghost can_run = { λ p. P.can_eval p.options.inner };
 
     ghost agrees = { λ p.
-        IsKnownParser K.grammar (P.outcome p.options.inner) (P.describes p.options.inner) };
+        IsKnownParser K.grammar (P.outcome p.options.inner) (P.shorts p.options.inner) };
 
     ghost answers = { λ p given. RunsWords T (P.outcome p.options.inner)
-        (P.describes p.options.inner) p.options.info given };
+        (P.describes p.options.inner) p.options.info
+        (known_names p.options.info (P.shorts p.options.inner)) given };
 
     ghost refuses = { λ p given. IsOneOfTwelve (P.outcome p.options.inner)
-        (P.describes p.options.inner) p.options.info given };
+        (P.describes p.options.inner) p.options.info
+        (known_names p.options.info (P.shorts p.options.inner)) given };
 
     ghost deals = { λ p given. IsDealtOut T (P.reads p.options.inner)
-        (P.describes p.options.inner) p.options.info given };
+        (known_names p.options.info (P.shorts p.options.inner)) given };
 
     ghost tells = { λ p given. IsProgramValueOf
-        (names_by p.options.info (shown_shorts K.grammar)) (program_form K.grammar given.env)
+        (known_names p.options.info (shown_shorts K.grammar)) (program_form K.grammar given.env)
         given };
 
     ghost answers_spared = { λ p given. RunsWords T (WithoutMemory (P.outcome p.options.inner))
-        (P.describes p.options.inner) p.options.info given };
+        (P.describes p.options.inner) p.options.info
+        (known_names p.options.info (P.shorts p.options.inner)) given };
 
     ghost answers_as_program = { λ p given. AnswersAsProgram T
-        (names_by p.options.info (shown_shorts K.grammar)) (program_form K.grammar given.env)
+        (known_names p.options.info (shown_shorts K.grammar)) (program_form K.grammar given.env)
         given };
 
     fn run_program(&self, args: Args<'_>) -> Result<T, ParseFailure> {

@@ -42,15 +42,17 @@ pub trait Program<T> {
 
 impl<T: Drop, P: Parser<T>> Program<T> for OptionParser<T, P> {
     ghost use Rattle.bpaf.specs.Dealt.{IsDealtOut};
+    ghost use Rattle.bpaf.specs.Known.{known_names};
     ghost use Rattle.bpaf.specs.Refusals.{IsOneOfTwelve};
     ghost use Rattle.bpaf.specs.Run.{RunsWords};
 
     ghost can_run = { λ p. P.can_eval p.inner };
 
     ghost answers = { λ p given r.
-        RunsWords T (P.outcome p.inner) (P.describes p.inner) p.info given r
-        × (IfErr r (IsOneOfTwelve (P.outcome p.inner) (P.describes p.inner) p.info given)
-        × IfOk r (IsDealtOut T (P.reads p.inner) (P.describes p.inner) p.info given)) };
+        let known = known_names p.info (P.shorts p.inner) in
+        RunsWords T (P.outcome p.inner) (P.describes p.inner) p.info known given r
+        × (IfErr r (IsOneOfTwelve (P.outcome p.inner) (P.describes p.inner) p.info known given)
+        × IfOk r (IsDealtOut T (P.reads p.inner) known given)) };
 
     fn run<S: Sink, E: Sink>(&self, args: Args<'_>, out: &mut S, err: &mut E) -> Result<T, u8> {
         end(self.run_inner(args), out, err)

@@ -1,5 +1,5 @@
 -- What the combinators make of a form.
-use Rattle.std.proofs.Common.{◌≡◌, Bool, true, false, List, [], ◌∷◌, ◌&&◌, refl, ap, ◌∙◌}
+use Rattle.std.proofs.Common.{◌≡◌, Bool, not, true, false, List, [], ◌∷◌, ◌&&◌, refl, ap, ◌∙◌}
 use Rattle.std.specs.List.{list_all}
 use Rattle.bpaf_doc.specs.Names.{Names}
 use Rattle.bpaf_exact.specs.Flat.{FieldKind, ByName, OneWord, EachWord}
@@ -7,7 +7,7 @@ use Rattle.bpaf_exact.specs.FlatForm.{FlatForm, not_flat, alternative, single, c
 use Rattle.bpaf_exact.specs.FlatForm.{alternative_only, flat_alone, flat_both, flat_choice}
 use Rattle.bpaf_exact.specs.FlatForm.{flat_closed, flat_con, flat_fallback, flat_last}
 use Rattle.bpaf_exact.specs.FlatForm.{flat_optional, flat_repeat, flat_field, is_named, is_product}
-use Rattle.bpaf_exact.specs.FlatForm.{is_record, may_follow, only_if, unless}
+use Rattle.bpaf_exact.specs.FlatForm.{is_record, may_follow, only_if}
 use Rattle.bpaf_exact.specs.Names.{are_all_apart}
 use Rattle.bpaf_exact.specs.Single.{repeated}
 use Rattle.bpaf_exact.specs.Wrappers.{Closure}
@@ -58,13 +58,14 @@ fallback_is f _ = refl
 -- a repeat that may catch
 pub listed_unless : {T B : Type 0} (catch : Bool) (f : Closure (List T) B) (s : FlatForm T)
     → unless_form catch (completed_form (form_of s))
-    ≡ form_of (unless catch (flat_closed f (flat_repeat s)))
+    ≡ form_of (only_if (not catch) (flat_closed f (flat_repeat s)))
 listed_unless true f s = refl
 listed_unless false f s = listed_is f s
 
 -- an optional one
 pub optional_unless : {T : Type 0} (catch : Bool) (s : FlatForm T)
-    → unless_form catch (completed_form (form_of s)) ≡ form_of (unless catch (flat_optional s))
+    → unless_form catch (completed_form (form_of s))
+    ≡ form_of (only_if (not catch) (flat_optional s))
 optional_unless true s = refl
 optional_unless false s = optional_is s
 

@@ -10,12 +10,13 @@ use Rattle.bpaf_doc.specs.Names.{Names}
 use Rattle.bpaf_laws.specs.Command.{Called, opening_words}
 use Rattle.bpaf_exact.specs.Flat.{ByName, OneWord, EachWord, ReadOff, Variables}
 use Rattle.bpaf_exact.specs.FlatForm.{FlatForm, complete, flat_record, is_record, product_reading}
+use Rattle.bpaf_exact.specs.FlatForm.{flat_closed, flat_fallback, flat_last, flat_repeat, only_if}
 use Rattle.bpaf_exact.specs.FlatForm.{product_roles}
 use Rattle.bpaf_exact.specs.Names.{are_all_apart}
 use Rattle.bpaf_exact.specs.ProgramForm.{ProgramForm, no_program, plain, commands, left_out}
 use Rattle.bpaf_exact.specs.ProgramForm.{before_commands, program_if, program_closed}
-use Rattle.bpaf_exact.specs.ProgramForm.{program_dressed, program_repeat, program_last}
-use Rattle.bpaf_exact.specs.ProgramForm.{program_fallback, program_optional, are_words_apart}
+use Rattle.bpaf_exact.specs.ProgramForm.{are_words_apart, flat_only, program_dressed}
+use Rattle.bpaf_exact.specs.ProgramForm.{program_optional}
 use Rattle.bpaf_exact.specs.ProgramForm.{program_choice, program_rest, first_only}
 use Rattle.bpaf_exact.specs.ProgramForm.{whole_program, opened_form, program_command, is_program}
 use Rattle.bpaf_exact.specs.ProgramForm.{program_field, program_alone, program_both, program_con}
@@ -26,7 +27,6 @@ use Rattle.bpaf_exact.specs.Wrappers.{Closure}
 use Rattle.bpaf_record.specs.declared.part.ProgramPart.{ProgramPart}
 use Rattle.bpaf_record.specs.declared.part.ProgramPart.TheVariants.{NoPart, Flat, Commands}
 use Rattle.bpaf_record.specs.declared.part.ProgramPart.TheVariants.{BeforeCommands}
-use Rattle.bpaf_record.specs.Commands.{keys_inside}
 use Rattle.bpaf_record.specs.Form.{form_of, is_record_form}
 use Rattle.bpaf_record.specs.Grammar.{Grammar, choices, command_words, keys_of, program_form}
 use Rattle.bpaf_record.specs.Part.{part_of, part_if, flat_part, closed_part, completed_part}
@@ -57,19 +57,20 @@ dressed_part_is _ = refl
 
 -- what is made of a repeat
 pub repeat_part_is : {T B : Type 0} (catch : Bool) (f : Closure (List T) B) (s : ProgramForm T)
-    → completed_part catch (part_of s) ≡ part_of (program_repeat catch f s)
+    → completed_part catch (part_of s) ≡ part_of
+    (flat_only (λ s. only_if (not catch) (flat_closed f (flat_repeat s))) s)
 repeat_part_is catch f (plain wide s) = ap (Flat wide) (listed_unless catch f s)
 repeat_part_is catch f _ = refl
 
 -- its last value
 pub last_part_is : {T : Type 0} (s : ProgramForm T)
-    → completed_part false (part_of s) ≡ part_of (program_last s)
+    → completed_part false (part_of s) ≡ part_of (flat_only (λ s. flat_last s) s)
 last_part_is (plain wide s) = ap (Flat wide) (last_is s)
 last_part_is _ = refl
 
 -- a default
 pub fallback_part_is : {T : Type 0} (f : Closure (Unit {0}) T) (s : ProgramForm T)
-    → completed_part false (part_of s) ≡ part_of (program_fallback f s)
+    → completed_part false (part_of s) ≡ part_of (flat_only (λ s. flat_fallback f s) s)
 fallback_part_is f (plain wide s) = ap (Flat wide) (fallback_is f s)
 fallback_part_is f _ = refl
 
@@ -157,7 +158,7 @@ all_joined test xs ys = sym (list_all-append test xs ys)
 -- a test of the keys inside a command
 pub keys_entered : (test : Names → Bool) (deep : Bool) (names : List Names) (b : Bool)
     → b ≡ list_all test names
-    → (if deep then b else true) ≡ list_all test (keys_inside deep names)
+    → (if deep then b else true) ≡ list_all test (if deep then names else [])
 keys_entered test true names b e = e
 keys_entered test false names b e = refl
 

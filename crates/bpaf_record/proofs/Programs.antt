@@ -3,7 +3,7 @@ use Rattle.std.proofs.Common.{◌≡◌, ℕ, true, List, Result, Ok, Err, IfOk,
 use Rattle.bpaf_doc.specs.Names.{Names}
 use Rattle.bpaf_doc.specs.Shape.{Shape}
 use Rattle.bpaf_words.specs.Arguments.{Given}
-use Rattle.bpaf_words.specs.Spelling.{Known, ShortNames}
+use Rattle.bpaf_words.specs.Spelling.{Known}
 use Rattle.bpaf_line.specs.Constructing.{IsContext}
 use Rattle.bpaf_line.specs.declared.failure.ParseFailure.{ParseFailure}
 use Rattle.bpaf_line.specs.declared.failure.ParseFailure.TheVariants as failure
@@ -13,7 +13,6 @@ use Rattle.bpaf.specs.Info.{RunInfo}
 use Rattle.bpaf.specs.Run.{RunsWords, ran, no_line as none_there, no_memory as wanted}
 use Rattle.bpaf_exact.specs.ProgramForm.{ProgramForm, ProgramFormLaw, is_program, program_value}
 use Rattle.bpaf_exact.specs.Record.{Accepted, IsAcceptedOrWant, line_cells}
-use Rattle.bpaf_exact.specs.ShownNames.{ShowsNames}
 use Rattle.bpaf_exact.specs.Flat.{Variables}
 use Rattle.bpaf_exact.proofs.ProgramForm.{runs_as_program}
 use Rattle.std.proofs.lemmas.Bool.{and_parts}
@@ -22,19 +21,15 @@ use Rattle.bpaf_exact.specs.ProgramSays.{ProgramSaid, ProgramSays, cells_said}
 use Rattle.bpaf_exact.proofs.ProgramSays.{program_says}
 use Rattle.bpaf_record.specs.Program.{AnswersAsProgram, IsProgramValueOf, TellsOfWords}
 use Rattle.bpaf_record.specs.Program.{is_whole_program}
-use Rattle.bpaf_record.specs.Record.{answer_of, IsValueOrWant, names_by}
-use Rattle.bpaf_record.proofs.OneLine.{line_by, never_without, same_context}
+use Rattle.bpaf_record.specs.Record.{answer_of, IsValueOrWant}
+use Rattle.bpaf_record.proofs.OneLine.{never_without, same_context}
 use Rattle.bpaf_record.proofs.Running.{run_ran}
 use Rattle.bpaf_record.proofs.OnLine.{context_spelled}
 
 module _ (T : Type 0) (outcome : Outcome T) (describes : Shape → Type 0) (info : RunInfo)
-    (names : List Names) (words : List (List ℕ)) (shorts : ShortNames) (form : ProgramForm T)
+    (known : Known) (names : List Names) (words : List (List ℕ)) (form : ProgramForm T)
     (given : Given) (law : ProgramFormLaw given.env outcome names words form)
-    (program : is_program form ≡ true) (shows : ShowsNames describes shorts) where
-  -- the names by which words are read
-  abbrev known : Known
-  known = names_by info shorts
-
+    (program : is_program form ≡ true) where
   -- a value of the program on the words
   abbrev IsValue : T → Type 0
   IsValue = IsProgramValueOf known form given
@@ -58,10 +53,9 @@ module _ (T : Type 0) (outcome : Outcome T) (describes : Shape → Type 0) (info
   sound_on context is (Err f) h = tt
 
   -- THE THEOREM: on words each answer of a run of a program is exact.
-  pub answers_as_program : (r : Result T ParseFailure) → RunsWords T outcome describes info given r
-      → AnswersAsProgram T known form given r
-  answers_as_program r (ran context answer t line run) =
-      let is = line_by shows info given context line in
+  pub answers_as_program : (r : Result T ParseFailure)
+      → RunsWords T outcome describes info known given r → AnswersAsProgram T known form given r
+  answers_as_program r (ran context answer t is run) =
       let here = subst (λ env. ProgramFormLaw env outcome names words form) (sym is.env) law in
       let exact = runs_as_program T outcome names words form program context here
       (context_spelled is) (answer_of r)
@@ -72,11 +66,11 @@ module _ (T : Type 0) (outcome : Outcome T) (describes : Shape → Type 0) (info
             (subst (λ c. program_value form (line_cells c) v)
             (same_context given texts known there.context context there.on_line is) there.read));
       }
-  answers_as_program (Err f) (none_there shown word number context told is none line name renders) =
+  answers_as_program (Err f) (none_there word number context told none line name renders) =
       record {
         sound = tt;
-        answered = λ texts v there. absurd (never_without shows info given texts there.context
-            there.on_line shown is word number none);
+        answered = λ texts v there. absurd (never_without known given texts there.context
+            there.on_line word number none);
       }
   answers_as_program (Err f) wanted = record { sound = tt; answered = λ texts v there. refl }
 

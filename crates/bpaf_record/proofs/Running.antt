@@ -5,7 +5,7 @@ use Rattle.std.proofs.lemmas.Bool.{and_parts}
 use Rattle.bpaf_doc.specs.Names.{Names}
 use Rattle.bpaf_doc.specs.Shape.{Shape}
 use Rattle.bpaf_words.specs.Arguments.{Given}
-use Rattle.bpaf_words.specs.Spelling.{Known, ShortNames}
+use Rattle.bpaf_words.specs.Spelling.{Known}
 use Rattle.bpaf_line.specs.Constructing.{IsContext}
 use Rattle.bpaf_line.specs.declared.error.Error.{Error}
 use Rattle.bpaf_line.specs.declared.failure.ParseFailure.{ParseFailure}
@@ -27,13 +27,12 @@ use Rattle.bpaf_exact.proofs.Classes.{memory_class, not_memory}
 use Rattle.bpaf_exact.proofs.Accepted.{cut_holds_together}
 use Rattle.bpaf_exact.proofs.Exact.{runs_exactly}
 use Rattle.bpaf_exact.proofs.FlatForm.{record_law}
-use Rattle.bpaf_exact.specs.ShownNames.{ShowsNames}
 use Rattle.bpaf_exact.specs.ProgramForm.{ProgramForm, flat_form, plain}
 use Rattle.bpaf_record.specs.Program.{is_whole_program}
 use Rattle.bpaf_record.specs.Record.{is_flat_record, answer_of, AnswersByFields, IsValueOf}
-use Rattle.bpaf_record.specs.Record.{IsValueOrWant, HasWholeLine, PiecesOf, names_by}
+use Rattle.bpaf_record.specs.Record.{IsValueOrWant, HasWholeLine, PiecesOf}
 use Rattle.bpaf_record.specs.Commands.{left_over}
-use Rattle.bpaf_record.proofs.OneLine.{line_by, never_without, same_context}
+use Rattle.bpaf_record.proofs.OneLine.{never_without, same_context}
 
 -- what a run answers that gives no value is none
 no_value : (T : Type 0) (f : ParseFailure) → IsNoValue (answer_of {T = T} (Err f))
@@ -67,13 +66,8 @@ module _ (T : Type 0) (outcome : Outcome T) (describes : Shape → Type 0) (info
   run_ran s t r (refused e left f after o ends) = refused_ran s left after e f o ends
 
 module _ (T : Type 0) (outcome : Outcome T) (describes : Shape → Type 0) (info : RunInfo) where
-  module _ (names : List Names) (shorts : ShortNames) (form : FlatForm T) (given : Given)
-      (law : FormLaw given.env outcome names form)
-      (flat : is_record form ≡ true) (shows : ShowsNames describes shorts) where
-    -- the names by which words are read
-    abbrev known : Known
-    known = names_by info shorts
-
+  module _ (known : Known) (names : List Names) (form : FlatForm T) (given : Given)
+      (law : FormLaw given.env outcome names form) (flat : is_record form ≡ true) where
     -- a value of the record on words
     abbrev IsValue : T → Type 0
     IsValue = IsValueOf known form given
@@ -142,10 +136,9 @@ module _ (T : Type 0) (outcome : Outcome T) (describes : Shape → Type 0) (info
 
     -- each answer to words keeps to the fields
     pub answers_by_fields : (r : Result T ParseFailure)
-        → RunsWords T outcome describes info given r
+        → RunsWords T outcome describes info known given r
         → AnswersByFields T known form given r
-    answers_by_fields r (ran context answer t line run) =
-        let is = line_by shows info given context line in
+    answers_by_fields r (ran context answer t is run) =
         let here = subst (λ env. FormLaw env outcome names form) (sym is.env) law in
         let exact = runs_exactly T outcome names form flat context here (answer_of r)
         (run_ran T outcome describes info (beginning context) t r run) in
@@ -154,11 +147,11 @@ module _ (T : Type 0) (outcome : Outcome T) (describes : Shape → Type 0) (info
           complete = complete_on context is r exact;
           refused = λ texts line none. refused_on context is r exact texts line none r refl;
         }
-    answers_by_fields (Err f) (none_there shown word number context told is none line name renders) =
+    answers_by_fields (Err f) (none_there word number context told none line name renders) =
         record {
           whole = tt;
-          complete = λ texts there each. absurd (never_without shows info given texts there.context
-              there.on_line shown is word number none);
+          complete = λ texts there each. absurd (never_without known given texts there.context
+              there.on_line word number none);
           refused = λ texts there none_has. tt;
         }
     answers_by_fields (Err f) wanted = record {

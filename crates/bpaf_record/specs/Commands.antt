@@ -1,6 +1,6 @@
 -- What a plain command answers is what exactness says of one; so it keeps to the laws of commands,
 -- where what runs behind its word keeps to those of a program.
-use Rattle.std.proofs.Common.{◌≡◌, ℕ, Bool, true, false, List, [], Some, None, Result, Ok, Err, ap}
+use Rattle.std.proofs.Common.{◌≡◌, ℕ, Bool, true, false, List, Some, None, Result, Ok, Err, ap}
 use Rattle.std.proofs.Common.{inl, inr}
 use Rattle.bpaf_doc.specs.Names.{Names}
 use Rattle.bpaf_doc.specs.Shape.{Part, Shape}
@@ -26,11 +26,6 @@ use Rattle.bpaf_exact.proofs.ProgramForm.{program_command_law, narrower_program_
 use Rattle.bpaf.specs.Leftover.{IsLeftover, conflict, only_once, not_expected}
 use Rattle.bpaf_line.specs.declared.error.Message.{Message}
 use Rattle.bpaf_exact.proofs.Counts.{open_counted}
-
--- the keys inside a command, where a test is put to these too
-abbrev pub keys_inside : Bool → List Names → List Names
-keys_inside true names = names
-keys_inside false names = []
 
 -- where something is told of what is left something is
 pub left_over : (s : Situation) (m : Message) → IsLeftover s m → open_count s ≡ 0 → ⊥

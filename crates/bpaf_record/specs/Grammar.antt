@@ -1,7 +1,7 @@
 -- The grammar of programs: of which parsers they are made, and by which steps.
-use Rattle.std.specs.Prelude.{ℕ, Bool, false, true, List, [], ◌∷◌, ◌++◌, Option, flat_map}
+use Rattle.std.specs.Prelude.{ℕ, Bool, false, not, true, List, [], ◌∷◌, ◌++◌, Option, flat_map}
+use Rattle.std.specs.Prelude.{if◌then◌else◌}
 use Rattle.bpaf_doc.specs.Names.{Names}
-use Rattle.bpaf_words.specs.Spelling.{ShortNames}
 use Rattle.bpaf_text.specs.Named.{Named as Key, KeyWithValue}
 use Rattle.bpaf_laws.specs.Command.{Called, opening_words}
 use Rattle.bpaf.specs.declared.leaves.positional.Position.{Position}
@@ -11,14 +11,13 @@ use Rattle.bpaf_exact.specs.Leaves.{pure_field}
 use Rattle.bpaf_exact.specs.ProgramForm.{ProgramForm, no_program, plain, program_alone}
 use Rattle.bpaf_exact.specs.ProgramForm.{program_both, program_choice, program_choices}
 use Rattle.bpaf_exact.specs.ProgramForm.{program_closed, program_command, program_con}
-use Rattle.bpaf_exact.specs.ProgramForm.{program_dressed, program_fallback, program_field}
-use Rattle.bpaf_exact.specs.ProgramForm.{program_last, program_optional, program_repeat}
+use Rattle.bpaf_exact.specs.FlatForm.{flat_closed, flat_fallback, flat_last, flat_repeat, only_if}
+use Rattle.bpaf_exact.specs.ProgramForm.{flat_only, program_dressed, program_field}
+use Rattle.bpaf_exact.specs.ProgramForm.{program_optional}
 use Rattle.bpaf_exact.specs.ProgramSays.{program_kind}
 use Rattle.bpaf_exact.specs.Says.{SaidKind, of_kind, repeated_kind}
-use Rattle.bpaf_exact.specs.ShownNames.{joined_shorts, no_shorts}
 use Rattle.bpaf_exact.specs.Variables.{argument_form, flag_form}
 use Rattle.bpaf_exact.specs.Wrappers.{Closure}
-use Rattle.bpaf_record.specs.Commands.{keys_inside}
 use Rattle.bpaf_record.specs.Positional.{is_sided, positional_field, stops_at}
 use Rattle.bpaf_record.specs.Record.{are_unusual}
 
@@ -29,11 +28,11 @@ pub data Grammar : Type 0 → Type 1 where
   argument : {T : Type 0} → (means : List ℕ → T → Type 0) → KeyWithValue → Grammar T
   word : {T : Type 0} → (means : List ℕ → T → Type 0) → Position → Grammar T
   kept : {T : Type 0} → (given : T → Type 0) → Grammar T
-  -- a parser of a caller's own that shows these short names, which is nothing to a program
-  other : {T : Type 0} → ShortNames → Grammar T
+  -- a parser of a caller's own, which is nothing to a program
+  other : {T : Type 0} → Grammar T
   closed : {A B : Type 0} → Closure A B → Grammar A → Grammar B
   -- what has another look, or isn't shown
-  dressed : {T : Type 0} → (shown : Bool) → Grammar T → Grammar T
+  dressed : {T : Type 0} → Grammar T → Grammar T
   optional : {T : Type 0} → (catch : Bool) → Grammar T → Grammar (Option T)
   fallback : {T : Type 0} → Closure (Unit {0}) T → Grammar T → Grammar T
   repeat : {A B : Type 0} → (catch : Bool) → Closure (List A) B → Grammar A → Grammar B
@@ -51,14 +50,14 @@ abbrev pub keys_of : {T : Type 0} → Grammar T → Bool → List Names
 keys_of (flag clones key present absent) deep = key.names ∷ []
 keys_of (argument means key) deep = key.named.names ∷ []
 keys_of (closed f g) deep = keys_of g deep
-keys_of (dressed shown g) deep = keys_of g deep
+keys_of (dressed g) deep = keys_of g deep
 keys_of (optional catch g) deep = keys_of g deep
 keys_of (fallback f g) deep = keys_of g deep
 keys_of (repeat catch f g) deep = keys_of g deep
 keys_of (last g) deep = keys_of g deep
 keys_of (choice g h) deep = keys_of g deep ++ keys_of h deep
 keys_of (choices of ps) deep = flat_map (λ p. keys_of (of p) deep) ps
-keys_of (command adjacent called info g) deep = keys_inside deep (keys_of g deep)
+keys_of (command adjacent called info g) deep = if deep then keys_of g deep else []
 keys_of (alone g) deep = keys_of g deep
 keys_of (both g h) deep = keys_of g deep ++ keys_of h deep
 keys_of (product f g) deep = keys_of g deep
@@ -67,33 +66,11 @@ keys_of _ deep = []
 -- the words of its commands, where it is a command or a choice of such
 abbrev pub command_words : {T : Type 0} → Grammar T → List (List ℕ)
 command_words (closed f g) = command_words g
-command_words (dressed shown g) = command_words g
+command_words (dressed g) = command_words g
 command_words (choice g h) = command_words g ++ command_words h
 command_words (choices of ps) = flat_map (λ p. command_words (of p)) ps
 command_words (command adjacent called info g) = opening_words called
 command_words _ = []
-
--- the short names that it shows, of keys inside commands too
-abbrev pub shown_shorts : {T : Type 0} → Grammar T → ShortNames
-shown_shorts (flag clones key present absent) = record { flags = key.names.shorts; arguments = [] }
-shown_shorts (argument means key) = record { flags = []; arguments = key.named.names.shorts }
-shown_shorts (other shorts) = shorts
-shown_shorts (closed f g) = shown_shorts g
-shown_shorts (dressed true g) = shown_shorts g
-shown_shorts (optional catch g) = shown_shorts g
-shown_shorts (fallback f g) = shown_shorts g
-shown_shorts (repeat catch f g) = shown_shorts g
-shown_shorts (last g) = shown_shorts g
-shown_shorts (choice g h) = joined_shorts (shown_shorts g) (shown_shorts h)
-shown_shorts (choices of ps) = record {
-  flags = flat_map (λ p. (shown_shorts (of p)).flags) ps;
-  arguments = flat_map (λ p. (shown_shorts (of p)).arguments) ps;
-}
-shown_shorts (command adjacent called info g) = shown_shorts g
-shown_shorts (alone g) = shown_shorts g
-shown_shorts (both g h) = joined_shorts (shown_shorts g) (shown_shorts h)
-shown_shorts (product f g) = shown_shorts g
-shown_shorts _ = no_shorts
 
 -- what it is to a program where the environment has these variables
 abbrev pub program_form : {T : Type 0} → Grammar T → Variables → ProgramForm T
@@ -103,13 +80,15 @@ program_form (argument means key) variables = argument_form means key variables
 program_form (word means position) variables =
     plain (is_sided position) (positional_field means position)
 program_form (kept given) variables = plain true (pure_field given)
-program_form (other shorts) variables = no_program
+program_form other variables = no_program
 program_form (closed f g) variables = program_closed f (program_form g variables)
-program_form (dressed shown g) variables = program_dressed (program_form g variables)
+program_form (dressed g) variables = program_dressed (program_form g variables)
 program_form (optional catch g) variables = program_optional catch (program_form g variables)
-program_form (fallback f g) variables = program_fallback f (program_form g variables)
-program_form (repeat catch f g) variables = program_repeat catch f (program_form g variables)
-program_form (last g) variables = program_last (program_form g variables)
+program_form (fallback f g) variables =
+    flat_only (λ s. flat_fallback f s) (program_form g variables)
+program_form (repeat catch f g) variables =
+    flat_only (λ s. only_if (not catch) (flat_closed f (flat_repeat s))) (program_form g variables)
+program_form (last g) variables = flat_only (λ s. flat_last s) (program_form g variables)
 program_form (choice g h) variables =
     program_choice (keys_of g true) (keys_of h true) (command_words g) (command_words h)
     (program_form g variables) (program_form h variables)
@@ -129,7 +108,7 @@ program_form (product f g) variables = program_con f (program_form g variables)
 abbrev pub said_kind : {T : Type 0} → Grammar T → Variables → SaidKind
 said_kind (word means position) variables = of_kind (OneWord (stops_at position))
 said_kind (closed f g) variables = said_kind g variables
-said_kind (dressed shown g) variables = said_kind g variables
+said_kind (dressed g) variables = said_kind g variables
 said_kind (optional catch g) variables = said_kind g variables
 said_kind (fallback f g) variables = said_kind g variables
 said_kind (repeat catch f g) variables = repeated_kind (said_kind g variables)

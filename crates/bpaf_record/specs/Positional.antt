@@ -1,10 +1,8 @@
 -- Positional words as fields of a flat record, and of a program.
 use Rattle.std.proofs.Common.{◌≡◌, ℕ, Bool, true, false, List, [], Some, Result, Ok, Err, refl, sym}
-use Rattle.std.proofs.Common.{Option}
 use Rattle.std.proofs.Common.{ap, ◌∙◌, subst, true≢false}
 use Rattle.bpaf_base.specs.declared.arg.Arg.{Arg}
 use Rattle.bpaf_base.specs.Items.{word_text}
-use Rattle.bpaf_doc.specs.declared.doc.Piece.{Piece}
 use Rattle.bpaf_line.specs.declared.error.Error.{Error}
 use Rattle.bpaf_line.specs.declared.error.Message.{Message}
 use Rattle.bpaf_line.specs.declared.error.Message.TheVariants.{Memory, Missing, ParseFailed}
@@ -16,15 +14,13 @@ use Rattle.bpaf_exact.specs.Leaves.{word_memory, word_missing, word_passed, word
 use Rattle.bpaf_exact.specs.FlatForm.{FlatForm, FormLaw}
 use Rattle.bpaf_exact.specs.Pieces.{LinePiece, One, Two}
 use Rattle.bpaf_exact.specs.Says.{Says, WordSays, of_kind}
-use Rattle.bpaf_exact.specs.ShownNames.{ShowsNames, no_shorts}
 use Rattle.bpaf_exact.proofs.Says.{OneWordSays, side_says, word_by_says, word_says}
 use Rattle.bpaf_exact.proofs.Narrow.{narrower_form, no_more}
 use Rattle.bpaf_exact.proofs.Positionals.{word_by_law, word_is}
-use Rattle.bpaf_exact.proofs.ShownNames.{one_shape}
 use Rattle.bpaf.specs.declared.leaves.positional.Position.{Position}
 use Rattle.bpaf.specs.declared.leaves.positional.Position.TheVariants.{Unrestricted, Strict}
 use Rattle.bpaf.specs.declared.leaves.positional.Position.TheVariants.{NonStrict}
-use Rattle.bpaf.specs.Positional.{PositionalOutcome, PositionalFails, accepts, positional_shape}
+use Rattle.bpaf.specs.Positional.{PositionalOutcome, PositionalFails, accepts}
 
 -- a word that may stand on one side of `--` alone is a field of a program, and of no flat record
 abbrev pub is_sided : Position → Bool
@@ -155,10 +151,3 @@ positional_says means position =
     says Unrestricted = word_says (accepts Unrestricted) means (λ behind. refl)
     says Strict = side_says (accepts Strict) true means refl
     says NonStrict = side_says (accepts NonStrict) false means refl
-
--- a word shows no short name
-pub positional_shows : (position : Position) (metavar : List ℕ) (help : Option (List Piece))
-    → ShowsNames (λ shown. shown ≡ positional_shape position metavar help) no_shorts
-positional_shows Unrestricted metavar help = one_shape refl
-positional_shows Strict metavar help = one_shape refl
-positional_shows NonStrict metavar help = one_shape refl

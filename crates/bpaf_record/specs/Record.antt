@@ -1,9 +1,9 @@
 -- Flat records.
-use Rattle.std.specs.Prelude.{◌≡◌, All, Bool, ◌&&◌, ◌++◌, IfOk, IsUtf8, List, Result, Ok, Err}
+use Rattle.std.specs.Prelude.{◌≡◌, All, Bool, ◌&&◌, IfOk, IsUtf8, List, Result, Ok, Err}
 use Rattle.std.specs.List.{list_all}
 use Rattle.bpaf_doc.specs.Names.{Names}
 use Rattle.bpaf_words.specs.Arguments.{Given}
-use Rattle.bpaf_words.specs.Spelling.{Known, ShortNames, known_at}
+use Rattle.bpaf_words.specs.Spelling.{Known}
 use Rattle.bpaf_line.specs.Constructing.{IsContext}
 use Rattle.bpaf_line.specs.declared.failure.ParseFailure.{ParseFailure}
 use Rattle.bpaf_line.specs.declared.failure.ParseFailure.TheVariants as failure
@@ -21,14 +21,6 @@ abbrev pub are_unusual : List Names → RunInfo → Bool
 are_unusual keys info =
     list_all (are_apart info.help_arg.names) keys
     && list_all (are_apart info.version_arg.names) keys
-
--- the names by which the words of a run are read whose parser shows these: with those of help and
--- version, as flags; and whether the setting makes a negative number a word
-abbrev pub names_by : RunInfo → ShortNames → Known
-names_by info shorts = known_at info.numbers (record {
-  flags = shorts.flags ++ info.help_arg.names.shorts ++ info.version_arg.names.shorts;
-  arguments = shorts.arguments;
-})
 
 -- a flat record none of whose keys shares a name with those of help and version
 abbrev pub is_flat_record : {T : Type 0} → FlatForm T → List Names → RunInfo → Bool

@@ -3,7 +3,7 @@ ghost use Rattle.std.specs.Prelude.{◌≡◌, ◌≤◌, length, take, drop, tr
 ghost use Rattle.std.specs.List.{list_all};
 ghost use Rattle.bpaf_exact.specs.Flat.{Variables};
 ghost use Rattle.bpaf_record.specs.Grammar.{choices, command_words, keys_of, program_form};
-ghost use Rattle.bpaf_record.specs.Grammar.{said_kind, shown_shorts};
+ghost use Rattle.bpaf_record.specs.Grammar.{said_kind};
 ghost use Rattle.bpaf_record.specs.Part.{part_of, parts_rest};
 
 use crate::field::{FlatField, ProgramField};
@@ -19,7 +19,6 @@ impl<T: Drop, A: ProgramField<T>, B: ProgramField<T>> ProgramField<T> for ParseO
     ghost use Rattle.bpaf_exact.specs.ProgramSays.{said_choice};
     ghost use Rattle.bpaf_exact.proofs.ProgramForm.{program_choice_law};
     ghost use Rattle.bpaf_exact.proofs.ProgramSays.{program_choice_says};
-    ghost use Rattle.bpaf_exact.proofs.ShownNames.{choice_shows};
     ghost use Rattle.bpaf_record.specs.Grammar.{choice};
 
     ghost grammar = { λ p. choice (A.grammar p.this) (B.grammar p.that) };
@@ -63,8 +62,6 @@ impl<T: Drop, A: ProgramField<T>, B: ProgramField<T>> ProgramField<T> for ParseO
         (command_words (A.grammar p.this)) (command_words (B.grammar p.that))
         (program_form (A.grammar p.this) variables) (program_form (B.grammar p.that) variables)
         (A.law p.this a.0 variables) (B.law p.that a.1 variables) };
-
-    ghost shows = { λ p. choice_shows (A.shows p.this) (B.shows p.that) };
 
     ghost said = { λ p a variables. program_choice_says (λ p. p.this) (λ p. p.that) p
         (keys_of (A.grammar p.this) true) (keys_of (B.grammar p.that) true)
@@ -148,7 +145,6 @@ impl<T: Drop, P: ProgramField<T> + Drop> ProgramField<T> for ParseChoice<P> {
     ghost use Rattle.bpaf_exact.specs.ProgramSays.{said_choices};
     ghost use Rattle.bpaf_exact.proofs.ProgramForm.{program_choices_law};
     ghost use Rattle.bpaf_exact.proofs.ProgramSays.{program_choices_says};
-    ghost use Rattle.bpaf_exact.proofs.ShownNames.{choices_show};
 
     ghost grammar = { λ p. choices P.grammar p.parsers.items };
 
@@ -172,9 +168,6 @@ impl<T: Drop, P: ProgramField<T> + Drop> ProgramField<T> for ParseChoice<P> {
         (λ q. keys_of (P.grammar q) true) (λ q. command_words (P.grammar q))
         (λ q. program_form (P.grammar q) variables) P.agrees (λ q b. P.law q b variables)
         p.parsers.items a };
-
-    ghost shows = { λ p. choices_show P.describes (λ q. shown_shorts (P.grammar q)) P.shows
-        p.parsers.items };
 
     ghost said = { λ p a variables. program_choices_says (λ q. keys_of (P.grammar q) true)
         (λ q. command_words (P.grammar q)) (λ q. program_form (P.grammar q) variables)

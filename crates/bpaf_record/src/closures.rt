@@ -41,8 +41,6 @@ impl<T, R, P: ProgramField<T>, F: Fn(T) -> R> ProgramField<R> for ParseMap<T, P,
         (keys_of (P.grammar p.inner) true) (command_words (P.grammar p.inner))
         (program_form (P.grammar p.inner) variables) (P.law p.inner a variables) };
 
-    ghost shows = { λ p. P.shows p.inner };
-
     ghost said = { λ p a variables. program_closed_says (λ p. p.inner) p
         (λ p. map_closure (λ x y. F.post p.map_fn x y)) (P.said p.inner a variables) };
 }
@@ -89,8 +87,6 @@ impl<T, R, E: Display + Drop, P: ProgramField<T>, F: Fn(T) -> Result<R, E>> Prog
         (program_form (P.grammar p.inner) variables) (a.1 variables)
         (P.law p.inner a.0 variables) };
 
-    ghost shows = { λ p. P.shows p.inner };
-
     ghost said = { λ p a variables. program_closed_says (λ p. p.inner) p
         (λ p. parse_closure (λ x y. F.post p.parse_fn x y)) (P.said p.inner a.0 variables) };
 }
@@ -135,8 +131,6 @@ impl<'m, T: Drop, P: ProgramField<T>, F: Fn(&T) -> bool> ProgramField<T> for Par
         (keys_of (P.grammar p.inner) true) (command_words (P.grammar p.inner))
         (program_form (P.grammar p.inner) variables) (a.1 variables)
         (P.law p.inner a.0 variables) };
-
-    ghost shows = { λ p. P.shows p.inner };
 
     ghost said = { λ p a variables. program_closed_says (λ p. p.inner) p
         (λ p. guard_closure (FnReturnsAt F.Fn p.check)) (P.said p.inner a.0 variables) };

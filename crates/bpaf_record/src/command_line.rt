@@ -93,10 +93,9 @@ pub trait CommandLine<T> {
 
 impl<T: Drop, P: ProgramField<T>> CommandLine<T> for OptionParser<T, P> {
     ghost use Rattle.bpaf_exact.specs.ProgramSays.{cells_said};
-    ghost use Rattle.bpaf_record.specs.Grammar.{shown_shorts};
     ghost use Rattle.bpaf_record.specs.Program.{is_whole_program, AnswersAsProgram, TellsOfWords};
-    ghost use Rattle.bpaf_record.specs.Record.{names_by};
     ghost use Rattle.bpaf.specs.Dealt.{IsDealtOut};
+    ghost use Rattle.bpaf.specs.Known.{known_names};
     ghost use Rattle.bpaf.specs.Refusals.{IsOneOfTwelve};
     ghost use Rattle.bpaf.specs.Run.{RunsWords};
     ghost use Rattle.bpaf_laws.specs.Spared.{WithoutMemory};
@@ -115,25 +114,25 @@ impl<T: Drop, P: ProgramField<T>> CommandLine<T> for OptionParser<T, P> {
 
     ghost agrees = { λ p. P.agrees p.inner };
 
-    ghost answers = { λ p given.
-        RunsWords T (P.outcome p.inner) (P.describes p.inner) p.info given };
+    ghost answers = { λ p given. RunsWords T (P.outcome p.inner) (P.describes p.inner) p.info
+        (known_names p.info (P.shorts p.inner)) given };
 
-    ghost refuses = { λ p given.
-        IsOneOfTwelve (P.outcome p.inner) (P.describes p.inner) p.info given };
+    ghost refuses = { λ p given. IsOneOfTwelve (P.outcome p.inner) (P.describes p.inner) p.info
+        (known_names p.info (P.shorts p.inner)) given };
 
     ghost deals = { λ p given.
-        IsDealtOut T (P.reads p.inner) (P.describes p.inner) p.info given };
+        IsDealtOut T (P.reads p.inner) (known_names p.info (P.shorts p.inner)) given };
 
-    ghost tells = { λ p given. TellsOfWords (names_by p.info (shown_shorts (P.grammar p.inner)))
+    ghost tells = { λ p given. TellsOfWords (known_names p.info (P.shorts p.inner))
         (program_form (P.grammar p.inner) given.env)
         (cells_said (program_form (P.grammar p.inner) given.env) (P.says given.env) p.inner)
         given };
 
     ghost answers_spared = { λ p given. RunsWords T (WithoutMemory (P.outcome p.inner))
-        (P.describes p.inner) p.info given };
+        (P.describes p.inner) p.info (known_names p.info (P.shorts p.inner)) given };
 
     ghost answers_as_program = { λ p given. AnswersAsProgram T
-        (names_by p.info (shown_shorts (P.grammar p.inner)))
+        (known_names p.info (P.shorts p.inner))
         (program_form (P.grammar p.inner) given.env) given };
 
     fn run_program(&self, args: Args<'_>) -> Result<T, ParseFailure> {

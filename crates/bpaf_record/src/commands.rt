@@ -15,7 +15,6 @@ impl<T: Drop, P: ProgramField<T>> ProgramField<T> for ParseCommand<T, P> {
     ghost use Rattle.bpaf_laws.specs.Command.{CommandPart};
     ghost use Rattle.bpaf_exact.specs.ProgramSays.{said_command};
     ghost use Rattle.bpaf_exact.proofs.ProgramSays.{program_command_says};
-    ghost use Rattle.bpaf_exact.proofs.ShownNames.{command_shows};
     ghost use Rattle.bpaf_record.specs.Commands.{either_command_law};
     ghost use Rattle.bpaf_record.specs.Record.{are_unusual};
     ghost use Rattle.bpaf_record.specs.Grammar.{command};
@@ -54,8 +53,6 @@ impl<T: Drop, P: ProgramField<T>> ProgramField<T> for ParseCommand<T, P> {
         p.adjacent (are_unusual (keys_of (P.grammar p.inner) false) p.info)
         (keys_of (P.grammar p.inner) true) (command_words (P.grammar p.inner))
         (program_form (P.grammar p.inner) variables) (P.law p.inner a variables) };
-
-    ghost shows = { λ p. command_shows (P.shows p.inner) p.names p.help };
 
     ghost said = { λ p a variables. program_command_says (λ p. p.inner) p variables
         (P.outcome p.inner) (command_words (P.grammar p.inner))

@@ -11,7 +11,6 @@ use std::fmt::Display;
 
 /// With `catch` it is no flat field, nor optional commands.
 impl<T: Drop, P: ProgramField<T>> ProgramField<Option<T>> for ParseOptional<P> {
-    ghost use Rattle.bpaf_exact.proofs.ShownNames.{optional_shows};
     ghost use Rattle.bpaf_exact.specs.ProgramSays.{said_optional};
     ghost use Rattle.bpaf_exact.proofs.ByTables.{optional_law};
     ghost use Rattle.bpaf_exact.proofs.ProgramSays.{program_optional_says};
@@ -40,8 +39,6 @@ impl<T: Drop, P: ProgramField<T>> ProgramField<Option<T>> for ParseOptional<P> {
         (keys_of (P.grammar p.inner) true) (command_words (P.grammar p.inner))
         (program_form (P.grammar p.inner) variables) (P.law p.inner a variables) };
 
-    ghost shows = { λ p. optional_shows (P.shows p.inner) };
-
     ghost said = { λ p a variables. program_optional_says (λ p. p.inner) p p.catch
         (P.said p.inner a variables) };
 }
@@ -49,17 +46,16 @@ impl<T: Drop, P: ProgramField<T>> ProgramField<Option<T>> for ParseOptional<P> {
 impl<T: Drop, P: FlatField<T>> FlatField<Option<T>> for ParseOptional<P> {}
 
 impl<T: Clone, P: ProgramField<T>> ProgramField<T> for ParseFallback<P, T> {
-    ghost use Rattle.bpaf_exact.specs.Wrappers.{kept_closure};
-    ghost use Rattle.bpaf_exact.proofs.ShownNames.{default_shows};
+    ghost use Rattle.bpaf_exact.specs.Wrappers.{map_closure};
     ghost use Rattle.bpaf_exact.specs.ProgramSays.{said_fallback};
     ghost use Rattle.bpaf_exact.proofs.ByTables.{fallback_law};
     ghost use Rattle.bpaf_exact.proofs.ProgramSays.{program_fallback_says};
     ghost use Rattle.bpaf_record.specs.Grammar.{fallback};
 
-    ghost grammar = { λ p. fallback (kept_closure (T.is_clone p.value)) (P.grammar p.inner) };
+    ghost grammar = { λ p. fallback (map_closure (λ u. T.is_clone p.value)) (P.grammar p.inner) };
 
     ghost says = { λ variables. said_fallback (λ p. p.inner)
-        (λ p. kept_closure (T.is_clone p.value)) (P.says variables) };
+        (λ p. map_closure (λ u. T.is_clone p.value)) (P.says variables) };
 
     ghost agrees = { λ p. P.agrees p.inner };
 
@@ -80,10 +76,8 @@ impl<T: Clone, P: ProgramField<T>> ProgramField<T> for ParseFallback<P, T> {
         (keys_of (P.grammar p.inner) true) (command_words (P.grammar p.inner))
         (program_form (P.grammar p.inner) variables) (P.law p.inner a variables) };
 
-    ghost shows = { λ p. default_shows (P.shows p.inner) p.shown };
-
     ghost said = { λ p a variables. program_fallback_says (λ p. p.inner) p
-        (λ p. kept_closure (T.is_clone p.value)) (P.said p.inner a variables) };
+        (λ p. map_closure (λ u. T.is_clone p.value)) (P.said p.inner a variables) };
 }
 
 impl<T: Clone, P: FlatField<T>> FlatField<T> for ParseFallback<P, T> {}
@@ -92,7 +86,6 @@ impl<T: Clone, P: FlatField<T>> FlatField<T> for ParseFallback<P, T> {}
 impl<T, E: Display + Drop, P: ProgramField<T>, F: Fn() -> Result<T, E>> ProgramField<T>
     for ParseFallbackWith<T, P, F, E> {
     ghost use Rattle.bpaf_exact.specs.Wrappers.{Decides, answer_closure};
-    ghost use Rattle.bpaf_exact.proofs.ShownNames.{default_shows};
     ghost use Rattle.bpaf_exact.specs.ProgramSays.{said_fallback};
     ghost use Rattle.bpaf_exact.proofs.ByTables.{fallback_with_law};
     ghost use Rattle.bpaf_exact.proofs.ProgramSays.{program_fallback_says};
@@ -122,8 +115,6 @@ impl<T, E: Display + Drop, P: ProgramField<T>, F: Fn() -> Result<T, E>> ProgramF
     ghost law = { λ p a variables. fallback_with_law variables T _ _ (λ r. F.post p.fallback r)
         E.output (keys_of (P.grammar p.inner) true) (command_words (P.grammar p.inner))
         (program_form (P.grammar p.inner) variables) a.1 (P.law p.inner a.0 variables) };
-
-    ghost shows = { λ p. default_shows (P.shows p.inner) p.shown };
 
     ghost said = { λ p a variables. program_fallback_says (λ p. p.inner) p
         (λ p. answer_closure (λ r. F.post p.fallback r)) (P.said p.inner a.0 variables) };

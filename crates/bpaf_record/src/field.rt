@@ -10,12 +10,11 @@ use bpaf::{Fields, Parser};
 /// A parser that may be a field of a program, a command, or a program itself.
 pub trait ProgramField<T>: Parser<T> {
     ghost use Rattle.std.specs.Prelude.{true};
-    ghost use Rattle.bpaf_exact.specs.ShownNames.{ShowsNames};
     ghost use Rattle.bpaf_exact.specs.ProgramForm.{ProgramFormLaw};
     ghost use Rattle.bpaf_exact.specs.ProgramSays.{ProgramSaid, ProgramSays};
     ghost use Rattle.bpaf_exact.specs.Flat.{Variables};
     ghost use Rattle.bpaf_record.specs.Grammar.{Grammar, command_words, keys_of, program_form};
-    ghost use Rattle.bpaf_record.specs.Grammar.{said_kind, shown_shorts};
+    ghost use Rattle.bpaf_record.specs.Grammar.{said_kind};
     ghost use Rattle.bpaf_record.specs.Part.{part_of};
 
     /// Of what it is made: what it is by itself, or a step and the parsers inside. That tells its
@@ -49,10 +48,6 @@ pub trait ProgramField<T>: Parser<T> {
         → ProgramFormLaw variables (Self.Parser.outcome p) (keys_of (grammar p) true)
         (command_words (grammar p)) (program_form (grammar p) variables) };
 
-    /// Whichever shape it shows, its short names are those of what it is made of: by these joined
-    /// words are read.
-    ghost shows: { (p : Self) → ShowsNames (Self.Parser.describes p) (shown_shorts (grammar p)) };
-
     /// Its value says so.
     ghost said: { (p : Self) → agrees p → (variables : Variables)
         → ProgramSays (keys_of (grammar p) true) (program_form (grammar p) variables)
@@ -66,10 +61,9 @@ pub trait FlatField<T> {}
 /// The fields of a program.
 pub trait ProgramFields<V>: Fields<V> {
     ghost use Rattle.std.specs.Prelude.{true};
-    ghost use Rattle.bpaf_exact.specs.ShownNames.{FieldsShowNames};
     ghost use Rattle.bpaf_exact.specs.ProgramSays.{FieldsKeep, ProgramFieldsSaid};
     ghost use Rattle.bpaf_exact.specs.Flat.{Variables};
-    ghost use Rattle.bpaf_record.specs.Grammar.{Grammar, keys_of, program_form, shown_shorts};
+    ghost use Rattle.bpaf_record.specs.Grammar.{Grammar, keys_of, program_form};
     ghost use Rattle.bpaf_record.specs.Part.{part_of};
 
     /// Of what they are made. That tells their keys and what they are to a program.
@@ -98,10 +92,6 @@ pub trait ProgramFields<V>: Fields<V> {
     ghost keeps: { (p : Self) → agrees p → (variables : Variables)
         → FieldsKeep variables (Self.Fields.outcome p) (keys_of (grammar p) true)
         (program_form (grammar p) variables) (says variables) p };
-
-    /// Whichever shapes they show, their short names are those of what they are made of.
-    ghost shows: { (p : Self) → FieldsShowNames (Self.Fields.describes p)
-        (shown_shorts (grammar p)) };
 }
 
 /// The mark of the fields of a flat record.

@@ -20,7 +20,6 @@ impl<
     R: ProgramFields<W>,
 > ProgramFields<FourValues<S, T, U, V, W>> for Four<A, B, C, D, R> {
     ghost use Rattle.bpaf_exact.specs.ProgramSays.{fields_said_inside};
-    ghost use Rattle.bpaf_exact.proofs.ShownNames.{both_show};
     ghost use Rattle.bpaf_exact.proofs.Keeping.{keep_before, keep_inside};
     ghost use Rattle.std.specs.Prelude.{true};
 
@@ -64,12 +63,6 @@ impl<
         (D.law p.fields.rest.rest.rest.first a.1.1.1.0 variables)
         (D.said p.fields.rest.rest.rest.first a.1.1.1.0 variables)
         (R.keeps p.fields.rest.rest.rest.rest a.1.1.1.1 variables))))) };
-
-    ghost shows = { λ p. both_show (A.shows p.fields.first)
-        (both_show (B.shows p.fields.rest.first)
-        (both_show (C.shows p.fields.rest.rest.first)
-        (both_show (D.shows p.fields.rest.rest.rest.first)
-        (R.shows p.fields.rest.rest.rest.rest)))) };
 }
 
 impl<

@@ -17,7 +17,6 @@ impl<T: Clone> ProgramField<T> for ParseFlag<T> {
     ghost use Rattle.bpaf_exact.specs.Leaves.{flag_field, variable_flag};
     ghost use Rattle.bpaf_exact.proofs.Flags.{flag_form_law};
     ghost use Rattle.bpaf_laws.specs.Environment.{first_set};
-    ghost use Rattle.bpaf_exact.proofs.ShownNames.{flag_shows};
     ghost use Rattle.bpaf_exact.specs.ProgramSays.{of_pieces};
     ghost use Rattle.bpaf_record.specs.Grammar.{flag};
 
@@ -49,8 +48,6 @@ impl<T: Clone> ProgramField<T> for ParseFlag<T> {
     ghost law = { λ p a variables.
         flag_form_law T T.is_clone p.named p.present p.absent variables [] };
 
-    ghost shows = { λ p. flag_shows p.named p.absent };
-
     ghost said = { λ p a variables.
         key_says (λ p set. FlagSays T.is_clone p.present p.absent set) (λ p. p.named.envs) p false
         (flag_field T.is_clone p.named p.present p.absent)
@@ -70,7 +67,6 @@ impl<T: FromText> ProgramField<T> for ParseArgument<T> {
     ghost use Rattle.bpaf_exact.specs.Leaves.{argument_field, variable_argument};
     ghost use Rattle.bpaf_exact.proofs.Arguments.{argument_form_law};
     ghost use Rattle.bpaf_laws.specs.Environment.{first_set};
-    ghost use Rattle.bpaf_exact.proofs.ShownNames.{argument_shows};
     ghost use Rattle.bpaf_exact.specs.ProgramSays.{of_pieces};
     ghost use Rattle.bpaf_record.specs.Grammar.{argument};
 
@@ -101,8 +97,6 @@ impl<T: FromText> ProgramField<T> for ParseArgument<T> {
 
     ghost law = { λ p a variables. argument_form_law T T.means p variables [] };
 
-    ghost shows = { λ p. argument_shows p };
-
     ghost said = { λ p a variables.
         key_says (λ p set. ArgumentSays T.means p.last set) (λ p. p.named.envs) p p.adjacent
         (argument_field T.means p) (variable_argument T.means p) variables
@@ -117,7 +111,6 @@ impl<T: FromText> ProgramField<T> for ParsePositional<T> {
     ghost use Rattle.bpaf_exact.specs.Says.{WordSays};
     ghost use Rattle.bpaf.specs.Positional.{accepts};
     ghost use Rattle.bpaf_record.specs.Positional.{positional_field_law, positional_says};
-    ghost use Rattle.bpaf_record.specs.Positional.{positional_shows};
     ghost use Rattle.bpaf_exact.specs.ProgramSays.{of_pieces};
     ghost use Rattle.bpaf_record.specs.Grammar.{word};
 
@@ -145,8 +138,6 @@ impl<T: FromText> ProgramField<T> for ParsePositional<T> {
     ghost law = { λ p a variables.
         positional_field_law variables T T.means p.position p.metavar.0.now };
 
-    ghost shows = { λ p. positional_shows p.position p.metavar.0.now p.help };
-
     ghost said = { λ p a variables. record { by = positional_says T.means p.position } };
 }
 
@@ -156,9 +147,7 @@ impl<T: FromText> FlatField<T> for ParsePositional<T> {}
 impl<T: Clone> ProgramField<T> for ParsePure<T> {
     ghost use Rattle.bpaf_exact.specs.ProgramSays.{of_pieces};
     ghost use Rattle.bpaf_exact.proofs.Pure.{pure_field_law, pure_says};
-    ghost use Rattle.bpaf_exact.proofs.ShownNames.{one_shape};
     ghost use Rattle.bpaf_record.specs.Grammar.{kept};
-    ghost use Rattle.std.specs.Prelude.{refl};
 
     ghost grammar = { λ p. kept (T.is_clone p.value) };
 
@@ -183,8 +172,6 @@ impl<T: Clone> ProgramField<T> for ParsePure<T> {
 
     ghost law = { λ p a variables.
         pure_field_law T T.is_clone p.value };
-
-    ghost shows = { λ p. one_shape refl };
 
     ghost said = { λ p a variables. record { by = pure_says (T.is_clone p.value) } };
 }

@@ -13,7 +13,6 @@ use std::marker::PhantomData;
 impl<T: Drop, A: ProgramField<T>> ProgramFields<T> for Last<A> {
     ghost use Rattle.bpaf_exact.specs.ProgramSays.{said_alone};
     ghost use Rattle.bpaf_exact.proofs.Keeping.{keep_last};
-    ghost use Rattle.bpaf_exact.proofs.ShownNames.{last_shows};
     ghost use Rattle.bpaf_record.specs.Grammar.{alone};
 
     ghost grammar = { λ p. alone (A.grammar p.last) };
@@ -36,8 +35,6 @@ impl<T: Drop, A: ProgramField<T>> ProgramFields<T> for Last<A> {
         (A.outcome p.last) (λ q. said_kind (A.grammar q) variables)
         (λ q. keys_of (A.grammar q) true) (command_words (A.grammar p.last)) _ (A.says variables)
         (A.law p.last a variables) (A.said p.last a variables) };
-
-    ghost shows = { λ p. last_shows (A.shows p.last) };
 }
 
 impl<T: Drop, A: FlatField<T>> FlatFields<T> for Last<A> {}
@@ -47,7 +44,6 @@ impl<T: Drop, A: FlatField<T>> FlatFields<T> for Last<A> {}
 impl<T: Drop, V, A: ProgramField<T>, R: ProgramFields<V>> ProgramFields<(T, V)> for Both<A, R> {
     ghost use Rattle.bpaf_exact.specs.ProgramSays.{said_both};
     ghost use Rattle.bpaf_exact.proofs.Keeping.{keep_before};
-    ghost use Rattle.bpaf_exact.proofs.ShownNames.{both_show};
     ghost use Rattle.bpaf_record.specs.Grammar.{both};
 
     ghost grammar = { λ p. both (A.grammar p.first) (R.grammar p.rest) };
@@ -80,8 +76,6 @@ impl<T: Drop, V, A: ProgramField<T>, R: ProgramFields<V>> ProgramFields<(T, V)> 
         (λ q. said_kind (A.grammar q) variables) (λ q. keys_of (A.grammar q) true)
         (command_words (A.grammar p.first)) _ (A.says variables) (A.law p.first a.0 variables)
         (A.said p.first a.0 variables) (R.keeps p.rest a.1 variables) };
-
-    ghost shows = { λ p. both_show (A.shows p.first) (R.shows p.rest) };
 }
 
 impl<T: Drop, V, A: FlatField<T>, R: FlatFields<V>> FlatFields<(T, V)> for Both<A, R> {}
@@ -91,7 +85,6 @@ impl<V, T, P: ProgramFields<V>, F: Fn(V) -> T> ProgramField<T> for ParseCon<V, P
     ghost use Rattle.bpaf_exact.specs.Wrappers.{map_closure};
     ghost use Rattle.bpaf_exact.proofs.ProgramForm.{program_con_law};
     ghost use Rattle.bpaf_exact.proofs.ProgramSays.{program_con_says};
-    ghost use Rattle.bpaf_exact.proofs.ShownNames.{product_shows};
     ghost use Rattle.bpaf_record.specs.Grammar.{product};
 
     ghost grammar = { λ p. product (map_closure (λ x y. F.post p.make x y)) (P.grammar p.fields) };
@@ -117,8 +110,6 @@ impl<V, T, P: ProgramFields<V>, F: Fn(V) -> T> ProgramField<T> for ParseCon<V, P
     ghost law = { λ p a variables. program_con_law variables V T _ (λ x y. F.post p.make x y)
         (keys_of (P.grammar p.fields) true) (program_form (P.grammar p.fields) variables)
         (P.keeps p.fields a variables).law };
-
-    ghost shows = { λ p. product_shows (P.shows p.fields) };
 
     ghost said = { λ p a variables. program_con_says variables (λ p. p.fields) p
         (P.outcome p.fields)

@@ -72,8 +72,8 @@ pub trait Record<T>: CommandLine<T> {
 
 impl<T: Drop, P: ProgramField<T> + FlatField<T>> Record<T> for OptionParser<T, P> {
     ghost use Rattle.bpaf_exact.specs.ProgramForm.{flat_form};
-    ghost use Rattle.bpaf_record.specs.Grammar.{shown_shorts};
-    ghost use Rattle.bpaf_record.specs.Record.{is_flat_record, names_by, AnswersByFields};
+    ghost use Rattle.bpaf.specs.Known.{known_names};
+    ghost use Rattle.bpaf_record.specs.Record.{is_flat_record, AnswersByFields};
 
     ghost is_flat = { λ p variables. is_flat_record
         (flat_form (program_form (P.grammar p.inner) variables)) (keys_of (P.grammar p.inner) false)
@@ -87,7 +87,7 @@ impl<T: Drop, P: ProgramField<T> + FlatField<T>> Record<T> for OptionParser<T, P
     }
 
     ghost answers_by_fields = { λ p given. AnswersByFields T
-        (names_by p.info (shown_shorts (P.grammar p.inner)))
+        (known_names p.info (P.shorts p.inner))
         (flat_form (program_form (P.grammar p.inner) given.env)) given };
 
     fn run_record(&self, args: Args<'_>) -> Result<T, ParseFailure> {

@@ -12,7 +12,6 @@ use bpaf::parsers::{ParseCollect, ParseCount, ParseLast, ParseMany, ParseSome};
 /// With `catch` it is no flat field, nor round another repeat or a default.
 impl<T: Drop, P: ProgramField<T>> ProgramField<Vec<T>> for ParseMany<P> {
     ghost use Rattle.bpaf_exact.specs.Gathered.{list_closure};
-    ghost use Rattle.bpaf_exact.proofs.ShownNames.{many_shows};
     ghost use Rattle.bpaf_exact.specs.ProgramSays.{said_repeat};
     ghost use Rattle.bpaf_exact.proofs.ByTables.{many_law};
     ghost use Rattle.bpaf_exact.proofs.ProgramSays.{program_repeat_says};
@@ -41,8 +40,6 @@ impl<T: Drop, P: ProgramField<T>> ProgramField<Vec<T>> for ParseMany<P> {
         (command_words (P.grammar p.inner)) (program_form (P.grammar p.inner) variables)
         (P.law p.inner a variables) };
 
-    ghost shows = { λ p. many_shows (P.shows p.inner) };
-
     ghost said = { λ p a variables. program_repeat_says (λ p. p.inner) p p.catch (list_closure T)
         (P.said p.inner a variables) };
 }
@@ -52,7 +49,6 @@ impl<T: Drop, P: FlatField<T>> FlatField<Vec<T>> for ParseMany<P> {}
 /// As `many`.
 impl<'m, T: Drop, P: ProgramField<T>> ProgramField<Vec<T>> for ParseSome<'m, P> {
     ghost use Rattle.bpaf_exact.specs.Gathered.{some_closure};
-    ghost use Rattle.bpaf_exact.proofs.ShownNames.{some_shows};
     ghost use Rattle.bpaf_exact.specs.ProgramSays.{said_repeat};
     ghost use Rattle.bpaf_exact.proofs.ByTables.{some_law};
     ghost use Rattle.bpaf_exact.proofs.ProgramSays.{program_repeat_says};
@@ -81,8 +77,6 @@ impl<'m, T: Drop, P: ProgramField<T>> ProgramField<Vec<T>> for ParseSome<'m, P> 
         (keys_of (P.grammar p.inner) true) (command_words (P.grammar p.inner))
         (program_form (P.grammar p.inner) variables) (P.law p.inner a variables) };
 
-    ghost shows = { λ p. some_shows (P.shows p.inner) };
-
     ghost said = { λ p a variables. program_repeat_says (λ p. p.inner) p p.catch (some_closure T)
         (P.said p.inner a variables) };
 }
@@ -91,16 +85,15 @@ impl<'m, T: Drop, P: FlatField<T>> FlatField<Vec<T>> for ParseSome<'m, P> {}
 
 /// As `many`.
 impl<T: Drop, C: FromList<T> + Drop, P: ProgramField<T>> ProgramField<C> for ParseCollect<P, C, T> {
-    ghost use Rattle.bpaf_exact.specs.Gathered.{collect_closure};
-    ghost use Rattle.bpaf_exact.proofs.ShownNames.{many_shows};
+    ghost use Rattle.bpaf_exact.specs.Wrappers.{map_closure};
     ghost use Rattle.bpaf_exact.specs.ProgramSays.{said_repeat};
     ghost use Rattle.bpaf_exact.proofs.ByTables.{collect_law};
     ghost use Rattle.bpaf_exact.proofs.ProgramSays.{program_repeat_says};
     ghost use Rattle.bpaf_record.specs.Grammar.{repeat};
 
-    ghost grammar = { λ p. repeat p.catch (collect_closure C.fills) (P.grammar p.inner) };
+    ghost grammar = { λ p. repeat p.catch (map_closure C.fills) (P.grammar p.inner) };
 
-    ghost says = { λ variables. said_repeat (λ p. p.inner) (collect_closure C.fills)
+    ghost says = { λ variables. said_repeat (λ p. p.inner) (map_closure C.fills)
         (P.says variables) };
 
     ghost agrees = { λ p. P.agrees p.inner };
@@ -122,27 +115,27 @@ impl<T: Drop, C: FromList<T> + Drop, P: ProgramField<T>> ProgramField<C> for Par
         (keys_of (P.grammar p.inner) true) (command_words (P.grammar p.inner))
         (program_form (P.grammar p.inner) variables) (P.law p.inner a variables) };
 
-    ghost shows = { λ p. many_shows (P.shows p.inner) };
-
     ghost said = { λ p a variables. program_repeat_says (λ p. p.inner) p p.catch
-        (collect_closure C.fills)
+        (map_closure C.fills)
         (P.said p.inner a variables) };
 }
 
 impl<T: Drop, C: FromList<T> + Drop, P: FlatField<T>> FlatField<C> for ParseCollect<P, C, T> {}
 
 impl<T: Drop, P: ProgramField<T>> ProgramField<usize> for ParseCount<P, T> {
-    ghost use Rattle.bpaf_exact.specs.Gathered.{count_closure};
-    ghost use Rattle.bpaf_exact.proofs.ShownNames.{many_shows};
+    ghost use Rattle.std.specs.Prelude.{◌≡◌, length};
+    ghost use Rattle.bpaf_exact.specs.Wrappers.{map_closure};
     ghost use Rattle.bpaf_exact.specs.ProgramSays.{said_repeat};
     ghost use Rattle.bpaf_exact.proofs.ByTables.{count_law};
     ghost use Rattle.bpaf_exact.proofs.ProgramSays.{program_repeat_says};
     ghost use Rattle.std.specs.Prelude.{false};
     ghost use Rattle.bpaf_record.specs.Grammar.{repeat};
 
-    ghost grammar = { λ p. repeat false (count_closure T) (P.grammar p.inner) };
+    ghost grammar = { λ p.
+        repeat false (map_closure (λ values n. n ≡ length values)) (P.grammar p.inner) };
 
-    ghost says = { λ variables. said_repeat (λ p. p.inner) (count_closure T) (P.says variables) };
+    ghost says = { λ variables. said_repeat (λ p. p.inner)
+        (map_closure (λ values n. n ≡ length values)) (P.says variables) };
 
     ghost agrees = { λ p. P.agrees p.inner };
 
@@ -163,16 +156,14 @@ impl<T: Drop, P: ProgramField<T>> ProgramField<usize> for ParseCount<P, T> {
         (command_words (P.grammar p.inner)) (program_form (P.grammar p.inner) variables)
         (P.law p.inner a variables) };
 
-    ghost shows = { λ p. many_shows (P.shows p.inner) };
-
-    ghost said = { λ p a variables. program_repeat_says (λ p. p.inner) p false (count_closure T)
+    ghost said = { λ p a variables. program_repeat_says (λ p. p.inner) p false
+        (map_closure (λ values n. n ≡ length values))
         (P.said p.inner a variables) };
 }
 
 impl<T: Drop, P: FlatField<T>> FlatField<usize> for ParseCount<P, T> {}
 
 impl<T: Drop, P: ProgramField<T>> ProgramField<T> for ParseLast<P> {
-    ghost use Rattle.bpaf_exact.proofs.ShownNames.{some_shows};
     ghost use Rattle.bpaf_exact.specs.ProgramSays.{said_last};
     ghost use Rattle.bpaf_exact.proofs.ByTables.{last_law};
     ghost use Rattle.bpaf_exact.proofs.ProgramSays.{program_last_says};
@@ -200,8 +191,6 @@ impl<T: Drop, P: ProgramField<T>> ProgramField<T> for ParseLast<P> {
     ghost law = { λ p a variables. last_law variables T _ (keys_of (P.grammar p.inner) true)
         (command_words (P.grammar p.inner)) (program_form (P.grammar p.inner) variables)
         (P.law p.inner a variables) };
-
-    ghost shows = { λ p. some_shows (P.shows p.inner) };
 
     ghost said = { λ p a variables.
         program_last_says (λ p. p.inner) p (P.said p.inner a variables) };

@@ -11,13 +11,12 @@ use crate::words::WordTest;
 use bpaf::parsers::{ParseGroupHelp, ParseHide, ParseUsage};
 
 impl<T, P: ProgramField<T>> ProgramField<T> for ParseUsage<P> {
-    ghost use Rattle.bpaf_exact.proofs.ShownNames.{usage_shows};
     ghost use Rattle.bpaf_exact.specs.ProgramSays.{said_dressed};
     ghost use Rattle.bpaf_exact.proofs.ProgramForm.{program_dressed_law};
     ghost use Rattle.bpaf_exact.proofs.ProgramSays.{program_dressed_says};
     ghost use Rattle.bpaf_record.specs.Grammar.{dressed};
 
-    ghost grammar = { λ p. dressed true (P.grammar p.inner) };
+    ghost grammar = { λ p. dressed (P.grammar p.inner) };
 
     ghost says = { λ variables. said_dressed (λ p. p.inner) (P.says variables) };
 
@@ -39,8 +38,6 @@ impl<T, P: ProgramField<T>> ProgramField<T> for ParseUsage<P> {
     ghost law = { λ p a variables. program_dressed_law variables T _
         (keys_of (P.grammar p.inner) true) (command_words (P.grammar p.inner))
         (program_form (P.grammar p.inner) variables) (P.law p.inner a variables) };
-
-    ghost shows = { λ p. usage_shows (P.shows p.inner) p.usage };
 
     ghost said = { λ p a variables. program_dressed_says (λ p. p.inner) p
         (P.said p.inner a variables) };
@@ -49,13 +46,12 @@ impl<T, P: ProgramField<T>> ProgramField<T> for ParseUsage<P> {
 impl<T, P: FlatField<T>> FlatField<T> for ParseUsage<P> {}
 
 impl<T, P: ProgramField<T>> ProgramField<T> for ParseGroupHelp<P> {
-    ghost use Rattle.bpaf_exact.proofs.ShownNames.{section_shows};
     ghost use Rattle.bpaf_exact.specs.ProgramSays.{said_dressed};
     ghost use Rattle.bpaf_exact.proofs.ProgramForm.{program_dressed_law};
     ghost use Rattle.bpaf_exact.proofs.ProgramSays.{program_dressed_says};
     ghost use Rattle.bpaf_record.specs.Grammar.{dressed};
 
-    ghost grammar = { λ p. dressed true (P.grammar p.inner) };
+    ghost grammar = { λ p. dressed (P.grammar p.inner) };
 
     ghost says = { λ variables. said_dressed (λ p. p.inner) (P.says variables) };
 
@@ -77,8 +73,6 @@ impl<T, P: ProgramField<T>> ProgramField<T> for ParseGroupHelp<P> {
     ghost law = { λ p a variables. program_dressed_law variables T _
         (keys_of (P.grammar p.inner) true) (command_words (P.grammar p.inner))
         (program_form (P.grammar p.inner) variables) (P.law p.inner a variables) };
-
-    ghost shows = { λ p. section_shows (P.shows p.inner) p.message };
 
     ghost said = { λ p a variables. program_dressed_says (λ p. p.inner) p
         (P.said p.inner a variables) };
@@ -89,14 +83,12 @@ impl<T, P: FlatField<T>> FlatField<T> for ParseGroupHelp<P> {}
 /// What isn't shown may stand in a program, with the values that it has, but in no flat record: its
 /// short names aren't known in joined words.
 impl<T, P: ProgramField<T>> ProgramField<T> for ParseHide<P> {
-    ghost use Rattle.std.specs.Prelude.{false, refl};
-    ghost use Rattle.bpaf_exact.proofs.ShownNames.{one_shape};
     ghost use Rattle.bpaf_exact.specs.ProgramSays.{said_dressed};
     ghost use Rattle.bpaf_exact.proofs.ByTables.{hide_law};
     ghost use Rattle.bpaf_exact.proofs.ProgramSays.{program_dressed_says};
     ghost use Rattle.bpaf_record.specs.Grammar.{dressed};
 
-    ghost grammar = { λ p. dressed false (P.grammar p.inner) };
+    ghost grammar = { λ p. dressed (P.grammar p.inner) };
 
     ghost says = { λ variables. said_dressed (λ p. p.inner) (P.says variables) };
 
@@ -118,8 +110,6 @@ impl<T, P: ProgramField<T>> ProgramField<T> for ParseHide<P> {
     ghost law = { λ p a variables. hide_law variables T _ (keys_of (P.grammar p.inner) true)
         (command_words (P.grammar p.inner)) (program_form (P.grammar p.inner) variables)
         (P.law p.inner a variables) };
-
-    ghost shows = { λ p. one_shape refl };
 
     ghost said = { λ p a variables. program_dressed_says (λ p. p.inner) p
         (P.said p.inner a variables) };

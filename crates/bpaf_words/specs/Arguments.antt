@@ -13,14 +13,6 @@ abbrev pub words_in : Words → List (List ℕ)
 words_in (Strs words) = map (λ w. w.now) words.now
 words_in (Strings words) = map string_bytes words.now
 
--- the words
-abbrev pub words_of : Args → List (List ℕ)
-words_of args = words_in args.words
-
--- the set name
-abbrev pub name_of : Args → Option (List ℕ)
-name_of args = option_map (λ n. n.now) args.name
-
 -- the entries of an environment, by their bytes
 abbrev pub entries_of : BTreeMap (String Global) (String Global) Global → List (List ℕ × List ℕ)
 entries_of env = map (λ e. (string_bytes e.0, string_bytes e.1)) env.entries
@@ -30,10 +22,6 @@ abbrev pub env_entries : Option (Bor (BTreeMap (String Global) (String Global) G
     → List (List ℕ × List ℕ)
 env_entries env = option_map_or (λ e. entries_of e.now) env []
 
--- the environment
-abbrev pub env_of : Args → List (List ℕ × List ℕ)
-env_of args = env_entries args.env
-
 -- what a run is given: words, an environment, and perhaps a name
 pub record Given : Type 0 where
   pub words : List (List ℕ)
@@ -42,7 +30,23 @@ pub record Given : Type 0 where
 
 -- that of a value of the program
 abbrev pub given_of : Args → Given
-given_of args = record { words = words_of args; env = env_of args; name = name_of args }
+given_of args = record {
+  words = words_in args.words;
+  env = env_entries args.env;
+  name = option_map (λ n. n.now) args.name;
+}
+
+-- the words
+abbrev pub words_of : Args → List (List ℕ)
+words_of args = (given_of args).words
+
+-- the set name
+abbrev pub name_of : Args → Option (List ℕ)
+name_of args = (given_of args).name
+
+-- the environment
+abbrev pub env_of : Args → List (List ℕ × List ℕ)
+env_of args = (given_of args).env
 
 -- these words, no name and no environment
 pub record AreWords (given : List (List ℕ)) (args : Args) : Type 0 where

@@ -5,14 +5,15 @@ use mir.Syntax.{w64}
 use Rattle.bpaf_doc.specs.Names.{Names}
 use Rattle.bpaf_text.specs.Meaning.{SpellsSigned, SpellsUnsigned}
 use Rattle.bpaf_words.specs.Arguments.{Given}
+use Rattle.bpaf_words.specs.Spelling.{Known, knowing}
 use Rattle.bpaf_laws.specs.AdjacentCommand.{AdjacentReads}
 use Rattle.bpaf_laws.specs.Choice.{ChoiceReads}
 use Rattle.bpaf_laws.specs.Product.{BothReads, ProductReads}
 use Rattle.bpaf_laws.specs.Reading.{Readings}
 use Rattle.bpaf_laws.specs.Repeat.{ManyReads}
+use Rattle.bpaf.specs.Dealt.{IsDealtOut}
 use Rattle.bpaf.specs.declared.leaves.positional.Position.TheVariants.{Unrestricted}
 use Rattle.bpaf.specs.Positional.{PositionalReads}
-use Rattle.bpaf_program.specs.Dealt.{IsDealtBySome}
 use Rattle.bpaf_program.specs.Fields.{SwitchReads}
 use Rattle.example_chain.specs.declared.steps.Step.{Step}
 use Rattle.example_chain.specs.declared.steps.Step.TheVariants.{Move, Turn, Repeat}
@@ -20,6 +21,10 @@ use Rattle.example_chain.specs.declared.steps.Step.TheVariants.{Move, Turn, Repe
 -- what the program is given
 abbrev pub program_given : List (List ℕ) → Given
 program_given words = record { words = words; env = []; name = Some (codes "chain") }
+
+-- the known short names: those of help and of version, both flags
+abbrev pub program_known : Known
+program_known = knowing (record { flags = codes "hV"; arguments = [] })
 
 -- the name of the switch by which a turn goes to the left
 abbrev pub left_names : Names
@@ -63,11 +68,11 @@ StepReads move turn repeat =
     ChoiceReads (ChoiceReads (ChainedReads (codes "move") move)
     (ChainedReads (codes "turn") turn)) (ChainedReads (codes "repeat") repeat)
 
--- all places of the words' line but the first `--`, by some known short names, are dealt out to the
--- steps, each used once
+-- all places of the words' line but the first `--` are dealt out to the steps, each used once
 abbrev pub AreDealt : (move turn repeat : Readings Step) → List (List ℕ) → Vec Step → Type 0
 AreDealt move turn repeat words =
-    IsDealtBySome (program_given words) (ManyReads (StepReads move turn repeat))
+    IsDealtOut (Vec Step) (ManyReads (StepReads move turn repeat)) program_known
+    (program_given words)
 
 -- so are the steps of the program, each made of its own parts
 abbrev pub AreDealtSteps : List (List ℕ) → Vec Step → Type 0

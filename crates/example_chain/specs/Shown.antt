@@ -16,7 +16,7 @@ use Rattle.bpaf.specs.Asked.{BehindWord, IsAskedAt, ShowsNothing, WordsShow}
 use Rattle.bpaf.specs.declared.leaves.positional.Position.TheVariants.{Unrestricted}
 use Rattle.bpaf.specs.Positional.{positional_shape}
 use Rattle.example_chain.specs.declared.steps.Step.{Step}
-use Rattle.example_chain.specs.Dealing.{left_names, program_given}
+use Rattle.example_chain.specs.Dealing.{left_names, program_given, program_known}
 
 -- what shapes may be shown
 abbrev pub Shapes : Type 1
@@ -106,4 +106,4 @@ pub data IsPage (s : Situation) (doc : List Piece) (full : Bool) : Type 0 where
 -- the words ask for this help page
 abbrev pub IsHelpAsked : List (List ℕ) → List Piece → Bool → Type 0
 IsHelpAsked words doc full =
-    WordsShow IsProgramShape plain_info (program_given words) IsPage doc full
+    WordsShow program_known (program_given words) IsPage doc full

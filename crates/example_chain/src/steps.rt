@@ -2,6 +2,7 @@
 ghost use Rattle.std.specs.Prelude.{◌≡◌, IfOk, map, string_bytes, true};
 ghost use Rattle.std.specs.Result.{IfErr};
 ghost use Rattle.bpaf_laws.specs.Command.{named_only};
+ghost use Rattle.bpaf_laws.specs.ShownNames.{joined_shorts, no_shorts};
 ghost use Rattle.bpaf_keys.specs.Info.{short_descr};
 ghost use Rattle.bpaf.specs.Asked.{IfShown};
 ghost use Rattle.example_chain.specs.Dealing.{AreDealt, AreDealtSteps};
@@ -59,6 +60,7 @@ where
     requires go_shows { ShowsAs IsMoveShape (M.describes go) (M.outcome go) }
     requires turn_shows { ShowsAs IsTurnShape (T.describes turn) (T.outcome turn) }
     requires repeat_shows { ShowsAs IsRepeatShape (R.describes repeat) (R.outcome repeat) }
+    requires no_names { joined_shorts (joined_shorts (M.shorts go) (T.shorts turn)) (R.shorts repeat) ≡ no_shorts }
     ensures dealt { IfOk result (λ steps. AreDealt (M.reads go) (T.reads turn) (R.reads repeat)
         (map string_bytes words.now) steps) }
     ensures asked { IfErr result (IfShown (IsHelpAsked (map string_bytes words.now))) }

@@ -1,9 +1,10 @@
 //! A row of a test: a program, and words that are lent.
 ghost use Rattle.std.specs.Prelude.{◌≡◌, false, true};
 ghost use Rattle.bpaf_words.specs.Arguments.{given_of};
-ghost use Rattle.bpaf_record.specs.Grammar.{keys_of, program_form, shown_shorts};
+ghost use Rattle.bpaf.specs.Known.{known_names};
+ghost use Rattle.bpaf_record.specs.Grammar.{keys_of, program_form};
 ghost use Rattle.bpaf_record.specs.Program.{IsProgramValueOf, is_whole_program};
-ghost use Rattle.bpaf_record.specs.Record.{IsValueOrWant, names_by};
+ghost use Rattle.bpaf_record.specs.Record.{IsValueOrWant};
 
 use bpaf::{Args, OptionParser, ParseFailure, Parser, short};
 use bpaf_program::see_texts;
@@ -21,7 +22,7 @@ pub fn answer_row<T: Drop, P: ProgramField<T>>(
     requires program { is_whole_program (program_form (P.grammar options.now.inner) (given_of args).env)
         (keys_of (P.grammar options.now.inner) false) options.now.info ≡ true }
     ensures { let form = program_form (P.grammar options.now.inner) (given_of args.entry).env in
-        let known = names_by options.now.info (shown_shorts (P.grammar options.now.inner)) in
+        let known = known_names options.now.info (P.shorts options.now.inner) in
         let is_value = IsProgramValueOf known form (given_of args.entry) in
         (value : T) → is_value value → IsValueOrWant is_value result }
 {

@@ -16,13 +16,17 @@ pub struct Toggle {
 /// shows nothing, so its keys have long names alone: short ones of joined words are known by what
 /// is shown.
 impl Parser<Option<bool>> for Toggle {
-    ghost use Rattle.std.specs.Prelude.{◌≡◌};
+    ghost use Rattle.std.specs.Prelude.{◌≡◌, refl};
     ghost use Rattle.bpaf_doc.specs.Shape.{Skip};
+    ghost use Rattle.bpaf_laws.specs.ShownNames.{no_shorts};
+    ghost use Rattle.bpaf_laws.proofs.ShownNames.{one_shape};
     ghost use Rattle.example_guide.specs.Toggle.{ToggleReads, ToggleOutcome, toggle_lawful};
 
     ghost can_eval = { λ p. Unit {0} };
 
     ghost describes = { λ p shape. shape ≡ Skip };
+
+    ghost shorts = { λ p. no_shorts };
 
     ghost reads = { λ p. ToggleReads p.on.names p.off.names };
 
@@ -43,6 +47,8 @@ impl Parser<Option<bool>> for Toggle {
     }
 
     ghost lawful = { λ p. toggle_lawful p.on.names p.off.names };
+
+    ghost shows = { λ p. one_shape refl };
 }
 
 /// Whether the words turn the colour on or off, by `--color` and `--no-color`.

@@ -9,9 +9,9 @@ use Rattle.bpaf_laws.specs.Reading.{Readings}
 use Rattle.bpaf_laws.specs.Repeat.{ManyReads}
 use Rattle.bpaf.specs.declared.leaves.positional.Position.{Position}
 use Rattle.bpaf.specs.declared.leaves.positional.Position.TheVariants.{Strict, NonStrict}
+use Rattle.bpaf.specs.Dealt.{IsDealtOut}
 use Rattle.bpaf.specs.Marker.{words_before, words_behind}
 use Rattle.bpaf.specs.Positional.{PositionalReads}
-use Rattle.bpaf_program.specs.Dealt.{IsDealtBy}
 use Rattle.bpaf_program.specs.Fields.{SwitchReads}
 use Rattle.bpaf_program.specs.Values.{MeansText, String}
 use Rattle.example_launch.specs.declared.options.Launch.{Launch}
@@ -57,7 +57,7 @@ LaunchReads =
 -- all places of the words' line but the first `--` are dealt out to the two switches, the name and
 -- the words that are passed on, each used once
 abbrev pub IsDealtLaunch : List (List ℕ) → Launch → Type 0
-IsDealtLaunch words = IsDealtBy program_known (program_given words) LaunchReads
+IsDealtLaunch words = IsDealtOut Launch LaunchReads program_known (program_given words)
 
 -- the words ask for a launch: it is dealt out of them, its name stands before the first `--`, and
 -- its words are those behind that

@@ -9,7 +9,8 @@ use Rattle.bpaf.specs.Asked.{IfShown, WasAsked}
 use Rattle.bpaf.specs.declared.leaves.positional.Position.TheVariants.{Strict, NonStrict}
 use Rattle.bpaf.specs.Positional.{positional_shape}
 use Rattle.bpaf_program.specs.Fields.{switch_shape}
-use Rattle.example_launch.specs.Dealing.{dry_run_names, program_given, verbose_names}
+use Rattle.example_launch.specs.Dealing.{dry_run_names, program_given, program_known}
+use Rattle.example_launch.specs.Dealing.{verbose_names}
 
 -- what the program's name shows
 abbrev pub name_shape : List Piece → Shape
@@ -35,7 +36,8 @@ pub record IsProgramShape (shape : Shape) : Type 0 where
 
 -- the words ask for help, and this is the help page of the program
 abbrev pub IsHelpAsked : List (List ℕ) → List Piece → Bool → Type 0
-IsHelpAsked words doc full = WasAsked IsProgramShape plain_info (program_given words) doc full
+IsHelpAsked words doc full =
+    WasAsked IsProgramShape plain_info program_known (program_given words) doc full
 
 -- what is shown in place of a launch is help that the words ask for
 abbrev pub ShowsHelpAsked : List (List ℕ) → ParseFailure → Type 0

@@ -72,7 +72,7 @@ fn with_tag<P: Parser<Tag> + Drop>(
     tag: P,
 ) -> Result<Notes, ParseFailure>
     requires can { P.can_eval tag }
-    requires tag { IsKnownParser tag_commands (P.outcome tag) (P.describes tag) }
+    requires tag { IsKnownParser tag_commands (P.outcome tag) (P.shorts tag) }
     ensures { AnswersNotes (map string_bytes words.now) result }
 {
     let max = key(alloc, 'n', "max")?.argument::<u64>("NUM").fallback(10);
@@ -88,7 +88,7 @@ fn with_others<P: Parser<Task> + Drop>(
     others: P,
 ) -> Result<Notes, ParseFailure>
     requires can { P.can_eval others }
-    requires others { IsKnownParser other_commands (P.outcome others) (P.describes others) }
+    requires others { IsKnownParser other_commands (P.outcome others) (P.shorts others) }
     ensures { AnswersNotes (map string_bytes words.now) result }
 {
     let tags = key(alloc, 't', "tag")?.argument::<String>("TAG").many();
@@ -104,7 +104,7 @@ fn with_task<P: Parser<Task> + Drop>(
     task: P,
 ) -> Result<Notes, ParseFailure>
     requires can { P.can_eval task }
-    requires task { IsKnownParser commands (P.outcome task) (P.describes task) }
+    requires task { IsKnownParser commands (P.outcome task) (P.shorts task) }
     ensures { AnswersNotes (map string_bytes words.now) result }
 {
     let verbose = key(alloc, 'v', "verbose")?.switch();
@@ -119,7 +119,7 @@ fn run_notes<P: Parser<Notes> + Drop>(
     notes: P,
 ) -> Result<Notes, ParseFailure>
     requires can { P.can_eval notes }
-    requires known { IsKnownParser notes_parser (P.outcome notes) (P.describes notes) }
+    requires known { IsKnownParser notes_parser (P.outcome notes) (P.shorts notes) }
     ensures { AnswersNotes (map string_bytes words.now) result }
 {
     let notes = KnownOptions {

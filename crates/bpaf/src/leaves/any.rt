@@ -132,16 +132,20 @@ impl<I: FromText, T, F: Fn(I) -> Option<T>> Look<T> for ParseAny<I, T, F> {
 /// Refused with Missing where no item that is looked at is accepted, or for want of memory; then
 /// nothing is taken.
 impl<I: FromText, T: Drop, F: Fn(I) -> Option<T>> Parser<T> for ParseAny<I, T, F> {
-    ghost use Rattle.std.specs.Prelude.{◌≡◌};
+    ghost use Rattle.std.specs.Prelude.{◌≡◌, refl};
     ghost use Rattle.bpaf_doc.specs.Shape.{Shown, Any};
     ghost use Rattle.std.specs.Result.{IfErr};
     ghost use Rattle.bpaf.specs.Leaves.{PassesAll};
     ghost use Rattle.bpaf_laws.specs.Any.{AnyOutcome, AnyReads, ChecksText};
     ghost use Rattle.bpaf_laws.proofs.AnyLaws.{any_lawful};
+    ghost use Rattle.bpaf_laws.specs.ShownNames.{no_shorts};
+    ghost use Rattle.bpaf_laws.proofs.ShownNames.{one_shape};
 
     ghost can_eval = { λ p. F.IsAlwaysCallable p.check };
 
     ghost describes = { λ p shape. shape ≡ Shown (Any p.metavar p.help p.anywhere) };
+
+    ghost shorts = { λ p. no_shorts };
 
     ghost reads = { λ p. AnyReads T (ChecksText I.means (λ x v. F.post p.check x v)) };
 
@@ -170,4 +174,6 @@ impl<I: FromText, T: Drop, F: Fn(I) -> Option<T>> Parser<T> for ParseAny<I, T, F
 
     ghost lawful = { λ p. any_lawful T (ChecksText I.means (λ x v. F.post p.check x v))
         (Any p.metavar p.help p.anywhere) p.anywhere };
+
+    ghost shows = { λ p. one_shape refl };
 }

@@ -23,16 +23,20 @@ pub fn appname() -> ParseAppname {
 /// A copy of the first entry of the path, else of `app`; refused only for want of memory. Nothing
 /// changes, the current place neither.
 impl Parser<String> for ParseAppname {
-    ghost use Rattle.std.specs.Prelude.{◌≡◌, true};
+    ghost use Rattle.std.specs.Prelude.{◌≡◌, true, refl};
     ghost use Rattle.std.specs.Result.{IfErr};
     ghost use Rattle.bpaf_doc.specs.Shape.{Skip};
     ghost use Rattle.bpaf_line.specs.Messages.{is_memory};
     ghost use Rattle.bpaf_laws.specs.Appname.{AppnameOutcome, AppnameReads};
     ghost use Rattle.bpaf_laws.proofs.AppnameLaws.{appname_lawful};
+    ghost use Rattle.bpaf_laws.specs.ShownNames.{no_shorts};
+    ghost use Rattle.bpaf_laws.proofs.ShownNames.{one_shape};
 
     ghost can_eval = { λ p. Unit {0} };
 
     ghost describes = { λ p shape. shape ≡ Skip };
+
+    ghost shorts = { λ p. no_shorts };
 
     ghost reads = { λ p. AppnameReads };
 
@@ -53,4 +57,6 @@ impl Parser<String> for ParseAppname {
     }
 
     ghost lawful = { λ p. appname_lawful };
+
+    ghost shows = { λ p. one_shape refl };
 }

@@ -104,16 +104,20 @@ impl Look<()> for ParseLiteral {
 /// Refused with Missing where no item that is looked at has the text, or for want of memory; then
 /// nothing is taken.
 impl Parser<()> for ParseLiteral {
-    ghost use Rattle.std.specs.Prelude.{◌≡◌};
+    ghost use Rattle.std.specs.Prelude.{◌≡◌, refl};
     ghost use Rattle.bpaf_doc.specs.Shape.{Shown, Any};
     ghost use Rattle.std.specs.Result.{IfErr};
     ghost use Rattle.bpaf.specs.Leaves.{PassesAll};
     ghost use Rattle.bpaf_laws.specs.Any.{AnyOutcome, AnyReads, IsLiteral};
     ghost use Rattle.bpaf_laws.proofs.AnyLaws.{any_lawful};
+    ghost use Rattle.bpaf_laws.specs.ShownNames.{no_shorts};
+    ghost use Rattle.bpaf_laws.proofs.ShownNames.{one_shape};
 
     ghost can_eval = { λ p. Unit {0} };
 
     ghost describes = { λ p shape. shape ≡ Shown (Any p.metavar p.help p.anywhere) };
+
+    ghost shorts = { λ p. no_shorts };
 
     ghost reads = { λ p. AnyReads (Unit {0}) (IsLiteral p.text) };
 
@@ -141,4 +145,6 @@ impl Parser<()> for ParseLiteral {
 
     ghost lawful = { λ p.
         any_lawful (Unit {0}) (IsLiteral p.text) (Any p.metavar p.help p.anywhere) p.anywhere };
+
+    ghost shows = { λ p. one_shape refl };
 }

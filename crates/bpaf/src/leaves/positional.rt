@@ -165,11 +165,14 @@ impl<T: FromText> Parser<T> for ParsePositional<T> {
     ghost use Rattle.std.specs.Result.{IfErr};
     ghost use Rattle.bpaf.specs.Leaves.{FaultsWordAlone};
     ghost use Rattle.bpaf.specs.Positional.{PositionalOutcome, PositionalReads, positional_shape};
-    ghost use Rattle.bpaf.specs.PositionalLaws.{positional_lawful};
+    ghost use Rattle.bpaf.specs.PositionalLaws.{positional_lawful, positional_shows};
+    ghost use Rattle.bpaf_laws.specs.ShownNames.{no_shorts};
 
     ghost can_eval = { λ p. Unit {0} };
 
     ghost describes = { λ p shape. shape ≡ positional_shape p.position p.metavar.0.now p.help };
+
+    ghost shorts = { λ p. no_shorts };
 
     ghost reads = { λ p. PositionalReads T T.means p.position };
 
@@ -203,4 +206,6 @@ impl<T: FromText> Parser<T> for ParsePositional<T> {
     }
 
     ghost lawful = { λ p. positional_lawful T T.means p.position p.metavar.0.now };
+
+    ghost shows = { λ p. positional_shows p.position p.metavar.0.now p.help };
 }

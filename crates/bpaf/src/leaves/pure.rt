@@ -30,7 +30,7 @@ pub fn pure<T>(value: T) -> ParsePure<T>
 
 /// A clone of the kept value, refused only for want of memory. No place is current then.
 impl<T: Clone> Parser<T> for ParsePure<T> {
-    ghost use Rattle.std.specs.Prelude.{◌≡◌};
+    ghost use Rattle.std.specs.Prelude.{◌≡◌, refl};
     ghost use Rattle.bpaf_doc.specs.Shape.{Skip};
     ghost use Rattle.std.specs.Prelude.{true};
     ghost use Rattle.std.specs.Result.{IfErr};
@@ -39,10 +39,14 @@ impl<T: Clone> Parser<T> for ParsePure<T> {
     ghost use Rattle.bpaf_laws.specs.Pure.{PureOutcome, PureReads};
     ghost use Rattle.bpaf_laws.proofs.NamesAnswer.{names_want};
     ghost use Rattle.bpaf_laws.proofs.PureLaws.{pure_lawful};
+    ghost use Rattle.bpaf_laws.specs.ShownNames.{no_shorts};
+    ghost use Rattle.bpaf_laws.proofs.ShownNames.{one_shape};
 
     ghost can_eval = { λ p. Unit {0} };
 
     ghost describes = { λ p shape. shape ≡ Skip };
+
+    ghost shorts = { λ p. no_shorts };
 
     ghost reads = { λ p. PureReads (GivesClone T.is_clone p.value) };
 
@@ -62,6 +66,8 @@ impl<T: Clone> Parser<T> for ParsePure<T> {
     }
 
     ghost lawful = { λ p. pure_lawful (GivesClone T.is_clone p.value) (λ e. names_want e.0) };
+
+    ghost shows = { λ p. one_shape refl };
 }
 
 /// A closure's answer (bpaf's `ParsePureWith`, in `structs.rs`).
@@ -95,7 +101,7 @@ pub fn pure_with<T, F: Fn() -> Result<T, E>, E: Display>(f: F) -> ParsePureWith<
 /// The closure's value; its fault is refused with PureFailed, and so is want of memory for the text
 /// of that. Nothing changes, the current place neither: a check round it names the word before it.
 impl<T, F: Fn() -> Result<T, E>, E: Display + Drop> Parser<T> for ParsePureWith<T, F, E> {
-    ghost use Rattle.std.specs.Prelude.{◌≡◌};
+    ghost use Rattle.std.specs.Prelude.{◌≡◌, refl};
     ghost use Rattle.bpaf_doc.specs.Shape.{Skip};
     ghost use Rattle.std.specs.Result.{IfErr};
     ghost use Rattle.bpaf_laws.specs.Default.{GivesAnswer};
@@ -103,10 +109,14 @@ impl<T, F: Fn() -> Result<T, E>, E: Display + Drop> Parser<T> for ParsePureWith<
     ghost use Rattle.bpaf_laws.proofs.DefaultLaws.{names_answer};
     ghost use Rattle.bpaf_laws.proofs.PureLaws.{pure_with_lawful};
     ghost use Rattle.bpaf.specs.Leaves.{TellsAnswer};
+    ghost use Rattle.bpaf_laws.specs.ShownNames.{no_shorts};
+    ghost use Rattle.bpaf_laws.proofs.ShownNames.{one_shape};
 
     ghost can_eval = { λ p. F.IsAlwaysCallable p.f };
 
     ghost describes = { λ p shape. shape ≡ Skip };
+
+    ghost shorts = { λ p. no_shorts };
 
     ghost reads = { λ p. PureReads (GivesAnswer (λ r. F.post p.f r) E.output) };
 
@@ -129,6 +139,8 @@ impl<T, F: Fn() -> Result<T, E>, E: Display + Drop> Parser<T> for ParsePureWith<
 
     ghost lawful = { λ p. pure_with_lawful (GivesAnswer (λ r. F.post p.f r) E.output)
         (names_answer (λ r. F.post p.f r) E.output) };
+
+    ghost shows = { λ p. one_shape refl };
 }
 
 /// A refusal (bpaf's `ParseFail`, in `structs.rs`).
@@ -156,16 +168,20 @@ pub fn fail<T>(message: &'static str) -> ParseFail<T>
 
 /// Refused with ParseFail, or for want of memory for the message. No place is current then.
 impl<T> Parser<T> for ParseFail<T> {
-    ghost use Rattle.std.specs.Prelude.{◌≡◌};
+    ghost use Rattle.std.specs.Prelude.{◌≡◌, refl};
     ghost use Rattle.bpaf_doc.specs.Shape.{Skip};
     ghost use Rattle.std.specs.Result.{IfErr};
     ghost use Rattle.bpaf_laws.specs.Pure.{GivesRefusal, PureOutcome, PureReads};
     ghost use Rattle.bpaf_laws.proofs.PureLaws.{refusal_lawful};
     ghost use Rattle.bpaf.specs.Leaves.{TellsWhole};
+    ghost use Rattle.bpaf_laws.specs.ShownNames.{no_shorts};
+    ghost use Rattle.bpaf_laws.proofs.ShownNames.{one_shape};
 
     ghost can_eval = { λ p. Unit {0} };
 
     ghost describes = { λ p shape. shape ≡ Skip };
+
+    ghost shorts = { λ p. no_shorts };
 
     ghost reads = { λ p. PureReads (GivesRefusal p.message.now) };
 
@@ -187,4 +203,6 @@ impl<T> Parser<T> for ParseFail<T> {
     }
 
     ghost lawful = { λ p. refusal_lawful p.message.now };
+
+    ghost shows = { λ p. one_shape refl };
 }

@@ -100,10 +100,13 @@ impl<T: Drop, P: Parser<T>> Parser<T> for ParseCommand<T, P> {
     ghost use Rattle.bpaf_core.specs.Adjacent.{OutcomeOfCommand, EitherCommandReads};
     ghost use Rattle.bpaf_core.specs.EndingLaws.{run_ending};
     ghost use Rattle.bpaf_core.specs.AdjacentLaws.{either_lawful};
+    ghost use Rattle.bpaf_laws.proofs.ShownNames.{command_shows};
 
     ghost can_eval = { λ p. P.can_eval p.inner };
 
     ghost describes = { λ p. CommandDescribes p.names p.help (P.describes p.inner) };
+
+    ghost shorts = { λ p. P.shorts p.inner };
 
     ghost reads = { λ p.
         EitherCommandReads p.adjacent T (opening_words p.names) (P.reads p.inner) };
@@ -136,4 +139,6 @@ impl<T: Drop, P: Parser<T>> Parser<T> for ParseCommand<T, P> {
     ghost lawful = { λ p. either_lawful (P.lawful p.inner)
         (run_ending (P.describes p.inner) p.info) p.names
         (CommandPart p.names p.help (P.describes p.inner)) p.adjacent };
+
+    ghost shows = { λ p. command_shows (P.shows p.inner) p.names p.help };
 }

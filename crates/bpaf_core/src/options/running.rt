@@ -2,8 +2,10 @@
 ghost use Rattle.std.specs.Prelude.{◌≡◌, IfOk};
 ghost use Rattle.std.specs.Result.{IfErr};
 ghost use Rattle.bpaf_words.specs.Arguments.{given_of, words_in};
+ghost use Rattle.bpaf_words.specs.Splitting.{ReadsLine};
 ghost use Rattle.bpaf_laws.specs.Spared.{WithoutMemory};
-ghost use Rattle.bpaf_core.specs.Known.{ReadsLineOf, Starts};
+ghost use Rattle.bpaf_keys.specs.KnownNames.{known_names};
+ghost use Rattle.bpaf_core.specs.Known.{Starts};
 ghost use Rattle.bpaf_core.specs.Dealt.{IsDealtOut};
 ghost use Rattle.bpaf_core.specs.Run.{IsNotWant, RunsWords};
 ghost use Rattle.bpaf_core.specs.Refusals.{IsOneOfTwelve};
@@ -41,14 +43,17 @@ impl<T: Drop, P: Parser<T>> OptionParser<T, P> {
     pub fn run_inner(&self, args: Args<'_>) -> Result<T, ParseFailure>
         requires { P.can_eval self.now.inner }
         ensures outcome { RunsWords T (P.outcome self.now.inner) (P.describes self.now.inner)
-            self.now.info (given_of args.entry) result }
+            self.now.info (known_names self.now.info (P.shorts self.now.inner)) (given_of args.entry)
+            result }
         ensures named { IfErr result (IsOneOfTwelve (P.outcome self.now.inner)
-            (P.describes self.now.inner) self.now.info (given_of args.entry)) }
+            (P.describes self.now.inner) self.now.info
+            (known_names self.now.info (P.shorts self.now.inner)) (given_of args.entry)) }
         ensures dealt { IfOk result (λ v. IsDealtOut T (P.reads self.now.inner)
-            (P.describes self.now.inner) self.now.info (given_of args.entry) v) }
+            (known_names self.now.info (P.shorts self.now.inner)) (given_of args.entry) v) }
         ensures memory_is_never_caught { IsNotWant result →
             RunsWords T (WithoutMemory (P.outcome self.now.inner)) (P.describes self.now.inner)
-            self.now.info (given_of args.entry) result }
+            self.now.info (known_names self.now.info (P.shorts self.now.inner)) (given_of args.entry)
+            result }
     {
         match self.construct(args) {
             Ok(mut state) => {
@@ -67,7 +72,8 @@ impl<T: Drop, P: Parser<T>> OptionParser<T, P> {
     /// The state at the beginning of the words' line.
     fn construct(&self, args: Args<'_>) -> Result<State, Message>
         requires { P.can_eval self.now.inner }
-        ensures { Starts (P.describes self.now.inner) self.now.info (given_of args.entry) result }
+        ensures { Starts (known_names self.now.info (P.shorts self.now.inner))
+            (given_of args.entry) result }
     {
         let line = self.line(args.words())?;
         Ok(State::of_line(self.alloc, args, line)?)
@@ -77,8 +83,8 @@ impl<T: Drop, P: Parser<T>> OptionParser<T, P> {
     /// the same whatever names are known, and the parser isn't asked for them.
     fn line(&self, words: Words<'_>) -> Result<Line, LineFault>
         requires { P.can_eval self.now.inner }
-        ensures { ReadsLineOf (P.describes self.now.inner) self.now.info (words_in words.entry)
-            result }
+        ensures { ReadsLine (known_names self.now.info (P.shorts self.now.inner))
+            (words_in words.entry) result }
     {
         let front = Front::new(self.alloc, words, self.info.numbers)?;
         if front.is_whole(words) {
@@ -102,14 +108,17 @@ impl<T: Drop, P: Parser<T> + Drop> OptionParser<T, P> {
     pub fn run_once(self, args: Args<'_>) -> Result<T, ParseFailure>
         requires { P.can_eval self.inner }
         ensures outcome { RunsWords T (P.outcome self.inner) (P.describes self.inner)
-            self.info (given_of args.entry) result }
+            self.info (known_names self.info (P.shorts self.inner)) (given_of args.entry)
+            result }
         ensures named { IfErr result (IsOneOfTwelve (P.outcome self.inner)
-            (P.describes self.inner) self.info (given_of args.entry)) }
+            (P.describes self.inner) self.info
+            (known_names self.info (P.shorts self.inner)) (given_of args.entry)) }
         ensures dealt { IfOk result (λ v. IsDealtOut T (P.reads self.inner)
-            (P.describes self.inner) self.info (given_of args.entry) v) }
+            (known_names self.info (P.shorts self.inner)) (given_of args.entry) v) }
         ensures memory_is_never_caught { IsNotWant result →
             RunsWords T (WithoutMemory (P.outcome self.inner)) (P.describes self.inner)
-            self.info (given_of args.entry) result }
+            self.info (known_names self.info (P.shorts self.inner)) (given_of args.entry)
+            result }
     {
         self.run_inner(args)
     }

@@ -3,7 +3,6 @@ use Rattle.bpaf_words.specs.Arguments.{given_of}
 use Rattle.bpaf_text.specs.Meaning.{SpellsUnsigned}
 use Rattle.bpaf_keys.specs.Info.{plain_info}
 use Rattle.bpaf.specs.declared.leaves.positional.Position.TheVariants.{Unrestricted}
-use Rattle.bpaf_record.specs.Grammar.{word}
 use Rattle.bpaf_program.specs.Fields.{HasArgument, HasSwitch, HasWord}
 use Rattle.bpaf_program.specs.KnownFields.{known_switch}
 use Rattle.bpaf_program.specs.Values.{MeansText}
@@ -47,9 +46,9 @@ returns c =
     (dealt.last_known (dealt.many_known fields.rest.rest.last.catch
     (dealt.word_known MeansText files.1)))) in
     record {
-      dealt = dealt.known_dealt (dealt.product_known (λ x v e. search rules) known) info given _
-          c.run_record.ensures.dealt;
-      asked = dealt.known_asked (dealt.product_known (λ x v e. e) known) info given IsProgramShape
+      dealt = dealt.known_dealt (dealt.product_known (λ x v e. search rules) known) _
+          c.run_record.ensures.dealt (rw (info, verbose.1.named_is, num.1.key_is) refl) given;
+      asked = dealt.known_asked (dealt.product_known (λ x v e. e) known) IsProgramShape
           (record {
             verbose = verbose.0;
             num = num.0;
@@ -59,14 +58,15 @@ returns c =
             file_help = files.1.told;
             is = refl;
           })
-          _ c.run_record.ensures.outcome;
+          _ c.run_record.ensures.outcome info (rw (info, verbose.1.named_is, num.1.key_is) refl)
+          given;
       exact = program_exactly record_of _ refl c.run_record.ensures.outcome
           (con_known options_of record_fields
           (both_known (known_switch verbose_names) _
           (switch_known verbose_names (Some _) verbose.1.named_is verbose.1.present_is
           verbose.1.absent_is)
           (both_known _ _ (argument_known (SpellsUnsigned 64) number_key (Some _) num.1.key_is)
-          (last_known _ (many_known (word_known MeansText Unrestricted files.1.position_is _)
+          (last_known _ (many_known (word_known MeansText Unrestricted files.1.position_is)
           catch))))
           (λ x v e. search rules)) info given (are_texts c.args.words.now);
     }

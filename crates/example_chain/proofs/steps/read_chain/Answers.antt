@@ -1,6 +1,8 @@
-use Rattle.std.proofs.Common.{◌≡◌, map, rules, string_bytes}
+use Rattle.std.proofs.Common.{◌≡◌, ap₂, map, rules, string_bytes}
 use Rattle.bpaf_words.specs.Arguments.{given_of}
 use Rattle.bpaf_keys.specs.Info.{plain_info}
+use Rattle.bpaf_laws.specs.ShownNames.{joined_shorts, no_shorts}
+use Rattle.bpaf.specs.Known.{known_names}
 use Rattle.bpaf_program.proofs.Commands.{choice_hands, hands_as, hands_asked, hands_dealt}
 use Rattle.bpaf_program.proofs.Commands.{many_hands}
 use Rattle.example_chain.specs.Dealing.{program_given}
@@ -38,8 +40,13 @@ returns g c =
     let info : options.info ≡ plain_info = search rules in
     let given : given_of c.set_name.result ≡ program_given (map string_bytes c.args.words.now) =
     search rules in
+    let no_names : joined_shorts
+    (joined_shorts (g.M.Parser.shorts the_go.inner) (g.T.Parser.shorts the_turn.inner))
+    (g.R.Parser.shorts the_repeat.inner) ≡ no_shorts =
+    rw (go_is.inner_is, turn_is.inner_is, repeat_is.inner_is) c.requires.no_names in
+    let known = ap₂ known_names info no_names in
     record {
-      dealt = hands_dealt pages info given _ c.run_once.ensures.dealt;
-      asked = hands_asked pages info given (λ s doc full asked. of_program asked) _
-          c.run_once.ensures.outcome;
+      dealt = hands_dealt pages _ c.run_once.ensures.dealt known given;
+      asked = hands_asked pages (λ s doc full asked. of_program asked) _
+          c.run_once.ensures.outcome info known given;
     }

@@ -4,6 +4,9 @@ use Rattle.bpaf_program.proofs.ReadsToo.{product_also, word_also}
 use Rattle.bpaf_program.proofs.Commands.{also_dealt}
 use Rattle.example_chain.proofs.steps.read_steps.Goals as goal
 
+pub read_chain-requires-clause-no_names : goal.read_chain-requires-clause-no_names
+read_chain-requires-clause-no_names c = search rules
+
 pub returns-clause-dealt : goal.returns-clause-dealt
 returns-clause-dealt c =
     also_dealt
@@ -16,4 +19,4 @@ returns-clause-dealt c =
     (word_also _ (search rules)))
     (λ x step e. search rules)) _))
     (adjacent_also (product_also (word_also _ (search rules)) (λ n step e. search rules)) _)))
-    _ _ c.read_chain.ensures.dealt
+    _ _ _ c.read_chain.ensures.dealt

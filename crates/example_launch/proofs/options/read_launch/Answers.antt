@@ -45,16 +45,16 @@ returns c =
     (switch_known dry_run_names (Some _) dry_run.1.named_is dry_run.1.present_is
     dry_run.1.absent_is)
     (both_known (word MeansText NonStrict) _
-    (word_known MeansText NonStrict name.1.position_is _)
-    (last_known _ (many_known (word_known MeansText Strict passed.1.position_is _) catch)))))
+    (word_known MeansText NonStrict name.1.position_is)
+    (last_known _ (many_known (word_known MeansText Strict passed.1.position_is) catch)))))
     (λ x v e. search rules)) refl given (are_texts c.args.words.now) in
     record {
       exact = exact;
       launch = launch_asked _ _
-          (dealt.known_dealt (dealt.product_known (λ x v e. search rules) known) refl given _
-          c.run_once.ensures.dealt)
+          (dealt.known_dealt (dealt.product_known (λ x v e. search rules) known) _
+          c.run_once.ensures.dealt (rw (verbose.1.named_is, dry_run.1.named_is) refl) given)
           exact;
-      asked = dealt.known_asked (dealt.product_known (λ x v e. e) known) refl given IsProgramShape
+      asked = dealt.known_asked (dealt.product_known (λ x v e. e) known) IsProgramShape
           (record {
             verbose = verbose.0;
             dry_run = dry_run.0;
@@ -66,5 +66,6 @@ returns c =
             words_help = passed.1.told;
             is = refl;
           })
-          _ c.run_once.ensures.outcome;
+          _ c.run_once.ensures.outcome refl (rw (verbose.1.named_is, dry_run.1.named_is) refl)
+          given;
     }

@@ -9,9 +9,9 @@ with_others-requires-clause-others g c =
     let told = c.in_ok-plain_command.ensures in
     let tag = ap (λ x. x.inner) c.construct-2.ensures.that ∙ c.map-tag.ensures.inner in
     of.choice_known list_command (of.known_map task.Tag on_tag)
-    (of.command_known (codes "list") list_record c.construct-2.ensures.this c.in_ok-list.ensures
+    (of.command_known (codes "list") list_record _ c.construct-2.ensures.this c.in_ok-list.ensures
     (of.con_known task.List max (of.last_known _ (of.default_known (of.argument_known
-    (of.SpellsUnsigned 64) max_key None (search rules)) (λ own v same. same) 10 (search rules) _))
+    (of.SpellsUnsigned 64) max_key None (search rules)) (λ own v same. same) 10 (search rules)))
     (λ x v e. search rules)))
-    (of.map_known task.Tag on_tag (of.command_known (codes "tag") tag_commands tag told
+    (of.map_known task.Tag on_tag (of.command_known (codes "tag") tag_commands _ tag told
     (rw (← (ap (λ x. x.inner) tag ∙ told.inner)) at c.requires.tag)) (λ x v e. search rules))

@@ -13,7 +13,7 @@ returns g c =
     let info = c.args.self.now.info in
     let shape = shape_of c.in_ok-meta.meta in
     let same = c.self.view_is in
-    read_by_shown (g.P.Parser.describes c.args.self.now.inner) info (words_in c.args.words)
+    read_by_shown (g.met.P.Parser.shows c.args.self.now.inner) info (words_in c.args.words)
     c.in_ok-front.front.numbers c.in_ok-flags.flags.items c.in_ok-flags.arguments.items shape _
     (c.in_ok-front.ensures.setting ∙ ap (λ options. options.info.numbers) same)
     (subst (λ options. g.P.Parser.describes options.inner shape) same c.in_ok-meta.ensures)

@@ -21,19 +21,19 @@ returns-in-Ok-clause-dealt g c =
 
 pub returns-in-Ok-clause-named : goal.returns-in-Ok-clause-named
 returns-in-Ok-clause-named g c =
-    words_are_named _ _ _ (g.met.P.Parser.lawful c.args.self.now.inner) (given_of c.args.args) _
+    words_are_named _ _ _ (g.met.P.Parser.lawful c.args.self.now.inner) _ (given_of c.args.args) _
     (returns-in-Ok-clause-outcome g c)
 
 pub returns-in-Err-clause-named : goal.returns-in-Err-clause-named
 returns-in-Err-clause-named g c =
-    words_are_named _ _ _ (g.met.P.Parser.lawful c.args.self.now.inner) (given_of c.args.args) _
+    words_are_named _ _ _ (g.met.P.Parser.lawful c.args.self.now.inner) _ (given_of c.args.args) _
     (returns-in-Err-clause-outcome g c)
 
 pub returns-in-Ok-clause-memory_is_never_caught
     : goal.returns-in-Ok-clause-memory_is_never_caught
 returns-in-Ok-clause-memory_is_never_caught g c =
-    words_spared _ _ _ (given_of c.args.args) _ (returns-in-Ok-clause-outcome g c)
+    words_spared _ _ _ _ (given_of c.args.args) _ (returns-in-Ok-clause-outcome g c)
 
 pub returns-in-Err-clause-memory_is_never_caught : goal.returns-in-Err-clause-memory_is_never_caught
 returns-in-Err-clause-memory_is_never_caught g c =
-    words_spared _ _ _ (given_of c.args.args) _ (returns-in-Err-clause-outcome g c)
+    words_spared _ _ _ _ (given_of c.args.args) _ (returns-in-Err-clause-outcome g c)

@@ -8,4 +8,4 @@ returns-in_err-to_options-clause-outcome g c =
 
 pub returns-in_err-to_options-clause-named : goal.returns-in_err-to_options-clause-named
 returns-in_err-to_options-clause-named g c =
-    want_named _ _ _ (given_of c.args.args) c.from_residual.result c.from_residual.ensures.1
+    want_named _ _ _ _ (given_of c.args.args) c.from_residual.result c.from_residual.ensures.1

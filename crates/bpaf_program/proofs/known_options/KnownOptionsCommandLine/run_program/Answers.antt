@@ -1,7 +1,9 @@
 use Rattle.std.proofs.Common.{true}
 use Rattle.bpaf_words.specs.Arguments.{given_of}
-use Rattle.bpaf_record.specs.Grammar.{command_words, keys_of, program_form, shown_shorts}
+use Rattle.bpaf.specs.Known.{known_names}
+use Rattle.bpaf_record.specs.Grammar.{command_words, keys_of, program_form}
 use Rattle.bpaf_record.proofs.Programs.{answers_as_program}
+use Rattle.bpaf_program.specs.KnownParser.{shown_shorts}
 use Rattle.bpaf_program.proofs.known_options.KnownOptionsCommandLine.run_program.Goals as goal
 
 pub returns-clause-each_exact : goal.returns-clause-each_exact
@@ -10,9 +12,10 @@ returns-clause-each_exact g c known r o =
     let grammar = g.K.KnownProgram.grammar in
     let given = given_of c.args.args in
     answers_as_program g.row.T.Denot (g.P.Parser.outcome parser) (g.P.Parser.describes parser)
-    c.args.self.now.options.info (keys_of grammar true) (command_words grammar)
-    (shown_shorts grammar) (program_form grammar given.env) given (known.law given.env)
-    c.requires.program known.shown r o
+    c.args.self.now.options.info
+    (known_names c.args.self.now.options.info (shown_shorts grammar)) (keys_of grammar true)
+    (command_words grammar) (program_form grammar given.env) given (known.law given.env)
+    c.requires.program r (rw known.shown at o)
 
 pub returns-clause-exact : goal.returns-clause-exact
 returns-clause-exact g c known =

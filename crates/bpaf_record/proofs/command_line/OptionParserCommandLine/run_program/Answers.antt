@@ -1,7 +1,7 @@
 use Rattle.std.proofs.Common.{true, false}
 use Rattle.bpaf_words.specs.Arguments.{given_of}
 use Rattle.bpaf_record.specs.Grammar.{command_words, keys_of, program_form}
-use Rattle.bpaf_record.specs.Grammar.{shown_shorts}
+use Rattle.bpaf.specs.Known.{known_names}
 use Rattle.bpaf_record.proofs.Programs.{answers_as_program, is_program_form, tells_of_words}
 use Rattle.bpaf_record.proofs.command_line.OptionParserCommandLine.run_program.Goals as goal
 
@@ -12,11 +12,10 @@ returns-clause-each_exact g c agrees r o =
     let given = given_of c.args.args in
     let form = program_form grammar given.env in
     answers_as_program g.row.T.Denot (g.P.Parser.outcome parser) (g.P.Parser.describes parser)
-    c.args.self.now.info (keys_of grammar true) (command_words grammar) (shown_shorts grammar) form
-    given
+    c.args.self.now.info (known_names c.args.self.now.info (g.P.Parser.shorts parser))
+    (keys_of grammar true) (command_words grammar) form given
     (g.met.P.ProgramField.law parser agrees given.env)
-    (is_program_form form (keys_of grammar false) c.args.self.now.info c.requires.program)
-    (g.met.P.ProgramField.shows parser) r o
+    (is_program_form form (keys_of grammar false) c.args.self.now.info c.requires.program) r o
 
 pub returns-clause-exact : goal.returns-clause-exact
 returns-clause-exact g c agrees =

@@ -1,5 +1,6 @@
 -- Which short names of keys parsers show, by which joined words are read.
-use Rattle.std.specs.Prelude.{◌≡◌, List, [], ◌++◌}
+use Rattle.std.specs.Prelude.{◌≡◌, ℕ, List, [], ◌++◌}
+use Rattle.std.specs.List.{flat_map}
 use Rattle.bpaf_doc.specs.Shape.{Part, Shape, members}
 use Rattle.bpaf_doc.specs.Walks.{parts, parts_of_all, shorts_of_arguments, shorts_of_flags}
 use Rattle.bpaf_words.specs.Spelling.{ShortNames}
@@ -8,11 +9,26 @@ use Rattle.bpaf_words.specs.Spelling.{ShortNames}
 abbrev pub no_shorts : ShortNames
 no_shorts = record { flags = []; arguments = [] }
 
+-- of flags alone
+abbrev pub of_flags : List ℕ → ShortNames
+of_flags shorts = record { flags = shorts; arguments = [] }
+
+-- of arguments alone
+abbrev pub of_arguments : List ℕ → ShortNames
+of_arguments shorts = record { flags = []; arguments = shorts }
+
 -- those of the one, and of the other
 abbrev pub joined_shorts : ShortNames → ShortNames → ShortNames
 joined_shorts one other = record {
   flags = one.flags ++ other.flags;
   arguments = one.arguments ++ other.arguments;
+}
+
+-- those of some parsers, one after the other
+abbrev pub all_shorts : {P : Type 0} → (P → ShortNames) → List P → ShortNames
+all_shorts names ps = record {
+  flags = flat_map (λ p. (names p).flags) ps;
+  arguments = flat_map (λ p. (names p).arguments) ps;
 }
 
 -- those of flags and of arguments among parts

@@ -1,10 +1,13 @@
 -- Which short names each type shows, by those that its inner parsers show.
 use Rattle.std.proofs.Common.{◌≡◌, List, [], ◌∷◌, ◌++◌, ℕ, Option, Some, None, refl, sym, ap, ap₂}
+use Rattle.std.proofs.Common.{Result}
+use Rattle.std.specs.declared.alloc.AllocError.{AllocError}
 use Rattle.std.proofs.Common.{◌∙◌, append_assoc, append-nil, flat_map}
 use Rattle.std.proofs.lemmas.List.Concat.{flat_map-append}
 use Rattle.bpaf_doc.specs.Names.{Names}
-use Rattle.bpaf_doc.specs.Shape.{Shown, Shape, Shapes, Or, Optional, Required, Many, Part}
-use Rattle.bpaf_doc.specs.Shape.{Suffix, Subsection, CustomUsage, none, ◌then◌, members}
+use Rattle.bpaf_doc.specs.declared.meta.MetaInfo.{MetaInfo}
+use Rattle.bpaf_doc.specs.Shape.{Adjacent, Shown, Shape, Shapes, Or, Optional, Required, Many, Part}
+use Rattle.bpaf_doc.specs.Shape.{Suffix, Subsection, CustomUsage, none, ◌then◌, members, shape_of}
 use Rattle.bpaf_doc.specs.{Shape.alternatives, Shape.shapes_of, declared.doc.Piece.Piece}
 use Rattle.bpaf_doc.specs.Walks.{parts, parts_of_all, shorts_of_argument, shorts_of_flag}
 use Rattle.bpaf_words.specs.Spelling.{ShortNames}
@@ -12,25 +15,18 @@ use Rattle.bpaf_text.specs.Named.{KeyWithValue, Named}
 use Rattle.bpaf_laws.specs.{Argument.argument_shape, Flag.flag_shape}
 use Rattle.bpaf_laws.specs.{Choice.ChoiceDescribes, Choice.either_shape, Choices.ChoicesDescribes}
 use Rattle.bpaf_laws.specs.{Choices.Nested, Default.DefaultDescribes, Default.OptionalDescribes}
-use Rattle.bpaf_laws.specs.{Hide.SectionDescribes, Hide.UsageDescribes, Hide.usage_pieces}
+use Rattle.bpaf_laws.specs.Hide.{SectionDescribes, TitledDescribes, UsageDescribes, usage_pieces}
+use Rattle.bpaf_laws.specs.AdjacentGroup.{GroupDescribes}
 use Rattle.bpaf_laws.specs.{Product.BothDescribes, Product.LastDescribes, Product.ProductDescribes}
 use Rattle.bpaf_laws.specs.{Repeat.ManyDescribes, Repeat.SomeDescribes, Command.Called}
 use Rattle.bpaf_laws.specs.{Command.CommandDescribes}
-use Rattle.bpaf_exact.specs.ShownNames.{FieldsShowNames, ShowsNames, joined_shorts}
-use Rattle.bpaf_exact.specs.ShownNames.{shorts_of}
+use Rattle.bpaf_laws.specs.ShownNames.{FieldsShowNames, ShowsNames, all_shorts, joined_shorts}
+use Rattle.bpaf_laws.specs.ShownNames.{of_arguments, of_flags, shorts_of}
 
 -- a parser of one shape, of these names
 pub one_shape : {shape : Shape} {names : ShortNames} → shorts_of (parts shape) ≡ names
     → ShowsNames (λ shown. shown ≡ shape) names
 one_shape are = record { each = λ shown is. ap (λ shape. shorts_of (parts shape)) is ∙ are }
-
--- short names of flags alone
-abbrev of_flags : List ℕ → ShortNames
-of_flags shorts = record { flags = shorts; arguments = [] }
-
--- and of arguments alone
-abbrev of_arguments : List ℕ → ShortNames
-of_arguments shorts = record { flags = []; arguments = shorts }
 
 -- a flag
 pub flag_shows : {T : Type 0} (named : Named) (absent : Option T)
@@ -97,6 +93,18 @@ module _ {inner : Shape → Type 0} {names : ShortNames} (inside : ShowsNames in
   -- what stands in a section
   pub section_shows : (title : List Piece) → ShowsNames (SectionDescribes inner title) names
   section_shows title = around (λ shape. Subsection shape title) (λ shape. refl)
+
+  -- what stands in a section of which a closure tells the title
+  pub titled_shows : (answers : MetaInfo → Result (List Piece) AllocError → Type 0)
+      → ShowsNames (TitledDescribes inner answers) names
+  titled_shows answers = record {
+    each = λ shape is. ap (λ shape. shorts_of (parts shape)) is.4
+        ∙ inside.each (shape_of is.0.0.now) is.2;
+  }
+
+  -- what stands together
+  pub group_shows : ShowsNames (GroupDescribes inner) names
+  group_shows = around (λ shape. Adjacent shape) (λ shape. refl)
 
   -- a command
   pub command_shows : (called : Called) (help : Option (List Piece))
@@ -179,17 +187,11 @@ choice_shows one other = record {
 
 module _ {P : Type 0} (describes : P → Shape → Type 0) (names : P → ShortNames)
     (each : (p : P) → ShowsNames (describes p) (names p)) where
-  -- the names of some parsers, one after the other
-  abbrev all_shorts : List P → ShortNames
-  all_shorts ps = record {
-    flags = flat_map (λ p. (names p).flags) ps;
-    arguments = flat_map (λ p. (names p).arguments) ps;
-  }
-
   -- a choice, and others after it
   nested_shows : (before : Shape → Type 0) (own : ShortNames) → ShowsNames before own
       → (ps : List P)
-      → ShowsNames (Nested ChoiceDescribes describes before ps) (joined_shorts own (all_shorts ps))
+      → ShowsNames (Nested ChoiceDescribes describes before ps)
+      (joined_shorts own (all_shorts names ps))
   nested_shows before own first [] = record {
     each = λ shape is. first.each shape is
         ∙ ap₂ (λ flags arguments. record { flags = flags; arguments = arguments })
@@ -207,6 +209,7 @@ module _ {P : Type 0} (describes : P → Shape → Type 0) (names : P → ShortN
       }
 
   -- a choice of any number
-  pub choices_show : (ps : List P) → ShowsNames (ChoicesDescribes describes ps) (all_shorts ps)
+  pub choices_show : (ps : List P)
+      → ShowsNames (ChoicesDescribes describes ps) (all_shorts names ps)
   choices_show [] = one_shape refl
   choices_show (p ∷ ps) = nested_shows (describes p) (names p) (each p) ps
