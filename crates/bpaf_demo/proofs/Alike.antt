@@ -1,6 +1,7 @@
 -- All values of the program's record on words print the same lines.
 use Rattle.std.proofs.Common.{◌++◌, ℕ, Bool, List, All, IsUtf8, ap, codes, refl}
 use Rattle.std.specs.Fmt.{decimal}
+use Rattle.bpaf.specs.declared.leaves.positional.Position.TheVariants.{Unrestricted}
 use Rattle.bpaf_exact.specs.OneView.{Alike}
 use Rattle.bpaf_program.specs.Lines.{line, truth}
 use Rattle.bpaf_program.proofs.LookAlike.{alone_seen, both_seen, con_seen, field_seen, many_seen}
@@ -18,7 +19,8 @@ same_lines words =
     (record_look (con_seen
     (both_seen (field_seen (switch_seen verbose_names))
     (both_seen (field_seen (number_seen 64 number_key refl))
-    (alone_seen (field_seen (many_seen (text_word_seen (codes "FILE"))))))) options_of lines
+    (alone_seen (field_seen (many_seen (text_word_seen Unrestricted (codes "FILE")))))))
+    options_of lines
     (λ x y same. ap (λ (seen : Bool × (ℕ × List (List ℕ))).
     line (codes "verbose: " ++ truth seen.0) ++ line (codes "num: " ++ decimal seen.1.0)
     ++ file_lines seen.1.1) same)) refl)

@@ -1,6 +1,6 @@
 -- Arguments keep to the laws.
 use Rattle.std.proofs.Common.{◌≡◌, ℕ, Bool, true, false, List, [], ◌∷◌, Ok, refl, sym, ap, ◌∙◌}
-use Rattle.std.proofs.Common.{None, subst, ⊎_elim}
+use Rattle.std.proofs.Common.{None, ◌&&◌, not, subst, ⊎_elim}
 use Rattle.bpaf_text.specs.Named.{KeyWithValue, argument_part}
 use Rattle.bpaf_line.specs.declared.error.Message.TheVariants.{Memory, NoArgument, ParseFailed}
 use Rattle.bpaf_line.specs.{declared.error.Error.Error, declared.error.Message.Message}
@@ -8,15 +8,15 @@ use Rattle.bpaf_line.specs.{Situation.Situation}
 use Rattle.bpaf_laws.specs.Argument.{ArgumentOutcome, ArgumentFails, TakesOwnText, TakesBefore}
 use Rattle.bpaf_laws.specs.Argument.{GetsText, IsVariable, LacksText, is_key_with_value}
 use Rattle.bpaf_laws.specs.Environment.{first_set}
+use Rattle.bpaf_laws.specs.Repeat.{is_nil}
 use Rattle.bpaf_exact.specs.Flat.{ByName, class, class_of, cells, IsWholeIn, Variables}
 use Rattle.bpaf_exact.specs.Alternative.{AlternativeOk, AlternativeErr, alternative_memory}
 use Rattle.bpaf_exact.specs.Single.{FrontOf, Gap, Groups, SingleErr, SingleLaw, SingleOk, took}
-use Rattle.bpaf_exact.specs.Leaves.{argument_roles, ArgumentValue, argument_by, argument_field}
-use Rattle.bpaf_exact.specs.Leaves.{argument_gap, argument_group, argument_with, variable_argument}
+use Rattle.bpaf_exact.specs.Leaves.{argument_roles, ArgumentValue, argument_field, argument_gap}
+use Rattle.bpaf_exact.specs.Leaves.{argument_group, key_field}
 use Rattle.bpaf_exact.specs.{Alternative.AlternativeLaw, Single.of_memory, Single.of_piece}
 use Rattle.bpaf_exact.specs.{Pieces.Roles, Pieces.LinePiece, Pieces.One, Pieces.Two, Pieces.pieces}
-use Rattle.bpaf_exact.specs.{FlatForm.FormLaw, ProgramForm.ProgramFormLaw, Variables.argument_form}
-use Rattle.bpaf_exact.specs.{Variables.key_form}
+use Rattle.bpaf_exact.specs.FlatForm.{FormLaw}
 use Rattle.bpaf_exact.proofs.ArgumentPieces.{TookPair, gap_empty, named, nowhere, owns, took_pair}
 use Rattle.bpaf_exact.proofs.ArgumentPieces.{test, no_key, variable_fault, variable_read}
 use Rattle.bpaf_exact.proofs.Matching.{match_of, bare_taken, first_alternative, first_refused}
@@ -150,48 +150,35 @@ module _ (T : Type 0) (means : List ℕ → T → Type 0) (argument : KeyWithVal
     err = λ s t e w o. variable_err s t e e.0 refl w.environment o;
   }
 
--- an argument without a name in the environment keeps to the laws of its form
-pub argument_field_law : (env : Variables) (T : Type 0) (means : List ℕ → T → Type 0)
-    (argument : KeyWithValue) → argument.named.envs ≡ []
-    → FormLaw env (ArgumentOutcome means argument) (argument.named.names ∷ [])
-    (argument_field means argument)
-argument_field_law env T means argument e = by_last argument.last refl
-  where
-    by_last : (last : Bool) → argument.last ≡ last
-        → FormLaw env (ArgumentOutcome means argument) (argument.named.names ∷ [])
-        (argument_by means argument.named.names argument.adjacent last)
-    by_last false g = (argument_law T means argument e g, owns argument)
-    by_last true g = (
-      subst (λ envs. SingleLaw env T (ArgumentOutcome means argument) ByName
-          (argument_roles argument.adjacent argument.named.names) (argument_group means true)
-          (argument_gap means (first_set env envs))) e
-          (last_argument_law T means argument g env),
-      owns argument,
-    )
-
 -- an argument keeps to the laws of its form
-pub argument_form_law : (T : Type 0) (means : List ℕ → T → Type 0) (argument : KeyWithValue)
-    (variables : Variables) (words : List (List ℕ))
-    → ProgramFormLaw variables (ArgumentOutcome means argument)
-    (argument.named.names ∷ []) words (argument_form means argument variables)
-argument_form_law T means argument variables words = by_envs argument.named.envs refl
+pub argument_field_law : (variables : Variables) (T : Type 0) (means : List ℕ → T → Type 0)
+    (argument : KeyWithValue)
+    → FormLaw variables (ArgumentOutcome means argument) (argument.named.names ∷ [])
+    (argument_field means argument variables)
+argument_field_law variables T means argument =
+    by_envs argument.named.envs argument.last refl refl
   where
     by_last : (last : Bool) → argument.last ≡ last
-        → FormLaw variables (ArgumentOutcome means argument)
-        (argument.named.names ∷ [])
-        (argument_with means argument.named.names argument.adjacent last
-        (argument_gap means (first_set variables argument.named.envs)))
-    by_last false g = (variable_law T means argument g variables, owns argument)
-    by_last true g = (last_argument_law T means argument g variables, owns argument)
+        → SingleLaw variables T (ArgumentOutcome means argument) ByName
+        (argument_roles argument.adjacent argument.named.names) (argument_group means last)
+        (argument_gap means (first_set variables argument.named.envs))
+    by_last false g = variable_law T means argument g variables
+    by_last true g = last_argument_law T means argument g variables
 
-    by_envs : (envs : List (List ℕ)) → argument.named.envs ≡ envs
-        → ProgramFormLaw variables (ArgumentOutcome means argument)
-        (argument.named.names ∷ []) words
-        (key_form argument.adjacent (argument_field means argument)
-        (variable_argument means argument) variables envs)
-    by_envs [] e = argument_field_law variables T means argument e
-    by_envs (env ∷ envs) e =
-        subst (λ names. FormLaw variables (ArgumentOutcome means argument)
-        (argument.named.names ∷ [])
-        (variable_argument means argument (first_set variables names))) e
-        (by_last argument.last refl)
+    single_law : (envs : List (List ℕ)) (last : Bool) → argument.named.envs ≡ envs
+        → argument.last ≡ last → SingleLaw variables T (ArgumentOutcome means argument) ByName
+        (argument_roles argument.adjacent argument.named.names) (argument_group means last)
+        (argument_gap means (first_set variables envs))
+    single_law envs last e g = subst (λ z. SingleLaw variables T (ArgumentOutcome means argument)
+        ByName (argument_roles argument.adjacent argument.named.names) (argument_group means last)
+        (argument_gap means (first_set variables z))) e (by_last last g)
+
+    by_envs : (envs : List (List ℕ)) (last : Bool) → argument.named.envs ≡ envs
+        → argument.last ≡ last
+        → FormLaw variables (ArgumentOutcome means argument) (argument.named.names ∷ [])
+        (key_field (is_nil envs && not last)
+        (argument_roles argument.adjacent argument.named.names) (ArgumentValue means)
+        (argument_group means last) (argument_gap means (first_set variables envs)))
+    by_envs [] false e g = (argument_law T means argument e g, owns argument)
+    by_envs [] true e g = (single_law [] true e g, owns argument)
+    by_envs (env ∷ envs) last e g = (single_law (env ∷ envs) last e g, owns argument)

@@ -1,23 +1,23 @@
 -- Flags keep to the laws.
 use Rattle.std.proofs.Common.{◌≡◌, ℕ, Bool, true, false, List, [], ◌∷◌, Option, Some, None, Ok}
-use Rattle.std.proofs.Common.{refl, sym, ap, ◌∙◌, subst, ⊎_elim, true≢false}
-use Rattle.std.specs.Option.{is_some}
+use Rattle.std.proofs.Common.{◌&&◌, refl, sym, ap, ◌∙◌, subst, ⊎_elim, true≢false}
+use Rattle.std.specs.Option.{is_none, is_some}
 use Rattle.bpaf_text.specs.Named.{Named as Key, flag_part}
 use Rattle.bpaf_base.specs.Items.{is_key_of}
 use Rattle.bpaf_line.specs.{declared.error.Error.Error, declared.error.Message.Message}
 use Rattle.bpaf_line.specs.{declared.error.Message.TheVariants.Memory, Situation.Situation}
 use Rattle.bpaf_line.specs.{Situation.take_place, Taking.HasNone, Taking.TakesFlag}
 use Rattle.bpaf_laws.specs.Environment.{first_set, is_set}
+use Rattle.bpaf_laws.specs.Repeat.{is_nil}
 use Rattle.bpaf_laws.specs.Flag.{FlagOutcome, FlagFails, IsAbsentValue}
 use Rattle.bpaf_exact.specs.Single.{Groups, Gap, FrontOf, SingleOk, gave_absent, took, SingleErr}
 use Rattle.bpaf_exact.specs.Alternative.{AlternativeOk, AlternativeErr, alternative_memory}
-use Rattle.bpaf_exact.specs.Leaves.{flag_roles, FlagValue, flag_gap, flag_field, variable_flag}
+use Rattle.bpaf_exact.specs.Leaves.{flag_roles, FlagValue, flag_gap, flag_field, key_field}
 use Rattle.bpaf_exact.specs.{Single.of_memory, Single.of_missing, Single.SingleLaw}
 use Rattle.bpaf_exact.specs.{Alternative.AlternativeLaw, Pieces.Alone, Pieces.Roles}
 use Rattle.bpaf_exact.specs.{Pieces.LinePiece, Pieces.One, Pieces.IsNamed, Flat.class}
 use Rattle.bpaf_exact.specs.{Flat.class_of, Flat.IsWholeIn, Flat.ByName, Flat.Variables, Names.Owns}
-use Rattle.bpaf_exact.specs.{FlatForm.FormLaw, ProgramForm.ProgramFormLaw, Variables.key_form}
-use Rattle.bpaf_exact.specs.{Variables.flag_form}
+use Rattle.bpaf_exact.specs.FlatForm.{FormLaw}
 use Rattle.bpaf_exact.proofs.Matching.{match_of, ByTest, by_test, test_named, no_pieces, one_taken}
 use Rattle.bpaf_exact.proofs.Matching.{first_alternative, missing_same, absence_missing, test_owns}
 use Rattle.bpaf_exact.proofs.{Matching.absence_caught, Classes.missing_class, Product.steady_refl}
@@ -193,38 +193,28 @@ module _ (T : Type 0) (clones : T → T → Type 0) (key : Key) (present : T) (a
     err = λ s t e w o. switch_err s t e e.0 refl w.environment o;
   }
 
--- a flag without a name in the environment keeps to the laws of its form
-pub flag_field_law : (env : Variables) (T : Type 0) (clones : T → T → Type 0) (key : Key)
-    (present : T) (absent : Option T) → key.envs ≡ []
-    → FormLaw env (FlagOutcome clones key present absent) (key.names ∷ [])
-    (flag_field clones key present absent)
-flag_field_law env T clones key present None e =
-    (flag_law T clones key present e, owned T clones key present)
-flag_field_law env T clones key present (Some absent) e = (
-  subst (λ envs. SingleLaw env T (FlagOutcome clones key present (Some absent)) ByName
-      (flag_roles key.names) (FrontOf T (FlagValue (clones present)))
-      (flag_gap clones present (Some absent) (first_set env envs))) e
-      (switch_law T clones key present (Some absent) env),
-  owned T clones key present,
-)
-
 -- a flag keeps to the laws of its form
-pub flag_form_law : (T : Type 0) (clones : T → T → Type 0) (key : Key) (present : T)
-    (absent : Option T) (variables : Variables) (words : List (List ℕ))
-    → ProgramFormLaw variables (FlagOutcome clones key present absent)
-    (key.names ∷ []) words (flag_form clones key present absent variables)
-flag_form_law T clones key present absent variables words = by_envs key.envs refl
+pub flag_field_law : (variables : Variables) (T : Type 0) (clones : T → T → Type 0) (key : Key)
+    (present : T) (absent : Option T)
+    → FormLaw variables (FlagOutcome clones key present absent) (key.names ∷ [])
+    (flag_field clones key present absent variables)
+flag_field_law variables T clones key present absent = by_envs key.envs absent refl
   where
-    by_envs : (envs : List (List ℕ)) → key.envs ≡ envs
-        → ProgramFormLaw variables (FlagOutcome clones key present absent)
-        (key.names ∷ []) words (key_form false (flag_field clones key present absent)
-        (variable_flag clones key present absent) variables envs)
-    by_envs [] e = flag_field_law variables T clones key present absent e
-    by_envs (env ∷ envs) e = (
-      subst (λ names. SingleLaw variables T
-          (FlagOutcome clones key present absent) ByName
-          (flag_roles key.names) (FrontOf T (FlagValue (clones present)))
-          (flag_gap clones present absent (first_set variables names))) e
-          (switch_law T clones key present absent variables),
-      owned T clones key present,
-    )
+    single_law : (envs : List (List ℕ)) (absent : Option T) → key.envs ≡ envs
+        → SingleLaw variables T (FlagOutcome clones key present absent) ByName
+        (flag_roles key.names) (FrontOf T (FlagValue (clones present)))
+        (flag_gap clones present absent (first_set variables envs))
+    single_law envs absent e = subst (λ z. SingleLaw variables T
+        (FlagOutcome clones key present absent) ByName (flag_roles key.names)
+        (FrontOf T (FlagValue (clones present)))
+        (flag_gap clones present absent (first_set variables z))) e
+        (switch_law T clones key present absent variables)
+
+    by_envs : (envs : List (List ℕ)) (absent : Option T) → key.envs ≡ envs
+        → FormLaw variables (FlagOutcome clones key present absent) (key.names ∷ [])
+        (key_field (is_nil envs && is_none absent) (flag_roles key.names)
+        (FlagValue (clones present)) (FrontOf T (FlagValue (clones present)))
+        (flag_gap clones present absent (first_set variables envs)))
+    by_envs [] None e = (flag_law T clones key present e, owned T clones key present)
+    by_envs [] (Some kept) e = (single_law [] (Some kept) e, owned T clones key present)
+    by_envs (env ∷ envs) absent e = (single_law (env ∷ envs) absent e, owned T clones key present)

@@ -1,7 +1,10 @@
 -- Where closures can't tell apart what looks alike, the premise of exactness holds, and all values
 -- of a line look alike.
 use Rattle.std.proofs.Common.{◌≡◌, ℕ, Bool, true, false, List, [], ◌∷◌, map, Option, Some, None}
-use Rattle.std.proofs.Common.{refl, sym, ap, ◌∙◌, subst}
+use Rattle.std.proofs.Common.{◌&&◌, not, refl, sym, ap, ◌∙◌, subst}
+use Rattle.std.specs.Option.{is_none}
+use Rattle.bpaf_laws.specs.Environment.{first_set}
+use Rattle.bpaf_laws.specs.Repeat.{is_nil}
 use Rattle.std.specs.{Global.Vec, Prelude.option_map}
 use Rattle.bpaf_doc.specs.Names.{Names}
 use Rattle.bpaf_text.specs.Named.{Named as Key, KeyWithValue}
@@ -13,7 +16,8 @@ use Rattle.bpaf_exact.specs.Single.{Groups, Gap, FrontOf, Own, own_none, own_mor
 use Rattle.bpaf_exact.specs.Single.{SingleValue, of_group, of_gap, OwnList, listed}
 use Rattle.bpaf_exact.specs.Wrappers.{Closure, OptionalValue, some_value, no_value, FallbackValue}
 use Rattle.bpaf_exact.specs.Leaves.{FlagValue, ArgumentValue, WordValue, flag_field, LastGroup}
-use Rattle.bpaf_exact.specs.Leaves.{SideValue, argument_by, argument_field, argument_group}
+use Rattle.bpaf_exact.specs.Leaves.{argument_field, argument_gap, argument_group, argument_roles}
+use Rattle.bpaf_exact.specs.Leaves.{flag_gap, flag_roles, key_field}
 use Rattle.bpaf_exact.specs.Record.{RunAnswer, Accepted, NoMemory, Refusal, RecordValue, IsExact}
 use Rattle.bpaf_exact.specs.FlatForm.{FlatForm, alternative, single, complete, product, FormLaw}
 use Rattle.bpaf_exact.specs.FlatForm.{only_if, flat_closed, flat_repeat, flat_many, flat_optional}
@@ -21,8 +25,8 @@ use Rattle.bpaf_exact.specs.FlatForm.{flat_fallback, flat_field, may_follow, fla
 use Rattle.bpaf_exact.specs.FlatForm.{flat_con, flat_record, is_record, product_roles}
 use Rattle.bpaf_exact.specs.OneView.{Alike, OneGroup, HasOneView, Respects, pair_view, LooksLike}
 use Rattle.bpaf_exact.specs.{Single.listed_and_absent, Single.only_absent, Single.repeated}
-use Rattle.bpaf_exact.specs.{Wrappers.own_value, Wrappers.kept_value, Leaves.variable_argument}
-use Rattle.bpaf_exact.specs.{Leaves.word_by, Leaves.word_field, Record.line_cells}
+use Rattle.bpaf_exact.specs.{Wrappers.own_value, Wrappers.kept_value}
+use Rattle.bpaf_exact.specs.{Leaves.word_by, Record.line_cells}
 use Rattle.bpaf_exact.specs.{FlatForm.product_reading, FlatForm.flat_whole, OneView.RunsToOne}
 use Rattle.bpaf_exact.specs.{Pieces.Cells, Pieces.Roles, Pieces.LinePiece, Pieces.One, Pieces.Two}
 use Rattle.bpaf_exact.specs.{Gathered.list_closure}
@@ -68,13 +72,31 @@ flag_piece : (T X : Type 0) (see : T → X) (present : T → Type 0) → Alike s
 flag_piece T X see present u (One k) v w a b = u v w a b
 flag_piece T X see present u (Two k x) v w a b = absurd a
 
+-- a key, where its pieces, its groups and what stands for none look alike
+key_view : (T X : Type 0) (see : T → X) (may_choose : Bool) (q : Roles)
+    (each : LinePiece → T → Type 0) (group : Groups T) (gap : Gap T)
+    → ((o : LinePiece) → Alike see (each o)) → OneGroup see group → Alike see gap.absent
+    → HasOneView see (key_field may_choose q each group gap)
+key_view T X see true q each group gap piece groups none = piece
+key_view T X see false q each group gap piece groups none = (groups, none)
+
+-- what stands for no key of a flag, whose clones look alike
+flag_gap_view : (T X : Type 0) (see : T → X) (clones : T → T → Type 0)
+    → ((kept : T) → Alike see (clones kept)) → (present : T) (absent : Option T)
+    (set : Option (List ℕ)) → Alike see (flag_gap clones present absent set).absent
+flag_gap_view T X see clones u present None None = λ v w a b. absurd a
+flag_gap_view T X see clones u present (Some kept) None = u kept
+flag_gap_view T X see clones u present absent (Some text) = u present
+
 -- a flag, whose clones look alike
 pub flag_view : (T X : Type 0) (see : T → X) (clones : T → T → Type 0)
     → ((kept : T) → Alike see (clones kept)) → (key : Key) (present : T) (absent : Option T)
-    → HasOneView see (flag_field clones key present absent)
-flag_view T X see clones u key present None = flag_piece T X see (clones present) (u present)
-flag_view T X see clones u key present (Some kept) =
-    (front_view T X see _ (flag_piece T X see (clones present) (u present)), u kept)
+    (variables : Variables) → HasOneView see (flag_field clones key present absent variables)
+flag_view T X see clones u key present absent variables =
+    key_view T X see (is_nil key.envs && is_none absent) (flag_roles key.names) _ _ _
+    (flag_piece T X see (clones present) (u present))
+    (front_view T X see _ (flag_piece T X see (clones present) (u present)))
+    (flag_gap_view T X see clones u present absent (first_set variables key.envs))
 
 -- a key and its value
 argument_piece : (T X : Type 0) (see : T → X) (means : List ℕ → T → Type 0)
@@ -94,17 +116,6 @@ last_group T X see means u os rest others v w a b =
       a.none_left ∙ sym b.none_left,
     )
 
--- an argument, where what a text means looks alike
-pub argument_view : (T X : Type 0) (see : T → X) (means : List ℕ → T → Type 0)
-    → ((text : List ℕ) → Alike see (means text)) → (argument : KeyWithValue)
-    → HasOneView see (argument_field means argument)
-argument_view T X see means u argument = by_last argument.last
-  where
-    by_last : (last : Bool)
-        → HasOneView see (argument_by means argument.named.names argument.adjacent last)
-    by_last false = argument_piece T X see means u
-    by_last true = (last_group T X see means u, λ v w a b. absurd a)
-
 -- the pieces of one evaluation
 argument_group_view : (T X : Type 0) (see : T → X) (means : List ℕ → T → Type 0)
     → ((text : List ℕ) → Alike see (means text)) → (last : Bool)
@@ -112,39 +123,35 @@ argument_group_view : (T X : Type 0) (see : T → X) (means : List ℕ → T →
 argument_group_view T X see means u false = front_view T X see _ (argument_piece T X see means u)
 argument_group_view T X see means u true = last_group T X see means u
 
--- an argument with names in the environment
-pub variable_argument_view : (T X : Type 0) (see : T → X) (means : List ℕ → T → Type 0)
+-- what stands for no key
+argument_gap_view : (T X : Type 0) (see : T → X) (means : List ℕ → T → Type 0)
+    → ((text : List ℕ) → Alike see (means text)) → (set : Option (List ℕ))
+    → Alike see (argument_gap means set).absent
+argument_gap_view T X see means u None = λ v w a b. absurd a
+argument_gap_view T X see means u (Some text) = u text
+
+-- an argument, where what a text means looks alike
+pub argument_view : (T X : Type 0) (see : T → X) (means : List ℕ → T → Type 0)
     → ((text : List ℕ) → Alike see (means text)) → (argument : KeyWithValue)
-    → (set : Option (List ℕ)) → HasOneView see (variable_argument means argument set)
-variable_argument_view T X see means u argument None =
-    (argument_group_view T X see means u argument.last, λ v w a b. absurd a)
-variable_argument_view T X see means u argument (Some text) =
-    (argument_group_view T X see means u argument.last, u text)
+    (variables : Variables) → HasOneView see (argument_field means argument variables)
+argument_view T X see means u argument variables =
+    key_view T X see (is_nil argument.named.envs && not argument.last)
+    (argument_roles argument.adjacent argument.named.names) _ _ _ (argument_piece T X see means u)
+    (argument_group_view T X see means u argument.last)
+    (argument_gap_view T X see means u (first_set variables argument.named.envs))
 
 -- a word
-word_piece : (T X : Type 0) (see : T → X) (means : List ℕ → T → Type 0)
-    → ((text : List ℕ) → Alike see (means text)) → (o : LinePiece) → Alike see (WordValue means o)
-word_piece T X see means u (One k) v w a b = u (item_text k) v w a b
-word_piece T X see means u (Two k x) v w a b = absurd a
-
--- a word on one side of `--`
-side_piece : (T X : Type 0) (see : T → X) (behind : Bool) (means : List ℕ → T → Type 0)
+word_piece : (T X : Type 0) (see : T → X) (accepts : Bool → Bool) (means : List ℕ → T → Type 0)
     → ((text : List ℕ) → Alike see (means text)) → (o : LinePiece)
-    → Alike see (SideValue behind means o)
-side_piece T X see behind means u (One k) v w a b = u (item_text k) v w a.1 b.1
-side_piece T X see behind means u (Two k x) v w a b = absurd a
+    → Alike see (WordValue accepts means o)
+word_piece T X see accepts means u (One k) v w a b = u (item_text k) v w a.1 b.1
+word_piece T X see accepts means u (Two k x) v w a b = absurd a
 
 -- a positional, where what a text means looks alike
-pub word_view : (T X : Type 0) (see : T → X) (means : List ℕ → T → Type 0)
-    → ((text : List ℕ) → Alike see (means text)) → HasOneView see (word_field means)
-word_view T X see means u = (front_view T X see _ (word_piece T X see means u), λ v w a b. absurd a)
-
--- one on one side of `--`
-pub side_view : (T X : Type 0) (see : T → X) (stops behind : Bool) (means : List ℕ → T → Type 0)
-    → ((text : List ℕ) → Alike see (means text))
-    → HasOneView see (word_by stops (SideValue behind means))
-side_view T X see stops behind means u =
-    (front_view T X see _ (side_piece T X see behind means u), λ v w a b. absurd a)
+pub word_view : (T X : Type 0) (see : T → X) (accepts : Bool → Bool) (means : List ℕ → T → Type 0)
+    → ((text : List ℕ) → Alike see (means text)) → HasOneView see (word_by accepts means)
+word_view T X see accepts means u =
+    (front_view T X see _ (word_piece T X see accepts means u), λ v w a b. absurd a)
 
 -- where a test holds
 if_view : (T X : Type 0) (see : T → X) (s : FlatForm T) (b : Bool) → HasOneView see s

@@ -1,12 +1,12 @@
 -- What a repeat's values say, piece by piece.
-use Rattle.std.proofs.Common.{◌≡◌, ℕ, Bool, true, false, List, [], ◌∷◌, ◌++◌, Option, None, sym, ap}
+use Rattle.std.proofs.Common.{◌≡◌, ℕ, Bool, false, List, [], ◌∷◌, ◌++◌, Option, None, sym, ap}
 use Rattle.std.proofs.Common.{◌∙◌, subst, true≢false}
 use Rattle.std.specs.List.{AllZip}
 use Rattle.bpaf_exact.specs.Says.{Said, FlagSays, says_present, says_absent, ArgumentSays}
 use Rattle.bpaf_exact.specs.Says.{says_variable, says_variable_text, says_text, says_last_text}
-use Rattle.bpaf_exact.specs.Says.{WordSays, FrontSays, RepeatSays, first_item, says_in_turn}
+use Rattle.bpaf_exact.specs.Says.{WordSays, FrontSays, RepeatSays, says_in_turn}
 use Rattle.bpaf_exact.specs.{Says.says_alone, Pieces.LinePiece, Pieces.One, Pieces.Two}
-use Rattle.bpaf_exact.specs.{Pieces.stands_behind, Leaves.FlagValue, Leaves.ArgumentValue}
+use Rattle.bpaf_exact.specs.{Leaves.FlagValue, Leaves.ArgumentValue}
 use Rattle.bpaf_exact.specs.{Leaves.WordValue, Single.Own, Single.own_none, Single.own_more}
 
 -- a value that is said of one piece
@@ -59,17 +59,11 @@ flag_values {T} {clones} {present} {absent} {set} {os} {vs} required unset told 
     of_one os v (says_variable text none is m) = absurd cc
     of_one os v (says_absent a e is some m) = absurd cc
 
--- a word on an accepted side means what its text means
-abbrev pub AcceptedWord : {T : Type 0} → (Bool → Bool) → (List ℕ → T → Type 0) → LinePiece → T
-    → Type 0
-AcceptedWord accepts means o v =
-    (accepts (stands_behind (first_item o)) ≡ true) × WordValue means o v
-
 -- Of repeated words: what their texts mean, in line order.
 pub word_values : {T : Type 0} {means : List ℕ → T → Type 0} {os : List LinePiece} {vs : List T}
     {accepts : Bool → Bool} → RepeatSays (WordSays accepts means) os vs
-    → AllZip (AcceptedWord accepts means) os vs
+    → AllZip (WordValue accepts means) os vs
 word_values {T} {means} {os} {vs} {accepts} told =
-    one_by_one (WordSays accepts means) (AcceptedWord accepts means)
+    one_by_one (WordSays accepts means) (WordValue accepts means)
     (λ os v said. record { piece = One said.word; is = said.is; said = (said.side, said.meant) }) os
     vs told

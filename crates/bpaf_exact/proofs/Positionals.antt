@@ -1,18 +1,20 @@
 -- Positional words keep to the laws.
 use Rattle.std.proofs.Common.{◌≡◌, ℕ, Bool, true, false, List, [], ◌∷◌, Some, None, Ok, Err, refl}
-use Rattle.std.proofs.Common.{sym, ap, ◌∙◌, subst, if◌then◌else◌, option_and_then}
+use Rattle.std.proofs.Common.{sym, ap, ◌∙◌, not, subst, true≢false, if◌then◌else◌, option_and_then}
 use Rattle.std.specs.Option.{option_map_or}
 use Rattle.bpaf_base.specs.declared.arg.Arg.{Arg}
 use Rattle.bpaf_base.specs.declared.arg.Arg.TheVariants.{Word, PosWord}
 use Rattle.bpaf_base.specs.Items.{is_positional, word_text, item_text}
 use Rattle.bpaf_line.specs.{declared.error.Error.Error, Situation.Situation, Taking.TakesText}
 use Rattle.bpaf_line.proofs.Matches.{open_item_there}
-use Rattle.bpaf_exact.specs.Pieces.{Cells, Alone, LinePiece, One, word_roles, pieces, stands_behind}
+use Rattle.bpaf_exact.specs.Pieces.{Cells, Alone, LinePiece, One, Two, word_roles, pieces}
+use Rattle.bpaf_exact.specs.Pieces.{stands_behind}
 use Rattle.bpaf_exact.specs.Flat.{cells, IsWholeIn, Steady, EachWord, OneWord, front, back}
 use Rattle.bpaf_exact.specs.Single.{Groups, FrontOf, no_gap, SingleOk, took, SingleErr, of_memory}
 use Rattle.bpaf_exact.specs.Single.{catch_missing, catch_other, of_missing, of_piece, WordByWord}
 use Rattle.bpaf_exact.specs.Alternative.{TakesFirst, first_one, first_two, first_later}
-use Rattle.bpaf_exact.specs.Leaves.{WordEval, word_by, word_fault, word_memory, word_missing}
+use Rattle.bpaf_exact.specs.Leaves.{WordEval, WordValue, word_by, word_fault, word_memory}
+use Rattle.bpaf_exact.specs.Leaves.{word_missing}
 use Rattle.bpaf_exact.specs.{Flat.is_behind, Flat.Variables, Single.SingleLaw, Leaves.word_passed}
 use Rattle.bpaf_exact.specs.{Leaves.word_read, FlatForm.FormLaw}
 use Rattle.bpaf_exact.proofs.Fronts.{back_more, back_one, front_more, front_one, of_front_more}
@@ -165,8 +167,23 @@ module _ (T : Type 0) (b : Bool) (value : LinePiece → T → Type 0)
     err = word_err;
   }
 
+-- where no word behind `--` is accepted, one that is stands before it
+pub stands_before : (accepts : Bool → Bool) → not (accepts true) ≡ true → (behind : Bool)
+    → accepts behind ≡ true → behind ≡ false
+stands_before accepts stops true on = absurd (true≢false (sym stops ∙ ap not on))
+stands_before accepts stops false on = refl
+
 -- a positional keeps to the laws of its form
-pub word_by_law : (env : Variables) (T : Type 0) (b : Bool) (value : LinePiece → T → Type 0)
-    → (b ≡ true → (o : LinePiece) (v : T) → value o v → is_behind o ≡ false)
-    → FormLaw env (WordEval T b value) [] (word_by b value)
-word_by_law env T b value clear = (word_law T b value clear, record { own = λ k e. absurd cc })
+pub word_by_law : (env : Variables) (T : Type 0) (accepts : Bool → Bool)
+    (means : List ℕ → T → Type 0)
+    → FormLaw env (WordEval T (not (accepts true)) (WordValue accepts means)) []
+    (word_by accepts means)
+word_by_law env T accepts means = (
+  word_law T (not (accepts true)) (WordValue accepts means) clear,
+  record { own = λ k e. absurd cc },
+)
+  where
+    clear : not (accepts true) ≡ true → (o : LinePiece) (v : T) → WordValue accepts means o v
+        → is_behind o ≡ false
+    clear stops (One w) v y = stands_before accepts stops (stands_behind w) y.0
+    clear stops (Two k w) v y = absurd y

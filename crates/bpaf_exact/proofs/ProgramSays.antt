@@ -1,9 +1,9 @@
 -- Of each combinator: its values say what is told of them, where those of its inner parsers do.
 use Rattle.std.proofs.Common.{◌≡◌, ℕ, zero, suc, Bool, true, false, List, [], ◌∷◌, ◌++◌, Some, None}
-use Rattle.std.proofs.Common.{Option, not, ◌&&◌, ◌||◌, refl, sym, subst, arith}
+use Rattle.std.proofs.Common.{not, ◌&&◌, ◌||◌, refl, arith}
 use Rattle.std.specs.List.{Contains}
 use Rattle.bpaf_doc.specs.Names.{Names}
-use Rattle.bpaf_laws.specs.{Command.Called, Command.opening_words, Environment.first_set}
+use Rattle.bpaf_laws.specs.{Command.Called, Command.opening_words}
 use Rattle.bpaf_laws.specs.{Reading.Outcome}
 use Rattle.bpaf_exact.specs.Says.{SaidKind, of_kind, repeated_kind, Said, Says, MadeSays, FormSays}
 use Rattle.bpaf_exact.specs.FlatForm.{FlatForm, alternative, complete, EachAgrees, alternative_only}
@@ -29,7 +29,6 @@ use Rattle.bpaf_exact.specs.{Says.FallbackSays, Says.LastSays, Says.RepeatSays}
 use Rattle.bpaf_exact.specs.{Wrappers.ClosedValue, Programs.are_plain, Programs.without}
 use Rattle.bpaf_exact.specs.{Pieces.Roles, Pieces.LinePiece, Pieces.pieces, Flat.ByName}
 use Rattle.bpaf_exact.specs.{Flat.Variables, Names.are_all_apart, Wrappers.Closure}
-use Rattle.bpaf_exact.specs.{Variables.key_form}
 use Rattle.bpaf_exact.proofs.Says.{FormOwns, alone_says, both_say, by_name, choice_into}
 use Rattle.bpaf_exact.proofs.Says.{choice_says, closed_says, con_says, field_owned, field_says}
 use Rattle.bpaf_exact.proofs.Says.{optional_says, owned, record_says, unless_says, fallback_says}
@@ -460,22 +459,3 @@ pub program_says : (env : Variables) {P T : Type 0} (outcome : Outcome T) (words
     → is_program s ≡ true → IsSaid (program_value s) (cells_said s said p)
 program_says env outcome words s {kind} {names} {said} {p} law h is =
     whole_says (λ q. q) p env outcome names words s kind said p law h.by is
-
--- a key, by what its field says without a name in the environment and with some
-pub key_says : {P T : Type 0} {names : List Names} {kind : SaidKind}
-    (told : P → Option (List ℕ) → Said T) (envs_of : P → List (List ℕ)) (p : P) (wide : Bool)
-    (bare : FlatForm T) (by_text : Option (List ℕ) → FlatForm T) (variables : Variables)
-    → Says names bare kind (told p None)
-    → ((set : Option (List ℕ)) → Says names (by_text set) kind (told p set))
-    → ProgramSays names (key_form wide bare by_text variables (envs_of p)) kind
-    (of_pieces (λ q. told q (first_set variables (envs_of q)))) p
-key_says {P} {T} {names} {kind} told envs_of p wide bare by_text variables here there =
-    record { by = by_envs (envs_of p) refl }
-  where
-    by_envs : (envs : List (List ℕ)) → envs_of p ≡ envs
-        → ProgramFormSays names (key_form wide bare by_text variables envs) kind
-        (of_pieces (λ q. told q (first_set variables (envs_of q)))) p
-    by_envs [] e = subst (λ z. Says names bare kind (told p (first_set variables z))) (sym e) here
-    by_envs (name ∷ envs) e = subst
-        (λ z. Says names (by_text (first_set variables (name ∷ envs))) kind
-        (told p (first_set variables z))) (sym e) (there (first_set variables (name ∷ envs)))

@@ -9,8 +9,11 @@ use Rattle.bpaf_exact.specs.Flat.{FieldKind, ByName, OneWord, EachWord, FieldsRe
 use Rattle.bpaf_exact.specs.Single.{Groups, Gap, FrontOf, Own, own_none, own_more, OwnList, listed}
 use Rattle.bpaf_exact.specs.Single.{listed_and_absent, only_absent, SingleValue, of_group, of_gap}
 use Rattle.bpaf_exact.specs.Wrappers.{Closure, OptionalValue, some_value, no_value, FallbackValue}
-use Rattle.bpaf_exact.specs.Leaves.{flag_field, flag_gap, FlagValue, argument_field, argument_by}
-use Rattle.bpaf_exact.specs.Leaves.{argument_gap, argument_group, variable_argument, variable_flag}
+use Rattle.bpaf_exact.specs.Leaves.{flag_field, flag_gap, flag_roles, FlagValue, argument_field}
+use Rattle.bpaf_exact.specs.Leaves.{argument_gap, argument_group, argument_roles, key_field}
+use Rattle.bpaf_laws.specs.Environment.{first_set}
+use Rattle.bpaf_laws.specs.Repeat.{is_nil}
+use Rattle.std.specs.Option.{is_none}
 use Rattle.bpaf_exact.specs.FlatForm.{FlatForm, FormLaw, not_flat, alternative, single, complete}
 use Rattle.bpaf_exact.specs.FlatForm.{product, only_if, flat_closed, flat_choice, alternative_only}
 use Rattle.bpaf_exact.specs.FlatForm.{flat_repeat, flat_last, flat_optional, flat_fallback}
@@ -24,9 +27,9 @@ use Rattle.bpaf_exact.specs.Says.{WordSays, EitherSays, says_this, says_that, Ma
 use Rattle.bpaf_exact.specs.Says.{OptionalSays, says_some, says_none, FallbackSays, says_own}
 use Rattle.bpaf_exact.specs.Says.{says_kept, FrontSays, RepeatSays, says_in_turn, says_alone}
 use Rattle.bpaf_exact.specs.Says.{LastSays, FieldsSaid, RecordSays, FormSays, Says, FieldsFormSays}
-use Rattle.bpaf_exact.specs.{Pieces.no_roles, Pieces.stands_behind, Flat.back, Flat.both_reading}
+use Rattle.bpaf_exact.specs.{Pieces.no_roles, Flat.back, Flat.both_reading}
 use Rattle.bpaf_exact.specs.{Flat.Variables, Single.repeated, Wrappers.own_value}
-use Rattle.bpaf_exact.specs.{Wrappers.kept_value, Leaves.ArgumentValue, Leaves.SideValue}
+use Rattle.bpaf_exact.specs.{Wrappers.kept_value, Leaves.ArgumentValue}
 use Rattle.bpaf_exact.specs.{Leaves.WordValue, Leaves.word_by, FlatForm.flat_whole, Says.FieldsSay}
 use Rattle.bpaf_exact.specs.{Says.its_pieces, Says.words_after, Names.Owns, Names.are_all_apart}
 use Rattle.bpaf_exact.specs.{Gathered.LastOf, Alternative.pick_type, Alternative.either_value}
@@ -66,12 +69,14 @@ module _ {T : Type 0} (clones : T → T → Type 0) (present : T) where
   flag_gap_says (Some a) None v m = says_absent a refl refl refl m
   flag_gap_says absent (Some text) v m = says_variable text refl refl m
 
-  -- with names in the environment
-  pub variable_flag_says : {names : List Names} (key : Key) (absent : Option T)
+  -- whichever it may be
+  key_says : {names : List Names} (may_choose : Bool) (key : Key) (absent : Option T)
       (set : Option (List ℕ))
-      → Says names (variable_flag clones key present absent set) (of_kind ByName)
-      (FlagSays clones present absent set)
-  variable_flag_says key absent set = record {
+      → Says names (key_field may_choose (flag_roles key.names) (FlagValue (clones present))
+      (FrontOf T (FlagValue (clones present))) (flag_gap clones present absent set))
+      (of_kind ByName) (FlagSays clones present absent set)
+  key_says true key absent set = record { by = (refl, present_piece) }
+  key_says false key absent set = record {
     by = (
       refl,
       front_says (FlagValue (clones present)) (FlagSays clones present absent set) present_piece,
@@ -79,12 +84,12 @@ module _ {T : Type 0} (clones : T → T → Type 0) (present : T) where
     );
   }
 
-  -- without one
-  pub flag_field_says : {names : List Names} (key : Key) (absent : Option T)
-      → Says names (flag_field clones key present absent) (of_kind ByName)
-      (FlagSays clones present absent None)
-  flag_field_says key None = record { by = (refl, present_piece) }
-  flag_field_says key (Some a) = variable_flag_says key (Some a) None
+  -- so it is with its field
+  pub flag_says : {names : List Names} (key : Key) (absent : Option T) (variables : Variables)
+      → Says names (flag_field clones key present absent variables) (of_kind ByName)
+      (FlagSays clones present absent (first_set variables key.envs))
+  flag_says key absent variables =
+      key_says (is_nil key.envs && is_none absent) key absent (first_set variables key.envs)
 
 -- an argument
 module _ {T : Type 0} (means : List ℕ → T → Type 0) where
@@ -112,55 +117,44 @@ module _ {T : Type 0} (means : List ℕ → T → Type 0) where
   argument_gap_says None v m = absurd m
   argument_gap_says (Some text) v m = says_variable_text text refl refl m
 
-  -- with names in the environment
-  pub variable_argument_says : {names : List Names} (argument : KeyWithValue)
-      (set : Option (List ℕ)) → Says names (variable_argument means argument set) (of_kind ByName)
-      (ArgumentSays means argument.last set)
-  variable_argument_says argument set = record {
+  -- whichever it may be
+  option_says : {names : List Names} (may_choose : Bool) (argument : KeyWithValue)
+      (set : Option (List ℕ))
+      → Says names (key_field may_choose (argument_roles argument.adjacent argument.named.names)
+      (ArgumentValue means) (argument_group means argument.last) (argument_gap means set))
+      (of_kind ByName) (ArgumentSays means argument.last set)
+  option_says true argument set = record { by = (refl, pair_piece) }
+  option_says false argument set = record {
     by = (refl, argument_group_says argument.last, argument_gap_says set);
   }
 
-  -- without one
-  pub argument_field_says : {names : List Names} (argument : KeyWithValue)
-      → Says names (argument_field means argument) (of_kind ByName)
-      (ArgumentSays means argument.last None)
-  argument_field_says {names} argument = by_last argument.last
-    where
-      by_last : (last : Bool)
-          → Says names (argument_by means argument.named.names argument.adjacent last)
-          (of_kind ByName)
-          (ArgumentSays means last None)
-      by_last false = record { by = (refl, pair_piece) }
-      by_last true = record { by = (refl, argument_group_says true, λ v none. absurd none) }
+  -- so it is with its field
+  pub argument_says : {names : List Names} (argument : KeyWithValue) (variables : Variables)
+      → Says names (argument_field means argument variables) (of_kind ByName)
+      (ArgumentSays means argument.last (first_set variables argument.named.envs))
+  argument_says argument variables =
+      option_says (is_nil argument.named.envs && not argument.last) argument
+      (first_set variables argument.named.envs)
 
 -- what the value of a word by itself says
-abbrev pub OneWordSays : {T : Type 0} → (Bool → Bool) → (List ℕ → T → Type 0)
-    → (LinePiece → T → Type 0) → Type 0
-OneWordSays {T = T} accepts means value =
-    (o : LinePiece) (v : T) → value o v → WordSays accepts means (o ∷ []) v
+pub word_says : {T : Type 0} (accepts : Bool → Bool) (means : List ℕ → T → Type 0) (o : LinePiece)
+    (v : T) → WordValue accepts means o v → WordSays accepts means (o ∷ []) v
+word_says accepts means (One w) v m =
+    record { word = w; is = refl; side = m.0; meant = m.1 }
+word_says accepts means (Two k w) v m = absurd m
 
--- a word with such values
+-- a positional word
 pub word_by_says : {T : Type 0} {names : List Names} (accepts : Bool → Bool)
-    (means : List ℕ → T → Type 0) (value : LinePiece → T → Type 0) → OneWordSays accepts means value
-    → (stops : Bool) → Says names (word_by stops value) (of_kind (OneWord stops))
+    (means : List ℕ → T → Type 0)
+    → Says names (word_by accepts means) (of_kind (OneWord (not (accepts true))))
     (WordSays accepts means)
-word_by_says accepts means value piece stops = record {
-  by = (refl, front_says value (WordSays accepts means) piece, λ v none. absurd none);
+word_by_says accepts means = record {
+  by = (
+    refl,
+    front_says (WordValue accepts means) (WordSays accepts means) (word_says accepts means),
+    λ v none. absurd none,
+  );
 }
-
--- a word on either side of `--`
-pub word_says : {T : Type 0} (accepts : Bool → Bool) (means : List ℕ → T → Type 0)
-    → ((behind : Bool) → accepts behind ≡ true) → OneWordSays accepts means (WordValue means)
-word_says accepts means all (One w) v m =
-    record { word = w; is = refl; side = all (stands_behind w); meant = m }
-word_says accepts means all (Two k w) v m = absurd m
-
--- one on an accepted side
-pub side_says : {T : Type 0} (accepts : Bool → Bool) (behind : Bool) (means : List ℕ → T → Type 0)
-    → accepts behind ≡ true → OneWordSays accepts means (SideValue behind means)
-side_says accepts behind means accepted (One w) v m =
-    record { word = w; is = refl; side = ap accepts m.0 ∙ accepted; meant = m.1 }
-side_says accepts behind means accepted (Two k w) v m = absurd m
 
 -- Closures, and what changes only what is shown.
 

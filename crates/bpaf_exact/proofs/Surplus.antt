@@ -1,8 +1,6 @@
 -- A surplus occurrence, a surplus word and an occurrence without a value leave a field no value.
 use Rattle.std.proofs.Common.{◌≡◌, ℕ, Bool, not, true, false, List, [], ◌∷◌, Option, Some, None}
 use Rattle.std.proofs.Common.{subst}
-use Rattle.bpaf_doc.specs.Names.{Names}
-use Rattle.bpaf_text.specs.Named.{Named as Key}
 use Rattle.bpaf_exact.specs.Flat.{FieldKind, FieldsReading, HasValue, both_reading, portion, left}
 use Rattle.bpaf_exact.specs.Single.{Groups, Gap, FrontOf, own_none, own_more, OwnList, listed}
 use Rattle.bpaf_exact.specs.Single.{listed_and_absent, only_absent, SingleValue, of_group, of_gap}
@@ -11,8 +9,8 @@ use Rattle.bpaf_exact.specs.FlatForm.{FlatForm, not_flat, alternative, single, c
 use Rattle.bpaf_exact.specs.FlatForm.{flat_closed, flat_optional, flat_fallback, flat_field, only_if}
 use Rattle.bpaf_exact.specs.{Wrappers.own_value, Wrappers.kept_value, FlatForm.is_product}
 use Rattle.bpaf_exact.specs.{Pieces.Roles, Pieces.LinePiece, Gathered.LastOf, Alternative.HasBad}
-use Rattle.bpaf_exact.specs.{Record.last_reading, Leaves.flag_field, Leaves.argument_by}
-use Rattle.bpaf_exact.specs.{Leaves.word_field, Accepted.OneByOne, Accepted.AtMostOne}
+use Rattle.bpaf_exact.specs.{Record.last_reading, Leaves.key_field}
+use Rattle.bpaf_exact.specs.{Leaves.word_by, Accepted.OneByOne, Accepted.AtMostOne}
 use Rattle.bpaf_exact.specs.{Accepted.HasNoSurplus, Accepted.IsPartOf}
 use Rattle.bpaf_exact.proofs.Alternative.{own_bad}
 
@@ -81,20 +79,17 @@ pub unless_no_surplus : {T : Type 0} (catch : Bool) (s : FlatForm T) → HasNoSu
 unless_no_surplus true s h = tt
 unless_no_surplus false s h = h
 
--- a flag has none
-pub flag_no_surplus : {T : Type 0} (clones : T → T → Type 0) (key : Key) (present : T)
-    (absent : Option T) → HasNoSurplus (flag_field clones key present absent)
-flag_no_surplus clones key present None = tt
-flag_no_surplus {T = T} clones key present (Some absent) = front_one T _
-
--- nor an argument, but for one that takes all its keys at once
-pub argument_no_surplus : {T : Type 0} (means : List ℕ → T → Type 0) (names : Names)
-    (adjacent : Bool) → HasNoSurplus (argument_by means names adjacent false)
-argument_no_surplus means names adjacent = tt
+-- a flag has none, nor an argument, but for one that takes all its keys at once
+pub key_no_surplus : {T : Type 0} (may_choose : Bool) (q : Roles)
+    (each : LinePiece → T → Type 0) (gap : Gap T)
+    → HasNoSurplus (key_field may_choose q each (FrontOf T each) gap)
+key_no_surplus true q each gap = tt
+key_no_surplus {T = T} false q each gap = front_one T each
 
 -- nor a word
-pub word_no_surplus : {T : Type 0} (means : List ℕ → T → Type 0) → HasNoSurplus (word_field means)
-word_no_surplus {T = T} means = front_one T _
+pub word_no_surplus : {T : Type 0} (accepts : Bool → Bool) (means : List ℕ → T → Type 0)
+    → HasNoSurplus (word_by accepts means)
+word_no_surplus {T = T} accepts means = front_one T _
 
 -- An occurrence without a value, as the key of a failed alternative.
 module _ (T : Type 0) (value : LinePiece → T → Type 0) (gap : Gap T) where

@@ -1,6 +1,7 @@
 -- Flags, arguments and positionals: which items are theirs, and what their pieces mean.
 use Rattle.std.specs.Prelude.{◌≡◌, ℕ, Bool, true, false, List, [], ◌∷◌, Option, Some, None, Result}
-use Rattle.std.specs.Prelude.{Ok, Err, if◌then◌else◌, ◌++◌}
+use Rattle.std.specs.Prelude.{Ok, Err, if◌then◌else◌, not, ◌&&◌, ◌++◌}
+use Rattle.std.specs.Option.{is_none}
 use Rattle.bpaf_doc.specs.Names.{Names}
 use Rattle.bpaf_text.specs.Named.{Named as Key, KeyWithValue}
 use Rattle.bpaf_base.specs.declared.arg.Arg.{Arg}
@@ -8,9 +9,12 @@ use Rattle.bpaf_base.specs.Items.{is_argument_key, is_key_of, is_positional, ite
 use Rattle.bpaf_line.specs.declared.error.Error.{Error}
 use Rattle.bpaf_line.specs.Situation.{Situation}
 use Rattle.bpaf_line.specs.Taking.{TakesText, HasNone}
+use Rattle.bpaf_laws.specs.Environment.{first_set}
+use Rattle.bpaf_laws.specs.Repeat.{is_nil}
 use Rattle.bpaf_exact.specs.Pieces.{Roles, Foreign, Alone, WithNext, LinePiece, One, Two, no_roles}
 use Rattle.bpaf_exact.specs.Pieces.{stands_behind, word_roles}
-use Rattle.bpaf_exact.specs.Flat.{ByName, Caught, OneWord, OfMemory, OfMissing, Refused, class}
+use Rattle.bpaf_exact.specs.Flat.{ByName, Caught, OneWord, OfMemory, OfMissing, Refused, Variables}
+use Rattle.bpaf_exact.specs.Flat.{class}
 use Rattle.bpaf_exact.specs.Single.{Gap, Groups, FrontOf, no_gap}
 use Rattle.bpaf_exact.specs.FlatForm.{FlatForm, alternative, complete, single}
 
@@ -33,15 +37,11 @@ abbrev pub ArgumentValue : {T : Type 0} → (List ℕ → T → Type 0) → Line
 ArgumentValue means (One k) v = ⊥
 ArgumentValue means (Two k w) v = means (item_text w) v
 
--- a word means what its text means
-abbrev pub WordValue : {T : Type 0} → (List ℕ → T → Type 0) → LinePiece → T → Type 0
-WordValue means (One w) v = means (item_text w) v
-WordValue means (Two k w) v = ⊥
-
--- a word behind `--`, or one before it, means what its text means; one on the other side nothing
-abbrev pub SideValue : {T : Type 0} → Bool → (List ℕ → T → Type 0) → LinePiece → T → Type 0
-SideValue behind means (One w) v = (stands_behind w ≡ behind) × means (item_text w) v
-SideValue behind means (Two k w) v = ⊥
+-- a word on a side of `--` that is accepted means what its text means; one on the other nothing
+abbrev pub WordValue : {T : Type 0} → (Bool → Bool) → (List ℕ → T → Type 0) → LinePiece → T
+    → Type 0
+WordValue accepts means (One w) v = (accepts (stands_behind w) ≡ true) × means (item_text w) v
+WordValue accepts means (Two k w) v = ⊥
 
 -- where no key is there, one of these values
 abbrev pub switch_gap : {T : Type 0} → (T → Type 0) → Gap T
@@ -54,18 +54,20 @@ flag_gap clones present absent (Some text) = switch_gap (clones present)
 flag_gap clones present (Some absent) None = switch_gap (clones absent)
 flag_gap {T = T} clones present None None = no_gap T
 
--- a flag with names in the environment, by the text of the first that is set
-abbrev pub variable_flag : {T : Type 0} → (T → T → Type 0) → Key → T → Option T
-    → Option (List ℕ) → FlatForm T
-variable_flag {T = T} clones key present absent set =
-    single ByName (flag_roles key.names) (FrontOf T (FlagValue (clones present)))
-    (flag_gap clones present absent set)
+-- a key: where it must be there, has no name in the environment and its pieces mean values one by
+-- one, it may stand in a choice
+abbrev pub key_field : {T : Type 0} → (may_choose : Bool) → Roles → (LinePiece → T → Type 0)
+    → Groups T → Gap T → FlatForm T
+key_field true q each group gap = alternative q each
+key_field false q each group gap = single ByName q group gap
 
--- one without such names: it must be there, or has an absent value
-abbrev pub flag_field : {T : Type 0} → (T → T → Type 0) → Key → T → Option T → FlatForm T
-flag_field clones key present None =
-    alternative (flag_roles key.names) (FlagValue (clones present))
-flag_field clones key present (Some absent) = variable_flag clones key present (Some absent) None
+-- a flag, where the environment has these variables
+abbrev pub flag_field : {T : Type 0} → (T → T → Type 0) → Key → T → Option T → Variables
+    → FlatForm T
+flag_field {T = T} clones key present absent variables =
+    key_field (is_nil key.envs && is_none absent) (flag_roles key.names)
+    (FlagValue (clones present)) (FrontOf T (FlagValue (clones present)))
+    (flag_gap clones present absent (first_set variables key.envs))
 
 -- each of these pieces is a key with its value
 pub data HaveValues : List LinePiece → Type 0 where
@@ -94,38 +96,20 @@ abbrev pub argument_group : {T : Type 0} → (List ℕ → T → Type 0) → (la
 argument_group {T = T} means false = FrontOf T (ArgumentValue means)
 argument_group {T = T} means true = LastGroup T means
 
--- an argument with such values where no key is there
-abbrev pub argument_with : {T : Type 0} → (List ℕ → T → Type 0) → Names → (adjacent last : Bool)
-    → Gap T → FlatForm T
-argument_with means names adjacent last gap =
-    single ByName (argument_roles adjacent names) (argument_group means last) gap
-
--- an argument
-abbrev pub argument_by : {T : Type 0} → (List ℕ → T → Type 0) → Names → (adjacent last : Bool)
+-- an argument, where the environment has these variables
+abbrev pub argument_field : {T : Type 0} → (List ℕ → T → Type 0) → KeyWithValue → Variables
     → FlatForm T
-argument_by means names adjacent false =
-    alternative (argument_roles adjacent names) (ArgumentValue means)
-argument_by {T = T} means names adjacent true = argument_with means names adjacent true (no_gap T)
+argument_field means argument variables =
+    key_field (is_nil argument.named.envs && not argument.last)
+    (argument_roles argument.adjacent argument.named.names) (ArgumentValue means)
+    (argument_group means argument.last)
+    (argument_gap means (first_set variables argument.named.envs))
 
--- an argument without a name in the environment
-abbrev pub argument_field : {T : Type 0} → (List ℕ → T → Type 0) → KeyWithValue → FlatForm T
-argument_field means argument =
-    argument_by means argument.named.names argument.adjacent argument.last
-
--- an argument with such names, by the text of the first that is set
-abbrev pub variable_argument : {T : Type 0} → (List ℕ → T → Type 0) → KeyWithValue
-    → Option (List ℕ) → FlatForm T
-variable_argument means argument set =
-    argument_with means argument.named.names argument.adjacent argument.last
-    (argument_gap means set)
-
--- a positional word with such values, which stops before one behind `--`, or doesn't
-abbrev pub word_by : {T : Type 0} → (stops : Bool) → (LinePiece → T → Type 0) → FlatForm T
-word_by {T = T} stops value = single (OneWord stops) word_roles (FrontOf T value) (no_gap T)
-
--- a positional word on either side of `--`
-abbrev pub word_field : {T : Type 0} → (List ℕ → T → Type 0) → FlatForm T
-word_field means = word_by false (WordValue means)
+-- a positional word on an accepted side, which stops before one behind `--` where that isn't one
+abbrev pub word_by : {T : Type 0} → (Bool → Bool) → (List ℕ → T → Type 0) → FlatForm T
+word_by {T = T} accepts means =
+    single (OneWord (not (accepts true))) word_roles (FrontOf T (WordValue accepts means))
+    (no_gap T)
 
 -- the first word taken and its value; it has none; there is no word; the first one stands behind `--`,
 -- where that stops it; or want of memory

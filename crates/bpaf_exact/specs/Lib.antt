@@ -11,7 +11,6 @@ pub mod Leaves
 pub mod Theorem
 pub mod Programs
 pub mod ProgramForm
-pub mod Variables
 pub mod OneView
 pub mod Accepted
 pub mod Says

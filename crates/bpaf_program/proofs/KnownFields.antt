@@ -13,12 +13,12 @@ use Rattle.bpaf_laws.specs.ShownNames.{no_shorts, of_arguments, of_flags}
 use Rattle.bpaf_laws.specs.Turn.{TurnOutcome}
 use Rattle.bpaf.specs.declared.leaves.positional.Position.{Position}
 use Rattle.bpaf.specs.Positional.{PositionalOutcome}
-use Rattle.bpaf_exact.proofs.Arguments.{argument_form_law}
-use Rattle.bpaf_exact.proofs.Flags.{flag_form_law}
+use Rattle.bpaf_exact.proofs.Arguments.{argument_field_law}
+use Rattle.bpaf_exact.proofs.Flags.{flag_field_law}
 use Rattle.bpaf_exact.proofs.ByTables.{fallback_law, many_law, optional_law}
 use Rattle.bpaf_record.specs.Grammar.{Grammar, argument, command_words, keys_of, program_form}
 use Rattle.bpaf_record.specs.Grammar.{word}
-use Rattle.bpaf_record.specs.Positional.{positional_field_law}
+use Rattle.bpaf_record.specs.Positional.{positional_law}
 use Rattle.bpaf_program.specs.KnownFields.{known_default, known_many, known_optional}
 use Rattle.bpaf_program.specs.KnownFields.{known_switch}
 use Rattle.bpaf_program.specs.KnownParser.{IsKnownParser}
@@ -35,8 +35,8 @@ pub switch_known : (names : Names) (help : Option (List Piece)) {named : Named}
     (of_flags named.names.shorts)
 switch_known names help named_is present_is absent_is =
     rw (named_is, present_is, absent_is) (record {
-      law = λ env. flag_form_law Bool IsKept (record (key_named names) { help = help }) true
-          (Some false) env [];
+      law = λ env. flag_field_law env Bool IsKept (record (key_named names) { help = help }) true
+          (Some false);
       shown = refl;
     })
 
@@ -48,8 +48,8 @@ pub argument_known : {T : Type 0} (means : List ℕ → T → Type 0) (key : Key
     (of_arguments own.named.names.shorts)
 argument_known {T} means key help is =
     rw is (record {
-      law = λ env. argument_form_law T means
-          (record key { named = record key.named { help = help } }) env [];
+      law = λ env. argument_field_law env T means
+          (record key { named = record key.named { help = help } });
       shown = refl;
     })
 
@@ -59,7 +59,7 @@ pub word_known : {T : Type 0} (means : List ℕ → T → Type 0) (place : Posit
     → IsKnownParser (word means place) (PositionalOutcome means position metavar) no_shorts
 word_known {T} means place is {metavar} =
     rw is (record {
-      law = λ env. positional_field_law env T means place metavar;
+      law = λ env. positional_law env T means place metavar;
       shown = refl;
     })
 

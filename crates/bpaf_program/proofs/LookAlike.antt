@@ -1,26 +1,26 @@
 -- Flat fields and records all of whose values on the same pieces look alike.
-use Rattle.std.proofs.Common.{refl, ◌≡◌, Bool, true, false, List, [], ◌∷◌, ◌++◌, Some, map, ℕ}
-use Rattle.std.proofs.Common.{ap, string_bytes, sym, ◌∙◌}
-use Rattle.std.specs.Prelude.{option_map, not}
+use Rattle.std.proofs.Common.{◌≡◌, Bool, true, false, List, [], ◌∷◌, ◌++◌, Some, map, ℕ}
+use Rattle.std.proofs.Common.{ap, not, string_bytes, subst, sym, ◌&&◌, ◌∙◌}
+use Rattle.std.specs.Prelude.{option_map}
 use Rattle.bpaf_doc.specs.Names.{Names}
 use Rattle.bpaf_text.specs.Meaning.{SpellsUnsigned}
 use Rattle.bpaf_text.specs.Named.{KeyWithValue, key_named}
 use Rattle.bpaf_laws.specs.Default.{FallbackOutcome, GivesClone}
 use Rattle.bpaf_laws.specs.Argument.{ArgumentOutcome}
+use Rattle.bpaf_laws.specs.Environment.{first_set}
 use Rattle.bpaf_laws.specs.Flag.{FlagOutcome}
 use Rattle.bpaf_laws.specs.Product.{BothOutcome, ProductOutcome}
 use Rattle.bpaf_laws.specs.Reading.{Outcome}
-use Rattle.bpaf_laws.specs.Repeat.{ManyOutcome}
+use Rattle.bpaf_laws.specs.Repeat.{ManyOutcome, is_nil}
 use Rattle.bpaf_laws.specs.Turn.{TurnOutcome}
-use Rattle.bpaf.specs.declared.leaves.positional.Position.TheVariants.{Unrestricted, NonStrict}
-use Rattle.bpaf.specs.Positional.{PositionalOutcome}
+use Rattle.bpaf.specs.declared.leaves.positional.Position.{Position}
+use Rattle.bpaf.specs.Positional.{PositionalOutcome, accepts}
 use Rattle.bpaf_exact.specs.FlatForm.{FlatForm, FormLaw, flat_alone, flat_both, flat_con}
 use Rattle.bpaf_exact.specs.FlatForm.{flat_fallback, flat_field, flat_optional, flat_many}
-use Rattle.bpaf_exact.specs.Flat.{is_behind, Variables}
-use Rattle.bpaf_exact.specs.Pieces.{LinePiece}
-use Rattle.bpaf_record.specs.Positional.{value_before, positional_field_law}
-use Rattle.bpaf_exact.specs.Leaves.{SideValue, WordEval, argument_field, flag_field, word_by}
-use Rattle.bpaf_exact.specs.Leaves.{word_field}
+use Rattle.bpaf_exact.specs.Flat.{Variables}
+use Rattle.bpaf_record.specs.Positional.{positional_law}
+use Rattle.bpaf_exact.specs.Leaves.{ArgumentValue, argument_field, argument_gap, argument_group}
+use Rattle.bpaf_exact.specs.Leaves.{argument_roles, flag_field, key_field, word_by}
 use Rattle.bpaf_exact.specs.ProgramForm.{plain}
 use Rattle.bpaf_exact.specs.OneView.{Alike, HasOneView, pair_view}
 use Rattle.bpaf_exact.specs.Wrappers.{map_closure}
@@ -29,8 +29,7 @@ use Rattle.bpaf_exact.proofs.FlatForm.{flat_alone_law, flat_both_law, flat_con_l
 use Rattle.bpaf_exact.proofs.Flags.{flag_field_law}
 use Rattle.bpaf_exact.proofs.OneView.{alone_view, argument_view, both_view, con_view, field_view}
 use Rattle.bpaf_exact.proofs.OneView.{fallback_view, flag_view, many_view, optional_field_view}
-use Rattle.bpaf_exact.proofs.OneView.{side_view, word_view}
-use Rattle.bpaf_exact.proofs.Positionals.{word_by_law}
+use Rattle.bpaf_exact.proofs.OneView.{word_view}
 use Rattle.bpaf_exact.proofs.ByTables.{fallback_law, many_law, optional_law}
 use Rattle.bpaf_program.specs.Values.{IsKept, MeansText, String}
 
@@ -43,20 +42,24 @@ pub record IsSeen {T X : Type 0} (outcome : Outcome T) (see : T → X) (names : 
 -- a switch
 pub switch_seen : (names : Names)
     → IsSeen (FlagOutcome IsKept (key_named names) true (Some false)) (λ b. b) (names ∷ [])
-    (flag_field IsKept (key_named names) true (Some false))
+    (flag_field IsKept (key_named names) true (Some false) [])
 switch_seen names = record {
-  law = λ env. flag_field_law env Bool IsKept (key_named names) true (Some false) refl;
+  law = λ env. flag_field_law env Bool IsKept (key_named names) true (Some false);
   view = flag_view Bool Bool (λ b. b) IsKept (λ kept v w a b. a ∙ sym b) (key_named names) true
-      (Some false);
+      (Some false) [];
 }
 
 -- an argument without a name in the environment whose text means values that look alike
 pub argument_seen : {T X : Type 0} (see : T → X) (means : List ℕ → T → Type 0)
     → ((text : List ℕ) → Alike see (means text)) → (key : KeyWithValue) → key.named.envs ≡ []
-    → IsSeen (ArgumentOutcome means key) see (key.named.names ∷ []) (argument_field means key)
+    → IsSeen (ArgumentOutcome means key) see (key.named.names ∷ []) (argument_field means key [])
 argument_seen {T} {X} see means one key bare = record {
-  law = λ env. argument_field_law env T means key bare;
-  view = argument_view T X see means one key;
+  law = λ env. subst (λ set. FormLaw env (ArgumentOutcome means key) (key.named.names ∷ [])
+      (key_field (is_nil key.named.envs && not key.last)
+      (argument_roles key.adjacent key.named.names) (ArgumentValue means)
+      (argument_group means key.last) (argument_gap means set)))
+      (ap (first_set env) bare ∙ sym (ap (first_set []) bare)) (argument_field_law env T means key);
+  view = argument_view T X see means one key [];
 }
 
 -- of a text its bytes are seen
@@ -66,44 +69,24 @@ one_text text v w a b = a ∙ sym b
 -- an argument that is a text
 pub text_seen : (key : KeyWithValue) → key.named.envs ≡ []
     → IsSeen (ArgumentOutcome MeansText key) string_bytes (key.named.names ∷ [])
-    (argument_field MeansText key)
+    (argument_field MeansText key [])
 text_seen = argument_seen string_bytes MeansText one_text
 
 -- one that is a number of so many bits
 pub number_seen : (bits : ℕ) (key : KeyWithValue) → key.named.envs ≡ []
     → IsSeen (ArgumentOutcome (SpellsUnsigned bits) key) (λ n. n) (key.named.names ∷ [])
-    (argument_field (SpellsUnsigned bits) key)
+    (argument_field (SpellsUnsigned bits) key [])
 number_seen bits =
     argument_seen (λ n. n) (SpellsUnsigned bits) (λ text v w a b. a.value_of ∙ sym b.value_of)
 
--- a word of such a text
-pub word_seen : {T X : Type 0} (see : T → X) (means : List ℕ → T → Type 0)
-    → ((text : List ℕ) → Alike see (means text)) → (metavar : List ℕ)
-    → IsSeen (PositionalOutcome means Unrestricted metavar) see [] (word_field means)
-word_seen {T} {X} see means one metavar = record {
-  law = λ env. positional_field_law env T means Unrestricted metavar;
-  view = word_view T X see means one;
-}
-
 -- a word that is a text
-pub text_word_seen : (metavar : List ℕ)
-    → IsSeen (PositionalOutcome MeansText Unrestricted metavar) string_bytes []
-    (word_field MeansText)
-text_word_seen = word_seen string_bytes MeansText one_text
-
--- one that has to stand behind `--`, or before it
-pub side_word_seen : (behind : Bool)
-    → IsSeen (WordEval String (not behind) (SideValue behind MeansText)) string_bytes []
-    (word_by (not behind) (SideValue behind MeansText))
-side_word_seen behind = record {
-  law = λ env. word_by_law env _ (not behind) (SideValue behind MeansText) (before behind);
-  view = side_view _ (List ℕ) string_bytes (not behind) behind MeansText one_text;
+pub text_word_seen : (position : Position) (metavar : List ℕ)
+    → IsSeen (PositionalOutcome MeansText position metavar) string_bytes []
+    (word_by (accepts position) MeansText)
+text_word_seen position metavar = record {
+  law = λ env. positional_law env String MeansText position metavar;
+  view = word_view String (List ℕ) string_bytes (accepts position) MeansText one_text;
 }
-  where
-    before : (behind : Bool) → not behind ≡ true → (o : LinePiece) (v : String)
-        → SideValue behind MeansText o v → is_behind o ≡ false
-    before true stops o v y = absurd cc
-    before false stops o v y = value_before MeansText NonStrict refl o v y
 
 module _ {T X : Type 0} {outcome : Outcome T} {see : T → X} {names : List Names}
     {form : FlatForm T} (is : IsSeen outcome see names form) where

@@ -18,14 +18,14 @@ use Rattle.bpaf.specs.Positional.{accepts}
 use Rattle.bpaf.specs.declared.leaves.positional.Position.TheVariants.{NonStrict, Strict}
 use Rattle.bpaf.proofs.Sides.{all_spelled, of_words}
 use Rattle.bpaf_exact.specs.Flat.{OneWord, back, front}
-use Rattle.bpaf_exact.specs.Leaves.{flag_roles}
+use Rattle.bpaf_exact.specs.Leaves.{WordValue, flag_roles}
 use Rattle.bpaf_exact.specs.Pieces.{Cut, LinePiece, One, Roles, Two, Alone, IsNamed, is_own}
 use Rattle.bpaf_exact.specs.Pieces.{is_own_role, is_value, others, stands_behind}
 use Rattle.bpaf_exact.specs.Record.{line_cells}
 use Rattle.bpaf_exact.specs.Says.{RepeatSays, WordSays, first_item}
 use Rattle.bpaf_exact.proofs.Fronts.{of_front_one}
 use Rattle.bpaf_exact.proofs.Matching.{test_named}
-use Rattle.bpaf_exact.proofs.PieceByPiece.{AcceptedWord, word_values}
+use Rattle.bpaf_exact.proofs.PieceByPiece.{word_values}
 use Rattle.bpaf_record.proofs.OnLine.{cut_kept, on_line}
 
 -- the items behind `--` that begin pieces
@@ -118,7 +118,7 @@ pub strict_words : {T : Type 0} {means : List ℕ → T → Type 0} {ws : List L
     → RepeatSays (WordSays (accepts Strict) means) ws vs → AllZip means (pieces_behind ws) vs
 strict_words {T} {means} {ws} {vs} so = each ws vs (word_values so)
   where
-    each : (ws : List LinePiece) (vs : List T) → AllZip (AcceptedWord (accepts Strict) means) ws vs
+    each : (ws : List LinePiece) (vs : List T) → AllZip (WordValue (accepts Strict) means) ws vs
         → AllZip means (pieces_behind ws) vs
     each [] [] all = tt
     each [] (v ∷ vs) all = absurd all
@@ -126,4 +126,4 @@ strict_words {T} {means} {ws} {vs} so = each ws vs (word_values so)
     each (One k ∷ ws) (v ∷ vs) all =
         subst (λ b. AllZip means (map item_text (cond b (k ∷ items_behind ws) (items_behind ws)))
         (v ∷ vs)) (sym all.0.0) (all.0.1, each ws vs all.1)
-    each (Two k w ∷ ws) (v ∷ vs) all = absurd all.0.1
+    each (Two k w ∷ ws) (v ∷ vs) all = absurd all.0

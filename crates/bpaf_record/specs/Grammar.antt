@@ -1,13 +1,15 @@
 -- The grammar of programs: of which parsers they are made, and by which steps.
 use Rattle.std.specs.Prelude.{ℕ, Bool, false, not, true, List, [], ◌∷◌, ◌++◌, Option, flat_map}
-use Rattle.std.specs.Prelude.{if◌then◌else◌}
+use Rattle.std.specs.Prelude.{◌&&◌, ◌||◌, if◌then◌else◌}
+use Rattle.bpaf_laws.specs.Repeat.{is_nil}
 use Rattle.bpaf_doc.specs.Names.{Names}
 use Rattle.bpaf_text.specs.Named.{Named as Key, KeyWithValue}
 use Rattle.bpaf_laws.specs.Command.{Called, opening_words}
 use Rattle.bpaf.specs.declared.leaves.positional.Position.{Position}
 use Rattle.bpaf.specs.Info.{RunInfo}
+use Rattle.bpaf.specs.Positional.{accepts}
 use Rattle.bpaf_exact.specs.Flat.{ByName, OneWord, Variables}
-use Rattle.bpaf_exact.specs.Leaves.{pure_field}
+use Rattle.bpaf_exact.specs.Leaves.{argument_field, flag_field, pure_field, word_by}
 use Rattle.bpaf_exact.specs.ProgramForm.{ProgramForm, no_program, plain, program_alone}
 use Rattle.bpaf_exact.specs.ProgramForm.{program_both, program_choice, program_choices}
 use Rattle.bpaf_exact.specs.ProgramForm.{program_closed, program_command, program_con}
@@ -16,9 +18,7 @@ use Rattle.bpaf_exact.specs.ProgramForm.{flat_only, program_dressed, program_fie
 use Rattle.bpaf_exact.specs.ProgramForm.{program_optional}
 use Rattle.bpaf_exact.specs.ProgramSays.{program_kind}
 use Rattle.bpaf_exact.specs.Says.{SaidKind, of_kind, repeated_kind}
-use Rattle.bpaf_exact.specs.Variables.{argument_form, flag_form}
 use Rattle.bpaf_exact.specs.Wrappers.{Closure}
-use Rattle.bpaf_record.specs.Positional.{is_sided, positional_field, stops_at}
 use Rattle.bpaf_record.specs.Record.{are_unusual}
 
 -- what a parser is made of: what it is by itself, or a step and the parsers inside
@@ -72,13 +72,15 @@ command_words (choices of ps) = flat_map (λ p. command_words (of p)) ps
 command_words (command adjacent called info g) = opening_words called
 command_words _ = []
 
--- what it is to a program where the environment has these variables
+-- what it is to a program where the environment has these variables; a key with names there, an
+-- adjacent argument, a word for one side of `--` alone and a kept value are wide
 abbrev pub program_form : {T : Type 0} → Grammar T → Variables → ProgramForm T
 program_form (flag clones key present absent) variables =
-    flag_form clones key present absent variables
-program_form (argument means key) variables = argument_form means key variables
+    plain (not (is_nil key.envs)) (flag_field clones key present absent variables)
+program_form (argument means key) variables =
+    plain (key.adjacent || not (is_nil key.named.envs)) (argument_field means key variables)
 program_form (word means position) variables =
-    plain (is_sided position) (positional_field means position)
+    plain (not (accepts position true && accepts position false)) (word_by (accepts position) means)
 program_form (kept given) variables = plain true (pure_field given)
 program_form other variables = no_program
 program_form (closed f g) variables = program_closed f (program_form g variables)
@@ -106,7 +108,7 @@ program_form (product f g) variables = program_con f (program_form g variables)
 
 -- whether its pieces are keys or words, and how many of the words it takes
 abbrev pub said_kind : {T : Type 0} → Grammar T → Variables → SaidKind
-said_kind (word means position) variables = of_kind (OneWord (stops_at position))
+said_kind (word means position) variables = of_kind (OneWord (not (accepts position true)))
 said_kind (closed f g) variables = said_kind g variables
 said_kind (dressed g) variables = said_kind g variables
 said_kind (optional catch g) variables = said_kind g variables

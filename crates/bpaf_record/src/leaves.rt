@@ -12,10 +12,8 @@ use bpaf::{FromText, ParsePositional, Position};
 /// With a name in the environment it may stand in a program, but in no flat record.
 impl<T: Clone> ProgramField<T> for ParseFlag<T> {
     ghost use Rattle.bpaf_exact.specs.Says.{FlagSays};
-    ghost use Rattle.bpaf_exact.proofs.ProgramSays.{key_says};
-    ghost use Rattle.bpaf_exact.proofs.Says.{flag_field_says, variable_flag_says};
-    ghost use Rattle.bpaf_exact.specs.Leaves.{flag_field, variable_flag};
-    ghost use Rattle.bpaf_exact.proofs.Flags.{flag_form_law};
+    ghost use Rattle.bpaf_exact.proofs.Says.{flag_says};
+    ghost use Rattle.bpaf_exact.proofs.Flags.{flag_field_law};
     ghost use Rattle.bpaf_laws.specs.Environment.{first_set};
     ghost use Rattle.bpaf_exact.specs.ProgramSays.{of_pieces};
     ghost use Rattle.bpaf_record.specs.Grammar.{flag};
@@ -46,14 +44,10 @@ impl<T: Clone> ProgramField<T> for ParseFlag<T> {
     }
 
     ghost law = { λ p a variables.
-        flag_form_law T T.is_clone p.named p.present p.absent variables [] };
+        flag_field_law variables T T.is_clone p.named p.present p.absent };
 
     ghost said = { λ p a variables.
-        key_says (λ p set. FlagSays T.is_clone p.present p.absent set) (λ p. p.named.envs) p false
-        (flag_field T.is_clone p.named p.present p.absent)
-        (variable_flag T.is_clone p.named p.present p.absent) variables
-        (flag_field_says T.is_clone p.present p.named p.absent)
-        (variable_flag_says T.is_clone p.present p.named p.absent) };
+        record { by = flag_says T.is_clone p.present p.named p.absent variables } };
 }
 
 impl<T: Clone> FlatField<T> for ParseFlag<T> {}
@@ -62,10 +56,8 @@ impl<T: Clone> FlatField<T> for ParseFlag<T> {}
 /// record. With such a name or `take_last` it is a field by itself, and no alternative of a choice.
 impl<T: FromText> ProgramField<T> for ParseArgument<T> {
     ghost use Rattle.bpaf_exact.specs.Says.{ArgumentSays};
-    ghost use Rattle.bpaf_exact.proofs.ProgramSays.{key_says};
-    ghost use Rattle.bpaf_exact.proofs.Says.{argument_field_says, variable_argument_says};
-    ghost use Rattle.bpaf_exact.specs.Leaves.{argument_field, variable_argument};
-    ghost use Rattle.bpaf_exact.proofs.Arguments.{argument_form_law};
+    ghost use Rattle.bpaf_exact.proofs.Says.{argument_says};
+    ghost use Rattle.bpaf_exact.proofs.Arguments.{argument_field_law};
     ghost use Rattle.bpaf_laws.specs.Environment.{first_set};
     ghost use Rattle.bpaf_exact.specs.ProgramSays.{of_pieces};
     ghost use Rattle.bpaf_record.specs.Grammar.{argument};
@@ -95,12 +87,9 @@ impl<T: FromText> ProgramField<T> for ParseArgument<T> {
         true
     }
 
-    ghost law = { λ p a variables. argument_form_law T T.means p variables [] };
+    ghost law = { λ p a variables. argument_field_law variables T T.means p };
 
-    ghost said = { λ p a variables.
-        key_says (λ p set. ArgumentSays T.means p.last set) (λ p. p.named.envs) p p.adjacent
-        (argument_field T.means p) (variable_argument T.means p) variables
-        (argument_field_says T.means p) (variable_argument_says T.means p) };
+    ghost said = { λ p a variables. record { by = argument_says T.means p variables } };
 }
 
 impl<T: FromText> FlatField<T> for ParseArgument<T> {}
@@ -110,8 +99,9 @@ impl<T: FromText> FlatField<T> for ParseArgument<T> {}
 impl<T: FromText> ProgramField<T> for ParsePositional<T> {
     ghost use Rattle.bpaf_exact.specs.Says.{WordSays};
     ghost use Rattle.bpaf.specs.Positional.{accepts};
-    ghost use Rattle.bpaf_record.specs.Positional.{positional_field_law, positional_says};
+    ghost use Rattle.bpaf_record.specs.Positional.{positional_law};
     ghost use Rattle.bpaf_exact.specs.ProgramSays.{of_pieces};
+    ghost use Rattle.bpaf_exact.proofs.Says.{word_by_says};
     ghost use Rattle.bpaf_record.specs.Grammar.{word};
 
     ghost grammar = { λ p. word T.means p.position };
@@ -136,9 +126,9 @@ impl<T: FromText> ProgramField<T> for ParsePositional<T> {
     }
 
     ghost law = { λ p a variables.
-        positional_field_law variables T T.means p.position p.metavar.0.now };
+        positional_law variables T T.means p.position p.metavar.0.now };
 
-    ghost said = { λ p a variables. record { by = positional_says T.means p.position } };
+    ghost said = { λ p a variables. record { by = word_by_says (accepts p.position) T.means } };
 }
 
 impl<T: FromText> FlatField<T> for ParsePositional<T> {}

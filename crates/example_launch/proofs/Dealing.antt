@@ -1,18 +1,18 @@
 -- A value that a run deals out of the words, and that is one of the program's there, is a launch
 -- that the words ask for.
-use Rattle.std.proofs.Common.{◌≡◌, List, [], ℕ, IfOk, Ok, Err, Result, ap, false, map, refl}
-use Rattle.std.proofs.Common.{string_bytes, subst, sym, true, true≢false, ◌∙◌}
+use Rattle.std.proofs.Common.{◌≡◌, List, [], ℕ, IfOk, Ok, Err, Result, ap, map}
+use Rattle.std.proofs.Common.{string_bytes, subst, sym, true≢false, ◌∙◌}
 use Rattle.std.specs.List.{Contains}
 use Rattle.bpaf_line.specs.declared.failure.ParseFailure.{ParseFailure}
 use Rattle.bpaf.specs.declared.leaves.positional.Position.TheVariants.{Strict, NonStrict}
 use Rattle.bpaf.specs.Marker.{words_before, words_behind}
 use Rattle.bpaf.specs.Positional.{accepts}
 use Rattle.bpaf_exact.specs.Gathered.{list_closure}
-use Rattle.bpaf_exact.specs.Leaves.{SideValue, flag_roles}
+use Rattle.bpaf_exact.specs.Leaves.{WordValue, flag_roles}
 use Rattle.bpaf_exact.specs.Pieces.{LinePiece, others}
 use Rattle.bpaf_exact.specs.Says.{WordSays}
 use Rattle.bpaf_exact.specs.Single.{FrontOf, SingleValue, no_gap, of_gap, of_group}
-use Rattle.bpaf_exact.proofs.Says.{listed_says, side_says, word_by_says}
+use Rattle.bpaf_exact.proofs.Says.{listed_says, word_by_says, word_says}
 use Rattle.bpaf_record.proofs.PassedOn.{flag_leaves, line_behind, name_before, strict_words}
 use Rattle.bpaf_program.specs.Values.{MeansText, String}
 use Rattle.bpaf_program.proofs.WordBefore.{word_before}
@@ -24,10 +24,11 @@ use Rattle.example_launch.specs.Exact.{AnswersLaunch, IsLaunchValue}
 
 -- what the name says of its piece
 name_says : (os : List LinePiece) (v : String)
-    → SingleValue String (FrontOf String (SideValue false MeansText)) (no_gap String) os v
+    → SingleValue String (FrontOf String (WordValue (accepts NonStrict) MeansText))
+    (no_gap String) os v
     → WordSays (accepts NonStrict) MeansText os v
 name_says os v (of_group g) = subst (λ os. WordSays (accepts NonStrict) MeansText os v) (sym g.is)
-    (side_says (accepts NonStrict) false MeansText refl g.piece v g.means)
+    (word_says (accepts NonStrict) MeansText g.piece v g.means)
 name_says os v (of_gap e none) = absurd none
 
 -- what is passed on are all words behind the first `--`
@@ -38,8 +39,7 @@ launch_passes own v value =
     let launch = value.read.read in
     let words = launch.read.1.1 in
     let passed = (listed_says (list_closure String) {names = []}
-    (word_by_says (accepts Strict) MeansText (SideValue true MeansText)
-    (side_says (accepts Strict) true MeansText refl) false)).by.1 _ _ tt words.1.read in
+    (word_by_says (accepts Strict) MeansText)).by.1 _ _ tt words.1.read in
     ap (λ launch. map string_bytes launch.words.items) launch.made
     ∙ (ap (map string_bytes) passed.made
     ∙ (texts_are _ passed.from (strict_words passed.told)
