@@ -61,7 +61,7 @@ is_whole can_run agrees answers answers_as_program
 is_whole can_run agrees answers_as_program
         bpaf_record/src/field.rt; pub trait ProgramField; ; grammar agrees""",
         "",
-        "bpaf_record.specs.Grammar bpaf_exact.specs.ProgramForm bpaf_exact.specs.FlatForm",
+        "bpaf_record.specs.Grammar bpaf_exact.specs.ProgramForm",
     ),
     (
         "Each kind of parser",

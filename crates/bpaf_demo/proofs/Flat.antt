@@ -10,7 +10,6 @@ use Rattle.bpaf.specs.declared.leaves.positional.ParsePositional.{ParsePositiona
 use Rattle.bpaf.specs.declared.leaves.positional.Position.TheVariants.{Unrestricted}
 use Rattle.bpaf_exact.specs.Flat.{Variables}
 use Rattle.bpaf_exact.specs.Gathered.{list_closure}
-use Rattle.bpaf_exact.specs.ProgramForm.{flat_form}
 use Rattle.bpaf_exact.specs.Wrappers.{Closure}
 use Rattle.bpaf_record.specs.Grammar.{Grammar, alone, argument, both, flag, keys_of, product}
 use Rattle.bpaf_record.specs.Grammar.{program_form, repeat, word}
@@ -36,7 +35,7 @@ pub is_flat : (makes : Closure FieldValues Options) {verbose_help num_help file_
     → IsWord Unrestricted (codes "FILE") (codes "Files to read") file_help files.inner
     → files.catch ≡ false → {info : RunInfo} → info ≡ plain_info → (variables : Variables)
     → let grammar : Grammar Options = made makes verbose num files in
-    is_flat_record (flat_form (program_form grammar variables)) (keys_of grammar false) info ≡ true
+    is_flat_record (program_form grammar variables) (keys_of grammar false) info ≡ true
 is_flat makes is_verbose is_num is_files no_catch plain variables =
     rw (
       is_verbose.absent_is,

@@ -1,10 +1,10 @@
 -- The premise of exactness, of closures that can't tell apart the values on the same pieces.
 use Rattle.std.proofs.Common.{◌≡◌, ℕ, List, sym, subst, ◌∙◌}
 use Rattle.bpaf_text.specs.{Meaning.SpellsUnsigned, Named.KeyWithValue}
-use Rattle.bpaf_exact.specs.FlatForm.{Agrees, FlatForm, alternative, complete, not_flat, product}
-use Rattle.bpaf_exact.specs.ProgramForm.{ProgramAgrees, ProgramForm, commands, left_out, plain}
-use Rattle.bpaf_exact.specs.{FlatForm.flat_closed, FlatForm.single, Leaves.argument_field}
-use Rattle.bpaf_exact.specs.OneView.{Alike, HasOneView, ProgramOneView}
+use Rattle.bpaf_exact.specs.ProgramForm.{Agrees, ProgramForm, alternative, commands, complete}
+use Rattle.bpaf_exact.specs.ProgramForm.{product, program_closed, single}
+use Rattle.bpaf_exact.specs.OneView.{Alike, HasOneView}
+use Rattle.bpaf_exact.specs.{Leaves.argument_field}
 use Rattle.bpaf_exact.specs.{Wrappers.AgreesOn, Wrappers.Closure}
 use Rattle.bpaf_exact.specs.{Wrappers.Decides, Flat.Variables}
 use Rattle.bpaf_exact.proofs.OneView.{argument_view, closed_view}
@@ -16,32 +16,26 @@ module _ {A B X : Type 0} (see : A → X) (f : Closure A B)
   alike_agrees : (value : A → Type 0) → Alike see value → AgreesOn value f
   alike_agrees value one x y v a b made refused = apart x y v (one x y a b) made refused
 
-  -- so round a field
-  pub view_agrees : (s : FlatForm A) → HasOneView see s → Agrees f s
-  view_agrees not_flat one = tt
-  view_agrees (alternative q value) one = λ o. alike_agrees (value o) (one o)
-  view_agrees (single k q group gap) one = (
+  -- so round a field, and round commands
+  pub view_agrees : (s : ProgramForm A) → HasOneView see s → Agrees f s
+  view_agrees (alternative wide q value) one = λ o. alike_agrees (value o) (one o)
+  view_agrees (single wide k q group gap) one = (
     λ os rest. alike_agrees (λ v. group os v rest) (λ v w a b. (one.0 os rest rest v w a b).0),
     alike_agrees gap.absent one.1,
   )
-  view_agrees (complete k q value) one = λ os. alike_agrees (value os) (one os)
-  view_agrees (product named q fields) one = λ os. alike_agrees (fields.value os) (one os)
-
-  -- and round commands
-  pub commands_agree : (s : ProgramForm A) → ProgramOneView see s → ProgramAgrees f s
-  commands_agree (plain wide s) one = view_agrees s one
-  commands_agree (commands r value) one = λ cs. alike_agrees (value cs) (one cs)
-  commands_agree (left_out r value) one = λ cs. alike_agrees (value cs) (one cs)
-  commands_agree _ one = tt
+  view_agrees (complete wide k q value) one = λ os. alike_agrees (value os) (one os)
+  view_agrees (product wide named q fields) one = λ os. alike_agrees (fields.value os) (one os)
+  view_agrees (commands optional value) one = λ cs. alike_agrees (value cs) (one cs)
+  view_agrees _ one = tt
 
 module _ {A B : Type 0} (f : Closure A B) (decides : Decides f) where
-  -- So does one that decides round a field, where its values are one.
-  pub closure_agrees : (s : FlatForm A) → HasOneView (λ v. v) s → Agrees f s
+  -- So does one that decides, where the values are one.
+  pub closure_agrees : (s : ProgramForm A) → HasOneView (λ v. v) s → Agrees f s
   closure_agrees = view_agrees (λ v. v) f (λ x y v e a n. decides x v a (subst f.no (sym e) n))
 
   -- Where it has one answer to each input, what it makes of one value is one.
-  pub closed_one : ((x : A) (v w : B) → f.yes x v → f.yes x w → v ≡ w) → (s : FlatForm A)
-      → HasOneView (λ v. v) s → HasOneView (λ v. v) (flat_closed f s)
+  pub closed_one : ((x : A) (v w : B) → f.yes x v → f.yes x w → v ≡ w) → (s : ProgramForm A)
+      → HasOneView (λ v. v) s → HasOneView (λ v. v) (program_closed f s)
   closed_one once = closed_view A B A B (λ v. v) (λ v. v) f (record {
     same = λ x y v w e a b. once x v w a (subst (λ z. f.yes z w) (sym e) b);
     apart = λ x y v e a n. decides x v a (subst f.no (sym e) n);

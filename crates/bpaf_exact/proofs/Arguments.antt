@@ -1,6 +1,6 @@
 -- Arguments keep to the laws.
 use Rattle.std.proofs.Common.{◌≡◌, ℕ, Bool, true, false, List, [], ◌∷◌, Ok, refl, sym, ap, ◌∙◌}
-use Rattle.std.proofs.Common.{None, ◌&&◌, not, subst, ⊎_elim}
+use Rattle.std.proofs.Common.{None, ◌&&◌, ◌||◌, not, subst, ⊎_elim}
 use Rattle.bpaf_text.specs.Named.{KeyWithValue, argument_part}
 use Rattle.bpaf_line.specs.declared.error.Message.TheVariants.{Memory, NoArgument, ParseFailed}
 use Rattle.bpaf_line.specs.{declared.error.Error.Error, declared.error.Message.Message}
@@ -16,7 +16,7 @@ use Rattle.bpaf_exact.specs.Leaves.{argument_roles, ArgumentValue, argument_fiel
 use Rattle.bpaf_exact.specs.Leaves.{argument_group, key_field}
 use Rattle.bpaf_exact.specs.{Alternative.AlternativeLaw, Single.of_memory, Single.of_piece}
 use Rattle.bpaf_exact.specs.{Pieces.Roles, Pieces.LinePiece, Pieces.One, Pieces.Two, Pieces.pieces}
-use Rattle.bpaf_exact.specs.FlatForm.{FormLaw}
+use Rattle.bpaf_exact.specs.ProgramForm.{FormLaw}
 use Rattle.bpaf_exact.proofs.ArgumentPieces.{TookPair, gap_empty, named, nowhere, owns, took_pair}
 use Rattle.bpaf_exact.proofs.ArgumentPieces.{test, no_key, variable_fault, variable_read}
 use Rattle.bpaf_exact.proofs.Matching.{match_of, bare_taken, first_alternative, first_refused}
@@ -153,7 +153,7 @@ module _ (T : Type 0) (means : List ℕ → T → Type 0) (argument : KeyWithVal
 -- an argument keeps to the laws of its form
 pub argument_field_law : (variables : Variables) (T : Type 0) (means : List ℕ → T → Type 0)
     (argument : KeyWithValue)
-    → FormLaw variables (ArgumentOutcome means argument) (argument.named.names ∷ [])
+    → FormLaw variables (ArgumentOutcome means argument) (argument.named.names ∷ []) []
     (argument_field means argument variables)
 argument_field_law variables T means argument =
     by_envs argument.named.envs argument.last refl refl
@@ -175,8 +175,8 @@ argument_field_law variables T means argument =
 
     by_envs : (envs : List (List ℕ)) (last : Bool) → argument.named.envs ≡ envs
         → argument.last ≡ last
-        → FormLaw variables (ArgumentOutcome means argument) (argument.named.names ∷ [])
-        (key_field (is_nil envs && not last)
+        → FormLaw variables (ArgumentOutcome means argument) (argument.named.names ∷ []) []
+        (key_field (argument.adjacent || not (is_nil envs)) (is_nil envs && not last)
         (argument_roles argument.adjacent argument.named.names) (ArgumentValue means)
         (argument_group means last) (argument_gap means (first_set variables envs)))
     by_envs [] false e g = (argument_law T means argument e g, owns argument)

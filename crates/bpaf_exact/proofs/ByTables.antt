@@ -20,18 +20,17 @@ use Rattle.bpaf_exact.specs.Wrappers.{closed_no, closed_memory, closed_err, Opti
 use Rattle.bpaf_exact.specs.Wrappers.{optional_some, optional_none, optional_err, optional_memory}
 use Rattle.bpaf_exact.specs.Wrappers.{FallbackEval, fallback_ok, fallback_given, fallback_no}
 use Rattle.bpaf_exact.specs.Gathered.{list_closure, some_closure}
-use Rattle.bpaf_exact.specs.FlatForm.{FlatForm, FormLaw, flat_repeat, flat_last, flat_fallback}
-use Rattle.bpaf_exact.specs.ProgramForm.{ProgramForm, plain, commands, ProgramFormLaw}
-use Rattle.bpaf_exact.specs.ProgramForm.{ProgramAgrees, program_closed, program_dressed}
-use Rattle.bpaf_exact.specs.ProgramForm.{flat_only, program_optional}
-use Rattle.bpaf_exact.specs.{Wrappers.fallback_memory, Wrappers.fallback_err, FlatForm.only_if}
-use Rattle.bpaf_exact.specs.{FlatForm.Agrees, FlatForm.flat_closed}
+use Rattle.bpaf_exact.specs.ProgramForm.{ProgramForm, FormLaw, Agrees, program_closed, completed}
+use Rattle.bpaf_exact.specs.ProgramForm.{program_dressed, program_if, program_optional}
+use Rattle.bpaf_exact.specs.{Wrappers.fallback_memory, Wrappers.fallback_err}
+use Rattle.bpaf_exact.specs.{Wrappers.FallbackValue, Single.OwnList, Single.repeated}
+use Rattle.bpaf_exact.specs.{Gathered.LastOf}
 use Rattle.bpaf_exact.proofs.Classes.{memory_class, caught_class, kept_class, stops_at, goes_on}
-use Rattle.bpaf_exact.proofs.ProgramForm.{flat_only_law, narrower_program_form, program_closed_law}
-use Rattle.bpaf_exact.proofs.ProgramForm.{program_dressed_law, program_never_refuses}
-use Rattle.bpaf_exact.proofs.FlatForm.{never_refuses, flat_listed_law, some_agrees, flat_last_law}
-use Rattle.bpaf_exact.proofs.{ProgramForm.program_optional_law, FlatForm.flat_fallback_law}
-use Rattle.bpaf_exact.proofs.{Narrow.AllowsNoMore, Narrow.narrower_form, Narrow.no_more}
+use Rattle.bpaf_exact.proofs.ProgramForm.{listed_law, narrower_form, never_refuses}
+use Rattle.bpaf_exact.proofs.ProgramForm.{program_closed_law, program_dressed_law}
+use Rattle.bpaf_exact.proofs.ProgramForm.{program_fallback_law, program_last_law}
+use Rattle.bpaf_exact.proofs.ProgramForm.{program_optional_law, some_agrees}
+use Rattle.bpaf_exact.proofs.{Narrow.AllowsNoMore, Narrow.no_more}
 
 -- map
 map_within : (A B : Type 0) (inner : Outcome A) (answers : A → B → Type 0)
@@ -46,13 +45,13 @@ map_within A B inner answers = no_more by_answer
 -- keeps to the laws of its form
 pub map_law : (env : Variables) (A B : Type 0) (inner : Outcome A) (answers : A → B → Type 0)
     (names : List Names)
-    (words : List (List ℕ)) (s : ProgramForm A) → ProgramFormLaw env inner names words s
-    → ProgramFormLaw env (MapOutcome inner answers) names words
+    (words : List (List ℕ)) (s : ProgramForm A) → FormLaw env inner names words s
+    → FormLaw env (MapOutcome inner answers) names words
     (program_closed (map_closure answers) s)
 map_law env A B inner answers names words s l =
-    narrower_program_form env B _ _ (map_within A B inner answers) names words _
+    narrower_form env B _ _ (map_within A B inner answers) names words _
     (program_closed_law env A B inner (map_closure answers) names words s
-    (program_never_refuses A B (map_closure answers) (λ x n. n) s) l)
+    (never_refuses A B (map_closure answers) (λ x n. n) s) l)
 
 -- parse
 parse_within : (A B E : Type 0) (inner : Outcome A) (answers : A → Result B E → Type 0)
@@ -73,12 +72,12 @@ parse_within A B E inner answers shown = no_more by_answer
 pub parse_law : (env : Variables) (A B E : Type 0) (inner : Outcome A)
     (answers : A → Result B E → Type 0)
     (shown : E → Option (List ℕ)) (names : List Names) (words : List (List ℕ))
-    (s : ProgramForm A) → ProgramAgrees (parse_closure answers) s
-    → ProgramFormLaw env inner names words s
-    → ProgramFormLaw env (ParseOutcome inner answers shown) names words
+    (s : ProgramForm A) → Agrees (parse_closure answers) s
+    → FormLaw env inner names words s
+    → FormLaw env (ParseOutcome inner answers shown) names words
     (program_closed (parse_closure answers) s)
 parse_law env A B E inner answers shown names words s g l =
-    narrower_program_form env B _ _ (parse_within A B E inner answers shown) names words _
+    narrower_form env B _ _ (parse_within A B E inner answers shown) names words _
     (program_closed_law env A B inner (parse_closure answers) names words s g l)
 
 -- guard
@@ -98,11 +97,11 @@ guard_within A inner checks message = no_more by_answer
 -- keeps to the laws of its form
 pub guard_law : (env : Variables) (A : Type 0) (inner : Outcome A) (checks : A → Bool → Type 0)
     (message : List ℕ) (names : List Names) (words : List (List ℕ)) (s : ProgramForm A)
-    → ProgramAgrees (guard_closure checks) s → ProgramFormLaw env inner names words s
-    → ProgramFormLaw env (GuardOutcome inner checks message) names words
+    → Agrees (guard_closure checks) s → FormLaw env inner names words s
+    → FormLaw env (GuardOutcome inner checks message) names words
     (program_closed (guard_closure checks) s)
 guard_law env A inner checks message names words s g l =
-    narrower_program_form env A _ _ (guard_within A inner checks message) names words _
+    narrower_form env A _ _ (guard_within A inner checks message) names words _
     (program_closed_law env A A inner (guard_closure checks) names words s g l)
 
 -- optional
@@ -123,41 +122,33 @@ optional_within T inner = no_more by_answer
 -- keeps to the laws of its form
 pub optional_law : (env : Variables) (T : Type 0) (inner : Outcome T) (catch : Bool)
     (names : List Names)
-    (words : List (List ℕ)) (s : ProgramForm T) → ProgramFormLaw env inner names words s
-    → ProgramFormLaw env (TurnOutcome inner catch true) names [] (program_optional catch s)
-optional_law env T inner true names words (plain wide s) l = tt
-optional_law env T inner true names words (commands r value) l = tt
-optional_law env T inner false names words (plain wide s) l =
-    narrower_program_form env (Option T) _ _ (optional_within T inner) names []
-    (program_optional false (plain wide s))
-    (program_optional_law env T inner names words (plain wide s) l)
-optional_law env T inner false names words (commands r value) l =
-    narrower_program_form env (Option T) _ _ (optional_within T inner) names []
-    (program_optional false (commands r value))
-    (program_optional_law env T inner names words (commands r value) l)
-optional_law env T inner catch names words _ l = tt
+    (words : List (List ℕ)) (s : ProgramForm T) → FormLaw env inner names words s
+    → FormLaw env (TurnOutcome inner catch true) names [] (program_if (not catch) (program_optional s))
+optional_law env T inner true names words s l = tt
+optional_law env T inner false names words s l =
+    narrower_form env (Option T) _ _ (optional_within T inner) names [] (program_optional s)
+    (program_optional_law env T inner names words s l)
 
 -- Repeats.
 
+-- what a repeat makes of a field, by what is made of its list; with `catch` it is none
+abbrev pub repeated_form : {T B : Type 0} → Bool → Closure (List T) B → ProgramForm T
+    → ProgramForm B
+repeated_form {T = T} catch f s =
+    program_if (not catch) (program_closed f (completed repeated (OwnList T) s))
+
 -- what answers no more than a closure on the list of a repeat, where it has no `catch`, keeps to
 -- the laws of its form
-listed_law : (env : Variables) {T B : Type 0} (inner : Outcome T) (idle catch : Bool)
+repeated_form_law : (env : Variables) {T B : Type 0} (inner : Outcome T) (idle catch : Bool)
     (f : Closure (List T) B) (c : ErrorClass) (outcome : Bool → Outcome B)
-    → AllowsNoMore B (ClosedEval (List T) B (RepeatOutcome inner idle) f c) (outcome false) →
-    (names : List Names) → ((s : FlatForm T) → FormLaw env inner names s → Agrees f (flat_repeat s))
-    → (words : List (List ℕ)) (s : ProgramForm T) → ProgramFormLaw env inner names words s
-    → ProgramFormLaw env (outcome catch) names []
-    (flat_only (λ s. only_if (not catch) (flat_closed f (flat_repeat s))) s)
-listed_law env {T} {B} inner idle catch f c outcome within names agrees words =
-    flat_only_law env inner (outcome catch) names words []
-    (λ s. only_if (not catch) (flat_closed f (flat_repeat s))) (by_catch catch)
-  where
-    by_catch : (catch : Bool) (s : FlatForm T) → FormLaw env inner names s
-        → FormLaw env (outcome catch) names (only_if (not catch) (flat_closed f (flat_repeat s)))
-    by_catch true s l = tt
-    by_catch false s l =
-        narrower_form env B _ _ within names _
-        (flat_listed_law env T B inner idle f c names s (agrees s l) l)
+    → AllowsNoMore B (ClosedEval (List T) B (RepeatOutcome inner idle) f c) (outcome false)
+    → (names : List Names) (words : List (List ℕ)) (s : ProgramForm T)
+    → Agrees f (completed repeated (OwnList T) s) → FormLaw env inner names words s
+    → FormLaw env (outcome catch) names [] (repeated_form catch f s)
+repeated_form_law env inner idle true f c outcome within names words s agrees l = tt
+repeated_form_law env {T} {B} inner idle false f c outcome within names words s agrees l =
+    narrower_form env B _ _ within names [] _
+    (listed_law env T B inner idle f c names words s agrees l)
 
 -- many
 many_within : (T : Type 0) (inner : Outcome T) → AllowsNoMore (Vec T)
@@ -173,12 +164,12 @@ many_within T inner = no_more by_answer
 -- keeps to the laws of its form
 pub many_law : (env : Variables) (T : Type 0) (inner : Outcome T) (catch : Bool)
     (names : List Names) (words : List (List ℕ)) (s : ProgramForm T)
-    → ProgramFormLaw env inner names words s → ProgramFormLaw env (ManyOutcome inner catch) names []
-    (flat_only (λ s. only_if (not catch) (flat_closed (list_closure T) (flat_repeat s))) s)
-many_law env T inner catch names words =
-    listed_law env inner false catch (list_closure T) Refused (ManyOutcome inner)
-    (many_within T inner) names
-    (λ s l. never_refuses (List T) (Vec T) (list_closure T) (λ x n. n) (flat_repeat s)) words
+    → FormLaw env inner names words s → FormLaw env (ManyOutcome inner catch) names []
+    (repeated_form catch (list_closure T) s)
+many_law env T inner catch names words s =
+    repeated_form_law env inner false catch (list_closure T) Refused (ManyOutcome inner)
+    (many_within T inner) names words s
+    (never_refuses (List T) (Vec T) (list_closure T) (λ x n. n) _)
 
 -- some
 not_nil : (T : Type 0) (values : List T) → is_nil values ≡ false → values ≡ [] → ⊥
@@ -201,12 +192,12 @@ some_within T inner message = no_more by_answer
 -- keeps to the laws of its form
 pub some_law : (env : Variables) (T : Type 0) (inner : Outcome T) (catch : Bool)
     (message : List ℕ) (names : List Names) (words : List (List ℕ)) (s : ProgramForm T)
-    → ProgramFormLaw env inner names words s
-    → ProgramFormLaw env (SomeOutcome inner catch message) names []
-    (flat_only (λ s. only_if (not catch) (flat_closed (some_closure T) (flat_repeat s))) s)
-some_law env T inner catch message names words =
-    listed_law env inner false catch (some_closure T) Caught (λ c. SomeOutcome inner c message)
-    (some_within T inner message) names (some_agrees env T inner names) words
+    → FormLaw env inner names words s
+    → FormLaw env (SomeOutcome inner catch message) names []
+    (repeated_form catch (some_closure T) s)
+some_law env T inner catch message names words s l =
+    repeated_form_law env inner false catch (some_closure T) Caught (λ c. SomeOutcome inner c message)
+    (some_within T inner message) names words s (some_agrees env T inner names words s l) l
 
 -- collect
 collect_within : (T C : Type 0) (inner : Outcome T) (fills : List T → C → Type 0) → AllowsNoMore C
@@ -223,13 +214,13 @@ collect_within T C inner fills = no_more by_answer
 -- keeps to the laws of its form
 pub collect_law : (env : Variables) (T C : Type 0) (inner : Outcome T) (catch : Bool)
     (fills : List T → C → Type 0) (names : List Names) (words : List (List ℕ))
-    (s : ProgramForm T) → ProgramFormLaw env inner names words s
-    → ProgramFormLaw env (CollectOutcome inner catch fills) names []
-    (flat_only (λ s. only_if (not catch) (flat_closed (map_closure fills) (flat_repeat s))) s)
-collect_law env T C inner catch fills names words =
-    listed_law env inner false catch (map_closure fills) Refused
-    (λ c. CollectOutcome inner c fills) (collect_within T C inner fills) names
-    (λ s l. never_refuses (List T) C (map_closure fills) (λ x n. n) (flat_repeat s)) words
+    (s : ProgramForm T) → FormLaw env inner names words s
+    → FormLaw env (CollectOutcome inner catch fills) names []
+    (repeated_form catch (map_closure fills) s)
+collect_law env T C inner catch fills names words s =
+    repeated_form_law env inner false catch (map_closure fills) Refused
+    (λ c. CollectOutcome inner c fills) (collect_within T C inner fills) names words s
+    (never_refuses (List T) C (map_closure fills) (λ x n. n) _)
 
 -- count
 count_within : (T : Type 0) (inner : Outcome T)
@@ -246,22 +237,13 @@ count_within T inner = no_more by_answer
 
 -- keeps to the laws of its form
 pub count_law : (env : Variables) (T : Type 0) (inner : Outcome T) (names : List Names)
-    (words : List (List ℕ)) (s : ProgramForm T) → ProgramFormLaw env inner names words s
-    → ProgramFormLaw env (CountOutcome inner) names []
-    (flat_only (λ s. flat_closed (map_closure (λ vs n. n ≡ length vs)) (flat_repeat s)) s)
-count_law env T inner names words =
-    listed_law env inner true false (map_closure (λ vs n. n ≡ length vs)) Refused
-    (λ c. CountOutcome inner) (count_within T inner) names
-    (λ s l. never_refuses (List T) ℕ (map_closure (λ vs n. n ≡ length vs)) (λ x n. n)
-    (flat_repeat s)) words
-
--- last keeps to the laws of its form
-pub last_law : (env : Variables) (T : Type 0) (inner : Outcome T) (names : List Names)
-    (words : List (List ℕ)) (s : ProgramForm T) → ProgramFormLaw env inner names words s
-    → ProgramFormLaw env (LastOutcome inner) names [] (flat_only (λ s. flat_last s) s)
-last_law env T inner names words s l =
-    flat_only_law env inner (LastOutcome inner) names words [] (λ s. flat_last s)
-    (λ s. flat_last_law env T inner names s) s l
+    (words : List (List ℕ)) (s : ProgramForm T) → FormLaw env inner names words s
+    → FormLaw env (CountOutcome inner) names []
+    (repeated_form false (map_closure (λ vs n. n ≡ length vs)) s)
+count_law env T inner names words s =
+    repeated_form_law env inner true false (map_closure (λ vs n. n ≡ length vs)) Refused
+    (λ c. CountOutcome inner) (count_within T inner) names words s
+    (never_refuses (List T) ℕ (map_closure (λ vs n. n ≡ length vs)) (λ x n. n) _)
 
 -- Defaults.
 
@@ -301,33 +283,31 @@ fallback_within T inner gives f given = no_more by_answer
 -- a kept value
 pub fallback_law : (env : Variables) (T : Type 0) (inner : Outcome T) (clones : T → T → Type 0)
     (kept : T) (names : List Names) (words : List (List ℕ)) (s : ProgramForm T)
-    → ProgramFormLaw env inner names words s
-    → ProgramFormLaw env (FallbackOutcome inner (GivesClone clones kept)) names []
-    (flat_only (λ s. flat_fallback (map_closure (λ u. clones kept)) s) s)
-fallback_law env T inner clones kept names words =
-    flat_only_law env inner (FallbackOutcome inner (GivesClone clones kept)) names words []
-    (λ s. flat_fallback (map_closure (λ u. clones kept)) s)
-    (λ s l. narrower_form env T _ _
+    → FormLaw env inner names words s
+    → FormLaw env (FallbackOutcome inner (GivesClone clones kept)) names []
+    (completed (λ k. k) (λ group gap. FallbackValue T group gap (map_closure (λ u. clones kept))) s)
+fallback_law env T inner clones kept names words s l =
+    narrower_form env T _ _
     (fallback_within T inner (GivesClone clones kept) (map_closure (λ u. clones kept))
-    (record { yes = λ v g. g; no = λ e g. inl (memory_class e.0 g) })) names _
-    (flat_fallback_law env T inner (map_closure (λ u. clones kept)) (λ u v y n. n) names s l))
+    (record { yes = λ v g. g; no = λ e g. inl (memory_class e.0 g) })) names [] _
+    (program_fallback_law env T inner names words s l (map_closure (λ u. clones kept))
+    (λ u v y n. n))
 
 -- a closure's value
 pub fallback_with_law : (env : Variables) (T E : Type 0) (inner : Outcome T)
     (answers : Result T E → Type 0) (shown : E → Option (List ℕ)) (names : List Names)
     (words : List (List ℕ)) (s : ProgramForm T) → Decides (answer_closure answers)
-    → ProgramFormLaw env inner names words s
-    → ProgramFormLaw env (FallbackOutcome inner (GivesAnswer answers shown)) names []
-    (flat_only (λ s. flat_fallback (answer_closure answers) s) s)
-fallback_with_law env T E inner answers shown names words s decides =
-    flat_only_law env inner (FallbackOutcome inner (GivesAnswer answers shown)) names words []
-    (λ s. flat_fallback (answer_closure answers) s)
-    (λ s l. narrower_form env T _ _
+    → FormLaw env inner names words s
+    → FormLaw env (FallbackOutcome inner (GivesAnswer answers shown)) names []
+    (completed (λ k. k) (λ group gap. FallbackValue T group gap (answer_closure answers)) s)
+fallback_with_law env T E inner answers shown names words s decides l =
+    narrower_form env T _ _
     (fallback_within T inner (GivesAnswer answers shown) (answer_closure answers) (record {
       yes = λ v g. g;
       no = λ e g. ⊎_elim (λ memory. inl (ap class_of memory))
           (λ told. inr ((g.0, g.1), ap class_of told.1)) g.2;
-    })) names _ (flat_fallback_law env T inner (answer_closure answers) decides names s l)) s
+    })) names [] _
+    (program_fallback_law env T inner names words s l (answer_closure answers) decides)
 
 -- a hidden refusal is one of the same class
 hidden_class : (m : Message) → class_of m ≡ class_of (hidden m)
@@ -336,11 +316,11 @@ hidden_class m = refl
 
 -- hide
 pub hide_law : (env : Variables) (T : Type 0) (inner : Outcome T) (names : List Names)
-    (words : List (List ℕ)) (s : ProgramForm T) → ProgramFormLaw env inner names words s
-    → ProgramFormLaw env (HideOutcome inner) names words (program_dressed s)
+    (words : List (List ℕ)) (s : ProgramForm T) → FormLaw env inner names words s
+    → FormLaw env (HideOutcome inner) names words (program_dressed s)
 hide_law env T inner names words s l =
     program_dressed_law env T (HideOutcome inner) names words s
-    (narrower_program_form env T inner (HideOutcome inner)
+    (narrower_form env T inner (HideOutcome inner)
     (record {
       value = λ s t v o. o;
       refusal = λ s t e o. (o.0, o.1, hidden_class o.0.0 ∙ ap class_of (sym o.2));

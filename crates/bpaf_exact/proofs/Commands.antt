@@ -98,7 +98,7 @@ none_own q no_place = refl
 none_own q (none_here n) = none_own q n
 
 -- nor does anything open a command
-none_opens : (words : List (List ℕ)) {cs : Cells} → NonePresent cs → OpensNone words cs
+pub none_opens : (words : List (List ℕ)) {cs : Cells} → NonePresent cs → OpensNone words cs
 none_opens words no_place ds o = elim o [ ]
 none_opens words (none_here n) ds (opens_later {ds = es} o) = none_opens words n es o
 

@@ -4,18 +4,16 @@ use Rattle.std.proofs.Common.{Option, slice_get, None, Ok, if◌then◌else◌, 
 use Rattle.std.proofs.Common.{arith, nat_lt, nat_le}
 use Rattle.std.proofs.lemmas.Bool.{lt-ltb, le-leb}
 use Rattle.bpaf_base.specs.declared.arg.Arg.{Arg}
-use Rattle.bpaf_doc.specs.Names.{Names}
 use Rattle.bpaf_line.specs.Situation.{Context, Situation, beginning, item_in, is_marker, open_count}
 use Rattle.bpaf_line.specs.Taking.{open_item}
 use Rattle.bpaf_laws.specs.Reading.{Outcome}
 use Rattle.bpaf_exact.specs.Flat.{cells, NonePresent, IsWholeIn, FieldsLaw, FieldsReading, ReadOff}
 use Rattle.bpaf_exact.specs.Record.{line_cells, RecordValue, RunAnswer, Accepted, RunRan, run_value}
 use Rattle.bpaf_exact.specs.Record.{run_leftover, run_memory, run_refusal, IsNoValue}
-use Rattle.bpaf_exact.specs.FlatForm.{FlatForm, FormLaw, is_record, product_roles, product_reading}
-use Rattle.bpaf_exact.specs.{Record.IsAcceptedOrWant, Record.IsExact, FlatForm.flat_record}
-use Rattle.bpaf_exact.specs.{Pieces.Roles, Pieces.LinePiece, Pieces.Cut, Theorem.RunsExactly}
+use Rattle.bpaf_exact.specs.{Record.IsAcceptedOrWant, Record.IsExact}
+use Rattle.bpaf_exact.specs.{Pieces.Roles, Pieces.LinePiece, Pieces.Cut}
 use Rattle.bpaf_exact.proofs.{Counts.open_present, Cuts.one_cut, Places.same_cells}
-use Rattle.bpaf_exact.proofs.{Records.none_counted, Records.count_none, FlatForm.record_law}
+use Rattle.bpaf_exact.proofs.{Records.none_counted, Records.count_none}
 
 -- at the beginning each item is present, but for the marker
 open_at_first : (context : Context) (p : ℕ) → p < length context.line
@@ -107,11 +105,3 @@ module _ (V : Type 0) (outcome : Outcome V) (r : Roles) (reading : FieldsReading
   -- refusal where the record has no value.
   pub exact : (a : RunAnswer V) → RunRan V outcome s a → IsExact V r reading context a
   exact a ran = record { sound = sound a ran; complete = complete a ran; refused = refused a ran }
-
--- each answer of a run of a flat record is exact
-pub runs_exactly : (V : Type 0) (outcome : Outcome V) (names : List Names) (s : FlatForm V)
-    → is_record s ≡ true → (context : Context) → FormLaw context.env outcome names s
-    → RunsExactly outcome s context
-runs_exactly V outcome names s h context l a r =
-    exact V outcome (product_roles (flat_record s)) (product_reading (flat_record s)) context
-    (record_law context.env V outcome names s h l) a r

@@ -1,6 +1,6 @@
 -- Flags keep to the laws.
 use Rattle.std.proofs.Common.{◌≡◌, ℕ, Bool, true, false, List, [], ◌∷◌, Option, Some, None, Ok}
-use Rattle.std.proofs.Common.{◌&&◌, refl, sym, ap, ◌∙◌, subst, ⊎_elim, true≢false}
+use Rattle.std.proofs.Common.{◌&&◌, not, refl, sym, ap, ◌∙◌, subst, ⊎_elim, true≢false}
 use Rattle.std.specs.Option.{is_none, is_some}
 use Rattle.bpaf_text.specs.Named.{Named as Key, flag_part}
 use Rattle.bpaf_base.specs.Items.{is_key_of}
@@ -17,7 +17,7 @@ use Rattle.bpaf_exact.specs.{Single.of_memory, Single.of_missing, Single.SingleL
 use Rattle.bpaf_exact.specs.{Alternative.AlternativeLaw, Pieces.Alone, Pieces.Roles}
 use Rattle.bpaf_exact.specs.{Pieces.LinePiece, Pieces.One, Pieces.IsNamed, Flat.class}
 use Rattle.bpaf_exact.specs.{Flat.class_of, Flat.IsWholeIn, Flat.ByName, Flat.Variables, Names.Owns}
-use Rattle.bpaf_exact.specs.FlatForm.{FormLaw}
+use Rattle.bpaf_exact.specs.ProgramForm.{FormLaw}
 use Rattle.bpaf_exact.proofs.Matching.{match_of, ByTest, by_test, test_named, no_pieces, one_taken}
 use Rattle.bpaf_exact.proofs.Matching.{first_alternative, missing_same, absence_missing, test_owns}
 use Rattle.bpaf_exact.proofs.{Matching.absence_caught, Classes.missing_class, Product.steady_refl}
@@ -196,7 +196,7 @@ module _ (T : Type 0) (clones : T → T → Type 0) (key : Key) (present : T) (a
 -- a flag keeps to the laws of its form
 pub flag_field_law : (variables : Variables) (T : Type 0) (clones : T → T → Type 0) (key : Key)
     (present : T) (absent : Option T)
-    → FormLaw variables (FlagOutcome clones key present absent) (key.names ∷ [])
+    → FormLaw variables (FlagOutcome clones key present absent) (key.names ∷ []) []
     (flag_field clones key present absent variables)
 flag_field_law variables T clones key present absent = by_envs key.envs absent refl
   where
@@ -211,8 +211,8 @@ flag_field_law variables T clones key present absent = by_envs key.envs absent r
         (switch_law T clones key present absent variables)
 
     by_envs : (envs : List (List ℕ)) (absent : Option T) → key.envs ≡ envs
-        → FormLaw variables (FlagOutcome clones key present absent) (key.names ∷ [])
-        (key_field (is_nil envs && is_none absent) (flag_roles key.names)
+        → FormLaw variables (FlagOutcome clones key present absent) (key.names ∷ []) []
+        (key_field (not (is_nil envs)) (is_nil envs && is_none absent) (flag_roles key.names)
         (FlagValue (clones present)) (FrontOf T (FlagValue (clones present)))
         (flag_gap clones present absent (first_set variables envs)))
     by_envs [] None e = (flag_law T clones key present e, owned T clones key present)

@@ -2,7 +2,7 @@
 use Rattle.std.proofs.Common.{ℕ, List, ◌++◌}
 use Rattle.bpaf_doc.specs.Names.{Names}
 use Rattle.bpaf_laws.specs.{Product.BothOutcome, Reading.Outcome}
-use Rattle.bpaf_exact.specs.ProgramForm.{ProgramForm, ProgramFormLaw, program_alone, program_both}
+use Rattle.bpaf_exact.specs.ProgramForm.{ProgramForm, FormLaw, program_alone, program_both}
 use Rattle.bpaf_exact.specs.ProgramSays.{FieldsKeep, ProgramFieldsSaid, ProgramSaid, ProgramSays}
 use Rattle.bpaf_exact.specs.{ProgramForm.program_field, ProgramSays.fields_said_inside}
 use Rattle.bpaf_exact.specs.{ProgramSays.said_alone, ProgramSays.said_both, Says.SaidKind}
@@ -14,7 +14,7 @@ use Rattle.bpaf_exact.proofs.ProgramSays.{inside_say, program_alone_says, progra
 pub keep_last : {env : Variables} {P R A : Type 0} (last : R → P) (r : R) (outcome : Outcome A)
     (kind : P → SaidKind)
     (names : P → List Names) (words : List (List ℕ)) (s : ProgramForm A) (said : ProgramSaid P A)
-    → ProgramFormLaw env outcome (names (last r)) words s
+    → FormLaw env outcome (names (last r)) words s
     → ProgramSays (names (last r)) s (kind (last r)) said (last r)
     → FieldsKeep env outcome (names (last r)) (program_alone (program_field s))
     (said_alone last kind names said) r
@@ -35,7 +35,7 @@ keep_inside inside r kept = record { law = kept.law; says = inside_say inside r 
 pub keep_before : {env : Variables} {P Q R A B : Type 0} (first : R → P) (rest : R → Q) (r : R)
     (outcome : Outcome A) (kind : P → SaidKind) (names : P → List Names) (words : List (List ℕ))
     (s : ProgramForm A) (said : ProgramSaid P A)
-    → ProgramFormLaw env outcome (names (first r)) words s
+    → FormLaw env outcome (names (first r)) words s
     → ProgramSays (names (first r)) s (kind (first r)) said (first r)
     → {behind : Outcome B} {others : List Names} {t : ProgramForm B} {more : ProgramFieldsSaid Q B}
     → FieldsKeep env behind others t more (rest r)

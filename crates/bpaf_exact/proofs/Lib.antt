@@ -22,7 +22,10 @@ pub mod Choice
 pub mod Records
 pub mod NamedProducts
 pub mod Narrow
-pub mod FlatForm
+pub mod Programs
+pub mod BeforeCommands
+pub mod Commands
+pub mod ProgramForm
 pub mod Exact
 pub mod ByTables
 pub mod OneView
@@ -35,9 +38,5 @@ pub mod Keeping
 pub mod Fronts
 pub mod PieceByPiece
 pub mod Needed
-pub mod Programs
-pub mod BeforeCommands
-pub mod Commands
-pub mod ProgramForm
 pub mod ProgramSays
 pub mod Pure

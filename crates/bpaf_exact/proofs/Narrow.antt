@@ -2,13 +2,11 @@
 use Rattle.std.proofs.Common.{◌≡◌, Bool, true, false, List, Result, Ok, Err, refl, sym, ◌∙◌}
 use Rattle.bpaf_line.specs.{declared.error.Error.Error, Situation.Situation}
 use Rattle.bpaf_laws.specs.Reading.{Outcome}
-use Rattle.bpaf_doc.specs.Names.{Names}
 use Rattle.bpaf_exact.specs.Alternative.{AlternativeErr, alternative_memory, alternative_missing}
-use Rattle.bpaf_exact.specs.Flat.{ByName, FieldKind, FieldLaw, FieldsLaw, FieldsReading, OfMemory}
-use Rattle.bpaf_exact.specs.FlatForm.{FlatForm, not_flat, alternative, single, complete, product}
+use Rattle.bpaf_exact.specs.Flat.{FieldKind, FieldLaw, FieldsLaw, FieldsReading, OfMemory}
 use Rattle.bpaf_exact.specs.Single.{CanCatch, Gap, Groups, SingleErr, catch_missing, catch_other}
 use Rattle.bpaf_exact.specs.{Alternative.alternative_refused, Flat.class, Flat.Variables}
-use Rattle.bpaf_exact.specs.{FlatForm.FormLaw, FlatForm.NamedLaw, Single.of_absent}
+use Rattle.bpaf_exact.specs.{Alternative.AlternativeLaw, Single.SingleLaw, Single.of_absent}
 use Rattle.bpaf_exact.specs.{Single.of_memory, Single.of_missing, Single.of_piece, Pieces.LinePiece}
 use Rattle.bpaf_exact.specs.{Pieces.Roles}
 
@@ -77,7 +75,7 @@ module _ (env : Variables) (T : Type 0) (a b : Outcome T) (n : AllowsNoMore T a 
       let other = n.refusal s t e o in like other.0 e t other.2 (all (Err other.0) t other.1)
 
   -- a list of fields
-  narrower_fields : (r : Roles) (fields : FieldsReading T) → FieldsLaw env T a r fields
+  pub narrower_fields : (r : Roles) (fields : FieldsReading T) → FieldsLaw env T a r fields
       → FieldsLaw env T b r fields
   narrower_fields r fields l = record {
     named = l.named;
@@ -90,43 +88,33 @@ module _ (env : Variables) (T : Type 0) (a b : Outcome T) (n : AllowsNoMore T a 
   }
 
   -- a field
-  narrower_field : (k : FieldKind) (q : Roles) (value : List LinePiece → T → Type 0)
+  pub narrower_field : (k : FieldKind) (q : Roles) (value : List LinePiece → T → Type 0)
       → FieldLaw env T a k q value → FieldLaw env T b k q value
   narrower_field k q value l =
       other_refusals T a b k q value n.value (λ s t e o. let other = n.refusal s t e o in
       (other.0, other.1, λ m. sym other.2 ∙ m)) l
 
-  -- and a field of any form
-  pub narrower_form : (keys : List Names) (h : FlatForm T) → FormLaw env a keys h
-      → FormLaw env b keys h
-  narrower_form keys not_flat l = tt
-  narrower_form keys (alternative q value) l = (
-    record {
-      named = l.0.named;
-      ok = λ s t v w o. l.0.ok s t v w (n.value s t v o);
-      err = λ s t e w o.
-          let other = n.refusal s t e o in
-          alternative_like T other.0 e other.2 q value s t (l.0.err s t other.0 w other.1);
-    },
-    l.1,
-  )
-  narrower_form keys (single k q group gap) l = (
-    record {
-      own = l.0.own;
-      words = l.0.words;
-      starts = l.0.starts;
-      no_absent = l.0.no_absent;
-      ok = λ s t v w o. l.0.ok s t v w (n.value s t v o);
-      err = λ s t e w o.
-          let other = n.refusal s t e o in
-          single_like T other.0 e other.2 k q group gap s t (l.0.err s t other.0 w other.1);
-    },
-    l.1,
-  )
-  narrower_form keys (complete k q value) l = (narrower_field k q value l.0, l.1)
-  narrower_form keys (product named q fields) l =
-      (narrower_fields q fields l.0, l.1, by_name named l.2)
-    where
-      by_name : (all : Bool) → NamedLaw env all a q fields.value → NamedLaw env all b q fields.value
-      by_name true l = narrower_field ByName q fields.value l
-      by_name false l = tt
+  -- a required flag or argument, or a choice of them
+  pub narrower_alternative : (q : Roles) (value : LinePiece → T → Type 0)
+      → AlternativeLaw env T a q value → AlternativeLaw env T b q value
+  narrower_alternative q value l = record {
+    named = l.named;
+    ok = λ s t v w o. l.ok s t v w (n.value s t v o);
+    err = λ s t e w o.
+        let other = n.refusal s t e o in
+        alternative_like T other.0 e other.2 q value s t (l.err s t other.0 w other.1);
+  }
+
+  -- another field without a repeat or default
+  pub narrower_single : (k : FieldKind) (q : Roles) (group : Groups T) (gap : Gap T)
+      → SingleLaw env T a k q group gap → SingleLaw env T b k q group gap
+  narrower_single k q group gap l = record {
+    own = l.own;
+    words = l.words;
+    starts = l.starts;
+    no_absent = l.no_absent;
+    ok = λ s t v w o. l.ok s t v w (n.value s t v o);
+    err = λ s t e w o.
+        let other = n.refusal s t e o in
+        single_like T other.0 e other.2 k q group gap s t (l.err s t other.0 w other.1);
+  }

@@ -1,7 +1,7 @@
 -- Where closures can't tell apart what looks alike, the premise of exactness holds, and all values
 -- of a line look alike.
 use Rattle.std.proofs.Common.{◌≡◌, ℕ, Bool, true, false, List, [], ◌∷◌, map, Option, Some, None}
-use Rattle.std.proofs.Common.{◌&&◌, not, refl, sym, ap, ◌∙◌, subst}
+use Rattle.std.proofs.Common.{◌&&◌, ◌||◌, not, refl, sym, ap, ◌∙◌, subst}
 use Rattle.std.specs.Option.{is_none}
 use Rattle.bpaf_laws.specs.Environment.{first_set}
 use Rattle.bpaf_laws.specs.Repeat.{is_nil}
@@ -19,41 +19,48 @@ use Rattle.bpaf_exact.specs.Leaves.{FlagValue, ArgumentValue, WordValue, flag_fi
 use Rattle.bpaf_exact.specs.Leaves.{argument_field, argument_gap, argument_group, argument_roles}
 use Rattle.bpaf_exact.specs.Leaves.{flag_gap, flag_roles, key_field}
 use Rattle.bpaf_exact.specs.Record.{RunAnswer, Accepted, NoMemory, Refusal, RecordValue, IsExact}
-use Rattle.bpaf_exact.specs.FlatForm.{FlatForm, alternative, single, complete, product, FormLaw}
-use Rattle.bpaf_exact.specs.FlatForm.{only_if, flat_closed, flat_repeat, flat_many, flat_optional}
-use Rattle.bpaf_exact.specs.FlatForm.{flat_fallback, flat_field, may_follow, flat_both, flat_alone}
-use Rattle.bpaf_exact.specs.FlatForm.{flat_con, flat_record, is_record, product_roles}
+use Rattle.bpaf_exact.specs.ProgramForm.{ProgramForm, alternative, single, complete, product}
+use Rattle.bpaf_exact.specs.ProgramForm.{commands, before_commands, FormLaw, program_if}
+use Rattle.bpaf_exact.specs.ProgramForm.{program_closed, completed, program_field, may_follow}
+use Rattle.bpaf_exact.specs.ProgramForm.{program_both, program_alone, program_con, whole_program}
+use Rattle.bpaf_exact.specs.ProgramForm.{is_record, product_roles, program_optional, program_value}
+use Rattle.bpaf_exact.specs.Programs.{OptionalCommands, some_command, no_command}
 use Rattle.bpaf_exact.specs.OneView.{Alike, OneGroup, HasOneView, Respects, pair_view, LooksLike}
 use Rattle.bpaf_exact.specs.{Single.listed_and_absent, Single.only_absent, Single.repeated}
 use Rattle.bpaf_exact.specs.{Wrappers.own_value, Wrappers.kept_value}
 use Rattle.bpaf_exact.specs.{Leaves.word_by, Record.line_cells}
-use Rattle.bpaf_exact.specs.{FlatForm.product_reading, FlatForm.flat_whole, OneView.RunsToOne}
+use Rattle.bpaf_exact.specs.{ProgramForm.product_reading, OneView.RunsToOne}
 use Rattle.bpaf_exact.specs.{Pieces.Cells, Pieces.Roles, Pieces.LinePiece, Pieces.One, Pieces.Two}
-use Rattle.bpaf_exact.specs.{Gathered.list_closure}
+use Rattle.bpaf_exact.specs.{Gathered.list_closure, Names.are_all_apart}
 use Rattle.bpaf_exact.proofs.{Alternative.alternative_single, Cuts.one_cut, LastArguments.last_same}
-use Rattle.bpaf_exact.proofs.{FlatForm.record_law, Exact.runs_exactly, Repeat.own_nil}
+use Rattle.bpaf_exact.proofs.{ProgramForm.record_law, ProgramForm.record_value}
+use Rattle.bpaf_exact.proofs.{Commands.none_opens, ProgramForm.runs_exactly, Repeat.own_nil}
 
 -- Closures.
 
 module _ (A B X Y : Type 0) (see : A → X) (look : B → Y) (f : Closure A B)
     (respects : Respects A B X Y see look f) where
   -- What a closure that can't tell apart what looks alike makes of such values looks alike again.
-  pub closed_view : (s : FlatForm A) → HasOneView see s → HasOneView look (flat_closed f s)
-  closed_view (alternative q value) u =
+  pub closed_view : (s : ProgramForm A) → HasOneView see s → HasOneView look (program_closed f s)
+  closed_view (alternative wide q value) u =
       λ o v w a b. respects.same a.from b.from v w (u o a.from b.from a.read b.read) a.made b.made
-  closed_view (single k q group gap) u = (
+  closed_view (single wide k q group gap) u = (
     λ os rest others v w a b. let d = u.0 os rest others a.from b.from a.read b.read in
         (respects.same a.from b.from v w d.0 a.made b.made, d.1),
     λ v w a b. respects.same a.0 b.0 v w (u.1 a.0 b.0 a.1 b.1) a.2 b.2,
   )
-  closed_view (complete k q value) u =
+  closed_view (complete wide k q value) u =
       λ os v w a b. respects.same a.from b.from v w (u os a.from b.from a.read b.read) a.made b.made
+  closed_view (commands optional value) u =
+      λ cs v w a b. respects.same a.from b.from v w (u cs a.from b.from a.read b.read) a.made b.made
   closed_view _ u = tt
 
   -- what a constructor makes of values that look alike looks alike
-  pub con_view : (s : FlatForm A) → HasOneView see s → HasOneView look (flat_con f s)
-  con_view (product named q fields) u =
+  pub con_view : (s : ProgramForm A) → HasOneView see s → HasOneView look (program_con f s)
+  con_view (product wide named q fields) u =
       λ os v w a b. respects.same a.from b.from v w (u os a.from b.from a.read b.read) a.made b.made
+  con_view (before_commands value) u =
+      λ cs v w a b. respects.same a.from b.from v w (u cs a.from b.from a.read b.read) a.made b.made
   con_view _ u = tt
 
 -- Leaves.
@@ -73,12 +80,12 @@ flag_piece T X see present u (One k) v w a b = u v w a b
 flag_piece T X see present u (Two k x) v w a b = absurd a
 
 -- a key, where its pieces, its groups and what stands for none look alike
-key_view : (T X : Type 0) (see : T → X) (may_choose : Bool) (q : Roles)
+key_view : (T X : Type 0) (see : T → X) (wide may_choose : Bool) (q : Roles)
     (each : LinePiece → T → Type 0) (group : Groups T) (gap : Gap T)
     → ((o : LinePiece) → Alike see (each o)) → OneGroup see group → Alike see gap.absent
-    → HasOneView see (key_field may_choose q each group gap)
-key_view T X see true q each group gap piece groups none = piece
-key_view T X see false q each group gap piece groups none = (groups, none)
+    → HasOneView see (key_field wide may_choose q each group gap)
+key_view T X see wide true q each group gap piece groups none = piece
+key_view T X see wide false q each group gap piece groups none = (groups, none)
 
 -- what stands for no key of a flag, whose clones look alike
 flag_gap_view : (T X : Type 0) (see : T → X) (clones : T → T → Type 0)
@@ -93,7 +100,8 @@ pub flag_view : (T X : Type 0) (see : T → X) (clones : T → T → Type 0)
     → ((kept : T) → Alike see (clones kept)) → (key : Key) (present : T) (absent : Option T)
     (variables : Variables) → HasOneView see (flag_field clones key present absent variables)
 flag_view T X see clones u key present absent variables =
-    key_view T X see (is_nil key.envs && is_none absent) (flag_roles key.names) _ _ _
+    key_view T X see (not (is_nil key.envs)) (is_nil key.envs && is_none absent)
+    (flag_roles key.names) _ _ _
     (flag_piece T X see (clones present) (u present))
     (front_view T X see _ (flag_piece T X see (clones present) (u present)))
     (flag_gap_view T X see clones u present absent (first_set variables key.envs))
@@ -135,7 +143,8 @@ pub argument_view : (T X : Type 0) (see : T → X) (means : List ℕ → T → T
     → ((text : List ℕ) → Alike see (means text)) → (argument : KeyWithValue)
     (variables : Variables) → HasOneView see (argument_field means argument variables)
 argument_view T X see means u argument variables =
-    key_view T X see (is_nil argument.named.envs && not argument.last)
+    key_view T X see (argument.adjacent || not (is_nil argument.named.envs))
+    (is_nil argument.named.envs && not argument.last)
     (argument_roles argument.adjacent argument.named.names) _ _ _ (argument_piece T X see means u)
     (argument_group_view T X see means u argument.last)
     (argument_gap_view T X see means u (first_set variables argument.named.envs))
@@ -154,8 +163,8 @@ word_view T X see accepts means u =
     (front_view T X see _ (word_piece T X see accepts means u), λ v w a b. absurd a)
 
 -- where a test holds
-if_view : (T X : Type 0) (see : T → X) (s : FlatForm T) (b : Bool) → HasOneView see s
-    → HasOneView see (only_if b s)
+if_view : (T X : Type 0) (see : T → X) (s : ProgramForm T) (b : Bool) → HasOneView see s
+    → HasOneView see (program_if b s)
 if_view T X see s true u = u
 if_view T X see s false u = tt
 
@@ -239,88 +248,114 @@ module _ (env : Variables) (T X : Type 0) (see : T → X) (inner : Outcome T) wh
       → ((k : FieldKind) (q : Roles) (group : Groups T) (gap : Gap T)
       → SingleLaw env T inner k q group gap → OneGroup see group → Alike see gap.absent
       → (os : List LinePiece) → Alike look (value group gap os))
-      → (names : List Names) (s : FlatForm T) → FormLaw env inner names s → HasOneView see s
-      → HasOneView look (flat_whole kind value s)
-  whole_view look kind value each names (alternative q one) l u =
+      → (names : List Names) (words : List (List ℕ)) (s : ProgramForm T)
+      → FormLaw env inner names words s → HasOneView see s
+      → HasOneView look (completed kind value s)
+  whole_view look kind value each names words (alternative wide q one) l u =
       each ByName q _ _ (alternative_single T inner q one l.0) (front_view T X see one u)
       (λ v w a b. absurd a)
-  whole_view look kind value each names (single k q group gap) l u = each k q group gap l.0 u.0 u.1
-  whole_view look kind value each names _ l u = tt
+  whole_view look kind value each names words (single wide k q group gap) l u =
+      each k q group gap l.0 u.0 u.1
+  whole_view look kind value each names words _ l u = tt
 
   -- the list of a repeat
-  pub repeat_view : (names : List Names) (s : FlatForm T) → FormLaw env inner names s
-      → HasOneView see s → HasOneView (map see) (flat_repeat s)
+  pub repeat_view : (names : List Names) (words : List (List ℕ)) (s : ProgramForm T)
+      → FormLaw env inner names words s → HasOneView see s
+      → HasOneView (map see) (completed repeated (OwnList T) s)
   repeat_view = whole_view (map see) repeated (OwnList T) (list_view T X see inner)
 
-  -- a field that may be left out
-  pub optional_field_view : (names : List Names) (s : FlatForm T) → FormLaw env inner names s
-      → HasOneView see s → HasOneView (option_map see) (flat_optional s)
-  optional_field_view =
+  -- what may be left out
+  pub optional_field_view : (names : List Names) (words : List (List ℕ)) (s : ProgramForm T)
+      → FormLaw env inner names words s → HasOneView see s
+      → HasOneView (option_map see) (program_optional s)
+  optional_field_view names words (commands false value) l u = by_value
+    where
+      by_value : (cs : Cells) → Alike (option_map see) (OptionalCommands T value cs)
+      by_value cs v w (some_command {v = x} a) (some_command {v = y} b) = ap Some (u cs x y a b)
+      by_value cs v w (no_command none) (no_command also) = refl
+      by_value cs v w (some_command {v = x} a) (no_command none) =
+          absurd (none_opens words none _ (l.commands.opened cs x a).1)
+      by_value cs v w (no_command none) (some_command {v = y} b) =
+          absurd (none_opens words none _ (l.commands.opened cs y b).1)
+  optional_field_view names words s l u =
       whole_view (option_map see) (λ k. k) (OptionalValue T) (optional_value_view T X see inner)
+      names words s l u
 
   -- a field with a default
   pub fallback_view : (f : Closure (Unit {0}) T) → Alike see (λ v. f.yes tt v)
-      → (names : List Names) (s : FlatForm T) → FormLaw env inner names s → HasOneView see s
-      → HasOneView see (flat_fallback f s)
+      → (names : List Names) (words : List (List ℕ)) (s : ProgramForm T)
+      → FormLaw env inner names words s → HasOneView see s
+      → HasOneView see (completed (λ k. k) (λ group gap. FallbackValue T group gap f) s)
   fallback_view f given =
       whole_view see (λ k. k) (λ group gap. FallbackValue T group gap f)
       (λ k q group gap l one absent. fallback_value_view T X see inner k q group gap l one absent f
       given)
 
   -- any field of a record
-  pub field_view : (names : List Names) (s : FlatForm T) → FormLaw env inner names s
-      → HasOneView see s → HasOneView see (flat_field s)
-  field_view names (complete k q value) l u = u
-  field_view names (product true q fields) l u = u
-  field_view names (product false q fields) l u = u
-  field_view names s l u =
-      whole_view see (λ k. k) (SingleValue T) (value_view T X see inner) names s l u
+  pub field_view : (names : List Names) (words : List (List ℕ)) (s : ProgramForm T)
+      → FormLaw env inner names words s → HasOneView see s → HasOneView see (program_field s)
+  field_view names words (complete wide k q value) l u = u
+  field_view names words (product wide true q fields) l u = u
+  field_view names words (product wide false q fields) l u = u
+  field_view names words (commands optional value) l u = u
+  field_view names words (before_commands value) l u = u
+  field_view names words s l u =
+      whole_view see (λ k. k) (SingleValue T) (value_view T X see inner) names words s l u
 
 -- The list of a repeat, as the program keeps it.
 
 -- many
 pub many_view : (env : Variables) (T X : Type 0) (see : T → X) (inner : Outcome T)
-    (names : List Names) (s : FlatForm T) → FormLaw env inner names s → HasOneView see s
-    → HasOneView (λ values. map see values.items) (flat_many s)
-many_view env T X see inner names s l u =
+    (names : List Names) (words : List (List ℕ)) (s : ProgramForm T)
+    → FormLaw env inner names words s → HasOneView see s
+    → HasOneView (λ values. map see values.items)
+    (program_closed (list_closure T) (completed repeated (OwnList T) s))
+many_view env T X see inner names words s l u =
     closed_view (List T) (Vec T) (List X) (List X) (map see) (λ values. map see values.items)
     (list_closure T)
     (record {
       same = λ x y v w e f g. ap (map see) f
           ∙ (e ∙ sym (ap (map see) g));
       apart = λ x y v e f n. n;
-    }) (flat_repeat s) (repeat_view env T X see inner names s l u)
+    }) (completed repeated (OwnList T) s) (repeat_view env T X see inner names words s l u)
 
 -- Products.
 
 -- a field before others
 pub both_view : (A B X Y : Type 0) (see : A → X) (look : B → Y) (own others : List Names)
-    (s : FlatForm A) (t : FlatForm B) → HasOneView see s → HasOneView look t
-    → HasOneView (pair_view see look) (flat_both own others s t)
-both_view A B X Y see look own others (complete k q fv) (product named r rv) u n =
+    (s : ProgramForm A) (t : ProgramForm B) → HasOneView see s → HasOneView look t
+    → HasOneView (pair_view see look) (program_both own others s t)
+both_view A B X Y see look own others (complete wide k q fv) (product other named r rv) u n =
     if_view (A × B) (X × Y) (pair_view see look) _ (may_follow k own others)
     (λ os v w a b. let d = u _ v.0 w.0 a.0 b.0 in let e = n _ v.1 w.1 a.1 b.1 in
+    λ i. (d i, e i))
+both_view A B X Y see look own others (complete wide ByName q fv) (before_commands rv) u n =
+    if_view (A × B) (X × Y) (pair_view see look) _ (are_all_apart own others)
+    (λ cs v w a b. let d = u _ v.0 w.0 a.own b.own in let e = n _ v.1 w.1 a.left b.left in
     λ i. (d i, e i))
 both_view A B X Y see look own others _ _ u n = tt
 
 module _ (T X : Type 0) (see : T → X) where
   -- the last field
-  pub alone_view : (s : FlatForm T) → HasOneView see s → HasOneView see (flat_alone s)
-  alone_view (complete k q value) u = λ os v w a b. u _ v w a.read b.read
-  alone_view (product false q fields) u = u
+  pub alone_view : (s : ProgramForm T) → HasOneView see s → HasOneView see (program_alone s)
+  alone_view (complete wide k q value) u = λ os v w a b. u _ v w a.read b.read
+  alone_view (product wide false q fields) u = u
+  alone_view (commands optional value) u = u
+  alone_view (before_commands value) u = u
   alone_view _ u = tt
 
   -- a record
-  record_view : (env : Variables) (inner : Outcome T) (names : List Names) (s : FlatForm T)
-      → FormLaw env inner names s → HasOneView see s → HasOneView see (flat_record s)
-  record_view env inner names (product named q fields) l u = u
-  record_view env inner names s l u =
-      alone_view (flat_field s) (field_view env T X see inner names s l u)
+  record_view : (env : Variables) (inner : Outcome T) (names : List Names)
+      (words : List (List ℕ)) (s : ProgramForm T) → FormLaw env inner names words s
+      → HasOneView see s → HasOneView see (whole_program s)
+  record_view env inner names words (product wide named q fields) l u = u
+  record_view env inner names words s l u =
+      alone_view (program_field s) (field_view env T X see inner names words s l u)
 
   -- the values of a record
-  product_view : (s : FlatForm T) → HasOneView see s → (os : List LinePiece)
+  product_view : (s : ProgramForm T) → HasOneView see s → (os : List LinePiece)
       → Alike see ((product_reading s).value os)
-  product_view (product named q fields) u os v w a b = u os v w a b
+  product_view (product wide named q fields) u os v w a b = u os v w a b
   product_view _ u os v w a b = absurd a
 
   -- an exact answer looks like each value of the record
@@ -333,24 +368,34 @@ module _ (T X : Type 0) (see : T → X) where
   like_this inner r reading context l one Refusal v e h =
       e.complete h.cut_into h.cut (l.has_each h.cut_into v h.read)
 
+  -- all that is read off the same cells looks alike
+  reads_one : (env : Variables) (outcome : Outcome T) (names : List Names)
+      (words : List (List ℕ)) (s : ProgramForm T) → is_record s ≡ true
+      → FormLaw env outcome names words s → HasOneView see s → (cs : Cells)
+      → Alike see (ReadOff T (product_roles (whole_program s))
+      (product_reading (whole_program s)).value cs)
+  reads_one env outcome names words s h l u cs v w a b =
+      let f = record_law env T outcome names words s h l in
+      let c = one_cut (product_roles (whole_program s)) cs a.cut_into b.cut_into f.named a.cut b.cut
+      in product_view (whole_program s) (record_view env outcome names words s l u) b.cut_into v w
+      (subst (λ os. (product_reading (whole_program s)).value os v) c a.read) b.read
+
   -- All values of the same cells look alike.
   pub record_looks_one : (env : Variables) (outcome : Outcome T) (names : List Names)
-      (s : FlatForm T)
-      → is_record s ≡ true → FormLaw env outcome names s → HasOneView see s → (cs : Cells)
-      → Alike see (ReadOff T (product_roles (flat_record s)) (product_reading (flat_record s)).value
-      cs)
-  record_looks_one env outcome names s h l u cs v w a b =
-      let f = record_law env T outcome names s h l in
-      let c = one_cut (product_roles (flat_record s)) _ a.cut_into b.cut_into f.named a.cut b.cut in
-      product_view (flat_record s) (record_view env outcome names s l u) b.cut_into v w
-      (subst (λ os. (product_reading (flat_record s)).value os v) c a.read) b.read
+      (words : List (List ℕ)) (s : ProgramForm T) → is_record s ≡ true
+      → FormLaw env outcome names words s → HasOneView see s → (cs : Cells)
+      → Alike see (program_value s cs)
+  record_looks_one env outcome names words s h l u cs v w a b =
+      reads_one env outcome names words s h l u cs v w (record_value s h cs v a)
+      (record_value s h cs w b)
 
   -- Where the record has a value, each answer looks like it, or is want of memory; with the value
   -- itself for a view, it is that value.
-  pub runs_to_one : (outcome : Outcome T) (names : List Names) (s : FlatForm T) → is_record s ≡ true
-      → (context : Context) → FormLaw context.env outcome names s → HasOneView see s
+  pub runs_to_one : (outcome : Outcome T) (names : List Names) (words : List (List ℕ))
+      (s : ProgramForm T) → is_record s ≡ true → (context : Context)
+      → FormLaw context.env outcome names words s → HasOneView see s
       → RunsToOne see outcome s context
-  runs_to_one outcome names s h context l u a v ran r =
-      like_this outcome _ _ context (record_law context.env T outcome names s h l)
-      (record_looks_one context.env outcome names s h l u (line_cells context)) a v
-      (runs_exactly T outcome names s h context l a ran) r
+  runs_to_one outcome names words s h context l u a v ran r =
+      like_this outcome _ _ context (record_law context.env T outcome names words s h l)
+      (reads_one context.env outcome names words s h l u (line_cells context)) a v
+      (runs_exactly T outcome names words s h context l a ran) r

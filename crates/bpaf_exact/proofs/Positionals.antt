@@ -16,7 +16,7 @@ use Rattle.bpaf_exact.specs.Alternative.{TakesFirst, first_one, first_two, first
 use Rattle.bpaf_exact.specs.Leaves.{WordEval, WordValue, word_by, word_fault, word_memory}
 use Rattle.bpaf_exact.specs.Leaves.{word_missing}
 use Rattle.bpaf_exact.specs.{Flat.is_behind, Flat.Variables, Single.SingleLaw, Leaves.word_passed}
-use Rattle.bpaf_exact.specs.{Leaves.word_read, FlatForm.FormLaw}
+use Rattle.bpaf_exact.specs.{Leaves.word_read, ProgramForm.FormLaw}
 use Rattle.bpaf_exact.proofs.Fronts.{back_more, back_one, front_more, front_one, of_front_more}
 use Rattle.bpaf_exact.proofs.Matching.{match_of, ByTest, by_test, no_pieces, one_taken}
 use Rattle.bpaf_exact.proofs.{Fronts.of_front_one, Alternative.took_front, Places.take_steady}
@@ -176,7 +176,7 @@ stands_before accepts stops false on = refl
 -- a positional keeps to the laws of its form
 pub word_by_law : (env : Variables) (T : Type 0) (accepts : Bool → Bool)
     (means : List ℕ → T → Type 0)
-    → FormLaw env (WordEval T (not (accepts true)) (WordValue accepts means)) []
+    → FormLaw env (WordEval T (not (accepts true)) (WordValue accepts means)) [] []
     (word_by accepts means)
 word_by_law env T accepts means = (
   word_law T (not (accepts true)) (WordValue accepts means) clear,

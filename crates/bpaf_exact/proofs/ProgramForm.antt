@@ -1,174 +1,178 @@
 -- Each parser keeps to the laws of its form to a program, where its inner parsers do.
-use Rattle.std.proofs.Common.{◌≡◌, ℕ, Bool, true, false, not, ◌||◌, List, [], ◌∷◌, ◌++◌, Option}
+use Rattle.std.proofs.Common.{◌≡◌, ℕ, Bool, true, false, not, ◌&&◌, ◌||◌, List, [], ◌∷◌, ◌++◌, Option}
 use Rattle.std.proofs.Common.{Some, None, refl, sym, ap, ◌∙◌, subst, bytes_eq, ⊎_elim, true≢false}
-use Rattle.std.proofs.Common.{append_assoc, append-nil, inl, inr}
+use Rattle.std.proofs.Common.{append-nil, inl, inr}
 use Rattle.std.proofs.lemmas.Bool.{and_parts, or_cases, false_from_ne_true}
 use Rattle.std.proofs.lemmas.Slice.Eq.{bytes_eq-Decides}
-use Rattle.std.specs.{Prelude.flat_map, List.list_all, Option.option_map_or}
+use Rattle.std.specs.{List.list_all, Option.option_map_or}
 use Rattle.bpaf_doc.specs.Names.{Names}
 use Rattle.bpaf_base.specs.declared.arg.Arg.{Arg}
 use Rattle.bpaf_base.specs.Items.{command_word, is_command_word, is_text_among}
 use Rattle.bpaf_line.specs.Situation.{Context, beginning}
-use Rattle.bpaf_laws.specs.{Choice.ChoiceOutcome, Choices.ChoicesOutcome, Choices.Nested}
+use Rattle.bpaf_laws.specs.{Choice.ChoiceOutcome, Product.BothOutcome, Product.ProductOutcome}
 use Rattle.bpaf_laws.specs.{Command.Called, Command.is_one_of, Command.opening_words}
-use Rattle.bpaf_laws.specs.{Product.BothOutcome, Product.ProductOutcome, Reading.Outcome}
-use Rattle.bpaf_exact.specs.FlatForm.{FlatForm, FormLaw, not_flat, complete, is_record}
-use Rattle.bpaf_exact.specs.FlatForm.{product_roles, product_reading, flat_record, EachAgrees}
-use Rattle.bpaf_exact.specs.Record.{line_cells, RunAnswer, Accepted, RunRan, IsAcceptedOrWant}
-use Rattle.bpaf_exact.specs.ProgramForm.{ProgramForm, no_program, plain, commands, left_out}
-use Rattle.bpaf_exact.specs.ProgramForm.{before_commands, ProgramFormLaw, ProgramAgrees, program_if}
-use Rattle.bpaf_exact.specs.ProgramForm.{program_closed, program_optional, flat_only}
-use Rattle.bpaf_exact.specs.ProgramForm.{are_words_apart, program_choice, whole_program}
-use Rattle.bpaf_exact.specs.ProgramForm.{opened_form, program_command, program_field, program_alone}
-use Rattle.bpaf_exact.specs.ProgramForm.{program_both, program_con, is_program, program_roles}
-use Rattle.bpaf_exact.specs.ProgramForm.{program_value, program_rest, first_only, program_choices}
+use Rattle.bpaf_laws.specs.{Reading.Outcome, Repeat.LastOutcome}
+use Rattle.bpaf_exact.specs.Flat.{ErrorClass, Refused, FieldKind, ByName, OneWord, EachWord, Before}
+use Rattle.bpaf_exact.specs.Single.{RepeatOutcome, repeated, SingleValue, Groups, Gap, SingleLaw}
+use Rattle.bpaf_exact.specs.Single.{OwnList}
+use Rattle.bpaf_exact.specs.Wrappers.{Closure, Decides, map_closure, ClosedEval, OptionalEval}
+use Rattle.bpaf_exact.specs.Wrappers.{ClosedValue}
+use Rattle.bpaf_exact.specs.ProgramForm.{ProgramForm, no_program, alternative, single, complete}
+use Rattle.bpaf_exact.specs.ProgramForm.{product, commands, before_commands, NamedLaw, EndLaw}
+use Rattle.bpaf_exact.specs.ProgramForm.{FormLaw, Agrees, program_if, program_closed}
+use Rattle.bpaf_exact.specs.ProgramForm.{program_dressed, completed, program_optional}
+use Rattle.bpaf_exact.specs.ProgramForm.{are_words_apart, program_choice, choice_only}
+use Rattle.bpaf_exact.specs.ProgramForm.{program_field, may_follow, is_named, program_both}
+use Rattle.bpaf_exact.specs.ProgramForm.{program_alone, program_con, whole_program, program_value}
+use Rattle.bpaf_exact.specs.ProgramForm.{is_program, is_record, program_command, product_roles}
+use Rattle.bpaf_exact.specs.ProgramForm.{product_reading, whole_value}
 use Rattle.bpaf_exact.specs.Programs.{CellsValue, ProgramLaw, CommandEval, are_plain, WordsApart}
-use Rattle.bpaf_exact.specs.{ProgramForm.program_dressed, ProgramForm.flat_form}
-use Rattle.bpaf_exact.specs.{Programs.FindsNoCommand, Programs.IsSpelledLine, Programs.GivesAll}
-use Rattle.bpaf_exact.specs.{Pieces.Roles, Flat.Refused, Flat.ByName, Flat.cells, Flat.Variables}
-use Rattle.bpaf_exact.specs.{Names.Owns, Names.are_all_apart, Wrappers.Closure, Wrappers.ClosedEval}
-use Rattle.bpaf_exact.specs.{Wrappers.OptionalEval, Wrappers.map_closure}
+use Rattle.bpaf_exact.specs.Record.{line_cells, RunAnswer, Accepted, RunRan, IsAcceptedOrWant}
+use Rattle.bpaf_exact.specs.{Flat.FieldLaw, Flat.FieldsLaw, Flat.both_reading, Flat.keys}
+use Rattle.bpaf_exact.specs.{Flat.ReadOff, Pieces.Cells}
+use Rattle.bpaf_exact.specs.{Flat.Variables, Flat.cells, Wrappers.FallbackEval}
+use Rattle.bpaf_exact.specs.{Wrappers.OptionalValue, Wrappers.FallbackValue, Pieces.Roles}
+use Rattle.bpaf_exact.specs.{Pieces.no_roles, Pieces.either, Pieces.LinePiece, Names.Owns}
+use Rattle.bpaf_exact.specs.{Names.are_all_apart, Gathered.some_closure, Gathered.LastOf}
+use Rattle.bpaf_exact.specs.{Record.LastValue, Programs.FindsNoCommand, Programs.IsSpelledLine}
+use Rattle.bpaf_exact.specs.{Programs.GivesAll, Theorem.RunsExactly}
+use Rattle.bpaf_exact.proofs.Alternative.{alternative_single, closed_alternative, closed_single}
+use Rattle.bpaf_exact.proofs.Wrappers.{closed_law, single_law, optional_law, fallback_law}
+use Rattle.bpaf_exact.proofs.NamedProducts.{named_both_law, named_con_law, named_last_law}
 use Rattle.bpaf_exact.proofs.Commands.{closed_program, closed_commands, optional_commands}
 use Rattle.bpaf_exact.proofs.Commands.{choice_commands, program_sound, program_complete}
-use Rattle.bpaf_exact.proofs.FlatForm.{flat_closed_law, flat_optional_law, flat_choice_law}
-use Rattle.bpaf_exact.proofs.FlatForm.{flat_field_law, flat_alone_law, flat_both_law, flat_con_law}
-use Rattle.bpaf_exact.proofs.FlatForm.{flat_record_law, record_law, only_law, never_refuses}
-use Rattle.bpaf_exact.proofs.BeforeCommands.{before_law, con_program}
-use Rattle.bpaf_exact.proofs.Narrow.{AllowsNoMore, narrower_form, narrower_gives}
-use Rattle.bpaf_exact.proofs.Names.{apart_of_names, either_owns}
-use Rattle.bpaf_exact.proofs.Programs.{command_law, record_program}
+use Rattle.bpaf_exact.proofs.{Names.foreign_of, Names.apart_of_names, Names.either_owns}
+use Rattle.bpaf_exact.proofs.{Choice.choice_law, Repeat.repeat_law, Gathered.some_agrees_on}
+use Rattle.bpaf_exact.proofs.{Gathered.last_of_law, Product.both_law, Records.con_law}
+use Rattle.bpaf_exact.proofs.{Records.last_law, BeforeCommands.before_law}
+use Rattle.bpaf_exact.proofs.{BeforeCommands.con_program, Narrow.AllowsNoMore}
+use Rattle.bpaf_exact.proofs.{Narrow.narrower_gives, Narrow.narrower_field}
+use Rattle.bpaf_exact.proofs.{Narrow.narrower_fields, Narrow.narrower_alternative}
+use Rattle.bpaf_exact.proofs.{Narrow.narrower_single, Programs.command_law, Programs.record_program}
+use Rattle.bpaf_exact.proofs.{Exact.exact}
 
--- a flat record owns its keys
-pub record_owns : (env : Variables) (T : Type 0) (outcome : Outcome T) (names : List Names)
-    (s : FlatForm T) → is_record s ≡ true → FormLaw env outcome names (flat_record s)
-    → Owns (product_roles (flat_record s)) names
-record_owns env T outcome names not_flat h l = absurd cc
-record_owns env T outcome names _ h l = l.1
-
-module _ (env : Variables) (T : Type 0) (outcome : Outcome T) (names : List Names)
-    (words : List (List ℕ)) where
-  -- the law of a form
-  abbrev Law : ProgramForm T → Type 0
-  Law = ProgramFormLaw env outcome names words
-
-  -- where a test holds
-  program_if_law : (s : ProgramForm T) (b : Bool) → (b ≡ true → Law s) → Law (program_if b s)
-  program_if_law s true f = f refl
-  program_if_law s false f = tt
-
-  -- a whole program
-  whole_program_law : (s : ProgramForm T) → Law s → Law (whole_program s)
-  whole_program_law no_program l = tt
-  whole_program_law (plain wide s) l =
-      program_if_law _ (is_record s)
-      (λ h. (
-        record_program T outcome (product_roles (flat_record s)) (product_reading (flat_record s))
-            (record_law env T outcome names s h l),
-        record_owns env T outcome names s h (flat_record_law env T outcome names s l),
-      ))
-  whole_program_law (commands r value) l = (l.0.program, l.1)
-  whole_program_law _ l = l
-
-  -- another look
-  pub program_dressed_law : (s : ProgramForm T) → Law s → Law (program_dressed s)
-  program_dressed_law no_program l = tt
-  program_dressed_law (before_commands r value) l = tt
-  program_dressed_law _ l = l
-
-  -- a field of a product
-  pub program_field_law : (s : ProgramForm T) → Law s → Law (program_field s)
-  program_field_law (plain wide s) l = flat_field_law env T outcome names s l
-  program_field_law s l = l
-
-  -- the last field
-  pub program_alone_law : (s : ProgramForm T) → Law s
-      → ProgramFormLaw env outcome names [] (program_alone s)
-  program_alone_law no_program l = tt
-  program_alone_law (plain wide s) l = flat_alone_law env T outcome names s l
-  program_alone_law (commands r value) l = (l.0.program, l.1)
-  program_alone_law _ l = l
-
-  -- the first of a choice
-  first_only_law : (s : ProgramForm T) → Law s → Law (first_only s)
-  first_only_law (plain wide s) l = only_law env T outcome names s l
-  first_only_law (commands r value) l = l
-  first_only_law _ l = tt
-
-  -- a flat record's form keeps to its law
-  pub flat_form_law : (s : ProgramForm T) → Law s → FormLaw env outcome names (flat_form s)
-  flat_form_law (plain false s) l = l
-  flat_form_law _ l = tt
-
-  -- a program keeps to the laws of one
-  program_law : (s : ProgramForm T) → is_program s ≡ true → Law s
-      → ProgramLaw env T outcome (program_roles s) (program_value s)
-  program_law no_program h l = absurd cc
-  program_law (plain wide s) h l =
-      record_program T outcome (product_roles (flat_record s)) (product_reading (flat_record s))
-      (record_law env T outcome names s h l)
-  program_law (commands r value) h l = l.0.program
-  program_law _ h l = l.0
-
--- a command that opens a program
-opened_form_law : (env : Variables) (T : Type 0) (inner : Outcome T) (called : Called)
-    (names : List Names)
-    (words : List (List ℕ)) (s : ProgramForm T) → ProgramFormLaw env inner names words s
-    → ProgramFormLaw env (CommandEval T inner called) names (opening_words called)
-    (opened_form (opening_words called) s)
-opened_form_law env T inner called names words (before_commands r value) l =
-    program_if_law env T (CommandEval T inner called) names (opening_words called) _
-    (are_plain (opening_words called)) (λ h. (command_law T inner r value l.0 called h, l.1))
-opened_form_law env T inner called names words _ l = tt
-
--- a command
-pub program_command_law : (env : Variables) (T : Type 0) (inner : Outcome T) (apart : Bool)
-    (called : Called) (names : List Names) (words : List (List ℕ)) (s : ProgramForm T)
-    → ProgramFormLaw env inner names words s
-    → ProgramFormLaw env (CommandEval T inner called) names (opening_words called)
-    (program_command false apart called s)
-program_command_law env T inner apart called names words s l =
-    program_if_law env T (CommandEval T inner called) names (opening_words called) _ apart
-    (λ h. opened_form_law env T inner called names words (whole_program s)
-    (whole_program_law env T inner names words s l))
-
--- a combinator that takes flat fields alone
-pub flat_only_law : (env : Variables) {A B : Type 0} (inner : Outcome A) (outcome : Outcome B)
-    (names : List Names) (words more : List (List ℕ)) (g : FlatForm A → FlatForm B)
-    → ((s : FlatForm A) → FormLaw env inner names s → FormLaw env outcome names (g s))
-    → (s : ProgramForm A) → ProgramFormLaw env inner names words s
-    → ProgramFormLaw env outcome names more (flat_only g s)
-flat_only_law env inner outcome names words more g law (plain wide s) l = law s l
-flat_only_law env inner outcome names words more g law _ l = tt
+-- where a test holds
+if_law : (env : Variables) (T : Type 0) (outcome : Outcome T) (names : List Names)
+    (words : List (List ℕ)) (s : ProgramForm T) (b : Bool)
+    → (b ≡ true → FormLaw env outcome names words s)
+    → FormLaw env outcome names words (program_if b s)
+if_law env T outcome names words s true f = f refl
+if_law env T outcome names words s false f = tt
 
 -- a closure
 pub program_closed_law : (env : Variables) (A B : Type 0) (inner : Outcome A) (f : Closure A B)
-    (names : List Names) (words : List (List ℕ)) (s : ProgramForm A) → ProgramAgrees f s
-    → ProgramFormLaw env inner names words s
-    → ProgramFormLaw env (ClosedEval A B inner f Refused) names words (program_closed f s)
-program_closed_law env A B inner f names words (plain wide s) g l =
-    flat_closed_law env A B inner f names s g l
-program_closed_law env A B inner f names words (commands r value) g l =
-    (closed_commands A B inner r value f g Refused words l.0, l.1)
-program_closed_law env A B inner f names words (left_out r value) g l =
-    (closed_program A B inner r value f g Refused l.0, l.1)
+    (names : List Names) (words : List (List ℕ)) (s : ProgramForm A) → Agrees f s
+    → FormLaw env inner names words s
+    → FormLaw env (ClosedEval A B inner f Refused) names words (program_closed f s)
+program_closed_law env A B inner f names words (alternative wide q value) g l =
+    (closed_alternative A B inner q value l.0 f g, l.1)
+program_closed_law env A B inner f names words (single wide k q group gap) g l =
+    (closed_single A B inner k q group gap l.0 f g.0 g.1, l.1)
+program_closed_law env A B inner f names words (complete wide k q value) g l =
+    (closed_law A B inner k q value l.0 f g Refused, l.1)
+program_closed_law env A B inner f names words (commands false value) g l = record {
+  roles = l.roles;
+  commands = closed_commands A B inner l.roles value f g Refused words l.commands;
+  owns = l.owns;
+}
+program_closed_law env A B inner f names words (commands true value) g l = record {
+  roles = l.roles;
+  program = closed_program A B inner l.roles value f g Refused l.program;
+  owns = l.owns;
+}
 program_closed_law env A B inner f names words _ g l = tt
 
--- one that never refuses has no premise
-pub program_never_refuses : (A B : Type 0) (f : Closure A B) → ((x : A) → ¬ (f.no x))
-    → (s : ProgramForm A) → ProgramAgrees f s
-program_never_refuses A B f n (plain wide s) = never_refuses A B f n s
-program_never_refuses A B f n (commands r value) = λ cs x y v a b yes no. n y no
-program_never_refuses A B f n (left_out r value) = λ cs x y v a b yes no. n y no
-program_never_refuses A B f n _ = tt
+-- A closure that never refuses agrees with every form: map, count, collect, a constructor.
+pub never_refuses : (A B : Type 0) (f : Closure A B) → ((x : A) → f.no x → ⊥)
+    → (s : ProgramForm A) → Agrees f s
+never_refuses A B f n (alternative wide q value) = λ o x y v a b g h. n y h
+never_refuses A B f n (single wide k q group gap) =
+    (λ os rest x y v a b g h. n y h, λ x y v a b g h. n y h)
+never_refuses A B f n (complete wide k q value) = λ os x y v a b g h. n y h
+never_refuses A B f n (product wide named q fields) = λ os x y v a b g h. n y h
+never_refuses A B f n (commands optional value) = λ cs x y v a b g h. n y h
+never_refuses A B f n _ = tt
+
+-- a repeat has the keys of the field
+repeated_keys : (k : FieldKind) (q : Roles) (names : List Names) → Owns (keys k q) names
+    → Owns (keys (repeated k) q) names
+repeated_keys ByName q names o = o
+repeated_keys _ q names o = o
+
+-- a repeat or default round a field
+pub completed_law : (env : Variables) {T B : Type 0} (inner : Outcome T) (outer : Outcome B)
+    (kind : FieldKind → FieldKind) (value : Groups T → Gap T → List LinePiece → B → Type 0)
+    (names : List Names)
+    → ((k : FieldKind) (q : Roles) → Owns (keys k q) names → Owns (keys (kind k) q) names)
+    → ((k : FieldKind) (q : Roles) (group : Groups T) (gap : Gap T)
+    → SingleLaw env T inner k q group gap → FieldLaw env B outer (kind k) q (value group gap))
+    → (words more : List (List ℕ)) (s : ProgramForm T) → FormLaw env inner names words s
+    → FormLaw env outer names more (completed kind value s)
+completed_law env {T} inner outer kind value names owns law words more (alternative wide q each)
+    l = (law ByName q _ _ (alternative_single T inner q each l.0), owns ByName q l.1)
+completed_law env inner outer kind value names owns law words more (single wide k q group gap) l =
+    (law k q group gap l.0, owns k q l.1)
+completed_law env inner outer kind value names owns law words more _ l = tt
+
+-- what some, collect and count make of the list; a refusal of theirs may be of any class
+pub listed_law : (env : Variables) (T B : Type 0) (inner : Outcome T) (idle : Bool)
+    (f : Closure (List T) B) (c : ErrorClass) (names : List Names) (words : List (List ℕ))
+    (s : ProgramForm T) → Agrees f (completed repeated (OwnList T) s)
+    → FormLaw env inner names words s
+    → FormLaw env (ClosedEval (List T) B (RepeatOutcome inner idle) f c) names []
+    (program_closed f (completed repeated (OwnList T) s))
+listed_law env T B inner idle f c names words (alternative wide q value) g l = (
+  closed_law (List T) B _ ByName q _
+      (repeat_law T inner ByName q _ _ (alternative_single T inner q value l.0) idle) f g c,
+  l.1,
+)
+listed_law env T B inner idle f c names words (single wide k q group gap) g l = (
+  closed_law (List T) B _ (repeated k) q _ (repeat_law T inner k q group gap l.0 idle) f g c,
+  repeated_keys k q names l.1,
+)
+listed_law env T B inner idle f c names words _ g l = tt
+
+-- some needs no premise: of the lists that the same pieces give, all are empty or none is
+pub some_agrees : (env : Variables) (T : Type 0) (inner : Outcome T) (names : List Names)
+    (words : List (List ℕ)) (s : ProgramForm T) → FormLaw env inner names words s
+    → Agrees (some_closure T) (completed repeated (OwnList T) s)
+some_agrees env T inner names words (alternative wide q value) l =
+    some_agrees_on T inner ByName q _ _ (alternative_single T inner q value l.0)
+some_agrees env T inner names words (single wide k q group gap) l =
+    some_agrees_on T inner k q group gap l.0
+some_agrees env T inner names words _ l = tt
+
+module _ (env : Variables) (T : Type 0) (inner : Outcome T) (names : List Names)
+    (words : List (List ℕ)) (s : ProgramForm T) (l : FormLaw env inner names words s) where
+  -- the last value
+  pub program_last_law : FormLaw env (LastOutcome inner) names []
+      (completed repeated (LastOf T) s)
+  program_last_law =
+      completed_law env inner (LastOutcome inner) repeated (LastOf T) names
+      (λ k q. repeated_keys k q names) (last_of_law T inner) words [] s l
+
+  -- what has a value that stands for it
+  pub program_fallback_law : (f : Closure (Unit {0}) T) → Decides f
+      → FormLaw env (FallbackEval T inner f) names []
+      (completed (λ k. k) (λ group gap. FallbackValue T group gap f) s)
+  program_fallback_law f decides =
+      completed_law env inner (FallbackEval T inner f) (λ k. k)
+      (λ group gap. FallbackValue T group gap f) names (λ k q o. o)
+      (λ k q group gap l. fallback_law T inner k q group gap l f decides) words [] s l
 
 -- what may be left out
 pub program_optional_law : (env : Variables) (T : Type 0) (inner : Outcome T) (names : List Names)
-    (words : List (List ℕ)) (s : ProgramForm T) → ProgramFormLaw env inner names words s
-    → ProgramFormLaw env (OptionalEval T inner) names [] (program_optional false s)
-program_optional_law env T inner names words (plain wide s) l =
-    flat_optional_law env T inner names s l
-program_optional_law env T inner names words (commands r value) l =
-    (optional_commands T inner r words value l.0, l.1)
+    (words : List (List ℕ)) (s : ProgramForm T) → FormLaw env inner names words s
+    → FormLaw env (OptionalEval T inner) names [] (program_optional s)
+program_optional_law env T inner names words (commands false value) l = record {
+  roles = l.roles;
+  program = optional_commands T inner l.roles words value l.commands;
+  owns = l.owns;
+}
+program_optional_law env T inner names words (alternative wide q value) l =
+    (optional_law T inner ByName q _ _ (alternative_single T inner q value l.0), l.1)
+program_optional_law env T inner names words (single wide k q group gap) l =
+    (optional_law T inner k q group gap l.0, l.1)
 program_optional_law env T inner names words _ l = tt
 
 -- a word that an item is, is one of the words of which it is one
@@ -230,62 +234,231 @@ words_apart words others apart k h = false_from_ne_true (is_one_of others k)
 
 -- a choice of two
 pub program_choice_law : (env : Variables) (T : Type 0) (a b : Outcome T) (own others : List Names)
-    (words more : List (List ℕ)) (s t : ProgramForm T) → ProgramFormLaw env a own words s
-    → ProgramFormLaw env b others more t
-    → ProgramFormLaw env (ChoiceOutcome a b) (own ++ others) (words ++ more)
+    (words more : List (List ℕ)) (s t : ProgramForm T) → FormLaw env a own words s
+    → FormLaw env b others more t
+    → FormLaw env (ChoiceOutcome a b) (own ++ others) (words ++ more)
     (program_choice own others words more s t)
-program_choice_law env T a b own others words more (plain wide s) (plain other t) la lb =
-    flat_choice_law env T a b own others s t la lb
-program_choice_law env T a b own others words more (commands q va) (commands r vb) la lb =
-    program_if_law env T (ChoiceOutcome a b) (own ++ others) (words ++ more) _
-    (are_words_apart words more)
+program_choice_law env T a b own others words more (alternative wide q x) (alternative other r y)
+    la lb =
+    if_law env T (ChoiceOutcome a b) (own ++ others) (words ++ more) _ (are_all_apart own others)
     (λ h. (
-      choice_commands T a b q r words more va vb la.0 lb.0 (words_apart words more h),
+      choice_law T a b q r x y la.0 lb.0 (apart_of_names q r own others la.1 lb.1 h),
       either_owns q r own others la.1 lb.1,
     ))
+program_choice_law env T a b own others words more (commands false x) (commands false y) la lb =
+    if_law env T (ChoiceOutcome a b) (own ++ others) (words ++ more) _
+    (are_words_apart words more)
+    (λ h. record {
+      roles = either la.roles lb.roles;
+      commands = choice_commands T a b la.roles lb.roles words more x y la.commands lb.commands
+          (words_apart words more h);
+      owns = either_owns la.roles lb.roles own others la.owns lb.owns;
+    })
 program_choice_law env T a b own others words more _ _ la lb = tt
+
+-- no item without a key
+pub no_names : Owns no_roles []
+no_names = record { own = λ k e. absurd cc }
+
+module _ (env : Variables) (T : Type 0) (outcome : Outcome T) (names : List Names)
+    (words : List (List ℕ)) where
+  -- the law of a form
+  abbrev Law : ProgramForm T → Type 0
+  Law = FormLaw env outcome names words
+
+  -- another look
+  pub program_dressed_law : (s : ProgramForm T) → Law s → Law (program_dressed s)
+  program_dressed_law (before_commands value) l = tt
+  program_dressed_law (product wide named q fields) l = l
+  program_dressed_law s l = l
+
+  -- one parser of a choice
+  pub choice_only_law : (s : ProgramForm T) → Law s → Law (choice_only s)
+  choice_only_law (alternative wide q value) l = l
+  choice_only_law (commands false value) l = l
+  choice_only_law _ l = tt
+
+  -- a field of a product, which may be a product of named fields
+  pub program_field_law : (s : ProgramForm T) → Law s → Law (program_field s)
+  program_field_law (product wide true q fields) l = (l.2, l.1)
+  program_field_law (product wide false q fields) l = l
+  program_field_law (alternative wide q value) l =
+      (single_law T outcome ByName q _ _ (alternative_single T outcome q value l.0), l.1)
+  program_field_law (single wide k q group gap) l = (single_law T outcome k q group gap l.0, l.1)
+  program_field_law no_program l = tt
+  program_field_law s l = l
+
+  -- the last field, or one alone
+  pub program_alone_law : (s : ProgramForm T) → Law s
+      → FormLaw env outcome names [] (program_alone s)
+  program_alone_law (complete wide k q value) l = (
+    last_law T outcome k q value l.0,
+    subst (Owns (either (keys k q) no_roles)) (append-nil names)
+        (either_owns (keys k q) no_roles names [] l.1 no_names),
+    by_name k l.0,
+  )
+    where
+      by_name : (j : FieldKind) → FieldLaw env T outcome j q value
+          → NamedLaw env (is_named j) outcome (either (keys j q) no_roles) (LastValue T j q value)
+      by_name ByName l = named_last_law T outcome q value l
+      by_name (OneWord z) l = tt
+      by_name (EachWord z) l = tt
+  program_alone_law (product wide false q fields) l = l
+  program_alone_law (commands false value) l =
+      record { roles = l.roles; program = l.commands.program; owns = l.owns }
+  program_alone_law (commands true value) l = l
+  program_alone_law (before_commands value) l = l
+  program_alone_law _ l = tt
+
+  -- a whole program
+  pub whole_law : (s : ProgramForm T) → Law s → FormLaw env outcome names [] (whole_program s)
+  whole_law (product wide named q fields) l = l
+  whole_law s l = program_alone_law (program_field s) (program_field_law s l)
+
+  -- a flat record keeps to the laws of a list of fields,
+  pub record_law : (s : ProgramForm T) → is_record s ≡ true → Law s
+      → FieldsLaw env T outcome (product_roles (whole_program s)) (product_reading (whole_program s))
+  record_law (alternative wide q value) h l = (whole_law (alternative wide q value) l).0
+  record_law (single wide k q group gap) h l = (whole_law (single wide k q group gap) l).0
+  record_law (complete wide k q value) h l = (whole_law (complete wide k q value) l).0
+  record_law (product wide named q fields) h l = l.0
+  record_law no_program h l = absurd cc
+  record_law (commands optional value) h l = absurd cc
+  record_law (before_commands value) h l = absurd cc
+
+  -- a product of fields, or what ends in commands, keeps to those of a program,
+  end_law : (s : ProgramForm T) → is_program (program_alone s) ≡ true
+      → FormLaw env outcome names [] (program_alone s)
+      → EndLaw env T outcome names (whole_value (program_alone s))
+  end_law (complete wide k q value) h l =
+      record { roles = _; program = record_program T outcome _ _ l.0; owns = l.1 }
+  end_law (product wide false q fields) h l =
+      record { roles = _; program = record_program T outcome _ _ l.0; owns = l.1 }
+  end_law (commands optional value) h l = l
+  end_law (before_commands value) h l = l
+  end_law _ h l = absurd cc
+
+  -- and so does each program
+  pub program_law : (s : ProgramForm T) → is_program s ≡ true → Law s
+      → EndLaw env T outcome names (program_value s)
+  program_law (product wide named q fields) h l =
+      record { roles = q; program = record_program T outcome q fields l.0; owns = l.1 }
+  program_law no_program h l = absurd cc
+  program_law s h l = end_law (program_field s) refl (whole_law s l)
+
+-- the values of a flat record are read off the pieces of its line
+pub record_value : {T : Type 0} (s : ProgramForm T) → is_record s ≡ true → (cs : Cells) (v : T)
+    → program_value s cs v
+    → ReadOff T (product_roles (whole_program s)) (product_reading (whole_program s)).value cs v
+record_value (alternative wide q value) h cs v read = read
+record_value (single wide k q group gap) h cs v read = read
+record_value (complete wide k q value) h cs v read = read
+record_value (product wide named q fields) h cs v read = read
+record_value _ h cs v read = absurd cc
+
+-- a command
+pub program_command_law : (env : Variables) (T : Type 0) (inner : Outcome T) (apart : Bool)
+    (called : Called) (names : List Names) (words : List (List ℕ)) (s : ProgramForm T)
+    → FormLaw env inner names words s
+    → FormLaw env (CommandEval T inner called) names (opening_words called)
+    (program_command false apart called s)
+program_command_law env T inner apart called names words s l =
+    if_law env T (CommandEval T inner called) names (opening_words called) _
+    ((apart && are_plain (opening_words called)) && is_program s)
+    (λ h. let tests = and_parts (apart && are_plain (opening_words called)) (is_program s) h in
+    let plain = (and_parts apart (are_plain (opening_words called)) tests.0).1 in
+    let law = program_law env T inner names words s tests.1 l in record {
+      roles = law.roles;
+      commands = command_law T inner law.roles (program_value s) law.program called plain;
+      owns = law.owns;
+    })
+
+-- no is no yes
+nobody : false ≡ true → ⊥
+nobody e = cc
+
+-- fields that may follow keep apart
+follows : (k : FieldKind) (q r : Roles) (own others : List Names) → Owns (keys k q) own
+    → Owns r others → may_follow k own others ≡ true → Before k q r
+follows ByName q r own others a b h = apart_of_names q r own others a b h
+follows (OneWord z) q r own (names ∷ others) a b h = absurd cc
+follows (EachWord z) q r own (names ∷ others) a b h = absurd cc
+follows _ q r own [] a b h = λ i. foreign_of (r i) (false_from_ne_true _ (λ e. nobody (b.own i e)))
 
 -- a field before others
 pub program_both_law : (env : Variables) (A B : Type 0) (first : Outcome A) (rest : Outcome B)
     (own others : List Names) (words : List (List ℕ)) (s : ProgramForm A) (t : ProgramForm B)
-    → ProgramFormLaw env first own words s → ProgramFormLaw env rest others [] t
-    → ProgramFormLaw env (BothOutcome first rest) (own ++ others) [] (program_both own others s t)
-program_both_law env A B first rest own others words (plain wide s) (plain other t) la lb =
-    flat_both_law env A B first rest own others s t la lb
-program_both_law env A B first rest own others words (plain wide (complete ByName q fv))
-    (before_commands r rv) la lb =
-    program_if_law env (A × B) (BothOutcome first rest) (own ++ others) [] _
-    (are_all_apart own others)
+    → FormLaw env first own words s → FormLaw env rest others [] t
+    → FormLaw env (BothOutcome first rest) (own ++ others) [] (program_both own others s t)
+program_both_law env A B first rest own others words (complete wide k q fv)
+    (product other named r fields) la lb =
+    if_law env (A × B) (BothOutcome first rest) (own ++ others) [] _ (may_follow k own others)
     (λ h. (
-      before_law A B first rest q r fv rv la.0 lb.0 (apart_of_names q r own others la.1 lb.1 h),
-      either_owns q r own others la.1 lb.1,
+      both_law A B first rest k q r fv fields la.0 lb.0 (follows k q r own others la.1 lb.1 h),
+      either_owns (keys k q) r own others la.1 lb.1,
+      by_names k named la.0 lb.2 (follows k q r own others la.1 lb.1 h),
     ))
+  where
+    by_names : (j : FieldKind) (all : Bool) → FieldLaw env A first j q fv
+        → NamedLaw env all rest r fields.value → Before j q r
+        → NamedLaw env (is_named j && all) (BothOutcome first rest) (either (keys j q) r)
+        (both_reading j q fv fields).value
+    by_names ByName true l m apart = named_both_law A B first rest q r fv fields l m apart
+    by_names ByName false l m apart = tt
+    by_names (OneWord z) all l m apart = tt
+    by_names (EachWord z) all l m apart = tt
+program_both_law env A B first rest own others words (complete wide ByName q fv)
+    (before_commands rv) la lb =
+    if_law env (A × B) (BothOutcome first rest) (own ++ others) [] _ (are_all_apart own others)
+    (λ h. record {
+      roles = either q lb.roles;
+      program = before_law A B first rest q lb.roles fv rv la.0 lb.program
+          (apart_of_names q lb.roles own others la.1 lb.owns h);
+      owns = either_owns q lb.roles own others la.1 lb.owns;
+    })
 program_both_law env A B first rest own others words _ _ la lb = tt
 
 -- the constructor of a product
 pub program_con_law : (env : Variables) (A B : Type 0) (inner : Outcome A) (makes : A → B → Type 0)
-    (names : List Names) (s : ProgramForm A) → ProgramFormLaw env inner names [] s
-    → ProgramFormLaw env (ProductOutcome inner makes) names [] (program_con (map_closure makes) s)
-program_con_law env A B inner makes names (plain wide s) l =
-    flat_con_law env A B inner makes names s l
-program_con_law env A B inner makes names (before_commands r value) l =
-    (con_program A B inner makes r value l.0, l.1)
+    (names : List Names) (s : ProgramForm A) → FormLaw env inner names [] s
+    → FormLaw env (ProductOutcome inner makes) names [] (program_con (map_closure makes) s)
+program_con_law env A B inner makes names (product wide named q fields) l =
+    (con_law A B inner makes q fields l.0, l.1, by_name named l.2)
+  where
+    by_name : (all : Bool) → NamedLaw env all inner q fields.value
+        → NamedLaw env all (ProductOutcome inner makes) q
+        (ClosedValue fields.value (map_closure makes))
+    by_name true l = named_con_law A B inner makes q fields.value l
+    by_name false l = tt
+program_con_law env A B inner makes names (before_commands value) l = record {
+  roles = l.roles;
+  program = con_program A B inner makes l.roles value l.program;
+  owns = l.owns;
+}
 program_con_law env A B inner makes names _ l = tt
 
 -- THE THEOREM: on every line, spelled by words, an answer of a run of a program is a value only
 -- where that is one of the program's; and where it has a value, it is one, or want of memory.
 pub runs_as_program : (V : Type 0) (outcome : Outcome V) (names : List Names)
     (words : List (List ℕ)) (s : ProgramForm V) → is_program s ≡ true → (context : Context)
-    → ProgramFormLaw context.env outcome names words s → IsSpelledLine context
+    → FormLaw context.env outcome names words s → IsSpelledLine context
     → (a : RunAnswer V) → RunRan V outcome (beginning context) a
     → ((v : V) → a ≡ Accepted v → program_value s (line_cells context) v)
     × ((u : V) → program_value s (line_cells context) u
     → IsAcceptedOrWant (program_value s (line_cells context)) a)
 runs_as_program V outcome names words s h context l spelled a ran =
     let law = program_law context.env V outcome names words s h l in (
-      program_sound V outcome (program_roles s) (program_value s) context law spelled a ran,
-      program_complete V outcome (program_roles s) (program_value s) context law a ran,
+      program_sound V outcome law.roles (program_value s) context law.program spelled a ran,
+      program_complete V outcome law.roles (program_value s) context law.program a ran,
     )
+
+-- each answer of a run of a flat record is exact
+pub runs_exactly : (V : Type 0) (outcome : Outcome V) (names : List Names)
+    (words : List (List ℕ)) (s : ProgramForm V) → is_record s ≡ true → (context : Context)
+    → FormLaw context.env outcome names words s → RunsExactly outcome s context
+runs_exactly V outcome names words s h context l a r =
+    exact V outcome (product_roles (whole_program s)) (product_reading (whole_program s)) context
+    (record_law context.env V outcome names words s h l) a r
 
 -- an outcome that allows no more keeps to the same laws
 narrower_program : {env : Variables} (V : Type 0) (a b : Outcome V) → AllowsNoMore V a b
@@ -299,65 +472,40 @@ narrower_program {env} V a b n r value l = record {
 }
 
 -- so it does with any form
-pub narrower_program_form : (env : Variables) (T : Type 0) (a b : Outcome T) → AllowsNoMore T a b
+pub narrower_form : (env : Variables) (T : Type 0) (a b : Outcome T) → AllowsNoMore T a b
     → (names : List Names) (words : List (List ℕ)) (s : ProgramForm T)
-    → ProgramFormLaw env a names words s → ProgramFormLaw env b names words s
-narrower_program_form env T a b n names words no_program l = tt
-narrower_program_form env T a b n names words (plain wide s) l = narrower_form env T a b n names s l
-narrower_program_form env T a b n names words (commands r value) l = (
-  record {
-    program = narrower_program T a b n r value l.0.program;
-    opened = l.0.opened;
+    → FormLaw env a names words s → FormLaw env b names words s
+narrower_form env T a b n names words no_program l = tt
+narrower_form env T a b n names words (alternative wide q value) l =
+    (narrower_alternative env T a b n q value l.0, l.1)
+narrower_form env T a b n names words (single wide k q group gap) l =
+    (narrower_single env T a b n k q group gap l.0, l.1)
+narrower_form env T a b n names words (complete wide k q value) l =
+    (narrower_field env T a b n k q value l.0, l.1)
+narrower_form env T a b n names words (product wide named q fields) l =
+    (narrower_fields env T a b n q fields l.0, l.1, by_name named l.2)
+  where
+    by_name : (all : Bool) → NamedLaw env all a q fields.value → NamedLaw env all b q fields.value
+    by_name true l = narrower_field env T a b n ByName q fields.value l
+    by_name false l = tt
+narrower_form env T a b n names words (commands false value) l = record {
+  roles = l.roles;
+  commands = record {
+    program = narrower_program T a b n l.roles value l.commands.program;
+    opened = l.commands.opened;
     none = λ s t x w o c. narrower_gives env T a b n (λ y u. FindsNoCommand s y u)
         (λ d e u same. ⊎_elim (λ m. inl (sym same ∙ m)) (λ m. inr (sym same ∙ m.0, m.1, m.2))) s
-        (λ y u g. l.0.none s u y w g c) x t o;
-  },
-  l.1,
-)
-narrower_program_form env T a b n names words (left_out r value) l =
-    (narrower_program T a b n r value l.0, l.1)
-narrower_program_form env T a b n names words (before_commands r value) l =
-    (narrower_program T a b n r value l.0, l.1)
-
--- what all parsers of a list have, behind what stands before
-abbrev all_behind : {P X : Type 0} → (P → List X) → List X → List P → List X
-all_behind each before [] = before
-all_behind each before (p ∷ ps) = all_behind each (before ++ each p) ps
-
--- these are those of all
-behind_is_all : {P X : Type 0} (each : P → List X) (before : List X) (ps : List P)
-    → all_behind each before ps ≡ before ++ flat_map each ps
-behind_is_all each before [] = sym (append-nil before)
-behind_is_all each before (p ∷ ps) =
-    behind_is_all each (before ++ each p) ps ∙ append_assoc before (each p) (flat_map each ps)
-
-module _ (env : Variables) (P T : Type 0) (outcome : P → Outcome T) (keys : P → List Names)
-    (words : P → List (List ℕ)) (form : P → ProgramForm T) (agrees : P → Type 0)
-    (law : (p : P) → agrees p → ProgramFormLaw env (outcome p) (keys p) (words p) (form p)) where
-  -- a choice of what stands before and of parsers
-  program_rest_law : (ps : List P) → EachAgrees agrees ps → (first : Outcome T)
-      (own : List Names) (said : List (List ℕ)) (s : ProgramForm T)
-      → ProgramFormLaw env first own said s
-      → ProgramFormLaw env (Nested ChoiceOutcome outcome first ps) (all_behind keys own ps)
-      (all_behind words said ps) (program_rest keys words form own said s ps)
-  program_rest_law [] each first own said s l = l
-  program_rest_law (p ∷ ps) each first own said s l =
-      program_rest_law ps each.1 (ChoiceOutcome first (outcome p)) (own ++ keys p)
-      (said ++ words p) (program_choice own (keys p) said (words p) s (form p))
-      (program_choice_law env T first (outcome p) own (keys p) said (words p) s (form p) l
-      (law p each.0))
-
-  -- a choice of any number of parsers
-  pub program_choices_law : (ps : List P) → EachAgrees agrees ps
-      → ProgramFormLaw env (ChoicesOutcome outcome ps) (flat_map keys ps) (flat_map words ps)
-      (program_choices keys words form ps)
-  program_choices_law [] each = tt
-  program_choices_law (p ∷ ps) each =
-      subst (λ names. ProgramFormLaw env (ChoicesOutcome outcome (p ∷ ps)) names
-      (flat_map words (p ∷ ps)) (program_choices keys words form (p ∷ ps)))
-      (behind_is_all keys (keys p) ps)
-      (subst (λ said. ProgramFormLaw env (ChoicesOutcome outcome (p ∷ ps))
-      (all_behind keys (keys p) ps) said (program_choices keys words form (p ∷ ps)))
-      (behind_is_all words (words p) ps)
-      (program_rest_law ps each.1 (outcome p) (keys p) (words p) (first_only (form p))
-      (first_only_law env T (outcome p) (keys p) (words p) (form p) (law p each.0))))
+        (λ y u g. l.commands.none s u y w g c) x t o;
+  };
+  owns = l.owns;
+}
+narrower_form env T a b n names words (commands true value) l = record {
+  roles = l.roles;
+  program = narrower_program T a b n l.roles value l.program;
+  owns = l.owns;
+}
+narrower_form env T a b n names words (before_commands value) l = record {
+  roles = l.roles;
+  program = narrower_program T a b n l.roles value l.program;
+  owns = l.owns;
+}

@@ -5,9 +5,9 @@ use Rattle.bpaf_laws.specs.{Default.GivesClone, Pure.PureOutcome}
 use Rattle.bpaf_doc.specs.Names.{Names}
 use Rattle.bpaf_exact.specs.Flat.{ByName, FieldTook, IsWholeIn, OfMemory, cells, class, Variables}
 use Rattle.bpaf_exact.specs.{Pieces.LinePiece, Pieces.TakesPieces, Pieces.no_roles}
-use Rattle.bpaf_exact.specs.{Pieces.takes_none, FlatForm.FormLaw, Leaves.pure_field, Says.Says}
+use Rattle.bpaf_exact.specs.{Pieces.takes_none, ProgramForm.FormLaw, Leaves.pure_field, Says.Says}
 use Rattle.bpaf_exact.specs.{Says.of_kind}
-use Rattle.bpaf_exact.proofs.{Classes.memory_class, FlatForm.no_names, Records.current_cells}
+use Rattle.bpaf_exact.proofs.{Classes.memory_class, ProgramForm.no_names, Records.current_cells}
 use Rattle.bpaf_exact.proofs.{NamedProducts.none_of_nobody}
 
 module _ (T : Type 0) (clones : T → T → Type 0) (kept : T) where
@@ -40,7 +40,7 @@ module _ (T : Type 0) (clones : T → T → Type 0) (kept : T) where
 
   -- the laws
   pub pure_field_law : {env : Variables}
-      → FormLaw env (PureOutcome (GivesClone clones kept)) [] (pure_field (clones kept))
+      → FormLaw env (PureOutcome (GivesClone clones kept)) [] [] (pure_field (clones kept))
   pure_field_law = (
     record {
       own = record { only_keys = λ k h. refl };

@@ -1,6 +1,6 @@
 -- The value of each flat field says of its pieces what its parser says.
 use Rattle.std.proofs.Common.{◌≡◌, ℕ, Bool, true, false, List, [], ◌∷◌, ◌++◌, Option, Some, None}
-use Rattle.std.proofs.Common.{◌&&◌, not, refl, sym, ap, ◌∙◌, subst, append-nil}
+use Rattle.std.proofs.Common.{◌&&◌, ◌||◌, not, refl, sym, ap, ◌∙◌, subst, append-nil}
 use Rattle.bpaf_doc.specs.Names.{Names}
 use Rattle.bpaf_text.specs.Named.{Named as Key, KeyWithValue}
 use Rattle.bpaf_laws.specs.Reading.{Outcome}
@@ -14,12 +14,12 @@ use Rattle.bpaf_exact.specs.Leaves.{argument_gap, argument_group, argument_roles
 use Rattle.bpaf_laws.specs.Environment.{first_set}
 use Rattle.bpaf_laws.specs.Repeat.{is_nil}
 use Rattle.std.specs.Option.{is_none}
-use Rattle.bpaf_exact.specs.FlatForm.{FlatForm, FormLaw, not_flat, alternative, single, complete}
-use Rattle.bpaf_exact.specs.FlatForm.{product, only_if, flat_closed, flat_choice, alternative_only}
-use Rattle.bpaf_exact.specs.FlatForm.{flat_repeat, flat_last, flat_optional, flat_fallback}
-use Rattle.bpaf_exact.specs.FlatForm.{only_if}
-use Rattle.bpaf_exact.specs.FlatForm.{flat_field, is_named, may_follow, product_roles, flat_both}
-use Rattle.bpaf_exact.specs.FlatForm.{flat_alone, flat_con, flat_record, product_reading}
+use Rattle.bpaf_exact.specs.ProgramForm.{ProgramForm, FormLaw, no_program, alternative, single}
+use Rattle.bpaf_exact.specs.ProgramForm.{complete, product, commands, before_commands, program_if}
+use Rattle.bpaf_exact.specs.ProgramForm.{program_closed, program_choice, completed}
+use Rattle.bpaf_exact.specs.ProgramForm.{program_optional, program_field, is_named, may_follow}
+use Rattle.bpaf_exact.specs.ProgramForm.{product_roles, program_both, program_alone, program_con}
+use Rattle.bpaf_exact.specs.ProgramForm.{whole_program, product_reading}
 use Rattle.bpaf_exact.specs.Says.{SaidKind, form_kind, of_kind, keyed, repeated_kind, AllOwn, Fits}
 use Rattle.bpaf_exact.specs.Says.{Said, FlagSays, says_present, says_absent, says_variable}
 use Rattle.bpaf_exact.specs.Says.{ArgumentSays, says_variable_text, says_text, says_last_text}
@@ -30,7 +30,7 @@ use Rattle.bpaf_exact.specs.Says.{LastSays, FieldsSaid, RecordSays, FormSays, Sa
 use Rattle.bpaf_exact.specs.{Pieces.no_roles, Flat.back, Flat.both_reading}
 use Rattle.bpaf_exact.specs.{Flat.Variables, Single.repeated, Wrappers.own_value}
 use Rattle.bpaf_exact.specs.{Wrappers.kept_value, Leaves.ArgumentValue}
-use Rattle.bpaf_exact.specs.{Leaves.WordValue, Leaves.word_by, FlatForm.flat_whole, Says.FieldsSay}
+use Rattle.bpaf_exact.specs.{Leaves.WordValue, Leaves.word_by, Says.FieldsSay}
 use Rattle.bpaf_exact.specs.{Says.its_pieces, Says.words_after, Names.Owns, Names.are_all_apart}
 use Rattle.bpaf_exact.specs.{Gathered.LastOf, Alternative.pick_type, Alternative.either_value}
 use Rattle.bpaf_exact.specs.{Record.LastValue}
@@ -70,13 +70,13 @@ module _ {T : Type 0} (clones : T → T → Type 0) (present : T) where
   flag_gap_says absent (Some text) v m = says_variable text refl refl m
 
   -- whichever it may be
-  key_says : {names : List Names} (may_choose : Bool) (key : Key) (absent : Option T)
+  key_says : {names : List Names} (wide may_choose : Bool) (key : Key) (absent : Option T)
       (set : Option (List ℕ))
-      → Says names (key_field may_choose (flag_roles key.names) (FlagValue (clones present))
+      → Says names (key_field wide may_choose (flag_roles key.names) (FlagValue (clones present))
       (FrontOf T (FlagValue (clones present))) (flag_gap clones present absent set))
       (of_kind ByName) (FlagSays clones present absent set)
-  key_says true key absent set = record { by = (refl, present_piece) }
-  key_says false key absent set = record {
+  key_says wide true key absent set = record { by = (refl, present_piece) }
+  key_says wide false key absent set = record {
     by = (
       refl,
       front_says (FlagValue (clones present)) (FlagSays clones present absent set) present_piece,
@@ -89,7 +89,8 @@ module _ {T : Type 0} (clones : T → T → Type 0) (present : T) where
       → Says names (flag_field clones key present absent variables) (of_kind ByName)
       (FlagSays clones present absent (first_set variables key.envs))
   flag_says key absent variables =
-      key_says (is_nil key.envs && is_none absent) key absent (first_set variables key.envs)
+      key_says (not (is_nil key.envs)) (is_nil key.envs && is_none absent) key absent
+      (first_set variables key.envs)
 
 -- an argument
 module _ {T : Type 0} (means : List ℕ → T → Type 0) where
@@ -118,13 +119,13 @@ module _ {T : Type 0} (means : List ℕ → T → Type 0) where
   argument_gap_says (Some text) v m = says_variable_text text refl refl m
 
   -- whichever it may be
-  option_says : {names : List Names} (may_choose : Bool) (argument : KeyWithValue)
+  option_says : {names : List Names} (wide may_choose : Bool) (argument : KeyWithValue)
       (set : Option (List ℕ))
-      → Says names (key_field may_choose (argument_roles argument.adjacent argument.named.names)
-      (ArgumentValue means) (argument_group means argument.last) (argument_gap means set))
+      → Says names (key_field wide may_choose
+      (argument_roles argument.adjacent argument.named.names) (ArgumentValue means) (argument_group means argument.last) (argument_gap means set))
       (of_kind ByName) (ArgumentSays means argument.last set)
-  option_says true argument set = record { by = (refl, pair_piece) }
-  option_says false argument set = record {
+  option_says wide true argument set = record { by = (refl, pair_piece) }
+  option_says wide false argument set = record {
     by = (refl, argument_group_says argument.last, argument_gap_says set);
   }
 
@@ -133,7 +134,8 @@ module _ {T : Type 0} (means : List ℕ → T → Type 0) where
       → Says names (argument_field means argument variables) (of_kind ByName)
       (ArgumentSays means argument.last (first_set variables argument.named.envs))
   argument_says argument variables =
-      option_says (is_nil argument.named.envs && not argument.last) argument
+      option_says (argument.adjacent || not (is_nil argument.named.envs))
+      (is_nil argument.named.envs && not argument.last) argument
       (first_set variables argument.named.envs)
 
 -- what the value of a word by itself says
@@ -159,16 +161,17 @@ word_by_says accepts means = record {
 -- Closures, and what changes only what is shown.
 
 -- with a closure round it
-pub closed_says : {A B : Type 0} (f : Closure A B) {s : FlatForm A} {kind : SaidKind}
+pub closed_says : {A B : Type 0} (f : Closure A B) {s : ProgramForm A} {kind : SaidKind}
     {names : List Names}
-    {said : Said A} → Says names s kind said → Says names (flat_closed f s) kind (MadeSays said f)
-closed_says f {s = alternative q value} h = record {
+    {said : Said A} → Says names s kind said → Says names (program_closed f s) kind
+    (MadeSays said f)
+closed_says f {s = alternative wide q value} h = record {
   by = (
     h.by.0,
     λ o v m. record { from = m.from; told = h.by.1 o m.from m.read; made = m.made },
   );
 }
-closed_says f {s = single k q group gap} h = record {
+closed_says f {s = single wide k q group gap} h = record {
   by = (
     h.by.0,
     λ os rest v g. let there = h.by.1 os rest g.from g.read in record {
@@ -180,24 +183,27 @@ closed_says f {s = single k q group gap} h = record {
     λ v m. record { from = m.0; told = h.by.2 m.0 m.1; made = m.2 },
   );
 }
-closed_says f {s = complete k q value} h = record {
+closed_says f {s = complete wide k q value} h = record {
   by = (
     h.by.0,
     λ os v all m. record { from = m.from; told = h.by.1 os m.from all m.read; made = m.made },
   );
 }
+closed_says f {s = commands optional value} h = absurd h.by
 closed_says f h = record { by = tt }
 
 -- Choices.
 
 -- of two, into what each says more of
-pub choice_into : {T : Type 0} (m n names own others : List Names) (j k : SaidKind)
+pub choice_into : {T : Type 0} (m n names own others : List Names) (words more : List (List ℕ))
+    (j k : SaidKind)
     (said this that : Said T) → ((os : List LinePiece) (v : T) → this os v → said os v)
     → ((os : List LinePiece) (v : T) → that os v → said os v)
-    → (a b : FlatForm T) → FormSays m a j this → FormSays n b k that
-    → FormSays names (flat_choice own others a b) (of_kind ByName) said
-choice_into {T} m n names own others j k said this that from_this from_that (alternative q first)
-    (alternative r second) g h = by_test (are_all_apart own others)
+    → (a b : ProgramForm T) → FormSays m a j this → FormSays n b k that
+    → FormSays names (program_choice own others words more a b) (of_kind ByName) said
+choice_into {T} m n names own others words more j k said this that from_this from_that
+    (alternative wide q first) (alternative other r second) g h =
+    by_test (are_all_apart own others)
   where
     piece : (o : LinePiece) (v : T) (b : Bool) → pick_type b (first o v) (second o v)
         → said (o ∷ []) v
@@ -205,24 +211,21 @@ choice_into {T} m n names own others j k said this that from_this from_that (alt
     piece o v false m = from_that (o ∷ []) v (h.1 o v m)
 
     by_test : (apart : Bool) → FormSays names
-        (only_if apart (alternative (either q r) (either_value q first second))) (of_kind ByName)
-        said
+        (program_if apart (alternative (wide || other) (either q r) (either_value q first second)))
+        (of_kind ByName) said
     by_test true = (refl, λ o v m. piece o v (is_own q o) m)
     by_test false = tt
-choice_into m n names own others j k said this that from_this from_that _ _ g h = tt
-
--- a parser that says so by whichever kind is an alternative or says nothing
-pub by_name : {T : Type 0} (names : List Names) (s : FlatForm T) (kind : SaidKind) (said : Said T)
-    → FormSays names s kind said → FormSays names (alternative_only s) (of_kind ByName) said
-by_name names (alternative q value) kind said h = (refl, h.1)
-by_name names _ kind said h = tt
+choice_into m n names own others words more j k said this that from_this from_that
+    (commands optional value) b g h = absurd g
+choice_into m n names own others words more j k said this that from_this from_that _ _ g h = tt
 
 -- of two
 pub choice_says : {T : Type 0} {m n names : List Names} (own others : List Names)
-    {a b : FlatForm T} {j k : SaidKind} {this that : Said T} → Says m a j this → Says n b k that
-    → Says names (flat_choice own others a b) (of_kind ByName) (EitherSays this that)
-choice_says {T} {m} {n} {names} own others {a} {b} {j} {k} {this} {that} g h = record {
-  by = choice_into m n names own others j k (EitherSays this that) this that
+    (words more : List (List ℕ))
+    {a b : ProgramForm T} {j k : SaidKind} {this that : Said T} → Says m a j this → Says n b k that
+    → Says names (program_choice own others words more a b) (of_kind ByName) (EitherSays this that)
+choice_says {T} {m} {n} {names} own others words more {a} {b} {j} {k} {this} {that} g h = record {
+  by = choice_into m n names own others words more j k (EitherSays this that) this that
       (λ os v m. says_this m) (λ os v m. says_that m) a b g.by h.by;
 }
 
@@ -271,63 +274,69 @@ whole_form_says : {T B : Type 0} (kind : FieldKind → FieldKind) (lift : SaidKi
     → ((os rest : List LinePiece) (v : T) → group os v rest → FrontSays said os v rest)
     → ((v : T) → gap.absent v → said [] v)
     → (os : List LinePiece) (v : B) → value group gap os v → whole os v)
-    → (names : List Names) (j : SaidKind) (s : FlatForm T) → FormSays names s j said
-    → FormSays names (flat_whole kind value s) (lift j) whole
-whole_form_says kind lift lifts value said whole each names j (alternative q one) h = (
+    → (names : List Names) (j : SaidKind) (s : ProgramForm T) → FormSays names s j said
+    → FormSays names (completed kind value s) (lift j) whole
+whole_form_says kind lift lifts value said whole each names j (alternative wide q one) h = (
   ap lift h.0 ∙ lifts ByName,
   λ os v all. each _ _ (front_says one said h.1) (λ v none. absurd none) os v,
 )
-whole_form_says kind lift lifts value said whole each names j (single k q group gap) h =
+whole_form_says kind lift lifts value said whole each names j (single wide k q group gap) h =
     (ap lift h.0 ∙ lifts k, λ os v all. each group gap h.1 h.2 os v)
 whole_form_says kind lift lifts value said whole each names j _ h = tt
 
 -- own items are those with one of these names
-abbrev pub FormOwns : {T : Type 0} → List Names → FlatForm T → Type 0
-FormOwns names (complete k q value) = Owns (keys k q) names
-FormOwns names (product named q fields) = Owns q names
+abbrev pub FormOwns : {T : Type 0} → List Names → ProgramForm T → Type 0
+FormOwns names (complete wide k q value) = Owns (keys k q) names
+FormOwns names (product wide named q fields) = Owns q names
 FormOwns names _ = Unit {0}
 
 -- so it is with a form
-pub record OwnsKeys {T : Type 0} (names : List Names) (s : FlatForm T) : Type 0 where
+pub record OwnsKeys {T : Type 0} (names : List Names) (s : ProgramForm T) : Type 0 where
   pub by : FormOwns names s
 
 -- of what keeps to its law,
 pub owned : (env : Variables) {T : Type 0} (outcome : Outcome T) (names : List Names)
-    (s : FlatForm T) → FormLaw env outcome names s → OwnsKeys names s
-owned env outcome names (complete k q value) law = record { by = law.1 }
-owned env outcome names (product named q fields) law = record { by = law.1 }
-owned env outcome names _ law = record { by = tt }
+    (words : List (List ℕ)) (s : ProgramForm T) → FormLaw env outcome names words s
+    → OwnsKeys names s
+owned env outcome names words (complete wide k q value) law = record { by = law.1 }
+owned env outcome names words (product wide named q fields) law = record { by = law.1 }
+owned env outcome names words _ law = record { by = tt }
 
 -- as a field
-pub field_says : {T : Type 0} {s : FlatForm T} {kind : SaidKind} {names : List Names}
+pub field_says : {T : Type 0} {s : ProgramForm T} {kind : SaidKind} {names : List Names}
     {said : Said T}
-    → OwnsKeys names s → Says names s kind said → Says names (flat_field s) kind said
-field_says {s = complete k q value} own h = h
-field_says {s = product true q fields} {names = names} own h = record {
+    → OwnsKeys names s → Says names s kind said → Says names (program_field s) kind said
+field_says {s = complete wide k q value} own h = h
+field_says {s = product wide true q fields} {names = names} own h = record {
   by = (
     h.by.0,
     λ os v all m. let fit = own_fit q names own.by os all in
         h.by.1 os os v fit fit m refl refl,
   );
 }
-field_says {s = product false q fields} own h = h
+field_says {s = product wide false q fields} own h = record { by = h.by }
+field_says {s = commands optional value} own h = absurd h.by
+field_says {s = before_commands value} own h = absurd h.by
 field_says {T} {s} {kind} {names} {said} own h = record {
   by = whole_form_says (λ k. k) (λ j. j) (λ k. refl) (SingleValue T) said said (whole_says said)
       names kind s h.by;
 }
 
 -- under `optional`
-pub optional_says : {T : Type 0} {s : FlatForm T} {kind : SaidKind} {names : List Names}
-    {said : Said T} → Says names s kind said → Says names (flat_optional s) kind (OptionalSays said)
-optional_says {T} {s} {said = said} h = record {
+pub optional_says : {T : Type 0} {s : ProgramForm T} {kind : SaidKind} {names : List Names}
+    {said : Said T} → Says names s kind said → Says names (program_optional s) kind
+    (OptionalSays said)
+optional_says {s = commands optional value} h = absurd h.by
+optional_says {T} {s} {kind} {names} {said} h = record {
   by = whole_form_says (λ k. k) (λ j. j) (λ k. refl) (OptionalValue T) said (OptionalSays said)
-      (optional_by said) _ _ s h.by;
+      (optional_by said) names kind s h.by;
 }
 
 -- under a fallback
-pub fallback_says : {T : Type 0} (f : Closure (Unit {0}) T) {s : FlatForm T} {kind : SaidKind}
+pub fallback_says : {T : Type 0} (f : Closure (Unit {0}) T) {s : ProgramForm T} {kind : SaidKind}
     {names : List Names} {said : Said T} → Says names s kind said
-    → Says names (flat_fallback f s) kind (FallbackSays said (f.yes tt))
+    → Says names (completed (λ k. k) (λ group gap. FallbackValue T group gap f) s) kind
+    (FallbackSays said (f.yes tt))
 fallback_says {T} f {s} {said = said} h = record {
   by = whole_form_says (λ k. k) (λ j. j) (λ k. refl) (λ group gap. FallbackValue T group gap f) said
       (FallbackSays said (f.yes tt))
@@ -335,22 +344,25 @@ fallback_says {T} f {s} {said = said} h = record {
 }
 
 -- under a repeat, as a list
-repeat_says : {T : Type 0} {s : FlatForm T} {kind : SaidKind} {names : List Names} {said : Said T}
-    → Says names s kind said → Says names (flat_repeat s) (repeated_kind kind) (RepeatSays said)
+repeat_says : {T : Type 0} {s : ProgramForm T} {kind : SaidKind} {names : List Names} {said : Said T}
+    → Says names s kind said
+    → Says names (completed repeated (OwnList T) s) (repeated_kind kind) (RepeatSays said)
 repeat_says {T} {s} {said = said} h = record {
   by = whole_form_says repeated repeated_kind (λ k. refl) (OwnList T) said (RepeatSays said)
       (list_says said) _ _ s h.by;
 }
 
 -- under `many`, `some`, `collect` or `count`
-pub listed_says : {T B : Type 0} (f : Closure (List T) B) {s : FlatForm T} {kind : SaidKind}
+pub listed_says : {T B : Type 0} (f : Closure (List T) B) {s : ProgramForm T} {kind : SaidKind}
     {names : List Names} {said : Said T} → Says names s kind said
-    → Says names (flat_closed f (flat_repeat s)) (repeated_kind kind) (MadeSays (RepeatSays said) f)
+    → Says names (program_closed f (completed repeated (OwnList T) s)) (repeated_kind kind)
+    (MadeSays (RepeatSays said) f)
 listed_says f h = closed_says f (repeat_says h)
 
 -- under `last`
-pub last_says : {T : Type 0} {s : FlatForm T} {kind : SaidKind} {names : List Names} {said : Said T}
-    → Says names s kind said → Says names (flat_last s) (repeated_kind kind) (LastSays said)
+pub last_says : {T : Type 0} {s : ProgramForm T} {kind : SaidKind} {names : List Names} {said : Said T}
+    → Says names s kind said
+    → Says names (completed repeated (LastOf T) s) (repeated_kind kind) (LastSays said)
 last_says {T} {s} {said = said} h = record {
   by = whole_form_says repeated repeated_kind (λ k. refl) (LastOf T) said (LastSays said)
       (λ group gap fronts absent os v m. record {
@@ -361,9 +373,9 @@ last_says {T} {s} {said = said} h = record {
 }
 
 -- without `catch`
-pub unless_says : {T : Type 0} (catch : Bool) {s : FlatForm T} {kind : SaidKind}
+pub unless_says : {T : Type 0} (catch : Bool) {s : ProgramForm T} {kind : SaidKind}
     {names : List Names} {said : Said T}
-    → Says names s kind said → Says names (only_if (not catch) s) kind said
+    → Says names s kind said → Says names (program_if (not catch) s) kind said
 unless_says true h = record { by = tt }
 unless_says false h = h
 
@@ -371,15 +383,19 @@ unless_says false h = h
 
 -- also as a field
 pub field_owned : (env : Variables) {T : Type 0} (outcome : Outcome T) (names : List Names)
-    (s : FlatForm T) → FormLaw env outcome names s → OwnsKeys names (flat_field s)
-field_owned env outcome names not_flat law = record { by = tt }
-field_owned env outcome names (product true q fields) law = record { by = law.1 }
-field_owned env outcome names _ law = record { by = law.1 }
+    (words : List (List ℕ)) (s : ProgramForm T) → FormLaw env outcome names words s
+    → OwnsKeys names (program_field s)
+field_owned env outcome names words (alternative wide q value) law = record { by = law.1 }
+field_owned env outcome names words (single wide k q group gap) law = record { by = law.1 }
+field_owned env outcome names words (complete wide k q value) law = record { by = law.1 }
+field_owned env outcome names words (product wide true q fields) law = record { by = law.1 }
+field_owned env outcome names words (product wide false q fields) law = record { by = law.1 }
+field_owned env outcome names words _ law = record { by = tt }
 
 -- the last field
-pub alone_says : {T : Type 0} {names : List Names} {s : FlatForm T} {kind : SaidKind}
+pub alone_says : {T : Type 0} {names : List Names} {s : ProgramForm T} {kind : SaidKind}
     {said : Said T} → OwnsKeys names s → Says names s kind said
-    → FieldsSay names (flat_alone s) (λ os words v. said (its_pieces kind names os words) v)
+    → FieldsSay names (program_alone s) (λ os words v. said (its_pieces kind names os words) v)
 alone_says {T} {names} {s} {kind} {said} own_keys h = record { by = by_form s own_keys.by h.by }
   where
     own : (k : FieldKind) (q : Roles) (value : List LinePiece → T → Type 0) → Owns (keys k q) names
@@ -406,23 +422,25 @@ alone_says {T} {names} {s} {kind} {said} own_keys h = record { by = by_form s ow
         (sym (others_none (either no_roles no_roles) (λ k. refl) os))
         (each (front (EachWord b) os) v tt m.read)
 
-    by_form : (s : FlatForm T) → FormOwns names s → FormSays names s kind said
-        → FieldsFormSays names (flat_alone s)
+    by_form : (s : ProgramForm T) → FormOwns names s → FormSays names s kind said
+        → FieldsFormSays names (program_alone s)
         (λ os words v. said (its_pieces kind names os words) v)
-    by_form (product false q fields) law h = λ whole os v fits fit m same.
+    by_form (product wide false q fields) law h = λ whole os v fits fit m same.
         subst (λ j. said (its_pieces j names whole (others q os)) v) (sym h.0)
         (h.1 (keyed names whole ++ others q os) os v (rest_fit q names whole os fits fit) fit m
         (mine_rest q names whole os fits ∙ same) (others_rest q names whole os fits))
-    by_form (complete k q value) law h = λ whole os v fits fit m same.
+    by_form (complete wide k q value) law h = λ whole os v fits fit m same.
         subst (λ j. said (its_pieces j names whole (others (either (keys k q) no_roles) os)) v)
         (sym h.0) (own k q value law h.1 whole os v fits m same)
+    by_form (commands optional value) law h = absurd h
+    by_form (before_commands value) law h = absurd h
     by_form _ law h = tt
 
 -- a field before others, by its kind
 module _ {A B : Type 0} (own behind : List Names) (said : Said A) (rest_said : FieldsSaid B)
     (q r : Roles) (first : List LinePiece → A → Type 0) (fields : FieldsReading B)
     (owned_behind : Owns r behind)
-    (rest_each : FieldsFormSays behind (product true r fields) rest_said) where
+    (rest_each : FieldsFormSays behind (product false true r fields) rest_said) where
   -- what a field of a kind says
   abbrev FirstSays : FieldKind → Type 0
   FirstSays k = (os : List LinePiece) (v : A) → AllOwn k q os → first os v → said os v
@@ -482,18 +500,18 @@ module _ {A B : Type 0} (own behind : List Names) (said : Said A) (rest_said : F
       )
 
 -- a field before others
-pub both_say : {A B : Type 0} {own behind : List Names} {a : FlatForm A} {s : FlatForm B}
+pub both_say : {A B : Type 0} {own behind : List Names} {a : ProgramForm A} {s : ProgramForm B}
     {kind : SaidKind} {said : Said A} {rest_said : FieldsSaid B} → OwnsKeys own a
     → OwnsKeys behind s → Says own a kind said → FieldsSay behind s rest_said
-    → FieldsSay (own ++ behind) (flat_both own behind a s)
+    → FieldsSay (own ++ behind) (program_both own behind a s)
     (λ os words v.
     said (its_pieces kind own os words) v.0 × rest_said os (words_after kind words) v.1)
-both_say {own = own} {behind = behind} {a = complete k q first} {s = product named r fields}
-    {kind = kind} {said = said} {rest_said = rest_said} own_keys behind_keys h g =
-    record { by = by_test (may_follow k own behind) refl }
+both_say {own = own} {behind = behind} {a = complete wide k q first}
+    {s = product other named r fields} {kind = kind} {said = said} {rest_said = rest_said} own_keys
+    behind_keys h g = record { by = by_test (may_follow k own behind) refl }
   where
     by_test : (may : Bool) → may_follow k own behind ≡ may → FieldsFormSays (own ++ behind)
-        (only_if may (product (is_named k && named) (either (keys k q) r)
+        (program_if may (product (wide || other) (is_named k && named) (either (keys k q) r)
         (both_reading k q first fields)))
         (λ os words v.
         said (its_pieces kind own os words) v.0 × rest_said os (words_after kind words) v.1)
@@ -503,13 +521,14 @@ both_say {own = own} {behind = behind} {a = complete k q first} {s = product nam
         × rest_said whole (words_after j (others (either (keys k q) r) os)) v.1) (sym h.by.0)
         (kind_says own behind said rest_said q r first fields behind_keys.by g.by k h.by.1
         own_keys.by may whole os v fits fit m same)
+both_say {s = before_commands value} own_keys behind_keys h g = absurd g.by
 both_say own_keys behind_keys h g = record { by = tt }
 
 -- what a constructor makes of the values of fields
-pub con_says : {A B : Type 0} {names : List Names} {s : FlatForm A} {said : FieldsSaid A}
+pub con_says : {A B : Type 0} {names : List Names} {s : ProgramForm A} {said : FieldsSaid A}
     (f : Closure A B) → OwnsKeys names s → FieldsSay names s said
-    → Says names (flat_con f s) (form_kind s) (RecordSays said names f)
-con_says {names = names} {s = product named q fields} {said = said} f own_keys g = record {
+    → Says names (program_con f s) (form_kind s) (RecordSays said names f)
+con_says {names = names} {s = product wide named q fields} {said = said} f own_keys g = record {
   by = (
     refl,
     λ whole os v fits fit m same other. record {
@@ -520,13 +539,14 @@ con_says {names = names} {s = product named q fields} {said = said} f own_keys g
     },
   );
 }
+con_says {s = before_commands value} f own_keys g = absurd g.by
 con_says f own_keys g = record { by = tt }
 
 -- A value of a flat record says what its parser says of all pieces of the line.
-pub record_says : {T : Type 0} (s : FlatForm T) {kind : SaidKind} {names : List Names}
+pub record_says : {T : Type 0} (s : ProgramForm T) {kind : SaidKind} {names : List Names}
     {said : Said T} → Says names s kind said
-    → (os : List LinePiece) (v : T) → Fits names (product_roles (flat_record s)) os
-    → (product_reading (flat_record s)).value os v → said os v
+    → (os : List LinePiece) (v : T) → Fits names (product_roles (whole_program s)) os
+    → (product_reading (whole_program s)).value os v → said os v
 record_says {T} s {kind} {names} {said} h = by_form s h.by
   where
     all_own : (k : FieldKind) (q : Roles) (value : List LinePiece → T → Type 0)
@@ -542,14 +562,16 @@ record_says {T} s {kind} {names} {said} h = by_form s h.by
         subst (λ z. said z v) (all_front (EachWord b) os m.none_left)
         (each (front (EachWord b) os) v tt m.read)
 
-    by_form : (s : FlatForm T) → FormSays names s kind said
-        → (os : List LinePiece) (v : T) → Fits names (product_roles (flat_record s)) os
-        → (product_reading (flat_record s)).value os v → said os v
-    by_form not_flat h os v fits m = absurd m
-    by_form (alternative q value) h os v fits m = all_own ByName q _
+    by_form : (s : ProgramForm T) → FormSays names s kind said
+        → (os : List LinePiece) (v : T) → Fits names (product_roles (whole_program s)) os
+        → (product_reading (whole_program s)).value os v → said os v
+    by_form (alternative wide q value) h os v fits m = all_own ByName q _
         (λ os v all. whole_says said _ _ (front_says value said h.1) (λ v none. absurd none) os v)
         os v m
-    by_form (single k q group gap) h os v fits m =
+    by_form (single wide k q group gap) h os v fits m =
         all_own k q _ (λ os v all. whole_says said group gap h.1 h.2 os v) os v m
-    by_form (complete k q value) h os v fits m = all_own k q value h.1 os v m
-    by_form (product named q fields) h os v fits m = h.1 os os v fits fits m refl refl
+    by_form (complete wide k q value) h os v fits m = all_own k q value h.1 os v m
+    by_form (product wide named q fields) h os v fits m = h.1 os os v fits fits m refl refl
+    by_form (commands optional value) h os v fits m = absurd h
+    by_form (before_commands value) h os v fits m = absurd h
+    by_form no_program h os v fits m = absurd m

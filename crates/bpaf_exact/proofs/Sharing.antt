@@ -9,7 +9,7 @@ use Rattle.bpaf_exact.specs.Pieces.{word, Role, Foreign, Alone, WithNext, Roles,
 use Rattle.bpaf_exact.specs.Pieces.{Two, is_own_role, is_own, mine, others, either, either_role}
 use Rattle.bpaf_exact.specs.{Names.are_all_apart, Names.Owns, Names.is_key_of_any, Says.EachOwn}
 use Rattle.bpaf_exact.specs.{Says.Fits, Says.first_item, Says.keyed, Says.unkeyed, Flat.OneWord}
-use Rattle.bpaf_exact.specs.{FlatForm.may_follow}
+use Rattle.bpaf_exact.specs.{ProgramForm.may_follow}
 use Rattle.bpaf_exact.proofs.{First.own_next, Names.one_list, Names.or_true}
 use Rattle.bpaf_doc.specs.Names.{Names}
 

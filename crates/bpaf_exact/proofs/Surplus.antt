@@ -5,9 +5,9 @@ use Rattle.bpaf_exact.specs.Flat.{FieldKind, FieldsReading, HasValue, both_readi
 use Rattle.bpaf_exact.specs.Single.{Groups, Gap, FrontOf, own_none, own_more, OwnList, listed}
 use Rattle.bpaf_exact.specs.Single.{listed_and_absent, only_absent, SingleValue, of_group, of_gap}
 use Rattle.bpaf_exact.specs.Wrappers.{Closure, OptionalValue, some_value, no_value, FallbackValue}
-use Rattle.bpaf_exact.specs.FlatForm.{FlatForm, not_flat, alternative, single, complete, product}
-use Rattle.bpaf_exact.specs.FlatForm.{flat_closed, flat_optional, flat_fallback, flat_field, only_if}
-use Rattle.bpaf_exact.specs.{Wrappers.own_value, Wrappers.kept_value, FlatForm.is_product}
+use Rattle.bpaf_exact.specs.ProgramForm.{ProgramForm, alternative, single, complete, product}
+use Rattle.bpaf_exact.specs.ProgramForm.{program_closed, completed, program_field, program_if}
+use Rattle.bpaf_exact.specs.{Wrappers.own_value, Wrappers.kept_value}
 use Rattle.bpaf_exact.specs.{Pieces.Roles, Pieces.LinePiece, Gathered.LastOf, Alternative.HasBad}
 use Rattle.bpaf_exact.specs.{Record.last_reading, Leaves.key_field}
 use Rattle.bpaf_exact.specs.{Leaves.word_by, Accepted.OneByOne, Accepted.AtMostOne}
@@ -42,49 +42,49 @@ module _ (T : Type 0) (group : Groups T) (gap : Gap T) (one : OneByOne group) wh
   fallback_once f o p os v (kept_value e h m) = cc
 
 -- a closure round a field keeps that
-pub closed_no_surplus : {A B : Type 0} (f : Closure A B) (s : FlatForm A) → HasNoSurplus s
-    → HasNoSurplus (flat_closed f s)
-closed_no_surplus f (single k q group gap) h = λ os rest v g. h os rest g.from g.read
-closed_no_surplus f (complete k q value) h = λ o p os v i. h o p os i.from i.read
+pub closed_no_surplus : {A B : Type 0} (f : Closure A B) (s : ProgramForm A) → HasNoSurplus s
+    → HasNoSurplus (program_closed f s)
+closed_no_surplus f (single wide k q group gap) h = λ os rest v g. h os rest g.from g.read
+closed_no_surplus f (complete wide k q value) h = λ o p os v i. h o p os i.from i.read
 closed_no_surplus f _ h = tt
 
 -- a field without a repeat or default has no surplus
-pub field_no_surplus : {T : Type 0} (s : FlatForm T) → is_product s ≡ false → HasNoSurplus s
-    → HasNoSurplus (flat_field s)
-field_no_surplus {T = T} (alternative q value) n h = single_once T _ _ (front_one T value)
-field_no_surplus {T = T} (single k q group gap) n h = single_once T group gap h
-field_no_surplus (product named q fields) n h = absurd cc
-field_no_surplus s n h = h
+pub field_no_surplus : {T : Type 0} (s : ProgramForm T) → HasNoSurplus s
+    → HasNoSurplus (program_field s)
+field_no_surplus {T = T} (alternative wide q value) h = single_once T _ _ (front_one T value)
+field_no_surplus {T = T} (single wide k q group gap) h = single_once T group gap h
+field_no_surplus (product wide named q fields) h = absurd h
+field_no_surplus (complete wide k q value) h = h
+field_no_surplus _ h = tt
 
 -- nor has what may be left out
-pub optional_no_surplus : {T : Type 0} (s : FlatForm T) → HasNoSurplus s
-    → HasNoSurplus (flat_optional s)
-optional_no_surplus not_flat h = tt
-optional_no_surplus {T = T} (alternative q value) h = optional_once T _ _ (front_one T value)
-optional_no_surplus {T = T} (single k q group gap) h = optional_once T group gap h
-optional_no_surplus (complete k q value) h = tt
-optional_no_surplus (product named q fields) h = tt
+pub optional_no_surplus : {T : Type 0} (s : ProgramForm T) → HasNoSurplus s
+    → HasNoSurplus (completed (λ k. k) (OptionalValue T) s)
+optional_no_surplus {T = T} (alternative wide q value) h = optional_once T _ _ (front_one T value)
+optional_no_surplus {T = T} (single wide k q group gap) h = optional_once T group gap h
+optional_no_surplus _ h = tt
 
 -- nor what has a value that stands for it
-pub fallback_no_surplus : {T : Type 0} (f : Closure (Unit {0}) T) (s : FlatForm T) → HasNoSurplus s
-    → HasNoSurplus (flat_fallback f s)
-fallback_no_surplus {T = T} f (alternative q value) h = fallback_once T _ _ (front_one T value) f
-fallback_no_surplus {T = T} f (single k q group gap) h = fallback_once T group gap h f
-fallback_no_surplus f not_flat h = tt
+pub fallback_no_surplus : {T : Type 0} (f : Closure (Unit {0}) T) (s : ProgramForm T)
+    → HasNoSurplus s
+    → HasNoSurplus (completed (λ k. k) (λ group gap. FallbackValue T group gap f) s)
+fallback_no_surplus {T = T} f (alternative wide q value) h =
+    fallback_once T _ _ (front_one T value) f
+fallback_no_surplus {T = T} f (single wide k q group gap) h = fallback_once T group gap h f
 fallback_no_surplus f _ h = tt
 
 -- whether `catch` is set changes nothing there
-pub unless_no_surplus : {T : Type 0} (catch : Bool) (s : FlatForm T) → HasNoSurplus s
-    → HasNoSurplus (only_if (not catch) s)
+pub unless_no_surplus : {T : Type 0} (catch : Bool) (s : ProgramForm T) → HasNoSurplus s
+    → HasNoSurplus (program_if (not catch) s)
 unless_no_surplus true s h = tt
 unless_no_surplus false s h = h
 
 -- a flag has none, nor an argument, but for one that takes all its keys at once
-pub key_no_surplus : {T : Type 0} (may_choose : Bool) (q : Roles)
+pub key_no_surplus : {T : Type 0} (wide may_choose : Bool) (q : Roles)
     (each : LinePiece → T → Type 0) (gap : Gap T)
-    → HasNoSurplus (key_field may_choose q each (FrontOf T each) gap)
-key_no_surplus true q each gap = tt
-key_no_surplus {T = T} false q each gap = front_one T each
+    → HasNoSurplus (key_field wide may_choose q each (FrontOf T each) gap)
+key_no_surplus wide true q each gap = tt
+key_no_surplus {T = T} wide false q each gap = front_one T each
 
 -- nor a word
 pub word_no_surplus : {T : Type 0} (accepts : Bool → Bool) (means : List ℕ → T → Type 0)

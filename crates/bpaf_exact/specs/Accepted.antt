@@ -8,7 +8,7 @@ use Rattle.bpaf_base.specs.declared.arg.Arg.TheVariants.{ArgWord}
 use Rattle.bpaf_exact.specs.Pieces.{Cells, Roles, WithNext, LinePiece, One, Two, is_value, is_key}
 use Rattle.bpaf_exact.specs.Pieces.{is_own_role, others, Cut}
 use Rattle.bpaf_exact.specs.Single.{Groups}
-use Rattle.bpaf_exact.specs.FlatForm.{FlatForm, single, complete}
+use Rattle.bpaf_exact.specs.ProgramForm.{ProgramForm, single, complete, product}
 
 -- Behind an argument's key stands its value. Both are one piece, and the words left to positional
 -- fields are those before the key and those behind the value.
@@ -61,10 +61,11 @@ abbrev pub AtMostOne : {T : Type 0} → (List LinePiece → T → Type 0) → Ty
 AtMostOne {T = T} value = (o p : LinePiece) (os : List LinePiece) (v : T) → value (o ∷ p ∷ os) v → ⊥
 
 -- A field without a repeat has no surplus: two occurrences or more have no value. An alternative
--- reads one piece in any case.
-abbrev pub HasNoSurplus : {T : Type 0} → FlatForm T → Type 0
-HasNoSurplus (single k q group gap) = OneByOne group
-HasNoSurplus (complete k q value) = AtMostOne value
+-- reads one piece in any case; a product is none.
+abbrev pub HasNoSurplus : {T : Type 0} → ProgramForm T → Type 0
+HasNoSurplus (single wide k q group gap) = OneByOne group
+HasNoSurplus (complete wide k q value) = AtMostOne value
+HasNoSurplus (product wide named q fields) = ⊥
 HasNoSurplus _ = Unit {0}
 
 -- A part of a record, with its portion of the pieces: where each field has a value, so it is with

@@ -1,6 +1,6 @@
 -- Flags, arguments and positionals: which items are theirs, and what their pieces mean.
 use Rattle.std.specs.Prelude.{◌≡◌, ℕ, Bool, true, false, List, [], ◌∷◌, Option, Some, None, Result}
-use Rattle.std.specs.Prelude.{Ok, Err, if◌then◌else◌, not, ◌&&◌, ◌++◌}
+use Rattle.std.specs.Prelude.{Ok, Err, if◌then◌else◌, not, ◌&&◌, ◌||◌, ◌++◌}
 use Rattle.std.specs.Option.{is_none}
 use Rattle.bpaf_doc.specs.Names.{Names}
 use Rattle.bpaf_text.specs.Named.{Named as Key, KeyWithValue}
@@ -16,7 +16,7 @@ use Rattle.bpaf_exact.specs.Pieces.{stands_behind, word_roles}
 use Rattle.bpaf_exact.specs.Flat.{ByName, Caught, OneWord, OfMemory, OfMissing, Refused, Variables}
 use Rattle.bpaf_exact.specs.Flat.{class}
 use Rattle.bpaf_exact.specs.Single.{Gap, Groups, FrontOf, no_gap}
-use Rattle.bpaf_exact.specs.FlatForm.{FlatForm, alternative, complete, single}
+use Rattle.bpaf_exact.specs.ProgramForm.{ProgramForm, alternative, complete, single}
 
 -- the items of a flag: keys with one of its names, each by itself
 abbrev pub flag_roles : Names → Roles
@@ -56,16 +56,16 @@ flag_gap {T = T} clones present None None = no_gap T
 
 -- a key: where it must be there, has no name in the environment and its pieces mean values one by
 -- one, it may stand in a choice
-abbrev pub key_field : {T : Type 0} → (may_choose : Bool) → Roles → (LinePiece → T → Type 0)
-    → Groups T → Gap T → FlatForm T
-key_field true q each group gap = alternative q each
-key_field false q each group gap = single ByName q group gap
+abbrev pub key_field : {T : Type 0} → (wide may_choose : Bool) → Roles → (LinePiece → T → Type 0)
+    → Groups T → Gap T → ProgramForm T
+key_field wide true q each group gap = alternative wide q each
+key_field wide false q each group gap = single wide ByName q group gap
 
--- a flag, where the environment has these variables
+-- a flag, where the environment has these variables; with a name there it is wide
 abbrev pub flag_field : {T : Type 0} → (T → T → Type 0) → Key → T → Option T → Variables
-    → FlatForm T
+    → ProgramForm T
 flag_field {T = T} clones key present absent variables =
-    key_field (is_nil key.envs && is_none absent) (flag_roles key.names)
+    key_field (not (is_nil key.envs)) (is_nil key.envs && is_none absent) (flag_roles key.names)
     (FlagValue (clones present)) (FrontOf T (FlagValue (clones present)))
     (flag_gap clones present absent (first_set variables key.envs))
 
@@ -96,20 +96,24 @@ abbrev pub argument_group : {T : Type 0} → (List ℕ → T → Type 0) → (la
 argument_group {T = T} means false = FrontOf T (ArgumentValue means)
 argument_group {T = T} means true = LastGroup T means
 
--- an argument, where the environment has these variables
+-- an argument, where the environment has these variables; with a name there, or as an adjacent one,
+-- it is wide
 abbrev pub argument_field : {T : Type 0} → (List ℕ → T → Type 0) → KeyWithValue → Variables
-    → FlatForm T
+    → ProgramForm T
 argument_field means argument variables =
-    key_field (is_nil argument.named.envs && not argument.last)
+    key_field (argument.adjacent || not (is_nil argument.named.envs))
+    (is_nil argument.named.envs && not argument.last)
     (argument_roles argument.adjacent argument.named.names) (ArgumentValue means)
     (argument_group means argument.last)
     (argument_gap means (first_set variables argument.named.envs))
 
--- a positional word on an accepted side, which stops before one behind `--` where that isn't one
-abbrev pub word_by : {T : Type 0} → (Bool → Bool) → (List ℕ → T → Type 0) → FlatForm T
+-- a positional word on an accepted side, which stops before one behind `--` where that isn't one;
+-- where not both are it is wide
+abbrev pub word_by : {T : Type 0} → (Bool → Bool) → (List ℕ → T → Type 0)
+    → ProgramForm T
 word_by {T = T} accepts means =
-    single (OneWord (not (accepts true))) word_roles (FrontOf T (WordValue accepts means))
-    (no_gap T)
+    single (not (accepts true && accepts false)) (OneWord (not (accepts true))) word_roles
+    (FrontOf T (WordValue accepts means)) (no_gap T)
 
 -- the first word taken and its value; it has none; there is no word; the first one stands behind `--`,
 -- where that stops it; or want of memory
@@ -130,6 +134,6 @@ pub data WordEval (T : Type 0) (stops : Bool) (value : LinePiece → T → Type 
   word_memory : {e : Error} {t : Situation} → class e ≡ OfMemory → WordEval T stops value s (Err e)
       t
 
--- a kept value, which stands for no piece
-abbrev pub pure_field : {T : Type 0} → (T → Type 0) → FlatForm T
-pure_field given = complete ByName no_roles (λ os v. given v)
+-- a kept value, which stands for no piece, and is wide
+abbrev pub pure_field : {T : Type 0} → (T → Type 0) → ProgramForm T
+pure_field given = complete true ByName no_roles (λ os v. given v)

@@ -6,11 +6,10 @@ pub mod Wrappers
 pub mod Alternative
 pub mod Record
 pub mod Gathered
-pub mod FlatForm
-pub mod Leaves
-pub mod Theorem
 pub mod Programs
 pub mod ProgramForm
+pub mod Leaves
+pub mod Theorem
 pub mod OneView
 pub mod Accepted
 pub mod Says

@@ -5,12 +5,11 @@ use Rattle.bpaf_line.specs.Situation.{Context, beginning}
 use Rattle.bpaf_laws.specs.Reading.{Outcome}
 use Rattle.bpaf_exact.specs.Pieces.{Cells, LinePiece}
 use Rattle.bpaf_exact.specs.Single.{Groups}
-use Rattle.bpaf_exact.specs.ProgramForm.{ProgramForm, no_program, plain, commands, left_out}
-use Rattle.bpaf_exact.specs.ProgramForm.{before_commands}
+use Rattle.bpaf_exact.specs.ProgramForm.{ProgramForm, no_program, alternative, single, complete}
+use Rattle.bpaf_exact.specs.ProgramForm.{product, commands, before_commands, product_roles}
+use Rattle.bpaf_exact.specs.ProgramForm.{product_reading, whole_program}
 use Rattle.bpaf_exact.specs.Wrappers.{Closure}
 use Rattle.bpaf_exact.specs.Record.{RunAnswer, Accepted, NoMemory, Refusal, RecordValue, RunRan}
-use Rattle.bpaf_exact.specs.FlatForm.{FlatForm, not_flat, alternative, single, complete, product}
-use Rattle.bpaf_exact.specs.FlatForm.{product_roles, product_reading, flat_record}
 
 -- all these values look alike
 abbrev pub Alike : {T X : Type 0} → (T → X) → (T → Type 0) → Type 0
@@ -21,21 +20,15 @@ abbrev pub OneGroup : {T X : Type 0} → (T → X) → Groups T → Type 0
 OneGroup {T = T} see group = (os rest others : List LinePiece) (v w : T) → group os v rest
     → group os w others → (see v ≡ see w) × (rest ≡ others)
 
--- the values of the same pieces look alike
-abbrev pub HasOneView : {T X : Type 0} → (T → X) → FlatForm T → Type 0
-HasOneView see not_flat = Unit {0}
-HasOneView see (alternative q value) = (o : LinePiece) → Alike see (value o)
-HasOneView see (single k q group gap) = OneGroup see group × Alike see gap.absent
-HasOneView see (complete k q value) = (os : List LinePiece) → Alike see (value os)
-HasOneView see (product named q fields) = (os : List LinePiece) → Alike see (fields.value os)
-
--- so do those of a parser in a program, or on the same cells
-abbrev pub ProgramOneView : {T X : Type 0} → (T → X) → ProgramForm T → Type 0
-ProgramOneView see no_program = Unit {0}
-ProgramOneView see (plain wide s) = HasOneView see s
-ProgramOneView see (commands r value) = (cs : Cells) → Alike see (value cs)
-ProgramOneView see (left_out r value) = (cs : Cells) → Alike see (value cs)
-ProgramOneView see (before_commands r value) = (cs : Cells) → Alike see (value cs)
+-- the values of the same pieces look alike, and those of commands on the same cells
+abbrev pub HasOneView : {T X : Type 0} → (T → X) → ProgramForm T → Type 0
+HasOneView see no_program = Unit {0}
+HasOneView see (alternative wide q value) = (o : LinePiece) → Alike see (value o)
+HasOneView see (single wide k q group gap) = OneGroup see group × Alike see gap.absent
+HasOneView see (complete wide k q value) = (os : List LinePiece) → Alike see (value os)
+HasOneView see (product wide named q fields) = (os : List LinePiece) → Alike see (fields.value os)
+HasOneView see (commands optional value) = (cs : Cells) → Alike see (value cs)
+HasOneView see (before_commands value) = (cs : Cells) → Alike see (value cs)
 
 -- A closure that can't tell values apart that look alike: it accepts both or refuses both, and its
 -- answers look alike.
@@ -54,8 +47,8 @@ LooksLike see v NoMemory = Unit {0}
 LooksLike see v Refusal = ⊥
 
 -- Where the record has a value v, each answer looks like v, or is want of memory.
-abbrev pub RunsToOne : {V X : Type 0} → (V → X) → Outcome V → FlatForm V → Context → Type 0
+abbrev pub RunsToOne : {V X : Type 0} → (V → X) → Outcome V → ProgramForm V → Context → Type 0
 RunsToOne {V = V} see outcome s context =
     (a : RunAnswer V) (v : V) → RunRan V outcome (beginning context) a
-    → RecordValue (product_roles (flat_record s)) (product_reading (flat_record s)).value context v
+    → RecordValue (product_roles (whole_program s)) (product_reading (whole_program s)).value context v
     → LooksLike see v a

@@ -8,8 +8,8 @@ use Rattle.bpaf_laws.specs.Reading.{Outcome}
 use Rattle.bpaf_exact.specs.Flat.{ByName, Variables}
 use Rattle.bpaf_exact.specs.Names.{Owns}
 use Rattle.bpaf_exact.specs.Pieces.{Cells, Roles, LinePiece, Cut, pieces}
-use Rattle.bpaf_exact.specs.ProgramForm.{ProgramForm, no_program, plain, commands, left_out}
-use Rattle.bpaf_exact.specs.ProgramForm.{ProgramFormLaw, before_commands, program_roles}
+use Rattle.bpaf_exact.specs.ProgramForm.{ProgramForm, FormLaw, no_program, commands}
+use Rattle.bpaf_exact.specs.ProgramForm.{before_commands, product_roles, whole_program}
 use Rattle.bpaf_exact.specs.Programs.{CellsValue, ChoiceValue, CommandValue}
 use Rattle.bpaf_exact.specs.Programs.{OptionalCommands, without}
 use Rattle.bpaf_exact.specs.Says.{EitherSays, FallbackSays, FieldsSaid, FieldsSay, LastSays}
@@ -37,7 +37,7 @@ pub record CutSays {T : Type 0} (roles : Roles) (said : Said T) (cs : Cells) (v 
 
 -- what the value of a whole program of this form says of cells
 abbrev pub cells_said : {P T : Type 0} → ProgramForm T → ProgramSaid P T → P → CellsValue T
-cells_said form (of_pieces said) = λ p. CutSays (program_roles form) (said p)
+cells_said form (of_pieces said) = λ p. CutSays (product_roles (whole_program form)) (said p)
 cells_said form (of_cells said) = said
 
 -- of a parser round another, by what it makes of either
@@ -141,11 +141,6 @@ abbrev pub fields_said_inside : {P Q V : Type 0} → (Q → P) → ProgramFields
 fields_said_inside inside (of_all_pieces said) = of_all_pieces (λ q. said (inside q))
 fields_said_inside inside (of_all_cells said) = of_all_cells (λ q. said (inside q))
 
--- of which pieces what a constructor makes of fields says something
-abbrev pub program_kind : {T : Type 0} → ProgramForm T → SaidKind
-program_kind (plain wide s) = form_kind s
-program_kind s = of_kind ByName
-
 -- of what a constructor makes of fields
 abbrev pub said_con : {P Q A B : Type 0} → (Q → P) → (P → List Names) → (Q → Closure A B)
     → ProgramFieldsSaid P A → ProgramSaid Q B
@@ -160,16 +155,18 @@ said_con {A = A} {B = B} fields names makes (of_all_cells said) =
 abbrev pub IsSaid : {T : Type 0} → CellsValue T → CellsValue T → Type 0
 IsSaid {T = T} value said = (cs : Cells) (v : T) → value cs v → said cs v
 
+-- a value of what ends in commands does
+abbrev pub CellsSay : {T : Type 0} → ProgramForm T → CellsValue T → Type 0
+CellsSay no_program said = Unit {0}
+CellsSay (commands optional value) said = IsSaid value said
+CellsSay (before_commands value) said = IsSaid value said
+CellsSay _ said = ⊥
+
 -- a value of this form does
 abbrev pub ProgramFormSays : {P T : Type 0} → List Names → ProgramForm T → SaidKind
     → ProgramSaid P T → P → Type 0
-ProgramFormSays names no_program kind said p = Unit {0}
-ProgramFormSays names (plain wide s) kind (of_pieces said) p = Says names s kind (said p)
-ProgramFormSays names (plain wide s) kind (of_cells said) p = ⊥
-ProgramFormSays names (commands r value) kind (of_cells said) p = IsSaid value (said p)
-ProgramFormSays names (left_out r value) kind (of_cells said) p = IsSaid value (said p)
-ProgramFormSays names (before_commands r value) kind (of_cells said) p = IsSaid value (said p)
-ProgramFormSays names _ kind (of_pieces said) p = ⊥
+ProgramFormSays names s kind (of_pieces said) p = Says names s kind (said p)
+ProgramFormSays names s kind (of_cells said) p = CellsSay s (said p)
 
 -- a value of such a parser does
 pub record ProgramSays {P T : Type 0} (names : List Names) (form : ProgramForm T)
@@ -179,11 +176,8 @@ pub record ProgramSays {P T : Type 0} (names : List Names) (form : ProgramForm T
 -- values of fields of this form do
 abbrev pub ProgramFieldsFormSay : {P V : Type 0} → List Names → ProgramForm V
     → ProgramFieldsSaid P V → P → Type 0
-ProgramFieldsFormSay names (plain wide s) (of_all_pieces said) p = FieldsSay names s (said p)
-ProgramFieldsFormSay names (plain wide s) (of_all_cells said) p = ⊥
-ProgramFieldsFormSay names (before_commands r value) (of_all_pieces said) p = ⊥
-ProgramFieldsFormSay names (before_commands r value) (of_all_cells said) p = IsSaid value (said p)
-ProgramFieldsFormSay names _ said p = Unit {0}
+ProgramFieldsFormSay names s (of_all_pieces said) p = FieldsSay names s (said p)
+ProgramFieldsFormSay names s (of_all_cells said) p = CellsSay s (said p)
 
 -- the values of such fields do
 pub record ProgramFieldsSay {P V : Type 0} (names : List Names) (form : ProgramForm V)
@@ -193,5 +187,5 @@ pub record ProgramFieldsSay {P V : Type 0} (names : List Names) (form : ProgramF
 -- fields of this form keep to it, and their values say so
 pub record FieldsKeep {P V : Type 0} (variables : Variables) (outcome : Outcome V)
     (names : List Names) (s : ProgramForm V) (said : ProgramFieldsSaid P V) (p : P) : Type 0 where
-  pub law : ProgramFormLaw variables outcome names [] s
+  pub law : FormLaw variables outcome names [] s
   pub says : ProgramFieldsSay names s said p

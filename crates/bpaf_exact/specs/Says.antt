@@ -13,7 +13,8 @@ use Rattle.bpaf_exact.specs.Single.{Own, repeated}
 use Rattle.bpaf_exact.specs.Leaves.{HaveValues}
 use Rattle.bpaf_exact.specs.Wrappers.{Closure}
 use Rattle.bpaf_exact.specs.Gathered.{IsLast}
-use Rattle.bpaf_exact.specs.FlatForm.{FlatForm, not_flat, alternative, single, complete, product}
+use Rattle.bpaf_exact.specs.ProgramForm.{ProgramForm, no_program, alternative, single, complete}
+use Rattle.bpaf_exact.specs.ProgramForm.{product}
 
 -- The pieces of a field's own.
 
@@ -46,8 +47,8 @@ product_kind true = of_kind ByName
 product_kind false = of_rest
 
 -- that of what is a product or a field by itself
-abbrev pub form_kind : {T : Type 0} → FlatForm T → SaidKind
-form_kind (product named r fields) = product_kind named
+abbrev pub form_kind : {T : Type 0} → ProgramForm T → SaidKind
+form_kind (product wide named r fields) = product_kind named
 form_kind s = of_kind ByName
 
 -- that of a repeat
@@ -183,37 +184,40 @@ abbrev pub Fits : List Names → Roles → List LinePiece → Type 0
 Fits names r [] = Unit {0}
 Fits names r (o ∷ os) = (is_own r o ≡ is_key_of_any names (first_item o)) × Fits names r os
 
--- a value of this form, of a parser with these keys, says so of the pieces that it is read off
-abbrev pub FormSays : {T : Type 0} → List Names → FlatForm T → SaidKind → Said T → Type 0
-FormSays names not_flat kind said = Unit {0}
-FormSays {T = T} names (alternative q value) kind said =
+-- a value of this form, of a parser with these keys, says so of the pieces that it is read off; one
+-- of commands, which is read off none, says nothing
+abbrev pub FormSays : {T : Type 0} → List Names → ProgramForm T → SaidKind → Said T → Type 0
+FormSays names no_program kind said = Unit {0}
+FormSays {T = T} names (alternative wide q value) kind said =
     (kind ≡ of_kind ByName) × ((o : LinePiece) (v : T) → value o v → said (o ∷ []) v)
-FormSays {T = T} names (single k q group gap) kind said =
+FormSays {T = T} names (single wide k q group gap) kind said =
     (kind ≡ of_kind k)
     × ((os rest : List LinePiece) (v : T) → group os v rest → FrontSays said os v rest)
     × ((v : T) → gap.absent v → said [] v)
-FormSays {T = T} names (complete k q value) kind said =
+FormSays {T = T} names (complete wide k q value) kind said =
     (kind ≡ of_kind k)
     × ((os : List LinePiece) (v : T) → AllOwn k q os → value os v → said os v)
-FormSays {T = T} names (product named r fields) kind said =
+FormSays {T = T} names (product wide named r fields) kind said =
     (kind ≡ product_kind named)
     × ((whole os : List LinePiece) (v : T) → Fits names r whole → Fits names r os
     → fields.value os v → mine r whole ≡ mine r os → others r whole ≡ others r os → said whole v)
+FormSays names _ kind said = ⊥
 
 -- a value of such a parser does
-pub record Says {T : Type 0} (names : List Names) (form : FlatForm T) (kind : SaidKind)
+pub record Says {T : Type 0} (names : List Names) (form : ProgramForm T) (kind : SaidKind)
     (said : Said T) : Type 0 where
   pub by : FormSays names form kind said
 
 -- values of such fields say so of all pieces of a line, of which those that they are read off are
 -- all that begin with their keys
-abbrev pub FieldsFormSays : {V : Type 0} → List Names → FlatForm V → FieldsSaid V → Type 0
-FieldsFormSays {V = V} names (product named r fields) said =
+abbrev pub FieldsFormSays : {V : Type 0} → List Names → ProgramForm V → FieldsSaid V → Type 0
+FieldsFormSays {V = V} names (product wide named r fields) said =
     (whole os : List LinePiece) (v : V) → Fits names r whole → Fits names r os
     → fields.value os v → mine r whole ≡ mine r os → said whole (others r os) v
-FieldsFormSays names _ said = Unit {0}
+FieldsFormSays names no_program said = Unit {0}
+FieldsFormSays names _ said = ⊥
 
 -- the values of fields do
-pub record FieldsSay {V : Type 0} (names : List Names) (form : FlatForm V) (said : FieldsSaid V)
+pub record FieldsSay {V : Type 0} (names : List Names) (form : ProgramForm V) (said : FieldsSaid V)
     : Type 0 where
   pub by : FieldsFormSays names form said

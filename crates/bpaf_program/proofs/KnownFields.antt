@@ -23,7 +23,7 @@ use Rattle.bpaf_program.specs.KnownFields.{known_default, known_many, known_opti
 use Rattle.bpaf_program.specs.KnownFields.{known_switch}
 use Rattle.bpaf_program.specs.KnownParser.{IsKnownParser}
 use Rattle.bpaf_exact.proofs.Narrow.{no_more}
-use Rattle.bpaf_exact.proofs.ProgramForm.{narrower_program_form}
+use Rattle.bpaf_exact.proofs.ProgramForm.{narrower_form}
 use Rattle.bpaf_laws.proofs.Clones.{fallback_kept}
 use Rattle.bpaf_program.specs.Values.{IsKept}
 
@@ -92,7 +92,7 @@ module _ {T : Type 0} {known : Grammar T} {outcome : Outcome T} {shorts : ShortN
       (FallbackOutcome outcome (GivesClone clones kept)) shorts
   default_known {clones} equal value is_kept =
       rw is_kept (record {
-        law = λ env. narrower_program_form env T _ _
+        law = λ env. narrower_form env T _ _
             (no_more (λ s t r o. fallback_kept equal outcome value s r t o))
             (keys_of known true) [] _ (fallback_law env T outcome IsKept value
             (keys_of known true) (command_words known) (program_form known env) (is.law env));

@@ -20,7 +20,7 @@ use Rattle.bpaf.specs.Known.{known_names}
 use Rattle.bpaf.specs.Run.{RunsWords}
 use Rattle.bpaf_exact.specs.ProgramForm.{is_program, program_field}
 use Rattle.bpaf_exact.proofs.Narrow.{AllowsNoMore, no_more}
-use Rattle.bpaf_exact.proofs.ProgramForm.{narrower_program_form, program_alone_law}
+use Rattle.bpaf_exact.proofs.ProgramForm.{narrower_form, program_alone_law}
 use Rattle.bpaf_exact.proofs.ProgramForm.{program_both_law, program_choice_law, program_con_law}
 use Rattle.bpaf_exact.proofs.ProgramForm.{program_field_law}
 use Rattle.bpaf_exact.proofs.ByTables.{map_law}
@@ -90,7 +90,7 @@ pub map_known : {A B : Type 0} (make : A → B) (known : Grammar A) {outcome : O
     → {answers : A → B → Type 0} → ((x : A) (v : B) → answers x v → v ≡ make x)
     → IsKnownParser (known_map make known) (MapOutcome outcome answers) shorts
 map_known {A} {B} make known {outcome} inner {answers} only = record {
-  law = λ env. narrower_program_form env B _ _ (map_within outcome only) (keys_of known true)
+  law = λ env. narrower_form env B _ _ (map_within outcome only) (keys_of known true)
       (command_words known) _ (map_law env A B outcome (λ x v. v ≡ make x)
       (keys_of known true) (command_words known) (program_form known env) (inner.law env));
   shown = inner.shown;
@@ -125,7 +125,7 @@ pub con_known : {A B : Type 0} (make : A → B) (known : Grammar A) {outcome : O
     → {answers : A → B → Type 0} → ((x : A) (v : B) → answers x v → v ≡ make x)
     → IsKnownParser (known_con make known) (ProductOutcome outcome answers) shorts
 con_known {A} {B} make known {outcome} fields {answers} only = record {
-  law = λ env. narrower_program_form env B _ _ (con_within outcome only) (keys_of known true) []
+  law = λ env. narrower_form env B _ _ (con_within outcome only) (keys_of known true) []
       _ (program_con_law env A B outcome (λ x v. v ≡ make x) (keys_of known true)
       (program_form known env) (fields.law env));
   shown = fields.shown;

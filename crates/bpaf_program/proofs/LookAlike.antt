@@ -1,6 +1,6 @@
 -- Flat fields and records all of whose values on the same pieces look alike.
 use Rattle.std.proofs.Common.{◌≡◌, Bool, true, false, List, [], ◌∷◌, ◌++◌, Some, map, ℕ}
-use Rattle.std.proofs.Common.{ap, not, string_bytes, subst, sym, ◌&&◌, ◌∙◌}
+use Rattle.std.proofs.Common.{ap, not, string_bytes, subst, sym, ◌&&◌, ◌||◌, ◌∙◌}
 use Rattle.std.specs.Prelude.{option_map}
 use Rattle.bpaf_doc.specs.Names.{Names}
 use Rattle.bpaf_text.specs.Meaning.{SpellsUnsigned}
@@ -15,17 +15,20 @@ use Rattle.bpaf_laws.specs.Repeat.{ManyOutcome, is_nil}
 use Rattle.bpaf_laws.specs.Turn.{TurnOutcome}
 use Rattle.bpaf.specs.declared.leaves.positional.Position.{Position}
 use Rattle.bpaf.specs.Positional.{PositionalOutcome, accepts}
-use Rattle.bpaf_exact.specs.FlatForm.{FlatForm, FormLaw, flat_alone, flat_both, flat_con}
-use Rattle.bpaf_exact.specs.FlatForm.{flat_fallback, flat_field, flat_optional, flat_many}
+use Rattle.bpaf_exact.specs.Gathered.{list_closure}
+use Rattle.bpaf_exact.specs.ProgramForm.{FormLaw, ProgramForm, completed, program_alone}
+use Rattle.bpaf_exact.specs.ProgramForm.{program_both, program_closed, program_con, program_field}
+use Rattle.bpaf_exact.specs.ProgramForm.{program_optional}
+use Rattle.bpaf_exact.specs.Single.{OwnList, repeated}
 use Rattle.bpaf_exact.specs.Flat.{Variables}
 use Rattle.bpaf_record.specs.Positional.{positional_law}
 use Rattle.bpaf_exact.specs.Leaves.{ArgumentValue, argument_field, argument_gap, argument_group}
 use Rattle.bpaf_exact.specs.Leaves.{argument_roles, flag_field, key_field, word_by}
-use Rattle.bpaf_exact.specs.ProgramForm.{plain}
 use Rattle.bpaf_exact.specs.OneView.{Alike, HasOneView, pair_view}
-use Rattle.bpaf_exact.specs.Wrappers.{map_closure}
+use Rattle.bpaf_exact.specs.Wrappers.{FallbackValue, map_closure}
 use Rattle.bpaf_exact.proofs.Arguments.{argument_field_law}
-use Rattle.bpaf_exact.proofs.FlatForm.{flat_alone_law, flat_both_law, flat_con_law, flat_field_law}
+use Rattle.bpaf_exact.proofs.ProgramForm.{program_alone_law, program_both_law, program_con_law}
+use Rattle.bpaf_exact.proofs.ProgramForm.{program_field_law}
 use Rattle.bpaf_exact.proofs.Flags.{flag_field_law}
 use Rattle.bpaf_exact.proofs.OneView.{alone_view, argument_view, both_view, con_view, field_view}
 use Rattle.bpaf_exact.proofs.OneView.{fallback_view, flag_view, many_view, optional_field_view}
@@ -35,8 +38,8 @@ use Rattle.bpaf_program.specs.Values.{IsKept, MeansText, String}
 
 -- a form that this outcome, of a parser with these keys, keeps to, and whose values look alike
 pub record IsSeen {T X : Type 0} (outcome : Outcome T) (see : T → X) (names : List Names)
-    (form : FlatForm T) : Type 0 where
-  pub law : (variables : Variables) → FormLaw variables outcome names form
+    (form : ProgramForm T) : Type 0 where
+  pub law : (variables : Variables) → FormLaw variables outcome names [] form
   pub view : HasOneView see form
 
 -- a switch
@@ -54,8 +57,9 @@ pub argument_seen : {T X : Type 0} (see : T → X) (means : List ℕ → T → T
     → ((text : List ℕ) → Alike see (means text)) → (key : KeyWithValue) → key.named.envs ≡ []
     → IsSeen (ArgumentOutcome means key) see (key.named.names ∷ []) (argument_field means key [])
 argument_seen {T} {X} see means one key bare = record {
-  law = λ env. subst (λ set. FormLaw env (ArgumentOutcome means key) (key.named.names ∷ [])
-      (key_field (is_nil key.named.envs && not key.last)
+  law = λ env. subst (λ set. FormLaw env (ArgumentOutcome means key) (key.named.names ∷ []) []
+      (key_field (key.adjacent || not (is_nil key.named.envs))
+      (is_nil key.named.envs && not key.last)
       (argument_roles key.adjacent key.named.names) (ArgumentValue means)
       (argument_group means key.last) (argument_gap means set)))
       (ap (first_set env) bare ∙ sym (ap (first_set []) bare)) (argument_field_law env T means key);
@@ -89,50 +93,52 @@ text_word_seen position metavar = record {
 }
 
 module _ {T X : Type 0} {outcome : Outcome T} {see : T → X} {names : List Names}
-    {form : FlatForm T} (is : IsSeen outcome see names form) where
+    {form : ProgramForm T} (is : IsSeen outcome see names form) where
   -- a repeat
   pub many_seen : IsSeen (ManyOutcome outcome false) (λ values. map see values.items) names
-      (flat_many form)
+      (program_closed (list_closure T) (completed repeated (OwnList T) form))
   many_seen = record {
-    law = λ env. many_law env T outcome false names [] (plain false form) (is.law env);
-    view = many_view [] T X see outcome names form (is.law []) is.view;
+    law = λ env. many_law env T outcome false names [] form (is.law env);
+    view = many_view [] T X see outcome names [] form (is.law []) is.view;
   }
 
   -- what may be left out
   pub optional_seen : IsSeen (TurnOutcome outcome false true) (option_map see) names
-      (flat_optional form)
+      (program_optional form)
   optional_seen = record {
-    law = λ env. optional_law env T outcome false names [] (plain false form) (is.law env);
-    view = optional_field_view [] T X see outcome names form (is.law []) is.view;
+    law = λ env. optional_law env T outcome false names [] form (is.law env);
+    view = optional_field_view [] T X see outcome names [] form (is.law []) is.view;
   }
 
   -- what has a default
   pub fallback_seen : (clones : T → T → Type 0) (kept : T) → Alike see (clones kept)
       → IsSeen (FallbackOutcome outcome (GivesClone clones kept)) see names
-      (flat_fallback (map_closure (λ u. clones kept)) form)
+      (completed (λ k. k) (λ group gap. FallbackValue T group gap
+      (map_closure (λ u. clones kept))) form)
   fallback_seen clones kept one = record {
-    law = λ env. fallback_law env T outcome clones kept names [] (plain false form) (is.law env);
-    view = fallback_view [] T X see outcome (map_closure (λ u. clones kept)) one names form
+    law = λ env. fallback_law env T outcome clones kept names [] form (is.law env);
+    view = fallback_view [] T X see outcome (map_closure (λ u. clones kept)) one names [] form
         (is.law []) is.view;
   }
 
   -- what is this value where it is left out
   pub default_seen : (value : T)
       → IsSeen (FallbackOutcome outcome (GivesClone (λ own v. v ≡ own) value)) see names
-      (flat_fallback (map_closure (λ u v. v ≡ value)) form)
+      (completed (λ k. k) (λ group gap. FallbackValue T group gap
+      (map_closure (λ u v. v ≡ value))) form)
   default_seen value = fallback_seen (λ own v. v ≡ own) value (λ v w a b. ap see (a ∙ sym b))
 
   -- a field
-  pub field_seen : IsSeen outcome see names (flat_field form)
+  pub field_seen : IsSeen outcome see names (program_field form)
   field_seen = record {
-    law = λ env. flat_field_law env T outcome names form (is.law env);
-    view = field_view [] T X see outcome names form (is.law []) is.view;
+    law = λ env. program_field_law env T outcome names [] form (is.law env);
+    view = field_view [] T X see outcome names [] form (is.law []) is.view;
   }
 
   -- a last field
-  pub alone_seen : IsSeen outcome see names (flat_alone form)
+  pub alone_seen : IsSeen outcome see names (program_alone form)
   alone_seen = record {
-    law = λ env. flat_alone_law env T outcome names form (is.law env);
+    law = λ env. program_alone_law env T outcome names [] form (is.law env);
     view = alone_view T X see form is.view;
   }
 
@@ -140,9 +146,9 @@ module _ {T X : Type 0} {outcome : Outcome T} {see : T → X} {names : List Name
   pub con_seen : {V Y : Type 0} (make : T → V) (look : V → Y)
       → ((x y : T) → see x ≡ see y → look (make x) ≡ look (make y))
       → IsSeen (ProductOutcome outcome (λ x v. v ≡ make x)) look names
-      (flat_con (map_closure (λ x v. v ≡ make x)) form)
+      (program_con (map_closure (λ x v. v ≡ make x)) form)
   con_seen {V} {Y} make look same = record {
-    law = λ env. flat_con_law env T V outcome (λ x v. v ≡ make x) names form (is.law env);
+    law = λ env. program_con_law env T V outcome (λ x v. v ≡ make x) names form (is.law env);
     view = con_view T V X Y see look (map_closure (λ x v. v ≡ make x))
         (record {
           same = λ x y v w e f g. ap look f ∙ (same x y e ∙ sym (ap look g));
@@ -153,13 +159,13 @@ module _ {T X : Type 0} {outcome : Outcome T} {see : T → X} {names : List Name
 
 -- a field before others
 pub both_seen : {A B X Y : Type 0} {see : A → X} {look : B → Y} {own others : List Names}
-    {first : FlatForm A} {rest : FlatForm B} {outcome : Outcome A} {outcomes : Outcome B}
+    {first : ProgramForm A} {rest : ProgramForm B} {outcome : Outcome A} {outcomes : Outcome B}
     → IsSeen outcome see own first → IsSeen outcomes look others rest
     → IsSeen (BothOutcome outcome outcomes) (pair_view see look) (own ++ others)
-    (flat_both own others first rest)
+    (program_both own others first rest)
 both_seen {A} {B} {X} {Y} {see} {look} {own} {others} {first} {rest} {outcome} {outcomes} one more =
     record {
-      law = λ env. flat_both_law env A B outcome outcomes own others first rest (one.law env)
+      law = λ env. program_both_law env A B outcome outcomes own others [] first rest (one.law env)
           (more.law env);
       view = both_view A B X Y see look own others first rest one.view more.view;
     }

@@ -6,12 +6,11 @@ use Rattle.bpaf_words.specs.Arguments.{Given}
 use Rattle.bpaf_words.specs.Spelling.{Known}
 use Rattle.bpaf_laws.specs.Product.{BothOutcome}
 use Rattle.bpaf_laws.specs.Reading.{Outcome}
-use Rattle.bpaf_exact.specs.Flat.{ByName}
-use Rattle.bpaf_exact.specs.FlatForm.{FlatForm, complete, flat_alone, flat_both, flat_con}
-use Rattle.bpaf_exact.specs.FlatForm.{flat_field, is_record}
-use Rattle.bpaf_exact.specs.OneView.{Alike, HasOneView, pair_view}
+use Rattle.bpaf_exact.specs.OneView.{Alike, pair_view}
 use Rattle.bpaf_exact.specs.Pieces.{Cells, LinePiece, Roles}
-use Rattle.bpaf_exact.specs.ProgramForm.{ProgramForm, are_words_apart, plain, program_value}
+use Rattle.bpaf_exact.specs.ProgramForm.{ProgramForm, are_words_apart, is_record}
+use Rattle.bpaf_exact.specs.ProgramForm.{program_alone, program_both, program_con, program_field}
+use Rattle.bpaf_exact.specs.ProgramForm.{program_value}
 use Rattle.bpaf_exact.specs.Programs.{CellsValue, ChoiceValue, CommandValue, FieldThen}
 use Rattle.bpaf_exact.specs.Programs.{Opens, first_value}
 use Rattle.bpaf_exact.specs.Programs.{second_value}
@@ -38,10 +37,10 @@ pub record AreSeen {T X : Type 0} (see : T → X) (words : List (List ℕ)) (val
 
 -- a flat record
 pub record_look : {T X : Type 0} {outcome : Outcome T} {see : T → X} {names : List Names}
-    {form : FlatForm T} → IsSeen outcome see names form → is_record form ≡ true
-    → LooksOne see (program_value (plain false form))
+    {form : ProgramForm T} → IsSeen outcome see names form → is_record form ≡ true
+    → LooksOne see (program_value form)
 record_look {T} {X} {outcome} {see} {names} {form} is record_is =
-    record_looks_one T X see [] outcome names form record_is (is.law []) is.view
+    record_looks_one T X see [] outcome names [] form record_is (is.law []) is.view
 
 module _ {T X : Type 0} {see : T → X} where
   -- a command over what looks alike
@@ -80,26 +79,26 @@ module _ {T X : Type 0} {see : T → X} where
 
 -- a last field of a record
 pub last_seen : {T X : Type 0} {outcome : Outcome T} {see : T → X} {names : List Names}
-    {form : FlatForm T} → IsSeen outcome see names form
-    → IsSeen outcome see names (flat_alone (flat_field form))
+    {form : ProgramForm T} → IsSeen outcome see names form
+    → IsSeen outcome see names (program_alone (program_field form))
 last_seen is = alone_seen (field_seen is)
 
 -- one before other fields
 pub fields_seen : {A B X Y : Type 0} {see : A → X} {look : B → Y} {own others : List Names}
-    {first : FlatForm A} {rest : FlatForm B} {outcome : Outcome A} {outcomes : Outcome B}
+    {first : ProgramForm A} {rest : ProgramForm B} {outcome : Outcome A} {outcomes : Outcome B}
     → IsSeen outcome see own first → IsSeen outcomes look others rest
     → IsSeen (BothOutcome outcome outcomes) (pair_view see look) (own ++ others)
-    (flat_both own others (flat_field first) rest)
+    (program_both own others (program_field first) rest)
 fields_seen one more = both_seen (field_seen one) more
 
 -- a command over a flat record, whose constructor makes this of the fields
 pub record_seen : {V T X Y : Type 0} {outcome : Outcome V} {see : V → X} {names : List Names}
-    {fields : FlatForm V} (word : List ℕ) (make : V → T) (look : T → Y)
+    {fields : ProgramForm V} (word : List ℕ) (make : V → T) (look : T → Y)
     → IsSeen outcome see names fields
     → ((x y : V) → see x ≡ see y → look (make x) ≡ look (make y))
-    → is_record (flat_con (makes make) fields) ≡ true
+    → is_record (program_con (makes make) fields) ≡ true
     → AreSeen look (word ∷ [])
-    (CommandValue T (word ∷ []) (program_value (plain false (flat_con (makes make) fields))))
+    (CommandValue T (word ∷ []) (program_value (program_con (makes make) fields)))
 record_seen word make look is same record_is =
     command_seen word (record_look (con_seen is make look same) record_is)
 
@@ -123,7 +122,7 @@ module _ {T X B Y : Type 0} {see : T → X} (make : T → B) (look : B → Y)
 -- a named field before others
 pub then_look : {A B X Y : Type 0} {see : A → X} {look : B → Y} {q : Roles}
     {first : List LinePiece → A → Type 0} {value : CellsValue B}
-    → HasOneView see (complete ByName q first) → LooksOne look value
+    → ((os : List LinePiece) → Alike see (first os)) → LooksOne look value
     → LooksOne (pair_view see look) (FieldThen A B q first value)
 then_look one more cs v w a b =
     ap₂ (λ x y. (x, y)) (one _ v.0 w.0 a.own b.own) (more _ v.1 w.1 a.left b.left)

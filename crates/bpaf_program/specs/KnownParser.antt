@@ -8,7 +8,7 @@ use Rattle.bpaf_laws.specs.ShownNames.{joined_shorts, no_shorts, of_arguments, o
 use Rattle.bpaf.specs.Info.{plain_info}
 use Rattle.bpaf.specs.Known.{known_names}
 use Rattle.bpaf_exact.specs.Flat.{Variables}
-use Rattle.bpaf_exact.specs.ProgramForm.{ProgramFormLaw}
+use Rattle.bpaf_exact.specs.ProgramForm.{FormLaw}
 use Rattle.bpaf_exact.specs.Wrappers.{Closure, map_closure}
 use Rattle.bpaf_record.specs.Grammar.{Grammar, alone, argument, both, choice, closed, command}
 use Rattle.bpaf_record.specs.Grammar.{command_words, fallback, flag, keys_of, last, optional}
@@ -55,7 +55,7 @@ pub record IsExactFor {T : Type 0} (value : T → Type 0) (r : Result T ParseFai
 pub record IsKnownParser {T : Type 0} (made : Grammar T) (outcome : Outcome T)
     (shorts : ShortNames) : Type 0 where
   pub law : (variables : Variables)
-      → ProgramFormLaw variables outcome (keys_of made true) (command_words made)
+      → FormLaw variables outcome (keys_of made true) (command_words made)
       (program_form made variables)
   pub shown : shorts ≡ shown_shorts made
 
@@ -63,5 +63,5 @@ pub record IsKnownParser {T : Type 0} (made : Grammar T) (outcome : Outcome T)
 pub record AreKnownFields {T : Type 0} (made : Grammar T) (outcome : Outcome T)
     (shorts : ShortNames) : Type 0 where
   pub law : (variables : Variables)
-      → ProgramFormLaw variables outcome (keys_of made true) [] (program_form made variables)
+      → FormLaw variables outcome (keys_of made true) [] (program_form made variables)
   pub shown : shorts ≡ shown_shorts made

@@ -4,8 +4,9 @@ ghost use Rattle.std.specs.Prelude.{◌≡◌};
 use bpaf::{Args, OptionParser, ParseFailure, Parser};
 use bpaf_record::CommandLine;
 
-/// What a program knows of the parser that it makes: of what it is made.
+/// What a program knows of the parser that it makes: of what it is made, and that this is a program.
 pub trait KnownProgram<T> {
+    ghost use Rattle.std.specs.Prelude.{true};
     ghost use Rattle.bpaf_exact.specs.Flat.{Variables};
     ghost use Rattle.bpaf_exact.specs.ProgramForm.{is_program};
     ghost use Rattle.bpaf_record.specs.Grammar.{Grammar, program_form};
@@ -13,9 +14,8 @@ pub trait KnownProgram<T> {
     /// Of what it is made.
     ghost grammar: { Grammar T };
 
-    /// Whether that is a program, in each environment. It takes no memory.
-    fn is_program(&self) -> bool
-        ensures { (variables : Variables) → result ≡ is_program (program_form grammar variables) };
+    /// That is a program, in each environment. Where the grammar computes to one, `refl` says so.
+    ghost whole: { (variables : Variables) → is_program (program_form grammar variables) ≡ true };
 }
 
 /// Options whose parser is the one that a program knows, whatever functions it is made in. Each
@@ -41,16 +41,16 @@ impl<T: Drop, P: Parser<T>, K: KnownProgram<T>> CommandLine<T> for KnownOptions<
     ghost use Rattle.bpaf.specs.Known.{known_names};
     ghost use Rattle.bpaf.specs.Refusals.{IsOneOfTwelve};
     ghost use Rattle.bpaf.specs.Run.{RunsWords};
-    ghost use Rattle.bpaf_exact.specs.ProgramForm.{is_program};
+    ghost use Rattle.std.specs.Prelude.{true};
     ghost use Rattle.bpaf_laws.specs.Spared.{WithoutMemory};
     ghost use Rattle.bpaf_record.specs.Grammar.{program_form};
     ghost use Rattle.bpaf_record.specs.Program.{AnswersAsProgram, IsProgramValueOf};
     ghost use Rattle.bpaf_program.specs.KnownParser.{IsKnownParser, shown_shorts};
 
-    ghost is_whole = { λ p variables. is_program (program_form K.grammar variables) };
+    ghost is_whole = { λ p variables. true };
 
     fn is_program(&self) -> bool {
-        self.program.is_program()
+        true
     }
 
     ghost can_run = { λ p. P.can_eval p.options.inner };

@@ -1,5 +1,5 @@
-pub mod Forms
 pub mod Parts
+pub mod Nested
 pub mod OneLine
 pub mod Running
 pub mod OnLine

@@ -11,7 +11,7 @@ use Rattle.bpaf_line.specs.Situation.{Context, beginning}
 use Rattle.bpaf_laws.specs.Reading.{Outcome}
 use Rattle.bpaf.specs.Info.{RunInfo}
 use Rattle.bpaf.specs.Run.{RunsWords, ran, no_line as none_there, no_memory as wanted}
-use Rattle.bpaf_exact.specs.ProgramForm.{ProgramForm, ProgramFormLaw, is_program, program_value}
+use Rattle.bpaf_exact.specs.ProgramForm.{ProgramForm, FormLaw, is_program, program_value}
 use Rattle.bpaf_exact.specs.Record.{Accepted, IsAcceptedOrWant, line_cells}
 use Rattle.bpaf_exact.specs.Flat.{Variables}
 use Rattle.bpaf_exact.proofs.ProgramForm.{runs_as_program}
@@ -28,7 +28,7 @@ use Rattle.bpaf_record.proofs.OnLine.{context_spelled}
 
 module _ (T : Type 0) (outcome : Outcome T) (describes : Shape → Type 0) (info : RunInfo)
     (known : Known) (names : List Names) (words : List (List ℕ)) (form : ProgramForm T)
-    (given : Given) (law : ProgramFormLaw given.env outcome names words form)
+    (given : Given) (law : FormLaw given.env outcome names words form)
     (program : is_program form ≡ true) where
   -- a value of the program on the words
   abbrev IsValue : T → Type 0
@@ -56,7 +56,7 @@ module _ (T : Type 0) (outcome : Outcome T) (describes : Shape → Type 0) (info
   pub answers_as_program : (r : Result T ParseFailure)
       → RunsWords T outcome describes info known given r → AnswersAsProgram T known form given r
   answers_as_program r (ran context answer t is run) =
-      let here = subst (λ env. ProgramFormLaw env outcome names words form) (sym is.env) law in
+      let here = subst (λ env. FormLaw env outcome names words form) (sym is.env) law in
       let exact = runs_as_program T outcome names words form program context here
       (context_spelled is) (answer_of r)
       (run_ran T outcome describes info (beginning context) t r run) in
@@ -82,7 +82,7 @@ is_program_form form names info e = (and_parts (is_program form) _ e).0
 -- a value of an exact answer says what its parser says
 pub tells_of_words : {P T : Type 0} {known : Known} {form : ProgramForm T} {kind : SaidKind} {said : ProgramSaid P T} {p : P}
     (env : Variables) (outcome : Outcome T) {names : List Names} (words : List (List ℕ))
-    → ProgramFormLaw env outcome names words form → ProgramSays names form kind said p
+    → FormLaw env outcome names words form → ProgramSays names form kind said p
     → is_program form ≡ true → {given : Given}
     (r : Result T ParseFailure) → AnswersAsProgram T known form given r
     → IfOk r (TellsOfWords known form (cells_said form said p) given)

@@ -1,6 +1,6 @@
 -- Each answer that the table of a run allows to a flat record keeps to its fields.
 use Rattle.std.proofs.Common.{◌≡◌, true, false, List, Some, None, Result, Ok, Err, IfOk, All, IsUtf8, refl}
-use Rattle.std.proofs.Common.{ap, subst, sym}
+use Rattle.std.proofs.Common.{ap, subst, sym, not, ℕ}
 use Rattle.std.proofs.lemmas.Bool.{and_parts}
 use Rattle.bpaf_doc.specs.Names.{Names}
 use Rattle.bpaf_doc.specs.Shape.{Shape}
@@ -21,13 +21,12 @@ use Rattle.bpaf_exact.specs.Flat.{FieldsLaw, FieldsReading}
 use Rattle.bpaf_exact.specs.Pieces.{Cut, Roles}
 use Rattle.bpaf_exact.specs.Record.{RunRan, run_value, run_leftover, run_memory, run_refusal}
 use Rattle.bpaf_exact.specs.Record.{IsNoValue, IsAcceptedOrWant, IsExact, RecordValue, line_cells}
-use Rattle.bpaf_exact.specs.FlatForm.{FlatForm, FormLaw, is_record, product_roles, product_reading}
-use Rattle.bpaf_exact.specs.FlatForm.{flat_record}
+use Rattle.bpaf_exact.specs.ProgramForm.{ProgramForm, alternative, single, complete, product}
+use Rattle.bpaf_exact.specs.ProgramForm.{FormLaw, is_record, product_roles, product_reading}
+use Rattle.bpaf_exact.specs.ProgramForm.{whole_program}
 use Rattle.bpaf_exact.proofs.Classes.{memory_class, not_memory}
 use Rattle.bpaf_exact.proofs.Accepted.{cut_holds_together}
-use Rattle.bpaf_exact.proofs.Exact.{runs_exactly}
-use Rattle.bpaf_exact.proofs.FlatForm.{record_law}
-use Rattle.bpaf_exact.specs.ProgramForm.{ProgramForm, flat_form, plain}
+use Rattle.bpaf_exact.proofs.ProgramForm.{record_law, runs_exactly}
 use Rattle.bpaf_record.specs.Program.{is_whole_program}
 use Rattle.bpaf_record.specs.Record.{is_flat_record, answer_of, AnswersByFields, IsValueOf}
 use Rattle.bpaf_record.specs.Record.{IsValueOrWant, HasWholeLine, PiecesOf}
@@ -66,23 +65,23 @@ module _ (T : Type 0) (outcome : Outcome T) (describes : Shape → Type 0) (info
   run_ran s t r (refused e left f after o ends) = refused_ran s left after e f o ends
 
 module _ (T : Type 0) (outcome : Outcome T) (describes : Shape → Type 0) (info : RunInfo) where
-  module _ (known : Known) (names : List Names) (form : FlatForm T) (given : Given)
-      (law : FormLaw given.env outcome names form) (flat : is_record form ≡ true) where
+  module _ (known : Known) (names : List Names) (words : List (List ℕ)) (form : ProgramForm T)
+      (given : Given) (law : FormLaw given.env outcome names words form) (flat : is_record form ≡ true) where
     -- a value of the record on words
     abbrev IsValue : T → Type 0
     IsValue = IsValueOf known form given
 
     -- the keys of the record
     abbrev roles : Roles
-    roles = product_roles (flat_record form)
+    roles = product_roles (whole_program form)
 
     -- how its fields read the pieces
     abbrev reading : FieldsReading T
-    reading = product_reading (flat_record form)
+    reading = product_reading (whole_program form)
 
     -- they keep to the laws
     fields_law : FieldsLaw given.env T outcome roles reading
-    fields_law = record_law given.env T outcome names form flat law
+    fields_law = record_law given.env T outcome names words form flat law
 
     -- the pieces that the words are cut into
     abbrev Line : Type 0
@@ -139,8 +138,8 @@ module _ (T : Type 0) (outcome : Outcome T) (describes : Shape → Type 0) (info
         → RunsWords T outcome describes info known given r
         → AnswersByFields T known form given r
     answers_by_fields r (ran context answer t is run) =
-        let here = subst (λ env. FormLaw env outcome names form) (sym is.env) law in
-        let exact = runs_exactly T outcome names form flat context here (answer_of r)
+        let here = subst (λ env. FormLaw env outcome names words form) (sym is.env) law in
+        let exact = runs_exactly T outcome names words form flat context here (answer_of r)
         (run_ran T outcome describes info (beginning context) t r run) in
         record {
           whole = sound_on context is r exact r refl;
@@ -161,12 +160,15 @@ module _ (T : Type 0) (outcome : Outcome T) (describes : Shape → Type 0) (info
     }
 
 -- options that are a flat record have a parser that is one
-pub is_flat_form : {T : Type 0} (form : FlatForm T) (names : List Names) (info : RunInfo)
+pub is_flat_form : {T : Type 0} (form : ProgramForm T) (names : List Names) (info : RunInfo)
     → is_flat_record form names info ≡ true → is_record form ≡ true
 is_flat_form form names info e = (and_parts (is_record form) _ e).0
 
 -- and are a program
 pub flat_is_whole : {T : Type 0} (form : ProgramForm T) (names : List Names) (info : RunInfo)
-    → is_flat_record (flat_form form) names info ≡ true → is_whole_program form names info ≡ true
-flat_is_whole (plain false s) names info e = e
+    → is_flat_record form names info ≡ true → is_whole_program form names info ≡ true
+flat_is_whole (alternative wide q each) names info e = (and_parts (not wide) _ e).1
+flat_is_whole (single wide k q group gap) names info e = (and_parts (not wide) _ e).1
+flat_is_whole (complete wide k q each) names info e = (and_parts (not wide) _ e).1
+flat_is_whole (product wide named q fields) names info e = (and_parts (not wide) _ e).1
 flat_is_whole _ names info e = absurd cc

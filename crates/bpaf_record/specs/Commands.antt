@@ -21,8 +21,8 @@ use Rattle.bpaf_exact.specs.Programs.{CommandEval, command_value, command_leftov
 use Rattle.bpaf_exact.specs.Programs.{command_missing, command_memory}
 use Rattle.bpaf_exact.proofs.Classes.{not_memory}
 use Rattle.bpaf_exact.proofs.Narrow.{no_more}
-use Rattle.bpaf_exact.specs.ProgramForm.{ProgramForm, ProgramFormLaw, program_command}
-use Rattle.bpaf_exact.proofs.ProgramForm.{program_command_law, narrower_program_form}
+use Rattle.bpaf_exact.specs.ProgramForm.{ProgramForm, FormLaw, program_command}
+use Rattle.bpaf_exact.proofs.ProgramForm.{program_command_law, narrower_form}
 use Rattle.bpaf.specs.Leftover.{IsLeftover, conflict, only_once, not_expected}
 use Rattle.bpaf_line.specs.declared.error.Message.{Message}
 use Rattle.bpaf_exact.proofs.Counts.{open_counted}
@@ -91,11 +91,11 @@ module _ (T : Type 0) (inner : Outcome T) (describes : Shape → Type 0) (info :
 pub plain_command_law : (env : Variables) (T : Type 0) (inner : Outcome T)
     (describes : Shape → Type 0) (info : RunInfo) (called : Called) (shows : Part → Type 0)
     (apart : Bool) (names : List Names) (words : List (List ℕ)) (form : ProgramForm T)
-    → ProgramFormLaw env inner names words form
-    → ProgramFormLaw env (CommandOutcome T inner (EndsRun describes info) called shows) names
+    → FormLaw env inner names words form
+    → FormLaw env (CommandOutcome T inner (EndsRun describes info) called shows) names
     (opening_words called) (program_command false apart called form)
 plain_command_law env T inner describes info called shows apart names words form l =
-    narrower_program_form env T _ _
+    narrower_form env T _ _
     (no_more (λ s t r o. command_eval T inner describes info called shows s t r o)) names
     (opening_words called) (program_command false apart called form)
     (program_command_law env T inner apart called names words form l)
@@ -104,8 +104,8 @@ plain_command_law env T inner describes info called shows apart names words form
 pub either_command_law : (env : Variables) (T : Type 0) (inner : Outcome T)
     (describes : Shape → Type 0) (info : RunInfo) (called : Called) (shows : Part → Type 0)
     (adjacent apart : Bool) (names : List Names) (words : List (List ℕ)) (form : ProgramForm T)
-    → ProgramFormLaw env inner names words form
-    → ProgramFormLaw env
+    → FormLaw env inner names words form
+    → FormLaw env
     (EitherCommandOutcome adjacent T inner (EndsRun describes info) called shows) names
     (opening_words called) (program_command adjacent apart called form)
 either_command_law env T inner describes info called shows true apart names words form l = tt

@@ -1,24 +1,24 @@
 -- The grammar of programs: of which parsers they are made, and by which steps.
-use Rattle.std.specs.Prelude.{ℕ, Bool, false, not, true, List, [], ◌∷◌, ◌++◌, Option, flat_map}
-use Rattle.std.specs.Prelude.{◌&&◌, ◌||◌, if◌then◌else◌}
-use Rattle.bpaf_laws.specs.Repeat.{is_nil}
+use Rattle.std.specs.Prelude.{ℕ, Bool, not, true, false, List, [], ◌∷◌, ◌++◌, Option}
+use Rattle.std.specs.Prelude.{if◌then◌else◌}
 use Rattle.bpaf_doc.specs.Names.{Names}
 use Rattle.bpaf_text.specs.Named.{Named as Key, KeyWithValue}
+use Rattle.bpaf_laws.specs.Choices.{Nested}
 use Rattle.bpaf_laws.specs.Command.{Called, opening_words}
 use Rattle.bpaf.specs.declared.leaves.positional.Position.{Position}
 use Rattle.bpaf.specs.Info.{RunInfo}
 use Rattle.bpaf.specs.Positional.{accepts}
 use Rattle.bpaf_exact.specs.Flat.{ByName, OneWord, Variables}
+use Rattle.bpaf_exact.specs.Gathered.{LastOf}
 use Rattle.bpaf_exact.specs.Leaves.{argument_field, flag_field, pure_field, word_by}
-use Rattle.bpaf_exact.specs.ProgramForm.{ProgramForm, no_program, plain, program_alone}
-use Rattle.bpaf_exact.specs.ProgramForm.{program_both, program_choice, program_choices}
+use Rattle.bpaf_exact.specs.ProgramForm.{ProgramForm, choice_only, completed, no_program}
+use Rattle.bpaf_exact.specs.ProgramForm.{program_alone, program_both, program_choice}
 use Rattle.bpaf_exact.specs.ProgramForm.{program_closed, program_command, program_con}
-use Rattle.bpaf_exact.specs.FlatForm.{flat_closed, flat_fallback, flat_last, flat_repeat, only_if}
-use Rattle.bpaf_exact.specs.ProgramForm.{flat_only, program_dressed, program_field}
+use Rattle.bpaf_exact.specs.ProgramForm.{program_dressed, program_field, program_if}
 use Rattle.bpaf_exact.specs.ProgramForm.{program_optional}
-use Rattle.bpaf_exact.specs.ProgramSays.{program_kind}
-use Rattle.bpaf_exact.specs.Says.{SaidKind, of_kind, repeated_kind}
-use Rattle.bpaf_exact.specs.Wrappers.{Closure}
+use Rattle.bpaf_exact.specs.Says.{SaidKind, form_kind, of_kind, repeated_kind}
+use Rattle.bpaf_exact.specs.Single.{OwnList, repeated}
+use Rattle.bpaf_exact.specs.Wrappers.{Closure, FallbackValue}
 use Rattle.bpaf_record.specs.Record.{are_unusual}
 
 -- what a parser is made of: what it is by itself, or a step and the parsers inside
@@ -38,12 +38,18 @@ pub data Grammar : Type 0 → Type 1 where
   repeat : {A B : Type 0} → (catch : Bool) → Closure (List A) B → Grammar A → Grammar B
   last : {T : Type 0} → Grammar T → Grammar T
   choice : {T : Type 0} → Grammar T → Grammar T → Grammar T
-  choices : {P T : Type 0} → (P → Grammar T) → List P → Grammar T
+  -- a choice of any number
+  only : {T : Type 0} → Grammar T → Grammar T
   command : {T : Type 0} → (adjacent : Bool) → Called → RunInfo → Grammar T → Grammar T
   -- the fields of a product, of which the last stands alone, and what makes a value of theirs
   alone : {T : Type 0} → Grammar T → Grammar T
   both : {A B : Type 0} → Grammar A → Grammar B → Grammar (A × B)
   product : {A B : Type 0} → Closure A B → Grammar A → Grammar B
+
+-- choices of two of all these parsers, nested to the left
+abbrev pub choices_of : {P T : Type 0} → (P → Grammar T) → List P → Grammar T
+choices_of of [] = other
+choices_of of (p ∷ ps) = Nested choice of (of p) ps
 
 -- the names of its flags and arguments, one after the other, with or without those inside commands
 abbrev pub keys_of : {T : Type 0} → Grammar T → Bool → List Names
@@ -56,7 +62,7 @@ keys_of (fallback f g) deep = keys_of g deep
 keys_of (repeat catch f g) deep = keys_of g deep
 keys_of (last g) deep = keys_of g deep
 keys_of (choice g h) deep = keys_of g deep ++ keys_of h deep
-keys_of (choices of ps) deep = flat_map (λ p. keys_of (of p) deep) ps
+keys_of (only g) deep = keys_of g deep
 keys_of (command adjacent called info g) deep = if deep then keys_of g deep else []
 keys_of (alone g) deep = keys_of g deep
 keys_of (both g h) deep = keys_of g deep ++ keys_of h deep
@@ -68,35 +74,31 @@ abbrev pub command_words : {T : Type 0} → Grammar T → List (List ℕ)
 command_words (closed f g) = command_words g
 command_words (dressed g) = command_words g
 command_words (choice g h) = command_words g ++ command_words h
-command_words (choices of ps) = flat_map (λ p. command_words (of p)) ps
+command_words (only g) = command_words g
 command_words (command adjacent called info g) = opening_words called
 command_words _ = []
 
--- what it is to a program where the environment has these variables; a key with names there, an
--- adjacent argument, a word for one side of `--` alone and a kept value are wide
+-- what it is to a program where the environment has these variables
 abbrev pub program_form : {T : Type 0} → Grammar T → Variables → ProgramForm T
 program_form (flag clones key present absent) variables =
-    plain (not (is_nil key.envs)) (flag_field clones key present absent variables)
-program_form (argument means key) variables =
-    plain (key.adjacent || not (is_nil key.named.envs)) (argument_field means key variables)
-program_form (word means position) variables =
-    plain (not (accepts position true && accepts position false)) (word_by (accepts position) means)
-program_form (kept given) variables = plain true (pure_field given)
+    flag_field clones key present absent variables
+program_form (argument means key) variables = argument_field means key variables
+program_form (word means position) variables = word_by (accepts position) means
+program_form (kept given) variables = pure_field given
 program_form other variables = no_program
 program_form (closed f g) variables = program_closed f (program_form g variables)
 program_form (dressed g) variables = program_dressed (program_form g variables)
-program_form (optional catch g) variables = program_optional catch (program_form g variables)
-program_form (fallback f g) variables =
-    flat_only (λ s. flat_fallback f s) (program_form g variables)
-program_form (repeat catch f g) variables =
-    flat_only (λ s. only_if (not catch) (flat_closed f (flat_repeat s))) (program_form g variables)
-program_form (last g) variables = flat_only (λ s. flat_last s) (program_form g variables)
+program_form (optional catch g) variables =
+    program_if (not catch) (program_optional (program_form g variables))
+program_form (fallback {T = T} f g) variables =
+    completed (λ k. k) (λ group gap. FallbackValue T group gap f) (program_form g variables)
+program_form (repeat {A = A} catch f g) variables = program_if (not catch)
+    (program_closed f (completed repeated (OwnList A) (program_form g variables)))
+program_form (last {T = T} g) variables = completed repeated (LastOf T) (program_form g variables)
 program_form (choice g h) variables =
     program_choice (keys_of g true) (keys_of h true) (command_words g) (command_words h)
     (program_form g variables) (program_form h variables)
-program_form (choices of ps) variables =
-    program_choices (λ p. keys_of (of p) true) (λ p. command_words (of p))
-    (λ p. program_form (of p) variables) ps
+program_form (only g) variables = choice_only (program_form g variables)
 program_form (command adjacent called info g) variables =
     program_command adjacent (are_unusual (keys_of g false) info) called
     (program_form g variables)
@@ -115,5 +117,5 @@ said_kind (optional catch g) variables = said_kind g variables
 said_kind (fallback f g) variables = said_kind g variables
 said_kind (repeat catch f g) variables = repeated_kind (said_kind g variables)
 said_kind (last g) variables = repeated_kind (said_kind g variables)
-said_kind (product f g) variables = program_kind (program_form g variables)
+said_kind (product f g) variables = form_kind (program_form g variables)
 said_kind _ variables = of_kind ByName

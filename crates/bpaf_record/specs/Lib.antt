@@ -1,4 +1,3 @@
-pub mod Form
 pub mod Part
 pub mod Keys
 pub mod Commands
@@ -6,4 +5,5 @@ pub mod Positional
 pub mod Record
 pub mod Program
 pub mod Grammar
+pub mod Nested
 pub mod Spelled

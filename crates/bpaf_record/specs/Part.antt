@@ -1,119 +1,124 @@
 -- What a parser is to a program with commands, as the program tells it.
-use Rattle.std.specs.Prelude.{Bool, true, false, ◌&&◌, ◌||◌, List, [], ◌∷◌, ◌++◌}
-use Rattle.bpaf_exact.specs.Flat.{Variables}
-use Rattle.bpaf_exact.specs.Names.{are_all_apart}
-use Rattle.bpaf_exact.specs.ProgramForm.{ProgramForm, no_program, plain, commands, left_out}
-use Rattle.bpaf_exact.specs.ProgramForm.{before_commands, are_words_apart}
-use Rattle.bpaf_record.specs.declared.form.Form.{Form}
-use Rattle.bpaf_record.specs.declared.form.Form.TheVariants.{Complete, NotFlat}
-use Rattle.bpaf_record.specs.declared.form.Kind.TheVariants.{Named}
+use Rattle.std.specs.Prelude.{Bool, true, false, not, ◌&&◌, ◌||◌}
+use Rattle.bpaf_exact.specs.Flat.{FieldKind, ByName}
+use Rattle.bpaf_exact.specs.ProgramForm.{ProgramForm, no_program, alternative, single, complete}
+use Rattle.bpaf_exact.specs.ProgramForm.{product, commands, before_commands}
+use Rattle.bpaf_record.specs.declared.part.Kind.{Kind}
+use Rattle.bpaf_record.specs.declared.part.Kind.TheVariants.{Named, Word}
 use Rattle.bpaf_record.specs.declared.part.ProgramPart.{ProgramPart}
-use Rattle.bpaf_record.specs.declared.part.ProgramPart.TheVariants.{NoPart, Flat, Commands, LeftOut}
+use Rattle.bpaf_record.specs.declared.part.ProgramPart.TheVariants.{NoPart, Alternative, Single}
+use Rattle.bpaf_record.specs.declared.part.ProgramPart.TheVariants.{Complete, Product, Commands}
 use Rattle.bpaf_record.specs.declared.part.ProgramPart.TheVariants.{BeforeCommands}
-use Rattle.bpaf_record.specs.Form.{form_of, closed_form, completed_form, unless_form, joined_form}
-use Rattle.bpaf_record.specs.Form.{alternative_form, field_form, alone_form, before_form, made_form}
-use Rattle.bpaf_record.specs.Form.{is_product_form, is_record_form}
-use Rattle.bpaf_record.specs.Grammar.{Grammar, choices, command_words, keys_of, program_form}
+
+-- by a name, or a positional word
+abbrev pub kind_of : FieldKind → Kind
+kind_of ByName = Named
+kind_of k = Word
 
 -- that of a form, without its items
 abbrev pub part_of : {T : Type 0} → ProgramForm T → ProgramPart
 part_of no_program = NoPart
-part_of (plain wide s) = Flat wide (form_of s)
-part_of (commands r value) = Commands
-part_of (left_out r value) = LeftOut
-part_of (before_commands r value) = BeforeCommands
+part_of (alternative wide q value) = Alternative wide
+part_of (single wide k q group gap) = Single wide (kind_of k)
+part_of (complete wide k q value) = Complete wide (kind_of k)
+part_of (product wide named q fields) = Product wide named
+part_of (commands optional value) = Commands optional
+part_of (before_commands value) = BeforeCommands
 
 -- where a test holds
 abbrev pub part_if : Bool → ProgramPart → ProgramPart
 part_if true part = part
 part_if false part = NoPart
 
--- what it is to a flat record
-abbrev pub flat_part : ProgramPart → Form
-flat_part (Flat wide form) = unless_form wide form
-flat_part _ = NotFlat
-
 -- with a closure round it
 abbrev pub closed_part : ProgramPart → ProgramPart
-closed_part (Flat wide form) = Flat wide (closed_form form)
+closed_part (Product wide named) = NoPart
 closed_part BeforeCommands = NoPart
-closed_part other = other
+closed_part part = part
 
 -- with another look
 abbrev pub dressed_part : ProgramPart → ProgramPart
-dressed_part (Flat wide form) = Flat (wide || is_product_form form) form
+dressed_part (Product wide named) = Product true named
 dressed_part BeforeCommands = NoPart
-dressed_part other = other
+dressed_part part = part
 
--- with a repeat or a default that may catch
-abbrev pub completed_part : Bool → ProgramPart → ProgramPart
-completed_part catch (Flat wide form) = Flat wide (unless_form catch (completed_form form))
-completed_part catch _ = NoPart
+-- with a repeat or a default
+abbrev pub completed_part : ProgramPart → ProgramPart
+completed_part (Alternative wide) = Complete wide Named
+completed_part (Single wide kind) = Complete wide kind
+completed_part _ = NoPart
 
 -- what may be left out
-abbrev pub optional_part : Bool → ProgramPart → ProgramPart
-optional_part catch (Flat wide form) = Flat wide (unless_form catch (completed_form form))
-optional_part false Commands = LeftOut
-optional_part catch _ = NoPart
+abbrev pub optional_part : ProgramPart → ProgramPart
+optional_part (Commands false) = Commands true
+optional_part part = completed_part part
 
 -- the choice of two, by whether their keys and their words are apart
 abbrev pub chosen_part : Bool → Bool → ProgramPart → ProgramPart → ProgramPart
-chosen_part keys words (Flat wide this) (Flat other that) =
-    Flat (wide || other) (joined_form keys this that)
-chosen_part keys words Commands Commands = part_if words Commands
+chosen_part keys words (Alternative wide) (Alternative other) =
+    part_if keys (Alternative (wide || other))
+chosen_part keys words (Commands false) (Commands false) = part_if words (Commands false)
 chosen_part keys words _ _ = NoPart
 
--- the choice of one alone
-abbrev pub first_part : ProgramPart → ProgramPart
-first_part (Flat wide form) = Flat wide (alternative_form form)
-first_part Commands = Commands
-first_part _ = NoPart
-
--- a program
-abbrev pub is_program_part : ProgramPart → Bool
-is_program_part NoPart = false
-is_program_part (Flat wide form) = is_record_form form
-is_program_part _ = true
-
--- behind the word of a command
-abbrev pub command_part : Bool → ProgramPart → ProgramPart
-command_part opens part = part_if (opens && is_program_part part) Commands
+-- one parser of a choice
+abbrev pub only_part : ProgramPart → ProgramPart
+only_part (Alternative wide) = Alternative wide
+only_part (Commands false) = Commands false
+only_part _ = NoPart
 
 -- as a field of a product
 abbrev pub field_part : ProgramPart → ProgramPart
-field_part (Flat wide form) = Flat (wide || is_product_form form) (field_form form)
-field_part other = other
+field_part (Complete wide kind) = Complete wide kind
+field_part (Product wide true) = Complete true Named
+field_part (Product wide false) = Product true false
+field_part (Commands optional) = Commands optional
+field_part BeforeCommands = BeforeCommands
+field_part part = completed_part part
+
+-- it is named
+abbrev pub is_named_kind : Kind → Bool
+is_named_kind Named = true
+is_named_kind Word = false
 
 -- as the last field
 abbrev pub last_part : ProgramPart → ProgramPart
-last_part (Flat wide form) = Flat wide (alone_form form)
-last_part NoPart = NoPart
-last_part _ = BeforeCommands
+last_part (Complete wide kind) = Product wide (is_named_kind kind)
+last_part (Product wide false) = Product wide false
+last_part (Commands optional) = BeforeCommands
+last_part BeforeCommands = BeforeCommands
+last_part _ = NoPart
+
+-- it may stand before others: of a named one the keys have to be apart, behind a word there is none
+abbrev pub may_stand : Kind → Bool → Bool → Bool
+may_stand Named apart none = apart
+may_stand Word apart none = none
 
 -- as a field before others
 abbrev pub before_part : ProgramPart → ProgramPart → Bool → Bool → ProgramPart
-before_part (Flat wide first) (Flat other rest) apart none =
-    Flat (wide || other) (before_form first rest apart none)
-before_part (Flat wide (Complete Named)) BeforeCommands apart none = part_if apart BeforeCommands
+before_part (Complete wide kind) (Product other named) apart none =
+    part_if (may_stand kind apart none) (Product (wide || other) (is_named_kind kind && named))
+before_part (Complete wide Named) BeforeCommands apart none = part_if apart BeforeCommands
 before_part _ _ apart none = NoPart
 
 -- with a constructor
 abbrev pub made_part : ProgramPart → ProgramPart
-made_part (Flat wide form) = Flat wide (made_form form)
+made_part (Product wide named) = Product wide named
 made_part BeforeCommands = BeforeCommands
 made_part _ = NoPart
 
--- the choice of parsers before, which are this part, and of one more
-abbrev pub joined_part : {P T : Type 0} → (P → Grammar T) → Variables → List P → ProgramPart → P
-    → ProgramPart
-joined_part of variables before part p =
-    chosen_part (are_all_apart (keys_of (choices of before) true) (keys_of (of p) true))
-    (are_words_apart (command_words (choices of before)) (command_words (of p))) part
-    (part_of (program_form (of p) variables))
+-- a program
+abbrev pub is_program_part : ProgramPart → Bool
+is_program_part NoPart = false
+is_program_part _ = true
 
--- the choice of them and of others
-abbrev pub parts_rest : {P T : Type 0} → (P → Grammar T) → Variables → List P → ProgramPart
-    → List P → ProgramPart
-parts_rest of variables before part [] = part
-parts_rest of variables before part (p ∷ ps) =
-    parts_rest of variables (before ++ p ∷ []) (joined_part of variables before part p) ps
+-- a flat record
+abbrev pub is_record_part : ProgramPart → Bool
+is_record_part (Alternative wide) = not wide
+is_record_part (Single wide kind) = not wide
+is_record_part (Complete wide kind) = not wide
+is_record_part (Product wide named) = not wide
+is_record_part _ = false
+
+-- behind the word of a command
+abbrev pub command_part : Bool → ProgramPart → ProgramPart
+command_part opens part = part_if (opens && is_program_part part) (Commands false)

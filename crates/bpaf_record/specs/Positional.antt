@@ -11,9 +11,9 @@ use Rattle.bpaf_line.specs.Situation.{Situation}
 use Rattle.bpaf_exact.specs.Flat.{class, class_of, Variables}
 use Rattle.bpaf_exact.specs.Leaves.{WordValue, WordEval, word_by, word_fault}
 use Rattle.bpaf_exact.specs.Leaves.{word_memory, word_missing, word_passed, word_read}
-use Rattle.bpaf_exact.specs.FlatForm.{FormLaw}
+use Rattle.bpaf_exact.specs.ProgramForm.{FormLaw}
 use Rattle.bpaf_exact.specs.Pieces.{One}
-use Rattle.bpaf_exact.proofs.Narrow.{narrower_form, no_more}
+use Rattle.bpaf_exact.proofs.{Narrow.no_more, ProgramForm.narrower_form}
 use Rattle.bpaf_exact.proofs.Positionals.{stands_before, word_by_law, word_is}
 use Rattle.bpaf.specs.declared.leaves.positional.Position.{Position}
 use Rattle.bpaf.specs.Positional.{PositionalOutcome, PositionalFails, accepts}
@@ -70,7 +70,8 @@ module _ (T : Type 0) (means : List ℕ → T → Type 0) (position : Position) 
 -- a positional word keeps to the laws of its form
 pub positional_law : (env : Variables) (T : Type 0) (means : List ℕ → T → Type 0)
     (position : Position) (metavar : List ℕ)
-    → FormLaw env (PositionalOutcome means position metavar) [] (word_by (accepts position) means)
+    → FormLaw env (PositionalOutcome means position metavar) [] []
+    (word_by (accepts position) means)
 positional_law env T means position metavar =
-    narrower_form env T _ _ (no_more (word_within T means position metavar)) []
+    narrower_form env T _ _ (no_more (word_within T means position metavar)) [] []
     (word_by (accepts position) means) (word_by_law env T (accepts position) means)

@@ -13,8 +13,8 @@ use Rattle.bpaf_exact.specs.Accepted.{HoldsTogether}
 use Rattle.bpaf_exact.specs.Names.{are_apart}
 use Rattle.bpaf_exact.specs.Pieces.{LinePiece, Cut}
 use Rattle.bpaf_exact.specs.Record.{RunAnswer, Accepted, NoMemory, Refusal, RecordValue, line_cells}
-use Rattle.bpaf_exact.specs.FlatForm.{FlatForm, is_record, product_roles, product_reading}
-use Rattle.bpaf_exact.specs.FlatForm.{flat_record}
+use Rattle.bpaf_exact.specs.ProgramForm.{ProgramForm, is_record, product_roles, product_reading}
+use Rattle.bpaf_exact.specs.ProgramForm.{whole_program}
 
 -- none of these keys shares a name with those of help and version
 abbrev pub are_unusual : List Names → RunInfo → Bool
@@ -23,7 +23,7 @@ are_unusual keys info =
     && list_all (are_apart info.version_arg.names) keys
 
 -- a flat record none of whose keys shares a name with those of help and version
-abbrev pub is_flat_record : {T : Type 0} → FlatForm T → List Names → RunInfo → Bool
+abbrev pub is_flat_record : {T : Type 0} → ProgramForm T → List Names → RunInfo → Bool
 is_flat_record form keys info = is_record form && are_unusual keys info
 
 -- the answer of a run, as exactness sees it: a text that was asked for is no value
@@ -34,30 +34,30 @@ answer_of (Err (failure.Stderr doc)) = Refusal
 answer_of (Err failure.Memory) = NoMemory
 
 -- v is a value of the record on words: on their line, by the names that it knows
-pub record IsValueOf {T : Type 0} (known : Known) (form : FlatForm T) (given : Given) (v : T)
+pub record IsValueOf {T : Type 0} (known : Known) (form : ProgramForm T) (given : Given) (v : T)
     : Type 0 where
   pub context : Context
   pub on_line : IsContext known given context
-  pub read : RecordValue (product_roles (flat_record form))
-      (product_reading (flat_record form)).value context v
+  pub read : RecordValue (product_roles (whole_program form))
+      (product_reading (whole_program form)).value context v
 
 -- v is a value of the record on words whose line, as it is cut for v, holds together
-pub record HasWholeLine {T : Type 0} (known : Known) (form : FlatForm T) (given : Given) (v : T)
+pub record HasWholeLine {T : Type 0} (known : Known) (form : ProgramForm T) (given : Given) (v : T)
     : Type 0 where
   pub is_value : IsValueOf known form given v
-  pub together : HoldsTogether (product_roles (flat_record form)) (line_cells is_value.context)
+  pub together : HoldsTogether (product_roles (whole_program form)) (line_cells is_value.context)
       is_value.read.cut_into
 
 -- the pieces that the line of words is cut into for the record
-pub record PiecesOf {T : Type 0} (known : Known) (form : FlatForm T) (given : Given) : Type 0 where
+pub record PiecesOf {T : Type 0} (known : Known) (form : ProgramForm T) (given : Given) : Type 0 where
   pub context : Context
   pub on_line : IsContext known given context
   pub cut_into : List LinePiece
-  pub cut : Cut (product_roles (flat_record form)) (line_cells context) cut_into
+  pub cut : Cut (product_roles (whole_program form)) (line_cells context) cut_into
 
 -- each field of the record has a value on its portion of these
-abbrev pub EachHasValue : {T : Type 0} → FlatForm T → List LinePiece → Type 0
-EachHasValue form = (product_reading (flat_record form)).each
+abbrev pub EachHasValue : {T : Type 0} → ProgramForm T → List LinePiece → Type 0
+EachHasValue form = (product_reading (whole_program form)).each
 
 -- an answer is one of these values, or want of memory
 abbrev pub IsValueOrWant : {T : Type 0} → (T → Type 0) → Result T ParseFailure → Type 0
@@ -65,7 +65,7 @@ IsValueOrWant value (Ok v) = value v
 IsValueOrWant value (Err f) = f ≡ failure.Memory
 
 -- An answer to words, field by field. That fields have values is said of words that are texts.
-pub record AnswersByFields (T : Type 0) (known : Known) (form : FlatForm T) (given : Given)
+pub record AnswersByFields (T : Type 0) (known : Known) (form : ProgramForm T) (given : Given)
     (r : Result T ParseFailure) : Type 0 where
   -- it is a value only where that is one of the record's, on a line that holds together
   pub whole : IfOk r (HasWholeLine known form given)

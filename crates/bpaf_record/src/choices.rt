@@ -1,10 +1,10 @@
 //! Choices of fields, and of commands.
-ghost use Rattle.std.specs.Prelude.{◌≡◌, ◌≤◌, length, take, drop, true};
+ghost use Rattle.std.specs.Prelude.{◌≡◌, ◌≤◌, flat_map, length, take, true};
 ghost use Rattle.std.specs.List.{list_all};
 ghost use Rattle.bpaf_exact.specs.Flat.{Variables};
-ghost use Rattle.bpaf_record.specs.Grammar.{choices, command_words, keys_of, program_form};
+ghost use Rattle.bpaf_record.specs.Grammar.{choices_of, command_words, keys_of, program_form};
 ghost use Rattle.bpaf_record.specs.Grammar.{said_kind};
-ghost use Rattle.bpaf_record.specs.Part.{part_of, parts_rest};
+ghost use Rattle.bpaf_record.specs.Part.{part_of};
 
 use crate::field::{FlatField, ProgramField};
 use crate::keys::{ApartFromField, KeyTest};
@@ -75,7 +75,7 @@ impl<T: Drop, A: FlatField<T>, B: FlatField<T>> FlatField<T> for ParseOrElse<A, 
 #[tactic(auto, using(crate::proofs::Parts::all_joined))]
 fn all_keys_of<T, P: ProgramField<T>, N: KeyTest>(parsers: &[P], test: &N) -> bool
     ensures { result ≡ list_all (N.accepts test.now)
-        (keys_of (choices P.grammar parsers.now) (N.deep test.now)) }
+        (flat_map (λ p. keys_of (P.grammar p) (N.deep test.now)) parsers.now) }
 {
     match parsers {
         [] => true,
@@ -91,7 +91,7 @@ fn all_keys_of<T, P: ProgramField<T>, N: KeyTest>(parsers: &[P], test: &N) -> bo
 #[tactic(auto, using(crate::proofs::Parts::all_joined))]
 fn all_words_of<T, P: ProgramField<T>, W: WordTest>(parsers: &[P], test: &W) -> bool
     ensures { result ≡ list_all (W.accepts test.now)
-        (command_words (choices P.grammar parsers.now)) }
+        (flat_map (λ p. command_words (P.grammar p)) parsers.now) }
 {
     match parsers {
         [] => true,
@@ -103,11 +103,13 @@ fn all_words_of<T, P: ProgramField<T>, W: WordTest>(parsers: &[P], test: &W) -> 
     }
 }
 
-/// The choice of what the first of these parsers is with all others.
+/// The choice of the first of these parsers, which is this, with all others.
 fn join_rest<T, P: ProgramField<T>>(parsers: &[P], first: ProgramPart) -> ProgramPart
-    requires { 1 ≤ length parsers.now }
+    requires some { 1 ≤ length parsers.now }
+    requires first { (variables : Variables) → first
+        ≡ part_of (program_form (choices_of P.grammar (take 1 parsers.now)) variables) }
     ensures { (variables : Variables) → result
-        ≡ parts_rest P.grammar variables (take 1 parsers.now) first (drop 1 parsers.now) }
+        ≡ part_of (program_form (choices_of P.grammar parsers.now) variables) }
 {
     let mut part = first;
     for index in 1..parsers.len() {
@@ -130,30 +132,30 @@ fn join_rest<T, P: ProgramField<T>>(parsers: &[P], first: ProgramPart) -> Progra
 /// The choice of these parsers; of none it is nothing.
 fn join_all<T, P: ProgramField<T>>(parsers: &[P]) -> ProgramPart
     ensures { (variables : Variables) →
-        result ≡ part_of (program_form (choices P.grammar parsers.now) variables) }
+        result ≡ part_of (program_form (choices_of P.grammar parsers.now) variables) }
 {
     match parsers {
         [] => ProgramPart::NoPart,
-        [first, ..] => join_rest(parsers, first.part().first()),
+        [first, ..] => join_rest(parsers, first.part()),
     }
 }
 
 /// Of required flags and arguments alone, whose names are apart; or of commands alone, whose words
 /// are. A choice of none is nothing.
 impl<T: Drop, P: ProgramField<T> + Drop> ProgramField<T> for ParseChoice<P> {
-    ghost use Rattle.bpaf_exact.specs.FlatForm.{EachAgrees};
+    ghost use Rattle.bpaf_exact.specs.ProgramForm.{EachAgrees};
     ghost use Rattle.bpaf_exact.specs.ProgramSays.{said_choices};
-    ghost use Rattle.bpaf_exact.proofs.ProgramForm.{program_choices_law};
-    ghost use Rattle.bpaf_exact.proofs.ProgramSays.{program_choices_says};
+    ghost use Rattle.bpaf_record.specs.Grammar.{only};
+    ghost use Rattle.bpaf_record.specs.Nested.{choices_law, choices_says};
 
-    ghost grammar = { λ p. choices P.grammar p.parsers.items };
+    ghost grammar = { λ p. only (choices_of P.grammar p.parsers.items) };
 
     ghost says = { λ variables. said_choices (λ p. p.parsers.items) (P.says variables) };
 
     ghost agrees = { λ p. EachAgrees P.agrees p.parsers.items };
 
     fn part(&self) -> ProgramPart {
-        join_all(self.parsers.as_slice())
+        join_all(self.parsers.as_slice()).only()
     }
 
     fn all_keys<N: KeyTest>(&self, test: &N) -> bool {
@@ -164,14 +166,12 @@ impl<T: Drop, P: ProgramField<T> + Drop> ProgramField<T> for ParseChoice<P> {
         all_words_of::<T, P, W>(self.parsers.as_slice(), test)
     }
 
-    ghost law = { λ p a variables. program_choices_law variables _ T P.outcome
-        (λ q. keys_of (P.grammar q) true) (λ q. command_words (P.grammar q))
-        (λ q. program_form (P.grammar q) variables) P.agrees (λ q b. P.law q b variables)
-        p.parsers.items a };
+    ghost law = { λ p a variables. choices_law P.grammar variables P.outcome P.agrees
+        (λ q b. P.law q b variables) p.parsers.items a };
 
-    ghost said = { λ p a variables. program_choices_says (λ q. keys_of (P.grammar q) true)
-        (λ q. command_words (P.grammar q)) (λ q. program_form (P.grammar q) variables)
-        (λ q. said_kind (P.grammar q) variables) P.agrees p _ (λ p. p.parsers.items)
+    ghost said = { λ p a variables. choices_says P.grammar variables p
+        (keys_of (only (choices_of P.grammar p.parsers.items)) true)
+        (λ q. said_kind (P.grammar q) variables) P.agrees (λ p. p.parsers.items)
         (P.says variables) (λ q b. P.said q b variables) a };
 }
 

@@ -53,7 +53,7 @@ impl<T, R, E: Display + Drop, P: ProgramField<T>, F: Fn(T) -> Result<R, E>> Prog
     for ParseWith<T, P, F, E, R> {
     ghost use Rattle.bpaf_exact.specs.Flat.{Variables};
     ghost use Rattle.bpaf_exact.specs.Wrappers.{parse_closure};
-    ghost use Rattle.bpaf_exact.specs.ProgramForm.{ProgramAgrees};
+    ghost use Rattle.bpaf_exact.specs.ProgramForm.{Agrees};
     ghost use Rattle.bpaf_exact.specs.ProgramSays.{said_closed};
     ghost use Rattle.bpaf_exact.proofs.ByTables.{parse_law};
     ghost use Rattle.bpaf_exact.proofs.ProgramSays.{program_closed_says};
@@ -66,7 +66,7 @@ impl<T, R, E: Display + Drop, P: ProgramField<T>, F: Fn(T) -> Result<R, E>> Prog
         (λ p. parse_closure (λ x y. F.post p.parse_fn x y)) (P.says variables) };
 
     ghost agrees = { λ p. P.agrees p.inner
-        × ((variables : Variables) → ProgramAgrees (parse_closure (λ x y. F.post p.parse_fn x y))
+        × ((variables : Variables) → Agrees (parse_closure (λ x y. F.post p.parse_fn x y))
         (program_form (P.grammar p.inner) variables)) };
 
     #[tactic(auto, using(crate::proofs::Parts::closed_part_is))]
@@ -99,7 +99,7 @@ impl<'m, T: Drop, P: ProgramField<T>, F: Fn(&T) -> bool> ProgramField<T> for Par
     ghost use Rattle.bpaf_exact.specs.Flat.{Variables};
     ghost use Rattle.std.specs.Fn.{FnReturnsAt};
     ghost use Rattle.bpaf_exact.specs.Wrappers.{guard_closure};
-    ghost use Rattle.bpaf_exact.specs.ProgramForm.{ProgramAgrees};
+    ghost use Rattle.bpaf_exact.specs.ProgramForm.{Agrees};
     ghost use Rattle.bpaf_exact.specs.ProgramSays.{said_closed};
     ghost use Rattle.bpaf_exact.proofs.ByTables.{guard_law};
     ghost use Rattle.bpaf_exact.proofs.ProgramSays.{program_closed_says};
@@ -111,7 +111,7 @@ impl<'m, T: Drop, P: ProgramField<T>, F: Fn(&T) -> bool> ProgramField<T> for Par
         (λ p. guard_closure (FnReturnsAt F.Fn p.check)) (P.says variables) };
 
     ghost agrees = { λ p. P.agrees p.inner
-        × ((variables : Variables) → ProgramAgrees (guard_closure (FnReturnsAt F.Fn p.check))
+        × ((variables : Variables) → Agrees (guard_closure (FnReturnsAt F.Fn p.check))
         (program_form (P.grammar p.inner) variables)) };
 
     #[tactic(auto, using(crate::proofs::Parts::closed_part_is))]

@@ -54,7 +54,7 @@ impl<T: Drop, P: ProgramField<T>> ProgramField<T> for ParseCommand<T, P> {
         (keys_of (P.grammar p.inner) true) (command_words (P.grammar p.inner))
         (program_form (P.grammar p.inner) variables) (P.law p.inner a variables) };
 
-    ghost said = { λ p a variables. program_command_says (λ p. p.inner) p variables
+    ghost said = { λ p a variables. program_command_says variables (λ p. p.inner) p
         (P.outcome p.inner) (command_words (P.grammar p.inner))
         (λ p. program_form (P.grammar p) variables) p.adjacent
         (are_unusual (keys_of (P.grammar p.inner) false) p.info) (λ p. p.names)

@@ -24,7 +24,7 @@ impl<T: Drop, P: ProgramField<T>> ProgramField<Option<T>> for ParseOptional<P> {
 
     #[tactic(auto, using(crate::proofs::Parts::optional_part_is))]
     fn part(&self) -> ProgramPart {
-        self.inner.part().optional_unless(self.catch)
+        self.inner.part().optional().only_if(!self.catch)
     }
 
     fn all_keys<N: KeyTest>(&self, test: &N) -> bool {
@@ -39,8 +39,8 @@ impl<T: Drop, P: ProgramField<T>> ProgramField<Option<T>> for ParseOptional<P> {
         (keys_of (P.grammar p.inner) true) (command_words (P.grammar p.inner))
         (program_form (P.grammar p.inner) variables) (P.law p.inner a variables) };
 
-    ghost said = { λ p a variables. program_optional_says (λ p. p.inner) p p.catch
-        (P.said p.inner a variables) };
+    ghost said = { λ p a variables. program_optional_says (λ p. p.inner) p
+        (P.said p.inner a variables) p.catch };
 }
 
 impl<T: Drop, P: FlatField<T>> FlatField<Option<T>> for ParseOptional<P> {}
@@ -61,7 +61,7 @@ impl<T: Clone, P: ProgramField<T>> ProgramField<T> for ParseFallback<P, T> {
 
     #[tactic(auto, using(crate::proofs::Parts::fallback_part_is))]
     fn part(&self) -> ProgramPart {
-        self.inner.part().completed_unless(false)
+        self.inner.part().completed()
     }
 
     fn all_keys<N: KeyTest>(&self, test: &N) -> bool {
@@ -77,7 +77,7 @@ impl<T: Clone, P: ProgramField<T>> ProgramField<T> for ParseFallback<P, T> {
         (program_form (P.grammar p.inner) variables) (P.law p.inner a variables) };
 
     ghost said = { λ p a variables. program_fallback_says (λ p. p.inner) p
-        (λ p. map_closure (λ u. T.is_clone p.value)) (P.said p.inner a variables) };
+        (P.said p.inner a variables) (λ p. map_closure (λ u. T.is_clone p.value)) };
 }
 
 impl<T: Clone, P: FlatField<T>> FlatField<T> for ParseFallback<P, T> {}
@@ -101,7 +101,7 @@ impl<T, E: Display + Drop, P: ProgramField<T>, F: Fn() -> Result<T, E>> ProgramF
 
     #[tactic(auto, using(crate::proofs::Parts::fallback_part_is))]
     fn part(&self) -> ProgramPart {
-        self.inner.part().completed_unless(false)
+        self.inner.part().completed()
     }
 
     fn all_keys<N: KeyTest>(&self, test: &N) -> bool {
@@ -117,7 +117,7 @@ impl<T, E: Display + Drop, P: ProgramField<T>, F: Fn() -> Result<T, E>> ProgramF
         (program_form (P.grammar p.inner) variables) a.1 (P.law p.inner a.0 variables) };
 
     ghost said = { λ p a variables. program_fallback_says (λ p. p.inner) p
-        (λ p. answer_closure (λ r. F.post p.fallback r)) (P.said p.inner a.0 variables) };
+        (P.said p.inner a.0 variables) (λ p. answer_closure (λ r. F.post p.fallback r)) };
 }
 
 impl<T, E: Display + Drop, P: FlatField<T>, F> FlatField<T> for ParseFallbackWith<T, P, F, E> {}

@@ -10,7 +10,7 @@ use bpaf::{Fields, Parser};
 /// A parser that may be a field of a program, a command, or a program itself.
 pub trait ProgramField<T>: Parser<T> {
     ghost use Rattle.std.specs.Prelude.{true};
-    ghost use Rattle.bpaf_exact.specs.ProgramForm.{ProgramFormLaw};
+    ghost use Rattle.bpaf_exact.specs.ProgramForm.{FormLaw};
     ghost use Rattle.bpaf_exact.specs.ProgramSays.{ProgramSaid, ProgramSays};
     ghost use Rattle.bpaf_exact.specs.Flat.{Variables};
     ghost use Rattle.bpaf_record.specs.Grammar.{Grammar, command_words, keys_of, program_form};
@@ -45,7 +45,7 @@ pub trait ProgramField<T>: Parser<T> {
 
     /// What it answers and takes depends on what is its own alone, as its form says.
     ghost law: { (p : Self) → agrees p → (variables : Variables)
-        → ProgramFormLaw variables (Self.Parser.outcome p) (keys_of (grammar p) true)
+        → FormLaw variables (Self.Parser.outcome p) (keys_of (grammar p) true)
         (command_words (grammar p)) (program_form (grammar p) variables) };
 
     /// Its value says so.

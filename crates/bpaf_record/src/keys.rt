@@ -167,7 +167,7 @@ impl KeyTest for ApartFromUsual<'_> {
     ghost accepts = { λ t names.
         are_apart (record { shorts = t.short ∷ []; longs = t.long.now ∷ [] }) names };
 
-    #[tactic(auto, using(crate::proofs::Forms::and_true))]
+    #[tactic(auto, using(crate::proofs::Parts::and_true))]
     fn test(&self, key: &NamedArg) -> bool {
         let short = lacks_short(key.shorts(), self.short);
         let long = is_text_among(key.longs(), self.long);

@@ -2,9 +2,8 @@
 ghost use Rattle.std.specs.Prelude.{◌≡◌, [], false, true};
 
 use crate::field::{FlatField, ProgramField};
-use crate::form::{Form, Kind};
 use crate::keys::KeyTest;
-use crate::part::ProgramPart;
+use crate::part::{Kind, ProgramPart};
 use crate::words::WordTest;
 use bpaf::parsers::{ParseArgument, ParseFlag, ParsePure};
 use bpaf::{FromText, ParsePositional, Position};
@@ -26,15 +25,15 @@ impl<T: Clone> ProgramField<T> for ParseFlag<T> {
     ghost agrees = { λ p. Unit {0} };
 
     fn part(&self) -> ProgramPart {
-        let (wide, form) = match (self.named.envs(), &self.absent) {
-            ([_, ..], _) => (true, Form::Single(Kind::Named)),
-            ([], Some(_)) => (false, Form::Single(Kind::Named)),
-            ([], None) => (false, Form::Alternative),
-        };
-        ProgramPart::Flat { wide, form }
+        let kind = Kind::Named;
+        match (self.named.envs(), &self.absent) {
+            ([_, ..], _) => ProgramPart::Single { wide: true, kind },
+            ([], Some(_)) => ProgramPart::Single { wide: false, kind },
+            ([], None) => ProgramPart::Alternative { wide: false },
+        }
     }
 
-    #[tactic(auto, using(crate::proofs::Forms::and_true))]
+    #[tactic(auto, using(crate::proofs::Parts::and_true))]
     fn all_keys<N: KeyTest>(&self, test: &N) -> bool {
         test.test(&self.named)
     }
@@ -70,15 +69,16 @@ impl<T: FromText> ProgramField<T> for ParseArgument<T> {
     ghost agrees = { λ p. Unit {0} };
 
     fn part(&self) -> ProgramPart {
-        let (wide, form) = match (self.named.envs(), self.last) {
-            ([_, ..], _) => (true, Form::Single(Kind::Named)),
-            ([], false) => (self.adjacent, Form::Alternative),
-            ([], true) => (self.adjacent, Form::Single(Kind::Named)),
-        };
-        ProgramPart::Flat { wide, form }
+        let kind = Kind::Named;
+        let wide = self.adjacent;
+        match (self.named.envs(), self.last) {
+            ([_, ..], _) => ProgramPart::Single { wide: true, kind },
+            ([], false) => ProgramPart::Alternative { wide },
+            ([], true) => ProgramPart::Single { wide, kind },
+        }
     }
 
-    #[tactic(auto, using(crate::proofs::Forms::and_true))]
+    #[tactic(auto, using(crate::proofs::Parts::and_true))]
     fn all_keys<N: KeyTest>(&self, test: &N) -> bool {
         test.test(&self.named)
     }
@@ -111,9 +111,9 @@ impl<T: FromText> ProgramField<T> for ParsePositional<T> {
     ghost agrees = { λ p. Unit {0} };
 
     fn part(&self) -> ProgramPart {
-        ProgramPart::Flat {
+        ProgramPart::Single {
             wide: !matches!(self.position, Position::Unrestricted),
-            form: Form::Single(Kind::Word),
+            kind: Kind::Word,
         }
     }
 
@@ -146,9 +146,9 @@ impl<T: Clone> ProgramField<T> for ParsePure<T> {
     ghost agrees = { λ p. Unit {0} };
 
     fn part(&self) -> ProgramPart {
-        ProgramPart::Flat {
+        ProgramPart::Complete {
             wide: true,
-            form: Form::Complete(Kind::Named),
+            kind: Kind::Named,
         }
     }
 

@@ -49,7 +49,6 @@ mod command_line;
 mod commands;
 mod defaults;
 mod field;
-mod form;
 mod four;
 mod keys;
 mod leaves;
@@ -63,8 +62,7 @@ mod words;
 
 pub use command_line::CommandLine;
 pub use field::{FlatField, FlatFields, ProgramField, ProgramFields};
-pub use form::{Form, Kind};
 pub use keys::KeyTest;
-pub use part::ProgramPart;
+pub use part::{Kind, ProgramPart};
 pub use record::Record;
 pub use words::WordTest;

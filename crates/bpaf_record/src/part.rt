@@ -1,36 +1,65 @@
 //! What a parser is to a program with commands.
 ghost use Rattle.std.specs.Prelude.{◌≡◌};
 ghost use Rattle.bpaf_record.specs.Part.{before_part, chosen_part, closed_part, command_part};
-ghost use Rattle.bpaf_record.specs.Part.{completed_part, dressed_part, field_part, first_part};
-ghost use Rattle.bpaf_record.specs.Part.{flat_part, is_program_part, last_part, made_part};
-ghost use Rattle.bpaf_record.specs.Part.{optional_part};
+ghost use Rattle.bpaf_record.specs.Part.{completed_part, dressed_part, field_part, is_named_kind};
+ghost use Rattle.bpaf_record.specs.Part.{is_program_part, is_record_part, last_part, made_part};
+ghost use Rattle.bpaf_record.specs.Part.{may_stand, only_part, optional_part, part_if};
 
-use crate::form::{Form, Kind};
+/// What the items of a field are.
+#[derive(Clone, Copy)]
+pub enum Kind {
+    /// Keys with one of its names.
+    Named,
+    /// Positional words.
+    Word,
+}
 
-/// What a parser is to a program with commands.
+impl Kind {
+    /// Whether they are keys.
+    fn is_named(self) -> bool
+        ensures { result ≡ is_named_kind self }
+    {
+        matches!(self, Kind::Named)
+    }
+
+    /// Whether others may stand behind it, whose keys are apart from its own or not: behind a
+    /// positional word no key may.
+    fn may_stand(self, apart: bool, no_key_behind: bool) -> bool
+        ensures { result ≡ may_stand self apart no_key_behind }
+    {
+        match self {
+            Kind::Named => apart,
+            Kind::Word => no_key_behind,
+        }
+    }
+}
+
+/// What a parser is to a program with commands. A wide field or record may stand in a program alone,
+/// and in no flat record.
 #[derive(Clone, Copy)]
 pub enum ProgramPart {
     /// Nothing.
     NoPart,
-    /// A flat field or record. A wide one may stand in a program alone, and in no flat record.
-    Flat { wide: bool, form: Form },
-    /// A command, or a choice of commands.
-    Commands,
-    /// Commands that may be left out.
-    LeftOut,
+    /// A required flag or argument, or a choice of them.
+    Alternative { wide: bool },
+    /// Another field without a repeat or default.
+    Single { wide: bool, kind: Kind },
+    /// A field with a repeat or default.
+    Complete { wide: bool, kind: Kind },
+    /// A product of fields, which are all named or aren't.
+    Product { wide: bool, named: bool },
+    /// A command, or a choice of commands, which may be left out or mayn't.
+    Commands { optional: bool },
     /// Named fields, and then commands.
     BeforeCommands,
 }
 
 impl ProgramPart {
-    /// What it is to a flat record.
-    pub(crate) fn flat(self) -> Form
-        ensures { result ≡ flat_part self }
+    /// This, where a test holds, or nothing.
+    pub(crate) fn only_if(self, test: bool) -> ProgramPart
+        ensures { result ≡ part_if test self }
     {
-        match self {
-            ProgramPart::Flat { wide: false, form } => form,
-            _ => Form::NotFlat,
-        }
+        if test { self } else { ProgramPart::NoPart }
     }
 
     /// With a closure round it: a field and commands stay what they are.
@@ -38,53 +67,43 @@ impl ProgramPart {
         ensures { result ≡ closed_part self }
     {
         match self {
-            ProgramPart::Flat { wide, form } => {
-                let form = form.closed();
-                ProgramPart::Flat { wide, form }
-            }
-            ProgramPart::BeforeCommands => ProgramPart::NoPart,
+            ProgramPart::Product { .. } | ProgramPart::BeforeCommands => ProgramPart::NoPart,
             other => other,
         }
     }
 
-    /// With another look: what it is, but that a flat record is a wide one then.
+    /// With another look: what it is, but that a record is a wide one then.
     pub(crate) fn dressed(self) -> ProgramPart
         ensures { result ≡ dressed_part self }
     {
         match self {
-            ProgramPart::Flat { wide, form } => ProgramPart::Flat {
-                wide: wide || form.is_product(),
-                form,
-            },
+            ProgramPart::Product { named, .. } => ProgramPart::Product { wide: true, named },
             ProgramPart::BeforeCommands => ProgramPart::NoPart,
             other => other,
         }
     }
 
-    /// With a repeat or a default that may catch, and then is no flat field.
-    pub(crate) fn completed_unless(self, catch: bool) -> ProgramPart
-        ensures { result ≡ completed_part catch self }
+    /// With a repeat or a default.
+    pub(crate) fn completed(self) -> ProgramPart
+        ensures { result ≡ completed_part self }
     {
         match self {
-            ProgramPart::Flat { wide, form } => {
-                let form = form.completed_unless(catch);
-                ProgramPart::Flat { wide, form }
-            }
+            ProgramPart::Alternative { wide } => ProgramPart::Complete {
+                wide,
+                kind: Kind::Named,
+            },
+            ProgramPart::Single { wide, kind } => ProgramPart::Complete { wide, kind },
             _ => ProgramPart::NoPart,
         }
     }
 
-    /// What may be left out; with `catch` it is none.
-    pub(crate) fn optional_unless(self, catch: bool) -> ProgramPart
-        ensures { result ≡ optional_part catch self }
+    /// What may be left out.
+    pub(crate) fn optional(self) -> ProgramPart
+        ensures { result ≡ optional_part self }
     {
         match self {
-            ProgramPart::Flat { wide, form } => {
-                let form = form.completed_unless(catch);
-                ProgramPart::Flat { wide, form }
-            }
-            ProgramPart::Commands if !catch => ProgramPart::LeftOut,
-            _ => ProgramPart::NoPart,
+            ProgramPart::Commands { optional: false } => ProgramPart::Commands { optional: true },
+            other => other.completed(),
         }
     }
 
@@ -98,32 +117,24 @@ impl ProgramPart {
         ensures { result ≡ chosen_part keys_apart words_apart self other }
     {
         match (self, other) {
-            (
-                ProgramPart::Flat { wide, form },
-                ProgramPart::Flat {
-                    wide: other,
-                    form: that,
-                },
-            ) => {
+            (ProgramPart::Alternative { wide }, ProgramPart::Alternative { wide: other }) => {
                 let wide = wide || other;
-                let form = form.or_else(that, keys_apart);
-                ProgramPart::Flat { wide, form }
+                ProgramPart::Alternative { wide }.only_if(keys_apart)
             }
-            (ProgramPart::Commands, ProgramPart::Commands) if words_apart => ProgramPart::Commands,
+            (
+                ProgramPart::Commands { optional: false },
+                ProgramPart::Commands { optional: false },
+            ) => ProgramPart::Commands { optional: false }.only_if(words_apart),
             _ => ProgramPart::NoPart,
         }
     }
 
     /// The choice of it alone.
-    pub(crate) fn first(self) -> ProgramPart
-        ensures { result ≡ first_part self }
+    pub(crate) fn only(self) -> ProgramPart
+        ensures { result ≡ only_part self }
     {
         match self {
-            ProgramPart::Flat { wide, form } => {
-                let form = form.alternative();
-                ProgramPart::Flat { wide, form }
-            }
-            ProgramPart::Commands => ProgramPart::Commands,
+            ProgramPart::Alternative { .. } | ProgramPart::Commands { optional: false } => self,
             _ => ProgramPart::NoPart,
         }
     }
@@ -132,11 +143,8 @@ impl ProgramPart {
     pub(crate) fn command(self, opens: bool) -> ProgramPart
         ensures { result ≡ command_part opens self }
     {
-        if opens && self.is_program() {
-            ProgramPart::Commands
-        } else {
-            ProgramPart::NoPart
-        }
+        let opens = opens && self.is_program();
+        ProgramPart::Commands { optional: false }.only_if(opens)
     }
 
     /// As a field of a product.
@@ -144,10 +152,15 @@ impl ProgramPart {
         ensures { result ≡ field_part self }
     {
         match self {
-            ProgramPart::Flat { wide, form } => ProgramPart::Flat {
-                wide: wide || form.is_product(),
-                form: form.field(),
+            ProgramPart::Product { named: true, .. } => ProgramPart::Complete {
+                wide: true,
+                kind: Kind::Named,
             },
+            ProgramPart::Product { named: false, .. } => ProgramPart::Product {
+                wide: true,
+                named: false,
+            },
+            ProgramPart::Alternative { .. } | ProgramPart::Single { .. } => self.completed(),
             other => other,
         }
     }
@@ -157,12 +170,15 @@ impl ProgramPart {
         ensures { result ≡ last_part self }
     {
         match self {
-            ProgramPart::Flat { wide, form } => {
-                let form = form.alone();
-                ProgramPart::Flat { wide, form }
+            ProgramPart::Complete { wide, kind } => {
+                let named = kind.is_named();
+                ProgramPart::Product { wide, named }
             }
-            ProgramPart::NoPart => ProgramPart::NoPart,
-            _ => ProgramPart::BeforeCommands,
+            ProgramPart::Product { named: false, .. } => self,
+            ProgramPart::Commands { .. } | ProgramPart::BeforeCommands => {
+                ProgramPart::BeforeCommands
+            }
+            _ => ProgramPart::NoPart,
         }
     }
 
@@ -172,24 +188,18 @@ impl ProgramPart {
         ensures { result ≡ before_part self rest apart no_key_behind }
     {
         match (self, rest) {
-            (
-                ProgramPart::Flat { wide, form },
-                ProgramPart::Flat {
-                    wide: other,
-                    form: rest,
-                },
-            ) => {
+            (ProgramPart::Complete { wide, kind }, ProgramPart::Product { wide: other, named }) => {
                 let wide = wide || other;
-                let form = form.before(rest, apart, no_key_behind);
-                ProgramPart::Flat { wide, form }
+                let named = kind.is_named() && named;
+                ProgramPart::Product { wide, named }.only_if(kind.may_stand(apart, no_key_behind))
             }
             (
-                ProgramPart::Flat {
-                    form: Form::Complete(Kind::Named),
+                ProgramPart::Complete {
+                    kind: Kind::Named,
                     ..
                 },
                 ProgramPart::BeforeCommands,
-            ) if apart => ProgramPart::BeforeCommands,
+            ) => ProgramPart::BeforeCommands.only_if(apart),
             _ => ProgramPart::NoPart,
         }
     }
@@ -199,11 +209,7 @@ impl ProgramPart {
         ensures { result ≡ made_part self }
     {
         match self {
-            ProgramPart::Flat { wide, form } => {
-                let form = form.made();
-                ProgramPart::Flat { wide, form }
-            }
-            ProgramPart::BeforeCommands => ProgramPart::BeforeCommands,
+            ProgramPart::Product { .. } | ProgramPart::BeforeCommands => self,
             _ => ProgramPart::NoPart,
         }
     }
@@ -212,10 +218,19 @@ impl ProgramPart {
     pub(crate) fn is_program(self) -> bool
         ensures { result ≡ is_program_part self }
     {
+        !matches!(self, ProgramPart::NoPart)
+    }
+
+    /// Whether it is a flat record: one field, or a product.
+    pub(crate) fn is_record(self) -> bool
+        ensures { result ≡ is_record_part self }
+    {
         match self {
-            ProgramPart::NoPart => false,
-            ProgramPart::Flat { form, .. } => form.is_record(),
-            _ => true,
+            ProgramPart::Alternative { wide }
+            | ProgramPart::Single { wide, .. }
+            | ProgramPart::Complete { wide, .. }
+            | ProgramPart::Product { wide, .. } => !wide,
+            _ => false,
         }
     }
 }

@@ -71,24 +71,22 @@ pub trait Record<T>: CommandLine<T> {
 }
 
 impl<T: Drop, P: ProgramField<T> + FlatField<T>> Record<T> for OptionParser<T, P> {
-    ghost use Rattle.bpaf_exact.specs.ProgramForm.{flat_form};
     ghost use Rattle.bpaf.specs.Known.{known_names};
     ghost use Rattle.bpaf_record.specs.Record.{is_flat_record, AnswersByFields};
 
     ghost is_flat = { λ p variables. is_flat_record
-        (flat_form (program_form (P.grammar p.inner) variables)) (keys_of (P.grammar p.inner) false)
-        p.info };
+        (program_form (P.grammar p.inner) variables) (keys_of (P.grammar p.inner) false) p.info };
 
     #[tactic(auto, using(crate::proofs::Parts::record_part_is))]
     fn is_record(&self) -> bool {
-        let flat = self.inner.part().flat().is_record();
+        let flat = self.inner.part().is_record();
         let unusual = are_unusual::<T, P>(&self.inner, &self.info);
         flat && unusual
     }
 
     ghost answers_by_fields = { λ p given. AnswersByFields T
         (known_names p.info (P.shorts p.inner))
-        (flat_form (program_form (P.grammar p.inner) given.env)) given };
+        (program_form (P.grammar p.inner) given.env) given };
 
     fn run_record(&self, args: Args<'_>) -> Result<T, ParseFailure> {
         self.run_program(args)

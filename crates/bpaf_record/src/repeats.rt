@@ -25,7 +25,7 @@ impl<T: Drop, P: ProgramField<T>> ProgramField<Vec<T>> for ParseMany<P> {
 
     #[tactic(auto, using(crate::proofs::Parts::repeat_part_is))]
     fn part(&self) -> ProgramPart {
-        self.inner.part().completed_unless(self.catch)
+        self.inner.part().completed().only_if(!self.catch)
     }
 
     fn all_keys<N: KeyTest>(&self, test: &N) -> bool {
@@ -40,8 +40,8 @@ impl<T: Drop, P: ProgramField<T>> ProgramField<Vec<T>> for ParseMany<P> {
         (command_words (P.grammar p.inner)) (program_form (P.grammar p.inner) variables)
         (P.law p.inner a variables) };
 
-    ghost said = { λ p a variables. program_repeat_says (λ p. p.inner) p p.catch (list_closure T)
-        (P.said p.inner a variables) };
+    ghost said = { λ p a variables. program_repeat_says (λ p. p.inner) p
+        (P.said p.inner a variables) p.catch (list_closure T) };
 }
 
 impl<T: Drop, P: FlatField<T>> FlatField<Vec<T>> for ParseMany<P> {}
@@ -62,7 +62,7 @@ impl<'m, T: Drop, P: ProgramField<T>> ProgramField<Vec<T>> for ParseSome<'m, P> 
 
     #[tactic(auto, using(crate::proofs::Parts::repeat_part_is))]
     fn part(&self) -> ProgramPart {
-        self.inner.part().completed_unless(self.catch)
+        self.inner.part().completed().only_if(!self.catch)
     }
 
     fn all_keys<N: KeyTest>(&self, test: &N) -> bool {
@@ -77,8 +77,8 @@ impl<'m, T: Drop, P: ProgramField<T>> ProgramField<Vec<T>> for ParseSome<'m, P> 
         (keys_of (P.grammar p.inner) true) (command_words (P.grammar p.inner))
         (program_form (P.grammar p.inner) variables) (P.law p.inner a variables) };
 
-    ghost said = { λ p a variables. program_repeat_says (λ p. p.inner) p p.catch (some_closure T)
-        (P.said p.inner a variables) };
+    ghost said = { λ p a variables. program_repeat_says (λ p. p.inner) p
+        (P.said p.inner a variables) p.catch (some_closure T) };
 }
 
 impl<'m, T: Drop, P: FlatField<T>> FlatField<Vec<T>> for ParseSome<'m, P> {}
@@ -100,7 +100,7 @@ impl<T: Drop, C: FromList<T> + Drop, P: ProgramField<T>> ProgramField<C> for Par
 
     #[tactic(auto, using(crate::proofs::Parts::repeat_part_is))]
     fn part(&self) -> ProgramPart {
-        self.inner.part().completed_unless(self.catch)
+        self.inner.part().completed().only_if(!self.catch)
     }
 
     fn all_keys<N: KeyTest>(&self, test: &N) -> bool {
@@ -115,9 +115,9 @@ impl<T: Drop, C: FromList<T> + Drop, P: ProgramField<T>> ProgramField<C> for Par
         (keys_of (P.grammar p.inner) true) (command_words (P.grammar p.inner))
         (program_form (P.grammar p.inner) variables) (P.law p.inner a variables) };
 
-    ghost said = { λ p a variables. program_repeat_says (λ p. p.inner) p p.catch
-        (map_closure C.fills)
-        (P.said p.inner a variables) };
+    ghost said = { λ p a variables. program_repeat_says (λ p. p.inner) p
+        (P.said p.inner a variables) p.catch
+        (map_closure C.fills) };
 }
 
 impl<T: Drop, C: FromList<T> + Drop, P: FlatField<T>> FlatField<C> for ParseCollect<P, C, T> {}
@@ -139,9 +139,9 @@ impl<T: Drop, P: ProgramField<T>> ProgramField<usize> for ParseCount<P, T> {
 
     ghost agrees = { λ p. P.agrees p.inner };
 
-    #[tactic(auto, using(crate::proofs::Parts::repeat_part_is))]
+    #[tactic(auto, using(crate::proofs::Parts::listed_part_is))]
     fn part(&self) -> ProgramPart {
-        self.inner.part().completed_unless(false)
+        self.inner.part().completed()
     }
 
     fn all_keys<N: KeyTest>(&self, test: &N) -> bool {
@@ -156,16 +156,16 @@ impl<T: Drop, P: ProgramField<T>> ProgramField<usize> for ParseCount<P, T> {
         (command_words (P.grammar p.inner)) (program_form (P.grammar p.inner) variables)
         (P.law p.inner a variables) };
 
-    ghost said = { λ p a variables. program_repeat_says (λ p. p.inner) p false
-        (map_closure (λ values n. n ≡ length values))
-        (P.said p.inner a variables) };
+    ghost said = { λ p a variables. program_repeat_says (λ p. p.inner) p
+        (P.said p.inner a variables) false
+        (map_closure (λ values n. n ≡ length values)) };
 }
 
 impl<T: Drop, P: FlatField<T>> FlatField<usize> for ParseCount<P, T> {}
 
 impl<T: Drop, P: ProgramField<T>> ProgramField<T> for ParseLast<P> {
     ghost use Rattle.bpaf_exact.specs.ProgramSays.{said_last};
-    ghost use Rattle.bpaf_exact.proofs.ByTables.{last_law};
+    ghost use Rattle.bpaf_exact.proofs.ProgramForm.{program_last_law};
     ghost use Rattle.bpaf_exact.proofs.ProgramSays.{program_last_says};
     ghost use Rattle.bpaf_record.specs.Grammar.{last};
 
@@ -177,7 +177,7 @@ impl<T: Drop, P: ProgramField<T>> ProgramField<T> for ParseLast<P> {
 
     #[tactic(auto, using(crate::proofs::Parts::last_part_is))]
     fn part(&self) -> ProgramPart {
-        self.inner.part().completed_unless(false)
+        self.inner.part().completed()
     }
 
     fn all_keys<N: KeyTest>(&self, test: &N) -> bool {
@@ -188,7 +188,7 @@ impl<T: Drop, P: ProgramField<T>> ProgramField<T> for ParseLast<P> {
         true
     }
 
-    ghost law = { λ p a variables. last_law variables T _ (keys_of (P.grammar p.inner) true)
+    ghost law = { λ p a variables. program_last_law variables T _ (keys_of (P.grammar p.inner) true)
         (command_words (P.grammar p.inner)) (program_form (P.grammar p.inner) variables)
         (P.law p.inner a variables) };
 

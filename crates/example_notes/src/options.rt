@@ -41,16 +41,14 @@ pub enum Tag {
     Remove { name: String },
 }
 
-/// What is known of the program: of what its parser is made.
+/// What is known of the program: of what its parser is made, and that this is a program.
 #[derive(Drop)]
 struct NotesProgram {}
 
 impl KnownProgram<Notes> for NotesProgram {
     ghost grammar = { notes_parser };
 
-    fn is_program(&self) -> bool {
-        true
-    }
+    ghost whole = { λ variables. refl };
 }
 
 /// What the words ask for; refused where they ask for nothing, or for want of memory. The options

@@ -15,9 +15,7 @@ impl KnownProgram<bool> for Verbose {
 
     ghost grammar = { known_switch (record { shorts = codes "v"; longs = [] }) };
 
-    fn is_program(&self) -> bool {
-        true
-    }
+    ghost whole = { λ variables. refl };
 }
 
 #[test]

@@ -1,33 +1,46 @@
-use Rattle.std.proofs.Common.{sym, arith, ◌∙◌, ◌+◌, ap, ap₂, take, drop, true}
+use Rattle.std.proofs.Common.{sym, arith, ◌∙◌, ◌+◌, ap, ap₂, take, true}
+use Rattle.std.proofs.lemmas.List.{take_all}
 use Rattle.bpaf_exact.specs.Names.{are_all_apart}
 use Rattle.bpaf_exact.specs.ProgramForm.{are_words_apart}
-use Rattle.bpaf_record.specs.Grammar.{choices, command_words, keys_of}
-use Rattle.bpaf_record.specs.Part.{chosen_part, joined_part, parts_rest}
-use Rattle.bpaf_record.proofs.Parts.{join_step, joined_all}
+use Rattle.bpaf_record.specs.Grammar.{choice, choices_of, command_words, keys_of, program_form}
+use Rattle.bpaf_record.specs.Part.{chosen_part, part_of}
+use Rattle.bpaf_record.proofs.Nested.{choices_keys, choices_words, one_more}
+use Rattle.bpaf_record.proofs.Parts.{choice_part_is}
 use Rattle.bpaf_record.proofs.choices.join_rest.Goals as goal
 
+pub loop-index-init : goal.loop-index-init
+loop-index-init g c = (omega arith, c.requires.first)
+
 pub loop-index-preserved : goal.loop-index-preserved
-loop-index-preserved g c variables =
-    let of = g.P.ProgramField.grammar in
-    let ps = c.args.parsers.now in
-    let i = c.loop-index.index in
-    let old = c.loop-index.part in
-    let before = choices of (take i ps) in
-    let here = of c.index-parsers-index.result in
-    let part = c.or_else-part.ensures
-    ∙ (ap₂ (λ apart others. chosen_part apart others old c.part.result)
-    c.all_keys_of-keys_apart.ensures c.all_words_of-words_apart.ensures
-    ∙ (ap (chosen_part (are_all_apart (keys_of before true) (keys_of here true))
-    (are_words_apart (command_words before) (command_words here)) old) (c.part.ensures variables)
-    ∙ ap (joined_part of variables (take i ps) old) c.index-parsers-index.is)) in
-    ap (λ part. parts_rest of variables (take (i + 1) ps) part (drop (i + 1) ps)) part
-    ∙ (join_step of variables old ps i c.index-parsers-index.result c.loop-index-test.true
-    ∙ c.loop-index.invariant variables)
+loop-index-preserved g c = (
+  omega arith,
+  λ variables.
+      let of = g.P.ProgramField.grammar in
+      let ps = c.args.parsers.now in
+      let i = c.loop-index.index in
+      let d = c.index-parsers-index.result in
+      let before = choices_of of (take i ps) in
+      c.or_else-part.ensures
+      ∙ (ap₂ (λ keys words. chosen_part keys words c.loop-index.part c.part.result)
+      (c.all_keys_of-keys_apart.ensures
+      ∙ ap (λ names. are_all_apart names (keys_of (of d) true))
+      (sym (choices_keys of (take i ps) true)))
+      (c.all_words_of-words_apart.ensures
+      ∙ ap (λ words. are_words_apart words (command_words (of d)))
+      (sym (choices_words of (take i ps))))
+      ∙ (ap₂ (chosen_part (are_all_apart (keys_of before true) (keys_of (of d) true))
+      (are_words_apart (command_words before) (command_words (of d))))
+      (c.loop-index.invariant.1 variables) (c.part.ensures variables)
+      ∙ (choice_part_is (keys_of before true) (keys_of (of d) true) (command_words before)
+      (command_words (of d)) (program_form before variables) (program_form (of d) variables)
+      ∙ ap (λ g. part_of (program_form g variables))
+      (ap (λ p. choice before (of p)) c.index-parsers-index.is
+      ∙ sym (one_more of ps i d c.loop-index.invariant.0 c.loop-index-test.true))))),
+)
 
 pub returns : goal.returns
 returns g c variables =
     let ps = c.args.parsers.now in
-    let done = c.loop-index-test.false in
-    sym (joined_all g.P.ProgramField.grammar variables (take c.loop-index.index ps)
-    c.loop-index.part ps c.loop-index.index (omega arith))
-    ∙ c.loop-index.invariant variables
+    c.loop-index.invariant.1 variables
+    ∙ ap (λ qs. part_of (program_form (choices_of g.P.ProgramField.grammar qs) variables))
+    (take_all c.loop-index.index ps (let done = c.loop-index-test.false in omega arith))

@@ -1,12 +1,12 @@
-use Rattle.std.proofs.Common.{◌≡◌, take, drop}
+use Rattle.std.proofs.Common.{◌≡◌, ◌≤◌, take}
 use Rattle.bpaf_exact.specs.Flat.{Variables}
-use Rattle.bpaf_record.specs.Part.{parts_rest}
+use Rattle.bpaf_record.specs.Grammar.{choices_of, program_form}
+use Rattle.bpaf_record.specs.Part.{part_of}
 use Rattle.bpaf_record.proofs.choices.join_rest.Given as goal
 
 abbrev pub invariant-loop-index : goal.invariant-loop-index
 invariant-loop-index g l =
-    (variables : Variables) →
-    parts_rest g.P.ProgramField.grammar variables (take l.index l.fn.parsers) l.part
-    (drop l.index l.fn.parsers)
-    ≡ parts_rest g.P.ProgramField.grammar variables (take 1 l.fn.parsers) l.fn.first
-    (drop 1 l.fn.parsers)
+    (1 ≤ l.index)
+    × ((variables : Variables) → l.part
+    ≡ part_of (program_form (choices_of g.P.ProgramField.grammar (take l.index l.fn.parsers))
+    variables))

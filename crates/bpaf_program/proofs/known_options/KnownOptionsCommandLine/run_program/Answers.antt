@@ -15,7 +15,7 @@ returns-clause-each_exact g c known r o =
     c.args.self.now.options.info
     (known_names c.args.self.now.options.info (shown_shorts grammar)) (keys_of grammar true)
     (command_words grammar) (program_form grammar given.env) given (known.law given.env)
-    c.requires.program r (rw known.shown at o)
+    (g.K.KnownProgram.whole given.env) r (rw known.shown at o)
 
 pub returns-clause-exact : goal.returns-clause-exact
 returns-clause-exact g c known =

@@ -1,7 +1,5 @@
 use Rattle.std.proofs.Common.{true, false}
 use Rattle.bpaf_words.specs.Arguments.{given_of}
-use Rattle.bpaf_exact.specs.ProgramForm.{flat_form}
-use Rattle.bpaf_exact.proofs.ProgramForm.{flat_form_law}
 use Rattle.bpaf_record.specs.Grammar.{command_words, keys_of, program_form}
 use Rattle.bpaf.specs.Known.{known_names}
 use Rattle.bpaf_record.proofs.Running.{answers_by_fields, flat_is_whole, is_flat_form}
@@ -21,8 +19,6 @@ returns-clause-by_fields g c agrees r o =
     let form = program_form grammar given.env in
     answers_by_fields g.row.T.Denot (g.P.Parser.outcome parser) (g.P.Parser.describes parser)
     c.args.self.now.info (known_names c.args.self.now.info (g.P.Parser.shorts parser))
-    (keys_of grammar true) (flat_form form) given
-    (flat_form_law given.env g.row.T.Denot (g.P.Parser.outcome parser) (keys_of grammar true)
-    (command_words grammar) form (g.met.P.ProgramField.law parser agrees given.env))
-    (is_flat_form (flat_form form) (keys_of grammar false) c.args.self.now.info
-    c.requires.record) r o
+    (keys_of grammar true) (command_words grammar) form given
+    (g.met.P.ProgramField.law parser agrees given.env)
+    (is_flat_form form (keys_of grammar false) c.args.self.now.info c.requires.record) r o
