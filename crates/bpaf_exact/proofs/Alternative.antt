@@ -7,7 +7,7 @@ use Rattle.bpaf_exact.specs.Single.{Groups, FrontOf, Own, own_none, own_more, Re
 use Rattle.bpaf_exact.specs.Single.{TookGroup, SingleOk, gave_absent, took, SingleErr, of_memory}
 use Rattle.bpaf_exact.specs.Single.{catch_missing, of_missing, of_absent, of_piece, ReadsWords}
 use Rattle.bpaf_exact.specs.Wrappers.{Closure, AgreesOn, ClosedEval, closed_yes, closed_no}
-use Rattle.bpaf_exact.specs.Wrappers.{closed_memory, closed_err, ClosedGroup, closed_gap}
+use Rattle.bpaf_exact.specs.Wrappers.{closed_memory, closed_err, closed_gap}
 use Rattle.bpaf_exact.specs.Alternative.{TakesFirst, HasBad, bad_here, bad_later, AlternativeOk}
 use Rattle.bpaf_exact.specs.Alternative.{AlternativeErr, alternative_memory, alternative_missing}
 use Rattle.bpaf_exact.specs.{Flat.ByName, Flat.OneWord, Flat.EachWord, Flat.Variables}
@@ -180,26 +180,30 @@ module _ {env : Variables} (A B : Type 0) (inner : Outcome A) (k : FieldKind) (q
     (group : Groups A) (gap : Gap A) (l : SingleLaw env A inner k q group gap) (f : Closure A B)
     (agrees : (os rest : List LinePiece) → AgreesOn (λ v. group os v rest) f)
     (gap_agrees : AgreesOn gap.absent f) where
+  -- one evaluation through the closure
+  abbrev closed_group : Groups B
+  closed_group os v rest = ClosedValue (λ x a. group x a rest) f os v
+
   -- a list of inner values of the pieces
   record InnerList (os : List LinePiece) : Type 0 where
     list : List A
     own : Own A group os list
 
   -- what can be read through a closure can be read without it
-  inner_list : (os : List LinePiece) (vs : List B) → Own B (ClosedGroup A B group f) os vs
+  inner_list : (os : List LinePiece) (vs : List B) → Own B closed_group os vs
       → InnerList os
   inner_list os vs own_none = record { list = []; own = own_none }
   inner_list os vs (own_more {rest = rest} {v = v} {vs = us} g o) = let i = inner_list rest us o in
       record { list = g.from ∷ i.list; own = own_more g.read i.own }
 
   -- the same, by the kind of the field
-  inner_readable : (z : FieldKind) (os : List LinePiece) → Readable z (ClosedGroup A B group f) os
+  inner_readable : (z : FieldKind) (os : List LinePiece) → Readable z closed_group os
       → Readable z group os
   inner_readable ByName os r = let i = inner_list os r.0 r.1 in (i.list, i.own)
   inner_readable _ os r = tt
 
   -- with a closure a field reads words as before
-  closed_words : (z : FieldKind) → ReadsWords z group → ReadsWords z (ClosedGroup A B group f)
+  closed_words : (z : FieldKind) → ReadsWords z group → ReadsWords z closed_group
   closed_words ByName u = tt
   closed_words (OneWord b) u = record {
     by_front = λ os v rest g. let a = u.by_front os g.from rest g.read in
@@ -218,7 +222,7 @@ module _ {env : Variables} (A B : Type 0) (inner : Outcome A) (k : FieldKind) (q
 
   -- a value that the closure gave
   yes_single : (s t : Situation) (x : A) (v : B) → f.yes x v → SingleOk A k q group gap s x t
-      → SingleOk B k q (ClosedGroup A B group f) (closed_gap gap f) s v t
+      → SingleOk B k q closed_group (closed_gap gap f) s v t
   yes_single s t x v y (gave_absent h p ab same st) = gave_absent h p (x, ab, y) same st
   yes_single s t x v y (took h) = took (record {
     steady = h.steady;
@@ -232,7 +236,7 @@ module _ {env : Variables} (A B : Type 0) (inner : Outcome A) (k : FieldKind) (q
   -- a value that the closure refused
   no_single : (s t : Situation) (x : A) (e : Error) → class e ≡ Refused → f.no x
       → SingleOk A k q group gap s x t
-      → SingleErr B k q (ClosedGroup A B group f) (closed_gap gap f) s e t
+      → SingleErr B k q closed_group (closed_gap gap f) s e t
   no_single s t x e c n (gave_absent h p ab same st) =
       of_absent c h p (λ v a. gap_agrees a.0 x v a.1 ab a.2 n)
   no_single s t x e c n (took h) =
@@ -242,7 +246,7 @@ module _ {env : Variables} (A B : Type 0) (inner : Outcome A) (k : FieldKind) (q
 
   -- an inner refusal is passed on
   err_single : (s t : Situation) (e : Error) → SingleErr A k q group gap s e t
-      → SingleErr B k q (ClosedGroup A B group f) (closed_gap gap f) s e t
+      → SingleErr B k q closed_group (closed_gap gap f) s e t
   err_single s t e (of_memory c) = of_memory c
   err_single s t e (of_missing c h p same) = of_missing c h p same
   err_single s t e (of_absent c h p n) = of_absent c h p (λ v a. n a.0 a.1)
@@ -251,19 +255,19 @@ module _ {env : Variables} (A B : Type 0) (inner : Outcome A) (k : FieldKind) (q
   -- a value of one evaluation
   closed_single_ok : (s t : Situation) (v : B) → IsWholeIn env s
       → ClosedEval A B inner f Refused s (Ok v) t
-      → SingleOk B k q (ClosedGroup A B group f) (closed_gap gap f) s v t
+      → SingleOk B k q closed_group (closed_gap gap f) s v t
   closed_single_ok s t v w (closed_yes {x = x} i y) = yes_single s t x v y (l.ok s t x w i)
 
   -- a refusal of one evaluation
   closed_single_err : (s t : Situation) (e : Error) → IsWholeIn env s
       → ClosedEval A B inner f Refused s (Err e) t
-      → SingleErr B k q (ClosedGroup A B group f) (closed_gap gap f) s e t
+      → SingleErr B k q closed_group (closed_gap gap f) s e t
   closed_single_err s t e w (closed_no {x = x} i n c) = no_single s t x e c n (l.ok s t x w i)
   closed_single_err s t e w (closed_memory i c) = of_memory c
   closed_single_err s t e w (closed_err i) = err_single s t e (l.err s t e w i)
 
   -- a closure round a single field is one
-  pub closed_single : SingleLaw env B (ClosedEval A B inner f Refused) k q (ClosedGroup A B group f)
+  pub closed_single : SingleLaw env B (ClosedEval A B inner f Refused) k q closed_group
       (closed_gap gap f)
   closed_single = record {
     own = l.own;

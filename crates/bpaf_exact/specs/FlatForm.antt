@@ -9,8 +9,8 @@ use Rattle.bpaf_exact.specs.Flat.{FieldKind, ByName, FieldLaw, FieldsLaw, keys, 
 use Rattle.bpaf_exact.specs.Flat.{both_reading, Variables}
 use Rattle.bpaf_exact.specs.Single.{Groups, Gap, FrontOf, no_gap, SingleLaw, SingleValue, OwnList}
 use Rattle.bpaf_exact.specs.Single.{repeated}
-use Rattle.bpaf_exact.specs.Wrappers.{Closure, AgreesOn, ClosedGroup, closed_gap}
-use Rattle.bpaf_exact.specs.Wrappers.{ClosedValue, OptionalValue, FallbackValue}
+use Rattle.bpaf_exact.specs.Wrappers.{Closure, AgreesOn, ClosedValue, OptionalValue}
+use Rattle.bpaf_exact.specs.Wrappers.{FallbackValue, closed_gap}
 use Rattle.bpaf_exact.specs.Gathered.{LastOf, list_closure}
 use Rattle.bpaf_exact.specs.Alternative.{AlternativeLaw, either_value}
 use Rattle.bpaf_exact.specs.Record.{last_reading}
@@ -71,10 +71,10 @@ only_if false s = not_flat
 -- a closure round a field, inner or outer
 abbrev pub flat_closed : {A B : Type 0} → Closure A B → FlatForm A → FlatForm B
 flat_closed f not_flat = not_flat
-flat_closed {A = A} {B = B} f (alternative q value) = alternative q (ClosedValue value f)
-flat_closed {A = A} {B = B} f (single k q group gap) =
-    single k q (ClosedGroup A B group f) (closed_gap gap f)
-flat_closed {A = A} {B = B} f (complete k q value) = complete k q (ClosedValue value f)
+flat_closed f (alternative q value) = alternative q (ClosedValue value f)
+flat_closed f (single k q group gap) =
+    single k q (λ os v rest. ClosedValue (λ x a. group x a rest) f os v) (closed_gap gap f)
+flat_closed f (complete k q value) = complete k q (ClosedValue value f)
 flat_closed f (product named q fields) = not_flat
 
 -- a choice of two alternatives, where the keys of the one are apart from those of the other

@@ -54,7 +54,7 @@ pub data ClosedEval (A B : Type 0) (inner : Outcome A) (f : Closure A B) (c : Er
   closed_err : {e : Error} {t : Situation} → inner s (Err e) t → ClosedEval A B inner f c s
       (Err e) t
 
--- a closure's answer on a value that pieces have, or cells
+-- a closure's answer on a value that something has: pieces, or cells
 pub record ClosedValue {X A B : Type 0} (value : X → A → Type 0) (f : Closure A B) (x : X) (v : B)
     : Type 0 where
   pub from : A
@@ -99,13 +99,6 @@ pub data FallbackValue (T : Type 0) (group : Groups T) (gap : Gap T)
       → FallbackValue T group gap f os v
   kept_value : {os : List LinePiece} {v : T} → os ≡ [] → gap.has ≡ false → f.yes tt v
       → FallbackValue T group gap f os v
-
--- one on what an evaluation of a field without a repeat or default reads
-pub record ClosedGroup (A B : Type 0) (group : Groups A) (f : Closure A B) (os : List LinePiece)
-    (v : B) (rest : List LinePiece) : Type 0 where
-  pub from : A
-  pub read : group os from rest
-  pub made : f.yes from v
 
 -- the absent value, through a closure
 abbrev pub closed_gap : {A B : Type 0} → Gap A → Closure A B → Gap B
