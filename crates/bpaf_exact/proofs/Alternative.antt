@@ -1,9 +1,11 @@
 -- Alternatives as fields, and closures round alternatives and single fields.
-use Rattle.std.proofs.Common.{◌≡◌, List, [], ◌∷◌, Ok, Err, refl, sym, ap, ◌∙◌, subst, inl, inr, ◌⊎◌}
+use Rattle.std.proofs.Common.{◌≡◌, List, [], ◌∷◌, Option, Some, None, Ok, Err, refl, sym, ap, ◌∙◌, subst, inl, inr, ◌⊎◌}
+use Rattle.std.proofs.Common.{false}
+use Rattle.std.specs.Option.{is_some}
 use Rattle.bpaf_line.specs.{declared.error.Error.Error, Situation.Situation}
 use Rattle.bpaf_laws.specs.Reading.{Outcome}
 use Rattle.bpaf_exact.specs.Flat.{front, Refused, class, cells, IsWholeIn, Steady, FieldKind}
-use Rattle.bpaf_exact.specs.Single.{Groups, FrontOf, Own, own_none, own_more, Readable, Gap, no_gap}
+use Rattle.bpaf_exact.specs.Single.{Groups, FrontOf, Own, own_none, own_more, Readable, Gap, IsMeant, gap_of}
 use Rattle.bpaf_exact.specs.Single.{TookGroup, SingleOk, gave_absent, took, SingleErr, of_memory}
 use Rattle.bpaf_exact.specs.Single.{catch_missing, of_missing, of_absent, of_piece, ReadsWords}
 use Rattle.bpaf_exact.specs.Wrappers.{Closure, AgreesOn, ClosedEval, closed_yes, closed_no}
@@ -51,6 +53,12 @@ took_front T value k q s t v o st f e means some =
       readable = λ w rest g. front_alone T value o v e means g;
     }
 
+-- without something there is nothing that it means
+pub gap_empty : {X T : Type 0} (means : X → T → Type 0) (kept : Option X) (v : T)
+    → is_some kept ≡ false → IsMeant means kept v → ⊥
+gap_empty means None v h a = a
+gap_empty means (Some x) v h a = cc
+
 -- An alternative is a field without a repeat or default.
 module _ {env : Variables} (T : Type 0) (outcome : Outcome T) (q : Roles)
     (value : LinePiece → T → Type 0) (l : AlternativeLaw env T outcome q value) where
@@ -65,7 +73,7 @@ module _ {env : Variables} (T : Type 0) (outcome : Outcome T) (q : Roles)
 
   -- its value, as that of one evaluation
   alternative_ok : (s t : Situation) (v : T) → IsWholeIn env s → outcome s (Ok v) t
-      → SingleOk T ByName q (FrontOf T value) (no_gap T) s v t
+      → SingleOk T ByName q (FrontOf T value) (gap_of value None) s v t
   alternative_ok s t v w o =
       let a = l.ok s t v w o in
       took (record {
@@ -80,7 +88,7 @@ module _ {env : Variables} (T : Type 0) (outcome : Outcome T) (q : Roles)
 
   -- its refusal, as that of one evaluation
   alternative_err : (s t : Situation) (e : Error) → AlternativeErr T q value s e t
-      → SingleErr T ByName q (FrontOf T value) (no_gap T) s e t
+      → SingleErr T ByName q (FrontOf T value) (gap_of value None) s e t
   alternative_err s t e (alternative_memory c) = of_memory c
   alternative_err s t e (alternative_missing c p same st) =
       of_missing (catch_missing c) refl p (λ c. same)
@@ -88,7 +96,7 @@ module _ {env : Variables} (T : Type 0) (outcome : Outcome T) (q : Roles)
       of_piece c (bad_nonempty T value _ b) (λ w rest g. n g.piece rest w g.is g.means)
 
   -- so it keeps to the laws of one evaluation
-  pub alternative_single : SingleLaw env T outcome ByName q (FrontOf T value) (no_gap T)
+  pub alternative_single : SingleLaw env T outcome ByName q (FrontOf T value) (gap_of value None)
   alternative_single = record {
     own = l.named;
     words = tt;

@@ -11,14 +11,14 @@ use Rattle.bpaf_laws.specs.Argument.{TakesOwnText, TakesBefore, is_key_with_valu
 use Rattle.bpaf_laws.specs.Environment.{first_set}
 use Rattle.bpaf_exact.specs.Pieces.{Roles, LinePiece, One, Two, pieces, takes_none, takes_more}
 use Rattle.bpaf_exact.specs.Flat.{class, class_of, cells, IsWholeIn, ByName, Steady, Refused}
-use Rattle.bpaf_exact.specs.Single.{Gap, TakesAny, SingleOk, took, SingleErr, of_memory, of_piece}
-use Rattle.bpaf_exact.specs.Leaves.{argument_gap, argument_roles, HaveValues, no_more, one_more}
+use Rattle.bpaf_exact.specs.Single.{Gap, gap_of, TakesAny, SingleOk, took, SingleErr, of_memory, of_piece}
+use Rattle.bpaf_exact.specs.Leaves.{argument_roles, HaveValues, no_more, one_more}
 use Rattle.bpaf_exact.specs.{Flat.Variables, Single.SingleLaw, Leaves.LastGroup}
 use Rattle.bpaf_exact.proofs.ArgumentPieces.{TookPair, test, named, took_pair, no_key, nowhere}
-use Rattle.bpaf_exact.proofs.ArgumentPieces.{variable_read, variable_fault, gap_empty}
+use Rattle.bpaf_exact.proofs.ArgumentPieces.{variable_read, variable_fault}
 use Rattle.bpaf_exact.proofs.{First.first_takes, First.first_pieces, First.takes_nonempty}
 use Rattle.bpaf_exact.proofs.{Matching.match_of, Matching.bare_taken, Product.steady_trans}
-use Rattle.bpaf_exact.proofs.{Fronts.never_nil}
+use Rattle.bpaf_exact.proofs.{Fronts.never_nil, Alternative.gap_empty}
 
 -- the last element of a list is one
 pub last_same : (T : Type 0) (xs ys : List T) (v w : T) → xs ++ (v ∷ []) ≡ ys ++ (w ∷ []) → v ≡ w
@@ -145,7 +145,7 @@ module _ (T : Type 0) (means : List ℕ → T → Type 0) (argument : KeyWithVal
 
   -- where no key is there
   abbrev gap : Gap T
-  gap = argument_gap means (first_set variables argument.named.envs)
+  gap = gap_of means (first_set variables argument.named.envs)
 
   -- a value is that of the last piece
   last_read : (s t : Situation) (text : List ℕ) (v : T) → GotAll s t text → means text v
@@ -226,7 +226,7 @@ module _ (T : Type 0) (means : List ℕ → T → Type 0) (argument : KeyWithVal
     own = named argument;
     words = tt;
     starts = λ v rest g. never_nil g.before (Two g.key g.word) [] (sym g.is);
-    no_absent = gap_empty T means argument (LastGroup T means) variables;
+    no_absent = gap_empty means _;
     ok = last_ok;
     err = λ s t e w o. last_err s t e e.0 refl w.environment o;
   }

@@ -12,12 +12,12 @@ use Rattle.bpaf_base.specs.Items.{item_text}
 use Rattle.bpaf_line.specs.Situation.{Context}
 use Rattle.bpaf_laws.specs.Reading.{Outcome}
 use Rattle.bpaf_exact.specs.Flat.{FieldsLaw, FieldsReading, FieldKind, ByName, ReadOff, Variables}
-use Rattle.bpaf_exact.specs.Single.{Groups, Gap, FrontOf, Own, own_none, own_more, SingleLaw}
+use Rattle.bpaf_exact.specs.Single.{Groups, Gap, IsMeant, FrontOf, Own, own_none, own_more, SingleLaw}
 use Rattle.bpaf_exact.specs.Single.{SingleValue, of_group, of_gap, OwnList, listed}
 use Rattle.bpaf_exact.specs.Wrappers.{Closure, OptionalValue, some_value, no_value, FallbackValue}
 use Rattle.bpaf_exact.specs.Leaves.{FlagValue, ArgumentValue, WordValue, flag_field, LastGroup}
-use Rattle.bpaf_exact.specs.Leaves.{argument_field, argument_gap, argument_group, argument_roles}
-use Rattle.bpaf_exact.specs.Leaves.{flag_gap, flag_roles, key_field}
+use Rattle.bpaf_exact.specs.Leaves.{argument_field, argument_group, argument_roles}
+use Rattle.bpaf_exact.specs.Leaves.{flag_roles, key_field}
 use Rattle.bpaf_exact.specs.Record.{RunAnswer, Accepted, NoMemory, Refusal, RecordValue, IsExact}
 use Rattle.bpaf_exact.specs.FlatForm.{FlatForm, alternative, single, complete, product, FormLaw}
 use Rattle.bpaf_exact.specs.FlatForm.{only_if, flat_closed, flat_repeat, flat_many, flat_optional}
@@ -80,13 +80,11 @@ key_view : (T X : Type 0) (see : T → X) (may_choose : Bool) (q : Roles)
 key_view T X see true q each group gap piece groups none = piece
 key_view T X see false q each group gap piece groups none = (groups, none)
 
--- what stands for no key of a flag, whose clones look alike
-flag_gap_view : (T X : Type 0) (see : T → X) (clones : T → T → Type 0)
-    → ((kept : T) → Alike see (clones kept)) → (present : T) (absent : Option T)
-    (set : Option (List ℕ)) → Alike see (flag_gap clones present absent set).absent
-flag_gap_view T X see clones u present None None = λ v w a b. absurd a
-flag_gap_view T X see clones u present (Some kept) None = u kept
-flag_gap_view T X see clones u present absent (Some text) = u present
+-- what something means, where it is there
+meant_view : {Y T X : Type 0} (see : T → X) (means : Y → T → Type 0)
+    → ((y : Y) → Alike see (means y)) → (kept : Option Y) → Alike see (IsMeant means kept)
+meant_view see means u None v w a b = absurd a
+meant_view see means u (Some y) v w a b = u y v w a b
 
 -- a flag, whose clones look alike
 pub flag_view : (T X : Type 0) (see : T → X) (clones : T → T → Type 0)
@@ -96,7 +94,7 @@ flag_view T X see clones u key present absent variables =
     key_view T X see (is_nil key.envs && is_none absent) (flag_roles key.names) _ _ _
     (flag_piece T X see (clones present) (u present))
     (front_view T X see _ (flag_piece T X see (clones present) (u present)))
-    (flag_gap_view T X see clones u present absent (first_set variables key.envs))
+    (meant_view see clones u _)
 
 -- a key and its value
 argument_piece : (T X : Type 0) (see : T → X) (means : List ℕ → T → Type 0)
@@ -123,13 +121,6 @@ argument_group_view : (T X : Type 0) (see : T → X) (means : List ℕ → T →
 argument_group_view T X see means u false = front_view T X see _ (argument_piece T X see means u)
 argument_group_view T X see means u true = last_group T X see means u
 
--- what stands for no key
-argument_gap_view : (T X : Type 0) (see : T → X) (means : List ℕ → T → Type 0)
-    → ((text : List ℕ) → Alike see (means text)) → (set : Option (List ℕ))
-    → Alike see (argument_gap means set).absent
-argument_gap_view T X see means u None = λ v w a b. absurd a
-argument_gap_view T X see means u (Some text) = u text
-
 -- an argument, where what a text means looks alike
 pub argument_view : (T X : Type 0) (see : T → X) (means : List ℕ → T → Type 0)
     → ((text : List ℕ) → Alike see (means text)) → (argument : KeyWithValue)
@@ -138,7 +129,7 @@ argument_view T X see means u argument variables =
     key_view T X see (is_nil argument.named.envs && not argument.last)
     (argument_roles argument.adjacent argument.named.names) _ _ _ (argument_piece T X see means u)
     (argument_group_view T X see means u argument.last)
-    (argument_gap_view T X see means u (first_set variables argument.named.envs))
+    (meant_view see means u (first_set variables argument.named.envs))
 
 -- a word
 word_piece : (T X : Type 0) (see : T → X) (accepts : Bool → Bool) (means : List ℕ → T → Type 0)

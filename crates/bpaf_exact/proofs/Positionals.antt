@@ -10,7 +10,7 @@ use Rattle.bpaf_line.proofs.Matches.{open_item_there}
 use Rattle.bpaf_exact.specs.Pieces.{Cells, Alone, LinePiece, One, Two, word_roles, pieces}
 use Rattle.bpaf_exact.specs.Pieces.{stands_behind}
 use Rattle.bpaf_exact.specs.Flat.{cells, IsWholeIn, Steady, EachWord, OneWord, front, back}
-use Rattle.bpaf_exact.specs.Single.{Groups, FrontOf, no_gap, SingleOk, took, SingleErr, of_memory}
+use Rattle.bpaf_exact.specs.Single.{Groups, FrontOf, gap_of, SingleOk, took, SingleErr, of_memory}
 use Rattle.bpaf_exact.specs.Single.{catch_missing, catch_other, of_missing, of_piece, WordByWord}
 use Rattle.bpaf_exact.specs.Alternative.{TakesFirst, first_one, first_two, first_later}
 use Rattle.bpaf_exact.specs.Leaves.{WordEval, WordValue, word_by, word_fault, word_memory}
@@ -93,7 +93,7 @@ module _ (T : Type 0) (b : Bool) (value : LinePiece → T → Type 0)
 
   -- a value is that of the first word
   word_ok : {env : Variables} (s t : Situation) (v : T) → IsWholeIn env s
-      → WordEval T b value s (Ok v) t → SingleOk T (OneWord b) word_roles group (no_gap T) s v t
+      → WordEval T b value s (Ok v) t → SingleOk T (OneWord b) word_roles group (gap_of value None) s v t
   word_ok s t v w (word_read {p = p} {strict = strict} {text = text} takes y) =
       let m = took_word s t p strict text takes in
       let e = word_pieces m.takes in
@@ -103,7 +103,7 @@ module _ (T : Type 0) (b : Bool) (value : LinePiece → T → Type 0)
 
   -- a refusal: there is no word, or the first can't be read
   word_err : {env : Variables} (s t : Situation) (e : Error) → IsWholeIn env s
-      → WordEval T b value s (Err e) t → SingleErr T (OneWord b) word_roles group (no_gap T) s e t
+      → WordEval T b value s (Err e) t → SingleErr T (OneWord b) word_roles group (gap_of value None) s e t
   word_err s t e w (word_fault {p = p} {strict = strict} {text = text} takes before n c) =
       let m = took_word s t p strict text takes in
       let i = word_pieces m.takes in
@@ -157,7 +157,7 @@ module _ (T : Type 0) (b : Bool) (value : LinePiece → T → Type 0)
 
   -- a word keeps to the laws of one evaluation
   word_law : {env : Variables} → SingleLaw env T (WordEval T b value) (OneWord b) word_roles group
-      (no_gap T)
+      (gap_of value None)
   word_law = record {
     own = record { words = λ k. refl };
     words = one_by_one;

@@ -9,8 +9,9 @@ use Rattle.bpaf_exact.specs.Flat.{FieldKind, ByName, OneWord, EachWord, FieldsRe
 use Rattle.bpaf_exact.specs.Single.{Groups, Gap, FrontOf, Own, own_none, own_more, OwnList, listed}
 use Rattle.bpaf_exact.specs.Single.{listed_and_absent, only_absent, SingleValue, of_group, of_gap}
 use Rattle.bpaf_exact.specs.Wrappers.{Closure, OptionalValue, some_value, no_value, FallbackValue}
-use Rattle.bpaf_exact.specs.Leaves.{flag_field, flag_gap, flag_roles, FlagValue, argument_field}
-use Rattle.bpaf_exact.specs.Leaves.{argument_gap, argument_group, argument_roles, key_field}
+use Rattle.bpaf_exact.specs.{Single.gap_of, Single.IsMeant}
+use Rattle.bpaf_exact.specs.Leaves.{flag_field, flag_roles, FlagValue, argument_field}
+use Rattle.bpaf_exact.specs.Leaves.{argument_group, argument_roles, key_field, value_without_key}
 use Rattle.bpaf_laws.specs.Environment.{first_set}
 use Rattle.bpaf_laws.specs.Repeat.{is_nil}
 use Rattle.std.specs.Option.{is_none}
@@ -64,7 +65,8 @@ module _ {T : Type 0} (clones : T → T → Type 0) (present : T) where
 
   -- no key
   flag_gap_says : (absent : Option T) (set : Option (List ℕ)) (v : T)
-      → (flag_gap clones present absent set).absent v → FlagSays clones present absent set [] v
+      → IsMeant clones (value_without_key present absent set) v
+      → FlagSays clones present absent set [] v
   flag_gap_says None None v m = absurd m
   flag_gap_says (Some a) None v m = says_absent a refl refl refl m
   flag_gap_says absent (Some text) v m = says_variable text refl refl m
@@ -73,7 +75,8 @@ module _ {T : Type 0} (clones : T → T → Type 0) (present : T) where
   key_says : {names : List Names} (may_choose : Bool) (key : Key) (absent : Option T)
       (set : Option (List ℕ))
       → Says names (key_field may_choose (flag_roles key.names) (FlagValue (clones present))
-      (FrontOf T (FlagValue (clones present))) (flag_gap clones present absent set))
+      (FrontOf T (FlagValue (clones present)))
+      (gap_of clones (value_without_key present absent set)))
       (of_kind ByName) (FlagSays clones present absent set)
   key_says true key absent set = record { by = (refl, present_piece) }
   key_says false key absent set = record {
@@ -113,7 +116,7 @@ module _ {T : Type 0} (means : List ℕ → T → Type 0) where
 
   -- no key
   argument_gap_says : {last : Bool} (set : Option (List ℕ)) (v : T)
-      → (argument_gap means set).absent v → ArgumentSays means last set [] v
+      → IsMeant means set v → ArgumentSays means last set [] v
   argument_gap_says None v m = absurd m
   argument_gap_says (Some text) v m = says_variable_text text refl refl m
 
@@ -121,7 +124,7 @@ module _ {T : Type 0} (means : List ℕ → T → Type 0) where
   option_says : {names : List Names} (may_choose : Bool) (argument : KeyWithValue)
       (set : Option (List ℕ))
       → Says names (key_field may_choose (argument_roles argument.adjacent argument.named.names)
-      (ArgumentValue means) (argument_group means argument.last) (argument_gap means set))
+      (ArgumentValue means) (argument_group means argument.last) (gap_of means set))
       (of_kind ByName) (ArgumentSays means argument.last set)
   option_says true argument set = record { by = (refl, pair_piece) }
   option_says false argument set = record {

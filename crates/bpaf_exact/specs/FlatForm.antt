@@ -1,5 +1,5 @@
 -- What a flat field is: how it reads its pieces, and the law that this puts on its outcome.
-use Rattle.std.specs.Prelude.{Bool, true, false, ◌&&◌, List, [], ◌∷◌, Option}
+use Rattle.std.specs.Prelude.{Bool, true, false, ◌&&◌, List, [], ◌∷◌, Option, None}
 use Rattle.std.specs.Global.{Vec}
 use Rattle.bpaf_doc.specs.Names.{Names}
 use Rattle.bpaf_laws.specs.Reading.{Outcome}
@@ -7,7 +7,7 @@ use Rattle.bpaf_exact.specs.Pieces.{Roles, LinePiece, either, no_roles}
 use Rattle.bpaf_exact.specs.Names.{Owns, are_all_apart}
 use Rattle.bpaf_exact.specs.Flat.{FieldKind, ByName, FieldLaw, FieldsLaw, keys, FieldsReading}
 use Rattle.bpaf_exact.specs.Flat.{both_reading, Variables}
-use Rattle.bpaf_exact.specs.Single.{Groups, Gap, FrontOf, no_gap, SingleLaw, SingleValue, OwnList}
+use Rattle.bpaf_exact.specs.Single.{Groups, Gap, FrontOf, gap_of, SingleLaw, SingleValue, OwnList}
 use Rattle.bpaf_exact.specs.Single.{repeated}
 use Rattle.bpaf_exact.specs.Wrappers.{Closure, AgreesOn, ClosedValue, OptionalValue}
 use Rattle.bpaf_exact.specs.Wrappers.{FallbackValue, closed_gap}
@@ -93,7 +93,7 @@ alternative_only _ = not_flat
 abbrev pub flat_whole : {T B : Type 0} → (FieldKind → FieldKind)
     → (Groups T → Gap T → List LinePiece → B → Type 0) → FlatForm T → FlatForm B
 flat_whole {T = T} kind value (alternative q each) =
-    complete (kind ByName) q (value (FrontOf T each) (no_gap T))
+    complete (kind ByName) q (value (FrontOf T each) (gap_of each None))
 flat_whole kind value (single k q group gap) = complete (kind k) q (value group gap)
 flat_whole kind value _ = not_flat
 

@@ -15,7 +15,7 @@ use Rattle.bpaf_exact.specs.Pieces.{Roles, Foreign, Alone, WithNext, LinePiece, 
 use Rattle.bpaf_exact.specs.Pieces.{stands_behind, word_roles}
 use Rattle.bpaf_exact.specs.Flat.{ByName, Caught, OneWord, OfMemory, OfMissing, Refused, Variables}
 use Rattle.bpaf_exact.specs.Flat.{class}
-use Rattle.bpaf_exact.specs.Single.{Gap, Groups, FrontOf, no_gap}
+use Rattle.bpaf_exact.specs.Single.{Gap, Groups, FrontOf, gap_of}
 use Rattle.bpaf_exact.specs.FlatForm.{FlatForm, alternative, complete, single}
 
 -- the items of a flag: keys with one of its names, each by itself
@@ -43,16 +43,11 @@ abbrev pub WordValue : {T : Type 0} → (Bool → Bool) → (List ℕ → T → 
 WordValue accepts means (One w) v = (accepts (stands_behind w) ≡ true) × means (item_text w) v
 WordValue accepts means (Two k w) v = ⊥
 
--- where no key is there, one of these values
-abbrev pub switch_gap : {T : Type 0} → (T → Type 0) → Gap T
-switch_gap absent = record { has = true; absent = absent }
-
--- where no key of a flag is there, by the text of its variable: the present value where that is
--- set, else the absent one, where there is one
-abbrev pub flag_gap : {T : Type 0} → (T → T → Type 0) → T → Option T → Option (List ℕ) → Gap T
-flag_gap clones present absent (Some text) = switch_gap (clones present)
-flag_gap clones present (Some absent) None = switch_gap (clones absent)
-flag_gap {T = T} clones present None None = no_gap T
+-- the value of a flag without a key, by the text of its variable: the present one where that is
+-- set, else the absent one, if there is one
+abbrev pub value_without_key : {T : Type 0} → T → Option T → Option (List ℕ) → Option T
+value_without_key present absent (Some text) = Some present
+value_without_key present absent None = absent
 
 -- a key: where it must be there, has no name in the environment and its pieces mean values one by
 -- one, it may stand in a choice
@@ -67,7 +62,7 @@ abbrev pub flag_field : {T : Type 0} → (T → T → Type 0) → Key → T → 
 flag_field {T = T} clones key present absent variables =
     key_field (is_nil key.envs && is_none absent) (flag_roles key.names)
     (FlagValue (clones present)) (FrontOf T (FlagValue (clones present)))
-    (flag_gap clones present absent (first_set variables key.envs))
+    (gap_of clones (value_without_key present absent (first_set variables key.envs)))
 
 -- each of these pieces is a key with its value
 pub data HaveValues : List LinePiece → Type 0 where
@@ -86,11 +81,6 @@ pub record LastGroup (T : Type 0) (means : List ℕ → T → Type 0) (os : List
   pub meant : means (item_text word) v
   pub none_left : rest ≡ []
 
--- where no key of an argument is there, what the text of its variable means
-abbrev pub argument_gap : {T : Type 0} → (List ℕ → T → Type 0) → Option (List ℕ) → Gap T
-argument_gap {T = T} means None = no_gap T
-argument_gap means (Some text) = switch_gap (means text)
-
 -- the pieces that one evaluation of an argument reads: the first, or all at once
 abbrev pub argument_group : {T : Type 0} → (List ℕ → T → Type 0) → (last : Bool) → Groups T
 argument_group {T = T} means false = FrontOf T (ArgumentValue means)
@@ -103,13 +93,13 @@ argument_field means argument variables =
     key_field (is_nil argument.named.envs && not argument.last)
     (argument_roles argument.adjacent argument.named.names) (ArgumentValue means)
     (argument_group means argument.last)
-    (argument_gap means (first_set variables argument.named.envs))
+    (gap_of means (first_set variables argument.named.envs))
 
 -- a positional word on an accepted side, which stops before one behind `--` where that isn't one
 abbrev pub word_by : {T : Type 0} → (Bool → Bool) → (List ℕ → T → Type 0) → FlatForm T
 word_by {T = T} accepts means =
     single (OneWord (not (accepts true))) word_roles (FrontOf T (WordValue accepts means))
-    (no_gap T)
+    (gap_of means None)
 
 -- the first word taken and its value; it has none; there is no word; the first one stands behind `--`,
 -- where that stops it; or want of memory

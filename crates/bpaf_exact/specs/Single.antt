@@ -1,6 +1,7 @@
 -- A flat field without a repeat or default: one evaluation, and what repeats and defaults make of
 -- it.
-use Rattle.std.specs.Prelude.{◌≡◌, ℕ, suc, Bool, true, false, List, [], ◌∷◌, Some, None, Ok, Err}
+use Rattle.std.specs.Prelude.{◌≡◌, ℕ, suc, Bool, true, false, List, [], ◌∷◌, Option, Some, None}
+use Rattle.std.specs.Prelude.{Ok, Err, is_some}
 use Rattle.bpaf_line.specs.declared.error.Error.{Error}
 use Rattle.bpaf_line.specs.Situation.{Situation, open_count}
 use Rattle.bpaf_laws.specs.Reading.{Outcome}
@@ -43,6 +44,15 @@ Readable k group os = Unit {0}
 pub record Gap (T : Type 0) : Type 1 where
   pub has : Bool
   pub absent : T → Type 0
+
+-- a value that something means, if there is something
+abbrev pub IsMeant : {X T : Type 0} → (X → T → Type 0) → Option X → T → Type 0
+IsMeant means None v = ⊥
+IsMeant means (Some x) v = means x v
+
+-- for no piece at all what something means, if there is something
+abbrev pub gap_of : {X T : Type 0} → (X → T → Type 0) → Option X → Gap T
+gap_of means kept = record { has = is_some kept; absent = IsMeant means kept }
 
 -- a value read off the front of the own pieces, of which at least one was taken
 pub record TookGroup (T : Type 0) (k : FieldKind) (q : Roles) (group : Groups T) (s : Situation)
@@ -158,7 +168,3 @@ abbrev pub present_count : Cells → ℕ
 present_count [] = 0
 present_count (None ∷ cs) = present_count cs
 present_count (Some x ∷ cs) = suc (present_count cs)
-
--- no value where there is no piece
-abbrev pub no_gap : (T : Type 0) → Gap T
-no_gap T = record { has = false; absent = λ v. ⊥ }

@@ -19,7 +19,8 @@ use Rattle.bpaf_exact.specs.FlatForm.{FlatForm, FormLaw, flat_alone, flat_both, 
 use Rattle.bpaf_exact.specs.FlatForm.{flat_fallback, flat_field, flat_optional, flat_many}
 use Rattle.bpaf_exact.specs.Flat.{Variables}
 use Rattle.bpaf_record.specs.Positional.{positional_law}
-use Rattle.bpaf_exact.specs.Leaves.{ArgumentValue, argument_field, argument_gap, argument_group}
+use Rattle.bpaf_exact.specs.Leaves.{ArgumentValue, argument_field, argument_group}
+use Rattle.bpaf_exact.specs.Single.{gap_of}
 use Rattle.bpaf_exact.specs.Leaves.{argument_roles, flag_field, key_field, word_by}
 use Rattle.bpaf_exact.specs.ProgramForm.{plain}
 use Rattle.bpaf_exact.specs.OneView.{Alike, HasOneView, pair_view}
@@ -57,7 +58,7 @@ argument_seen {T} {X} see means one key bare = record {
   law = λ env. subst (λ set. FormLaw env (ArgumentOutcome means key) (key.named.names ∷ [])
       (key_field (is_nil key.named.envs && not key.last)
       (argument_roles key.adjacent key.named.names) (ArgumentValue means)
-      (argument_group means key.last) (argument_gap means set)))
+      (argument_group means key.last) (gap_of means set)))
       (ap (first_set env) bare ∙ sym (ap (first_set []) bare)) (argument_field_law env T means key);
   view = argument_view T X see means one key [];
 }

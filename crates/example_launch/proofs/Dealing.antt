@@ -1,6 +1,6 @@
 -- A value that a run deals out of the words, and that is one of the program's there, is a launch
 -- that the words ask for.
-use Rattle.std.proofs.Common.{◌≡◌, List, [], ℕ, IfOk, Ok, Err, Result, ap, map}
+use Rattle.std.proofs.Common.{◌≡◌, List, [], ℕ, None, IfOk, Ok, Err, Result, ap, map}
 use Rattle.std.proofs.Common.{string_bytes, subst, sym, true≢false, ◌∙◌}
 use Rattle.std.specs.List.{Contains}
 use Rattle.bpaf_line.specs.declared.failure.ParseFailure.{ParseFailure}
@@ -11,7 +11,7 @@ use Rattle.bpaf_exact.specs.Gathered.{list_closure}
 use Rattle.bpaf_exact.specs.Leaves.{WordValue, flag_roles}
 use Rattle.bpaf_exact.specs.Pieces.{LinePiece, others}
 use Rattle.bpaf_exact.specs.Says.{WordSays}
-use Rattle.bpaf_exact.specs.Single.{FrontOf, SingleValue, no_gap, of_gap, of_group}
+use Rattle.bpaf_exact.specs.Single.{FrontOf, SingleValue, gap_of, of_gap, of_group}
 use Rattle.bpaf_exact.proofs.Says.{listed_says, word_by_says, word_says}
 use Rattle.bpaf_record.proofs.PassedOn.{flag_leaves, line_behind, name_before, strict_words}
 use Rattle.bpaf_program.specs.Values.{MeansText, String}
@@ -25,7 +25,7 @@ use Rattle.example_launch.specs.Exact.{AnswersLaunch, IsLaunchValue}
 -- what the name says of its piece
 name_says : (os : List LinePiece) (v : String)
     → SingleValue String (FrontOf String (WordValue (accepts NonStrict) MeansText))
-    (no_gap String) os v
+    (gap_of MeansText None) os v
     → WordSays (accepts NonStrict) MeansText os v
 name_says os v (of_group g) = subst (λ os. WordSays (accepts NonStrict) MeansText os v) (sym g.is)
     (word_says (accepts NonStrict) MeansText g.piece v g.means)
