@@ -26,14 +26,14 @@ use Rattle.bpaf_exact.specs.ProgramSays.{said_alone, said_both, said_con, said_c
 use Rattle.bpaf_exact.specs.ProgramSays.{said_command, said_dressed, said_flat, said_optional}
 use Rattle.bpaf_exact.specs.ProgramSays.{said_fallback, said_last, said_repeat, fields_said_inside}
 use Rattle.bpaf_exact.specs.{Says.FallbackSays, Says.LastSays, Says.RepeatSays}
-use Rattle.bpaf_exact.specs.{Wrappers.ClosedValue, Programs.are_plain, Programs.without}
-use Rattle.bpaf_exact.specs.{Pieces.Roles, Pieces.LinePiece, Pieces.pieces, Flat.ByName}
+use Rattle.bpaf_exact.specs.{Wrappers.ClosedValue, Programs.are_plain}
+use Rattle.bpaf_exact.specs.{Pieces.Roles, Pieces.LinePiece, Flat.ByName}
 use Rattle.bpaf_exact.specs.{Flat.Variables, Names.are_all_apart, Wrappers.Closure}
 use Rattle.bpaf_exact.proofs.Says.{FormOwns, alone_says, both_say, by_name, choice_into}
 use Rattle.bpaf_exact.proofs.Says.{choice_says, closed_says, con_says, field_owned, field_says}
 use Rattle.bpaf_exact.proofs.Says.{optional_says, owned, record_says, unless_says, fallback_says}
 use Rattle.bpaf_exact.proofs.{Says.last_says, Says.listed_says, FlatForm.flat_record_law}
-use Rattle.bpaf_exact.proofs.{ProgramForm.record_owns, Sharing.cut_fit, Sharing.pieces_own}
+use Rattle.bpaf_exact.proofs.{ProgramForm.record_owns, Sharing.cut_fit, Sharing.taken_own}
 
 -- where a test holds
 if_says : {P T : Type 0} (names : List Names) (b : Bool) (s : ProgramForm T) (kind : SaidKind)
@@ -389,8 +389,13 @@ module _ {P Q R A B : Type 0} (first : R → P) (rest : R → Q) (r : R) (outcom
       fields_if_say _ (are_all_apart (names (first r)) others) _ _ r (λ on cs v read. record {
         roles = q;
         owns = own;
-        own = h.by.1 (pieces q cs) v.0 (pieces_own q cs) read.own;
-        left = g (without q cs) v.1 read.left;
+        told = record {
+          own_pieces = read.own_pieces;
+          left_cells = read.left_cells;
+          taken = read.taken;
+          own = h.by.1 read.own_pieces v.0 (taken_own read.taken) read.own;
+          left = g read.left_cells v.1 read.left;
+        };
       })
   before_says said more wide _ u value own h g = tt
 

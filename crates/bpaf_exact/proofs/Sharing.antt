@@ -4,13 +4,14 @@ use Rattle.std.proofs.Common.{if◌then◌else◌, ◌++◌, ◌||◌, ◌⊎◌
 use Rattle.std.proofs.lemmas.List.Folds.{list_any-append}
 use Rattle.bpaf_base.specs.{Items.is_key_of, Items.is_positional, declared.arg.Arg.TheVariants.Word}
 use Rattle.bpaf_base.specs.{declared.arg.Arg.TheVariants.PosWord, declared.arg.Arg.Arg}
-use Rattle.bpaf_exact.specs.Pieces.{Cells, Cut, argument, at_end, begin_piece, flag, passed, pieces}
-use Rattle.bpaf_exact.specs.Pieces.{word, Role, Foreign, Alone, WithNext, Roles, LinePiece, One}
+use Rattle.bpaf_exact.specs.Pieces.{Cells, Cut, argument, at_end, flag, passed, word}
+use Rattle.bpaf_exact.specs.Pieces.{Takes, no_cells, empty_stays, other_stays, takes_flag}
+use Rattle.bpaf_exact.specs.Pieces.{takes_argument, Role, Foreign, Alone, WithNext, Roles, LinePiece, One}
 use Rattle.bpaf_exact.specs.Pieces.{Two, is_own_role, is_own, mine, others, either, either_role}
 use Rattle.bpaf_exact.specs.{Names.are_all_apart, Names.Owns, Names.is_key_of_any, Says.EachOwn}
 use Rattle.bpaf_exact.specs.{Says.Fits, Says.first_item, Says.keyed, Says.unkeyed, Flat.OneWord}
 use Rattle.bpaf_exact.specs.{FlatForm.may_follow}
-use Rattle.bpaf_exact.proofs.{First.own_next, Names.one_list, Names.or_true}
+use Rattle.bpaf_exact.proofs.{Names.one_list, Names.or_true}
 use Rattle.bpaf_doc.specs.Names.{Names}
 
 -- a test that holds of no item fails
@@ -134,17 +135,13 @@ each_own q (o ∷ os) = by_own (is_own q o) refl (each_own q os)
     by_own true e all = (e, all)
     by_own false e all = all
 
--- so are those on cells
-pub pieces_own : (q : Roles) (cs : Cells) → EachOwn q (pieces q cs)
-pieces_own q [] = tt
-pieces_own q (None ∷ cs) = pieces_own q cs
-pieces_own q (Some k ∷ cs) = by_role (q k) refl (pieces_own q cs)
-  where
-    by_role : (x : Role) → q k ≡ x → EachOwn q (pieces q cs)
-        → EachOwn q (begin_piece x k cs (pieces q cs))
-    by_role Foreign e all = all
-    by_role Alone e all = (ap is_own_role e, all)
-    by_role WithNext e all = (own_next q k cs ∙ ap is_own_role e, all)
+-- so are those taken from cells
+pub taken_own : {q : Roles} {cs ds : Cells} {os : List LinePiece} → Takes q cs os ds → EachOwn q os
+taken_own no_cells = tt
+taken_own (empty_stays t) = taken_own t
+taken_own (other_stays e t) = taken_own t
+taken_own (takes_flag e t) = (ap is_own_role e, taken_own t)
+taken_own (takes_argument e v t) = (ap is_own_role e, taken_own t)
 
 -- where each own item of the one is one of the other, its pieces are among the other's
 pub mine_within : (q r : Roles) → ((k : Arg) → is_own_role (q k) ≡ true → is_own_role (r k) ≡ true)

@@ -117,6 +117,20 @@ pieces r [] = []
 pieces r (None ∷ cs) = pieces r cs
 pieces r (Some k ∷ cs) = begin_piece (r k) k cs (pieces r cs)
 
+-- the pieces that begin with an item of a field's own taken, wherever they stand: a key of a flag,
+-- or one of an argument with the value in the next cell; and what is left
+pub data Takes (q : Roles) : Cells → List LinePiece → Cells → Type 0 where
+  no_cells : Takes q [] [] []
+  empty_stays : {cs ds : Cells} {os : List LinePiece} → Takes q cs os ds
+      → Takes q (None ∷ cs) os (None ∷ ds)
+  other_stays : {k : Arg} {cs ds : Cells} {os : List LinePiece} → q k ≡ Foreign → Takes q cs os ds
+      → Takes q (Some k ∷ cs) os (Some k ∷ ds)
+  takes_flag : {k : Arg} {cs ds : Cells} {os : List LinePiece} → q k ≡ Alone → Takes q cs os ds
+      → Takes q (Some k ∷ cs) (One k ∷ os) (None ∷ ds)
+  takes_argument : {k w : Arg} {cs ds : Cells} {os : List LinePiece} → q k ≡ WithNext
+      → is_value w ≡ true → Takes q cs os ds
+      → Takes q (Some k ∷ (Some w ∷ cs)) (Two k w ∷ os) (None ∷ (None ∷ ds))
+
 -- one piece of a field's own taken
 pub data TakesPiece (r : Roles) : Cells → LinePiece → Cells → Type 0 where
   takes_one : {k : Arg} {cs : Cells} → r k ≡ Alone → TakesPiece r (Some k ∷ cs) (One k) (None ∷ cs)

@@ -15,6 +15,7 @@ use Rattle.bpaf_exact.specs.ProgramForm.{ProgramForm, are_words_apart, plain, pr
 use Rattle.bpaf_exact.specs.Programs.{CellsValue, ChoiceValue, CommandValue, FieldThen}
 use Rattle.bpaf_exact.specs.Programs.{Opens, first_value}
 use Rattle.bpaf_exact.specs.Programs.{second_value}
+use Rattle.bpaf_exact.proofs.BeforeCommands.{one_take}
 use Rattle.bpaf_exact.proofs.Commands.{opens_apart, opens_left, opens_right}
 use Rattle.bpaf_exact.proofs.OneView.{record_looks_one}
 use Rattle.bpaf_exact.proofs.ProgramForm.{words_apart}
@@ -125,8 +126,10 @@ pub then_look : {A B X Y : Type 0} {see : A → X} {look : B → Y} {q : Roles}
     {first : List LinePiece → A → Type 0} {value : CellsValue B}
     → HasOneView see (complete ByName q first) → LooksOne look value
     → LooksOne (pair_view see look) (FieldThen A B q first value)
-then_look one more cs v w a b =
-    ap₂ (λ x y. (x, y)) (one _ v.0 w.0 a.own b.own) (more _ v.1 w.1 a.left b.left)
+then_look {first = first} {value = value} one more cs v w a b =
+    let same = one_take a.taken b.taken in
+    ap₂ (λ x y. (x, y)) (one _ v.0 w.0 (subst (λ os. first os v.0) same.0 a.own) b.own)
+    (more _ v.1 w.1 (subst (λ ds. value ds v.1) same.1 a.left) b.left)
 
 -- all values of the program on the same words look alike
 pub program_looks_one : {T X : Type 0} {see : T → X} {form : ProgramForm T}
