@@ -1,5 +1,5 @@
 -- A key of an argument and its value are a piece.
-use Rattle.std.proofs.Common.{◌≡◌, ℕ, true, false, List, [], ◌∷◌, Option, Some, None, refl, sym, ap}
+use Rattle.std.proofs.Common.{◌≡◌, ℕ, true, List, [], ◌∷◌, Option, Some, None, refl, sym, ap}
 use Rattle.std.proofs.{Common.◌∙◌, Common.subst, lemmas.Bool.and_parts}
 use Rattle.bpaf_text.specs.Named.{KeyWithValue, argument_part}
 use Rattle.bpaf_base.specs.{declared.arg.Arg.Arg, Items.is_key_of, Items.item_text}

@@ -1,8 +1,7 @@
 -- A named field before others, the last of which are commands: together they keep to the laws of a
 -- program.
-use Rattle.std.proofs.Common.{◌≡◌, ◌≤◌, Bool, true, false, List, [], ◌∷◌, length, Some, None}
+use Rattle.std.proofs.Common.{◌≡◌, ◌≤◌, true, List, [], ◌∷◌, length, Some, None}
 use Rattle.std.proofs.Common.{Result, Ok, Err, refl, sym, ap, ◌∙◌, subst, arith, if◌then◌else◌}
-use Rattle.bpaf_base.specs.declared.arg.Arg.{Arg}
 use Rattle.bpaf_line.specs.{declared.error.Error.Error, Situation.Situation}
 use Rattle.bpaf_laws.specs.{Choice.depth, Product.BothOutcome, Product.ProductOutcome}
 use Rattle.bpaf_laws.specs.{Reading.Outcome}
@@ -13,7 +12,7 @@ use Rattle.bpaf_exact.specs.Pieces.{Takes, no_cells, empty_stays, other_stays, t
 use Rattle.bpaf_exact.specs.Pieces.{takes_argument}
 use Rattle.bpaf_exact.specs.Flat.{OfMemory, class, cells, NonePresent, IsWholeIn, ByName, FieldLaw}
 use Rattle.bpaf_exact.specs.Programs.{CellsValue, FieldThen}
-use Rattle.bpaf_exact.specs.Programs.{LeavesToOthers, ProgramLaw, is_spelled}
+use Rattle.bpaf_exact.specs.Programs.{LeavesToOthers, ProgramLaw}
 use Rattle.bpaf_exact.specs.Wrappers.{ClosedValue}
 use Rattle.bpaf_exact.specs.Programs.{IsSpelledLine, AllSpelled, no_cell, empty_cell, spelled_cell}
 use Rattle.bpaf_exact.specs.{Pieces.either, Pieces.either_role, Flat.Variables, Programs.GivesAll}
@@ -210,8 +209,7 @@ module _ {env : Variables} (A B : Type 0) (first : Outcome A) (rest : Outcome B)
       → BothOutcome first rest s a t → value (cells s) u → GivesAll (value (cells s)) a t
   both_answers s t (Ok v) u w o h =
       let i = values_of_both A B first rest s t v o in
-      let j = rest_gives s i.middle t v.0 (Ok v.1) u w i.first_ran i.rest_ran h in
-      (
+      let j = rest_gives s i.middle t v.0 (Ok v.1) u w i.first_ran i.rest_ran h in (
         record {
           own_pieces = h.own_pieces;
           left_cells = h.left_cells;
@@ -225,7 +223,7 @@ module _ {env : Variables} (A B : Type 0) (first : Outcome A) (rest : Outcome B)
     where
       by_side : RefusedBy A B first rest s e t → class e ≡ OfMemory
       by_side (for_memory m) = m
-      by_side (by_first {d = d} {m = m} f spared) = 
+      by_side (by_first {d = d} {m = m} f spared) =
           absurd (spared (lf.refuses s m d u.0 w f (own_value (cells s) u h)))
       by_side (by_rest {v = v} {m = m} f g) = (rest_gives s m t v (Err e) u w f g h).1
 

@@ -1,6 +1,6 @@
 -- A product of named fields keeps to the laws of a named field, so it may stand in another product.
 use Rattle.std.proofs.Common.{◌≡◌, true, false, List, [], ◌∷◌, Some, None, Ok, Err, refl, sym, ap}
-use Rattle.std.proofs.Common.{ap₂, ◌∙◌, subst, if◌then◌else◌}
+use Rattle.std.proofs.Common.{ap₂, ◌∙◌, subst, if◌then◌else◌, not}
 use Rattle.bpaf_base.specs.declared.arg.Arg.{Arg}
 use Rattle.bpaf_line.specs.{declared.error.Error.Error, Situation.Situation}
 use Rattle.bpaf_laws.specs.{Product.BothOutcome, Product.ProductOutcome, Reading.Outcome}
@@ -40,17 +40,17 @@ module _ (q : Roles) (k : Arg) (cs : Cells) (os : List LinePiece) where
   others_pass : (x : Role) → is_own_role (q k) ≡ true
       → others q (begin_piece x k cs os) ≡ others q os
   others_pass Foreign h = refl
-  others_pass Alone h = ap (λ b. if b then others q os else (One k ∷ others q os)) h
+  others_pass Alone h = ap (λ b. if not b then (One k ∷ others q os) else others q os) h
   others_pass WithNext h =
-      ap (λ b. if b then others q os else (with_next k cs ∷ others q os)) (own_next q k cs ∙ h)
+      ap (λ b. if not b then (with_next k cs ∷ others q os) else others q os) (own_next q k cs ∙ h)
 
   -- another item begins one
   others_begin : (x : Role) → is_own_role (q k) ≡ false
       → others q (begin_piece x k cs os) ≡ begin_piece x k cs (others q os)
   others_begin Foreign h = refl
-  others_begin Alone h = ap (λ b. if b then others q os else (One k ∷ others q os)) h
+  others_begin Alone h = ap (λ b. if not b then (One k ∷ others q os) else others q os) h
   others_begin WithNext h =
-      ap (λ b. if b then others q os else (with_next k cs ∷ others q os)) (own_next q k cs ∙ h)
+      ap (λ b. if not b then (with_next k cs ∷ others q os) else others q os) (own_next q k cs ∙ h)
 
 module _ (p q r : Roles) (u : Union p q r) where
   -- of the pieces of both the first one's are its own,

@@ -1,6 +1,6 @@
 -- Positional words keep to the laws.
 use Rattle.std.proofs.Common.{◌≡◌, ℕ, Bool, true, false, List, [], ◌∷◌, Some, None, Ok, Err, refl}
-use Rattle.std.proofs.Common.{sym, ap, ◌∙◌, not, subst, true≢false, if◌then◌else◌, option_and_then}
+use Rattle.std.proofs.Common.{sym, ap, ◌∙◌, not, subst, true≢false, if◌then◌else◌, option_and_then, take}
 use Rattle.std.specs.Option.{option_map_or}
 use Rattle.bpaf_base.specs.declared.arg.Arg.{Arg}
 use Rattle.bpaf_base.specs.declared.arg.Arg.TheVariants.{Word, PosWord}
@@ -17,7 +17,7 @@ use Rattle.bpaf_exact.specs.Leaves.{WordEval, WordValue, word_by, word_fault, wo
 use Rattle.bpaf_exact.specs.Leaves.{word_missing}
 use Rattle.bpaf_exact.specs.{Flat.is_behind, Flat.Variables, Single.SingleLaw, Leaves.word_passed}
 use Rattle.bpaf_exact.specs.{Leaves.word_read, FlatForm.FormLaw}
-use Rattle.bpaf_exact.proofs.Fronts.{back_more, back_one, front_more, front_one, of_front_more}
+use Rattle.bpaf_exact.proofs.Fronts.{back_more, back_one, each_front, front_more, front_one, of_front_more}
 use Rattle.bpaf_exact.proofs.Matching.{match_of, ByTest, by_test, no_pieces, one_taken}
 use Rattle.bpaf_exact.proofs.{Fronts.of_front_one, Alternative.took_front, Places.take_steady}
 use Rattle.bpaf_exact.proofs.{Words.never_two, Cells.begin_at}
@@ -38,7 +38,9 @@ word_is _ strict text e = absurd cc
 -- a field that stops takes none behind `--`
 passed_by : (b : Bool) → b ≡ true → (o : LinePiece) (os : List LinePiece) → is_behind o ≡ true
     → front (OneWord b) (o ∷ os) ≡ []
-passed_by true h o os behind = ap (λ z. if z then [] else o ∷ []) behind
+passed_by true h o os behind =
+    ap (take 1) (each_front true o os
+    ∙ ap (λ z. if not z then (o ∷ front (EachWord true) os) else []) behind)
 passed_by false h o os behind = absurd cc
 
 -- a positional

@@ -1,6 +1,6 @@
 -- How a flat record sees a line: its places, cut into pieces, which the fields share out.
 use Rattle.std.specs.Prelude.{◌≡◌, Bool, true, false, List, [], ◌∷◌, Option, Some, None}
-use Rattle.std.specs.Prelude.{if◌then◌else◌}
+use Rattle.std.specs.Prelude.{if◌then◌else◌, filter, not}
 use Rattle.std.specs.Option.{is_some}
 use Rattle.bpaf_base.specs.Items.{value_text, is_positional}
 use Rattle.bpaf_base.specs.declared.arg.Arg.{Arg}
@@ -51,13 +51,11 @@ is_own r (Two k w) = is_own_role (r k)
 
 -- the pieces of a field's own
 abbrev pub mine : Roles → List LinePiece → List LinePiece
-mine r [] = []
-mine r (o ∷ os) = if is_own r o then (o ∷ mine r os) else mine r os
+mine r os = filter (is_own r) os
 
 -- those of others
 abbrev pub others : Roles → List LinePiece → List LinePiece
-others r [] = []
-others r (o ∷ os) = if is_own r o then others r os else (o ∷ others r os)
+others r os = filter (λ o. not (is_own r o)) os
 
 -- what an item is to two fields that share none
 abbrev pub either_role : Role → Role → Role

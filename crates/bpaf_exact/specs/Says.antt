@@ -1,7 +1,7 @@
 -- What the value of a field says of the pieces of a line that are its own, and what the values of a
 -- record say of the line, field by field.
 use Rattle.std.specs.Prelude.{◌≡◌, ℕ, Bool, true, false, List, [], ◌∷◌, ◌++◌, Option, Some, None}
-use Rattle.std.specs.Prelude.{if◌then◌else◌}
+use Rattle.std.specs.Prelude.{filter, not}
 use Rattle.std.specs.List.{Contains}
 use Rattle.bpaf_doc.specs.Names.{Names}
 use Rattle.bpaf_base.specs.Items.{item_text}
@@ -24,15 +24,11 @@ first_item (Two k w) = k
 
 -- the pieces that begin with a key with one of these names, in line order
 abbrev pub keyed : List Names → List LinePiece → List LinePiece
-keyed names [] = []
-keyed names (o ∷ os) =
-    if is_key_of_any names (first_item o) then (o ∷ keyed names os) else keyed names os
+keyed names os = filter (λ o. is_key_of_any names (first_item o)) os
 
 -- the pieces that begin with none
 abbrev pub unkeyed : List Names → List LinePiece → List LinePiece
-unkeyed names [] = []
-unkeyed names (o ∷ os) =
-    if is_key_of_any names (first_item o) then unkeyed names os else (o ∷ unkeyed names os)
+unkeyed names os = filter (λ o. not (is_key_of_any names (first_item o))) os
 
 -- of which pieces a field says something: those of a field of a kind; or those of a product with
 -- words, which stands last
