@@ -1,7 +1,7 @@
 -- Where closures can't tell apart what looks alike, the premise of exactness holds, and all values
 -- of a line look alike.
 use Rattle.std.proofs.Common.{◌≡◌, ℕ, Bool, true, false, List, [], ◌∷◌, map, Option, Some, None}
-use Rattle.std.proofs.Common.{◌&&◌, not, refl, sym, ap, ◌∙◌, subst}
+use Rattle.std.proofs.Common.{◌&&◌, not, refl, sym, ap, ◌∙◌, subst, inl, inr}
 use Rattle.std.specs.Option.{is_none}
 use Rattle.bpaf_laws.specs.Environment.{first_set}
 use Rattle.bpaf_laws.specs.Repeat.{is_nil}
@@ -13,8 +13,8 @@ use Rattle.bpaf_line.specs.Situation.{Context}
 use Rattle.bpaf_laws.specs.Reading.{Outcome}
 use Rattle.bpaf_exact.specs.Flat.{FieldsLaw, FieldsReading, FieldKind, ByName, ReadOff, Variables}
 use Rattle.bpaf_exact.specs.Single.{Groups, Gap, IsMeant, FrontOf, Own, own_none, own_more, SingleLaw}
-use Rattle.bpaf_exact.specs.Single.{SingleValue, of_group, of_gap, OwnList, listed}
-use Rattle.bpaf_exact.specs.Wrappers.{Closure, OptionalValue, some_value, no_value, FallbackValue}
+use Rattle.bpaf_exact.specs.Single.{SingleValue, OwnList, listed}
+use Rattle.bpaf_exact.specs.Wrappers.{Closure, OptionalValue, FallbackValue}
 use Rattle.bpaf_exact.specs.Leaves.{FlagValue, ArgumentValue, WordValue, flag_field, LastGroup}
 use Rattle.bpaf_exact.specs.Leaves.{argument_field, argument_group, argument_roles}
 use Rattle.bpaf_exact.specs.Leaves.{flag_roles, key_field}
@@ -25,7 +25,6 @@ use Rattle.bpaf_exact.specs.FlatForm.{flat_fallback, flat_field, may_follow, fla
 use Rattle.bpaf_exact.specs.FlatForm.{flat_con, flat_record, is_record, product_roles}
 use Rattle.bpaf_exact.specs.OneView.{Alike, OneGroup, HasOneView, Respects, pair_view, LooksLike}
 use Rattle.bpaf_exact.specs.{Single.listed_and_absent, Single.only_absent, Single.repeated}
-use Rattle.bpaf_exact.specs.{Wrappers.own_value, Wrappers.kept_value}
 use Rattle.bpaf_exact.specs.{Leaves.word_by, Record.line_cells}
 use Rattle.bpaf_exact.specs.{FlatForm.product_reading, FlatForm.flat_whole, OneView.RunsToOne}
 use Rattle.bpaf_exact.specs.{Pieces.Cells, Pieces.Roles, Pieces.LinePiece, Pieces.One, Pieces.Two}
@@ -189,39 +188,36 @@ module _ {env : Variables} (T X : Type 0) (see : T → X) (inner : Outcome T) (k
 
   -- the value of a single field
   pub value_view : (os : List LinePiece) → Alike see (SingleValue T group gap os)
-  value_view os v w (of_group g) (of_group h) = (one os [] [] v w g h).0
-  value_view os v w (of_group g) (of_gap e a) =
-      absurd (l.starts v [] (subst (λ z. group z v []) e g))
-  value_view os v w (of_gap e a) (of_group h) =
-      absurd (l.starts w [] (subst (λ z. group z w []) e h))
-  value_view os v w (of_gap e a) (of_gap f b) = absent v w a b
+  value_view os v w (inl g) (inl h) = (one os [] [] v w g h).0
+  value_view os v w (inl g) (inr e) =
+      absurd (l.starts v [] (subst (λ z. group z v []) e.0 g))
+  value_view os v w (inr e) (inl h) =
+      absurd (l.starts w [] (subst (λ z. group z w []) e.0 h))
+  value_view os v w (inr e) (inr f) = absent v w e.1 f.1
 
   -- where there is no piece there is none
   none_single : (os : List LinePiece) (v : T) → os ≡ [] → gap.has ≡ false
       → SingleValue T group gap os v → ⊥
-  none_single os v e h (of_group g) = l.starts v [] (subst (λ z. group z v []) e g)
-  none_single os v e h (of_gap f a) = l.no_absent v h a
+  none_single os v e h (inl g) = l.starts v [] (subst (λ z. group z v []) e g)
+  none_single os v e h (inr f) = l.no_absent v h f.1
 
   -- what may be left out
   pub optional_value_view : (os : List LinePiece)
       → Alike (option_map see) (OptionalValue T group gap os)
-  optional_value_view os v w (some_value {v = x} g) (some_value {v = y} h) =
-      ap Some (value_view os x y g h)
-  optional_value_view os v w (some_value {v = x} g) (no_value e h) =
-      absurd (none_single os x e h g)
-  optional_value_view os v w (no_value e h) (some_value {v = y} g) =
-      absurd (none_single os y e h g)
-  optional_value_view os v w (no_value e h) (no_value f i) = refl
+  optional_value_view os (Some x) (Some y) g h = ap Some (value_view os x y g h)
+  optional_value_view os (Some x) None g n = absurd (none_single os x n.0 n.1 g)
+  optional_value_view os None (Some y) n g = absurd (none_single os y n.0 n.1 g)
+  optional_value_view os None None n m = refl
 
   -- what has a default
   pub fallback_value_view : (f : Closure (Unit {0}) T) → Alike see (λ v. f.yes tt v)
       → (os : List LinePiece) → Alike see (FallbackValue T group gap f os)
-  fallback_value_view f given os v w (own_value g) (own_value h) = value_view os v w g h
-  fallback_value_view f given os v w (own_value g) (kept_value e h y) =
-      absurd (none_single os v e h g)
-  fallback_value_view f given os v w (kept_value e h y) (own_value g) =
-      absurd (none_single os w e h g)
-  fallback_value_view f given os v w (kept_value e h y) (kept_value d i z) = given v w y z
+  fallback_value_view f given os v w (inl g) (inl h) = value_view os v w g h
+  fallback_value_view f given os v w (inl g) (inr e) =
+      absurd (none_single os v e.0 e.1 g)
+  fallback_value_view f given os v w (inr e) (inl g) =
+      absurd (none_single os w e.0 e.1 g)
+  fallback_value_view f given os v w (inr e) (inr d) = given v w e.2 d.2
 
 module _ (env : Variables) (T X : Type 0) (see : T → X) (inner : Outcome T) where
   -- a repeat or default round a field, all values of which look alike

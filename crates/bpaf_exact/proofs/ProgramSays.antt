@@ -1,6 +1,6 @@
 -- Of each combinator: its values say what is told of them, where those of its inner parsers do.
 use Rattle.std.proofs.Common.{◌≡◌, ℕ, zero, suc, Bool, true, false, List, [], ◌∷◌, ◌++◌, Some, None}
-use Rattle.std.proofs.Common.{not, ◌&&◌, ◌||◌, refl, arith}
+use Rattle.std.proofs.Common.{not, ◌&&◌, ◌||◌, refl, arith, inl, inr}
 use Rattle.std.specs.List.{Contains}
 use Rattle.bpaf_doc.specs.Names.{Names}
 use Rattle.bpaf_laws.specs.{Command.Called, Command.opening_words}
@@ -16,8 +16,8 @@ use Rattle.bpaf_exact.specs.ProgramForm.{program_choice, program_choices, progra
 use Rattle.bpaf_exact.specs.ProgramForm.{whole_program, opened_form, program_command}
 use Rattle.bpaf_exact.specs.ProgramForm.{program_field, program_alone, program_both, program_con}
 use Rattle.bpaf_exact.specs.ProgramForm.{is_program, program_value, are_words_apart}
-use Rattle.bpaf_exact.specs.Programs.{CellsValue, CommandValue, ChoiceValue, first_value}
-use Rattle.bpaf_exact.specs.Programs.{second_value, OptionalCommands, some_command, no_command}
+use Rattle.bpaf_exact.specs.Programs.{CellsValue, CommandValue, ChoiceValue}
+use Rattle.bpaf_exact.specs.Programs.{OptionalCommands}
 use Rattle.bpaf_exact.specs.ProgramSays.{ProgramSaid, of_pieces, of_cells, ProgramFieldsSaid}
 use Rattle.bpaf_exact.specs.ProgramSays.{of_all_pieces, of_all_cells, IsSaid, ProgramFormSays}
 use Rattle.bpaf_exact.specs.ProgramSays.{program_kind, ProgramSays, ProgramFieldsFormSay}
@@ -132,8 +132,8 @@ module _ {P Q T : Type 0} (inside : Q → P) (q : Q) where
       record { by = if_says names (not catch) _ kind _ q (λ on. optional) }
     where
       optional : IsSaid (OptionalCommands T value) (OptionalCommands T (said (inside q)))
-      optional cs (Some v) (some_command c) = some_command (h.by cs v c)
-      optional cs None (no_command none) = no_command none
+      optional cs (Some v) c = h.by cs v c
+      optional cs None none = none
   program_optional_says catch h = record { by = tt }
 
   -- a value of a whole program says so of the cells
@@ -234,8 +234,8 @@ module _ {P Q T : Type 0} (q : Q) where
       if_says names (are_words_apart words more) _ (of_kind ByName) _ q (λ on. either)
     where
       either : IsSaid (ChoiceValue T a b) (said q)
-      either cs v (first_value c) = h cs v c
-      either cs v (second_value c) = into cs v (g cs v c)
+      either cs v (inl c) = h cs v c
+      either cs v (inr c) = into cs v (g cs v c)
   more_says says (of_cells said) p kind names own others words more (plain wide a) s h g into =
       absurd h
   more_says says (of_pieces said) p kind names own others words more (commands r a) s h g into =
@@ -267,8 +267,8 @@ program_choice_says {T = T} this that r own others words more {s = commands q va
     }
   where
     either : IsSaid (ChoiceValue T va vb) (ChoiceValue T (a (this r)) (b (that r)))
-    either cs w (first_value c) = first_value (h.by cs w c)
-    either cs w (second_value c) = second_value (g.by cs w c)
+    either cs w (inl c) = inl (h.by cs w c)
+    either cs w (inr c) = inr (g.by cs w c)
 program_choice_says this that r own others words more {s = commands q va} {t = commands u vb}
     {a = of_pieces a} h g = absurd h.by
 program_choice_says this that r own others words more {s = commands q va} {t = commands u vb}

@@ -1,14 +1,14 @@
 -- The value of each flat field says of its pieces what its parser says.
 use Rattle.std.proofs.Common.{◌≡◌, ℕ, Bool, true, false, List, [], ◌∷◌, ◌++◌, Option, Some, None}
-use Rattle.std.proofs.Common.{◌&&◌, not, refl, sym, ap, ◌∙◌, subst, append-nil}
+use Rattle.std.proofs.Common.{◌&&◌, not, refl, sym, ap, ◌∙◌, subst, append-nil, inl, inr}
 use Rattle.bpaf_doc.specs.Names.{Names}
 use Rattle.bpaf_text.specs.Named.{Named as Key, KeyWithValue}
 use Rattle.bpaf_laws.specs.Reading.{Outcome}
 use Rattle.bpaf_exact.specs.Pieces.{Roles, LinePiece, One, Two, is_own, mine, others, either}
 use Rattle.bpaf_exact.specs.Flat.{FieldKind, ByName, OneWord, EachWord, FieldsReading, keys, front}
 use Rattle.bpaf_exact.specs.Single.{Groups, Gap, FrontOf, Own, own_none, own_more, OwnList, listed}
-use Rattle.bpaf_exact.specs.Single.{listed_and_absent, only_absent, SingleValue, of_group, of_gap}
-use Rattle.bpaf_exact.specs.Wrappers.{Closure, OptionalValue, some_value, no_value, FallbackValue}
+use Rattle.bpaf_exact.specs.Single.{listed_and_absent, only_absent, SingleValue}
+use Rattle.bpaf_exact.specs.Wrappers.{Closure, OptionalValue, FallbackValue}
 use Rattle.bpaf_exact.specs.{Single.gap_of, Single.IsMeant}
 use Rattle.bpaf_exact.specs.Leaves.{flag_field, flag_roles, FlagValue, argument_field}
 use Rattle.bpaf_exact.specs.Leaves.{argument_group, argument_roles, key_field, value_without_key}
@@ -29,11 +29,12 @@ use Rattle.bpaf_exact.specs.Says.{OptionalSays, says_some, says_none, FallbackSa
 use Rattle.bpaf_exact.specs.Says.{says_kept, FrontSays, RepeatSays, says_in_turn, says_alone}
 use Rattle.bpaf_exact.specs.Says.{LastSays, FieldsSaid, RecordSays, FormSays, Says, FieldsFormSays}
 use Rattle.bpaf_exact.specs.{Pieces.no_roles, Flat.back, Flat.both_reading}
-use Rattle.bpaf_exact.specs.{Flat.Variables, Single.repeated, Wrappers.own_value}
-use Rattle.bpaf_exact.specs.{Wrappers.kept_value, Leaves.ArgumentValue}
+use Rattle.bpaf_exact.specs.{Flat.Variables, Single.repeated}
+use Rattle.bpaf_exact.specs.{Leaves.ArgumentValue}
 use Rattle.bpaf_exact.specs.{Leaves.WordValue, Leaves.word_by, FlatForm.flat_whole, Says.FieldsSay}
 use Rattle.bpaf_exact.specs.{Says.its_pieces, Says.words_after, Names.Owns, Names.are_all_apart}
-use Rattle.bpaf_exact.specs.{Gathered.LastOf, Alternative.pick_type, Alternative.either_value}
+use Rattle.bpaf_exact.specs.{Gathered.LastOf, Alternative.either_value}
+use Rattle.std.specs.Prelude.{MatchBool}
 use Rattle.bpaf_exact.specs.{Record.LastValue}
 use Rattle.bpaf_exact.proofs.Sharing.{mine_rest, others_fit, others_rest, rest_fit, apart_none}
 use Rattle.bpaf_exact.proofs.Sharing.{each_own, first_fits, no_fits, own_fit, second_fits}
@@ -202,7 +203,7 @@ pub choice_into : {T : Type 0} (m n names own others : List Names) (j k : SaidKi
 choice_into {T} m n names own others j k said this that from_this from_that (alternative q first)
     (alternative r second) g h = by_test (are_all_apart own others)
   where
-    piece : (o : LinePiece) (v : T) (b : Bool) → pick_type b (first o v) (second o v)
+    piece : (o : LinePiece) (v : T) (b : Bool) → MatchBool b (first o v) (second o v)
         → said (o ∷ []) v
     piece o v true m = from_this (o ∷ []) v (g.1 o v m)
     piece o v false m = from_that (o ∷ []) v (h.1 o v m)
@@ -236,9 +237,9 @@ module _ {T : Type 0} (said : Said T) (group : Groups T) (gap : Gap T)
     (absent : (v : T) → gap.absent v → said [] v) where
   -- a value of all pieces at once
   whole_says : (os : List LinePiece) (v : T) → SingleValue T group gap os v → said os v
-  whole_says os v (of_group g) = let there = fronts os [] v g in
+  whole_says os v (inl g) = let there = fronts os [] v g in
       subst (λ z. said z v) (sym (there.is ∙ append-nil there.part)) there.told
-  whole_says os v (of_gap e a) = subst (λ z. said z v) (sym e) (absent v a)
+  whole_says os v (inr e) = subst (λ z. said z v) (sym e.0) (absent v e.1)
 
   -- values in turn
   turns_say : (os : List LinePiece) (vs : List T) → Own T group os vs → Own T (FrontSays said) os vs
@@ -257,14 +258,14 @@ module _ {T : Type 0} (said : Said T) (group : Groups T) (gap : Gap T)
   -- Some of one, or None
   optional_by : (os : List LinePiece) (r : Option T) → OptionalValue T group gap os r
       → OptionalSays said os r
-  optional_by os (Some v) (some_value h) = says_some v refl (whole_says os v h)
-  optional_by os None (no_value e h) = says_none refl e
+  optional_by os (Some v) h = says_some v refl (whole_says os v h)
+  optional_by os None e = says_none refl e.0
 
   -- one, or what stands in its place
   fallback_by : (f : Closure (Unit {0}) T) (os : List LinePiece) (v : T)
       → FallbackValue T group gap f os v → FallbackSays said (f.yes tt) os v
-  fallback_by f os v (own_value h) = says_own (whole_says os v h)
-  fallback_by f os v (kept_value e h m) = says_kept e m
+  fallback_by f os v (inl h) = says_own (whole_says os v h)
+  fallback_by f os v (inr e) = says_kept e.0 e.2
 
 -- a repeat or default round a field, of which each value says so
 whole_form_says : {T B : Type 0} (kind : FieldKind → FieldKind) (lift : SaidKind → SaidKind)
@@ -550,8 +551,8 @@ record_says {T} s {kind} {names} {said} h = by_form s h.by
         → (product_reading (flat_record s)).value os v → said os v
     by_form not_flat h os v fits m = absurd m
     by_form (alternative q value) h os v fits m = all_own ByName q _
-        (λ os v all. whole_says said _ _ (front_says value said h.1) (λ v none. absurd none) os v)
-        os v m
+        (λ os v all. whole_says said _ (gap_of value None) (front_says value said h.1)
+        (λ v none. absurd none) os v) os v m
     by_form (single k q group gap) h os v fits m =
         all_own k q _ (λ os v all. whole_says said group gap h.1 h.2 os v) os v m
     by_form (complete k q value) h os v fits m = all_own k q value h.1 os v m

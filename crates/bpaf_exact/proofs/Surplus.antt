@@ -1,13 +1,13 @@
 -- A surplus occurrence, a surplus word and an occurrence without a value leave a field no value.
 use Rattle.std.proofs.Common.{◌≡◌, ℕ, Bool, not, true, false, List, [], ◌∷◌, Option, Some, None}
-use Rattle.std.proofs.Common.{subst}
+use Rattle.std.proofs.Common.{subst, inl, inr}
 use Rattle.bpaf_exact.specs.Flat.{FieldKind, FieldsReading, HasValue, both_reading, portion, left}
 use Rattle.bpaf_exact.specs.Single.{Groups, Gap, FrontOf, own_none, own_more, OwnList, listed}
-use Rattle.bpaf_exact.specs.Single.{listed_and_absent, only_absent, SingleValue, of_group, of_gap}
-use Rattle.bpaf_exact.specs.Wrappers.{Closure, OptionalValue, some_value, no_value, FallbackValue}
+use Rattle.bpaf_exact.specs.Single.{listed_and_absent, only_absent, SingleValue, gap_of}
+use Rattle.bpaf_exact.specs.Wrappers.{Closure, OptionalValue, FallbackValue}
 use Rattle.bpaf_exact.specs.FlatForm.{FlatForm, not_flat, alternative, single, complete, product}
 use Rattle.bpaf_exact.specs.FlatForm.{flat_closed, flat_optional, flat_fallback, flat_field, only_if}
-use Rattle.bpaf_exact.specs.{Wrappers.own_value, Wrappers.kept_value, FlatForm.is_product}
+use Rattle.bpaf_exact.specs.{FlatForm.is_product}
 use Rattle.bpaf_exact.specs.{Pieces.Roles, Pieces.LinePiece, Gathered.LastOf, Alternative.HasBad}
 use Rattle.bpaf_exact.specs.{Record.last_reading, Leaves.key_field}
 use Rattle.bpaf_exact.specs.{Leaves.word_by, Accepted.OneByOne, Accepted.AtMostOne}
@@ -28,18 +28,18 @@ group_once group one o p os v g = let i = one (o ∷ p ∷ os) [] v g in let e =
 module _ (T : Type 0) (group : Groups T) (gap : Gap T) (one : OneByOne group) where
   -- nor have two where there is no repeat or default
   single_once : AtMostOne (SingleValue T group gap)
-  single_once o p os v (of_group g) = group_once group one o p os v g
-  single_once o p os v (of_gap e a) = cc
+  single_once o p os v (inl g) = group_once group one o p os v g
+  single_once o p os v (inr e) = cc
 
   -- nor where they may be left out
   optional_once : AtMostOne (OptionalValue T group gap)
-  optional_once o p os (Some v) (some_value h) = single_once o p os v h
-  optional_once o p os None (no_value e h) = cc
+  optional_once o p os (Some v) h = single_once o p os v h
+  optional_once o p os None e = cc
 
   -- nor where a value stands for them
   fallback_once : (f : Closure (Unit {0}) T) → AtMostOne (FallbackValue T group gap f)
-  fallback_once f o p os v (own_value h) = single_once o p os v h
-  fallback_once f o p os v (kept_value e h m) = cc
+  fallback_once f o p os v (inl h) = single_once o p os v h
+  fallback_once f o p os v (inr e) = cc
 
 -- a closure round a field keeps that
 pub closed_no_surplus : {A B : Type 0} (f : Closure A B) (s : FlatForm A) → HasNoSurplus s
@@ -51,7 +51,8 @@ closed_no_surplus f _ h = tt
 -- a field without a repeat or default has no surplus
 pub field_no_surplus : {T : Type 0} (s : FlatForm T) → is_product s ≡ false → HasNoSurplus s
     → HasNoSurplus (flat_field s)
-field_no_surplus {T = T} (alternative q value) n h = single_once T _ _ (front_one T value)
+field_no_surplus {T = T} (alternative q value) n h =
+    single_once T _ (gap_of value None) (front_one T value)
 field_no_surplus {T = T} (single k q group gap) n h = single_once T group gap h
 field_no_surplus (product named q fields) n h = absurd cc
 field_no_surplus s n h = h
@@ -113,20 +114,20 @@ module _ (T : Type 0) (value : LinePiece → T → Type 0) (gap : Gap T) where
   -- nor what has no repeat or default
   pub single_bad : (os : List LinePiece) (v : T) → HasBad T value os
       → SingleValue T (FrontOf T value) gap os v → ⊥
-  single_bad os v b (of_group g) = own_bad T value os (v ∷ []) b (own_more g own_none)
-  single_bad os v b (of_gap e a) = none_bad os e b
+  single_bad os v b (inl g) = own_bad T value os (v ∷ []) b (own_more g own_none)
+  single_bad os v b (inr e) = none_bad os e.0 b
 
   -- nor what may be left out
   pub optional_bad : (os : List LinePiece) (v : Option T) → HasBad T value os
       → OptionalValue T (FrontOf T value) gap os v → ⊥
-  optional_bad os (Some v) b (some_value h) = single_bad os v b h
-  optional_bad os None b (no_value e h) = none_bad os e b
+  optional_bad os (Some v) b h = single_bad os v b h
+  optional_bad os None b e = none_bad os e.0 b
 
   -- nor what has a value that stands for it
   pub fallback_bad : (f : Closure (Unit {0}) T) (os : List LinePiece) (v : T) → HasBad T value os
       → FallbackValue T (FrontOf T value) gap f os v → ⊥
-  fallback_bad f os v b (own_value h) = single_bad os v b h
-  fallback_bad f os v b (kept_value e h a) = none_bad os e b
+  fallback_bad f os v b (inl h) = single_bad os v b h
+  fallback_bad f os v b (inr e) = none_bad os e.0 b
 
 -- Which parts a record has: each of its fields, and that no piece is left.
 module _ {A B : Type 0} (k : FieldKind) (q : Roles) (first : List LinePiece → A → Type 0)

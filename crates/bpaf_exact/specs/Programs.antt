@@ -70,15 +70,13 @@ pub record CommandValue (T : Type 0) (words : List (List ℕ)) (inner : CellsVal
   pub read : inner behind v
 
 -- a choice of commands: one of them has the value
-pub data ChoiceValue (T : Type 0) (first second : CellsValue T) (cs : Cells) (v : T) : Type 0 where
-  first_value : first cs v → ChoiceValue T first second cs v
-  second_value : second cs v → ChoiceValue T first second cs v
+abbrev pub ChoiceValue : (T : Type 0) → CellsValue T → CellsValue T → CellsValue T
+ChoiceValue T first second cs v = first cs v ⊎ second cs v
 
 -- commands that may be left out: nothing is present at all, and it is None
-pub data OptionalCommands (T : Type 0) (inner : CellsValue T) (cs : Cells) : Option T
-    → Type 0 where
-  some_command : {v : T} → inner cs v → OptionalCommands T inner cs (Some v)
-  no_command : NonePresent cs → OptionalCommands T inner cs None
+abbrev pub OptionalCommands : (T : Type 0) → CellsValue T → CellsValue (Option T)
+OptionalCommands T inner cs (Some v) = inner cs v
+OptionalCommands T inner cs None = NonePresent cs
 
 -- a named field before others, the last of which are commands: it has its value on its own pieces,
 -- and they have theirs on what is left without these

@@ -1,7 +1,7 @@
 -- A flat field without a repeat or default: one evaluation, and what repeats and defaults make of
 -- it.
 use Rattle.std.specs.Prelude.{◌≡◌, ℕ, suc, Bool, true, false, List, [], ◌∷◌, Option, Some, None}
-use Rattle.std.specs.Prelude.{Ok, Err, is_some}
+use Rattle.std.specs.Prelude.{Ok, Err, is_some, ◌⊎◌}
 use Rattle.bpaf_line.specs.declared.error.Error.{Error}
 use Rattle.bpaf_line.specs.Situation.{Situation, open_count}
 use Rattle.bpaf_laws.specs.Reading.{Outcome}
@@ -139,17 +139,15 @@ pub data OwnList (T : Type 0) (group : Groups T) (gap : Gap T) : List LinePiece 
       → Own T group os (v ∷ vs) → OwnList T group gap os (v ∷ vs)
   only_absent : {a : T} → gap.has ≡ true → gap.absent a → OwnList T group gap [] (a ∷ [])
 
--- the value of a field without a repeat or default
-pub data SingleValue (T : Type 0) (group : Groups T) (gap : Gap T) : List LinePiece → T
-    → Type 0 where
-  of_group : {os : List LinePiece} {v : T} → group os v [] → SingleValue T group gap os v
-  of_gap : {os : List LinePiece} {v : T} → os ≡ [] → gap.absent v → SingleValue T group gap os v
+-- the value of a field without a repeat or default: that of all pieces at once; or, where there is
+-- none, the absent one
+abbrev pub SingleValue : (T : Type 0) → Groups T → Gap T → List LinePiece → T → Type 0
+SingleValue T group gap os v = group os v [] ⊎ ((os ≡ []) × gap.absent v)
 
 -- with a repeat a positional field gets all words
 abbrev pub repeated : FieldKind → FieldKind
-repeated ByName = ByName
 repeated (OneWord stops) = EachWord stops
-repeated (EachWord stops) = EachWord stops
+repeated k = k
 
 -- after an error a turn stops where nothing was found, or the error can be caught otherwise
 pub data Stops (e : Error) (s m : Situation) : Type 0 where

@@ -1,6 +1,6 @@
 -- Programs all of whose values on the same words look alike.
 use Rattle.std.proofs.Common.{◌≡◌, All, true, false, IsUtf8, List, [], ◌∷◌, ◌++◌, ℕ, ap, ap₂}
-use Rattle.std.proofs.Common.{subst, sym, ◌∙◌}
+use Rattle.std.proofs.Common.{subst, sym, ◌∙◌, inl, inr}
 use Rattle.bpaf_doc.specs.Names.{Names}
 use Rattle.bpaf_words.specs.Arguments.{Given}
 use Rattle.bpaf_words.specs.Spelling.{Known}
@@ -13,8 +13,7 @@ use Rattle.bpaf_exact.specs.OneView.{Alike, HasOneView, pair_view}
 use Rattle.bpaf_exact.specs.Pieces.{Cells, LinePiece, Roles}
 use Rattle.bpaf_exact.specs.ProgramForm.{ProgramForm, are_words_apart, plain, program_value}
 use Rattle.bpaf_exact.specs.Programs.{CellsValue, ChoiceValue, CommandValue, FieldThen}
-use Rattle.bpaf_exact.specs.Programs.{Opens, first_value}
-use Rattle.bpaf_exact.specs.Programs.{second_value}
+use Rattle.bpaf_exact.specs.Programs.{Opens}
 use Rattle.bpaf_exact.proofs.BeforeCommands.{one_take}
 use Rattle.bpaf_exact.proofs.Commands.{opens_apart, opens_left, opens_right}
 use Rattle.bpaf_exact.proofs.OneView.{record_looks_one}
@@ -67,16 +66,16 @@ module _ {T X : Type 0} {see : T → X} where
           (other.opened cs w b).1
 
       choice_look : LooksOne see (ChoiceValue T first second)
-      choice_look cs v w (first_value a) (first_value b) = one.look cs v w a b
-      choice_look cs v w (second_value a) (second_value b) = other.look cs v w a b
-      choice_look cs v w (first_value a) (second_value b) = absurd (never cs v w a b)
-      choice_look cs v w (second_value a) (first_value b) = absurd (never cs w v b a)
+      choice_look cs v w (inl a) (inl b) = one.look cs v w a b
+      choice_look cs v w (inr a) (inr b) = other.look cs v w a b
+      choice_look cs v w (inl a) (inr b) = absurd (never cs v w a b)
+      choice_look cs v w (inr a) (inl b) = absurd (never cs w v b a)
 
       choice_opened : (cs : Cells) (v : T) → ChoiceValue T first second cs v
           → (ds : Cells) × Opens (words ++ more) cs ds
-      choice_opened cs v (first_value a) =
+      choice_opened cs v (inl a) =
           let o = one.opened cs v a in (o.0, opens_left words more o.1)
-      choice_opened cs v (second_value a) =
+      choice_opened cs v (inr a) =
           let o = other.opened cs v a in (o.0, opens_right words more o.1)
 
 -- a last field of a record

@@ -1,7 +1,7 @@
 -- What an answer of a program says by the words: whose keys were spelled of the fields in front of
 -- commands, and which command's word was.
 use Rattle.std.proofs.Common.{◌≡◌, ◌≢◌, ℕ, Bool, true, false, List, [], ◌∷◌, Some, None, refl, ap}
-use Rattle.std.proofs.Common.{subst, Option, arith, ⊎_elim}
+use Rattle.std.proofs.Common.{subst, Option, arith, ⊎_elim, inl, inr}
 use Rattle.std.specs.List.{Contains}
 use Rattle.std.specs.Option.{option_to_list}
 use Rattle.std.proofs.lemmas.List.Elements.{Contains-append_cases, Contains-append_left}
@@ -20,7 +20,7 @@ use Rattle.bpaf_exact.specs.Names.{Owns}
 use Rattle.bpaf_exact.specs.Pieces.{Cells, LinePiece, Roles, Takes, no_cells, empty_stays}
 use Rattle.bpaf_exact.specs.Pieces.{other_stays, takes_argument, takes_flag, is_own_role}
 use Rattle.bpaf_exact.specs.ProgramForm.{ProgramForm}
-use Rattle.bpaf_exact.specs.Programs.{CellsValue, ChoiceValue, first_value, second_value}
+use Rattle.bpaf_exact.specs.Programs.{CellsValue, ChoiceValue}
 use Rattle.bpaf_exact.specs.Programs.{CommandValue, Opens, opens_here, opens_later}
 use Rattle.bpaf_exact.specs.Record.{line_cells}
 use Rattle.bpaf_record.specs.Program.{TellsOfWords}
@@ -169,5 +169,5 @@ module _ {known : Known} {given : Given} {words : List (List ℕ)} {cs : Cells}
 -- What follows of either of two commands follows of a choice of them.
 pub of_either : {T X : Type 0} {first second : CellsValue T} {cs : Cells} {v : T}
     → ChoiceValue T first second cs v → (first cs v → X) → (second cs v → X) → X
-of_either (first_value c) one other = one c
-of_either (second_value c) one other = other c
+of_either (inl c) one other = one c
+of_either (inr c) one other = other c
