@@ -18,7 +18,7 @@ use Rattle.bpaf_exact.specs.{Flat.FieldLaw, Flat.FieldsLaw, Flat.both_reading, F
 use Rattle.bpaf_exact.specs.{Flat.Variables, Wrappers.FallbackEval, Wrappers.OptionalValue}
 use Rattle.bpaf_exact.specs.{Wrappers.FallbackValue, Pieces.Roles, Pieces.no_roles, Pieces.either}
 use Rattle.bpaf_exact.specs.{Pieces.LinePiece, Names.Owns, Names.are_all_apart}
-use Rattle.bpaf_exact.specs.{Gathered.some_closure, Gathered.LastOf, Record.LastValue}
+use Rattle.bpaf_exact.specs.{Gathered.some_closure, Gathered.LastOf, Record.last_reading}
 use Rattle.bpaf_exact.proofs.Alternative.{alternative_single, closed_alternative, closed_single}
 use Rattle.bpaf_exact.proofs.Wrappers.{closed_law, single_law, optional_law, fallback_law}
 use Rattle.bpaf_exact.proofs.NamedProducts.{named_both_law, named_con_law, named_last_law}
@@ -172,7 +172,7 @@ module _ (env : Variables) (T : Type 0) (outcome : Outcome T) (names : List Name
   )
     where
       by_name : (j : FieldKind) → FieldLaw env T outcome j q value
-          → NamedLaw env (is_named j) outcome (either (keys j q) no_roles) (LastValue T j q value)
+          → NamedLaw env (is_named j) outcome (either (keys j q) no_roles) (last_reading j q value).value
       by_name ByName l = named_last_law T outcome q value l
       by_name (OneWord z) l = tt
       by_name (EachWord z) l = tt

@@ -9,7 +9,7 @@ use Rattle.bpaf_exact.specs.Pieces.{Alone, Apart, Cells, Foreign, LinePiece, One
 use Rattle.bpaf_exact.specs.Pieces.{TakesPieces, WithNext, begin_piece, either, is_own_role, mine}
 use Rattle.bpaf_exact.specs.Pieces.{no_roles, others, pieces, takes_more, takes_none, with_next}
 use Rattle.bpaf_exact.specs.{Flat.both_reading, Flat.cells, Flat.class, Flat.Variables}
-use Rattle.bpaf_exact.specs.{Record.LastValue, Wrappers.ClosedValue, Wrappers.map_closure}
+use Rattle.bpaf_exact.specs.{Record.last_reading, Wrappers.ClosedValue, Wrappers.map_closure}
 use Rattle.bpaf_exact.proofs.First.{Belongs, Union, belongs, both_nil, either_union, own_next}
 use Rattle.bpaf_exact.proofs.First.{swap_union, takes_left, to_first, to_none, to_second}
 use Rattle.bpaf_exact.proofs.Product.{RefusedBy, by_first, by_rest, for_memory, none_outside_after}
@@ -212,19 +212,19 @@ module _ {env : Variables} (T : Type 0) (outcome : Outcome T) (q : Roles)
 
   -- its value is that of a last field
   last_value : (cs : Cells) (v : T) → value (pieces q cs) v
-      → LastValue T ByName q value (pieces alone cs) v
-  last_value cs v h = record {
-    read = subst (λ os. value os v) (sym (mine_of_both q no_roles alone by_itself cs)) h;
-    none_left = others_of_both q no_roles alone by_itself cs ∙ none_of_nobody cs;
-  }
+      → (last_reading ByName q value).value (pieces alone cs) v
+  last_value cs v h = (
+    subst (λ os. value os v) (sym (mine_of_both q no_roles alone by_itself cs)) h,
+    others_of_both q no_roles alone by_itself cs ∙ none_of_nobody cs,
+  )
 
   -- and the other way
-  own_read : (cs : Cells) (v : T) → LastValue T ByName q value (pieces alone cs) v
+  own_read : (cs : Cells) (v : T) → (last_reading ByName q value).value (pieces alone cs) v
       → value (pieces q cs) v
-  own_read cs v h = subst (λ os. value os v) (mine_of_both q no_roles alone by_itself cs) h.read
+  own_read cs v h = subst (λ os. value os v) (mine_of_both q no_roles alone by_itself cs) h.0
 
   -- a last field keeps to the laws of a named one
-  pub named_last_law : FieldLaw env T outcome ByName alone (LastValue T ByName q value)
+  pub named_last_law : FieldLaw env T outcome ByName alone (last_reading ByName q value).value
   named_last_law = record {
     own = union_named q no_roles alone by_itself;
     ok = λ s t v w o. let i = l.ok s t v w o in record {

@@ -293,7 +293,7 @@ both_view A B X Y see look own others _ _ u n = tt
 module _ (T X : Type 0) (see : T → X) where
   -- the last field
   pub alone_view : (s : FlatForm T) → HasOneView see s → HasOneView see (flat_alone s)
-  alone_view (complete k q value) u = λ os v w a b. u _ v w a.read b.read
+  alone_view (complete k q value) u = λ os v w a b. u _ v w a.0 b.0
   alone_view (product false q fields) u = u
   alone_view _ u = tt
 

@@ -35,7 +35,7 @@ use Rattle.bpaf_exact.specs.{Leaves.WordValue, Leaves.word_by, FlatForm.flat_who
 use Rattle.bpaf_exact.specs.{Says.its_pieces, Says.words_after, Names.Owns, Names.are_all_apart}
 use Rattle.bpaf_exact.specs.{Gathered.LastOf, Alternative.either_value}
 use Rattle.std.specs.Prelude.{MatchBool}
-use Rattle.bpaf_exact.specs.{Record.LastValue}
+use Rattle.bpaf_exact.specs.{Record.last_reading}
 use Rattle.bpaf_exact.proofs.Sharing.{mine_rest, others_fit, others_rest, rest_fit, apart_none}
 use Rattle.bpaf_exact.proofs.Sharing.{each_own, first_fits, no_fits, own_fit, second_fits}
 use Rattle.bpaf_exact.proofs.Sharing.{mine_keyed, others_unkeyed, mine_within, first_within}
@@ -358,9 +358,9 @@ pub last_says : {T : Type 0} {s : FlatForm T} {kind : SaidKind} {names : List Na
 last_says {T} {s} {said = said} h = record {
   by = whole_form_says repeated repeated_kind (λ k. refl) (LastOf T) said (LastSays said)
       (λ group gap fronts absent os v m. record {
-        values = m.list;
-        told = list_says said group gap fronts absent os m.list m.own;
-        is = m.is;
+        values = m.0 ++ v ∷ [];
+        told = list_says said group gap fronts absent os (m.0 ++ v ∷ []) m.1;
+        is = record { before = m.0; is = refl };
       }) _ _ s h.by;
 }
 
@@ -389,7 +389,7 @@ alone_says {T} {names} {s} {kind} {said} own_keys h = record { by = by_form s ow
     own : (k : FieldKind) (q : Roles) (value : List LinePiece → T → Type 0) → Owns (keys k q) names
         → ((os : List LinePiece) (v : T) → AllOwn k q os → value os v → said os v)
         → (whole os : List LinePiece) (v : T)
-        → Fits names (either (keys k q) no_roles) whole → LastValue T k q value os v
+        → Fits names (either (keys k q) no_roles) whole → (last_reading k q value).value os v
         → mine (either (keys k q) no_roles) whole ≡ mine (either (keys k q) no_roles) os
         → said (its_pieces (of_kind k) names whole (others (either (keys k q) no_roles) os)) v
     own ByName q value owned each whole os v fits m same =
@@ -400,15 +400,15 @@ alone_says {T} {names} {s} {kind} {said} own_keys h = record { by = by_form s ow
         ∙ mine_keyed q names whole
         (first_fits q no_roles names [] owned (record { own = λ k e. absurd cc }) (apart_none names)
         whole (subst (λ own. Fits own (either q no_roles) whole) (sym (append-nil names)) fits)))))
-        (each (mine q os) v (each_own q os) m.read)
+        (each (mine q os) v (each_own q os) m.0)
     own (OneWord b) q value owned each whole os v fits m same =
         subst (λ z. said (front (OneWord b) z) v)
         (sym (others_none (either no_roles no_roles) (λ k. refl) os))
-        (each (front (OneWord b) os) v tt m.read)
+        (each (front (OneWord b) os) v tt m.0)
     own (EachWord b) q value owned each whole os v fits m same =
         subst (λ z. said (front (EachWord b) z) v)
         (sym (others_none (either no_roles no_roles) (λ k. refl) os))
-        (each (front (EachWord b) os) v tt m.read)
+        (each (front (EachWord b) os) v tt m.0)
 
     by_form : (s : FlatForm T) → FormOwns names s → FormSays names s kind said
         → FieldsFormSays names (flat_alone s)
@@ -535,16 +535,16 @@ record_says {T} s {kind} {names} {said} h = by_form s h.by
   where
     all_own : (k : FieldKind) (q : Roles) (value : List LinePiece → T → Type 0)
         → ((os : List LinePiece) (v : T) → AllOwn k q os → value os v → said os v)
-        → (os : List LinePiece) (v : T) → LastValue T k q value os v → said os v
+        → (os : List LinePiece) (v : T) → (last_reading k q value).value os v → said os v
     all_own ByName q value each os v m =
-        subst (λ z. said z v) (all_mine q os m.none_left)
-        (each (mine q os) v (each_own q os) m.read)
+        subst (λ z. said z v) (all_mine q os m.1)
+        (each (mine q os) v (each_own q os) m.0)
     all_own (OneWord b) q value each os v m =
-        subst (λ z. said z v) (all_front (OneWord b) os m.none_left)
-        (each (front (OneWord b) os) v tt m.read)
+        subst (λ z. said z v) (all_front (OneWord b) os m.1)
+        (each (front (OneWord b) os) v tt m.0)
     all_own (EachWord b) q value each os v m =
-        subst (λ z. said z v) (all_front (EachWord b) os m.none_left)
-        (each (front (EachWord b) os) v tt m.read)
+        subst (λ z. said z v) (all_front (EachWord b) os m.1)
+        (each (front (EachWord b) os) v tt m.0)
 
     by_form : (s : FlatForm T) → FormSays names s kind said
         → (os : List LinePiece) (v : T) → Fits names (product_roles (flat_record s)) os

@@ -109,7 +109,7 @@ module _ (T : Type 0) (value : LinePiece → T → Type 0) (gap : Gap T) where
   -- nor has `last`
   pub last_bad : (os : List LinePiece) (v : T) → HasBad T value os
       → LastOf T (FrontOf T value) gap os v → ⊥
-  last_bad os v b h = repeat_bad os h.list b h.own
+  last_bad os v b h = repeat_bad os _ b h.1
 
   -- nor what has no repeat or default
   pub single_bad : (os : List LinePiece) (v : T) → HasBad T value os

@@ -12,7 +12,7 @@ use Rattle.bpaf_line.specs.Taking.{TakesText, HasNone}
 use Rattle.bpaf_laws.specs.Environment.{first_set}
 use Rattle.bpaf_laws.specs.Repeat.{is_nil}
 use Rattle.bpaf_exact.specs.Pieces.{Roles, Foreign, Alone, WithNext, LinePiece, One, Two, no_roles}
-use Rattle.bpaf_exact.specs.Pieces.{stands_behind, word_roles}
+use Rattle.bpaf_exact.specs.Pieces.{stands_behind, roles_of}
 use Rattle.bpaf_exact.specs.Flat.{ByName, Caught, OneWord, OfMemory, OfMissing, Refused, Variables}
 use Rattle.bpaf_exact.specs.Flat.{class}
 use Rattle.bpaf_exact.specs.Single.{Gap, Groups, FrontOf, gap_of}
@@ -20,12 +20,12 @@ use Rattle.bpaf_exact.specs.FlatForm.{FlatForm, alternative, complete, single}
 
 -- the items of a flag: keys with one of its names, each by itself
 abbrev pub flag_roles : Names → Roles
-flag_roles names k = if is_key_of names k then Alone else Foreign
+flag_roles names = roles_of (is_key_of names) Alone
 
 -- the items of an argument: keys with one of its names, each with its value; of an adjacent one
 -- those whose value is attached
 abbrev pub argument_roles : (adjacent : Bool) → Names → Roles
-argument_roles adjacent names k = if is_argument_key names adjacent k then WithNext else Foreign
+argument_roles adjacent names = roles_of (is_argument_key names adjacent) WithNext
 
 -- a key means a present value
 abbrev pub FlagValue : {T : Type 0} → (T → Type 0) → LinePiece → T → Type 0
@@ -60,7 +60,7 @@ key_field false q each group gap = single ByName q group gap
 abbrev pub flag_field : {T : Type 0} → (T → T → Type 0) → Key → T → Option T → Variables
     → FlatForm T
 flag_field {T = T} clones key present absent variables =
-    key_field (is_nil key.envs && is_none absent) (flag_roles key.names)
+    key_field (is_nil key.envs && is_none absent) (roles_of (is_key_of key.names) Alone)
     (FlagValue (clones present)) (FrontOf T (FlagValue (clones present)))
     (gap_of clones (value_without_key present absent (first_set variables key.envs)))
 
@@ -91,14 +91,16 @@ abbrev pub argument_field : {T : Type 0} → (List ℕ → T → Type 0) → Key
     → FlatForm T
 argument_field means argument variables =
     key_field (is_nil argument.named.envs && not argument.last)
-    (argument_roles argument.adjacent argument.named.names) (ArgumentValue means)
+    (roles_of (is_argument_key argument.named.names argument.adjacent) WithNext)
+    (ArgumentValue means)
     (argument_group means argument.last)
     (gap_of means (first_set variables argument.named.envs))
 
 -- a positional word on an accepted side, which stops before one behind `--` where that isn't one
 abbrev pub word_by : {T : Type 0} → (Bool → Bool) → (List ℕ → T → Type 0) → FlatForm T
 word_by {T = T} accepts means =
-    single (OneWord (not (accepts true))) word_roles (FrontOf T (WordValue accepts means))
+    single (OneWord (not (accepts true))) (roles_of is_positional Alone)
+    (FrontOf T (WordValue accepts means))
     (gap_of means None)
 
 -- the first word taken and its value; it has none; there is no word; the first one stands behind `--`,

@@ -59,21 +59,23 @@ others r os = filter (λ o. not (is_own r o)) os
 
 -- what an item is to two fields that share none
 abbrev pub either_role : Role → Role → Role
-either_role Foreign b = b
-either_role Alone b = Alone
-either_role WithNext b = WithNext
+either_role a b = if is_own_role a then a else b
 
 -- the items of either
 abbrev pub either : Roles → Roles → Roles
-either q r k = either_role (q k) (r k)
+either q r k = if is_own_role (q k) then q k else r k
 
--- no item at all
+-- no item
 abbrev pub no_roles : Roles
 no_roles k = Foreign
 
+-- the items that pass a test, each in this role
+abbrev pub roles_of : (Arg → Bool) → Role → Roles
+roles_of test role k = if test k then role else Foreign
+
 -- all positional words
 abbrev pub word_roles : Roles
-word_roles k = if is_positional k then Alone else Foreign
+word_roles = roles_of is_positional Alone
 
 -- only keys are a named field's own
 pub record IsNamed (r : Roles) : Type 0 where
