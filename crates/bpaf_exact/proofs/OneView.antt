@@ -107,7 +107,7 @@ last_group : (T X : Type 0) (see : T → X) (means : List ℕ → T → Type 0)
     → ((text : List ℕ) → Alike see (means text)) → OneGroup see (LastGroup T means)
 last_group T X see means u os rest others v w a b =
     let same : Two a.key a.word ≡ Two b.key b.word =
-    last_same LinePiece a.before b.before (Two a.key a.word) (Two b.key b.word) (sym a.is ∙ b.is) in
+    last_same LinePiece _ _ (Two a.key a.word) (Two b.key b.word) (sym a.is ∙ b.is) in
     let word : a.word ≡ b.word = cc in (
       u (item_text b.word) v w (subst (λ x. means (item_text x) v) word a.meant) b.meant,
       a.none_left ∙ sym b.none_left,

@@ -111,8 +111,8 @@ module _ {T : Type 0} (means : List ℕ → T → Type 0) where
   argument_group_says true os rest v g = record {
     part = os;
     is = sym (ap (λ z. os ++ z) g.none_left ∙ append-nil os);
-    some = λ e. never_nil g.before (Two g.key g.word) [] (sym g.is ∙ e);
-    told = says_last_text g.before g.key g.word refl g.have_values g.is g.meant;
+    some = λ e. never_nil _ (Two g.key g.word) [] (sym g.is ∙ e);
+    told = says_last_text g.before g.key g.word refl g.is g.meant;
   }
 
   -- no key

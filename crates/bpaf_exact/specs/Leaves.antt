@@ -1,6 +1,6 @@
 -- Flags, arguments and positionals: which items are theirs, and what their pieces mean.
 use Rattle.std.specs.Prelude.{◌≡◌, ℕ, Bool, true, false, List, [], ◌∷◌, Option, Some, None, Result}
-use Rattle.std.specs.Prelude.{Ok, Err, if◌then◌else◌, not, ◌&&◌, ◌++◌}
+use Rattle.std.specs.Prelude.{Ok, Err, if◌then◌else◌, not, ◌&&◌, ◌++◌, map}
 use Rattle.std.specs.Option.{is_none}
 use Rattle.bpaf_doc.specs.Names.{Names}
 use Rattle.bpaf_text.specs.Named.{Named as Key, KeyWithValue}
@@ -64,20 +64,14 @@ flag_field {T = T} clones key present absent variables =
     (FlagValue (clones present)) (FrontOf T (FlagValue (clones present)))
     (gap_of clones (value_without_key present absent (first_set variables key.envs)))
 
--- each of these pieces is a key with its value
-pub data HaveValues : List LinePiece → Type 0 where
-  no_more : HaveValues []
-  one_more : {k w : Arg} {os : List LinePiece} → HaveValues os → HaveValues (Two k w ∷ os)
-
 -- all pieces at once, each a key with its value, of which the last one's text means the value; the
 -- earlier texts need not mean any
 pub record LastGroup (T : Type 0) (means : List ℕ → T → Type 0) (os : List LinePiece) (v : T)
     (rest : List LinePiece) : Type 0 where
-  pub before : List LinePiece
+  pub before : List (Arg × Arg)
   pub key : Arg
   pub word : Arg
-  pub is : os ≡ before ++ Two key word ∷ []
-  pub have_values : HaveValues before
+  pub is : os ≡ map (λ pair. Two pair.0 pair.1) before ++ Two key word ∷ []
   pub meant : means (item_text word) v
   pub none_left : rest ≡ []
 

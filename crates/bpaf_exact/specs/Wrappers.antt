@@ -18,10 +18,8 @@ map_closure answers = record { yes = answers; no = λ x. ⊥ }
 
 -- parse: its Ok and its Err
 abbrev pub parse_closure : {A B E : Type 0} → (A → Result B E → Type 0) → Closure A B
-parse_closure {E = E} answers = record {
-  yes = λ x v. answers x (Ok v);
-  no = λ x. (fault : E) × answers x (Err fault);
-}
+parse_closure {E = E} answers =
+    record { yes = λ x v. answers x (Ok v); no = λ x. (fault : E) × answers x (Err fault) }
 
 -- guard: the same value where the check may be true, no where it may be false
 abbrev pub guard_closure : {A : Type 0} → (A → Bool → Type 0) → Closure A A

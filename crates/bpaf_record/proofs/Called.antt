@@ -1,7 +1,7 @@
 -- What an answer of a program says by the words: whose keys were spelled of the fields in front of
 -- commands, and which command's word was.
 use Rattle.std.proofs.Common.{◌≡◌, ◌≢◌, ℕ, Bool, true, false, List, [], ◌∷◌, Some, None, refl, ap}
-use Rattle.std.proofs.Common.{subst, Option, arith, ⊎_elim, inl, inr}
+use Rattle.std.proofs.Common.{subst, Option, arith, ⊎_elim, ◌⊎◌, inl, inr}
 use Rattle.std.specs.List.{Contains}
 use Rattle.std.specs.Option.{option_to_list}
 use Rattle.std.proofs.lemmas.List.Elements.{Contains-append_cases, Contains-append_left}
@@ -167,7 +167,6 @@ module _ {known : Known} {given : Given} {words : List (List ℕ)} {cs : Cells}
       none_behind (word ∷ words) text = none_behind words text
 
 -- What follows of either of two commands follows of a choice of them.
-pub of_either : {T X : Type 0} {first second : CellsValue T} {cs : Cells} {v : T}
-    → ChoiceValue T first second cs v → (first cs v → X) → (second cs v → X) → X
+pub of_either : {A B X : Type 0} → A ⊎ B → (A → X) → (B → X) → X
 of_either (inl c) one other = one c
 of_either (inr c) one other = other c
