@@ -31,6 +31,7 @@ use Rattle.bpaf_exact.specs.{Pieces.Cells, Pieces.Roles, Pieces.LinePiece, Piece
 use Rattle.bpaf_exact.specs.{Gathered.list_closure}
 use Rattle.bpaf_exact.proofs.{Alternative.alternative_single, Cuts.one_cut, LastArguments.last_same}
 use Rattle.bpaf_exact.proofs.{FlatForm.record_law, Exact.runs_exactly, Repeat.own_nil}
+use Rattle.bpaf_exact.proofs.Cuts.{read_cut}
 
 -- Closures.
 
@@ -318,7 +319,7 @@ module _ (T X : Type 0) (see : T → X) where
   like_this inner r reading context l one (Accepted w) v e h = one w v (e.sound w refl) h
   like_this inner r reading context l one NoMemory v e h = tt
   like_this inner r reading context l one Refusal v e h =
-      e.complete h.cut_into h.cut (l.has_each h.cut_into v h.read)
+      e.complete h.cut_into (read_cut h) (l.has_each h.cut_into v h.read)
 
   -- All values of the same cells look alike.
   pub record_looks_one : (env : Variables) (outcome : Outcome T) (names : List Names)
@@ -328,7 +329,8 @@ module _ (T X : Type 0) (see : T → X) where
       cs)
   record_looks_one env outcome names s h l u cs v w a b =
       let f = record_law env T outcome names s h l in
-      let c = one_cut (product_roles (flat_record s)) _ a.cut_into b.cut_into f.named a.cut b.cut in
+      let c = one_cut (product_roles (flat_record s)) _ a.cut_into b.cut_into f.named (read_cut a)
+      (read_cut b) in
       product_view (flat_record s) (record_view env outcome names s l u) b.cut_into v w
       (subst (λ os. (product_reading (flat_record s)).value os v) c a.read) b.read
 

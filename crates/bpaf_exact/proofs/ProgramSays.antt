@@ -34,6 +34,7 @@ use Rattle.bpaf_exact.proofs.Says.{choice_says, closed_says, con_says, field_own
 use Rattle.bpaf_exact.proofs.Says.{optional_says, owned, record_says, unless_says, fallback_says}
 use Rattle.bpaf_exact.proofs.{Says.last_says, Says.listed_says, FlatForm.flat_record_law}
 use Rattle.bpaf_exact.proofs.{ProgramForm.record_owns, Sharing.cut_fit, Sharing.taken_own}
+use Rattle.bpaf_exact.proofs.Cuts.{read_cut}
 
 -- where a test holds
 if_says : {P T : Type 0} (names : List Names) (b : Bool) (s : ProgramForm T) (kind : SaidKind)
@@ -145,11 +146,11 @@ module _ {P Q T : Type 0} (inside : Q → P) (q : Q) where
   whole_says env outcome names words (plain wide s) kind (of_pieces said) p law h is =
       λ cs v read. record {
         cut_into = read.cut_into;
-        cut = read.cut;
+        cut = read_cut read;
         told = record_says s h read.cut_into v
             (cut_fit (product_roles (flat_record s)) names
             (record_owns env T outcome names s is (flat_record_law env T outcome names s law))
-            read.cut) read.read;
+            (read_cut read)) read.read;
       }
   whole_says env outcome names words (plain wide s) kind (of_cells said) p law h is = absurd h
   whole_says env outcome names words (commands r value) kind (of_cells said) p law h is = h

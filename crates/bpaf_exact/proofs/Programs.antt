@@ -28,6 +28,7 @@ use Rattle.bpaf_exact.proofs.{Choice.HasItem, Choice.has_item, Counts.open_prese
 use Rattle.bpaf_exact.proofs.{Matching.match_of, Places.same_cells, Places.same_item}
 use Rattle.bpaf_exact.proofs.{Places.closed_item, Places.TakenOne, Product.no_own_in_cut}
 use Rattle.bpaf_exact.proofs.{Records.count_none, Cells.begin_at}
+use Rattle.bpaf_exact.proofs.Cuts.{read_cut}
 
 -- A command's word on cells.
 
@@ -369,15 +370,15 @@ module _ {env : Variables} (V : Type 0) (outcome : Outcome V) (r : Roles)
   record_answers : (s t : Situation) (a : Result V Error) (u : V) → IsWholeIn env s → outcome s a t
       → record_value (cells s) u → GivesAll (record_value (cells s)) a t
   record_answers s t (Ok v) u w o h =
-      let n = l.takes_all s t v h.cut_into w o h.cut (l.has_each h.cut_into u h.read) in
+      let n = l.takes_all s t v h.cut_into w o (read_cut h) (l.has_each h.cut_into u h.read) in
       (l.ok s t v w o n, n)
   record_answers s t (Err e) u w o h =
-      l.refuses s t e h.cut_into w o h.cut (l.has_each h.cut_into u h.read)
+      l.refuses s t e h.cut_into w o (read_cut h) (l.has_each h.cut_into u h.read)
 
   -- the laws
   pub record_program : ProgramLaw env V outcome r record_value
   record_program = record {
-    others = λ q n a cs v s h. no_own_in_cut q r n a h.cut;
+    others = λ q n a cs v s h. no_own_in_cut q r n a (read_cut h);
     deep = λ s t v w o. let e = ap length (l.steady s t v w o).path in omega arith;
     ok = λ s t v w spelled o. l.ok s t v w o;
     answers = record_answers;

@@ -13,7 +13,8 @@ use Rattle.bpaf_line.specs.Taking.{open_item}
 use Rattle.bpaf_laws.specs.Reading.{Outcome}
 use Rattle.bpaf_exact.specs.Pieces.{Cells, Roles, Foreign, LinePiece, One, Two, is_own}
 use Rattle.bpaf_exact.specs.Pieces.{no_roles, stands_behind, word_roles, IsNamed, Apart, Cut}
-use Rattle.bpaf_exact.specs.Pieces.{pieces, TakesPieces}
+use Rattle.bpaf_exact.specs.Pieces.{pieces, TakesPieces, Takes, either, roles_of, Alone}
+use Rattle.bpaf_base.specs.Items.{is_positional}
 
 -- the classes of refusals
 pub data ErrorClass : Type 0 where
@@ -147,11 +148,14 @@ pub record FieldLaw (variables : Variables) (T : Type 0) (outcome : Outcome T) (
   pub refuses : (s t : Situation) (e : Error) (w : T) → IsWholeIn variables s → outcome s (Err e) t
       → value (front k (pieces q (cells s))) w → class e ≡ OfMemory
 
--- the values of a list of fields are read off the pieces that a line is cut into
+-- the values of a list of fields are read off the pieces that a line is cut into: their own, and
+-- each word by itself; nothing is left
 pub record ReadOff (V : Type 0) (r : Roles) (value : List LinePiece → V → Type 0) (cs : Cells)
     (v : V) : Type 0 where
   pub cut_into : List LinePiece
-  pub cut : Cut r cs cut_into
+  pub left_cells : Cells
+  pub cut : Takes (either r (roles_of is_positional Alone)) cs cut_into left_cells
+  pub none_left : NonePresent left_cells
   pub read : value cut_into v
 
 -- a field has a value on its pieces

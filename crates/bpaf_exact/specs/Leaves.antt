@@ -1,6 +1,6 @@
 -- Flags, arguments and positionals: which items are theirs, and what their pieces mean.
 use Rattle.std.specs.Prelude.{◌≡◌, ℕ, Bool, true, false, List, [], ◌∷◌, Option, Some, None, Result}
-use Rattle.std.specs.Prelude.{Ok, Err, if◌then◌else◌, not, ◌&&◌, ◌++◌, map}
+use Rattle.std.specs.Prelude.{Ok, Err, not, ◌&&◌, ◌++◌, map}
 use Rattle.std.specs.Option.{is_none}
 use Rattle.bpaf_doc.specs.Names.{Names}
 use Rattle.bpaf_text.specs.Named.{Named as Key, KeyWithValue}
@@ -11,7 +11,7 @@ use Rattle.bpaf_line.specs.Situation.{Situation}
 use Rattle.bpaf_line.specs.Taking.{TakesText, HasNone}
 use Rattle.bpaf_laws.specs.Environment.{first_set}
 use Rattle.bpaf_laws.specs.Repeat.{is_nil}
-use Rattle.bpaf_exact.specs.Pieces.{Roles, Foreign, Alone, WithNext, LinePiece, One, Two, no_roles}
+use Rattle.bpaf_exact.specs.Pieces.{Roles, Alone, WithNext, LinePiece, One, Two, no_roles}
 use Rattle.bpaf_exact.specs.Pieces.{stands_behind, roles_of}
 use Rattle.bpaf_exact.specs.Flat.{ByName, Caught, OneWord, OfMemory, OfMissing, Refused, Variables}
 use Rattle.bpaf_exact.specs.Flat.{class}

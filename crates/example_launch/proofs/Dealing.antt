@@ -21,6 +21,7 @@ use Rattle.example_launch.specs.declared.options.Launch.{Launch}
 use Rattle.example_launch.specs.Dealing.{IsDealtLaunch, IsLaunchOf, dry_run_names, program_given}
 use Rattle.example_launch.specs.Dealing.{program_known, verbose_names}
 use Rattle.example_launch.specs.Exact.{AnswersLaunch, IsLaunchValue}
+use Rattle.bpaf_exact.proofs.Cuts.{read_cut}
 
 -- what the name says of its piece
 name_says : (os : List LinePiece) (v : String)
@@ -45,7 +46,7 @@ launch_passes own v value =
     ∙ (texts_are _ passed.from (strict_words passed.told)
     ∙ (name_before _ (name_says _ _ words.0)
     ∙ (flag_leaves dry_run_names (others (flag_roles verbose_names) cut)
-    ∙ (flag_leaves verbose_names cut ∙ line_behind value.on_line value.read.cut)))))
+    ∙ (flag_leaves verbose_names cut ∙ line_behind value.on_line (read_cut value.read))))))
 
 -- so the words ask for the launch that is dealt out of them
 pub launch_asked : (own : List (List ℕ)) (r : Result Launch ParseFailure)
