@@ -24,10 +24,10 @@ pub own_bad : (T : Type 0) (value : LinePiece → T → Type 0) (os : List LineP
     → HasBad T value os → Own T (FrontOf T value) os vs → ⊥
 own_bad T value os vs h own_none = elim h [ ]
 own_bad T value os vs h (own_more {rest = rest} {v = v} {vs = us} g o) =
-    by_bad (λ b. own_bad T value rest us b o) (subst (HasBad T value) g.is h)
+    by_bad (λ b. own_bad T value rest us b o) (subst (HasBad T value) g.1 h)
   where
-    by_bad : (HasBad T value rest → ⊥) → HasBad T value (g.piece ∷ rest) → ⊥
-    by_bad i (bad_here n) = n v g.means
+    by_bad : (HasBad T value rest → ⊥) → HasBad T value (g.0 ∷ rest) → ⊥
+    by_bad i (bad_here n) = n v g.2
     by_bad i (bad_later b) = i b
 
 -- a value of the first piece is that of each first group that can be read, which leaves the same
@@ -35,9 +35,9 @@ pub front_alone : (T : Type 0) (value : LinePiece → T → Type 0) (o : LinePie
     {os left rest : List LinePiece} {w : T} → os ≡ o ∷ left → value o v → FrontOf T value os w rest
     → FrontOf T value os v rest × (left ≡ rest)
 front_alone T value o v {left = left} {rest = rest} e means g =
-    let d : o ∷ left ≡ g.piece ∷ rest = sym e ∙ g.is in
+    let d : o ∷ left ≡ g.0 ∷ rest = sym e ∙ g.1 in
     let r : left ≡ rest = cc in
-    (record { piece = o; is = e ∙ ap (λ z. o ∷ z) r; means = means }, r)
+    ((o, e ∙ ap (λ z. o ∷ z) r, means), r)
 
 -- where the first piece was taken and has the value, it is the first group
 pub took_front : (T : Type 0) (value : LinePiece → T → Type 0) (k : FieldKind) (q : Roles)
@@ -49,7 +49,7 @@ took_front T value k q s t v o st f e means some =
       steady = st;
       takes = record { piece = o; middle = cells t; one = takes; more = takes_none };
       found = λ none. some (sym (ap (front k) e) ∙ none);
-      read = λ r. record { piece = o; is = e; means = means };
+      read = λ r. (o, e, means);
       readable = λ w rest g. front_alone T value o v e means g;
     }
 
@@ -68,7 +68,7 @@ module _ {env : Variables} (T : Type 0) (outcome : Outcome T) (q : Roles)
       → (vs : List T) × Own T (FrontOf T value) (pieces q (cells t)) vs
       → FrontOf T value (pieces q (cells s)) v (pieces q (cells t))
   alternative_reads s t v a (inl f) o =
-      record { piece = a.piece; is = first_pieces q l.named f; means = a.means }
+      (a.piece, first_pieces q l.named f, a.means)
   alternative_reads s t v a (inr b) o = absurd (own_bad T value _ o.0 b o.1)
 
   -- its value, as that of one evaluation
@@ -82,7 +82,7 @@ module _ {env : Variables} (T : Type 0) (outcome : Outcome T) (q : Roles)
         found = takes_nonempty q a.takes;
         read = alternative_reads s t v a a.first;
         readable = λ x rest g.
-            let e = first_pieces q l.named (a.readable g.piece rest x g.is g.means) in
+            let e = first_pieces q l.named (a.readable g.0 rest x g.1 g.2) in
             front_alone T value a.piece v e a.means g;
       })
 
@@ -93,14 +93,14 @@ module _ {env : Variables} (T : Type 0) (outcome : Outcome T) (q : Roles)
   alternative_err s t e (alternative_missing c p same st) =
       of_missing (catch_missing c) refl p (λ c. same)
   alternative_err s t e (alternative_refused c p b n) =
-      of_piece c (bad_nonempty T value _ b) (λ w rest g. n g.piece rest w g.is g.means)
+      of_piece c (bad_nonempty T value _ b) (λ w rest g. n g.0 rest w g.1 g.2)
 
   -- so it keeps to the laws of one evaluation
   pub alternative_single : SingleLaw env T outcome ByName q (FrontOf T value) (gap_of value None)
   alternative_single = record {
     own = l.named;
     words = tt;
-    starts = λ v rest g. let e = g.is in cc;
+    starts = λ v rest g. let e = g.1 in cc;
     no_absent = λ v h a. a;
     ok = alternative_ok;
     err = λ s t e w o. alternative_err s t e (l.err s t e w o);

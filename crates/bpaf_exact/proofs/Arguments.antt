@@ -123,10 +123,10 @@ module _ (T : Type 0) (means : List ℕ → T → Type 0) (argument : KeyWithVal
   variable_err s t e (ParseFailed place fault) c same o = ⊎_elim
       (λ takes. let m = takes_pair argument once s t o.0 takes in
       of_piece c (takes_nonempty roles (first_takes roles m.takes))
-      (λ v rest g. let d : Two m.key m.word ∷ pieces roles (cells t) ≡ g.piece ∷ rest =
-      sym (first_pieces roles (named argument) m.takes) ∙ g.is in
-      let j : g.piece ≡ Two m.key m.word = cc in
-      o.2.0 v (subst (λ z. means z v) m.text_is (subst (λ z. ArgumentValue means z v) j g.means))))
+      (λ v rest g. let d : Two m.key m.word ∷ pieces roles (cells t) ≡ g.0 ∷ rest =
+      sym (first_pieces roles (named argument) m.takes) ∙ g.1 in
+      let j : g.0 ≡ Two m.key m.word = cc in
+      o.2.0 v (subst (λ z. means z v) m.text_is (subst (λ z. ArgumentValue means z v) j g.2))))
       (λ read. variable_fault T means argument group variables s t e o.0 same read c o.2.0) o.1
   variable_err s t e (NoArgument key metavar) c same o =
       let left = subst (λ b. TakesBefore b argument s t) once o.1 in
@@ -135,8 +135,8 @@ module _ (T : Type 0) (means : List ℕ → T → Type 0) (argument : KeyWithVal
       let b = bare_taken (is_key_with_value argument) roles s key (test argument) lacks.0 m
       lacks.1 in
       of_piece c (λ none. let d : One m.item ∷ b.tail ≡ [] = sym b.is ∙ none in cc)
-      (λ v rest g. let d : One m.item ∷ b.tail ≡ g.piece ∷ rest = sym b.is ∙ g.is in
-      let j : g.piece ≡ One m.item = cc in subst (λ z. ArgumentValue means z v) j g.means)
+      (λ v rest g. let d : One m.item ∷ b.tail ≡ g.0 ∷ rest = sym b.is ∙ g.1 in
+      let j : g.0 ≡ One m.item = cc in subst (λ z. ArgumentValue means z v) j g.2)
   variable_err s t e other c same o =
       nowhere T means argument group variables s t e other c same o.0 o.1 o.2
 
@@ -145,7 +145,7 @@ module _ (T : Type 0) (means : List ℕ → T → Type 0) (argument : KeyWithVal
   variable_law = record {
     own = named argument;
     words = tt;
-    starts = λ v rest g. let e = g.is in cc;
+    starts = λ v rest g. let e = g.1 in cc;
     no_absent = gap_empty means _;
     ok = variable_ok;
     err = λ s t e w o. variable_err s t e e.0 refl w.environment o;

@@ -181,7 +181,7 @@ module _ (T : Type 0) (clones : T → T → Type 0) (key : Key) (present : T) (a
   switch_law = record {
     own = named T clones key present;
     words = tt;
-    starts = λ v rest g. let e = g.is in cc;
+    starts = λ v rest g. let e = g.1 in cc;
     no_absent = gap_empty clones _;
     ok = switch_ok;
     err = λ s t e w o. switch_err s t e e.0 refl w.environment o;

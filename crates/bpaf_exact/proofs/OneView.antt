@@ -62,9 +62,9 @@ module _ (A B X Y : Type 0) (see : A → X) (look : B → Y) (f : Closure A B)
 front_view : (T X : Type 0) (see : T → X) (value : LinePiece → T → Type 0)
     → ((o : LinePiece) → Alike see (value o)) → OneGroup see (FrontOf T value)
 front_view T X see value u os rest others v w a b =
-    let c : a.piece ∷ rest ≡ b.piece ∷ others = sym a.is ∙ b.is in
-    let d : a.piece ≡ b.piece = cc in
-    (u b.piece v w (subst (λ z. value z v) d a.means) b.means, cc)
+    let c : a.0 ∷ rest ≡ b.0 ∷ others = sym a.1 ∙ b.1 in
+    let d : a.0 ≡ b.0 = cc in
+    (u b.0 v w (subst (λ z. value z v) d a.2) b.2, cc)
 
 -- a present value
 flag_piece : (T X : Type 0) (see : T → X) (present : T → Type 0) → Alike see present

@@ -113,9 +113,9 @@ module _ (T : Type 0) (b : Bool) (value : LinePiece → T → Type 0)
       (λ none. some_front m.word _ (λ h. (word_is m.word strict text m.text_is).1 ∙ before h)
       (sym (ap (front (OneWord b)) i) ∙ none))
       (λ x rest y.
-      let d : One m.word ∷ pieces word_roles (cells t) ≡ y.piece ∷ rest = sym i ∙ y.is in
-      let j : y.piece ≡ One m.word = cc in
-      n m.word x m.text_is (subst (λ z. value z x) j y.means))
+      let d : One m.word ∷ pieces word_roles (cells t) ≡ y.0 ∷ rest = sym i ∙ y.1 in
+      let j : y.0 ≡ One m.word = cc in
+      n m.word x m.text_is (subst (λ z. value z x) j y.2))
   word_err s t e w (word_missing none c) =
       of_missing (catch_missing c) refl
       (ap (front (OneWord b)) (no_pieces is_positional word_roles Alone s test none)) (λ c. refl)
@@ -130,31 +130,19 @@ module _ (T : Type 0) (b : Bool) (value : LinePiece → T → Type 0)
   -- the first word alone is read, and by a repeat each
   one_by_one : WordByWord T b group
   one_by_one = record {
-    by_front = λ os v rest g. let may : b ≡ true → is_behind g.piece ≡ false = λ h. clear h g.piece
-        v g.means in (
-          record {
-            piece = g.piece;
-            is = ap (front (OneWord b)) g.is ∙ front_one b g.piece rest may;
-            means = g.means;
-          },
-          sym (ap (back (OneWord b)) g.is ∙ back_one b g.piece rest may),
+    by_front = λ os v rest g. let may : b ≡ true → is_behind g.0 ≡ false = λ h. clear h g.0
+        v g.2 in (
+          (g.0, ap (front (OneWord b)) g.1 ∙ front_one b g.0 rest may, g.2),
+          sym (ap (back (OneWord b)) g.1 ∙ back_one b g.0 rest may),
         );
-    of_front = λ os v g. record {
-      piece = g.piece;
-      is = of_front_one b os g.piece g.is;
-      means = g.means;
-    };
-    by_each = λ os v rest g. let may : b ≡ true → is_behind g.piece ≡ false = λ h. clear h g.piece
-        v g.means in (
-          record {
-            piece = g.piece;
-            is = ap (front (EachWord b)) g.is ∙ front_more b g.piece rest may;
-            means = g.means;
-          },
-          sym (ap (back (EachWord b)) g.is ∙ back_more b g.piece rest may),
+    of_front = λ os v g. (g.0, of_front_one b os g.0 g.1, g.2);
+    by_each = λ os v rest g. let may : b ≡ true → is_behind g.0 ≡ false = λ h. clear h g.0
+        v g.2 in (
+          (g.0, ap (front (EachWord b)) g.1 ∙ front_more b g.0 rest may, g.2),
+          sym (ap (back (EachWord b)) g.1 ∙ back_more b g.0 rest may),
         );
-    of_each = λ os v rest g. let more = of_front_more b os g.piece rest g.is in
-        (more.0, record { piece = g.piece; is = more.1; means = g.means }, more.2);
+    of_each = λ os v rest g. let more = of_front_more b os g.0 rest g.1 in
+        (more.0, (g.0, more.1, g.2), more.2);
   }
 
   -- a word keeps to the laws of one evaluation
@@ -163,7 +151,7 @@ module _ (T : Type 0) (b : Bool) (value : LinePiece → T → Type 0)
   word_law = record {
     own = record { words = λ k. refl };
     words = one_by_one;
-    starts = λ v rest g. let e = g.is in cc;
+    starts = λ v rest g. let e = g.1 in cc;
     no_absent = λ v h a. a;
     ok = word_ok;
     err = word_err;

@@ -180,7 +180,7 @@ module _ {P Q T : Type 0} (inside : Q → P) (q : Q) where
           → IsSaid (CommandValue T (opening_words (called q)) value)
           (CommandValue T (opening_words (called q)) Told)
       opened value h cs v c =
-          record { behind = c.behind; opens = c.opens; read = h c.behind v c.read }
+          (c.0, c.1, h c.0 v c.2)
 
       by_whole : (r : Roles) (value : CellsValue T) → IsSaid value Told
           → ProgramFormSays names (opened_form (opening_words (called q)) (before_commands r value))

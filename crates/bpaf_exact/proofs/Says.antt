@@ -50,10 +50,10 @@ front_says : {T : Type 0} (value : LinePiece → T → Type 0) (said : Said T)
     → ((o : LinePiece) (v : T) → value o v → said (o ∷ []) v)
     → (os rest : List LinePiece) (v : T) → FrontOf T value os v rest → FrontSays said os v rest
 front_says value said each os rest v h = record {
-  part = h.piece ∷ [];
-  is = h.is;
+  part = h.0 ∷ [];
+  is = h.1;
   some = λ e. cc;
-  told = each h.piece v h.means;
+  told = each h.0 v h.2;
 }
 
 -- a flag

@@ -18,7 +18,7 @@ use Rattle.bpaf_exact.proofs.Alternative.{own_bad}
 
 -- the first piece alone is one
 pub front_one : (T : Type 0) (value : LinePiece → T → Type 0) → OneByOne (FrontOf T value)
-front_one T value os rest v g = (g.piece, g.is)
+front_one T value os rest v g = (g.0, g.1)
 
 -- where one evaluation reads one piece, two have no value
 group_once : {T : Type 0} (group : Groups T) → OneByOne group

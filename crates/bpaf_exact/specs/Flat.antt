@@ -190,7 +190,7 @@ Before k q r = (item : Arg) → r item ≡ Foreign
 -- how a field and those after it read the pieces
 abbrev pub both_reading : {A B : Type 0} → FieldKind → Roles → (List LinePiece → A → Type 0)
     → FieldsReading B → FieldsReading (A × B)
-both_reading k q first rest = record {
+both_reading {A = A} k q first rest = record {
   value = λ os v. first (portion k q os) v.0 × rest.value (left k q os) v.1;
-  each = λ os. HasValue first (portion k q os) × rest.each (left k q os);
+  each = λ os. ((v : A) × first (portion k q os) v) × rest.each (left k q os);
 }

@@ -63,11 +63,8 @@ are_plain words = list_all (λ word. not (is_dashed word)) words
 -- The values.
 
 -- a command: its word is the first thing present, and behind it its program has the value
-pub record CommandValue (T : Type 0) (words : List (List ℕ)) (inner : CellsValue T) (cs : Cells)
-    (v : T) : Type 0 where
-  pub behind : Cells
-  pub opens : Opens words cs behind
-  pub read : inner behind v
+abbrev pub CommandValue : (T : Type 0) → List (List ℕ) → CellsValue T → CellsValue T
+CommandValue T words inner cs v = (ds : Cells) × Opens words cs ds × inner ds v
 
 -- a choice of commands: one of them has the value
 abbrev pub ChoiceValue : (T : Type 0) → CellsValue T → CellsValue T → CellsValue T

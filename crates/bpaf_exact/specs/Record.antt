@@ -5,7 +5,7 @@ use Rattle.bpaf_line.specs.Situation.{Context, Situation, item_in, open_count}
 use Rattle.bpaf_laws.specs.Reading.{Outcome}
 use Rattle.bpaf_exact.specs.Pieces.{Cells, Roles, LinePiece, Cut}
 use Rattle.bpaf_exact.specs.Flat.{OfMemory, class, first_cells, FieldKind, ReadOff, portion, left}
-use Rattle.bpaf_exact.specs.Flat.{FieldsReading, HasValue}
+use Rattle.bpaf_exact.specs.Flat.{FieldsReading}
 
 -- each item of a line is present at first, but for the marker
 abbrev pub line_cells : Context → Cells
@@ -62,7 +62,7 @@ pub record IsExact (V : Type 0) (r : Roles) (reading : FieldsReading V) (context
 -- how the last field of a product, or one alone, reads the pieces: none is left to others
 abbrev pub last_reading : {T : Type 0} → FieldKind → Roles → (List LinePiece → T → Type 0)
     → FieldsReading T
-last_reading k q value = record {
+last_reading {T = T} k q value = record {
   value = λ os v. value (portion k q os) v × (left k q os ≡ []);
-  each = λ os. HasValue value (portion k q os) × (left k q os ≡ []);
+  each = λ os. ((v : T) × value (portion k q os) v) × (left k q os ≡ []);
 }

@@ -16,11 +16,8 @@ abbrev pub Groups : Type 0 → Type 1
 Groups T = List LinePiece → T → List LinePiece → Type 0
 
 -- the first piece alone, where each piece has its value by itself
-pub record FrontOf (T : Type 0) (value : LinePiece → T → Type 0) (os : List LinePiece) (v : T)
-    (rest : List LinePiece) : Type 0 where
-  pub piece : LinePiece
-  pub is : os ≡ piece ∷ rest
-  pub means : value piece v
+abbrev pub FrontOf : (T : Type 0) → (LinePiece → T → Type 0) → Groups T
+FrontOf T value os v rest = (o : LinePiece) × (os ≡ o ∷ rest) × value o v
 
 -- the values read off the pieces, one after the other
 pub data Own (T : Type 0) (group : Groups T) : List LinePiece → List T → Type 0 where

@@ -48,9 +48,9 @@ module _ {T X : Type 0} {see : T → X} where
   pub command_seen : (word : List ℕ) {value : CellsValue T} → LooksOne see value
       → AreSeen see (word ∷ []) (CommandValue T (word ∷ []) value)
   command_seen word {value} one = record {
-    look = λ cs v w a b. one b.behind v w
-        (subst (λ ds. value ds v) (opens_one (word ∷ []) a.opens b.opens) a.read) b.read;
-    opened = λ cs v a. (a.behind, a.opens);
+    look = λ cs v w a b. one b.0 v w
+        (subst (λ ds. value ds v) (opens_one (word ∷ []) a.1 b.1) a.2) b.2;
+    opened = λ cs v a. (a.0, a.1);
   }
 
   -- a choice of commands whose words are apart

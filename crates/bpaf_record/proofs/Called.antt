@@ -159,7 +159,7 @@ module _ {known : Known} {given : Given} {words : List (List ℕ)} {cs : Cells}
       (subst (λ those. WasCalled those given.words) same (
         known,
         item_spelled (is_one_of opens) known given line.context line.on_line (none_behind opens)
-            (kept_on (is_one_of opens) line.left (opens_on opens command.opens)),
+            (kept_on (is_one_of opens) line.left (opens_on opens command.1)),
       ))
     where
       none_behind : (words : List (List ℕ)) (text : List ℕ) → is_one_of words (PosWord text) ≡ false

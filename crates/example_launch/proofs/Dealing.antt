@@ -28,8 +28,8 @@ name_says : (os : List LinePiece) (v : String)
     → SingleValue String (FrontOf String (WordValue (accepts NonStrict) MeansText))
     (gap_of MeansText None) os v
     → WordSays (accepts NonStrict) MeansText os v
-name_says os v (inl g) = subst (λ os. WordSays (accepts NonStrict) MeansText os v) (sym g.is)
-    (word_says (accepts NonStrict) MeansText g.piece v g.means)
+name_says os v (inl g) = subst (λ os. WordSays (accepts NonStrict) MeansText os v) (sym g.1)
+    (word_says (accepts NonStrict) MeansText g.0 v g.2)
 name_says os v (inr e) = absurd e.1
 
 -- what is passed on are all words behind the first `--`

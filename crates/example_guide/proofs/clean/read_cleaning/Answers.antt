@@ -19,7 +19,7 @@ returns-clause-called c =
     answer_says c.run_program.result (c.run_program.ensures.fields (tt, (tt, tt)))
     (λ cleaning told is. let force = told.told.read in
     of_either force.told.left
-    (λ list. let made : cleaning.task ≡ List list.read.told.from = search rules in
+    (λ list. let made : cleaning.task ≡ List list.2.told.from = search rules in
     absurd (subst IsRemoval made is))
     (λ remove. let line = told_line told (map string_bytes c.args.words.now) (search rules) in
     command_called (without_field line force.told.taken) remove (codes "remove" ∷ []) (search rules)))
