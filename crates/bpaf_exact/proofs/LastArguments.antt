@@ -153,20 +153,13 @@ module _ (T : Type 0) (means : List ℕ → T → Type 0) (argument : KeyWithVal
   last_read s t text v got m =
       let a = got.pieces_are in
       let group : (rest : List LinePiece) → rest ≡ []
-      → LastGroup T means (pieces q (cells s)) v rest = (λ rest none. record {
-        before = a.before;
-        key = a.key;
-        word = a.word;
-        is = whole s t text got;
-        meant = subst (λ z. means z v) (sym a.text_is) m;
-        none_left = none;
-      }) in
+      → LastGroup T means (pieces q (cells s)) v rest = (λ rest none. (a.before, (a.key, a.word), whole s t text got, subst (λ z. means z v) (sym a.text_is) m, none)) in
       took (record {
         steady = a.steady;
         takes = a.any;
         found = takes_nonempty q a.any.one;
         read = λ r. group (pieces q (cells t)) got.none;
-        readable = λ x rest g. (group rest g.none_left, got.none ∙ sym g.none_left);
+        readable = λ x rest g. (group rest g.4, got.none ∙ sym g.4);
       })
 
   -- or that of the variable
@@ -183,11 +176,11 @@ module _ (T : Type 0) (means : List ℕ → T → Type 0) (argument : KeyWithVal
       (v : T) (rest : List LinePiece) → LastGroup T means (pieces q (cells s)) v rest → ⊥
   fault_group s t text got nothing v rest g =
       let a = got.pieces_are in
-      let same : Two g.key g.word ≡ Two a.key a.word =
-      last_same LinePiece (pairs g.before) (pairs a.before) (Two g.key g.word) (Two a.key a.word)
-      (sym g.is ∙ whole s t text got) in
-      let word : g.word ≡ a.word = cc in
-      nothing v (subst (λ z. means z v) (ap item_text word ∙ a.text_is) g.meant)
+      let same : Two g.1.0 g.1.1 ≡ Two a.key a.word =
+      last_same LinePiece (pairs g.0) (pairs a.before) (Two g.1.0 g.1.1) (Two a.key a.word)
+      (sym g.2 ∙ whole s t text got) in
+      let word : g.1.1 ≡ a.word = cc in
+      nothing v (subst (λ z. means z v) (ap item_text word ∙ a.text_is) g.3)
 
   -- where a key has no value, the pieces have none
   bare_refused : (s t : Situation) (e : Error) (k : Arg) (tail : List LinePiece) → class e ≡ Refused
@@ -197,8 +190,8 @@ module _ (T : Type 0) (means : List ℕ → T → Type 0) (argument : KeyWithVal
       let there : pieces q (cells s) ≡ some.pairs ++ One k ∷ tail =
       some.is ∙ ap (λ z. some.pairs ++ z) is in
       of_piece c (λ none. never_nil some.pairs (One k) tail (sym there ∙ none))
-      (λ v rest g. bare_spoils some.pairs tail g.before k g.key g.word
-      (sym there ∙ g.is))
+      (λ v rest g. bare_spoils some.pairs tail g.0 k g.1.0 g.1.1
+      (sym there ∙ g.2))
 
   -- a refusal: no piece, one without a value, or a last one that means none
   last_err : (s t : Situation) (e : Error) (m : Message) → class e ≡ class_of m
@@ -224,7 +217,7 @@ module _ (T : Type 0) (means : List ℕ → T → Type 0) (argument : KeyWithVal
   last_argument_law = record {
     own = named argument;
     words = tt;
-    starts = λ v rest g. never_nil (pairs g.before) (Two g.key g.word) [] (sym g.is);
+    starts = λ v rest g. never_nil (pairs g.0) (Two g.1.0 g.1.1) [] (sym g.2);
     no_absent = gap_empty means _;
     ok = last_ok;
     err = λ s t e w o. last_err s t e e.0 refl w.environment o;

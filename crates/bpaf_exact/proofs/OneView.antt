@@ -107,11 +107,11 @@ argument_piece T X see means u (Two k x) v w a b = u (item_text x) v w a b
 last_group : (T X : Type 0) (see : T → X) (means : List ℕ → T → Type 0)
     → ((text : List ℕ) → Alike see (means text)) → OneGroup see (LastGroup T means)
 last_group T X see means u os rest others v w a b =
-    let same : Two a.key a.word ≡ Two b.key b.word =
-    last_same LinePiece _ _ (Two a.key a.word) (Two b.key b.word) (sym a.is ∙ b.is) in
-    let word : a.word ≡ b.word = cc in (
-      u (item_text b.word) v w (subst (λ x. means (item_text x) v) word a.meant) b.meant,
-      a.none_left ∙ sym b.none_left,
+    let same : Two a.1.0 a.1.1 ≡ Two b.1.0 b.1.1 =
+    last_same LinePiece _ _ (Two a.1.0 a.1.1) (Two b.1.0 b.1.1) (sym a.2 ∙ b.2) in
+    let word : a.1.1 ≡ b.1.1 = cc in (
+      u (item_text b.1.1) v w (subst (λ x. means (item_text x) v) word a.3) b.3,
+      a.4 ∙ sym b.4,
     )
 
 -- the pieces of one evaluation

@@ -110,9 +110,9 @@ module _ {T : Type 0} (means : List ℕ → T → Type 0) where
       front_says (ArgumentValue means) (ArgumentSays means false set) pair_piece os rest v g
   argument_group_says true os rest v g = record {
     part = os;
-    is = sym (ap (λ z. os ++ z) g.none_left ∙ append-nil os);
-    some = λ e. never_nil _ (Two g.key g.word) [] (sym g.is ∙ e);
-    told = says_last_text g.before g.key g.word refl g.is g.meant;
+    is = sym (ap (λ z. os ++ z) g.4 ∙ append-nil os);
+    some = λ e. never_nil _ (Two g.1.0 g.1.1) [] (sym g.2 ∙ e);
+    told = says_last_text g.0 g.1.0 g.1.1 refl g.2 g.3;
   }
 
   -- no key

@@ -66,14 +66,11 @@ flag_field {T = T} clones key present absent variables =
 
 -- all pieces at once, each a key with its value, of which the last one's text means the value; the
 -- earlier texts need not mean any
-pub record LastGroup (T : Type 0) (means : List ℕ → T → Type 0) (os : List LinePiece) (v : T)
-    (rest : List LinePiece) : Type 0 where
-  pub before : List (Arg × Arg)
-  pub key : Arg
-  pub word : Arg
-  pub is : os ≡ map (λ pair. Two pair.0 pair.1) before ++ Two key word ∷ []
-  pub meant : means (item_text word) v
-  pub none_left : rest ≡ []
+abbrev pub LastGroup : (T : Type 0) → (List ℕ → T → Type 0) → Groups T
+LastGroup T means os v rest =
+    (before : List (Arg × Arg)) × (last : Arg × Arg)
+    × (os ≡ map (λ pair. Two pair.0 pair.1) before ++ Two last.0 last.1 ∷ [])
+    × means (item_text last.1) v × (rest ≡ [])
 
 -- the pieces that one evaluation of an argument reads: the first, or all at once
 abbrev pub argument_group : {T : Type 0} → (List ℕ → T → Type 0) → (last : Bool) → Groups T
