@@ -128,7 +128,7 @@ pub data Takes (q : Roles) : Cells → List LinePiece → Cells → Type 0 where
   takes_flag : {k : Arg} {cs ds : Cells} {os : List LinePiece} → q k ≡ Alone → Takes q cs os ds
       → Takes q (Some k ∷ cs) (One k ∷ os) (None ∷ ds)
   takes_argument : {k w : Arg} {cs ds : Cells} {os : List LinePiece} → q k ≡ WithNext
-      → is_value w ≡ true → Takes q cs os ds
+      → is_some (value_text w) ≡ true → Takes q cs os ds
       → Takes q (Some k ∷ (Some w ∷ cs)) (Two k w ∷ os) (None ∷ (None ∷ ds))
 
 -- one piece of a field's own taken
