@@ -1,8 +1,8 @@
 -- A cut line holds together, and what its named fields leave to positional ones.
-use Rattle.std.proofs.Common.{◌≡◌, ℕ, Bool, true, false, List, [], ◌∷◌, ◌++◌, Some, None, refl, sym}
-use Rattle.std.proofs.Common.{ap, ◌∙◌, subst, if◌then◌else◌}
+use Rattle.std.proofs.Common.{◌≡◌, ℕ, true, List, [], ◌∷◌, ◌++◌, Some, None, refl, sym}
+use Rattle.std.proofs.Common.{ap, ◌∙◌, subst, not}
 use Rattle.std.proofs.lemmas.List.{append_assoc}
-use Rattle.std.proofs.lemmas.List.Elements.{All-nil, All-cons}
+use Rattle.std.proofs.lemmas.List.Elements.{All-nil, All-cons, filter-append}
 use Rattle.std.specs.List.{AllPass}
 use Rattle.bpaf_base.specs.{Items.is_positional, declared.arg.Arg.Arg}
 use Rattle.bpaf_base.specs.{declared.arg.Arg.TheVariants.ArgWord}
@@ -18,14 +18,9 @@ module _ (r : Roles) (n : IsNamed r) where
   -- the words on either side of an argument's key and value
   words_beside : (k w : Arg) → r k ≡ WithNext → (earlier later : List LinePiece)
       → others r (earlier ++ (Two k w ∷ later)) ≡ others r earlier ++ others r later
-  words_beside k w e [] later = others_own r (Two k w) later (ap is_own_role e)
-  words_beside k w e (o ∷ os) later =
-      by_own (is_own r o) (others r os) (others r later) (words_beside k w e os later)
-    where
-      by_own : (b : Bool) (ys zs : List LinePiece) {xs : List LinePiece} → xs ≡ ys ++ zs
-          → (if b then xs else (o ∷ xs)) ≡ (if b then ys else (o ∷ ys)) ++ zs
-      by_own true ys zs h = h
-      by_own false ys zs h = ap (λ z. o ∷ z) h
+  words_beside k w e earlier later =
+      filter-append (λ o. not (is_own r o)) earlier (Two k w ∷ later)
+      ∙ ap (λ z. others r earlier ++ z) (others_own r (Two k w) later (ap is_own_role e))
 
   -- an argument's key with its value on a line that is cut on either side of them
   has_its_value : {before after : Cells} {os : List LinePiece} (k value : Arg) (behind : Cells)

@@ -1,13 +1,15 @@
 -- Alternatives as fields, and closures round alternatives and single fields.
-use Rattle.std.proofs.Common.{◌≡◌, List, [], ◌∷◌, Ok, Err, refl, sym, ap, ◌∙◌, subst, inl, inr, ◌⊎◌}
+use Rattle.std.proofs.Common.{◌≡◌, List, [], ◌∷◌, Option, Some, None, Ok, Err, refl, sym, ap, ◌∙◌, subst, inl, inr, ◌⊎◌}
+use Rattle.std.proofs.Common.{false}
+use Rattle.std.specs.Option.{is_some}
 use Rattle.bpaf_line.specs.{declared.error.Error.Error, Situation.Situation}
 use Rattle.bpaf_laws.specs.Reading.{Outcome}
 use Rattle.bpaf_exact.specs.Flat.{front, Refused, class, cells, IsWholeIn, Steady, FieldKind}
-use Rattle.bpaf_exact.specs.Single.{Groups, FrontOf, Own, own_none, own_more, Readable, Gap, no_gap}
+use Rattle.bpaf_exact.specs.Single.{Groups, FrontOf, Own, own_none, own_more, Readable, Gap, IsMeant, gap_of}
 use Rattle.bpaf_exact.specs.Single.{TookGroup, SingleOk, gave_absent, took, SingleErr, of_memory}
 use Rattle.bpaf_exact.specs.Single.{catch_missing, of_missing, of_absent, of_piece, ReadsWords}
 use Rattle.bpaf_exact.specs.Wrappers.{Closure, AgreesOn, ClosedEval, closed_yes, closed_no}
-use Rattle.bpaf_exact.specs.Wrappers.{closed_memory, closed_err, ClosedGroup, closed_gap}
+use Rattle.bpaf_exact.specs.Wrappers.{closed_memory, closed_err, closed_gap}
 use Rattle.bpaf_exact.specs.Alternative.{TakesFirst, HasBad, bad_here, bad_later, AlternativeOk}
 use Rattle.bpaf_exact.specs.Alternative.{AlternativeErr, alternative_memory, alternative_missing}
 use Rattle.bpaf_exact.specs.{Flat.ByName, Flat.OneWord, Flat.EachWord, Flat.Variables}
@@ -22,10 +24,10 @@ pub own_bad : (T : Type 0) (value : LinePiece → T → Type 0) (os : List LineP
     → HasBad T value os → Own T (FrontOf T value) os vs → ⊥
 own_bad T value os vs h own_none = elim h [ ]
 own_bad T value os vs h (own_more {rest = rest} {v = v} {vs = us} g o) =
-    by_bad (λ b. own_bad T value rest us b o) (subst (HasBad T value) g.is h)
+    by_bad (λ b. own_bad T value rest us b o) (subst (HasBad T value) g.1 h)
   where
-    by_bad : (HasBad T value rest → ⊥) → HasBad T value (g.piece ∷ rest) → ⊥
-    by_bad i (bad_here n) = n v g.means
+    by_bad : (HasBad T value rest → ⊥) → HasBad T value (g.0 ∷ rest) → ⊥
+    by_bad i (bad_here n) = n v g.2
     by_bad i (bad_later b) = i b
 
 -- a value of the first piece is that of each first group that can be read, which leaves the same
@@ -33,9 +35,9 @@ pub front_alone : (T : Type 0) (value : LinePiece → T → Type 0) (o : LinePie
     {os left rest : List LinePiece} {w : T} → os ≡ o ∷ left → value o v → FrontOf T value os w rest
     → FrontOf T value os v rest × (left ≡ rest)
 front_alone T value o v {left = left} {rest = rest} e means g =
-    let d : o ∷ left ≡ g.piece ∷ rest = sym e ∙ g.is in
+    let d : o ∷ left ≡ g.0 ∷ rest = sym e ∙ g.1 in
     let r : left ≡ rest = cc in
-    (record { piece = o; is = e ∙ ap (λ z. o ∷ z) r; means = means }, r)
+    ((o, e ∙ ap (λ z. o ∷ z) r, means), r)
 
 -- where the first piece was taken and has the value, it is the first group
 pub took_front : (T : Type 0) (value : LinePiece → T → Type 0) (k : FieldKind) (q : Roles)
@@ -47,9 +49,15 @@ took_front T value k q s t v o st f e means some =
       steady = st;
       takes = record { piece = o; middle = cells t; one = takes; more = takes_none };
       found = λ none. some (sym (ap (front k) e) ∙ none);
-      read = λ r. record { piece = o; is = e; means = means };
+      read = λ r. (o, e, means);
       readable = λ w rest g. front_alone T value o v e means g;
     }
+
+-- without something there is nothing that it means
+pub gap_empty : {X T : Type 0} (means : X → T → Type 0) (kept : Option X) (v : T)
+    → is_some kept ≡ false → IsMeant means kept v → ⊥
+gap_empty means None v h a = a
+gap_empty means (Some x) v h a = cc
 
 -- An alternative is a field without a repeat or default.
 module _ {env : Variables} (T : Type 0) (outcome : Outcome T) (q : Roles)
@@ -60,12 +68,12 @@ module _ {env : Variables} (T : Type 0) (outcome : Outcome T) (q : Roles)
       → (vs : List T) × Own T (FrontOf T value) (pieces q (cells t)) vs
       → FrontOf T value (pieces q (cells s)) v (pieces q (cells t))
   alternative_reads s t v a (inl f) o =
-      record { piece = a.piece; is = first_pieces q l.named f; means = a.means }
+      (a.piece, first_pieces q l.named f, a.means)
   alternative_reads s t v a (inr b) o = absurd (own_bad T value _ o.0 b o.1)
 
   -- its value, as that of one evaluation
   alternative_ok : (s t : Situation) (v : T) → IsWholeIn env s → outcome s (Ok v) t
-      → SingleOk T ByName q (FrontOf T value) (no_gap T) s v t
+      → SingleOk T ByName q (FrontOf T value) (gap_of value None) s v t
   alternative_ok s t v w o =
       let a = l.ok s t v w o in
       took (record {
@@ -74,25 +82,25 @@ module _ {env : Variables} (T : Type 0) (outcome : Outcome T) (q : Roles)
         found = takes_nonempty q a.takes;
         read = alternative_reads s t v a a.first;
         readable = λ x rest g.
-            let e = first_pieces q l.named (a.readable g.piece rest x g.is g.means) in
+            let e = first_pieces q l.named (a.readable g.0 rest x g.1 g.2) in
             front_alone T value a.piece v e a.means g;
       })
 
   -- its refusal, as that of one evaluation
   alternative_err : (s t : Situation) (e : Error) → AlternativeErr T q value s e t
-      → SingleErr T ByName q (FrontOf T value) (no_gap T) s e t
+      → SingleErr T ByName q (FrontOf T value) (gap_of value None) s e t
   alternative_err s t e (alternative_memory c) = of_memory c
   alternative_err s t e (alternative_missing c p same st) =
       of_missing (catch_missing c) refl p (λ c. same)
   alternative_err s t e (alternative_refused c p b n) =
-      of_piece c (bad_nonempty T value _ b) (λ w rest g. n g.piece rest w g.is g.means)
+      of_piece c (bad_nonempty T value _ b) (λ w rest g. n g.0 rest w g.1 g.2)
 
   -- so it keeps to the laws of one evaluation
-  pub alternative_single : SingleLaw env T outcome ByName q (FrontOf T value) (no_gap T)
+  pub alternative_single : SingleLaw env T outcome ByName q (FrontOf T value) (gap_of value None)
   alternative_single = record {
     own = l.named;
     words = tt;
-    starts = λ v rest g. let e = g.is in cc;
+    starts = λ v rest g. let e = g.1 in cc;
     no_absent = λ v h a. a;
     ok = alternative_ok;
     err = λ s t e w o. alternative_err s t e (l.err s t e w o);
@@ -180,26 +188,30 @@ module _ {env : Variables} (A B : Type 0) (inner : Outcome A) (k : FieldKind) (q
     (group : Groups A) (gap : Gap A) (l : SingleLaw env A inner k q group gap) (f : Closure A B)
     (agrees : (os rest : List LinePiece) → AgreesOn (λ v. group os v rest) f)
     (gap_agrees : AgreesOn gap.absent f) where
+  -- one evaluation through the closure
+  abbrev closed_group : Groups B
+  closed_group os v rest = ClosedValue (λ x a. group x a rest) f os v
+
   -- a list of inner values of the pieces
   record InnerList (os : List LinePiece) : Type 0 where
     list : List A
     own : Own A group os list
 
   -- what can be read through a closure can be read without it
-  inner_list : (os : List LinePiece) (vs : List B) → Own B (ClosedGroup A B group f) os vs
+  inner_list : (os : List LinePiece) (vs : List B) → Own B closed_group os vs
       → InnerList os
   inner_list os vs own_none = record { list = []; own = own_none }
   inner_list os vs (own_more {rest = rest} {v = v} {vs = us} g o) = let i = inner_list rest us o in
       record { list = g.from ∷ i.list; own = own_more g.read i.own }
 
   -- the same, by the kind of the field
-  inner_readable : (z : FieldKind) (os : List LinePiece) → Readable z (ClosedGroup A B group f) os
+  inner_readable : (z : FieldKind) (os : List LinePiece) → Readable z closed_group os
       → Readable z group os
   inner_readable ByName os r = let i = inner_list os r.0 r.1 in (i.list, i.own)
   inner_readable _ os r = tt
 
   -- with a closure a field reads words as before
-  closed_words : (z : FieldKind) → ReadsWords z group → ReadsWords z (ClosedGroup A B group f)
+  closed_words : (z : FieldKind) → ReadsWords z group → ReadsWords z closed_group
   closed_words ByName u = tt
   closed_words (OneWord b) u = record {
     by_front = λ os v rest g. let a = u.by_front os g.from rest g.read in
@@ -218,7 +230,7 @@ module _ {env : Variables} (A B : Type 0) (inner : Outcome A) (k : FieldKind) (q
 
   -- a value that the closure gave
   yes_single : (s t : Situation) (x : A) (v : B) → f.yes x v → SingleOk A k q group gap s x t
-      → SingleOk B k q (ClosedGroup A B group f) (closed_gap gap f) s v t
+      → SingleOk B k q closed_group (closed_gap gap f) s v t
   yes_single s t x v y (gave_absent h p ab same st) = gave_absent h p (x, ab, y) same st
   yes_single s t x v y (took h) = took (record {
     steady = h.steady;
@@ -232,7 +244,7 @@ module _ {env : Variables} (A B : Type 0) (inner : Outcome A) (k : FieldKind) (q
   -- a value that the closure refused
   no_single : (s t : Situation) (x : A) (e : Error) → class e ≡ Refused → f.no x
       → SingleOk A k q group gap s x t
-      → SingleErr B k q (ClosedGroup A B group f) (closed_gap gap f) s e t
+      → SingleErr B k q closed_group (closed_gap gap f) s e t
   no_single s t x e c n (gave_absent h p ab same st) =
       of_absent c h p (λ v a. gap_agrees a.0 x v a.1 ab a.2 n)
   no_single s t x e c n (took h) =
@@ -242,7 +254,7 @@ module _ {env : Variables} (A B : Type 0) (inner : Outcome A) (k : FieldKind) (q
 
   -- an inner refusal is passed on
   err_single : (s t : Situation) (e : Error) → SingleErr A k q group gap s e t
-      → SingleErr B k q (ClosedGroup A B group f) (closed_gap gap f) s e t
+      → SingleErr B k q closed_group (closed_gap gap f) s e t
   err_single s t e (of_memory c) = of_memory c
   err_single s t e (of_missing c h p same) = of_missing c h p same
   err_single s t e (of_absent c h p n) = of_absent c h p (λ v a. n a.0 a.1)
@@ -251,19 +263,19 @@ module _ {env : Variables} (A B : Type 0) (inner : Outcome A) (k : FieldKind) (q
   -- a value of one evaluation
   closed_single_ok : (s t : Situation) (v : B) → IsWholeIn env s
       → ClosedEval A B inner f Refused s (Ok v) t
-      → SingleOk B k q (ClosedGroup A B group f) (closed_gap gap f) s v t
+      → SingleOk B k q closed_group (closed_gap gap f) s v t
   closed_single_ok s t v w (closed_yes {x = x} i y) = yes_single s t x v y (l.ok s t x w i)
 
   -- a refusal of one evaluation
   closed_single_err : (s t : Situation) (e : Error) → IsWholeIn env s
       → ClosedEval A B inner f Refused s (Err e) t
-      → SingleErr B k q (ClosedGroup A B group f) (closed_gap gap f) s e t
+      → SingleErr B k q closed_group (closed_gap gap f) s e t
   closed_single_err s t e w (closed_no {x = x} i n c) = no_single s t x e c n (l.ok s t x w i)
   closed_single_err s t e w (closed_memory i c) = of_memory c
   closed_single_err s t e w (closed_err i) = err_single s t e (l.err s t e w i)
 
   -- a closure round a single field is one
-  pub closed_single : SingleLaw env B (ClosedEval A B inner f Refused) k q (ClosedGroup A B group f)
+  pub closed_single : SingleLaw env B (ClosedEval A B inner f Refused) k q closed_group
       (closed_gap gap f)
   closed_single = record {
     own = l.own;

@@ -1,5 +1,5 @@
 -- A key of an argument and its value are a piece.
-use Rattle.std.proofs.Common.{◌≡◌, ℕ, true, false, List, [], ◌∷◌, Option, Some, None, refl, sym, ap}
+use Rattle.std.proofs.Common.{◌≡◌, ℕ, true, List, [], ◌∷◌, Option, Some, None, refl, sym, ap}
 use Rattle.std.proofs.{Common.◌∙◌, Common.subst, lemmas.Bool.and_parts}
 use Rattle.bpaf_text.specs.Named.{KeyWithValue, argument_part}
 use Rattle.bpaf_base.specs.{declared.arg.Arg.Arg, Items.is_key_of, Items.item_text}
@@ -8,9 +8,9 @@ use Rattle.bpaf_line.specs.{Situation.Situation, Situation.with_current}
 use Rattle.bpaf_laws.specs.Argument.{TakesKeyWithText, HasNoKey, IsNowhere, ReadsVariable}
 use Rattle.bpaf_laws.specs.{Argument.is_key_with_value, Environment.first_set}
 use Rattle.bpaf_exact.specs.Flat.{ByName, Refused, Steady, cells, class, class_of, Variables}
-use Rattle.bpaf_exact.specs.Single.{Groups, SingleErr, SingleOk, gave_absent, of_absent, of_missing}
+use Rattle.bpaf_exact.specs.Single.{Groups, gap_of, SingleErr, SingleOk, gave_absent, of_absent, of_missing}
 use Rattle.bpaf_exact.specs.{Pieces.WithNext, Pieces.Roles, Pieces.Two, Pieces.IsNamed}
-use Rattle.bpaf_exact.specs.{Pieces.pieces, Alternative.TakesFirst, Leaves.argument_gap}
+use Rattle.bpaf_exact.specs.{Pieces.pieces, Alternative.TakesFirst}
 use Rattle.bpaf_exact.specs.{Leaves.argument_roles, Names.Owns}
 use Rattle.bpaf_exact.proofs.Matching.{match_of, ByTest, by_test, test_named, test_owns, behind_of}
 use Rattle.bpaf_exact.proofs.Matching.{pair_is, two_taken, two_steady, no_pieces, absence_caught}
@@ -77,40 +77,30 @@ module _ (T : Type 0) (means : List ℕ → T → Type 0) (argument : KeyWithVal
   -- the text of a variable stands for no piece
   pub variable_read : (s t : Situation) (text : List ℕ) (v : T) → s.context.env ≡ variables
       → ReadsVariable argument s text t → means text v
-      → SingleOk T ByName roles group (argument_gap means set) s v t
+      → SingleOk T ByName roles group (gap_of means set) s v t
   variable_read s t text v same read m =
       let here = subst (λ z. first_set z argument.named.envs ≡ Some text) same read.set in
-      subst (SingleOk T ByName roles group (argument_gap means set) s v) (sym read.left)
+      subst (SingleOk T ByName roles group (gap_of means set) s v) (sym read.left)
       (subst (λ gap. SingleOk T ByName roles group gap s v (with_current s None))
-      (ap (argument_gap means) (sym here))
+      (ap (gap_of means) (sym here))
       (gave_absent refl (no_key argument s read.no_key) m (current_cells s)
       (same_steady (steady_refl s))))
 
   -- one that means no value is refused
   pub variable_fault : (s t : Situation) (e : Error) (text : List ℕ) → s.context.env ≡ variables
       → ReadsVariable argument s text t → class e ≡ Refused → ((v : T) → means text v → ⊥)
-      → SingleErr T ByName roles group (argument_gap means set) s e t
+      → SingleErr T ByName roles group (gap_of means set) s e t
   variable_fault s t e text same read c none =
       let here = subst (λ z. first_set z argument.named.envs ≡ Some text) same read.set in
-      subst (λ gap. SingleErr T ByName roles group gap s e t) (ap (argument_gap means) (sym here))
+      subst (λ gap. SingleErr T ByName roles group gap s e t) (ap (gap_of means) (sym here))
       (of_absent c refl (no_key argument s read.no_key) none)
 
   -- without one there is no value
   pub nowhere : (s t : Situation) (e : Error) (m : Message) → class e ≡ class_of m
       → s.context.env ≡ variables → HasNoKey argument s → IsNowhere argument s m → t ≡ s
-      → SingleErr T ByName roles group (argument_gap means set) s e t
+      → SingleErr T ByName roles group (gap_of means set) s e t
   nowhere s t e m c same none unset left =
       let here = subst (λ z. first_set z argument.named.envs ≡ None) same unset.0 in
-      subst (SingleErr T ByName roles group (argument_gap means set) s e) (sym left)
+      subst (SingleErr T ByName roles group (gap_of means set) s e) (sym left)
       (of_missing (absence_caught s (argument_part argument) argument.named.envs e m c unset.1)
-      (ap (λ z. (argument_gap means z).has) here) (no_key argument s none) (λ c. refl))
-
-  -- no value stands for no piece where none is set
-  pub gap_empty : (v : T) → (argument_gap means set).has ≡ false
-      → (argument_gap means set).absent v → ⊥
-  gap_empty v h a = by_text set h a
-    where
-      by_text : (z : Option (List ℕ)) → (argument_gap means z).has ≡ false
-          → (argument_gap means z).absent v → ⊥
-      by_text None h a = a
-      by_text (Some text) h a = cc
+      (ap (λ z. (gap_of means z).has) here) (no_key argument s none) (λ c. refl))

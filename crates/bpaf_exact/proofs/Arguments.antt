@@ -11,17 +11,18 @@ use Rattle.bpaf_laws.specs.Environment.{first_set}
 use Rattle.bpaf_laws.specs.Repeat.{is_nil}
 use Rattle.bpaf_exact.specs.Flat.{ByName, class, class_of, cells, IsWholeIn, Variables}
 use Rattle.bpaf_exact.specs.Alternative.{AlternativeOk, AlternativeErr, alternative_memory}
-use Rattle.bpaf_exact.specs.Single.{FrontOf, Gap, Groups, SingleErr, SingleLaw, SingleOk, took}
-use Rattle.bpaf_exact.specs.Leaves.{argument_roles, ArgumentValue, argument_field, argument_gap}
+use Rattle.bpaf_exact.specs.Single.{FrontOf, Gap, gap_of, Groups, SingleErr, SingleLaw, SingleOk, took}
+use Rattle.bpaf_exact.specs.Leaves.{argument_roles, ArgumentValue, argument_field}
 use Rattle.bpaf_exact.specs.Leaves.{argument_group, key_field}
 use Rattle.bpaf_exact.specs.{Alternative.AlternativeLaw, Single.of_memory, Single.of_piece}
 use Rattle.bpaf_exact.specs.{Pieces.Roles, Pieces.LinePiece, Pieces.One, Pieces.Two, Pieces.pieces}
 use Rattle.bpaf_exact.specs.ProgramForm.{FormLaw}
-use Rattle.bpaf_exact.proofs.ArgumentPieces.{TookPair, gap_empty, named, nowhere, owns, took_pair}
+use Rattle.bpaf_exact.proofs.ArgumentPieces.{TookPair, named, nowhere, owns, took_pair}
 use Rattle.bpaf_exact.proofs.ArgumentPieces.{test, no_key, variable_fault, variable_read}
 use Rattle.bpaf_exact.proofs.Matching.{match_of, bare_taken, first_alternative, first_refused}
 use Rattle.bpaf_exact.proofs.{Matching.missing_same, Matching.absence_missing}
-use Rattle.bpaf_exact.proofs.{Alternative.took_front, Classes.missing_class, First.first_pieces}
+use Rattle.bpaf_exact.proofs.Alternative.{gap_empty, took_front}
+use Rattle.bpaf_exact.proofs.{Classes.missing_class, First.first_pieces}
 use Rattle.bpaf_exact.proofs.{First.first_takes, First.takes_nonempty}
 use Rattle.bpaf_exact.proofs.{LastArguments.last_argument_law}
 
@@ -102,7 +103,7 @@ module _ (T : Type 0) (means : List ℕ → T → Type 0) (argument : KeyWithVal
   group = FrontOf T (ArgumentValue means)
 
   abbrev gap : Gap T
-  gap = argument_gap means (first_set variables argument.named.envs)
+  gap = gap_of means (first_set variables argument.named.envs)
 
   -- a value is that of the first piece, or of the variable
   variable_ok : (s t : Situation) (v : T) → IsWholeIn variables s
@@ -122,10 +123,10 @@ module _ (T : Type 0) (means : List ℕ → T → Type 0) (argument : KeyWithVal
   variable_err s t e (ParseFailed place fault) c same o = ⊎_elim
       (λ takes. let m = takes_pair argument once s t o.0 takes in
       of_piece c (takes_nonempty roles (first_takes roles m.takes))
-      (λ v rest g. let d : Two m.key m.word ∷ pieces roles (cells t) ≡ g.piece ∷ rest =
-      sym (first_pieces roles (named argument) m.takes) ∙ g.is in
-      let j : g.piece ≡ Two m.key m.word = cc in
-      o.2.0 v (subst (λ z. means z v) m.text_is (subst (λ z. ArgumentValue means z v) j g.means))))
+      (λ v rest g. let d : Two m.key m.word ∷ pieces roles (cells t) ≡ g.0 ∷ rest =
+      sym (first_pieces roles (named argument) m.takes) ∙ g.1 in
+      let j : g.0 ≡ Two m.key m.word = cc in
+      o.2.0 v (subst (λ z. means z v) m.text_is (subst (λ z. ArgumentValue means z v) j g.2))))
       (λ read. variable_fault T means argument group variables s t e o.0 same read c o.2.0) o.1
   variable_err s t e (NoArgument key metavar) c same o =
       let left = subst (λ b. TakesBefore b argument s t) once o.1 in
@@ -134,8 +135,8 @@ module _ (T : Type 0) (means : List ℕ → T → Type 0) (argument : KeyWithVal
       let b = bare_taken (is_key_with_value argument) roles s key (test argument) lacks.0 m
       lacks.1 in
       of_piece c (λ none. let d : One m.item ∷ b.tail ≡ [] = sym b.is ∙ none in cc)
-      (λ v rest g. let d : One m.item ∷ b.tail ≡ g.piece ∷ rest = sym b.is ∙ g.is in
-      let j : g.piece ≡ One m.item = cc in subst (λ z. ArgumentValue means z v) j g.means)
+      (λ v rest g. let d : One m.item ∷ b.tail ≡ g.0 ∷ rest = sym b.is ∙ g.1 in
+      let j : g.0 ≡ One m.item = cc in subst (λ z. ArgumentValue means z v) j g.2)
   variable_err s t e other c same o =
       nowhere T means argument group variables s t e other c same o.0 o.1 o.2
 
@@ -144,8 +145,8 @@ module _ (T : Type 0) (means : List ℕ → T → Type 0) (argument : KeyWithVal
   variable_law = record {
     own = named argument;
     words = tt;
-    starts = λ v rest g. let e = g.is in cc;
-    no_absent = gap_empty T means argument group variables;
+    starts = λ v rest g. let e = g.1 in cc;
+    no_absent = gap_empty means _;
     ok = variable_ok;
     err = λ s t e w o. variable_err s t e e.0 refl w.environment o;
   }
@@ -161,24 +162,24 @@ argument_field_law variables T means argument =
     by_last : (last : Bool) → argument.last ≡ last
         → SingleLaw variables T (ArgumentOutcome means argument) ByName
         (argument_roles argument.adjacent argument.named.names) (argument_group means last)
-        (argument_gap means (first_set variables argument.named.envs))
+        (gap_of means (first_set variables argument.named.envs))
     by_last false g = variable_law T means argument g variables
     by_last true g = last_argument_law T means argument g variables
 
     single_law : (envs : List (List ℕ)) (last : Bool) → argument.named.envs ≡ envs
         → argument.last ≡ last → SingleLaw variables T (ArgumentOutcome means argument) ByName
         (argument_roles argument.adjacent argument.named.names) (argument_group means last)
-        (argument_gap means (first_set variables envs))
+        (gap_of means (first_set variables envs))
     single_law envs last e g = subst (λ z. SingleLaw variables T (ArgumentOutcome means argument)
         ByName (argument_roles argument.adjacent argument.named.names) (argument_group means last)
-        (argument_gap means (first_set variables z))) e (by_last last g)
+        (gap_of means (first_set variables z))) e (by_last last g)
 
     by_envs : (envs : List (List ℕ)) (last : Bool) → argument.named.envs ≡ envs
         → argument.last ≡ last
         → FormLaw variables (ArgumentOutcome means argument) (argument.named.names ∷ []) []
         (key_field (argument.adjacent || not (is_nil envs)) (is_nil envs && not last)
         (argument_roles argument.adjacent argument.named.names) (ArgumentValue means)
-        (argument_group means last) (argument_gap means (first_set variables envs)))
+        (argument_group means last) (gap_of means (first_set variables envs)))
     by_envs [] false e g = (argument_law T means argument e g, owns argument)
     by_envs [] true e g = (single_law [] true e g, owns argument)
     by_envs (env ∷ envs) last e g = (single_law (env ∷ envs) last e g, owns argument)

@@ -1,17 +1,18 @@
 -- A named field before others, the last of which are commands: together they keep to the laws of a
 -- program.
-use Rattle.std.proofs.Common.{◌≡◌, ◌≤◌, Bool, true, false, List, [], ◌∷◌, length, Some, None}
+use Rattle.std.proofs.Common.{◌≡◌, ◌≤◌, true, List, [], ◌∷◌, length, Some, None}
 use Rattle.std.proofs.Common.{Result, Ok, Err, refl, sym, ap, ◌∙◌, subst, arith, if◌then◌else◌}
-use Rattle.bpaf_base.specs.declared.arg.Arg.{Arg}
 use Rattle.bpaf_line.specs.{declared.error.Error.Error, Situation.Situation}
 use Rattle.bpaf_laws.specs.{Choice.depth, Product.BothOutcome, Product.ProductOutcome}
 use Rattle.bpaf_laws.specs.{Reading.Outcome}
-use Rattle.bpaf_exact.specs.Pieces.{Cells, Role, Foreign, Alone, WithNext, Roles, LinePiece, pieces}
-use Rattle.bpaf_exact.specs.Pieces.{Apart, is_own_role, is_value, IsNamed, TakesPiece, takes_one}
+use Rattle.bpaf_exact.specs.Pieces.{Cells, Role, Foreign, Roles, LinePiece, One, Two, pieces}
+use Rattle.bpaf_exact.specs.Pieces.{Apart, is_own_role, IsNamed, TakesPiece, takes_one}
 use Rattle.bpaf_exact.specs.Pieces.{takes_two, takes_later, TakesPieces, takes_none, takes_more}
+use Rattle.bpaf_exact.specs.Pieces.{Takes, no_cells, empty_stays, other_stays, takes_flag}
+use Rattle.bpaf_exact.specs.Pieces.{takes_argument}
 use Rattle.bpaf_exact.specs.Flat.{OfMemory, class, cells, NonePresent, IsWholeIn, ByName, FieldLaw}
-use Rattle.bpaf_exact.specs.Programs.{CellsValue, without, without_piece, without_value, FieldThen}
-use Rattle.bpaf_exact.specs.Programs.{LeavesToOthers, ProgramLaw, is_spelled}
+use Rattle.bpaf_exact.specs.Programs.{CellsValue, FieldThen}
+use Rattle.bpaf_exact.specs.Programs.{LeavesToOthers, ProgramLaw}
 use Rattle.bpaf_exact.specs.Wrappers.{ClosedValue}
 use Rattle.bpaf_exact.specs.Programs.{IsSpelledLine, AllSpelled, no_cell, empty_cell, spelled_cell}
 use Rattle.bpaf_exact.specs.{Pieces.either, Pieces.either_role, Flat.Variables, Programs.GivesAll}
@@ -21,98 +22,95 @@ use Rattle.bpaf_exact.proofs.{Cells.nil_rest, Cells.nil_foreign, Cells.value_for
 use Rattle.bpaf_exact.proofs.{Cells.begin_at, Product.by_first, Product.by_rest, Product.refused_by}
 use Rattle.bpaf_exact.proofs.{Programs.cells_spelled, Records.current_cells}
 
--- What is left without the own pieces.
+-- What is taken, and what is left.
 
--- an item taken away by its role
-role_piece : {x y : Role} (k : Arg) (cs : Cells) → x ≡ y
-    → without_piece x k cs ≡ without_piece y k cs
-role_piece k cs e = ap (λ z. without_piece z k cs) e
+-- the pieces taken and what is left are told by the cells
+pub one_take : {q : Roles} {cs ds es : Cells} {os ps : List LinePiece} → Takes q cs os ds
+    → Takes q cs ps es → (os ≡ ps) × (ds ≡ es)
+one_take no_cells no_cells = (refl, refl)
+one_take (empty_stays t) (empty_stays u) =
+    let i = one_take t u in (i.0, ap (λ z. None ∷ z) i.1)
+one_take (other_stays {k = k} e t) (other_stays f u) =
+    let i = one_take t u in (i.0, ap (λ z. Some k ∷ z) i.1)
+one_take (takes_flag {k = k} e t) (takes_flag f u) =
+    let i = one_take t u in (ap (λ z. One k ∷ z) i.0, ap (λ z. None ∷ z) i.1)
+one_take (takes_argument {k = k} {w = w} e v t) (takes_argument f y u) =
+    let i = one_take t u in (ap (λ z. Two k w ∷ z) i.0, ap (λ z. None ∷ (None ∷ z)) i.1)
+one_take (other_stays e t) (takes_flag f u) = absurd cc
+one_take (other_stays e t) (takes_argument f y u) = absurd cc
+one_take (takes_flag e t) (other_stays f u) = absurd cc
+one_take (takes_flag e t) (takes_argument f y u) = absurd cc
+one_take (takes_argument e v t) (other_stays f u) = absurd cc
+one_take (takes_argument e v t) (takes_flag f u) = absurd cc
 
--- where there is no own piece all is left
-without_none : (q : Roles) (cs : Cells) → pieces q cs ≡ [] → without q cs ≡ cs
-without_none q [] e = refl
-without_none q (None ∷ cs) e = ap (λ z. None ∷ z) (without_none q cs e)
-without_none q (Some k ∷ cs) e =
-    role_piece k (without q cs) (nil_foreign (q k) k cs (pieces q cs) e)
-    ∙ ap (λ z. Some k ∷ z) (without_none q cs (nil_rest (q k) k cs (pieces q cs) e))
+-- those taken are all own pieces
+taken_pieces : (q : Roles) {cs ds : Cells} {os : List LinePiece} → IsNamed q → Takes q cs os ds
+    → os ≡ pieces q cs
+taken_pieces q n no_cells = refl
+taken_pieces q n (empty_stays t) = taken_pieces q n t
+taken_pieces q n (other_stays {k = k} {cs = cs} e t) =
+    taken_pieces q n t ∙ sym (begin_at k cs (pieces q cs) e)
+taken_pieces q n (takes_flag {k = k} {cs = cs} e t) =
+    ap (λ z. One k ∷ z) (taken_pieces q n t) ∙ sym (begin_at k cs (pieces q cs) e)
+taken_pieces q n (takes_argument {k = k} {w = w} {cs = cs} e v t) =
+    ap (λ z. Two k w ∷ z) (taken_pieces q n t)
+    ∙ sym (begin_at k (Some w ∷ cs) (pieces q (Some w ∷ cs)) e
+    ∙ ap (λ b. (if b then Two k w else One k) ∷ pieces q (Some w ∷ cs)) v
+    ∙ ap (λ z. Two k w ∷ z) (begin_at w cs (pieces q cs) (value_foreign q w n v)))
 
--- a value taken away
-value_gone : (w : Arg) (cs : Cells) → is_value w ≡ true → without_value (Some w ∷ cs) ≡ None ∷ cs
-value_gone w cs v = ap (λ b. (if b then None else Some w) ∷ cs) v
+-- where there is no own piece none is taken
+take_none : (q : Roles) (cs : Cells) → pieces q cs ≡ [] → Takes q cs [] cs
+take_none q [] e = no_cells
+take_none q (None ∷ cs) e = empty_stays (take_none q cs e)
+take_none q (Some k ∷ cs) e =
+    other_stays (nil_foreign (q k) k cs (pieces q cs) e)
+    (take_none q cs (nil_rest (q k) k cs (pieces q cs) e))
 
--- taking one of the own pieces leaves the same without them
-without_taken : (q : Roles) {cs ds : Cells} {o : LinePiece} → IsNamed q → TakesPiece q cs o ds
-    → without q ds ≡ without q cs
-without_taken q n (takes_one {k = k} {cs = cs} e) = sym (role_piece k (without q cs) e)
-without_taken q n (takes_two {k = k} {w = w} {cs = cs} e v) =
-    sym (role_piece k (without q (Some w ∷ cs)) e
-    ∙ ap (λ z. None ∷ without_value z) (role_piece w (without q cs) (value_foreign q w n v))
-    ∙ ap (λ z. None ∷ z) (value_gone w (without q cs) v))
-without_taken q n (takes_later {c = None} t) = ap (λ z. None ∷ z) (without_taken q n t)
-without_taken q n (takes_later {c = Some k} t) = ap (without_piece (q k) k) (without_taken q n t)
+-- with one piece more that was taken
+take_more : (q : Roles) {cs ds es : Cells} {o : LinePiece} {os : List LinePiece}
+    → TakesPiece q cs o ds → Takes q ds os es → (ps : List LinePiece) × Takes q cs ps es
+take_more q (takes_one {k = k} e) (empty_stays {os = os} t) = (One k ∷ os, takes_flag e t)
+take_more q (takes_two {k = k} {w = w} e v) (empty_stays (empty_stays {os = os} t)) =
+    (Two k w ∷ os, takes_argument e v t)
+take_more q (takes_later t) (empty_stays u) =
+    let i = take_more q t u in (i.0, empty_stays i.1)
+take_more q (takes_later t) (other_stays e u) =
+    let i = take_more q t u in (i.0, other_stays e i.1)
+take_more q (takes_later t) (takes_flag {k = k} e u) =
+    let i = take_more q t u in (One k ∷ i.0, takes_flag e i.1)
+take_more q (takes_later (takes_later t)) (takes_argument {k = k} {w = w} e v u) =
+    let i = take_more q t u in (Two k w ∷ i.0, takes_argument e v i.1)
 
--- so does taking some
-without_some : (q : Roles) {cs ds : Cells} → IsNamed q → TakesPieces q cs ds
-    → without q ds ≡ without q cs
-without_some q n takes_none = refl
-without_some q n (takes_more t more) = without_some q n more ∙ without_taken q n t
-
--- where all are taken that is what is left
-all_taken : (q : Roles) {cs ds : Cells} → IsNamed q → TakesPieces q cs ds → pieces q ds ≡ []
-    → ds ≡ without q cs
-all_taken q {ds = ds} n t e = sym (without_none q ds e) ∙ without_some q n t
-
--- a value is no other field's own
-foreign_value : (p : Roles) (cs : Cells) → IsNamed p → pieces p (without_value cs) ≡ []
-    → pieces p cs ≡ []
-foreign_value p [] n e = e
-foreign_value p (None ∷ cs) n e = e
-foreign_value p (Some w ∷ cs) n e = by_test (is_value w) refl e
-  where
-    by_test : (b : Bool) → is_value w ≡ b
-        → pieces p ((if b then None else Some w) ∷ cs) ≡ [] → pieces p (Some w ∷ cs) ≡ []
-    by_test true v h = begin_at w cs (pieces p cs) (value_foreign p w n v) ∙ h
-    by_test false v h = h
+-- where some were taken, and no own piece is left, all were
+all_taken : (q : Roles) {cs ds : Cells} → TakesPieces q cs ds → pieces q ds ≡ []
+    → (os : List LinePiece) × Takes q cs os ds
+all_taken q {ds = ds} takes_none e = ([], take_none q ds e)
+all_taken q (takes_more t more) e = take_more q t (all_taken q more e).1
 
 -- where another field has none of its own on what is left, it has none at all
-foreign_without : (p q : Roles) (cs : Cells) → IsNamed p → Apart p q → pieces p (without q cs) ≡ []
-    → pieces p cs ≡ []
-foreign_without p q [] n a e = e
-foreign_without p q (None ∷ cs) n a e = foreign_without p q cs n a e
-foreign_without p q (Some k ∷ cs) n a e = by_role (q k) refl e (λ h. foreign_without p q cs n a h)
-  where
-    by_role : (x : Role) → q k ≡ x → pieces p (without_piece x k (without q cs)) ≡ []
-        → (pieces p (without q cs) ≡ [] → pieces p cs ≡ []) → pieces p (Some k ∷ cs) ≡ []
-    by_role Foreign r h more =
-        let ds = without q cs in
-        begin_at k cs (pieces p cs) (nil_foreign (p k) k ds (pieces p ds) h)
-        ∙ more (nil_rest (p k) k ds (pieces p ds) h)
-    by_role Alone r h more = begin_at k cs (pieces p cs) (a.right k (ap is_own_role r)) ∙ more h
-    by_role WithNext r h more =
-        begin_at k cs (pieces p cs) (a.right k (ap is_own_role r))
-        ∙ more (foreign_value p (without q cs) n h)
+foreign_before : (p q : Roles) {cs ds : Cells} {os : List LinePiece} → IsNamed p → Apart p q
+    → Takes q cs os ds → pieces p ds ≡ [] → pieces p cs ≡ []
+foreign_before p q n a no_cells e = e
+foreign_before p q n a (empty_stays t) e = foreign_before p q n a t e
+foreign_before p q n a (other_stays {k = k} {cs = cs} {ds = ds} f t) e =
+    begin_at k cs (pieces p cs) (nil_foreign (p k) k ds (pieces p ds) e)
+    ∙ foreign_before p q n a t (nil_rest (p k) k ds (pieces p ds) e)
+foreign_before p q n a (takes_flag {k = k} {cs = cs} f t) e =
+    begin_at k cs (pieces p cs) (a.right k (ap is_own_role f)) ∙ foreign_before p q n a t e
+foreign_before p q n a (takes_argument {k = k} {w = w} {cs = cs} f v t) e =
+    begin_at k (Some w ∷ cs) (pieces p (Some w ∷ cs)) (a.right k (ap is_own_role f))
+    ∙ begin_at w cs (pieces p cs) (value_foreign p w n v)
+    ∙ foreign_before p q n a t e
 
 -- what is left is spelled
-without_spelled : (q : Roles) {cs : Cells} → AllSpelled cs → AllSpelled (without q cs)
-without_spelled q no_cell = no_cell
-without_spelled q (empty_cell a) = empty_cell (without_spelled q a)
-without_spelled q (spelled_cell {k = k} s a) = by_role (q k) k s (without_spelled q a)
-  where
-    by_value : (w : Arg) (b : Bool) → is_spelled w ≡ true → {ds : Cells} → AllSpelled ds
-        → AllSpelled ((if b then None else Some w) ∷ ds)
-    by_value w true s a = empty_cell a
-    by_value w false s a = spelled_cell s a
-
-    no_value : {ds : Cells} → AllSpelled ds → AllSpelled (without_value ds)
-    no_value no_cell = no_cell
-    no_value (empty_cell a) = empty_cell a
-    no_value (spelled_cell {k = w} s a) = by_value w (is_value w) s a
-
-    by_role : (x : Role) (k : Arg) → is_spelled k ≡ true → {ds : Cells} → AllSpelled ds
-        → AllSpelled (without_piece x k ds)
-    by_role Foreign k s a = spelled_cell s a
-    by_role Alone k s a = empty_cell a
-    by_role WithNext k s a = empty_cell (no_value a)
+left_spelled : {q : Roles} {cs ds : Cells} {os : List LinePiece} → Takes q cs os ds
+    → AllSpelled cs → AllSpelled ds
+left_spelled no_cells no_cell = no_cell
+left_spelled (empty_stays t) (empty_cell a) = empty_cell (left_spelled t a)
+left_spelled (other_stays e t) (spelled_cell s a) = spelled_cell s (left_spelled t a)
+left_spelled (takes_flag e t) (spelled_cell s a) = empty_cell (left_spelled t a)
+left_spelled (takes_argument e v t) (spelled_cell s (spelled_cell r a)) =
+    empty_cell (empty_cell (left_spelled t a))
 
 -- what is apart from two is apart from each
 pub apart_first : (p q r : Roles) → Apart p (either q r) → Apart p q
@@ -154,8 +152,8 @@ module _ {env : Variables} (A B : Type 0) (first : Outcome A) (rest : Outcome B)
   -- neither has an item of another field
   both_others : LeavesToOthers (either q r) value
   both_others p n a cs v s h =
-      foreign_without p q cs n (apart_first p q r a)
-      (lr.others p n (apart_second p q r a) (without q cs) v.1 (without_spelled q s) h.left)
+      foreign_before p q n (apart_first p q r a) h.taken
+      (lr.others p n (apart_second p q r a) h.left_cells v.1 (left_spelled h.taken s) h.left)
 
   -- the path gets no shorter
   both_deep : (s t : Situation) (v : A × B) → IsWholeIn env s → BothOutcome first rest s (Ok v) t
@@ -179,20 +177,28 @@ module _ {env : Variables} (A B : Type 0) (first : Outcome A) (rest : Outcome B)
       in
       let none = lr.others q lf.own apart (cells h.middle) v.1 (cells_spelled h.middle still) after
       in
+      let all = all_taken q i.takes none in
       record {
-        own = i.read none;
-        left = subst (λ cs. rv cs v.1) (all_taken q lf.own i.takes none) after;
+        own_pieces = all.0;
+        left_cells = cells h.middle;
+        taken = all.1;
+        own = subst (λ os. fv os v.0) (sym (taken_pieces q lf.own all.1)) (i.read none);
+        left = after;
       }
 
-  -- where both have a value, the others answer one on what the field left, or want of memory
+  -- where both have a value, the first has it on all its own pieces
+  own_value : (cs : Cells) (u : A × B) → value cs u → fv (pieces q cs) u.0
+  own_value cs u h = subst (λ os. fv os u.0) (taken_pieces q lf.own h.taken) h.own
+
+  -- and the others answer one on what the field left, or want of memory
   rest_gives : (s m t : Situation) (x : A) (y : Result B Error) (u : A × B) → IsWholeIn env s
-      → first s (Ok x) m → rest m y t → value (cells s) u
-      → fv (pieces q (cells s)) x × GivesAll (rv (without q (cells s))) y t
+      → first s (Ok x) m → rest m y t → (h : value (cells s) u)
+      → fv h.own_pieces x × GivesAll (rv h.left_cells) y t
   rest_gives s m t x y u w f g h =
       let i = lf.ok s m x w f in
-      let none = lf.takes_all s m x u.0 w f h.own in
-      let e = all_taken q lf.own i.takes none in (
-        i.read none,
+      let none = lf.takes_all s m x u.0 w f (own_value (cells s) u h) in
+      let e = (one_take (all_taken q i.takes none).1 h.taken).1 in (
+        subst (λ os. fv os x) (sym (taken_pieces q lf.own h.taken)) (i.read none),
         subst (λ cs. GivesAll (rv cs) y t) e
             (lr.answers m t y u.1 (none_outside_after s m w i.steady) g
             (subst (λ cs. rv cs u.1) (sym e) h.left)),
@@ -203,13 +209,22 @@ module _ {env : Variables} (A B : Type 0) (first : Outcome A) (rest : Outcome B)
       → BothOutcome first rest s a t → value (cells s) u → GivesAll (value (cells s)) a t
   both_answers s t (Ok v) u w o h =
       let i = values_of_both A B first rest s t v o in
-      let j = rest_gives s i.middle t v.0 (Ok v.1) u w i.first_ran i.rest_ran h in
-      (record { own = j.0; left = j.1.0 }, j.1.1)
+      let j = rest_gives s i.middle t v.0 (Ok v.1) u w i.first_ran i.rest_ran h in (
+        record {
+          own_pieces = h.own_pieces;
+          left_cells = h.left_cells;
+          taken = h.taken;
+          own = j.0;
+          left = j.1.0;
+        },
+        j.1.1,
+      )
   both_answers s t (Err e) u w o h = by_side (refused_by A B first rest s t e o)
     where
       by_side : RefusedBy A B first rest s e t → class e ≡ OfMemory
       by_side (for_memory m) = m
-      by_side (by_first {d = d} {m = m} f spared) = absurd (spared (lf.refuses s m d u.0 w f h.own))
+      by_side (by_first {d = d} {m = m} f spared) =
+          absurd (spared (lf.refuses s m d u.0 w f (own_value (cells s) u h)))
       by_side (by_rest {v = v} {m = m} f g) = (rest_gives s m t v (Err e) u w f g h).1
 
   -- the laws

@@ -1,6 +1,6 @@
 -- What taking pieces does to the other pieces and to the cut.
 use Rattle.std.proofs.Common.{◌≡◌, true, false, List, [], ◌∷◌, Some, None, refl, sym, ap, ◌∙◌}
-use Rattle.std.proofs.Common.{if◌then◌else◌}
+use Rattle.std.proofs.Common.{if◌then◌else◌, not}
 use Rattle.bpaf_base.specs.declared.arg.Arg.{Arg}
 use Rattle.bpaf_base.specs.declared.arg.Arg.TheVariants.{Short, Long, ArgWord, Word}
 use Rattle.bpaf_base.specs.Items.{is_positional}
@@ -147,17 +147,17 @@ either_own _ y z e h = e
 -- a piece of the field's own isn't one of others
 pub others_own : (q : Roles) (o : LinePiece) (os : List LinePiece) → is_own q o ≡ true
     → others q (o ∷ os) ≡ others q os
-others_own q o os h = ap (λ b. if b then others q os else (o ∷ others q os)) h
+others_own q o os h = ap (λ b. if not b then (o ∷ others q os) else others q os) h
 
 -- a piece of others is
 pub others_foreign : (q : Roles) (o : LinePiece) (os : List LinePiece) → is_own q o ≡ false
     → others q (o ∷ os) ≡ o ∷ others q os
-others_foreign q o os h = ap (λ b. if b then others q os else (o ∷ others q os)) h
+others_foreign q o os h = ap (λ b. if not b then (o ∷ others q os) else others q os) h
 
 -- with one piece more the others are alike where they were
 others_cong : (q : Roles) (o : LinePiece) (os ps : List LinePiece) → others q os ≡ others q ps
     → others q (o ∷ os) ≡ others q (o ∷ ps)
-others_cong q o os ps e = ap (λ z. if is_own q o then z else (o ∷ z)) e
+others_cong q o os ps e = ap (λ z. if not (is_own q o) then (o ∷ z) else z) e
 
 -- a cut with the same pieces of others
 pub record CutAlike (q r : Roles) (cs : Cells) (os : List LinePiece) : Type 0 where

@@ -20,7 +20,8 @@ use Rattle.bpaf_exact.specs.Flat.{OfMemory, OfMissing, Refused, class, cells, fi
 use Rattle.bpaf_exact.specs.Alternative.{TakesFirst, HasBad, AlternativeOk, AlternativeErr}
 use Rattle.bpaf_exact.specs.Alternative.{alternative_memory, alternative_missing}
 use Rattle.bpaf_exact.specs.Alternative.{alternative_refused, AlternativeLaw, either_value}
-use Rattle.bpaf_exact.specs.{Flat.IsWholeIn, Flat.Steady, Flat.Variables, Alternative.pick_type}
+use Rattle.bpaf_exact.specs.{Flat.IsWholeIn, Flat.Steady, Flat.Variables}
+use Rattle.std.specs.Prelude.{MatchBool}
 use Rattle.bpaf_exact.proofs.First.{Union, swap_union, either_union, union_named, takes_left}
 use Rattle.bpaf_exact.proofs.First.{bad_given_back, bad_left, HeadOf, owner, first_mine}
 use Rattle.bpaf_exact.proofs.First.{first_alone, both_nil, TookLeft, left_here, left_later}
@@ -235,11 +236,11 @@ module _ {env : Variables} (T : Type 0) (a b : Outcome T) (qa qb : Roles)
 
   -- a piece of the first means what it means to the first
   pick_first : (o : LinePiece) (v : T) → is_own qa o ≡ true → vr o v ≡ va o v
-  pick_first o v h = ap (λ z. pick_type z (va o v) (vb o v)) h
+  pick_first o v h = ap (λ z. MatchBool z (va o v) (vb o v)) h
 
   -- one of the second what it means to the second
   pick_second : (o : LinePiece) (v : T) → is_own qb o ≡ true → vr o v ≡ vb o v
-  pick_second o v h = ap (λ z. pick_type z (va o v) (vb o v)) (own_role o h)
+  pick_second o v h = ap (λ z. MatchBool z (va o v) (vb o v)) (own_role o h)
 
   -- from the first to the choice
   give_first : (o : LinePiece) (v : T) → is_own qa o ≡ true → va o v → vr o v

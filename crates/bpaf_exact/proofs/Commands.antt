@@ -18,8 +18,8 @@ use Rattle.bpaf_exact.specs.Record.{run_leftover, run_memory, run_refusal, IsAcc
 use Rattle.bpaf_exact.specs.Wrappers.{Closure, AgreesOn, ClosedEval, closed_yes, closed_no}
 use Rattle.bpaf_exact.specs.Wrappers.{closed_memory, closed_err, OptionalEval, optional_some}
 use Rattle.bpaf_exact.specs.Programs.{CellsValue, Opens, opens_here, opens_later, OpensNone}
-use Rattle.bpaf_exact.specs.Programs.{ChoiceValue, first_value, second_value, OptionalCommands}
-use Rattle.bpaf_exact.specs.Programs.{some_command, no_command, ProgramLaw}
+use Rattle.bpaf_exact.specs.Programs.{ChoiceValue, OptionalCommands}
+use Rattle.bpaf_exact.specs.Programs.{ProgramLaw}
 use Rattle.bpaf_exact.specs.Wrappers.{ClosedValue}
 use Rattle.bpaf_exact.specs.Programs.{CommandsLaw, FindsNoCommand, WordsApart, IsSpelledLine}
 use Rattle.bpaf_exact.specs.Wrappers.{optional_none, optional_err, optional_memory}
@@ -118,8 +118,8 @@ module _ {env : Variables} (T : Type 0) (inner : Outcome T) (r : Roles) (words :
   optional_ok : (s t : Situation) (v : Option T) → IsWholeIn env s → IsSpelledLine s.context
       → OptionalEval T inner s (Ok v) t → NonePresent (cells t) → optional (cells s) v
   optional_ok s t v w spelled (optional_some {v = x} i) n =
-      some_command (l.program.ok s t x w spelled i n)
-  optional_ok s t v w spelled (optional_none i stops) n = no_command n
+      l.program.ok s t x w spelled i n
+  optional_ok s t v w spelled (optional_none i stops) n = n
 
   -- want of memory stops nothing
   memory_goes_on : (e : Error) (s m : Situation) → class e ≡ OfMemory → Stops e s m → ⊥
@@ -130,8 +130,7 @@ module _ {env : Variables} (T : Type 0) (inner : Outcome T) (r : Roles) (words :
   some_answers : (s t : Situation) (a : Result (Option T) Error) (x : T) → IsWholeIn env s
       → OptionalEval T inner s a t → value (cells s) x → GivesAll (optional (cells s)) a t
   some_answers s t a x w (optional_some {v = v} i) h =
-      let g = l.program.answers s t (Ok v) x w i h in
-      (some_command g.0, g.1)
+      l.program.answers s t (Ok v) x w i h
   some_answers s t a x w (optional_none {e = e} {m = m} i stops) h =
       absurd (memory_goes_on e s m (l.program.answers s m (Err e) x w i h) stops)
   some_answers s t a x w (optional_err {e = e} i goes) h = l.program.answers s t (Err e) x w i h
@@ -151,7 +150,7 @@ module _ {env : Variables} (T : Type 0) (inner : Outcome T) (r : Roles) (words :
       → OptionalEval T inner s a t → NonePresent (cells s) → GivesAll (optional (cells s)) a t
   none_answers s t a w (optional_some {v = v} i) n =
       absurd (l.none s t (Ok v) w i (none_opens words n))
-  none_answers s t a w (optional_none i stops) n = (no_command n, n)
+  none_answers s t a w (optional_none i stops) n = (n, n)
   none_answers s t a w (optional_err {e = e} i goes) n =
       none_stops s t e (l.none s t (Err e) w i (none_opens words n)) goes
   none_answers s t a w (optional_memory e) n = e
@@ -160,22 +159,22 @@ module _ {env : Variables} (T : Type 0) (inner : Outcome T) (r : Roles) (words :
   optional_answers : (s t : Situation) (a : Result (Option T) Error) (u : Option T)
       → IsWholeIn env s
       → OptionalEval T inner s a t → optional (cells s) u → GivesAll (optional (cells s)) a t
-  optional_answers s t a u w o (some_command {v = x} h) = some_answers s t a x w o h
-  optional_answers s t a u w o (no_command n) = none_answers s t a w o n
+  optional_answers s t a (Some x) w o h = some_answers s t a x w o h
+  optional_answers s t a None w o n = none_answers s t a w o n
 
   -- the laws
   pub optional_commands : ProgramLaw env (Option T) (OptionalEval T inner) r optional
   optional_commands = record {
-    others = λ q n a cs v s h. by_value q (λ x g. l.program.others q n a cs x s g) h;
+    others = λ q n a cs v s h. by_value q v (λ x g. l.program.others q n a cs x s g) h;
     deep = optional_deep;
     ok = optional_ok;
     answers = optional_answers;
   }
     where
-      by_value : (q : Roles) → {cs : Cells} {v : Option T}
+      by_value : (q : Roles) {cs : Cells} (v : Option T)
           → ((x : T) → value cs x → pieces q cs ≡ []) → optional cs v → pieces q cs ≡ []
-      by_value q f (some_command {v = x} h) = f x h
-      by_value q f (no_command n) = none_own q n
+      by_value q (Some x) f h = f x h
+      by_value q None f n = none_own q n
 
 -- A choice of commands.
 
@@ -302,9 +301,9 @@ module _ {env : Variables} (T : Type 0) (a b : Outcome T) (ra rb : Roles) (wa wb
     where
       by_branch : BranchOk s v t → value (cells s) v
       by_branch (of_first {m = m} i e) =
-          first_value (la.program.ok s m v w spelled i (subst NonePresent e.cells_alike n))
+          inl (la.program.ok s m v w spelled i (subst NonePresent e.cells_alike n))
       by_branch (of_second {m = m} i e) =
-          second_value (lb.program.ok s m v w spelled i (subst NonePresent e.cells_alike n))
+          inr (lb.program.ok s m v w spelled i (subst NonePresent e.cells_alike n))
 
   -- what opens the first doesn't open the second
   second_closed : (cs : Cells) (u : T) → va cs u → OpensNone wb cs
@@ -317,16 +316,16 @@ module _ {env : Variables} (T : Type 0) (a b : Outcome T) (ra rb : Roles) (wa wb
   -- where either has a value each value of the choice is one of its
   choice_gives : (s t : Situation) (v u : T) → IsWholeIn env s → BranchOk s v t
       → value (cells s) u → GivesAll (value (cells s)) (Ok v) t
-  choice_gives s t v u w (of_first {m = m} i e) (first_value h) =
+  choice_gives s t v u w (of_first {m = m} i e) (inl h) =
       let g = la.program.answers s m (Ok v) u w i h in
-      (first_value g.0, subst NonePresent (sym e.cells_alike) g.1)
-  choice_gives s t v u w (of_second {m = m} i e) (first_value h) =
+      (inl g.0, subst NonePresent (sym e.cells_alike) g.1)
+  choice_gives s t v u w (of_second {m = m} i e) (inl h) =
       absurd (lb.none s m (Ok v) w i (second_closed (cells s) u h))
-  choice_gives s t v u w (of_first {m = m} i e) (second_value h) =
+  choice_gives s t v u w (of_first {m = m} i e) (inr h) =
       absurd (la.none s m (Ok v) w i (first_closed (cells s) u h))
-  choice_gives s t v u w (of_second {m = m} i e) (second_value h) =
+  choice_gives s t v u w (of_second {m = m} i e) (inr h) =
       let g = lb.program.answers s m (Ok v) u w i h in
-      (second_value g.0, subst NonePresent (sym e.cells_alike) g.1)
+      (inr g.0, subst NonePresent (sym e.cells_alike) g.1)
 
   -- a branch that found no command, of whose answer something else than want of memory is known
   abbrev Passed : Situation → Error → Situation → Type 0
@@ -391,10 +390,10 @@ module _ {env : Variables} (T : Type 0) (a b : Outcome T) (ra rb : Roles) (wa wb
       → ChoiceOutcome a b s r t → value (cells s) u → GivesAll (value (cells s)) r t
   choice_answers s t (Ok v) u w o h = choice_gives s t v u w (branch_ok s t v o) h
   choice_answers s t (Err e) u w (inr o) h = memory_class e.0 o.0
-  choice_answers s t (Err e) u w (inl o) (first_value h) =
+  choice_answers s t (Err e) u w (inl o) (inl h) =
       absurd (first_fails s o.sa o.sb t o.a o.b e u w o.first_ran o.second_ran o.first_spared
       o.second_spared o.chosen h)
-  choice_answers s t (Err e) u w (inl o) (second_value h) =
+  choice_answers s t (Err e) u w (inl o) (inr h) =
       absurd (second_fails s o.sa o.sb t o.a o.b e u w o.first_ran o.second_ran o.first_spared
       o.second_spared o.chosen h)
 
@@ -462,13 +461,13 @@ module _ {env : Variables} (T : Type 0) (a b : Outcome T) (ra rb : Roles) (wa wb
     where
       by_others : (q : Roles) {cs : Cells} {v : T} → ((u : T) → va cs u → pieces q cs ≡ [])
           → ((u : T) → vb cs u → pieces q cs ≡ []) → value cs v → pieces q cs ≡ []
-      by_others q {v = v} f g (first_value h) = f v h
-      by_others q {v = v} f g (second_value h) = g v h
+      by_others q {v = v} f g (inl h) = f v h
+      by_others q {v = v} f g (inr h) = g v h
 
       by_opened : {cs : Cells} {v : T} → value cs v → (ds : Cells) × Opens (wa ++ wb) cs ds
-      by_opened {cs = cs} {v = v} (first_value h) =
+      by_opened {cs = cs} {v = v} (inl h) =
           let o = la.opened cs v h in (o.0, opens_left wa wb o.1)
-      by_opened {cs = cs} {v = v} (second_value h) =
+      by_opened {cs = cs} {v = v} (inr h) =
           let o = lb.opened cs v h in (o.0, opens_right wa wb o.1)
 
 -- A run of a program.

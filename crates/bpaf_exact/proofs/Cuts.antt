@@ -1,7 +1,12 @@
--- At most one cut exists.
-use Rattle.std.proofs.Common.{◌≡◌, List, ◌∷◌, refl, ap}
-use Rattle.bpaf_exact.specs.Pieces.{Cells, Roles, LinePiece, One, Two, IsNamed, Cut, at_end, passed}
-use Rattle.bpaf_exact.specs.Pieces.{flag, argument, word}
+-- At most one cut exists; and a value is read off one.
+use Rattle.std.proofs.Common.{◌≡◌, Bool, true, false, List, [], ◌∷◌, Some, None, refl, ap, ◌∙◌}
+use Rattle.std.proofs.Common.{if◌then◌else◌}
+use Rattle.bpaf_base.specs.Items.{is_positional}
+use Rattle.bpaf_exact.specs.Flat.{NonePresent, no_place, none_here, ReadOff}
+use Rattle.bpaf_exact.specs.Pieces.{Cells, Role, Foreign, Alone, WithNext, Roles, LinePiece, One}
+use Rattle.bpaf_exact.specs.Pieces.{Two, IsNamed, Cut, at_end, passed, flag, argument, word, either}
+use Rattle.bpaf_exact.specs.Pieces.{word_roles, is_own_role, Takes, no_cells, empty_stays, other_stays}
+use Rattle.bpaf_exact.specs.Pieces.{takes_flag, takes_argument}
 use Rattle.bpaf_exact.proofs.Cells.{word_foreign}
 
 -- two cuts of the same cells are one
@@ -19,3 +24,71 @@ one_cut r cs os ps n (argument {k = k} e v c) (word h d) = let f = word_foreign 
 one_cut r cs os ps n (word {w = k} h c) (flag e d) = let f = word_foreign r k n h in cc
 one_cut r cs os ps n (word {w = k} h c) (argument e v d) = let f = word_foreign r k n h in cc
 one_cut r cs os ps n (word {w = w} h c) (word g d) = ap (λ z. One w ∷ z) (one_cut r _ _ _ n c d)
+
+-- where nothing is left, the pieces taken are those of a cut
+cut_of : (r : Roles) {cs ds : Cells} {os : List LinePiece} → Takes (either r word_roles) cs os ds
+    → NonePresent ds → Cut r cs os
+cut_of r no_cells no_place = at_end
+cut_of r (empty_stays t) (none_here n) = passed (cut_of r t n)
+cut_of r (other_stays e t) none = elim none [ ]
+cut_of r (takes_flag {k = k} {cs = cs} {os = os} e t) (none_here n) =
+    by_role (r k) (is_positional k) refl refl e (cut_of r t n)
+  where
+    by_role : (x : Role) (b : Bool) → r k ≡ x → is_positional k ≡ b
+        → (if is_own_role x then x else if b then Alone else Foreign) ≡ Alone → Cut r cs os
+        → Cut r (Some k ∷ cs) (One k ∷ os)
+    by_role Foreign true f h e c = word h c
+    by_role Foreign false f h e c = absurd cc
+    by_role Alone b f h e c = flag f c
+    by_role WithNext b f h e c = absurd cc
+cut_of r (takes_argument {k = k} {w = w} e v t) (none_here (none_here n)) =
+    argument (by_role (r k) (is_positional k) e) v (cut_of r t n)
+  where
+    by_role : (x : Role) (b : Bool)
+        → (if is_own_role x then x else if b then Alone else Foreign) ≡ WithNext → x ≡ WithNext
+    by_role Foreign true e = absurd cc
+    by_role Foreign false e = absurd cc
+    by_role Alone b e = absurd cc
+    by_role WithNext b e = refl
+
+-- a value is read off a cut
+pub read_cut : {V : Type 0} {r : Roles} {value : List LinePiece → V → Type 0} {cs : Cells} {v : V}
+    → (h : ReadOff V r value cs v) → Cut r cs h.cut_into
+read_cut {r = r} h = cut_of r h.cut h.none_left
+
+-- the pieces of a cut are taken, and nothing is left
+taken_of : (r : Roles) → IsNamed r → {cs : Cells} {os : List LinePiece} → Cut r cs os
+    → (ds : Cells) × Takes (either r word_roles) cs os ds × NonePresent ds
+taken_of r n at_end = ([], no_cells, no_place)
+taken_of r n (passed c) =
+    let i = taken_of r n c in (None ∷ i.0, empty_stays i.1, none_here i.2)
+taken_of r n (flag {k = k} e c) =
+    let i = taken_of r n c in (
+      None ∷ i.0,
+      takes_flag (ap (λ x. if is_own_role x then x else word_roles k) e) i.1,
+      none_here i.2,
+    )
+taken_of r n (argument {k = k} e v c) =
+    let i = taken_of r n c in (
+      None ∷ (None ∷ i.0),
+      takes_argument (ap (λ x. if is_own_role x then x else word_roles k) e) v i.1,
+      none_here (none_here i.2),
+    )
+taken_of r n (word {w = w} h c) =
+    let i = taken_of r n c in (
+      None ∷ i.0,
+      takes_flag (ap (λ x. if is_own_role x then x else word_roles w) (word_foreign r w n h)
+          ∙ ap (λ b. if b then Alone else Foreign) h) i.1,
+      none_here i.2,
+    )
+
+-- what is meant by the pieces of a cut is read off
+pub read_off : {V : Type 0} (r : Roles) (value : List LinePiece → V → Type 0) {cs : Cells}
+    {os : List LinePiece} {v : V} → IsNamed r → Cut r cs os → value os v → ReadOff V r value cs v
+read_off r value {os = os} n c read = let i = taken_of r n c in record {
+  cut_into = os;
+  left_cells = i.0;
+  cut = i.1;
+  none_left = i.2;
+  read = read;
+}

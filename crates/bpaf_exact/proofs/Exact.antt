@@ -13,7 +13,7 @@ use Rattle.bpaf_exact.specs.Record.{run_leftover, run_memory, run_refusal, IsNoV
 use Rattle.bpaf_exact.specs.{Record.IsAcceptedOrWant, Record.IsExact}
 use Rattle.bpaf_exact.specs.{Pieces.Roles, Pieces.LinePiece, Pieces.Cut}
 use Rattle.bpaf_exact.proofs.{Counts.open_present, Cuts.one_cut, Places.same_cells}
-use Rattle.bpaf_exact.proofs.{Records.none_counted, Records.count_none}
+use Rattle.bpaf_exact.proofs.{Records.none_counted, Records.count_none, Cuts.read_cut}
 
 -- at the beginning each item is present, but for the marker
 open_at_first : (context : Context) (p : ℕ) → p < length context.line
@@ -98,7 +98,7 @@ module _ (V : Type 0) (outcome : Outcome V) (r : Roles) (reading : FieldsReading
       → Cut r (line_cells context) os → ¬ (reading.each os) → (v : V) → ¬ (a ≡ Accepted v)
   refused a ran os c none v h =
       let i = sound a ran v h in
-      none (subst reading.each (one_cut r _ i.cut_into os l.named i.cut c)
+      none (subst reading.each (one_cut r _ i.cut_into os l.named (read_cut i) c)
       (l.has_each i.cut_into v i.read))
 
   -- THE THEOREM: on every line each answer of a run is a value of the record, want of memory, or a

@@ -12,16 +12,18 @@ use Rattle.bpaf_laws.specs.Repeat.{is_nil}
 use Rattle.bpaf_laws.specs.Flag.{FlagOutcome, FlagFails, IsAbsentValue}
 use Rattle.bpaf_exact.specs.Single.{Groups, Gap, FrontOf, SingleOk, gave_absent, took, SingleErr}
 use Rattle.bpaf_exact.specs.Alternative.{AlternativeOk, AlternativeErr, alternative_memory}
-use Rattle.bpaf_exact.specs.Leaves.{flag_roles, FlagValue, flag_gap, flag_field, key_field}
+use Rattle.bpaf_exact.specs.Leaves.{flag_roles, FlagValue, flag_field, key_field}
+use Rattle.bpaf_exact.specs.{Leaves.value_without_key, Single.gap_of}
 use Rattle.bpaf_exact.specs.{Single.of_memory, Single.of_missing, Single.SingleLaw}
 use Rattle.bpaf_exact.specs.{Alternative.AlternativeLaw, Pieces.Alone, Pieces.Roles}
 use Rattle.bpaf_exact.specs.{Pieces.LinePiece, Pieces.One, Pieces.IsNamed, Flat.class}
 use Rattle.bpaf_exact.specs.{Flat.class_of, Flat.IsWholeIn, Flat.ByName, Flat.Variables, Names.Owns}
 use Rattle.bpaf_exact.specs.ProgramForm.{FormLaw}
+use Rattle.bpaf_exact.proofs.Alternative.{gap_empty, took_front}
 use Rattle.bpaf_exact.proofs.Matching.{match_of, ByTest, by_test, test_named, no_pieces, one_taken}
 use Rattle.bpaf_exact.proofs.Matching.{first_alternative, missing_same, absence_missing, test_owns}
 use Rattle.bpaf_exact.proofs.{Matching.absence_caught, Classes.missing_class, Product.steady_refl}
-use Rattle.bpaf_exact.proofs.{First.first_pieces, Alternative.took_front, Places.take_steady}
+use Rattle.bpaf_exact.proofs.{First.first_pieces, Places.take_steady}
 
 -- a flag
 module _ (T : Type 0) (clones : T → T → Type 0) (key : Key) (present : T) where
@@ -95,8 +97,8 @@ module _ (T : Type 0) (clones : T → T → Type 0) (present : T) where
   -- a value stands for that
   abbrev StandsForNone : Option T → Option (List ℕ) → T → Type 0
   StandsForNone absent set v =
-      ((flag_gap clones present absent set).has ≡ true)
-      × (flag_gap clones present absent set).absent v
+      let gap = gap_of clones (value_without_key present absent set) in
+      (gap.has ≡ true) × gap.absent v
 
   -- where its variable is set, the present one
   gap_set : (absent : Option T) (set : Option (List ℕ)) (v : T) → is_some set ≡ true
@@ -113,18 +115,10 @@ module _ (T : Type 0) (clones : T → T → Type 0) (present : T) where
 
   -- without either none does
   gap_none : (absent : Option T) (set : Option (List ℕ)) → is_some set ≡ false → absent ≡ None
-      → (flag_gap clones present absent set).has ≡ false
+      → is_some (value_without_key present absent set) ≡ false
   gap_none None None e f = refl
   gap_none (Some kept) None e f = absurd cc
   gap_none absent (Some text) e f = absurd cc
-
-  -- and then no value
-  gap_empty : (absent : Option T) (set : Option (List ℕ)) (v : T)
-      → (flag_gap clones present absent set).has ≡ false
-      → (flag_gap clones present absent set).absent v → ⊥
-  gap_empty None None v h a = a
-  gap_empty (Some kept) None v h a = cc
-  gap_empty absent (Some text) v h a = cc
 
 -- a flag that may be absent, where the environment has these variables
 module _ (T : Type 0) (clones : T → T → Type 0) (key : Key) (present : T) (absent : Option T)
@@ -136,7 +130,7 @@ module _ (T : Type 0) (clones : T → T → Type 0) (key : Key) (present : T) (a
   group = FrontOf T (FlagValue (clones present))
 
   abbrev gap : Gap T
-  gap = flag_gap clones present absent (first_set variables key.envs)
+  gap = gap_of clones (value_without_key present absent (first_set variables key.envs))
 
   switch_found : (s t : Situation) (v : T) → TakesFlag key.names s true t → clones present v
       → SingleOk T ByName roles group gap s v t
@@ -187,8 +181,8 @@ module _ (T : Type 0) (clones : T → T → Type 0) (key : Key) (present : T) (a
   switch_law = record {
     own = named T clones key present;
     words = tt;
-    starts = λ v rest g. let e = g.is in cc;
-    no_absent = λ v h a. gap_empty T clones present absent _ v h a;
+    starts = λ v rest g. let e = g.1 in cc;
+    no_absent = gap_empty clones _;
     ok = switch_ok;
     err = λ s t e w o. switch_err s t e e.0 refl w.environment o;
   }
@@ -203,18 +197,18 @@ flag_field_law variables T clones key present absent = by_envs key.envs absent r
     single_law : (envs : List (List ℕ)) (absent : Option T) → key.envs ≡ envs
         → SingleLaw variables T (FlagOutcome clones key present absent) ByName
         (flag_roles key.names) (FrontOf T (FlagValue (clones present)))
-        (flag_gap clones present absent (first_set variables envs))
+        (gap_of clones (value_without_key present absent (first_set variables envs)))
     single_law envs absent e = subst (λ z. SingleLaw variables T
         (FlagOutcome clones key present absent) ByName (flag_roles key.names)
         (FrontOf T (FlagValue (clones present)))
-        (flag_gap clones present absent (first_set variables z))) e
+        (gap_of clones (value_without_key present absent (first_set variables z)))) e
         (switch_law T clones key present absent variables)
 
     by_envs : (envs : List (List ℕ)) (absent : Option T) → key.envs ≡ envs
         → FormLaw variables (FlagOutcome clones key present absent) (key.names ∷ []) []
         (key_field (not (is_nil envs)) (is_nil envs && is_none absent) (flag_roles key.names)
         (FlagValue (clones present)) (FrontOf T (FlagValue (clones present)))
-        (flag_gap clones present absent (first_set variables envs)))
+        (gap_of clones (value_without_key present absent (first_set variables envs))))
     by_envs [] None e = (flag_law T clones key present e, owned T clones key present)
     by_envs [] (Some kept) e = (single_law [] (Some kept) e, owned T clones key present)
     by_envs (env ∷ envs) absent e = (single_law (env ∷ envs) absent e, owned T clones key present)

@@ -1,7 +1,12 @@
 -- What a field takes of pieces, and what it leaves.
 use Rattle.std.proofs.Common.{◌≡◌, Bool, true, false, List, [], ◌∷◌, ap, refl, if◌then◌else◌, ◌++◌}
-use Rattle.bpaf_exact.specs.Flat.{FieldKind, ByName, OneWord, EachWord, back, front, from_marker}
-use Rattle.bpaf_exact.specs.{Flat.NoKeysLeft, Flat.is_behind, Flat.up_to_marker, Pieces.Cells}
+use Rattle.std.proofs.Common.{◌&&◌, ◌∙◌, sym, subst, not, take, drop, length, append-nil}
+use Rattle.std.specs.List.{position_or_len}
+use Rattle.std.proofs.Math.Seq.{drop-append_seam}
+use Rattle.std.proofs.lemmas.List.{append_assoc, take-append-drop}
+use Rattle.std.proofs.lemmas.List.Sums.{take_while-cons}
+use Rattle.bpaf_exact.specs.Flat.{FieldKind, ByName, OneWord, EachWord, back, front}
+use Rattle.bpaf_exact.specs.{Flat.NoKeysLeft, Flat.is_behind, Pieces.Cells}
 use Rattle.bpaf_exact.specs.{Pieces.LinePiece, Pieces.Roles, Pieces.pieces, Single.repeated}
 
 -- a list that something stands in isn't empty
@@ -10,44 +15,48 @@ pub never_nil : {T : Type 0} (before : List T) (x : T) (behind : List T)
 never_nil [] x behind e = cc
 never_nil (y ∷ before) x behind e = cc
 
--- where no piece stands before the first one behind `--`, all stand from there on
-none_before : (os : List LinePiece) → up_to_marker os ≡ [] → from_marker os ≡ os
-none_before [] none = refl
-none_before (o ∷ os) none =
-    elim (is_behind o) as (λ b. (if b then [] else o ∷ up_to_marker os) ≡ []
-    → (if b then o ∷ os else from_marker os) ≡ o ∷ os)
-    [ true ↦ λ none. refl | false ↦ λ none. absurd cc ] none
+-- what stands behind the first pieces
+behind_first : (os first behind : List LinePiece) → first ++ behind ≡ os
+    → first ++ drop (length first) os ≡ os
+behind_first os first behind e =
+    subst (λ z. first ++ drop (length first) z ≡ z) e
+    (ap (λ z. first ++ z) (drop-append_seam first behind))
+
+-- what a field takes and what it leaves are all
+front_back : (k : FieldKind) (os : List LinePiece) → front k os ++ back k os ≡ os
+front_back ByName os = append-nil os
+front_back (EachWord b) os =
+    let n = position_or_len (λ o. b && is_behind o) os in
+    behind_first os (take n os) (drop n os) (take-append-drop n os)
+front_back (OneWord b) os =
+    let n = position_or_len (λ o. b && is_behind o) os in
+    let words = take n os in
+    behind_first os (take 1 words) (drop 1 words ++ drop n os)
+    (sym (append_assoc (take 1 words) (drop 1 words) (drop n os))
+    ∙ (ap (λ z. z ++ drop n os) (take-append-drop 1 words) ∙ take-append-drop n os))
 
 -- where a field takes none it leaves all
 pub back_all : (k : FieldKind) (os : List LinePiece) → front k os ≡ [] → back k os ≡ os
-back_all (EachWord true) os none = none_before os none
-back_all (OneWord stops) [] none = refl
-back_all (OneWord false) (o ∷ os) none = absurd cc
-back_all (OneWord true) (o ∷ os) none =
-    elim (is_behind o) as (λ b. (if b then [] else o ∷ []) ≡ [] → (if b then o ∷ os else os) ≡ o ∷
-    os)
-    [ true ↦ λ none. refl | false ↦ λ none. absurd cc ] none
-back_all _ os none = cc
+back_all ByName os none = sym none
+back_all _ os none = ap (λ z. drop (length z) os) none
+
+-- where a field leaves none it takes all
+pub all_front : (k : FieldKind) (os : List LinePiece) → back k os ≡ [] → front k os ≡ os
+all_front k os none =
+    sym (append-nil (front k os)) ∙ (ap (λ z. front k os ++ z) (sym none) ∙ front_back k os)
 
 -- where a field takes none, nor does a repeat of it
 pub each_nil : (k : FieldKind) (os : List LinePiece) → front k os ≡ [] → front (repeated k) os ≡ []
-each_nil (OneWord false) [] none = refl
-each_nil (OneWord true) [] none = refl
-each_nil (OneWord false) (o ∷ os) none = absurd cc
-each_nil (OneWord true) (o ∷ os) none =
-    elim (is_behind o) as (λ b. (if b then [] else o ∷ []) ≡ []
-    → (if b then [] else o ∷ up_to_marker os) ≡ [])
-    [ true ↦ λ none. refl | false ↦ λ none. absurd cc ] none
+each_nil (OneWord b) os none = no_first (front (EachWord b) os) none
+  where
+    no_first : (words : List LinePiece) → take 1 words ≡ [] → words ≡ []
+    no_first [] none = refl
+    no_first (o ∷ words) none = absurd cc
 each_nil _ os none = none
 
 -- and the other way
 pub nil_each : (k : FieldKind) (os : List LinePiece) → front (repeated k) os ≡ [] → front k os ≡ []
-nil_each (OneWord stops) [] none = refl
-nil_each (OneWord false) (o ∷ os) none = absurd cc
-nil_each (OneWord true) (o ∷ os) none =
-    elim (is_behind o) as (λ b. (if b then [] else o ∷ up_to_marker os) ≡ []
-    → (if b then [] else o ∷ []) ≡ [])
-    [ true ↦ λ none. refl | false ↦ λ none. absurd cc ] none
+nil_each (OneWord b) os none = ap (take 1) none
 nil_each _ os none = none
 
 -- where nothing but what a field leaves is left, none of a named field's keys is
@@ -56,68 +65,53 @@ pub no_keys_left : (k : FieldKind) (q : Roles) (cs : Cells) (os : List LinePiece
 no_keys_left ByName q cs os e = e
 no_keys_left _ q cs os e = tt
 
+-- what a repeat takes, by whether it stops at the first piece
+pub each_front : (b : Bool) (o : LinePiece) (os : List LinePiece)
+    → front (EachWord b) (o ∷ os)
+    ≡ (if not (b && is_behind o) then (o ∷ front (EachWord b) os) else [])
+each_front b o os = take_while-cons (λ o. not (b && is_behind o)) o os
+
 -- A first piece that a field may take: any, where it doesn't stop before one behind `--`.
-
--- it takes it
-pub front_one : (b : Bool) (o : LinePiece) (os : List LinePiece) → (b ≡ true → is_behind o ≡ false)
-    → front (OneWord b) (o ∷ os) ≡ o ∷ []
-front_one false o os clear = refl
-front_one true o os clear = ap (λ z. if z then [] else o ∷ []) (clear refl)
-
--- and leaves the others
-pub back_one : (b : Bool) (o : LinePiece) (os : List LinePiece) → (b ≡ true → is_behind o ≡ false)
-    → back (OneWord b) (o ∷ os) ≡ os
-back_one false o os clear = refl
-back_one true o os clear = ap (λ z. if z then o ∷ os else os) (clear refl)
 
 -- a repeat takes it, and what it takes of the others
 pub front_more : (b : Bool) (o : LinePiece) (os : List LinePiece) → (b ≡ true → is_behind o ≡ false)
     → front (EachWord b) (o ∷ os) ≡ o ∷ front (EachWord b) os
-front_more false o os clear = refl
-front_more true o os clear = ap (λ z. if z then [] else o ∷ up_to_marker os) (clear refl)
+front_more b o os clear =
+    each_front b o os
+    ∙ ap (λ z. if not z then (o ∷ front (EachWord b) os) else []) (goes_on b clear)
+  where
+    goes_on : (b : Bool) → (b ≡ true → is_behind o ≡ false) → b && is_behind o ≡ false
+    goes_on true clear = clear refl
+    goes_on false clear = refl
 
 -- and leaves what it leaves of those
 pub back_more : (b : Bool) (o : LinePiece) (os : List LinePiece) → (b ≡ true → is_behind o ≡ false)
     → back (EachWord b) (o ∷ os) ≡ back (EachWord b) os
-back_more false o os clear = refl
-back_more true o os clear = ap (λ z. if z then o ∷ os else from_marker os) (clear refl)
+back_more b o os clear = ap (λ z. drop (length z) (o ∷ os)) (front_more b o os clear)
+
+-- a field without one takes it
+pub front_one : (b : Bool) (o : LinePiece) (os : List LinePiece) → (b ≡ true → is_behind o ≡ false)
+    → front (OneWord b) (o ∷ os) ≡ o ∷ []
+front_one b o os clear = ap (take 1) (front_more b o os clear)
+
+-- and leaves the others
+pub back_one : (b : Bool) (o : LinePiece) (os : List LinePiece) → (b ≡ true → is_behind o ≡ false)
+    → back (OneWord b) (o ∷ os) ≡ os
+back_one b o os clear = ap (λ z. drop (length z) (o ∷ os)) (front_one b o os clear)
 
 -- what a field takes is the first piece
 pub of_front_one : (b : Bool) (os : List LinePiece) (o : LinePiece) → front (OneWord b) os ≡ o ∷ []
     → os ≡ o ∷ back (OneWord b) os
-of_front_one b [] o e = absurd cc
-of_front_one false (x ∷ os) o e = cc
-of_front_one true (x ∷ os) o e =
-    elim (is_behind x) as (λ z. (if z then [] else x ∷ []) ≡ o ∷ []
-    → x ∷ os ≡ o ∷ (if z then x ∷ os else os))
-    [ true ↦ λ e. absurd cc | false ↦ λ e. cc ] e
+of_front_one b os o e =
+    sym (front_back (OneWord b) os) ∙ ap (λ z. z ++ back (OneWord b) os) e
 
 -- what a repeat takes begins with the first piece, and goes on with what it takes of the others
 pub of_front_more : (b : Bool) (os : List LinePiece) (o : LinePiece) (rest : List LinePiece)
     → front (EachWord b) os ≡ o ∷ rest
     → (more : List LinePiece) × (os ≡ o ∷ more) × (rest ≡ front (EachWord b) more)
-of_front_more false os o rest e = (rest, e, refl)
-of_front_more true [] o rest e = absurd cc
-of_front_more true (x ∷ os) o rest e =
-    elim (is_behind x) as (λ z. (if z then [] else x ∷ up_to_marker os) ≡ o ∷ rest
-    → (more : List LinePiece) × (x ∷ os ≡ o ∷ more) × (rest ≡ up_to_marker more))
-    [ true ↦ λ e. absurd cc | false ↦ λ e. (os, cc, cc) ] e
-
--- where no piece stands from the first one behind `--` on, all stand before it
-all_before : (os : List LinePiece) → from_marker os ≡ [] → up_to_marker os ≡ os
-all_before [] none = refl
-all_before (o ∷ os) none =
-    elim (is_behind o) as (λ b. (if b then o ∷ os else from_marker os) ≡ []
-    → (if b then [] else o ∷ up_to_marker os) ≡ o ∷ os)
-    [ true ↦ λ none. absurd cc | false ↦ λ none. ap (λ z. o ∷ z) (all_before os none) ] none
-
--- where a field leaves none it takes all
-pub all_front : (k : FieldKind) (os : List LinePiece) → back k os ≡ [] → front k os ≡ os
-all_front (EachWord true) os none = all_before os none
-all_front (OneWord stops) [] none = refl
-all_front (OneWord false) (o ∷ os) none = cc
-all_front (OneWord true) (o ∷ os) none =
-    elim (is_behind o) as (λ b. (if b then o ∷ os else os) ≡ [] → (if b then [] else o ∷ []) ≡ o ∷
-    os)
-    [ true ↦ λ none. absurd cc | false ↦ λ none. cc ] none
-all_front _ os none = refl
+of_front_more b [] o rest e = absurd cc
+of_front_more b (x ∷ os) o rest e =
+    elim (b && is_behind x)
+    as (λ z. (if not z then (x ∷ front (EachWord b) os) else []) ≡ o ∷ rest
+    → (more : List LinePiece) × (x ∷ os ≡ o ∷ more) × (rest ≡ front (EachWord b) more))
+    [ true ↦ λ e. absurd cc | false ↦ λ e. (os, cc, cc) ] (sym (each_front b x os) ∙ e)

@@ -1,5 +1,5 @@
 -- some and last keep to the laws of a field.
-use Rattle.std.proofs.Common.{◌≡◌, true, false, List, [], ◌∷◌, ◌++◌, Ok, Err, refl, sym, ◌∙◌, inl}
+use Rattle.std.proofs.Common.{◌≡◌, true, false, List, [], ◌∷◌, ◌++◌, Ok, Err, refl, ◌∙◌, inl}
 use Rattle.std.proofs.Common.{inr, ap}
 use Rattle.bpaf_line.specs.{declared.error.Error.Error, Situation.Situation}
 use Rattle.bpaf_laws.specs.{Reading.Outcome, Repeat.LastOutcome, Repeat.UntilRest}
@@ -12,11 +12,7 @@ use Rattle.bpaf_exact.specs.Single.{listed, listed_and_absent, only_absent, Own,
 use Rattle.bpaf_exact.specs.{Flat.NoKeysLeft, Flat.OfMemory, Flat.class, Flat.Variables}
 use Rattle.bpaf_exact.specs.{Single.repeated, Single.RepeatOutcome, Pieces.Roles, Pieces.LinePiece}
 use Rattle.bpaf_exact.specs.{Pieces.pieces, Wrappers.AgreesOn, Gathered.some_closure}
-use Rattle.bpaf_exact.specs.{Gathered.IsLast, Gathered.LastOf}
-
--- a list with a last value isn't empty
-no_last : (T : Type 0) (vs : List T) (v : T) → IsLast T vs v → vs ≡ [] → ⊥
-no_last T vs v l e = never_nil l.before v [] (sym l.is ∙ e)
+use Rattle.bpaf_exact.specs.{Gathered.LastOf}
 
 module _ {env : Variables} (T : Type 0) (inner : Outcome T) (k : FieldKind) (q : Roles)
     (group : Groups T) (gap : Gap T) (l : SingleLaw env T inner k q group gap) where
@@ -81,7 +77,7 @@ module _ {env : Variables} (T : Type 0) (inner : Outcome T) (k : FieldKind) (q :
       record {
         steady = i.steady;
         takes = i.takes;
-        read = λ n. record { list = vs; own = i.read n; is = record { before = o.0; is = refl } };
+        read = λ n. (o.0, i.read n);
         rest = i.rest;
       }
   last_took s t v w (inr o) = absurd (again_ok s o.0 t v w o.1 o.2)
@@ -91,20 +87,20 @@ module _ {env : Variables} (T : Type 0) (inner : Outcome T) (k : FieldKind) (q :
       → LastOf T group gap (front (repeated k) (pieces q (cells s))) v → ⊥
   never_empty s m v w f h =
       let i = repeat_took T inner k q group gap l true s m [] w f in
-      no_last T h.list v h.is (empty_nothing _ h.list (empty_list _ [] refl i.list) h.own)
+      never_nil h.0 v [] (empty_nothing _ _ (empty_list _ [] refl i.list) h.1)
 
   -- so all is taken,
   last_takes : (s t : Situation) (x v : T) → IsWholeIn env s → LastOutcome inner s (Ok x) t
       → LastOf T group gap (front (repeated k) (pieces q (cells s))) v
       → NoKeysLeft (repeated k) q (cells t)
-  last_takes s t x v w (inl o) h = rl.takes_all s t (o.0 ++ x ∷ []) h.list w o.1 h.own
+  last_takes s t x v w (inl o) h = rl.takes_all s t (o.0 ++ x ∷ []) (h.0 ++ v ∷ []) w o.1 h.1
   last_takes s t x v w (inr o) h = absurd (never_empty s o.0 v w o.1 h)
 
   -- and a refusal is want of memory
   last_refuses : (s t : Situation) (e : Error) (v : T) → IsWholeIn env s
       → LastOutcome inner s (Err e) t
       → LastOf T group gap (front (repeated k) (pieces q (cells s))) v → class e ≡ OfMemory
-  last_refuses s t e v w (inl o) h = rl.refuses s t e h.list w o h.own
+  last_refuses s t e v w (inl o) h = rl.refuses s t e (h.0 ++ v ∷ []) w o h.1
   last_refuses s t e v w (inr o) h = absurd (never_empty s o.0 v w o.1 h)
 
   -- last keeps to the laws of a field

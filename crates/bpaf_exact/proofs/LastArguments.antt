@@ -1,6 +1,6 @@
 -- An argument that takes all its keys at once keeps to the laws of a field.
 use Rattle.std.proofs.Common.{◌≡◌, ℕ, true, List, [], ◌∷◌, ◌++◌, Ok, refl, sym, ap, ◌∙◌, subst}
-use Rattle.std.proofs.Common.{⊎_elim}
+use Rattle.std.proofs.Common.{⊎_elim, map}
 use Rattle.bpaf_text.specs.Named.{KeyWithValue}
 use Rattle.bpaf_base.specs.{declared.arg.Arg.Arg, Items.item_text}
 use Rattle.bpaf_line.specs.declared.error.Message.TheVariants.{Memory, NoArgument, ParseFailed}
@@ -11,14 +11,14 @@ use Rattle.bpaf_laws.specs.Argument.{TakesOwnText, TakesBefore, is_key_with_valu
 use Rattle.bpaf_laws.specs.Environment.{first_set}
 use Rattle.bpaf_exact.specs.Pieces.{Roles, LinePiece, One, Two, pieces, takes_none, takes_more}
 use Rattle.bpaf_exact.specs.Flat.{class, class_of, cells, IsWholeIn, ByName, Steady, Refused}
-use Rattle.bpaf_exact.specs.Single.{Gap, TakesAny, SingleOk, took, SingleErr, of_memory, of_piece}
-use Rattle.bpaf_exact.specs.Leaves.{argument_gap, argument_roles, HaveValues, no_more, one_more}
+use Rattle.bpaf_exact.specs.Single.{Gap, gap_of, TakesAny, SingleOk, took, SingleErr, of_memory, of_piece}
+use Rattle.bpaf_exact.specs.Leaves.{argument_roles}
 use Rattle.bpaf_exact.specs.{Flat.Variables, Single.SingleLaw, Leaves.LastGroup}
 use Rattle.bpaf_exact.proofs.ArgumentPieces.{TookPair, test, named, took_pair, no_key, nowhere}
-use Rattle.bpaf_exact.proofs.ArgumentPieces.{variable_read, variable_fault, gap_empty}
+use Rattle.bpaf_exact.proofs.ArgumentPieces.{variable_read, variable_fault}
 use Rattle.bpaf_exact.proofs.{First.first_takes, First.first_pieces, First.takes_nonempty}
 use Rattle.bpaf_exact.proofs.{Matching.match_of, Matching.bare_taken, Product.steady_trans}
-use Rattle.bpaf_exact.proofs.{Fronts.never_nil}
+use Rattle.bpaf_exact.proofs.{Fronts.never_nil, Alternative.gap_empty}
 
 -- the last element of a list is one
 pub last_same : (T : Type 0) (xs ys : List T) (v w : T) → xs ++ (v ∷ []) ≡ ys ++ (w ∷ []) → v ≡ w
@@ -29,14 +29,17 @@ last_same T (x ∷ []) [] v w e = absurd cc
 last_same T (x ∷ (z ∷ xs)) [] v w e = absurd cc
 last_same T (x ∷ xs) (y ∷ ys) v w e = last_same T xs ys v w cc
 
+-- keys, each with its value
+abbrev pairs : List (Arg × Arg) → List LinePiece
+pairs before = map (λ pair. Two pair.0 pair.1) before
+
 -- a key without a value is none of pieces that each have one
-bare_spoils : (pairs tail before : List LinePiece) (k j w : Arg) → HaveValues before
-    → pairs ++ One k ∷ tail ≡ before ++ Two j w ∷ [] → ⊥
-bare_spoils [] tail before k j w no_more e = cc
-bare_spoils [] tail before k j w (one_more h) e = cc
-bare_spoils (o ∷ pairs) tail before k j w no_more e = absurd (never_nil pairs (One k) tail cc)
-bare_spoils (o ∷ pairs) tail before k j w (one_more {os = os} h) e =
-    bare_spoils pairs tail os k j w h cc
+bare_spoils : (some tail : List LinePiece) (before : List (Arg × Arg)) (k j w : Arg)
+    → some ++ One k ∷ tail ≡ pairs before ++ Two j w ∷ [] → ⊥
+bare_spoils [] tail [] k j w e = cc
+bare_spoils [] tail (pair ∷ before) k j w e = cc
+bare_spoils (o ∷ some) tail [] k j w e = absurd (never_nil some (One k) tail cc)
+bare_spoils (o ∷ some) tail (pair ∷ before) k j w e = bare_spoils some tail before k j w cc
 
 module _ (T : Type 0) (means : List ℕ → T → Type 0) (argument : KeyWithValue)
     (all : argument.last ≡ true) (variables : Variables) where
@@ -63,12 +66,11 @@ module _ (T : Type 0) (means : List ℕ → T → Type 0) (argument : KeyWithVal
 
   -- all of them are the pieces, and this is the text of the last one
   record TookAll (s t : Situation) (text : List ℕ) : Type 0 where
-    before : List LinePiece
+    before : List (Arg × Arg)
     key : Arg
     word : Arg
     text_is : item_text word ≡ text
-    have_values : HaveValues before
-    is : pieces q (cells s) ≡ before ++ Two key word ∷ pieces q (cells t)
+    is : pieces q (cells s) ≡ pairs before ++ Two key word ∷ pieces q (cells t)
     any : TakesAny q (cells s) (cells t)
     steady : Steady s t
 
@@ -79,7 +81,6 @@ module _ (T : Type 0) (means : List ℕ → T → Type 0) (argument : KeyWithVal
     key = m.key;
     word = m.word;
     text_is = m.text_is;
-    have_values = no_more;
     is = first_pieces q (named argument) m.takes;
     any = record {
       piece = Two m.key m.word;
@@ -94,11 +95,10 @@ module _ (T : Type 0) (means : List ℕ → T → Type 0) (argument : KeyWithVal
   all_more : (s m t : Situation) (x text : List ℕ) → TookPair q s m x → TookAll m t text
       → TookAll s t text
   all_more s m t x text first rest = record {
-    before = Two first.key first.word ∷ rest.before;
+    before = (first.key, first.word) ∷ rest.before;
     key = rest.key;
     word = rest.word;
     text_is = rest.text_is;
-    have_values = one_more rest.have_values;
     is =
         first_pieces q (named argument) first.takes
         ∙ ap (λ z. Two first.key first.word ∷ z) rest.is;
@@ -137,15 +137,15 @@ module _ (T : Type 0) (means : List ℕ → T → Type 0) (argument : KeyWithVal
 
   -- the pieces of a text, up to the last one
   whole : (s t : Situation) (text : List ℕ) (got : GotAll s t text)
-      → pieces q (cells s) ≡ got.pieces_are.before
+      → pieces q (cells s) ≡ pairs got.pieces_are.before
       ++ Two got.pieces_are.key got.pieces_are.word ∷ []
   whole s t text got =
       let a = got.pieces_are in
-      a.is ∙ ap (λ z. a.before ++ Two a.key a.word ∷ z) got.none
+      a.is ∙ ap (λ z. pairs a.before ++ Two a.key a.word ∷ z) got.none
 
   -- where no key is there
   abbrev gap : Gap T
-  gap = argument_gap means (first_set variables argument.named.envs)
+  gap = gap_of means (first_set variables argument.named.envs)
 
   -- a value is that of the last piece
   last_read : (s t : Situation) (text : List ℕ) (v : T) → GotAll s t text → means text v
@@ -153,21 +153,13 @@ module _ (T : Type 0) (means : List ℕ → T → Type 0) (argument : KeyWithVal
   last_read s t text v got m =
       let a = got.pieces_are in
       let group : (rest : List LinePiece) → rest ≡ []
-      → LastGroup T means (pieces q (cells s)) v rest = (λ rest none. record {
-        before = a.before;
-        key = a.key;
-        word = a.word;
-        is = whole s t text got;
-        have_values = a.have_values;
-        meant = subst (λ z. means z v) (sym a.text_is) m;
-        none_left = none;
-      }) in
+      → LastGroup T means (pieces q (cells s)) v rest = (λ rest none. (a.before, (a.key, a.word), whole s t text got, subst (λ z. means z v) (sym a.text_is) m, none)) in
       took (record {
         steady = a.steady;
         takes = a.any;
         found = takes_nonempty q a.any.one;
         read = λ r. group (pieces q (cells t)) got.none;
-        readable = λ x rest g. (group rest g.none_left, got.none ∙ sym g.none_left);
+        readable = λ x rest g. (group rest g.4, got.none ∙ sym g.4);
       })
 
   -- or that of the variable
@@ -184,11 +176,11 @@ module _ (T : Type 0) (means : List ℕ → T → Type 0) (argument : KeyWithVal
       (v : T) (rest : List LinePiece) → LastGroup T means (pieces q (cells s)) v rest → ⊥
   fault_group s t text got nothing v rest g =
       let a = got.pieces_are in
-      let same : Two g.key g.word ≡ Two a.key a.word =
-      last_same LinePiece g.before a.before (Two g.key g.word) (Two a.key a.word)
-      (sym g.is ∙ whole s t text got) in
-      let word : g.word ≡ a.word = cc in
-      nothing v (subst (λ z. means z v) (ap item_text word ∙ a.text_is) g.meant)
+      let same : Two g.1.0 g.1.1 ≡ Two a.key a.word =
+      last_same LinePiece (pairs g.0) (pairs a.before) (Two g.1.0 g.1.1) (Two a.key a.word)
+      (sym g.2 ∙ whole s t text got) in
+      let word : g.1.1 ≡ a.word = cc in
+      nothing v (subst (λ z. means z v) (ap item_text word ∙ a.text_is) g.3)
 
   -- where a key has no value, the pieces have none
   bare_refused : (s t : Situation) (e : Error) (k : Arg) (tail : List LinePiece) → class e ≡ Refused
@@ -198,8 +190,8 @@ module _ (T : Type 0) (means : List ℕ → T → Type 0) (argument : KeyWithVal
       let there : pieces q (cells s) ≡ some.pairs ++ One k ∷ tail =
       some.is ∙ ap (λ z. some.pairs ++ z) is in
       of_piece c (λ none. never_nil some.pairs (One k) tail (sym there ∙ none))
-      (λ v rest g. bare_spoils some.pairs tail g.before k g.key g.word g.have_values
-      (sym there ∙ g.is))
+      (λ v rest g. bare_spoils some.pairs tail g.0 k g.1.0 g.1.1
+      (sym there ∙ g.2))
 
   -- a refusal: no piece, one without a value, or a last one that means none
   last_err : (s t : Situation) (e : Error) (m : Message) → class e ≡ class_of m
@@ -225,8 +217,8 @@ module _ (T : Type 0) (means : List ℕ → T → Type 0) (argument : KeyWithVal
   last_argument_law = record {
     own = named argument;
     words = tt;
-    starts = λ v rest g. never_nil g.before (Two g.key g.word) [] (sym g.is);
-    no_absent = gap_empty T means argument (LastGroup T means) variables;
+    starts = λ v rest g. never_nil (pairs g.0) (Two g.1.0 g.1.1) [] (sym g.2);
+    no_absent = gap_empty means _;
     ok = last_ok;
     err = λ s t e w o. last_err s t e e.0 refl w.environment o;
   }

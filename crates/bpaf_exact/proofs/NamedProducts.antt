@@ -1,6 +1,6 @@
 -- A product of named fields keeps to the laws of a named field, so it may stand in another product.
 use Rattle.std.proofs.Common.{◌≡◌, true, false, List, [], ◌∷◌, Some, None, Ok, Err, refl, sym, ap}
-use Rattle.std.proofs.Common.{ap₂, ◌∙◌, subst, if◌then◌else◌}
+use Rattle.std.proofs.Common.{ap₂, ◌∙◌, subst, if◌then◌else◌, not}
 use Rattle.bpaf_base.specs.declared.arg.Arg.{Arg}
 use Rattle.bpaf_line.specs.{declared.error.Error.Error, Situation.Situation}
 use Rattle.bpaf_laws.specs.{Product.BothOutcome, Product.ProductOutcome, Reading.Outcome}
@@ -9,7 +9,7 @@ use Rattle.bpaf_exact.specs.Pieces.{Alone, Apart, Cells, Foreign, LinePiece, One
 use Rattle.bpaf_exact.specs.Pieces.{TakesPieces, WithNext, begin_piece, either, is_own_role, mine}
 use Rattle.bpaf_exact.specs.Pieces.{no_roles, others, pieces, takes_more, takes_none, with_next}
 use Rattle.bpaf_exact.specs.{Flat.both_reading, Flat.cells, Flat.class, Flat.Variables}
-use Rattle.bpaf_exact.specs.{Record.LastValue, Wrappers.ClosedValue, Wrappers.map_closure}
+use Rattle.bpaf_exact.specs.{Record.last_reading, Wrappers.ClosedValue, Wrappers.map_closure}
 use Rattle.bpaf_exact.proofs.First.{Belongs, Union, belongs, both_nil, either_union, own_next}
 use Rattle.bpaf_exact.proofs.First.{swap_union, takes_left, to_first, to_none, to_second}
 use Rattle.bpaf_exact.proofs.Product.{RefusedBy, by_first, by_rest, for_memory, none_outside_after}
@@ -40,17 +40,17 @@ module _ (q : Roles) (k : Arg) (cs : Cells) (os : List LinePiece) where
   others_pass : (x : Role) → is_own_role (q k) ≡ true
       → others q (begin_piece x k cs os) ≡ others q os
   others_pass Foreign h = refl
-  others_pass Alone h = ap (λ b. if b then others q os else (One k ∷ others q os)) h
+  others_pass Alone h = ap (λ b. if not b then (One k ∷ others q os) else others q os) h
   others_pass WithNext h =
-      ap (λ b. if b then others q os else (with_next k cs ∷ others q os)) (own_next q k cs ∙ h)
+      ap (λ b. if not b then (with_next k cs ∷ others q os) else others q os) (own_next q k cs ∙ h)
 
   -- another item begins one
   others_begin : (x : Role) → is_own_role (q k) ≡ false
       → others q (begin_piece x k cs os) ≡ begin_piece x k cs (others q os)
   others_begin Foreign h = refl
-  others_begin Alone h = ap (λ b. if b then others q os else (One k ∷ others q os)) h
+  others_begin Alone h = ap (λ b. if not b then (One k ∷ others q os) else others q os) h
   others_begin WithNext h =
-      ap (λ b. if b then others q os else (with_next k cs ∷ others q os)) (own_next q k cs ∙ h)
+      ap (λ b. if not b then (with_next k cs ∷ others q os) else others q os) (own_next q k cs ∙ h)
 
 module _ (p q r : Roles) (u : Union p q r) where
   -- of the pieces of both the first one's are its own,
@@ -212,19 +212,19 @@ module _ {env : Variables} (T : Type 0) (outcome : Outcome T) (q : Roles)
 
   -- its value is that of a last field
   last_value : (cs : Cells) (v : T) → value (pieces q cs) v
-      → LastValue T ByName q value (pieces alone cs) v
-  last_value cs v h = record {
-    read = subst (λ os. value os v) (sym (mine_of_both q no_roles alone by_itself cs)) h;
-    none_left = others_of_both q no_roles alone by_itself cs ∙ none_of_nobody cs;
-  }
+      → (last_reading ByName q value).value (pieces alone cs) v
+  last_value cs v h = (
+    subst (λ os. value os v) (sym (mine_of_both q no_roles alone by_itself cs)) h,
+    others_of_both q no_roles alone by_itself cs ∙ none_of_nobody cs,
+  )
 
   -- and the other way
-  own_read : (cs : Cells) (v : T) → LastValue T ByName q value (pieces alone cs) v
+  own_read : (cs : Cells) (v : T) → (last_reading ByName q value).value (pieces alone cs) v
       → value (pieces q cs) v
-  own_read cs v h = subst (λ os. value os v) (mine_of_both q no_roles alone by_itself cs) h.read
+  own_read cs v h = subst (λ os. value os v) (mine_of_both q no_roles alone by_itself cs) h.0
 
   -- a last field keeps to the laws of a named one
-  pub named_last_law : FieldLaw env T outcome ByName alone (LastValue T ByName q value)
+  pub named_last_law : FieldLaw env T outcome ByName alone (last_reading ByName q value).value
   named_last_law = record {
     own = union_named q no_roles alone by_itself;
     ok = λ s t v w o. let i = l.ok s t v w o in record {

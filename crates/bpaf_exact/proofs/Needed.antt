@@ -27,7 +27,7 @@ argument_needs {T} {means} {last} {set} unset = record { some = by_case }
   where
     by_case : (v : T) → ¬ (ArgumentSays means last set [] v)
     by_case v (says_text k w e m) = cc
-    by_case v (says_last_text before k w all each e m) = not_empty before (Two k w) [] e
+    by_case v (says_last_text before k w all e m) = not_empty _ (Two k w) [] e
     by_case v (says_variable_text text none is m) = cc
 
 -- a required flag's then,

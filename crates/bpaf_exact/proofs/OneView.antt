@@ -1,7 +1,7 @@
 -- Where closures can't tell apart what looks alike, the premise of exactness holds, and all values
 -- of a line look alike.
 use Rattle.std.proofs.Common.{◌≡◌, ℕ, Bool, true, false, List, [], ◌∷◌, map, Option, Some, None}
-use Rattle.std.proofs.Common.{◌&&◌, ◌||◌, not, refl, sym, ap, ◌∙◌, subst}
+use Rattle.std.proofs.Common.{◌&&◌, ◌||◌, not, refl, sym, ap, ◌∙◌, subst, inl, inr}
 use Rattle.std.specs.Option.{is_none}
 use Rattle.bpaf_laws.specs.Environment.{first_set}
 use Rattle.bpaf_laws.specs.Repeat.{is_nil}
@@ -12,22 +12,21 @@ use Rattle.bpaf_base.specs.Items.{item_text}
 use Rattle.bpaf_line.specs.Situation.{Context}
 use Rattle.bpaf_laws.specs.Reading.{Outcome}
 use Rattle.bpaf_exact.specs.Flat.{FieldsLaw, FieldsReading, FieldKind, ByName, ReadOff, Variables}
-use Rattle.bpaf_exact.specs.Single.{Groups, Gap, FrontOf, Own, own_none, own_more, SingleLaw}
-use Rattle.bpaf_exact.specs.Single.{SingleValue, of_group, of_gap, OwnList, listed}
-use Rattle.bpaf_exact.specs.Wrappers.{Closure, OptionalValue, some_value, no_value, FallbackValue}
+use Rattle.bpaf_exact.specs.Single.{Groups, Gap, IsMeant, FrontOf, Own, own_none, own_more, SingleLaw}
+use Rattle.bpaf_exact.specs.Single.{SingleValue, OwnList, listed}
+use Rattle.bpaf_exact.specs.Wrappers.{Closure, OptionalValue, FallbackValue}
 use Rattle.bpaf_exact.specs.Leaves.{FlagValue, ArgumentValue, WordValue, flag_field, LastGroup}
-use Rattle.bpaf_exact.specs.Leaves.{argument_field, argument_gap, argument_group, argument_roles}
-use Rattle.bpaf_exact.specs.Leaves.{flag_gap, flag_roles, key_field}
+use Rattle.bpaf_exact.specs.Leaves.{argument_field, argument_group, argument_roles}
+use Rattle.bpaf_exact.specs.Leaves.{flag_roles, key_field}
 use Rattle.bpaf_exact.specs.Record.{RunAnswer, Accepted, NoMemory, Refusal, RecordValue, IsExact}
 use Rattle.bpaf_exact.specs.ProgramForm.{ProgramForm, alternative, single, complete, product}
 use Rattle.bpaf_exact.specs.ProgramForm.{commands, before_commands, FormLaw, program_if}
 use Rattle.bpaf_exact.specs.ProgramForm.{program_closed, completed, program_field, may_follow}
 use Rattle.bpaf_exact.specs.ProgramForm.{program_both, program_alone, program_con, whole_program}
 use Rattle.bpaf_exact.specs.ProgramForm.{is_record, product_roles, program_optional, program_value}
-use Rattle.bpaf_exact.specs.Programs.{OptionalCommands, some_command, no_command}
+use Rattle.bpaf_exact.specs.Programs.{OptionalCommands}
 use Rattle.bpaf_exact.specs.OneView.{Alike, OneGroup, HasOneView, Respects, pair_view, LooksLike}
 use Rattle.bpaf_exact.specs.{Single.listed_and_absent, Single.only_absent, Single.repeated}
-use Rattle.bpaf_exact.specs.{Wrappers.own_value, Wrappers.kept_value}
 use Rattle.bpaf_exact.specs.{Leaves.word_by, Record.line_cells}
 use Rattle.bpaf_exact.specs.{ProgramForm.product_reading, OneView.RunsToOne}
 use Rattle.bpaf_exact.specs.{Pieces.Cells, Pieces.Roles, Pieces.LinePiece, Pieces.One, Pieces.Two}
@@ -35,6 +34,7 @@ use Rattle.bpaf_exact.specs.{Gathered.list_closure, Names.are_all_apart}
 use Rattle.bpaf_exact.proofs.{Alternative.alternative_single, Cuts.one_cut, LastArguments.last_same}
 use Rattle.bpaf_exact.proofs.{ProgramForm.record_law, ProgramForm.record_value}
 use Rattle.bpaf_exact.proofs.{Commands.none_opens, ProgramForm.runs_exactly, Repeat.own_nil}
+use Rattle.bpaf_exact.proofs.{Cuts.read_cut, BeforeCommands.one_take}
 
 -- Closures.
 
@@ -69,9 +69,9 @@ module _ (A B X Y : Type 0) (see : A → X) (look : B → Y) (f : Closure A B)
 front_view : (T X : Type 0) (see : T → X) (value : LinePiece → T → Type 0)
     → ((o : LinePiece) → Alike see (value o)) → OneGroup see (FrontOf T value)
 front_view T X see value u os rest others v w a b =
-    let c : a.piece ∷ rest ≡ b.piece ∷ others = sym a.is ∙ b.is in
-    let d : a.piece ≡ b.piece = cc in
-    (u b.piece v w (subst (λ z. value z v) d a.means) b.means, cc)
+    let c : a.0 ∷ rest ≡ b.0 ∷ others = sym a.1 ∙ b.1 in
+    let d : a.0 ≡ b.0 = cc in
+    (u b.0 v w (subst (λ z. value z v) d a.2) b.2, cc)
 
 -- a present value
 flag_piece : (T X : Type 0) (see : T → X) (present : T → Type 0) → Alike see present
@@ -87,13 +87,11 @@ key_view : (T X : Type 0) (see : T → X) (wide may_choose : Bool) (q : Roles)
 key_view T X see wide true q each group gap piece groups none = piece
 key_view T X see wide false q each group gap piece groups none = (groups, none)
 
--- what stands for no key of a flag, whose clones look alike
-flag_gap_view : (T X : Type 0) (see : T → X) (clones : T → T → Type 0)
-    → ((kept : T) → Alike see (clones kept)) → (present : T) (absent : Option T)
-    (set : Option (List ℕ)) → Alike see (flag_gap clones present absent set).absent
-flag_gap_view T X see clones u present None None = λ v w a b. absurd a
-flag_gap_view T X see clones u present (Some kept) None = u kept
-flag_gap_view T X see clones u present absent (Some text) = u present
+-- what something means, where it is there
+meant_view : {Y T X : Type 0} (see : T → X) (means : Y → T → Type 0)
+    → ((y : Y) → Alike see (means y)) → (kept : Option Y) → Alike see (IsMeant means kept)
+meant_view see means u None v w a b = absurd a
+meant_view see means u (Some y) v w a b = u y v w a b
 
 -- a flag, whose clones look alike
 pub flag_view : (T X : Type 0) (see : T → X) (clones : T → T → Type 0)
@@ -104,7 +102,7 @@ flag_view T X see clones u key present absent variables =
     (flag_roles key.names) _ _ _
     (flag_piece T X see (clones present) (u present))
     (front_view T X see _ (flag_piece T X see (clones present) (u present)))
-    (flag_gap_view T X see clones u present absent (first_set variables key.envs))
+    (meant_view see clones u _)
 
 -- a key and its value
 argument_piece : (T X : Type 0) (see : T → X) (means : List ℕ → T → Type 0)
@@ -117,11 +115,11 @@ argument_piece T X see means u (Two k x) v w a b = u (item_text x) v w a b
 last_group : (T X : Type 0) (see : T → X) (means : List ℕ → T → Type 0)
     → ((text : List ℕ) → Alike see (means text)) → OneGroup see (LastGroup T means)
 last_group T X see means u os rest others v w a b =
-    let same : Two a.key a.word ≡ Two b.key b.word =
-    last_same LinePiece a.before b.before (Two a.key a.word) (Two b.key b.word) (sym a.is ∙ b.is) in
-    let word : a.word ≡ b.word = cc in (
-      u (item_text b.word) v w (subst (λ x. means (item_text x) v) word a.meant) b.meant,
-      a.none_left ∙ sym b.none_left,
+    let same : Two a.1.0 a.1.1 ≡ Two b.1.0 b.1.1 =
+    last_same LinePiece _ _ (Two a.1.0 a.1.1) (Two b.1.0 b.1.1) (sym a.2 ∙ b.2) in
+    let word : a.1.1 ≡ b.1.1 = cc in (
+      u (item_text b.1.1) v w (subst (λ x. means (item_text x) v) word a.3) b.3,
+      a.4 ∙ sym b.4,
     )
 
 -- the pieces of one evaluation
@@ -130,13 +128,6 @@ argument_group_view : (T X : Type 0) (see : T → X) (means : List ℕ → T →
     → OneGroup see (argument_group means last)
 argument_group_view T X see means u false = front_view T X see _ (argument_piece T X see means u)
 argument_group_view T X see means u true = last_group T X see means u
-
--- what stands for no key
-argument_gap_view : (T X : Type 0) (see : T → X) (means : List ℕ → T → Type 0)
-    → ((text : List ℕ) → Alike see (means text)) → (set : Option (List ℕ))
-    → Alike see (argument_gap means set).absent
-argument_gap_view T X see means u None = λ v w a b. absurd a
-argument_gap_view T X see means u (Some text) = u text
 
 -- an argument, where what a text means looks alike
 pub argument_view : (T X : Type 0) (see : T → X) (means : List ℕ → T → Type 0)
@@ -147,7 +138,7 @@ argument_view T X see means u argument variables =
     (is_nil argument.named.envs && not argument.last)
     (argument_roles argument.adjacent argument.named.names) _ _ _ (argument_piece T X see means u)
     (argument_group_view T X see means u argument.last)
-    (argument_gap_view T X see means u (first_set variables argument.named.envs))
+    (meant_view see means u (first_set variables argument.named.envs))
 
 -- a word
 word_piece : (T X : Type 0) (see : T → X) (accepts : Bool → Bool) (means : List ℕ → T → Type 0)
@@ -207,39 +198,36 @@ module _ {env : Variables} (T X : Type 0) (see : T → X) (inner : Outcome T) (k
 
   -- the value of a single field
   pub value_view : (os : List LinePiece) → Alike see (SingleValue T group gap os)
-  value_view os v w (of_group g) (of_group h) = (one os [] [] v w g h).0
-  value_view os v w (of_group g) (of_gap e a) =
-      absurd (l.starts v [] (subst (λ z. group z v []) e g))
-  value_view os v w (of_gap e a) (of_group h) =
-      absurd (l.starts w [] (subst (λ z. group z w []) e h))
-  value_view os v w (of_gap e a) (of_gap f b) = absent v w a b
+  value_view os v w (inl g) (inl h) = (one os [] [] v w g h).0
+  value_view os v w (inl g) (inr e) =
+      absurd (l.starts v [] (subst (λ z. group z v []) e.0 g))
+  value_view os v w (inr e) (inl h) =
+      absurd (l.starts w [] (subst (λ z. group z w []) e.0 h))
+  value_view os v w (inr e) (inr f) = absent v w e.1 f.1
 
   -- where there is no piece there is none
   none_single : (os : List LinePiece) (v : T) → os ≡ [] → gap.has ≡ false
       → SingleValue T group gap os v → ⊥
-  none_single os v e h (of_group g) = l.starts v [] (subst (λ z. group z v []) e g)
-  none_single os v e h (of_gap f a) = l.no_absent v h a
+  none_single os v e h (inl g) = l.starts v [] (subst (λ z. group z v []) e g)
+  none_single os v e h (inr f) = l.no_absent v h f.1
 
   -- what may be left out
   pub optional_value_view : (os : List LinePiece)
       → Alike (option_map see) (OptionalValue T group gap os)
-  optional_value_view os v w (some_value {v = x} g) (some_value {v = y} h) =
-      ap Some (value_view os x y g h)
-  optional_value_view os v w (some_value {v = x} g) (no_value e h) =
-      absurd (none_single os x e h g)
-  optional_value_view os v w (no_value e h) (some_value {v = y} g) =
-      absurd (none_single os y e h g)
-  optional_value_view os v w (no_value e h) (no_value f i) = refl
+  optional_value_view os (Some x) (Some y) g h = ap Some (value_view os x y g h)
+  optional_value_view os (Some x) None g n = absurd (none_single os x n.0 n.1 g)
+  optional_value_view os None (Some y) n g = absurd (none_single os y n.0 n.1 g)
+  optional_value_view os None None n m = refl
 
   -- what has a default
   pub fallback_value_view : (f : Closure (Unit {0}) T) → Alike see (λ v. f.yes tt v)
       → (os : List LinePiece) → Alike see (FallbackValue T group gap f os)
-  fallback_value_view f given os v w (own_value g) (own_value h) = value_view os v w g h
-  fallback_value_view f given os v w (own_value g) (kept_value e h y) =
-      absurd (none_single os v e h g)
-  fallback_value_view f given os v w (kept_value e h y) (own_value g) =
-      absurd (none_single os w e h g)
-  fallback_value_view f given os v w (kept_value e h y) (kept_value d i z) = given v w y z
+  fallback_value_view f given os v w (inl g) (inl h) = value_view os v w g h
+  fallback_value_view f given os v w (inl g) (inr e) =
+      absurd (none_single os v e.0 e.1 g)
+  fallback_value_view f given os v w (inr e) (inl g) =
+      absurd (none_single os w e.0 e.1 g)
+  fallback_value_view f given os v w (inr e) (inr d) = given v w e.2 d.2
 
 module _ (env : Variables) (T X : Type 0) (see : T → X) (inner : Outcome T) where
   -- a repeat or default round a field, all values of which look alike
@@ -271,11 +259,11 @@ module _ (env : Variables) (T X : Type 0) (see : T → X) (inner : Outcome T) wh
   optional_field_view names words (commands false value) l u = by_value
     where
       by_value : (cs : Cells) → Alike (option_map see) (OptionalCommands T value cs)
-      by_value cs v w (some_command {v = x} a) (some_command {v = y} b) = ap Some (u cs x y a b)
-      by_value cs v w (no_command none) (no_command also) = refl
-      by_value cs v w (some_command {v = x} a) (no_command none) =
+      by_value cs (Some x) (Some y) a b = ap Some (u cs x y a b)
+      by_value cs None None a b = refl
+      by_value cs (Some x) None a none =
           absurd (none_opens words none _ (l.commands.opened cs x a).1)
-      by_value cs v w (no_command none) (some_command {v = y} b) =
+      by_value cs None (Some y) none b =
           absurd (none_opens words none _ (l.commands.opened cs y b).1)
   optional_field_view names words s l u =
       whole_view (option_map see) (λ k. k) (OptionalValue T) (optional_value_view T X see inner)
@@ -331,14 +319,15 @@ both_view A B X Y see look own others (complete wide k q fv) (product other name
     λ i. (d i, e i))
 both_view A B X Y see look own others (complete wide ByName q fv) (before_commands rv) u n =
     if_view (A × B) (X × Y) (pair_view see look) _ (are_all_apart own others)
-    (λ cs v w a b. let d = u _ v.0 w.0 a.own b.own in let e = n _ v.1 w.1 a.left b.left in
-    λ i. (d i, e i))
+    (λ cs v w a b. let same = one_take a.taken b.taken in
+    let d = u _ v.0 w.0 (subst (λ os. fv os v.0) same.0 a.own) b.own in
+    let e = n _ v.1 w.1 (subst (λ ds. rv ds v.1) same.1 a.left) b.left in λ i. (d i, e i))
 both_view A B X Y see look own others _ _ u n = tt
 
 module _ (T X : Type 0) (see : T → X) where
   -- the last field
   pub alone_view : (s : ProgramForm T) → HasOneView see s → HasOneView see (program_alone s)
-  alone_view (complete wide k q value) u = λ os v w a b. u _ v w a.read b.read
+  alone_view (complete wide k q value) u = λ os v w a b. u _ v w a.0 b.0
   alone_view (product wide false q fields) u = u
   alone_view (commands optional value) u = u
   alone_view (before_commands value) u = u
@@ -366,7 +355,7 @@ module _ (T X : Type 0) (see : T → X) where
   like_this inner r reading context l one (Accepted w) v e h = one w v (e.sound w refl) h
   like_this inner r reading context l one NoMemory v e h = tt
   like_this inner r reading context l one Refusal v e h =
-      e.complete h.cut_into h.cut (l.has_each h.cut_into v h.read)
+      e.complete h.cut_into (read_cut h) (l.has_each h.cut_into v h.read)
 
   -- all that is read off the same cells looks alike
   reads_one : (env : Variables) (outcome : Outcome T) (names : List Names)
@@ -376,8 +365,9 @@ module _ (T X : Type 0) (see : T → X) where
       (product_reading (whole_program s)).value cs)
   reads_one env outcome names words s h l u cs v w a b =
       let f = record_law env T outcome names words s h l in
-      let c = one_cut (product_roles (whole_program s)) cs a.cut_into b.cut_into f.named a.cut b.cut
-      in product_view (whole_program s) (record_view env outcome names words s l u) b.cut_into v w
+      let c = one_cut (product_roles (whole_program s)) cs a.cut_into b.cut_into f.named
+      (read_cut a) (read_cut b) in
+      product_view (whole_program s) (record_view env outcome names words s l u) b.cut_into v w
       (subst (λ os. (product_reading (whole_program s)).value os v) c a.read) b.read
 
   -- All values of the same cells look alike.

@@ -43,7 +43,7 @@ argument_values {T} {means} {last} {set} {os} {vs} once unset told =
         → OfOnePiece (ArgumentValue means) os v
     of_one os v (says_text k w e m) = record { piece = Two k w; is = e; said = m }
     of_one os v (says_variable_text text none is m) = absurd cc
-    of_one os v (says_last_text before k w all each e m) = absurd (true≢false (sym all ∙ once))
+    of_one os v (says_last_text before k w all e m) = absurd (true≢false (sym all ∙ once))
 
 -- Of a repeated required flag of that kind: its present value, once for each key.
 pub flag_values : {T : Type 0} {clones : T → T → Type 0} {present : T} {absent : Option T}

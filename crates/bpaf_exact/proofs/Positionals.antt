@@ -1,6 +1,6 @@
 -- Positional words keep to the laws.
 use Rattle.std.proofs.Common.{◌≡◌, ℕ, Bool, true, false, List, [], ◌∷◌, Some, None, Ok, Err, refl}
-use Rattle.std.proofs.Common.{sym, ap, ◌∙◌, not, subst, true≢false, if◌then◌else◌, option_and_then}
+use Rattle.std.proofs.Common.{sym, ap, ◌∙◌, not, subst, true≢false, if◌then◌else◌, option_and_then, take}
 use Rattle.std.specs.Option.{option_map_or}
 use Rattle.bpaf_base.specs.declared.arg.Arg.{Arg}
 use Rattle.bpaf_base.specs.declared.arg.Arg.TheVariants.{Word, PosWord}
@@ -10,14 +10,14 @@ use Rattle.bpaf_line.proofs.Matches.{open_item_there}
 use Rattle.bpaf_exact.specs.Pieces.{Cells, Alone, LinePiece, One, Two, word_roles, pieces}
 use Rattle.bpaf_exact.specs.Pieces.{stands_behind}
 use Rattle.bpaf_exact.specs.Flat.{cells, IsWholeIn, Steady, EachWord, OneWord, front, back}
-use Rattle.bpaf_exact.specs.Single.{Groups, FrontOf, no_gap, SingleOk, took, SingleErr, of_memory}
+use Rattle.bpaf_exact.specs.Single.{Groups, FrontOf, gap_of, SingleOk, took, SingleErr, of_memory}
 use Rattle.bpaf_exact.specs.Single.{catch_missing, catch_other, of_missing, of_piece, WordByWord}
 use Rattle.bpaf_exact.specs.Alternative.{TakesFirst, first_one, first_two, first_later}
 use Rattle.bpaf_exact.specs.Leaves.{WordEval, WordValue, word_by, word_fault, word_memory}
 use Rattle.bpaf_exact.specs.Leaves.{word_missing}
 use Rattle.bpaf_exact.specs.{Flat.is_behind, Flat.Variables, Single.SingleLaw, Leaves.word_passed}
 use Rattle.bpaf_exact.specs.{Leaves.word_read, ProgramForm.FormLaw}
-use Rattle.bpaf_exact.proofs.Fronts.{back_more, back_one, front_more, front_one, of_front_more}
+use Rattle.bpaf_exact.proofs.Fronts.{back_more, back_one, each_front, front_more, front_one, of_front_more}
 use Rattle.bpaf_exact.proofs.Matching.{match_of, ByTest, by_test, no_pieces, one_taken}
 use Rattle.bpaf_exact.proofs.{Fronts.of_front_one, Alternative.took_front, Places.take_steady}
 use Rattle.bpaf_exact.proofs.{Words.never_two, Cells.begin_at}
@@ -38,7 +38,9 @@ word_is _ strict text e = absurd cc
 -- a field that stops takes none behind `--`
 passed_by : (b : Bool) → b ≡ true → (o : LinePiece) (os : List LinePiece) → is_behind o ≡ true
     → front (OneWord b) (o ∷ os) ≡ []
-passed_by true h o os behind = ap (λ z. if z then [] else o ∷ []) behind
+passed_by true h o os behind =
+    ap (take 1) (each_front true o os
+    ∙ ap (λ z. if not z then (o ∷ front (EachWord true) os) else []) behind)
 passed_by false h o os behind = absurd cc
 
 -- a positional
@@ -93,7 +95,7 @@ module _ (T : Type 0) (b : Bool) (value : LinePiece → T → Type 0)
 
   -- a value is that of the first word
   word_ok : {env : Variables} (s t : Situation) (v : T) → IsWholeIn env s
-      → WordEval T b value s (Ok v) t → SingleOk T (OneWord b) word_roles group (no_gap T) s v t
+      → WordEval T b value s (Ok v) t → SingleOk T (OneWord b) word_roles group (gap_of value None) s v t
   word_ok s t v w (word_read {p = p} {strict = strict} {text = text} takes y) =
       let m = took_word s t p strict text takes in
       let e = word_pieces m.takes in
@@ -103,7 +105,7 @@ module _ (T : Type 0) (b : Bool) (value : LinePiece → T → Type 0)
 
   -- a refusal: there is no word, or the first can't be read
   word_err : {env : Variables} (s t : Situation) (e : Error) → IsWholeIn env s
-      → WordEval T b value s (Err e) t → SingleErr T (OneWord b) word_roles group (no_gap T) s e t
+      → WordEval T b value s (Err e) t → SingleErr T (OneWord b) word_roles group (gap_of value None) s e t
   word_err s t e w (word_fault {p = p} {strict = strict} {text = text} takes before n c) =
       let m = took_word s t p strict text takes in
       let i = word_pieces m.takes in
@@ -111,9 +113,9 @@ module _ (T : Type 0) (b : Bool) (value : LinePiece → T → Type 0)
       (λ none. some_front m.word _ (λ h. (word_is m.word strict text m.text_is).1 ∙ before h)
       (sym (ap (front (OneWord b)) i) ∙ none))
       (λ x rest y.
-      let d : One m.word ∷ pieces word_roles (cells t) ≡ y.piece ∷ rest = sym i ∙ y.is in
-      let j : y.piece ≡ One m.word = cc in
-      n m.word x m.text_is (subst (λ z. value z x) j y.means))
+      let d : One m.word ∷ pieces word_roles (cells t) ≡ y.0 ∷ rest = sym i ∙ y.1 in
+      let j : y.0 ≡ One m.word = cc in
+      n m.word x m.text_is (subst (λ z. value z x) j y.2))
   word_err s t e w (word_missing none c) =
       of_missing (catch_missing c) refl
       (ap (front (OneWord b)) (no_pieces is_positional word_roles Alone s test none)) (λ c. refl)
@@ -128,40 +130,28 @@ module _ (T : Type 0) (b : Bool) (value : LinePiece → T → Type 0)
   -- the first word alone is read, and by a repeat each
   one_by_one : WordByWord T b group
   one_by_one = record {
-    by_front = λ os v rest g. let may : b ≡ true → is_behind g.piece ≡ false = λ h. clear h g.piece
-        v g.means in (
-          record {
-            piece = g.piece;
-            is = ap (front (OneWord b)) g.is ∙ front_one b g.piece rest may;
-            means = g.means;
-          },
-          sym (ap (back (OneWord b)) g.is ∙ back_one b g.piece rest may),
+    by_front = λ os v rest g. let may : b ≡ true → is_behind g.0 ≡ false = λ h. clear h g.0
+        v g.2 in (
+          (g.0, ap (front (OneWord b)) g.1 ∙ front_one b g.0 rest may, g.2),
+          sym (ap (back (OneWord b)) g.1 ∙ back_one b g.0 rest may),
         );
-    of_front = λ os v g. record {
-      piece = g.piece;
-      is = of_front_one b os g.piece g.is;
-      means = g.means;
-    };
-    by_each = λ os v rest g. let may : b ≡ true → is_behind g.piece ≡ false = λ h. clear h g.piece
-        v g.means in (
-          record {
-            piece = g.piece;
-            is = ap (front (EachWord b)) g.is ∙ front_more b g.piece rest may;
-            means = g.means;
-          },
-          sym (ap (back (EachWord b)) g.is ∙ back_more b g.piece rest may),
+    of_front = λ os v g. (g.0, of_front_one b os g.0 g.1, g.2);
+    by_each = λ os v rest g. let may : b ≡ true → is_behind g.0 ≡ false = λ h. clear h g.0
+        v g.2 in (
+          (g.0, ap (front (EachWord b)) g.1 ∙ front_more b g.0 rest may, g.2),
+          sym (ap (back (EachWord b)) g.1 ∙ back_more b g.0 rest may),
         );
-    of_each = λ os v rest g. let more = of_front_more b os g.piece rest g.is in
-        (more.0, record { piece = g.piece; is = more.1; means = g.means }, more.2);
+    of_each = λ os v rest g. let more = of_front_more b os g.0 rest g.1 in
+        (more.0, (g.0, more.1, g.2), more.2);
   }
 
   -- a word keeps to the laws of one evaluation
   word_law : {env : Variables} → SingleLaw env T (WordEval T b value) (OneWord b) word_roles group
-      (no_gap T)
+      (gap_of value None)
   word_law = record {
     own = record { words = λ k. refl };
     words = one_by_one;
-    starts = λ v rest g. let e = g.is in cc;
+    starts = λ v rest g. let e = g.1 in cc;
     no_absent = λ v h a. a;
     ok = word_ok;
     err = word_err;

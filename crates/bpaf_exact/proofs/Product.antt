@@ -16,6 +16,7 @@ use Rattle.bpaf_exact.proofs.Cells.{value_foreign, word_foreign, nil_rest, nil_f
 use Rattle.bpaf_exact.proofs.Cells.{pieces_of_cut, others_foreign, put_back_some, take_some_from}
 use Rattle.bpaf_exact.proofs.Words.{NoKeys, put_words_back, take_words_from, words_of_cut}
 use Rattle.bpaf_exact.proofs.{Cells.begin_at, Classes.memory_class, Classes.not_memory}
+use Rattle.bpaf_exact.proofs.Cuts.{read_cut, read_off}
 
 -- what isn't taken stays in the scope
 pub none_outside_after : {env : Variables} (s t : Situation) → IsWholeIn env s → Steady s t
@@ -308,16 +309,11 @@ module _ {env : Variables} (A B : Type 0) (first : Outcome A) (rest : Outcome B)
       let h = values_of_both A B first rest s t v o in
       let i = lf.ok s h.middle v.0 w h.first_ran in
       let after = lr.ok h.middle t v.1 (none_outside_after s h.middle w i.steady) h.rest_ran e in
-      let p = step_back k q r A fv lf.own b i after.cut in
-      record {
-        cut_into = p.before;
-        cut = p.cut;
-        read = (
-          subst (λ os. fv os v.0) p.own (i.read (none_left k q r lf.own b after.cut)),
-          subst
-              (λ os. others_read.value os v.1) (sym p.leaves) after.read,
-        );
-      }
+      let p = step_back k q r A fv lf.own b i (read_cut after) in
+      read_off (either (keys k q) r) reading.value (both_named k q r lf.own lr.named) p.cut (
+        subst (λ os. fv os v.0) p.own (i.read (none_left k q r lf.own b (read_cut after))),
+        subst (λ os. others_read.value os v.1) (sym p.leaves) after.read,
+      )
 
   -- where each field has a value, so has the first on its own pieces
   own_value : (s : Situation) (os : List LinePiece) → Cut (either (keys k q) r) (cells s) os

@@ -34,8 +34,8 @@ use Rattle.bpaf_exact.specs.{Flat.Variables, Flat.cells, Wrappers.FallbackEval}
 use Rattle.bpaf_exact.specs.{Wrappers.OptionalValue, Wrappers.FallbackValue, Pieces.Roles}
 use Rattle.bpaf_exact.specs.{Pieces.no_roles, Pieces.either, Pieces.LinePiece, Names.Owns}
 use Rattle.bpaf_exact.specs.{Names.are_all_apart, Gathered.some_closure, Gathered.LastOf}
-use Rattle.bpaf_exact.specs.{Record.LastValue, Programs.FindsNoCommand, Programs.IsSpelledLine}
-use Rattle.bpaf_exact.specs.{Programs.GivesAll, Theorem.RunsExactly}
+use Rattle.bpaf_exact.specs.{Programs.FindsNoCommand, Programs.IsSpelledLine}
+use Rattle.bpaf_exact.specs.{Programs.GivesAll, Theorem.RunsExactly, Record.last_reading}
 use Rattle.bpaf_exact.proofs.Alternative.{alternative_single, closed_alternative, closed_single}
 use Rattle.bpaf_exact.proofs.Wrappers.{closed_law, single_law, optional_law, fallback_law}
 use Rattle.bpaf_exact.proofs.NamedProducts.{named_both_law, named_con_law, named_last_law}
@@ -299,7 +299,8 @@ module _ (env : Variables) (T : Type 0) (outcome : Outcome T) (names : List Name
   )
     where
       by_name : (j : FieldKind) → FieldLaw env T outcome j q value
-          → NamedLaw env (is_named j) outcome (either (keys j q) no_roles) (LastValue T j q value)
+          → NamedLaw env (is_named j) outcome (either (keys j q) no_roles)
+          (last_reading j q value).value
       by_name ByName l = named_last_law T outcome q value l
       by_name (OneWord z) l = tt
       by_name (EachWord z) l = tt

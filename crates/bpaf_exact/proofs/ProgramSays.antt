@@ -1,6 +1,6 @@
 -- Of each combinator: its values say what is told of them, where those of its inner parsers do.
 use Rattle.std.proofs.Common.{◌≡◌, ℕ, Bool, true, false, List, [], ◌∷◌, ◌++◌, Some, None}
-use Rattle.std.proofs.Common.{not, ◌&&◌, refl, zero, suc, arith}
+use Rattle.std.proofs.Common.{not, ◌&&◌, refl, zero, suc, arith, inl, inr}
 use Rattle.std.proofs.lemmas.Bool.{and_parts}
 use Rattle.std.specs.List.{Contains}
 use Rattle.bpaf_doc.specs.Names.{Names}
@@ -15,8 +15,7 @@ use Rattle.bpaf_exact.specs.ProgramForm.{program_optional, program_choice, choic
 use Rattle.bpaf_exact.specs.ProgramForm.{program_field, program_both, program_alone, program_con}
 use Rattle.bpaf_exact.specs.ProgramForm.{whole_program, program_value, is_program, program_command}
 use Rattle.bpaf_exact.specs.ProgramForm.{are_words_apart, product_roles, product_reading}
-use Rattle.bpaf_exact.specs.Programs.{CellsValue, CommandValue, ChoiceValue, first_value}
-use Rattle.bpaf_exact.specs.Programs.{second_value, OptionalCommands, some_command, no_command}
+use Rattle.bpaf_exact.specs.Programs.{CellsValue, CommandValue, ChoiceValue, OptionalCommands}
 use Rattle.bpaf_exact.specs.ProgramSays.{ProgramSaid, of_pieces, of_cells, ProgramFieldsSaid}
 use Rattle.bpaf_exact.specs.ProgramSays.{of_all_pieces, of_all_cells, IsSaid, CellsSay}
 use Rattle.bpaf_exact.specs.ProgramSays.{ProgramFormSays, ProgramSays, ProgramFieldsFormSay}
@@ -24,10 +23,10 @@ use Rattle.bpaf_exact.specs.ProgramSays.{ProgramFieldsSay, cells_said, said_choi
 use Rattle.bpaf_exact.specs.ProgramSays.{said_alone, said_both, said_con, said_closed}
 use Rattle.bpaf_exact.specs.ProgramSays.{said_command, said_dressed, said_optional}
 use Rattle.bpaf_exact.specs.ProgramSays.{said_fallback, said_last, said_repeat, fields_said_inside}
-use Rattle.bpaf_exact.specs.{Wrappers.ClosedValue, Programs.are_plain, Programs.without}
+use Rattle.bpaf_exact.specs.{Wrappers.ClosedValue, Programs.are_plain}
 use Rattle.bpaf_exact.specs.{Wrappers.FallbackValue, Wrappers.OptionalValue, Single.OwnList}
 use Rattle.bpaf_exact.specs.{Single.SingleValue, Single.repeated, Gathered.LastOf}
-use Rattle.bpaf_exact.specs.{Pieces.Roles, Pieces.LinePiece, Pieces.pieces, Flat.ByName}
+use Rattle.bpaf_exact.specs.{Pieces.Roles, Pieces.LinePiece, Flat.ByName}
 use Rattle.bpaf_exact.specs.{Flat.Variables, Flat.FieldKind, Flat.FieldsReading, Flat.ReadOff}
 use Rattle.bpaf_exact.specs.{Names.are_all_apart, Names.Owns, Wrappers.Closure, Single.Groups}
 use Rattle.bpaf_exact.specs.{Single.Gap, ProgramSays.CutSays, ProgramSays.FieldThenSays}
@@ -35,7 +34,7 @@ use Rattle.bpaf_exact.proofs.Says.{alone_says, both_say, choice_into, choice_say
 use Rattle.bpaf_exact.proofs.Says.{closed_says, con_says, field_owned, field_says, optional_says}
 use Rattle.bpaf_exact.proofs.Says.{owned, record_says, unless_says, fallback_says, OwnsKeys}
 use Rattle.bpaf_exact.proofs.{Says.last_says, Says.listed_says, ProgramForm.whole_law}
-use Rattle.bpaf_exact.proofs.{Sharing.cut_fit, Sharing.pieces_own}
+use Rattle.bpaf_exact.proofs.{Sharing.cut_fit, Sharing.taken_own, Cuts.read_cut}
 
 -- where a test holds
 cells_if : {T : Type 0} (b : Bool) (s : ProgramForm T) (said : CellsValue T)
@@ -164,8 +163,8 @@ module _ {P Q T : Type 0} (inside : Q → P) (q : Q) {s : ProgramForm T} {said :
           by_form (commands false value) h = by_value
             where
               by_value : IsSaid (OptionalCommands T value) (OptionalCommands T (said (inside q)))
-              by_value cs (Some v) (some_command c) = some_command (h cs v c)
-              by_value cs None (no_command none) = no_command none
+              by_value cs (Some v) c = h cs v c
+              by_value cs None none = none
           by_form s h =
               completed_cells (λ k. k) (OptionalValue T) s (said (inside q))
               (OptionalCommands T (said (inside q))) h
@@ -193,9 +192,9 @@ program_says env {P} {T} outcome words s {kind} {names} {said} {p} law h is = by
         (product_reading (whole_program s)).value) (CutSays (product_roles (whole_program s)) said)
     read_so s owns said h cs v read = record {
       cut_into = read.cut_into;
-      cut = read.cut;
+      cut = read_cut read;
       told = record_says s (record { by = h }) read.cut_into v
-          (cut_fit (product_roles (whole_program s)) names owns read.cut) read.read;
+          (cut_fit (product_roles (whole_program s)) names owns (read_cut read)) read.read;
     }
 
     by_pieces : (s : ProgramForm T) → FormLaw env outcome names words s → (said : Said T)
@@ -241,8 +240,7 @@ program_command_says env {P} {Q} {T} inside q outcome words form {said} {kind} {
 
     opened : {value told : CellsValue T} → IsSaid value told
         → IsSaid (CommandValue T opening value) (CommandValue T opening told)
-    opened each cs v c =
-        record { behind = c.behind; opens = c.opens; read = each c.behind v c.read }
+    opened each cs v c = (c.0, c.1, each c.0 v c.2)
 
 -- Choices.
 
@@ -309,8 +307,8 @@ module _ {P Q T : Type 0} (q : Q) where
           cells_if (are_words_apart words more) _ _ (λ on. either)
         where
           either : IsSaid (ChoiceValue T a b) (said q)
-          either cs v (first_value c) = h cs v c
-          either cs v (second_value c) = into cs v (g cs v c)
+          either cs v (inl c) = h cs v c
+          either cs v (inr c) = into cs v (g cs v c)
       by_form (alternative wide r a) s h g = absurd h
       by_form _ _ h g = tt
   more_says (of_cells says) (of_pieces said) p kind names own others words more before s h g into =
@@ -357,8 +355,8 @@ program_choice_says {P = P} {Q = Q} {T = T} this that r own others words more {s
         cells_if (are_words_apart words more) _ _ (λ on. either)
       where
         either : IsSaid (ChoiceValue T va vb) (ChoiceValue T x y)
-        either cs w (first_value c) = first_value (h cs w c)
-        either cs w (second_value c) = second_value (g cs w c)
+        either cs w (inl c) = inl (h cs w c)
+        either cs w (inr c) = inr (g cs w c)
     both_cells (alternative wide q value) t x y h g = absurd h
     both_cells _ _ x y h g = tt
 
@@ -424,8 +422,13 @@ module _ {P Q R A B : Type 0} (first : R → P) (rest : R → Q) (r : R) (outcom
       cells_if (are_all_apart (names (first r)) others) _ _ (λ on cs v read. record {
         roles = q;
         owns = own.by;
-        own = h.by.1 (pieces q cs) v.0 (pieces_own q cs) read.own;
-        left = g (without q cs) v.1 read.left;
+        told = record {
+          own_pieces = read.own_pieces;
+          left_cells = read.left_cells;
+          taken = read.taken;
+          own = h.by.1 read.own_pieces v.0 (taken_own read.taken) read.own;
+          left = g read.left_cells v.1 read.left;
+        };
       })
   before_says said more (complete wide k q reads) (product other named u fields) own h g = absurd g
   before_says said more _ _ own h g = tt

@@ -28,6 +28,7 @@ use Rattle.bpaf_exact.proofs.{Choice.HasItem, Choice.has_item, Counts.open_prese
 use Rattle.bpaf_exact.proofs.{Matching.match_of, Places.same_cells, Places.same_item}
 use Rattle.bpaf_exact.proofs.{Places.closed_item, Places.TakenOne, Product.no_own_in_cut}
 use Rattle.bpaf_exact.proofs.{Records.count_none, Cells.begin_at}
+use Rattle.bpaf_exact.proofs.Cuts.{read_cut}
 
 -- A command's word on cells.
 
@@ -281,20 +282,20 @@ module _ {env : Variables} (T : Type 0) (inner : Outcome T) (r : Roles) (value :
   -- it leaves nothing of another's own
   command_others : LeavesToOthers r opened_value
   command_others q n a cs v s h =
-      opens_pieces words q plain n s h.opens
-      ∙ l.others q n a h.behind v (opens_spelled words s h.opens) h.read
+      opens_pieces words q plain n s h.1
+      ∙ l.others q n a h.0 v (opens_spelled words s h.1) h.2
 
   -- the value is that of what is behind the word
   from_behind : (s : Situation) (p : ℕ) (v : T) → IsOpenedAt words s p
       → value (cells (inside called s p)) v → opened_value (cells s) v
   from_behind s p v at h =
-      record { behind = cells (inside called s p); opens = opens_cells called s p at; read = h }
+      (cells (inside called s p), opens_cells called s p at, h)
 
   -- and the other way
   to_behind : (s : Situation) (p : ℕ) (v : T) → IsOpenedAt words s p → opened_value (cells s) v
       → value (cells (inside called s p)) v
   to_behind s p v at h =
-      subst (λ cs. value cs v) (opens_one words h.opens (opens_cells called s p at)) h.read
+      subst (λ cs. value cs v) (opens_one words h.1 (opens_cells called s p at)) h.2
 
   -- the path gets no shorter
   command_deep : (s t : Situation) (v : T) → IsWholeIn env s → CommandEval T inner called s (Ok v) t
@@ -330,7 +331,7 @@ module _ {env : Variables} (T : Type 0) (inner : Outcome T) (r : Roles) (value :
   command_answers s t a u w (command_refused {d = d} {p = p} {m = m} at i spared) h =
       absurd (spared (answer_behind s m p (Err d) u w at i h))
   command_answers s t a u w (command_missing none e) h =
-      absurd (opens_none words s none h.behind h.opens)
+      absurd (opens_none words s none h.0 h.1)
   command_answers s t a u w (command_memory e) h = e
 
   -- where no word is the first thing present it is missing
@@ -354,7 +355,7 @@ module _ {env : Variables} (T : Type 0) (inner : Outcome T) (r : Roles) (value :
       ok = command_ok;
       answers = command_answers;
     };
-    opened = λ cs v h. (h.behind, h.opens);
+    opened = λ cs v h. (h.0, h.1);
     none = command_none;
   }
 
@@ -369,15 +370,15 @@ module _ {env : Variables} (V : Type 0) (outcome : Outcome V) (r : Roles)
   record_answers : (s t : Situation) (a : Result V Error) (u : V) → IsWholeIn env s → outcome s a t
       → record_value (cells s) u → GivesAll (record_value (cells s)) a t
   record_answers s t (Ok v) u w o h =
-      let n = l.takes_all s t v h.cut_into w o h.cut (l.has_each h.cut_into u h.read) in
+      let n = l.takes_all s t v h.cut_into w o (read_cut h) (l.has_each h.cut_into u h.read) in
       (l.ok s t v w o n, n)
   record_answers s t (Err e) u w o h =
-      l.refuses s t e h.cut_into w o h.cut (l.has_each h.cut_into u h.read)
+      l.refuses s t e h.cut_into w o (read_cut h) (l.has_each h.cut_into u h.read)
 
   -- the laws
   pub record_program : ProgramLaw env V outcome r record_value
   record_program = record {
-    others = λ q n a cs v s h. no_own_in_cut q r n a h.cut;
+    others = λ q n a cs v s h. no_own_in_cut q r n a (read_cut h);
     deep = λ s t v w o. let e = ap length (l.steady s t v w o).path in omega arith;
     ok = λ s t v w spelled o. l.ok s t v w o;
     answers = record_answers;

@@ -7,10 +7,11 @@ use Rattle.bpaf_exact.specs.Flat.{cells, NonePresent, no_place, none_here, IsWho
 use Rattle.bpaf_exact.specs.Flat.{FieldKind, ByName, keys, OwnItems, FieldLaw, FieldsLaw, ReadOff}
 use Rattle.bpaf_exact.specs.Flat.{Before, FieldsReading, HasValue, portion, front, Variables}
 use Rattle.bpaf_exact.specs.{Pieces.either_role, Pieces.no_roles, Pieces.pieces}
-use Rattle.bpaf_exact.specs.{Single.present_count, Wrappers.map_closure, Record.LastValue}
+use Rattle.bpaf_exact.specs.{Single.present_count, Wrappers.map_closure}
 use Rattle.bpaf_exact.specs.{Record.last_reading, Wrappers.ClosedValue}
 use Rattle.bpaf_exact.proofs.Words.{empty_cut, cut_empty}
 use Rattle.bpaf_exact.proofs.Product.{step_back, none_left, own_portion, step_on}
+use Rattle.bpaf_exact.proofs.Cuts.{read_off}
 
 -- Nothing is present where the count is nought.
 pub none_counted : (cs : Cells) → present_count cs ≡ 0 → NonePresent cs
@@ -49,20 +50,15 @@ module _ {env : Variables} (T : Type 0) (outcome : Outcome T) (k : FieldKind) (q
   -- the value of a last field is read off a cut
   last_reads : (s t : Situation) (v : T) → IsWholeIn env s → outcome s (Ok v) t
       → NonePresent (cells t)
-      → ReadOff T (either (keys k q) no_roles) (LastValue T k q value) (cells s) v
+      → ReadOff T (either (keys k q) no_roles) (last_reading k q value).value (cells s) v
   last_reads s t v w o n =
       let i = l.ok s t v w o in
       let c = empty_cut no_roles n in
       let p = step_back k q no_roles T value l.own before_none i c in
-      record {
-        cut_into = p.before;
-        cut = p.cut;
-        read = record {
-          read = subst (λ os. value os v) p.own
-              (i.read (none_left k q no_roles l.own before_none c));
-          none_left = p.leaves;
-        };
-      }
+      read_off (either (keys k q) no_roles) (last_reading k q value).value keys_named p.cut (
+        subst (λ os. value os v) p.own (i.read (none_left k q no_roles l.own before_none c)),
+        p.leaves,
+      )
 
   -- where the field has a value on its pieces, it has one on those of the cells
   own_value : (s : Situation) (os : List LinePiece) → Cut (either (keys k q) no_roles) (cells s) os
@@ -85,7 +81,7 @@ module _ {env : Variables} (T : Type 0) (outcome : Outcome T) (k : FieldKind) (q
     named = keys_named;
     steady = λ s t v w o. (l.ok s t v w o).steady;
     ok = last_reads;
-    has_each = λ os v h. ((v, h.read), h.none_left);
+    has_each = λ os v h. ((v, h.0), h.1);
     takes_all = last_takes;
     refuses = λ s t e os w o c h. l.refuses s t e h.0.0 w o (own_value s os c h.0);
   }
@@ -125,7 +121,9 @@ module _ {env : Variables} (A B : Type 0) (fields : Outcome A) (makes : A → B 
       let a = l.ok s o.0 o.1 w o.2 (subst NonePresent (ap cells o.4 ∙ current_cells o.0) n) in
       record {
         cut_into = a.cut_into;
+        left_cells = a.left_cells;
         cut = a.cut;
+        none_left = a.none_left;
         read = record { from = o.1; read = a.read; made = o.3 };
       }
 

@@ -1,16 +1,17 @@
 -- The value of each flat field says of its pieces what its parser says.
 use Rattle.std.proofs.Common.{◌≡◌, ℕ, Bool, true, false, List, [], ◌∷◌, ◌++◌, Option, Some, None}
-use Rattle.std.proofs.Common.{◌&&◌, ◌||◌, not, refl, sym, ap, ◌∙◌, subst, append-nil}
+use Rattle.std.proofs.Common.{◌&&◌, ◌||◌, not, refl, sym, ap, ◌∙◌, subst, append-nil, inl, inr}
 use Rattle.bpaf_doc.specs.Names.{Names}
 use Rattle.bpaf_text.specs.Named.{Named as Key, KeyWithValue}
 use Rattle.bpaf_laws.specs.Reading.{Outcome}
 use Rattle.bpaf_exact.specs.Pieces.{Roles, LinePiece, One, Two, is_own, mine, others, either}
 use Rattle.bpaf_exact.specs.Flat.{FieldKind, ByName, OneWord, EachWord, FieldsReading, keys, front}
 use Rattle.bpaf_exact.specs.Single.{Groups, Gap, FrontOf, Own, own_none, own_more, OwnList, listed}
-use Rattle.bpaf_exact.specs.Single.{listed_and_absent, only_absent, SingleValue, of_group, of_gap}
-use Rattle.bpaf_exact.specs.Wrappers.{Closure, OptionalValue, some_value, no_value, FallbackValue}
-use Rattle.bpaf_exact.specs.Leaves.{flag_field, flag_gap, flag_roles, FlagValue, argument_field}
-use Rattle.bpaf_exact.specs.Leaves.{argument_gap, argument_group, argument_roles, key_field}
+use Rattle.bpaf_exact.specs.Single.{listed_and_absent, only_absent, SingleValue}
+use Rattle.bpaf_exact.specs.Wrappers.{Closure, OptionalValue, FallbackValue}
+use Rattle.bpaf_exact.specs.{Single.gap_of, Single.IsMeant}
+use Rattle.bpaf_exact.specs.Leaves.{flag_field, flag_roles, FlagValue, argument_field}
+use Rattle.bpaf_exact.specs.Leaves.{argument_group, argument_roles, key_field, value_without_key}
 use Rattle.bpaf_laws.specs.Environment.{first_set}
 use Rattle.bpaf_laws.specs.Repeat.{is_nil}
 use Rattle.std.specs.Option.{is_none}
@@ -28,12 +29,12 @@ use Rattle.bpaf_exact.specs.Says.{OptionalSays, says_some, says_none, FallbackSa
 use Rattle.bpaf_exact.specs.Says.{says_kept, FrontSays, RepeatSays, says_in_turn, says_alone}
 use Rattle.bpaf_exact.specs.Says.{LastSays, FieldsSaid, RecordSays, FormSays, Says, FieldsFormSays}
 use Rattle.bpaf_exact.specs.{Pieces.no_roles, Flat.back, Flat.both_reading}
-use Rattle.bpaf_exact.specs.{Flat.Variables, Single.repeated, Wrappers.own_value}
-use Rattle.bpaf_exact.specs.{Wrappers.kept_value, Leaves.ArgumentValue}
+use Rattle.bpaf_exact.specs.{Flat.Variables, Single.repeated, Leaves.ArgumentValue}
 use Rattle.bpaf_exact.specs.{Leaves.WordValue, Leaves.word_by, Says.FieldsSay}
 use Rattle.bpaf_exact.specs.{Says.its_pieces, Says.words_after, Names.Owns, Names.are_all_apart}
-use Rattle.bpaf_exact.specs.{Gathered.LastOf, Alternative.pick_type, Alternative.either_value}
-use Rattle.bpaf_exact.specs.{Record.LastValue}
+use Rattle.bpaf_exact.specs.{Gathered.LastOf, Alternative.either_value}
+use Rattle.std.specs.Prelude.{MatchBool}
+use Rattle.bpaf_exact.specs.{Record.last_reading}
 use Rattle.bpaf_exact.proofs.Sharing.{mine_rest, others_fit, others_rest, rest_fit, apart_none}
 use Rattle.bpaf_exact.proofs.Sharing.{each_own, first_fits, no_fits, own_fit, second_fits}
 use Rattle.bpaf_exact.proofs.Sharing.{mine_keyed, others_unkeyed, mine_within, first_within}
@@ -48,10 +49,10 @@ front_says : {T : Type 0} (value : LinePiece → T → Type 0) (said : Said T)
     → ((o : LinePiece) (v : T) → value o v → said (o ∷ []) v)
     → (os rest : List LinePiece) (v : T) → FrontOf T value os v rest → FrontSays said os v rest
 front_says value said each os rest v h = record {
-  part = h.piece ∷ [];
-  is = h.is;
+  part = h.0 ∷ [];
+  is = h.1;
   some = λ e. cc;
-  told = each h.piece v h.means;
+  told = each h.0 v h.2;
 }
 
 -- a flag
@@ -64,7 +65,8 @@ module _ {T : Type 0} (clones : T → T → Type 0) (present : T) where
 
   -- no key
   flag_gap_says : (absent : Option T) (set : Option (List ℕ)) (v : T)
-      → (flag_gap clones present absent set).absent v → FlagSays clones present absent set [] v
+      → IsMeant clones (value_without_key present absent set) v
+      → FlagSays clones present absent set [] v
   flag_gap_says None None v m = absurd m
   flag_gap_says (Some a) None v m = says_absent a refl refl refl m
   flag_gap_says absent (Some text) v m = says_variable text refl refl m
@@ -73,7 +75,8 @@ module _ {T : Type 0} (clones : T → T → Type 0) (present : T) where
   key_says : {names : List Names} (wide may_choose : Bool) (key : Key) (absent : Option T)
       (set : Option (List ℕ))
       → Says names (key_field wide may_choose (flag_roles key.names) (FlagValue (clones present))
-      (FrontOf T (FlagValue (clones present))) (flag_gap clones present absent set))
+      (FrontOf T (FlagValue (clones present)))
+      (gap_of clones (value_without_key present absent set)))
       (of_kind ByName) (FlagSays clones present absent set)
   key_says wide true key absent set = record { by = (refl, present_piece) }
   key_says wide false key absent set = record {
@@ -107,14 +110,14 @@ module _ {T : Type 0} (means : List ℕ → T → Type 0) where
       front_says (ArgumentValue means) (ArgumentSays means false set) pair_piece os rest v g
   argument_group_says true os rest v g = record {
     part = os;
-    is = sym (ap (λ z. os ++ z) g.none_left ∙ append-nil os);
-    some = λ e. never_nil g.before (Two g.key g.word) [] (sym g.is ∙ e);
-    told = says_last_text g.before g.key g.word refl g.have_values g.is g.meant;
+    is = sym (ap (λ z. os ++ z) g.4 ∙ append-nil os);
+    some = λ e. never_nil _ (Two g.1.0 g.1.1) [] (sym g.2 ∙ e);
+    told = says_last_text g.0 g.1.0 g.1.1 refl g.2 g.3;
   }
 
   -- no key
   argument_gap_says : {last : Bool} (set : Option (List ℕ)) (v : T)
-      → (argument_gap means set).absent v → ArgumentSays means last set [] v
+      → IsMeant means set v → ArgumentSays means last set [] v
   argument_gap_says None v m = absurd m
   argument_gap_says (Some text) v m = says_variable_text text refl refl m
 
@@ -122,7 +125,8 @@ module _ {T : Type 0} (means : List ℕ → T → Type 0) where
   option_says : {names : List Names} (wide may_choose : Bool) (argument : KeyWithValue)
       (set : Option (List ℕ))
       → Says names (key_field wide may_choose
-      (argument_roles argument.adjacent argument.named.names) (ArgumentValue means) (argument_group means argument.last) (argument_gap means set))
+      (argument_roles argument.adjacent argument.named.names) (ArgumentValue means)
+      (argument_group means argument.last) (gap_of means set))
       (of_kind ByName) (ArgumentSays means argument.last set)
   option_says wide true argument set = record { by = (refl, pair_piece) }
   option_says wide false argument set = record {
@@ -205,7 +209,7 @@ choice_into {T} m n names own others words more j k said this that from_this fro
     (alternative wide q first) (alternative other r second) g h =
     by_test (are_all_apart own others)
   where
-    piece : (o : LinePiece) (v : T) (b : Bool) → pick_type b (first o v) (second o v)
+    piece : (o : LinePiece) (v : T) (b : Bool) → MatchBool b (first o v) (second o v)
         → said (o ∷ []) v
     piece o v true m = from_this (o ∷ []) v (g.1 o v m)
     piece o v false m = from_that (o ∷ []) v (h.1 o v m)
@@ -236,9 +240,9 @@ module _ {T : Type 0} (said : Said T) (group : Groups T) (gap : Gap T)
     (absent : (v : T) → gap.absent v → said [] v) where
   -- a value of all pieces at once
   whole_says : (os : List LinePiece) (v : T) → SingleValue T group gap os v → said os v
-  whole_says os v (of_group g) = let there = fronts os [] v g in
+  whole_says os v (inl g) = let there = fronts os [] v g in
       subst (λ z. said z v) (sym (there.is ∙ append-nil there.part)) there.told
-  whole_says os v (of_gap e a) = subst (λ z. said z v) (sym e) (absent v a)
+  whole_says os v (inr e) = subst (λ z. said z v) (sym e.0) (absent v e.1)
 
   -- values in turn
   turns_say : (os : List LinePiece) (vs : List T) → Own T group os vs → Own T (FrontSays said) os vs
@@ -257,14 +261,14 @@ module _ {T : Type 0} (said : Said T) (group : Groups T) (gap : Gap T)
   -- Some of one, or None
   optional_by : (os : List LinePiece) (r : Option T) → OptionalValue T group gap os r
       → OptionalSays said os r
-  optional_by os (Some v) (some_value h) = says_some v refl (whole_says os v h)
-  optional_by os None (no_value e h) = says_none refl e
+  optional_by os (Some v) h = says_some v refl (whole_says os v h)
+  optional_by os None e = says_none refl e.0
 
   -- one, or what stands in its place
   fallback_by : (f : Closure (Unit {0}) T) (os : List LinePiece) (v : T)
       → FallbackValue T group gap f os v → FallbackSays said (f.yes tt) os v
-  fallback_by f os v (own_value h) = says_own (whole_says os v h)
-  fallback_by f os v (kept_value e h m) = says_kept e m
+  fallback_by f os v (inl h) = says_own (whole_says os v h)
+  fallback_by f os v (inr e) = says_kept e.0 e.2
 
 -- a repeat or default round a field, of which each value says so
 whole_form_says : {T B : Type 0} (kind : FieldKind → FieldKind) (lift : SaidKind → SaidKind)
@@ -366,9 +370,9 @@ pub last_says : {T : Type 0} {s : ProgramForm T} {kind : SaidKind} {names : List
 last_says {T} {s} {said = said} h = record {
   by = whole_form_says repeated repeated_kind (λ k. refl) (LastOf T) said (LastSays said)
       (λ group gap fronts absent os v m. record {
-        values = m.list;
-        told = list_says said group gap fronts absent os m.list m.own;
-        is = m.is;
+        values = m.0 ++ v ∷ [];
+        told = list_says said group gap fronts absent os (m.0 ++ v ∷ []) m.1;
+        is = record { before = m.0; is = refl };
       }) _ _ s h.by;
 }
 
@@ -401,7 +405,7 @@ alone_says {T} {names} {s} {kind} {said} own_keys h = record { by = by_form s ow
     own : (k : FieldKind) (q : Roles) (value : List LinePiece → T → Type 0) → Owns (keys k q) names
         → ((os : List LinePiece) (v : T) → AllOwn k q os → value os v → said os v)
         → (whole os : List LinePiece) (v : T)
-        → Fits names (either (keys k q) no_roles) whole → LastValue T k q value os v
+        → Fits names (either (keys k q) no_roles) whole → (last_reading k q value).value os v
         → mine (either (keys k q) no_roles) whole ≡ mine (either (keys k q) no_roles) os
         → said (its_pieces (of_kind k) names whole (others (either (keys k q) no_roles) os)) v
     own ByName q value owned each whole os v fits m same =
@@ -412,15 +416,15 @@ alone_says {T} {names} {s} {kind} {said} own_keys h = record { by = by_form s ow
         ∙ mine_keyed q names whole
         (first_fits q no_roles names [] owned (record { own = λ k e. absurd cc }) (apart_none names)
         whole (subst (λ own. Fits own (either q no_roles) whole) (sym (append-nil names)) fits)))))
-        (each (mine q os) v (each_own q os) m.read)
+        (each (mine q os) v (each_own q os) m.0)
     own (OneWord b) q value owned each whole os v fits m same =
         subst (λ z. said (front (OneWord b) z) v)
         (sym (others_none (either no_roles no_roles) (λ k. refl) os))
-        (each (front (OneWord b) os) v tt m.read)
+        (each (front (OneWord b) os) v tt m.0)
     own (EachWord b) q value owned each whole os v fits m same =
         subst (λ z. said (front (EachWord b) z) v)
         (sym (others_none (either no_roles no_roles) (λ k. refl) os))
-        (each (front (EachWord b) os) v tt m.read)
+        (each (front (EachWord b) os) v tt m.0)
 
     by_form : (s : ProgramForm T) → FormOwns names s → FormSays names s kind said
         → FieldsFormSays names (program_alone s)
@@ -551,23 +555,23 @@ record_says {T} s {kind} {names} {said} h = by_form s h.by
   where
     all_own : (k : FieldKind) (q : Roles) (value : List LinePiece → T → Type 0)
         → ((os : List LinePiece) (v : T) → AllOwn k q os → value os v → said os v)
-        → (os : List LinePiece) (v : T) → LastValue T k q value os v → said os v
+        → (os : List LinePiece) (v : T) → (last_reading k q value).value os v → said os v
     all_own ByName q value each os v m =
-        subst (λ z. said z v) (all_mine q os m.none_left)
-        (each (mine q os) v (each_own q os) m.read)
+        subst (λ z. said z v) (all_mine q os m.1)
+        (each (mine q os) v (each_own q os) m.0)
     all_own (OneWord b) q value each os v m =
-        subst (λ z. said z v) (all_front (OneWord b) os m.none_left)
-        (each (front (OneWord b) os) v tt m.read)
+        subst (λ z. said z v) (all_front (OneWord b) os m.1)
+        (each (front (OneWord b) os) v tt m.0)
     all_own (EachWord b) q value each os v m =
-        subst (λ z. said z v) (all_front (EachWord b) os m.none_left)
-        (each (front (EachWord b) os) v tt m.read)
+        subst (λ z. said z v) (all_front (EachWord b) os m.1)
+        (each (front (EachWord b) os) v tt m.0)
 
     by_form : (s : ProgramForm T) → FormSays names s kind said
         → (os : List LinePiece) (v : T) → Fits names (product_roles (whole_program s)) os
         → (product_reading (whole_program s)).value os v → said os v
     by_form (alternative wide q value) h os v fits m = all_own ByName q _
-        (λ os v all. whole_says said _ _ (front_says value said h.1) (λ v none. absurd none) os v)
-        os v m
+        (λ os v all. whole_says said _ (gap_of value None) (front_says value said h.1)
+        (λ v none. absurd none) os v) os v m
     by_form (single wide k q group gap) h os v fits m =
         all_own k q _ (λ os v all. whole_says said group gap h.1 h.2 os v) os v m
     by_form (complete wide k q value) h os v fits m = all_own k q value h.1 os v m

@@ -1,16 +1,17 @@
 -- Pieces that are shared out by roles are shared out by names.
 use Rattle.std.proofs.Common.{◌≡◌, Bool, true, false, List, [], ◌∷◌, refl, sym, ap, ◌∙◌}
-use Rattle.std.proofs.Common.{if◌then◌else◌, ◌++◌, ◌||◌, ◌⊎◌, ⊎_elim, None, Some, inl, inr}
+use Rattle.std.proofs.Common.{if◌then◌else◌, not, ◌++◌, ◌||◌, ◌⊎◌, ⊎_elim, inl, inr}
 use Rattle.std.proofs.lemmas.List.Folds.{list_any-append}
 use Rattle.bpaf_base.specs.{Items.is_key_of, Items.is_positional, declared.arg.Arg.TheVariants.Word}
 use Rattle.bpaf_base.specs.{declared.arg.Arg.TheVariants.PosWord, declared.arg.Arg.Arg}
-use Rattle.bpaf_exact.specs.Pieces.{Cells, Cut, argument, at_end, begin_piece, flag, passed, pieces}
-use Rattle.bpaf_exact.specs.Pieces.{word, Role, Foreign, Alone, WithNext, Roles, LinePiece, One}
+use Rattle.bpaf_exact.specs.Pieces.{Cells, Cut, argument, at_end, flag, passed, word}
+use Rattle.bpaf_exact.specs.Pieces.{Takes, no_cells, empty_stays, other_stays, takes_flag}
+use Rattle.bpaf_exact.specs.Pieces.{takes_argument, Role, Foreign, Alone, WithNext, Roles, LinePiece, One}
 use Rattle.bpaf_exact.specs.Pieces.{Two, is_own_role, is_own, mine, others, either, either_role}
 use Rattle.bpaf_exact.specs.{Names.are_all_apart, Names.Owns, Names.is_key_of_any, Says.EachOwn}
 use Rattle.bpaf_exact.specs.{Says.Fits, Says.first_item, Says.keyed, Says.unkeyed, Flat.OneWord}
 use Rattle.bpaf_exact.specs.{ProgramForm.may_follow}
-use Rattle.bpaf_exact.proofs.{First.own_next, Names.one_list, Names.or_true}
+use Rattle.bpaf_exact.proofs.{Names.one_list, Names.or_true}
 use Rattle.bpaf_doc.specs.Names.{Names}
 
 -- a test that holds of no item fails
@@ -49,8 +50,8 @@ module _ (r : Roles) (names : List Names) where
   pub others_unkeyed : (os : List LinePiece) → Fits names r os → others r os ≡ unkeyed names os
   others_unkeyed [] fits = refl
   others_unkeyed (o ∷ os) fits =
-      ap (λ c. if c then others r os else (o ∷ others r os)) fits.0
-      ∙ ap (λ z. if is_key_of_any names (first_item o) then z else (o ∷ z))
+      ap (λ c. if not c then (o ∷ others r os) else others r os) fits.0
+      ∙ ap (λ z. if not (is_key_of_any names (first_item o)) then (o ∷ z) else z)
       (others_unkeyed os fits.1)
 
   module _ (owned : Owns r names) where
@@ -134,17 +135,13 @@ each_own q (o ∷ os) = by_own (is_own q o) refl (each_own q os)
     by_own true e all = (e, all)
     by_own false e all = all
 
--- so are those on cells
-pub pieces_own : (q : Roles) (cs : Cells) → EachOwn q (pieces q cs)
-pieces_own q [] = tt
-pieces_own q (None ∷ cs) = pieces_own q cs
-pieces_own q (Some k ∷ cs) = by_role (q k) refl (pieces_own q cs)
-  where
-    by_role : (x : Role) → q k ≡ x → EachOwn q (pieces q cs)
-        → EachOwn q (begin_piece x k cs (pieces q cs))
-    by_role Foreign e all = all
-    by_role Alone e all = (ap is_own_role e, all)
-    by_role WithNext e all = (own_next q k cs ∙ ap is_own_role e, all)
+-- so are those taken from cells
+pub taken_own : {q : Roles} {cs ds : Cells} {os : List LinePiece} → Takes q cs os ds → EachOwn q os
+taken_own no_cells = tt
+taken_own (empty_stays t) = taken_own t
+taken_own (other_stays e t) = taken_own t
+taken_own (takes_flag e t) = (ap is_own_role e, taken_own t)
+taken_own (takes_argument e v t) = (ap is_own_role e, taken_own t)
 
 -- where each own item of the one is one of the other, its pieces are among the other's
 pub mine_within : (q r : Roles) → ((k : Arg) → is_own_role (q k) ≡ true → is_own_role (r k) ≡ true)
@@ -192,7 +189,7 @@ mine_of_others p q apart (o ∷ os) = by_own (mine_of_others p q apart os) (is_o
         sym own ∙ (own_first p o ∙ ap is_own_role (apart (first_item o) (sym (own_first q o) ∙ e)))
 
     by_own : mine q (others p os) ≡ mine q os → (b : Bool) → is_own p o ≡ b
-        → mine q (if b then others p os else (o ∷ others p os)) ≡ mine q (o ∷ os)
+        → mine q (if not b then (o ∷ others p os) else others p os) ≡ mine q (o ∷ os)
     by_own h true e =
         h ∙ sym (ap (λ c. if c then (o ∷ mine q os) else mine q os)
         (fails (is_own q o) (foreign e)))
@@ -210,7 +207,7 @@ module _ (q : Roles) (none : (k : Arg) → is_own_role (q k) ≡ false) where
   pub others_none : (os : List LinePiece) → others q os ≡ os
   others_none [] = refl
   others_none (o ∷ os) =
-      ap (λ c. if c then others q os else (o ∷ others q os)) (own_first q o ∙ none (first_item o))
+      ap (λ c. if not c then (o ∷ others q os) else others q os) (own_first q o ∙ none (first_item o))
       ∙ ap (λ z. o ∷ z) (others_none os)
 
 -- where no piece is another's, each is one's own
@@ -218,7 +215,7 @@ pub all_mine : (q : Roles) (os : List LinePiece) → others q os ≡ [] → mine
 all_mine q [] e = refl
 all_mine q (o ∷ os) e = by_own (is_own q o) e (all_mine q os)
   where
-    by_own : (b : Bool) → (if b then others q os else (o ∷ others q os)) ≡ []
+    by_own : (b : Bool) → (if not b then (o ∷ others q os) else others q os) ≡ []
         → (others q os ≡ [] → mine q os ≡ os) → (if b then (o ∷ mine q os) else mine q os) ≡ o ∷ os
     by_own true f h = ap (λ z. o ∷ z) (h f)
     by_own false f h = cc
@@ -235,19 +232,19 @@ others_both q r (o ∷ os) =
         → others r (others q os) ≡ others (either q r) os
         → others r (others q (o ∷ os)) ≡ others (either q r) (o ∷ os)
     by_role x first both h = (
-        ap (λ c. others r (if c then others q os else (o ∷ others q os))) first ∙ by_own x h
-        ∙ sym (ap (λ c. if c then others (either q r) os else (o ∷ others (either q r) os)) both)
+        ap (λ c. others r (if not c then (o ∷ others q os) else others q os)) first ∙ by_own x h
+        ∙ sym (ap (λ c. if not c then (o ∷ others (either q r) os) else others (either q r) os) both)
         )
       where
         by_own : (x : Role) → others r (others q os) ≡ others (either q r) os
-            → others r (if is_own_role x then others q os else (o ∷ others q os))
-            ≡ (if is_own_role (either_role x (r (first_item o))) then others (either q r) os
-            else (o ∷ others (either q r) os))
+            → others r (if not (is_own_role x) then (o ∷ others q os) else others q os)
+            ≡ (if not (is_own_role (either_role x (r (first_item o))))
+            then (o ∷ others (either q r) os) else others (either q r) os)
         by_own Alone h = h
         by_own WithNext h = h
         by_own Foreign h =
-            ap (λ c. if c then others r (others q os) else (o ∷ others r (others q os)))
-            (own_first r o) ∙ ap (λ z. if is_own_role (r (first_item o)) then z else (o ∷ z)) h
+            ap (λ c. if not c then (o ∷ others r (others q os)) else others r (others q os))
+            (own_first r o) ∙ ap (λ z. if not (is_own_role (r (first_item o))) then (o ∷ z) else z) h
 
 -- behind a positional field no item is another field's own
 pub none_behind : (r : Roles) (own behind : List Names) → Owns r behind
@@ -277,7 +274,7 @@ pub others_fit : (q r : Roles) (names : List Names) (os : List LinePiece) → Fi
     → Fits names r (others q os)
 others_fit q r names [] fit = tt
 others_fit q r names (o ∷ os) fit =
-    elim (is_own q o) as (λ b. Fits names r (if b then others q os else (o ∷ others q os)))
+    elim (is_own q o) as (λ b. Fits names r (if not b then (o ∷ others q os) else others q os))
     [ true ↦ others_fit q r names os fit.1 | false ↦ (fit.0, others_fit q r names os fit.1) ]
 
 -- so do those that it is told of
@@ -297,7 +294,7 @@ no_own_left r [] = refl
 no_own_left r (o ∷ os) = by_own (is_own r o) refl (no_own_left r os)
   where
     by_own : (b : Bool) → is_own r o ≡ b → mine r (others r os) ≡ []
-        → mine r (if b then others r os else (o ∷ others r os)) ≡ []
+        → mine r (if not b then (o ∷ others r os) else others r os) ≡ []
     by_own true e h = h
     by_own false e h =
         ap (λ z. if z then (o ∷ mine r (others r os)) else mine r (others r os)) e ∙ h
@@ -308,11 +305,11 @@ left_again r [] = refl
 left_again r (o ∷ os) = by_own (is_own r o) refl (left_again r os)
   where
     by_own : (b : Bool) → is_own r o ≡ b → others r (others r os) ≡ others r os
-        → others r (if b then others r os else (o ∷ others r os))
-        ≡ (if b then others r os else (o ∷ others r os))
+        → others r (if not b then (o ∷ others r os) else others r os)
+        ≡ (if not b then (o ∷ others r os) else others r os)
     by_own true e h = h
     by_own false e h =
-        ap (λ z. if z then others r (others r os) else (o ∷ others r (others r os))) e
+        ap (λ z. if not z then (o ∷ others r (others r os)) else others r (others r os)) e
         ∙ ap (λ z. o ∷ z) h
 
 -- its own are those of the whole line
@@ -340,5 +337,5 @@ others_rest r names (o ∷ whole) os fits =
         ≡ others r os
     by_key true e h =
         let more = keyed names whole ++ others r os in
-        ap (λ z. if z then others r more else (o ∷ others r more)) e ∙ h
+        ap (λ z. if not z then (o ∷ others r more) else others r more) e ∙ h
     by_key false e h = h

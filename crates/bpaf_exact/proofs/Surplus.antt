@@ -1,13 +1,12 @@
 -- A surplus occurrence, a surplus word and an occurrence without a value leave a field no value.
 use Rattle.std.proofs.Common.{◌≡◌, ℕ, Bool, not, true, false, List, [], ◌∷◌, Option, Some, None}
-use Rattle.std.proofs.Common.{subst}
+use Rattle.std.proofs.Common.{subst, inl, inr}
 use Rattle.bpaf_exact.specs.Flat.{FieldKind, FieldsReading, HasValue, both_reading, portion, left}
 use Rattle.bpaf_exact.specs.Single.{Groups, Gap, FrontOf, own_none, own_more, OwnList, listed}
-use Rattle.bpaf_exact.specs.Single.{listed_and_absent, only_absent, SingleValue, of_group, of_gap}
-use Rattle.bpaf_exact.specs.Wrappers.{Closure, OptionalValue, some_value, no_value, FallbackValue}
+use Rattle.bpaf_exact.specs.Single.{listed_and_absent, only_absent, SingleValue, gap_of}
+use Rattle.bpaf_exact.specs.Wrappers.{Closure, OptionalValue, FallbackValue}
 use Rattle.bpaf_exact.specs.ProgramForm.{ProgramForm, alternative, single, complete, product}
 use Rattle.bpaf_exact.specs.ProgramForm.{program_closed, completed, program_field, program_if}
-use Rattle.bpaf_exact.specs.{Wrappers.own_value, Wrappers.kept_value}
 use Rattle.bpaf_exact.specs.{Pieces.Roles, Pieces.LinePiece, Gathered.LastOf, Alternative.HasBad}
 use Rattle.bpaf_exact.specs.{Record.last_reading, Leaves.key_field}
 use Rattle.bpaf_exact.specs.{Leaves.word_by, Accepted.OneByOne, Accepted.AtMostOne}
@@ -18,7 +17,7 @@ use Rattle.bpaf_exact.proofs.Alternative.{own_bad}
 
 -- the first piece alone is one
 pub front_one : (T : Type 0) (value : LinePiece → T → Type 0) → OneByOne (FrontOf T value)
-front_one T value os rest v g = (g.piece, g.is)
+front_one T value os rest v g = (g.0, g.1)
 
 -- where one evaluation reads one piece, two have no value
 group_once : {T : Type 0} (group : Groups T) → OneByOne group
@@ -28,18 +27,18 @@ group_once group one o p os v g = let i = one (o ∷ p ∷ os) [] v g in let e =
 module _ (T : Type 0) (group : Groups T) (gap : Gap T) (one : OneByOne group) where
   -- nor have two where there is no repeat or default
   single_once : AtMostOne (SingleValue T group gap)
-  single_once o p os v (of_group g) = group_once group one o p os v g
-  single_once o p os v (of_gap e a) = cc
+  single_once o p os v (inl g) = group_once group one o p os v g
+  single_once o p os v (inr e) = cc
 
   -- nor where they may be left out
   optional_once : AtMostOne (OptionalValue T group gap)
-  optional_once o p os (Some v) (some_value h) = single_once o p os v h
-  optional_once o p os None (no_value e h) = cc
+  optional_once o p os (Some v) h = single_once o p os v h
+  optional_once o p os None e = cc
 
   -- nor where a value stands for them
   fallback_once : (f : Closure (Unit {0}) T) → AtMostOne (FallbackValue T group gap f)
-  fallback_once f o p os v (own_value h) = single_once o p os v h
-  fallback_once f o p os v (kept_value e h m) = cc
+  fallback_once f o p os v (inl h) = single_once o p os v h
+  fallback_once f o p os v (inr e) = cc
 
 -- a closure round a field keeps that
 pub closed_no_surplus : {A B : Type 0} (f : Closure A B) (s : ProgramForm A) → HasNoSurplus s
@@ -51,7 +50,8 @@ closed_no_surplus f _ h = tt
 -- a field without a repeat or default has no surplus
 pub field_no_surplus : {T : Type 0} (s : ProgramForm T) → HasNoSurplus s
     → HasNoSurplus (program_field s)
-field_no_surplus {T = T} (alternative wide q value) h = single_once T _ _ (front_one T value)
+field_no_surplus {T = T} (alternative wide q value) h =
+    single_once T _ (gap_of value None) (front_one T value)
 field_no_surplus {T = T} (single wide k q group gap) h = single_once T group gap h
 field_no_surplus (product wide named q fields) h = absurd h
 field_no_surplus (complete wide k q value) h = h
@@ -108,25 +108,25 @@ module _ (T : Type 0) (value : LinePiece → T → Type 0) (gap : Gap T) where
   -- nor has `last`
   pub last_bad : (os : List LinePiece) (v : T) → HasBad T value os
       → LastOf T (FrontOf T value) gap os v → ⊥
-  last_bad os v b h = repeat_bad os h.list b h.own
+  last_bad os v b h = repeat_bad os _ b h.1
 
   -- nor what has no repeat or default
   pub single_bad : (os : List LinePiece) (v : T) → HasBad T value os
       → SingleValue T (FrontOf T value) gap os v → ⊥
-  single_bad os v b (of_group g) = own_bad T value os (v ∷ []) b (own_more g own_none)
-  single_bad os v b (of_gap e a) = none_bad os e b
+  single_bad os v b (inl g) = own_bad T value os (v ∷ []) b (own_more g own_none)
+  single_bad os v b (inr e) = none_bad os e.0 b
 
   -- nor what may be left out
   pub optional_bad : (os : List LinePiece) (v : Option T) → HasBad T value os
       → OptionalValue T (FrontOf T value) gap os v → ⊥
-  optional_bad os (Some v) b (some_value h) = single_bad os v b h
-  optional_bad os None b (no_value e h) = none_bad os e b
+  optional_bad os (Some v) b h = single_bad os v b h
+  optional_bad os None b e = none_bad os e.0 b
 
   -- nor what has a value that stands for it
   pub fallback_bad : (f : Closure (Unit {0}) T) (os : List LinePiece) (v : T) → HasBad T value os
       → FallbackValue T (FrontOf T value) gap f os v → ⊥
-  fallback_bad f os v b (own_value h) = single_bad os v b h
-  fallback_bad f os v b (kept_value e h a) = none_bad os e b
+  fallback_bad f os v b (inl h) = single_bad os v b h
+  fallback_bad f os v b (inr e) = none_bad os e.0 b
 
 -- Which parts a record has: each of its fields, and that no piece is left.
 module _ {A B : Type 0} (k : FieldKind) (q : Roles) (first : List LinePiece → A → Type 0)

@@ -1,19 +1,19 @@
 -- Closures, optional and fallback keep to the laws.
-use Rattle.std.proofs.Common.{◌≡◌, false, List, [], Option, Ok, Err, refl, sym, ap, ◌∙◌}
-use Rattle.std.proofs.Common.{subst}
+use Rattle.std.proofs.Common.{◌≡◌, false, List, [], Option, Some, None, Ok, Err, refl, sym, ap, ◌∙◌}
+use Rattle.std.proofs.Common.{subst, inl, inr}
 use Rattle.bpaf_line.specs.{declared.error.Error.Error, Situation.Situation}
 use Rattle.bpaf_laws.specs.Reading.{Outcome}
 use Rattle.bpaf_exact.specs.Flat.{ErrorClass, OfMemory, OfMissing, class, cells, IsWholeIn}
 use Rattle.bpaf_exact.specs.Flat.{FieldKind, ByName, OneWord, EachWord, front, back, NoKeysLeft}
 use Rattle.bpaf_exact.specs.Single.{Groups, Own, own_none, Readable, Gap, SingleOk, gave_absent}
 use Rattle.bpaf_exact.specs.Single.{took, SingleErr, of_memory, of_missing, of_absent, of_piece}
-use Rattle.bpaf_exact.specs.Single.{ReadsWords, SingleLaw, SingleValue, of_group, of_gap, CanCatch}
+use Rattle.bpaf_exact.specs.Single.{ReadsWords, SingleLaw, SingleValue, CanCatch}
 use Rattle.bpaf_exact.specs.Wrappers.{Closure, Decides, AgreesOn, ClosedEval, closed_yes, closed_no}
 use Rattle.bpaf_exact.specs.Wrappers.{closed_memory, closed_err, ClosedValue, OptionalEval}
 use Rattle.bpaf_exact.specs.Wrappers.{optional_some, optional_none, optional_err, optional_memory}
-use Rattle.bpaf_exact.specs.Wrappers.{OptionalValue, some_value, no_value, FallbackEval}
+use Rattle.bpaf_exact.specs.Wrappers.{OptionalValue, FallbackEval}
 use Rattle.bpaf_exact.specs.Wrappers.{fallback_ok, fallback_given, fallback_no, fallback_memory}
-use Rattle.bpaf_exact.specs.Wrappers.{fallback_err, FallbackValue, own_value, kept_value}
+use Rattle.bpaf_exact.specs.Wrappers.{fallback_err, FallbackValue}
 use Rattle.bpaf_exact.specs.Flat.{FieldTook, FieldLaw, Variables}
 use Rattle.bpaf_exact.specs.Pieces.{Roles, LinePiece, pieces, takes_none}
 use Rattle.bpaf_exact.proofs.Repeat.{any_some, same_takes, catch_none, stopped_by, stops_by}
@@ -86,13 +86,13 @@ module _ {env : Variables} (T : Type 0) (inner : Outcome T) (k : FieldKind) (q :
   single_took s t v (gave_absent h p ab same st) = record {
     steady = st;
     takes = same_takes q same;
-    read = λ n. of_gap p ab;
+    read = λ n. inr (p, ab);
     rest = λ n. nothing_left _ _ p (ap (pieces q) same);
   }
   single_took s t v (took h) = record {
     steady = h.steady;
     takes = any_some q h.takes;
-    read = λ n. of_group (took_read k s t v l.words n h.read).0;
+    read = λ n. inl (took_read k s t v l.words n h.read).0;
     rest = λ n. (took_read k s t v l.words n h.read).1;
   }
 
@@ -112,19 +112,19 @@ module _ {env : Variables} (T : Type 0) (inner : Outcome T) (k : FieldKind) (q :
       → SingleValue T group gap (front k (pieces q (cells s))) w
       → pieces q (cells t) ≡ back k (pieces q (cells s))
   ok_takes s t v w (gave_absent h p ab same st) view = nothing_left _ _ p (ap (pieces q) same)
-  ok_takes s t v w (took h) (of_group g) = (h.readable w _ (of_front k _ w l.words g)).1
-  ok_takes s t v w (took h) (of_gap e a) = absurd (h.found e)
+  ok_takes s t v w (took h) (inl g) = (h.readable w _ (of_front k _ w l.words g)).1
+  ok_takes s t v w (took h) (inr e) = absurd (h.found e.0)
 
   -- and a refusal is want of memory
   err_gives : (s t : Situation) (e : Error) (w : T) → SingleErr T k q group gap s e t
       → SingleValue T group gap (front k (pieces q (cells s))) w → class e ≡ OfMemory
   err_gives s t e w (of_memory c) v = c
-  err_gives s t e w (of_missing c h p same) (of_group g) = absurd (not_empty _ w p g)
-  err_gives s t e w (of_missing c h p same) (of_gap x a) = absurd (l.no_absent w h a)
-  err_gives s t e w (of_absent c h p n) (of_group g) = absurd (not_empty _ w p g)
-  err_gives s t e w (of_absent c h p n) (of_gap x a) = absurd (n w a)
-  err_gives s t e w (of_piece c ne n) (of_group g) = absurd (n w _ (of_front k _ w l.words g))
-  err_gives s t e w (of_piece c ne n) (of_gap x a) = absurd (ne x)
+  err_gives s t e w (of_missing c h p same) (inl g) = absurd (not_empty _ w p g)
+  err_gives s t e w (of_missing c h p same) (inr x) = absurd (l.no_absent w h x.1)
+  err_gives s t e w (of_absent c h p n) (inl g) = absurd (not_empty _ w p g)
+  err_gives s t e w (of_absent c h p n) (inr x) = absurd (n w x.1)
+  err_gives s t e w (of_piece c ne n) (inl g) = absurd (n w _ (of_front k _ w l.words g))
+  err_gives s t e w (of_piece c ne n) (inr x) = absurd (ne x.0)
 
   -- so it is of each answer
   single_takes : (s t : Situation) (v w : T) → IsWholeIn env s → inner s (Ok v) t
@@ -156,7 +156,7 @@ module _ {env : Variables} (T : Type 0) (inner : Outcome T) (k : FieldKind) (q :
       record {
         steady = a.steady;
         takes = a.takes;
-        read = λ n. some_value (a.read n);
+        read = λ n. a.read n;
         rest = a.rest;
       }
   optional_ok s t v w (optional_none {e = e} {m = m} i h) =
@@ -164,7 +164,7 @@ module _ {env : Variables} (T : Type 0) (inner : Outcome T) (k : FieldKind) (q :
       record {
         steady = steady_refl s;
         takes = takes_none;
-        read = λ n. no_value a.1 a.0;
+        read = λ n. (a.1, a.0);
         rest = λ n. nothing_left _ _ a.1 refl;
       }
 
@@ -172,9 +172,9 @@ module _ {env : Variables} (T : Type 0) (inner : Outcome T) (k : FieldKind) (q :
   some_takes : (s t : Situation) (x : T) (v : Option T) → IsWholeIn env s → inner s (Ok x) t
       → SingleOk T k q group gap s x t → OptionalValue T group gap (front k (pieces q (cells s))) v
       → NoKeysLeft k q (cells t)
-  some_takes s t x v w i o (some_value {v = y} g) = single_takes s t x y w i g
-  some_takes s t x v w i (gave_absent h p ab same st) (no_value e b) = absurd cc
-  some_takes s t x v w i (took h) (no_value e b) = absurd (h.found e)
+  some_takes s t x (Some y) w i o g = single_takes s t x y w i g
+  some_takes s t x None w i (gave_absent h p ab same st) n = let b = n.1 in absurd cc
+  some_takes s t x None w i (took h) n = absurd (h.found n.0)
 
   -- None took all that is there
   none_takes : (s : Situation) → front k (pieces q (cells s)) ≡ [] → NoKeysLeft k q (cells s)
@@ -202,10 +202,9 @@ module _ {env : Variables} (T : Type 0) (inner : Outcome T) (k : FieldKind) (q :
   optional_refuses : (s t : Situation) (e : Error) (v : Option T) → IsWholeIn env s
       → OptionalEval T inner s (Err e) t
       → OptionalValue T group gap (front k (pieces q (cells s))) v → class e ≡ OfMemory
-  optional_refuses s t e v w (optional_err i n) (some_value {v = y} g) =
-      single_refuses s t e y w i g
-  optional_refuses s t e v w (optional_err i n) (no_value x b) =
-      none_fails s t e (λ c same. n (stops_by s t e c same)) x b (l.err s t e w i)
+  optional_refuses s t e (Some y) w (optional_err i n) g = single_refuses s t e y w i g
+  optional_refuses s t e None w (optional_err i n) g =
+      none_fails s t e (λ c same. n (stops_by s t e c same)) g.0 g.1 (l.err s t e w i)
   optional_refuses s t e v w (optional_memory c) g = c
 
   -- what may be left out keeps to the laws of a field
@@ -227,7 +226,7 @@ module _ {env : Variables} (T : Type 0) (inner : Outcome T) (k : FieldKind) (q :
         record {
           steady = a.steady;
           takes = a.takes;
-          read = λ n. own_value (a.read n);
+          read = λ n. inl (a.read n);
           rest = a.rest;
         }
     fallback_took s t v w (fallback_given {e = e} {m = m} i h y) =
@@ -235,7 +234,7 @@ module _ {env : Variables} (T : Type 0) (inner : Outcome T) (k : FieldKind) (q :
         record {
           steady = steady_refl s;
           takes = takes_none;
-          read = λ n. kept_value a.1 a.0 y;
+          read = λ n. inr (a.1, a.0, y);
           rest = λ n. nothing_left _ _ a.1 refl;
         }
 
@@ -246,16 +245,16 @@ module _ {env : Variables} (T : Type 0) (inner : Outcome T) (k : FieldKind) (q :
 
     own_missing : (s : Situation) (v : T) → (gap.has ≡ false) × (front k (pieces q (cells s)) ≡ [])
         → SingleValue T group gap (front k (pieces q (cells s))) v → ⊥
-    own_missing s v a (of_group z) = not_empty _ v a.1 z
-    own_missing s v a (of_gap z ab) = l.no_absent v a.0 ab
+    own_missing s v a (inl z) = not_empty _ v a.1 z
+    own_missing s v a (inr z) = l.no_absent v a.0 z.1
 
     -- where the portion has a value, all is taken
     fallback_takes : (s t : Situation) (u v : T) → IsWholeIn env s
         → FallbackEval T inner f s (Ok u) t
         → FallbackValue T group gap f (front k (pieces q (cells s))) v → NoKeysLeft k q (cells t)
-    fallback_takes s t u v w (fallback_ok i) (own_value g) = single_takes s t u v w i g
-    fallback_takes s t u v w (fallback_ok i) (kept_value e h y) =
-        absurd (kept_ok s t u e h (l.ok s t u w i))
+    fallback_takes s t u v w (fallback_ok i) (inl g) = single_takes s t u v w i g
+    fallback_takes s t u v w (fallback_ok i) (inr e) =
+        absurd (kept_ok s t u e.0 e.1 (l.ok s t u w i))
     fallback_takes s t u v w (fallback_given {e = e} {m = m} i h y) g =
         none_takes s (catch_none s m e h (l.err s m e w i)).1
 
@@ -263,14 +262,14 @@ module _ {env : Variables} (T : Type 0) (inner : Outcome T) (k : FieldKind) (q :
     fallback_refuses : (s t : Situation) (g : Error) (v : T) → IsWholeIn env s
         → FallbackEval T inner f s (Err g) t
         → FallbackValue T group gap f (front k (pieces q (cells s))) v → class g ≡ OfMemory
-    fallback_refuses s t g v w (fallback_no {e = e} {m = m} i h n c) (own_value o) =
+    fallback_refuses s t g v w (fallback_no {e = e} {m = m} i h n c) (inl o) =
         absurd (own_missing s v (catch_none s m e h (l.err s m e w i)) o)
-    fallback_refuses s t g v w (fallback_no i h n c) (kept_value p b z) = absurd (decides tt v z n)
+    fallback_refuses s t g v w (fallback_no i h n c) (inr p) = absurd (decides tt v p.2 n)
     fallback_refuses s t g v w (fallback_memory c) view = c
-    fallback_refuses s t g v w (fallback_err {m = m} i n) (own_value o) =
+    fallback_refuses s t g v w (fallback_err {m = m} i n) (inl o) =
         single_refuses s m g v w i o
-    fallback_refuses s t g v w (fallback_err {m = m} i n) (kept_value p b z) =
-        none_fails s m g (λ c same. n c) p b (l.err s m g w i)
+    fallback_refuses s t g v w (fallback_err {m = m} i n) (inr p) =
+        none_fails s m g (λ c same. n c) p.0 p.1 (l.err s m g w i)
 
     pub fallback_law : FieldLaw env T (FallbackEval T inner f) k q (FallbackValue T group gap f)
     fallback_law = record {

@@ -1,6 +1,6 @@
 -- Required flags and arguments, and choices of them: each piece has its value by itself.
-use Rattle.std.specs.Prelude.{◌≡◌, Bool, true, false, List, [], ◌∷◌, Option, Some, None, Ok, Err}
-use Rattle.std.specs.Prelude.{◌⊎◌}
+use Rattle.std.specs.Prelude.{◌≡◌, true, List, [], ◌∷◌, Option, Some, None, Ok, Err}
+use Rattle.std.specs.Prelude.{◌⊎◌, MatchBool}
 use Rattle.bpaf_base.specs.declared.arg.Arg.{Arg}
 use Rattle.bpaf_line.specs.declared.error.Error.{Error}
 use Rattle.bpaf_line.specs.Situation.{Situation}
@@ -63,12 +63,7 @@ pub record AlternativeLaw (variables : Variables) (T : Type 0) (outcome : Outcom
   pub err : (s t : Situation) (e : Error) → IsWholeIn variables s → outcome s (Err e) t
       → AlternativeErr T q value s e t
 
--- one of two propositions, by a test
-abbrev pub pick_type : Bool → Type 0 → Type 0 → Type 0
-pick_type true a b = a
-pick_type false a b = b
-
 -- a piece has the value that the alternative gives that it belongs to
 abbrev pub either_value : {T : Type 0} → Roles → (LinePiece → T → Type 0) → (LinePiece → T → Type 0)
     → LinePiece → T → Type 0
-either_value q a b o v = pick_type (is_own q o) (a o v) (b o v)
+either_value q a b o v = MatchBool (is_own q o) (a o v) (b o v)

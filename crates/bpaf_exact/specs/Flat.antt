@@ -1,7 +1,8 @@
 -- What a flat field keeps to when it is evaluated: its answer and what it takes depend on its own
 -- pieces alone.
 use Rattle.std.specs.Prelude.{◌≡◌, ◌<◌, ℕ, zero, suc, Bool, true, false, List, [], ◌∷◌, length}
-use Rattle.std.specs.Prelude.{Option, None, Ok, Err, if◌then◌else◌}
+use Rattle.std.specs.Prelude.{Option, None, Ok, Err, ◌&&◌, not, take, drop, filter}
+use Rattle.std.specs.List.{before_first}
 use Rattle.bpaf_base.specs.declared.arg.Arg.{Arg}
 use Rattle.bpaf_line.specs.declared.error.Error.{Error}
 use Rattle.bpaf_line.specs.declared.error.Message.{Message}
@@ -10,9 +11,10 @@ use Rattle.bpaf_line.specs.Messages.{is_memory, can_catch}
 use Rattle.bpaf_line.specs.Situation.{Situation, is_taken}
 use Rattle.bpaf_line.specs.Taking.{open_item}
 use Rattle.bpaf_laws.specs.Reading.{Outcome}
-use Rattle.bpaf_exact.specs.Pieces.{Cells, Roles, Foreign, LinePiece, One, Two, mine, others}
+use Rattle.bpaf_exact.specs.Pieces.{Cells, Roles, Foreign, LinePiece, One, Two, is_own}
 use Rattle.bpaf_exact.specs.Pieces.{no_roles, stands_behind, word_roles, IsNamed, Apart, Cut}
-use Rattle.bpaf_exact.specs.Pieces.{pieces, TakesPieces}
+use Rattle.bpaf_exact.specs.Pieces.{pieces, TakesPieces, Takes, either, roles_of, Alone}
+use Rattle.bpaf_base.specs.Items.{is_positional}
 
 -- the classes of refusals
 pub data ErrorClass : Type 0 where
@@ -83,45 +85,28 @@ abbrev pub is_behind : LinePiece → Bool
 is_behind (One k) = stands_behind k
 is_behind (Two k w) = false
 
--- the pieces up to the first one behind `--`
-abbrev pub up_to_marker : List LinePiece → List LinePiece
-up_to_marker [] = []
-up_to_marker (o ∷ os) = if is_behind o then [] else o ∷ up_to_marker os
-
--- and those from there on
-abbrev pub from_marker : List LinePiece → List LinePiece
-from_marker [] = []
-from_marker (o ∷ os) = if is_behind o then o ∷ os else from_marker os
-
--- Of its own pieces a field takes all; a positional field without a repeat takes the first, if
--- there is one; and one that stops none that stands behind `--`.
-abbrev pub front : FieldKind → List LinePiece → List LinePiece
-front ByName os = os
-front (EachWord false) os = os
-front (EachWord true) os = up_to_marker os
-front (OneWord stops) [] = []
-front (OneWord false) (o ∷ os) = o ∷ []
-front (OneWord true) (o ∷ os) = if is_behind o then [] else o ∷ []
-
--- and leaves the others
-abbrev pub back : FieldKind → List LinePiece → List LinePiece
-back ByName os = []
-back (EachWord false) os = []
-back (EachWord true) os = from_marker os
-back (OneWord stops) [] = []
-back (OneWord false) (o ∷ os) = os
-back (OneWord true) (o ∷ os) = if is_behind o then o ∷ os else os
-
 -- Of the pieces that the fields before it left, a field's portion: for a named field those that
--- begin with one of its names; for a positional field what it takes of them.
+-- begin with one of its names; for a positional field those up to the first that it stops at, and
+-- without a repeat one of them, if there is one.
 abbrev pub portion : FieldKind → Roles → List LinePiece → List LinePiece
-portion ByName q os = mine q os
-portion k q os = front k os
+portion ByName q os = filter (is_own q) os
+portion (OneWord stops) q os = take 1 (before_first (λ o. stops && is_behind o) os)
+portion (EachWord stops) q os = before_first (λ o. stops && is_behind o) os
 
 -- what it leaves to the fields after it
 abbrev pub left : FieldKind → Roles → List LinePiece → List LinePiece
-left ByName q os = others q os
-left k q os = back k os
+left ByName q os = filter (λ o. not (is_own q o)) os
+left k q os = drop (length (portion k q os)) os
+
+-- of pieces that are all its own, what a field takes
+abbrev pub front : FieldKind → List LinePiece → List LinePiece
+front ByName os = os
+front k os = portion k no_roles os
+
+-- and what it leaves
+abbrev pub back : FieldKind → List LinePiece → List LinePiece
+back ByName os = []
+back k os = left k no_roles os
 
 -- the keys of a field
 abbrev pub keys : FieldKind → Roles → Roles
@@ -163,11 +148,14 @@ pub record FieldLaw (variables : Variables) (T : Type 0) (outcome : Outcome T) (
   pub refuses : (s t : Situation) (e : Error) (w : T) → IsWholeIn variables s → outcome s (Err e) t
       → value (front k (pieces q (cells s))) w → class e ≡ OfMemory
 
--- the values of a list of fields are read off the pieces that a line is cut into
+-- the values of a list of fields are read off the pieces that a line is cut into: their own, and
+-- each word by itself; nothing is left
 pub record ReadOff (V : Type 0) (r : Roles) (value : List LinePiece → V → Type 0) (cs : Cells)
     (v : V) : Type 0 where
   pub cut_into : List LinePiece
-  pub cut : Cut r cs cut_into
+  pub left_cells : Cells
+  pub cut : Takes (either r (roles_of is_positional Alone)) cs cut_into left_cells
+  pub none_left : NonePresent left_cells
   pub read : value cut_into v
 
 -- a field has a value on its pieces
@@ -202,7 +190,7 @@ Before k q r = (item : Arg) → r item ≡ Foreign
 -- how a field and those after it read the pieces
 abbrev pub both_reading : {A B : Type 0} → FieldKind → Roles → (List LinePiece → A → Type 0)
     → FieldsReading B → FieldsReading (A × B)
-both_reading k q first rest = record {
+both_reading {A = A} k q first rest = record {
   value = λ os v. first (portion k q os) v.0 × rest.value (left k q os) v.1;
-  each = λ os. HasValue first (portion k q os) × rest.each (left k q os);
+  each = λ os. ((v : A) × first (portion k q os) v) × rest.each (left k q os);
 }

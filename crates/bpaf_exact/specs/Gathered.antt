@@ -11,10 +11,8 @@ list_closure T = map_closure (λ values filled. filled.items ≡ values)
 
 -- some: the list, not empty
 abbrev pub some_closure : (T : Type 0) → Closure (List T) (Vec T)
-some_closure T = record {
-  yes = λ values filled. (filled.items ≡ values) × (values ≡ [] → ⊥);
-  no = λ values. values ≡ [];
-}
+some_closure T =
+    record { yes = λ xs v. (v.items ≡ xs) × (xs ≡ [] → ⊥); no = λ xs. xs ≡ [] }
 
 -- it is the last of a list
 pub record IsLast (T : Type 0) (vs : List T) (v : T) : Type 0 where
@@ -22,8 +20,5 @@ pub record IsLast (T : Type 0) (vs : List T) (v : T) : Type 0 where
   pub is : vs ≡ before ++ (v ∷ [])
 
 -- the last of the own list
-pub record LastOf (T : Type 0) (group : Groups T) (gap : Gap T) (os : List LinePiece)
-    (v : T) : Type 0 where
-  pub list : List T
-  pub own : OwnList T group gap os list
-  pub is : IsLast T list v
+abbrev pub LastOf : (T : Type 0) → Groups T → Gap T → List LinePiece → T → Type 0
+LastOf T group gap os v = (before : List T) × OwnList T group gap os (before ++ v ∷ [])

@@ -1,6 +1,6 @@
 -- Flags, arguments and positionals: which items are theirs, and what their pieces mean.
 use Rattle.std.specs.Prelude.{◌≡◌, ℕ, Bool, true, false, List, [], ◌∷◌, Option, Some, None, Result}
-use Rattle.std.specs.Prelude.{Ok, Err, if◌then◌else◌, not, ◌&&◌, ◌||◌, ◌++◌}
+use Rattle.std.specs.Prelude.{Ok, Err, not, ◌&&◌, ◌||◌, ◌++◌, map}
 use Rattle.std.specs.Option.{is_none}
 use Rattle.bpaf_doc.specs.Names.{Names}
 use Rattle.bpaf_text.specs.Named.{Named as Key, KeyWithValue}
@@ -11,21 +11,21 @@ use Rattle.bpaf_line.specs.Situation.{Situation}
 use Rattle.bpaf_line.specs.Taking.{TakesText, HasNone}
 use Rattle.bpaf_laws.specs.Environment.{first_set}
 use Rattle.bpaf_laws.specs.Repeat.{is_nil}
-use Rattle.bpaf_exact.specs.Pieces.{Roles, Foreign, Alone, WithNext, LinePiece, One, Two, no_roles}
-use Rattle.bpaf_exact.specs.Pieces.{stands_behind, word_roles}
+use Rattle.bpaf_exact.specs.Pieces.{Roles, Alone, WithNext, LinePiece, One, Two, no_roles}
+use Rattle.bpaf_exact.specs.Pieces.{stands_behind, roles_of}
 use Rattle.bpaf_exact.specs.Flat.{ByName, Caught, OneWord, OfMemory, OfMissing, Refused, Variables}
 use Rattle.bpaf_exact.specs.Flat.{class}
-use Rattle.bpaf_exact.specs.Single.{Gap, Groups, FrontOf, no_gap}
+use Rattle.bpaf_exact.specs.Single.{Gap, Groups, FrontOf, gap_of}
 use Rattle.bpaf_exact.specs.ProgramForm.{ProgramForm, alternative, complete, single}
 
 -- the items of a flag: keys with one of its names, each by itself
 abbrev pub flag_roles : Names → Roles
-flag_roles names k = if is_key_of names k then Alone else Foreign
+flag_roles names = roles_of (is_key_of names) Alone
 
 -- the items of an argument: keys with one of its names, each with its value; of an adjacent one
 -- those whose value is attached
 abbrev pub argument_roles : (adjacent : Bool) → Names → Roles
-argument_roles adjacent names k = if is_argument_key names adjacent k then WithNext else Foreign
+argument_roles adjacent names = roles_of (is_argument_key names adjacent) WithNext
 
 -- a key means a present value
 abbrev pub FlagValue : {T : Type 0} → (T → Type 0) → LinePiece → T → Type 0
@@ -43,16 +43,11 @@ abbrev pub WordValue : {T : Type 0} → (Bool → Bool) → (List ℕ → T → 
 WordValue accepts means (One w) v = (accepts (stands_behind w) ≡ true) × means (item_text w) v
 WordValue accepts means (Two k w) v = ⊥
 
--- where no key is there, one of these values
-abbrev pub switch_gap : {T : Type 0} → (T → Type 0) → Gap T
-switch_gap absent = record { has = true; absent = absent }
-
--- where no key of a flag is there, by the text of its variable: the present value where that is
--- set, else the absent one, where there is one
-abbrev pub flag_gap : {T : Type 0} → (T → T → Type 0) → T → Option T → Option (List ℕ) → Gap T
-flag_gap clones present absent (Some text) = switch_gap (clones present)
-flag_gap clones present (Some absent) None = switch_gap (clones absent)
-flag_gap {T = T} clones present None None = no_gap T
+-- the value of a flag without a key, by the text of its variable: the present one where that is
+-- set, else the absent one, if there is one
+abbrev pub value_without_key : {T : Type 0} → T → Option T → Option (List ℕ) → Option T
+value_without_key present absent (Some text) = Some present
+value_without_key present absent None = absent
 
 -- a key: where it must be there, has no name in the environment and its pieces mean values one by
 -- one, it may stand in a choice
@@ -65,31 +60,18 @@ key_field wide false q each group gap = single wide ByName q group gap
 abbrev pub flag_field : {T : Type 0} → (T → T → Type 0) → Key → T → Option T → Variables
     → ProgramForm T
 flag_field {T = T} clones key present absent variables =
-    key_field (not (is_nil key.envs)) (is_nil key.envs && is_none absent) (flag_roles key.names)
+    key_field (not (is_nil key.envs)) (is_nil key.envs && is_none absent)
+    (roles_of (is_key_of key.names) Alone)
     (FlagValue (clones present)) (FrontOf T (FlagValue (clones present)))
-    (flag_gap clones present absent (first_set variables key.envs))
-
--- each of these pieces is a key with its value
-pub data HaveValues : List LinePiece → Type 0 where
-  no_more : HaveValues []
-  one_more : {k w : Arg} {os : List LinePiece} → HaveValues os → HaveValues (Two k w ∷ os)
+    (gap_of clones (value_without_key present absent (first_set variables key.envs)))
 
 -- all pieces at once, each a key with its value, of which the last one's text means the value; the
 -- earlier texts need not mean any
-pub record LastGroup (T : Type 0) (means : List ℕ → T → Type 0) (os : List LinePiece) (v : T)
-    (rest : List LinePiece) : Type 0 where
-  pub before : List LinePiece
-  pub key : Arg
-  pub word : Arg
-  pub is : os ≡ before ++ Two key word ∷ []
-  pub have_values : HaveValues before
-  pub meant : means (item_text word) v
-  pub none_left : rest ≡ []
-
--- where no key of an argument is there, what the text of its variable means
-abbrev pub argument_gap : {T : Type 0} → (List ℕ → T → Type 0) → Option (List ℕ) → Gap T
-argument_gap {T = T} means None = no_gap T
-argument_gap means (Some text) = switch_gap (means text)
+abbrev pub LastGroup : (T : Type 0) → (List ℕ → T → Type 0) → Groups T
+LastGroup T means os v rest =
+    (before : List (Arg × Arg)) × (last : Arg × Arg)
+    × (os ≡ map (λ pair. Two pair.0 pair.1) before ++ Two last.0 last.1 ∷ [])
+    × means (item_text last.1) v × (rest ≡ [])
 
 -- the pieces that one evaluation of an argument reads: the first, or all at once
 abbrev pub argument_group : {T : Type 0} → (List ℕ → T → Type 0) → (last : Bool) → Groups T
@@ -103,17 +85,18 @@ abbrev pub argument_field : {T : Type 0} → (List ℕ → T → Type 0) → Key
 argument_field means argument variables =
     key_field (argument.adjacent || not (is_nil argument.named.envs))
     (is_nil argument.named.envs && not argument.last)
-    (argument_roles argument.adjacent argument.named.names) (ArgumentValue means)
+    (roles_of (is_argument_key argument.named.names argument.adjacent) WithNext)
+    (ArgumentValue means)
     (argument_group means argument.last)
-    (argument_gap means (first_set variables argument.named.envs))
+    (gap_of means (first_set variables argument.named.envs))
 
 -- a positional word on an accepted side, which stops before one behind `--` where that isn't one;
 -- where not both are it is wide
 abbrev pub word_by : {T : Type 0} → (Bool → Bool) → (List ℕ → T → Type 0)
     → ProgramForm T
 word_by {T = T} accepts means =
-    single (not (accepts true && accepts false)) (OneWord (not (accepts true))) word_roles
-    (FrontOf T (WordValue accepts means)) (no_gap T)
+    single (not (accepts true && accepts false)) (OneWord (not (accepts true)))
+    (roles_of is_positional Alone) (FrontOf T (WordValue accepts means)) (gap_of means None)
 
 -- the first word taken and its value; it has none; there is no word; the first one stands behind `--`,
 -- where that stops it; or want of memory

@@ -1,6 +1,6 @@
 -- How a flat record sees a line: its places, cut into pieces, which the fields share out.
 use Rattle.std.specs.Prelude.{◌≡◌, Bool, true, false, List, [], ◌∷◌, Option, Some, None}
-use Rattle.std.specs.Prelude.{if◌then◌else◌}
+use Rattle.std.specs.Prelude.{if◌then◌else◌, filter, not}
 use Rattle.std.specs.Option.{is_some}
 use Rattle.bpaf_base.specs.Items.{value_text, is_positional}
 use Rattle.bpaf_base.specs.declared.arg.Arg.{Arg}
@@ -51,31 +51,31 @@ is_own r (Two k w) = is_own_role (r k)
 
 -- the pieces of a field's own
 abbrev pub mine : Roles → List LinePiece → List LinePiece
-mine r [] = []
-mine r (o ∷ os) = if is_own r o then (o ∷ mine r os) else mine r os
+mine r os = filter (is_own r) os
 
 -- those of others
 abbrev pub others : Roles → List LinePiece → List LinePiece
-others r [] = []
-others r (o ∷ os) = if is_own r o then others r os else (o ∷ others r os)
+others r os = filter (λ o. not (is_own r o)) os
 
 -- what an item is to two fields that share none
 abbrev pub either_role : Role → Role → Role
-either_role Foreign b = b
-either_role Alone b = Alone
-either_role WithNext b = WithNext
+either_role a b = if is_own_role a then a else b
 
 -- the items of either
 abbrev pub either : Roles → Roles → Roles
-either q r k = either_role (q k) (r k)
+either q r k = if is_own_role (q k) then q k else r k
 
--- no item at all
+-- no item
 abbrev pub no_roles : Roles
 no_roles k = Foreign
 
+-- the items that pass a test, each in this role
+abbrev pub roles_of : (Arg → Bool) → Role → Roles
+roles_of test role k = if test k then role else Foreign
+
 -- all positional words
 abbrev pub word_roles : Roles
-word_roles k = if is_positional k then Alone else Foreign
+word_roles = roles_of is_positional Alone
 
 -- only keys are a named field's own
 pub record IsNamed (r : Roles) : Type 0 where
@@ -116,6 +116,20 @@ abbrev pub pieces : Roles → Cells → List LinePiece
 pieces r [] = []
 pieces r (None ∷ cs) = pieces r cs
 pieces r (Some k ∷ cs) = begin_piece (r k) k cs (pieces r cs)
+
+-- the pieces that begin with an item of a field's own taken, wherever they stand: a key of a flag,
+-- or one of an argument with the value in the next cell; and what is left
+pub data Takes (q : Roles) : Cells → List LinePiece → Cells → Type 0 where
+  no_cells : Takes q [] [] []
+  empty_stays : {cs ds : Cells} {os : List LinePiece} → Takes q cs os ds
+      → Takes q (None ∷ cs) os (None ∷ ds)
+  other_stays : {k : Arg} {cs ds : Cells} {os : List LinePiece} → q k ≡ Foreign → Takes q cs os ds
+      → Takes q (Some k ∷ cs) os (Some k ∷ ds)
+  takes_flag : {k : Arg} {cs ds : Cells} {os : List LinePiece} → q k ≡ Alone → Takes q cs os ds
+      → Takes q (Some k ∷ cs) (One k ∷ os) (None ∷ ds)
+  takes_argument : {k w : Arg} {cs ds : Cells} {os : List LinePiece} → q k ≡ WithNext
+      → is_some (value_text w) ≡ true → Takes q cs os ds
+      → Takes q (Some k ∷ (Some w ∷ cs)) (Two k w ∷ os) (None ∷ (None ∷ ds))
 
 -- one piece of a field's own taken
 pub data TakesPiece (r : Roles) : Cells → LinePiece → Cells → Type 0 where

@@ -1,6 +1,7 @@
 -- What a parser is to a program: how it reads what is present, and the law that this puts on its
 -- outcome.
 use Rattle.std.specs.Prelude.{ℕ, Bool, true, false, not, ◌&&◌, ◌||◌, List, [], ◌∷◌, Option}
+use Rattle.std.specs.Prelude.{None}
 use Rattle.std.specs.Prelude.{bytes_eq}
 use Rattle.std.specs.List.{list_all}
 use Rattle.bpaf_doc.specs.Names.{Names}
@@ -14,9 +15,8 @@ use Rattle.bpaf_exact.specs.Pieces.{Cells, Roles, LinePiece, either, no_roles}
 use Rattle.bpaf_exact.specs.Programs.{CellsValue, CommandValue, ChoiceValue, OptionalCommands}
 use Rattle.bpaf_exact.specs.Programs.{FieldThen, ProgramLaw, CommandsLaw, are_plain}
 use Rattle.bpaf_exact.specs.Record.{last_reading}
-use Rattle.bpaf_exact.specs.Single.{Groups, Gap, FrontOf, no_gap, SingleLaw, SingleValue}
-use Rattle.bpaf_exact.specs.Wrappers.{Closure, AgreesOn, ClosedGroup, closed_gap}
-use Rattle.bpaf_exact.specs.Wrappers.{ClosedValue, OptionalValue}
+use Rattle.bpaf_exact.specs.Single.{Groups, Gap, FrontOf, gap_of, SingleLaw, SingleValue}
+use Rattle.bpaf_exact.specs.Wrappers.{Closure, AgreesOn, ClosedValue, OptionalValue, closed_gap}
 
 -- what a parser is to a program, with its own items and its values; a wide field or record may
 -- stand in a program alone, and in no flat record
@@ -101,8 +101,8 @@ program_if false s = no_program
 -- a closure round a field or commands
 abbrev pub program_closed : {A B : Type 0} → Closure A B → ProgramForm A → ProgramForm B
 program_closed f (alternative wide q value) = alternative wide q (ClosedValue value f)
-program_closed {A = A} {B = B} f (single wide k q group gap) =
-    single wide k q (ClosedGroup A B group f) (closed_gap gap f)
+program_closed f (single wide k q group gap) =
+    single wide k q (λ os v rest. ClosedValue (λ x a. group x a rest) f os v) (closed_gap gap f)
 program_closed f (complete wide k q value) = complete wide k q (ClosedValue value f)
 program_closed f (commands optional value) = commands optional (ClosedValue value f)
 program_closed f _ = no_program
@@ -117,7 +117,7 @@ program_dressed s = s
 abbrev pub completed : {T B : Type 0} → (FieldKind → FieldKind)
     → (Groups T → Gap T → List LinePiece → B → Type 0) → ProgramForm T → ProgramForm B
 completed {T = T} kind value (alternative wide q each) =
-    complete wide (kind ByName) q (value (FrontOf T each) (no_gap T))
+    complete wide (kind ByName) q (value (FrontOf T each) (gap_of each None))
 completed kind value (single wide k q group gap) = complete wide (kind k) q (value group gap)
 completed kind value _ = no_program
 

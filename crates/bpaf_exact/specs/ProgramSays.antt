@@ -7,11 +7,11 @@ use Rattle.bpaf_laws.specs.Command.{Called, opening_words}
 use Rattle.bpaf_laws.specs.Reading.{Outcome}
 use Rattle.bpaf_exact.specs.Flat.{ByName, Variables}
 use Rattle.bpaf_exact.specs.Names.{Owns}
-use Rattle.bpaf_exact.specs.Pieces.{Cells, Roles, LinePiece, Cut, pieces}
+use Rattle.bpaf_exact.specs.Pieces.{Cells, Roles, LinePiece, Cut}
 use Rattle.bpaf_exact.specs.ProgramForm.{ProgramForm, FormLaw, no_program, commands}
 use Rattle.bpaf_exact.specs.ProgramForm.{before_commands, product_roles, whole_program}
-use Rattle.bpaf_exact.specs.Programs.{CellsValue, ChoiceValue, CommandValue}
-use Rattle.bpaf_exact.specs.Programs.{OptionalCommands, without}
+use Rattle.bpaf_exact.specs.Programs.{CellsValue, ChoiceValue, CommandValue, FieldThen}
+use Rattle.bpaf_exact.specs.Programs.{OptionalCommands}
 use Rattle.bpaf_exact.specs.Says.{EitherSays, FallbackSays, FieldsSaid, FieldsSay, LastSays}
 use Rattle.bpaf_exact.specs.Says.{MadeSays, OneOfSays, OptionalSays, RecordSays, RepeatSays, Said}
 use Rattle.bpaf_exact.specs.Says.{SaidKind, Says, form_kind, its_pieces, of_kind, words_after}
@@ -113,8 +113,7 @@ pub record FieldThenSays {A B : Type 0} (names : List Names) (said : Said A) (re
     (cs : Cells) (v : A × B) : Type 0 where
   pub roles : Roles
   pub owns : Owns roles names
-  pub own : said (pieces roles cs) v.0
-  pub left : rest (without roles cs) v.1
+  pub told : FieldThen A B roles said rest cs v
 
 -- of the last field
 abbrev pub said_alone : {P Q T : Type 0} → (Q → P) → (P → SaidKind) → (P → List Names)

@@ -1,7 +1,7 @@
 -- Programs with commands: named fields, and then a command, behind whose word a program stands
 -- again. What a program's values are is said of the cells of its scope alone.
 use Rattle.std.specs.Prelude.{◌≡◌, ◌≤◌, ◌⊎◌, ℕ, Bool, true, false, List, [], ◌∷◌, Option, Some}
-use Rattle.std.specs.Prelude.{None, Result, Ok, Err, if◌then◌else◌, ◌==◌, not}
+use Rattle.std.specs.Prelude.{None, Result, Ok, Err, ◌==◌, not}
 use Rattle.std.specs.List.{list_all}
 use Rattle.bpaf_base.specs.declared.arg.Arg.{Arg}
 use Rattle.bpaf_base.specs.declared.arg.Arg.TheVariants.{Short, Long}
@@ -11,34 +11,13 @@ use Rattle.bpaf_laws.specs.Choice.{depth}
 use Rattle.bpaf_laws.specs.Command.{Called, IsNotOpened, IsOpenedAt, inside, is_one_of}
 use Rattle.bpaf_laws.specs.Command.{opening_words}
 use Rattle.bpaf_laws.specs.Reading.{Outcome}
-use Rattle.bpaf_exact.specs.Pieces.{Cells, Role, Foreign, Alone, WithNext, Roles, LinePiece}
-use Rattle.bpaf_exact.specs.Pieces.{is_value, pieces, Apart, IsNamed}
+use Rattle.bpaf_exact.specs.Pieces.{Cells, Roles, LinePiece, pieces, Apart, IsNamed, Takes}
 use Rattle.bpaf_exact.specs.Flat.{OfMemory, OfMissing, class, cells, NonePresent, IsWholeIn}
 use Rattle.bpaf_exact.specs.Flat.{Variables}
 
 -- which values some cells have
 abbrev pub CellsValue : Type 0 → Type 1
 CellsValue V = Cells → V → Type 0
-
--- Named fields' own pieces taken away.
-
--- the first cell made empty, where a value stands in it
-abbrev pub without_value : Cells → Cells
-without_value [] = []
-without_value (None ∷ cs) = None ∷ cs
-without_value (Some w ∷ cs) = (if is_value w then None else Some w) ∷ cs
-
--- an item of one's own taken away: of a key of an argument with the value in the next cell
-abbrev pub without_piece : Role → Arg → Cells → Cells
-without_piece Foreign k cs = Some k ∷ cs
-without_piece Alone k cs = None ∷ cs
-without_piece WithNext k cs = None ∷ without_value cs
-
--- the cells without the pieces that begin with an item of one's own, wherever these stand
-abbrev pub without : Roles → Cells → Cells
-without q [] = []
-without q (None ∷ cs) = None ∷ without q cs
-without q (Some k ∷ cs) = without_piece (q k) k (without q cs)
 
 -- A command's word.
 
@@ -84,29 +63,27 @@ are_plain words = list_all (λ word. not (is_dashed word)) words
 -- The values.
 
 -- a command: its word is the first thing present, and behind it its program has the value
-pub record CommandValue (T : Type 0) (words : List (List ℕ)) (inner : CellsValue T) (cs : Cells)
-    (v : T) : Type 0 where
-  pub behind : Cells
-  pub opens : Opens words cs behind
-  pub read : inner behind v
+abbrev pub CommandValue : (T : Type 0) → List (List ℕ) → CellsValue T → CellsValue T
+CommandValue T words inner cs v = (ds : Cells) × Opens words cs ds × inner ds v
 
 -- a choice of commands: one of them has the value
-pub data ChoiceValue (T : Type 0) (first second : CellsValue T) (cs : Cells) (v : T) : Type 0 where
-  first_value : first cs v → ChoiceValue T first second cs v
-  second_value : second cs v → ChoiceValue T first second cs v
+abbrev pub ChoiceValue : (T : Type 0) → CellsValue T → CellsValue T → CellsValue T
+ChoiceValue T first second cs v = first cs v ⊎ second cs v
 
 -- commands that may be left out: nothing is present at all, and it is None
-pub data OptionalCommands (T : Type 0) (inner : CellsValue T) (cs : Cells) : Option T
-    → Type 0 where
-  some_command : {v : T} → inner cs v → OptionalCommands T inner cs (Some v)
-  no_command : NonePresent cs → OptionalCommands T inner cs None
+abbrev pub OptionalCommands : (T : Type 0) → CellsValue T → CellsValue (Option T)
+OptionalCommands T inner cs (Some v) = inner cs v
+OptionalCommands T inner cs None = NonePresent cs
 
 -- a named field before others, the last of which are commands: it has its value on its own pieces,
 -- and they have theirs on what is left without these
 pub record FieldThen (A B : Type 0) (q : Roles) (first : List LinePiece → A → Type 0)
     (rest : CellsValue B) (cs : Cells) (v : A × B) : Type 0 where
-  pub own : first (pieces q cs) v.0
-  pub left : rest (without q cs) v.1
+  pub own_pieces : List LinePiece
+  pub left_cells : Cells
+  pub taken : Takes q cs own_pieces left_cells
+  pub own : first own_pieces v.0
+  pub left : rest left_cells v.1
 
 -- The laws.
 

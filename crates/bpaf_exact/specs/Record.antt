@@ -5,7 +5,7 @@ use Rattle.bpaf_line.specs.Situation.{Context, Situation, item_in, open_count}
 use Rattle.bpaf_laws.specs.Reading.{Outcome}
 use Rattle.bpaf_exact.specs.Pieces.{Cells, Roles, LinePiece, Cut}
 use Rattle.bpaf_exact.specs.Flat.{OfMemory, class, first_cells, FieldKind, ReadOff, portion, left}
-use Rattle.bpaf_exact.specs.Flat.{FieldsReading, HasValue}
+use Rattle.bpaf_exact.specs.Flat.{FieldsReading}
 
 -- each item of a line is present at first, but for the marker
 abbrev pub line_cells : Context → Cells
@@ -59,16 +59,10 @@ pub record IsExact (V : Type 0) (r : Roles) (reading : FieldsReading V) (context
   pub refused : (os : List LinePiece) → Cut r (line_cells context) os → ¬ (reading.each os)
       → (v : V) → ¬ (a ≡ Accepted v)
 
--- the last field of a product, or a record of one field alone: no piece is left to others
-pub record LastValue (T : Type 0) (k : FieldKind) (q : Roles) (value : List LinePiece → T → Type 0)
-    (os : List LinePiece) (v : T) : Type 0 where
-  pub read : value (portion k q os) v
-  pub none_left : left k q os ≡ []
-
--- how it reads the pieces
+-- how the last field of a product, or one alone, reads the pieces: none is left to others
 abbrev pub last_reading : {T : Type 0} → FieldKind → Roles → (List LinePiece → T → Type 0)
     → FieldsReading T
 last_reading {T = T} k q value = record {
-  value = LastValue T k q value;
-  each = λ os. HasValue value (portion k q os) × (left k q os ≡ []);
+  value = λ os v. value (portion k q os) v × (left k q os ≡ []);
+  each = λ os. ((v : T) × value (portion k q os) v) × (left k q os ≡ []);
 }

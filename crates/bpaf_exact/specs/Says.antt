@@ -1,7 +1,7 @@
 -- What the value of a field says of the pieces of a line that are its own, and what the values of a
 -- record say of the line, field by field.
 use Rattle.std.specs.Prelude.{◌≡◌, ℕ, Bool, true, false, List, [], ◌∷◌, ◌++◌, Option, Some, None}
-use Rattle.std.specs.Prelude.{if◌then◌else◌}
+use Rattle.std.specs.Prelude.{filter, map, not}
 use Rattle.std.specs.List.{Contains}
 use Rattle.bpaf_doc.specs.Names.{Names}
 use Rattle.bpaf_base.specs.Items.{item_text}
@@ -10,7 +10,6 @@ use Rattle.bpaf_exact.specs.Pieces.{LinePiece, One, Roles, Two, is_own, mine, ot
 use Rattle.bpaf_exact.specs.Names.{is_key_of_any}
 use Rattle.bpaf_exact.specs.Flat.{FieldKind, ByName, front, back}
 use Rattle.bpaf_exact.specs.Single.{Own, repeated}
-use Rattle.bpaf_exact.specs.Leaves.{HaveValues}
 use Rattle.bpaf_exact.specs.Wrappers.{Closure}
 use Rattle.bpaf_exact.specs.Gathered.{IsLast}
 use Rattle.bpaf_exact.specs.ProgramForm.{ProgramForm, no_program, alternative, single, complete}
@@ -25,15 +24,11 @@ first_item (Two k w) = k
 
 -- the pieces that begin with a key with one of these names, in line order
 abbrev pub keyed : List Names → List LinePiece → List LinePiece
-keyed names [] = []
-keyed names (o ∷ os) =
-    if is_key_of_any names (first_item o) then (o ∷ keyed names os) else keyed names os
+keyed names os = filter (λ o. is_key_of_any names (first_item o)) os
 
 -- the pieces that begin with none
 abbrev pub unkeyed : List Names → List LinePiece → List LinePiece
-unkeyed names [] = []
-unkeyed names (o ∷ os) =
-    if is_key_of_any names (first_item o) then unkeyed names os else (o ∷ unkeyed names os)
+unkeyed names os = filter (λ o. not (is_key_of_any names (first_item o))) os
 
 -- of which pieces a field says something: those of a field of a kind; or those of a product with
 -- words, which stands last
@@ -92,8 +87,9 @@ pub data ArgumentSays {T : Type 0} (means : List ℕ → T → Type 0) (last : B
     (set : Option (List ℕ)) (os : List LinePiece) (v : T) : Type 0 where
   says_text : (k w : Arg) → os ≡ Two k w ∷ [] → means (item_text w) v
       → ArgumentSays means last set os v
-  says_last_text : (before : List LinePiece) (k w : Arg) → last ≡ true → HaveValues before
-      → os ≡ before ++ Two k w ∷ [] → means (item_text w) v → ArgumentSays means last set os v
+  says_last_text : (before : List (Arg × Arg)) (k w : Arg) → last ≡ true
+      → os ≡ map (λ pair. Two pair.0 pair.1) before ++ Two k w ∷ [] → means (item_text w) v
+      → ArgumentSays means last set os v
   says_variable_text : (text : List ℕ) → os ≡ [] → set ≡ Some text → means text v
       → ArgumentSays means last set os v
 

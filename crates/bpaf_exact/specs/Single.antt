@@ -1,6 +1,7 @@
 -- A flat field without a repeat or default: one evaluation, and what repeats and defaults make of
 -- it.
-use Rattle.std.specs.Prelude.{◌≡◌, ℕ, suc, Bool, true, false, List, [], ◌∷◌, Some, None, Ok, Err}
+use Rattle.std.specs.Prelude.{◌≡◌, ℕ, suc, Bool, true, false, List, [], ◌∷◌, Option, Some, None}
+use Rattle.std.specs.Prelude.{Ok, Err, is_some, ◌⊎◌}
 use Rattle.bpaf_line.specs.declared.error.Error.{Error}
 use Rattle.bpaf_line.specs.Situation.{Situation, open_count}
 use Rattle.bpaf_laws.specs.Reading.{Outcome}
@@ -15,11 +16,8 @@ abbrev pub Groups : Type 0 → Type 1
 Groups T = List LinePiece → T → List LinePiece → Type 0
 
 -- the first piece alone, where each piece has its value by itself
-pub record FrontOf (T : Type 0) (value : LinePiece → T → Type 0) (os : List LinePiece) (v : T)
-    (rest : List LinePiece) : Type 0 where
-  pub piece : LinePiece
-  pub is : os ≡ piece ∷ rest
-  pub means : value piece v
+abbrev pub FrontOf : (T : Type 0) → (LinePiece → T → Type 0) → Groups T
+FrontOf T value os v rest = (o : LinePiece) × (os ≡ o ∷ rest) × value o v
 
 -- the values read off the pieces, one after the other
 pub data Own (T : Type 0) (group : Groups T) : List LinePiece → List T → Type 0 where
@@ -43,6 +41,15 @@ Readable k group os = Unit {0}
 pub record Gap (T : Type 0) : Type 1 where
   pub has : Bool
   pub absent : T → Type 0
+
+-- a value that something means, if there is something
+abbrev pub IsMeant : {X T : Type 0} → (X → T → Type 0) → Option X → T → Type 0
+IsMeant means None v = ⊥
+IsMeant means (Some x) v = means x v
+
+-- for no piece at all what something means, if there is something
+abbrev pub gap_of : {X T : Type 0} → (X → T → Type 0) → Option X → Gap T
+gap_of means kept = record { has = is_some kept; absent = IsMeant means kept }
 
 -- a value read off the front of the own pieces, of which at least one was taken
 pub record TookGroup (T : Type 0) (k : FieldKind) (q : Roles) (group : Groups T) (s : Situation)
@@ -129,17 +136,15 @@ pub data OwnList (T : Type 0) (group : Groups T) (gap : Gap T) : List LinePiece 
       → Own T group os (v ∷ vs) → OwnList T group gap os (v ∷ vs)
   only_absent : {a : T} → gap.has ≡ true → gap.absent a → OwnList T group gap [] (a ∷ [])
 
--- the value of a field without a repeat or default
-pub data SingleValue (T : Type 0) (group : Groups T) (gap : Gap T) : List LinePiece → T
-    → Type 0 where
-  of_group : {os : List LinePiece} {v : T} → group os v [] → SingleValue T group gap os v
-  of_gap : {os : List LinePiece} {v : T} → os ≡ [] → gap.absent v → SingleValue T group gap os v
+-- the value of a field without a repeat or default: that of all pieces at once; or, where there is
+-- none, the absent one
+abbrev pub SingleValue : (T : Type 0) → Groups T → Gap T → List LinePiece → T → Type 0
+SingleValue T group gap os v = group os v [] ⊎ ((os ≡ []) × gap.absent v)
 
 -- with a repeat a positional field gets all words
 abbrev pub repeated : FieldKind → FieldKind
-repeated ByName = ByName
 repeated (OneWord stops) = EachWord stops
-repeated (EachWord stops) = EachWord stops
+repeated k = k
 
 -- after an error a turn stops where nothing was found, or the error can be caught otherwise
 pub data Stops (e : Error) (s m : Situation) : Type 0 where
@@ -158,7 +163,3 @@ abbrev pub present_count : Cells → ℕ
 present_count [] = 0
 present_count (None ∷ cs) = present_count cs
 present_count (Some x ∷ cs) = suc (present_count cs)
-
--- no value where there is no piece
-abbrev pub no_gap : (T : Type 0) → Gap T
-no_gap T = record { has = false; absent = λ v. ⊥ }

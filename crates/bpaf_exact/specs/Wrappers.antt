@@ -1,5 +1,5 @@
 -- What closures, optional and fallback make of a field's answers.
-use Rattle.std.specs.Prelude.{◌≡◌, Bool, true, false, List, [], Option, Some, None, Result, Ok, Err}
+use Rattle.std.specs.Prelude.{◌≡◌, ◌⊎◌, Bool, true, false, List, [], Option, Some, None, Result, Ok, Err}
 use Rattle.bpaf_line.specs.declared.error.Error.{Error}
 use Rattle.bpaf_line.specs.Situation.{Situation}
 use Rattle.bpaf_laws.specs.Reading.{Outcome}
@@ -18,10 +18,8 @@ map_closure answers = record { yes = answers; no = λ x. ⊥ }
 
 -- parse: its Ok and its Err
 abbrev pub parse_closure : {A B E : Type 0} → (A → Result B E → Type 0) → Closure A B
-parse_closure {E = E} answers = record {
-  yes = λ x v. answers x (Ok v);
-  no = λ x. (fault : E) × answers x (Err fault);
-}
+parse_closure {E = E} answers =
+    record { yes = λ x v. answers x (Ok v); no = λ x. (fault : E) × answers x (Err fault) }
 
 -- guard: the same value where the check may be true, no where it may be false
 abbrev pub guard_closure : {A : Type 0} → (A → Bool → Type 0) → Closure A A
@@ -29,10 +27,7 @@ guard_closure checks = record { yes = λ x v. (v ≡ x) × checks x true; no = �
 
 -- what is called on nothing: its Ok and its Err
 abbrev pub answer_closure : {B E : Type 0} → (Result B E → Type 0) → Closure (Unit {0}) B
-answer_closure {E = E} answers = record {
-  yes = λ u v. answers (Ok v);
-  no = λ u. (fault : E) × answers (Err fault);
-}
+answer_closure answers = parse_closure (λ u. answers)
 
 -- what it may accept it doesn't refuse
 abbrev pub Decides : {A B : Type 0} → Closure A B → Type 0
@@ -54,7 +49,7 @@ pub data ClosedEval (A B : Type 0) (inner : Outcome A) (f : Closure A B) (c : Er
   closed_err : {e : Error} {t : Situation} → inner s (Err e) t → ClosedEval A B inner f c s
       (Err e) t
 
--- a closure's answer on a value that pieces have, or cells
+-- a closure's answer on a value that something has: pieces, or cells
 pub record ClosedValue {X A B : Type 0} (value : X → A → Type 0) (f : Closure A B) (x : X) (v : B)
     : Type 0 where
   pub from : A
@@ -73,12 +68,10 @@ pub data OptionalEval (T : Type 0) (inner : Outcome T) (s : Situation) : Result 
   optional_memory : {e : Error} {t : Situation} → class e ≡ OfMemory
       → OptionalEval T inner s (Err e) t
 
--- its value
-pub data OptionalValue (T : Type 0) (group : Groups T) (gap : Gap T) : List LinePiece → Option T
-    → Type 0 where
-  some_value : {os : List LinePiece} {v : T} → SingleValue T group gap os v
-      → OptionalValue T group gap os (Some v)
-  no_value : {os : List LinePiece} → os ≡ [] → gap.has ≡ false → OptionalValue T group gap os None
+-- its value: Some of the one inside; or None, where there is neither a piece nor an absent value
+abbrev pub OptionalValue : (T : Type 0) → Groups T → Gap T → List LinePiece → Option T → Type 0
+OptionalValue T group gap os (Some v) = SingleValue T group gap os v
+OptionalValue T group gap os None = (os ≡ []) × (gap.has ≡ false)
 
 -- yes: what the fallback may give; no: that it may refuse, which is a fault of its own
 pub data FallbackEval (T : Type 0) (inner : Outcome T) (f : Closure (Unit {0}) T)
@@ -92,20 +85,12 @@ pub data FallbackEval (T : Type 0) (inner : Outcome T) (f : Closure (Unit {0}) T
   fallback_err : {e : Error} {m : Situation} → inner s (Err e) m → (CanCatch e → ⊥)
       → FallbackEval T inner f s (Err e) s
 
--- the value of a field with a default
-pub data FallbackValue (T : Type 0) (group : Groups T) (gap : Gap T)
-    (f : Closure (Unit {0}) T) : List LinePiece → T → Type 0 where
-  own_value : {os : List LinePiece} {v : T} → SingleValue T group gap os v
-      → FallbackValue T group gap f os v
-  kept_value : {os : List LinePiece} {v : T} → os ≡ [] → gap.has ≡ false → f.yes tt v
-      → FallbackValue T group gap f os v
-
--- one on what an evaluation of a field without a repeat or default reads
-pub record ClosedGroup (A B : Type 0) (group : Groups A) (f : Closure A B) (os : List LinePiece)
-    (v : B) (rest : List LinePiece) : Type 0 where
-  pub from : A
-  pub read : group os from rest
-  pub made : f.yes from v
+-- the value of a field with a default: its own; or what stands for it, where there is neither a
+-- piece nor an absent value
+abbrev pub FallbackValue : (T : Type 0) → Groups T → Gap T → Closure (Unit {0}) T
+    → List LinePiece → T → Type 0
+FallbackValue T group gap f os v =
+    SingleValue T group gap os v ⊎ ((os ≡ []) × (gap.has ≡ false) × f.yes tt v)
 
 -- the absent value, through a closure
 abbrev pub closed_gap : {A B : Type 0} → Gap A → Closure A B → Gap B

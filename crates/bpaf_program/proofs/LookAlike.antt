@@ -22,7 +22,8 @@ use Rattle.bpaf_exact.specs.ProgramForm.{program_optional}
 use Rattle.bpaf_exact.specs.Single.{OwnList, repeated}
 use Rattle.bpaf_exact.specs.Flat.{Variables}
 use Rattle.bpaf_record.specs.Positional.{positional_law}
-use Rattle.bpaf_exact.specs.Leaves.{ArgumentValue, argument_field, argument_gap, argument_group}
+use Rattle.bpaf_exact.specs.Leaves.{ArgumentValue, argument_field, argument_group}
+use Rattle.bpaf_exact.specs.Single.{gap_of}
 use Rattle.bpaf_exact.specs.Leaves.{argument_roles, flag_field, key_field, word_by}
 use Rattle.bpaf_exact.specs.OneView.{Alike, HasOneView, pair_view}
 use Rattle.bpaf_exact.specs.Wrappers.{FallbackValue, map_closure}
@@ -61,7 +62,7 @@ argument_seen {T} {X} see means one key bare = record {
       (key_field (key.adjacent || not (is_nil key.named.envs))
       (is_nil key.named.envs && not key.last)
       (argument_roles key.adjacent key.named.names) (ArgumentValue means)
-      (argument_group means key.last) (argument_gap means set)))
+      (argument_group means key.last) (gap_of means set)))
       (ap (first_set env) bare ∙ sym (ap (first_set []) bare)) (argument_field_law env T means key);
   view = argument_view T X see means one key [];
 }

@@ -1,6 +1,6 @@
 -- Programs all of whose values on the same words look alike.
 use Rattle.std.proofs.Common.{◌≡◌, All, true, false, IsUtf8, List, [], ◌∷◌, ◌++◌, ℕ, ap, ap₂}
-use Rattle.std.proofs.Common.{subst, sym, ◌∙◌}
+use Rattle.std.proofs.Common.{subst, sym, ◌∙◌, inl, inr}
 use Rattle.bpaf_doc.specs.Names.{Names}
 use Rattle.bpaf_words.specs.Arguments.{Given}
 use Rattle.bpaf_words.specs.Spelling.{Known}
@@ -12,8 +12,8 @@ use Rattle.bpaf_exact.specs.ProgramForm.{ProgramForm, are_words_apart, is_record
 use Rattle.bpaf_exact.specs.ProgramForm.{program_alone, program_both, program_con, program_field}
 use Rattle.bpaf_exact.specs.ProgramForm.{program_value}
 use Rattle.bpaf_exact.specs.Programs.{CellsValue, ChoiceValue, CommandValue, FieldThen}
-use Rattle.bpaf_exact.specs.Programs.{Opens, first_value}
-use Rattle.bpaf_exact.specs.Programs.{second_value}
+use Rattle.bpaf_exact.specs.Programs.{Opens}
+use Rattle.bpaf_exact.proofs.BeforeCommands.{one_take}
 use Rattle.bpaf_exact.proofs.Commands.{opens_apart, opens_left, opens_right}
 use Rattle.bpaf_exact.proofs.OneView.{record_looks_one}
 use Rattle.bpaf_exact.proofs.ProgramForm.{words_apart}
@@ -47,9 +47,9 @@ module _ {T X : Type 0} {see : T → X} where
   pub command_seen : (word : List ℕ) {value : CellsValue T} → LooksOne see value
       → AreSeen see (word ∷ []) (CommandValue T (word ∷ []) value)
   command_seen word {value} one = record {
-    look = λ cs v w a b. one b.behind v w
-        (subst (λ ds. value ds v) (opens_one (word ∷ []) a.opens b.opens) a.read) b.read;
-    opened = λ cs v a. (a.behind, a.opens);
+    look = λ cs v w a b. one b.0 v w
+        (subst (λ ds. value ds v) (opens_one (word ∷ []) a.1 b.1) a.2) b.2;
+    opened = λ cs v a. (a.0, a.1);
   }
 
   -- a choice of commands whose words are apart
@@ -65,16 +65,16 @@ module _ {T X : Type 0} {see : T → X} where
           (other.opened cs w b).1
 
       choice_look : LooksOne see (ChoiceValue T first second)
-      choice_look cs v w (first_value a) (first_value b) = one.look cs v w a b
-      choice_look cs v w (second_value a) (second_value b) = other.look cs v w a b
-      choice_look cs v w (first_value a) (second_value b) = absurd (never cs v w a b)
-      choice_look cs v w (second_value a) (first_value b) = absurd (never cs w v b a)
+      choice_look cs v w (inl a) (inl b) = one.look cs v w a b
+      choice_look cs v w (inr a) (inr b) = other.look cs v w a b
+      choice_look cs v w (inl a) (inr b) = absurd (never cs v w a b)
+      choice_look cs v w (inr a) (inl b) = absurd (never cs w v b a)
 
       choice_opened : (cs : Cells) (v : T) → ChoiceValue T first second cs v
           → (ds : Cells) × Opens (words ++ more) cs ds
-      choice_opened cs v (first_value a) =
+      choice_opened cs v (inl a) =
           let o = one.opened cs v a in (o.0, opens_left words more o.1)
-      choice_opened cs v (second_value a) =
+      choice_opened cs v (inr a) =
           let o = other.opened cs v a in (o.0, opens_right words more o.1)
 
 -- a last field of a record
@@ -124,8 +124,10 @@ pub then_look : {A B X Y : Type 0} {see : A → X} {look : B → Y} {q : Roles}
     {first : List LinePiece → A → Type 0} {value : CellsValue B}
     → ((os : List LinePiece) → Alike see (first os)) → LooksOne look value
     → LooksOne (pair_view see look) (FieldThen A B q first value)
-then_look one more cs v w a b =
-    ap₂ (λ x y. (x, y)) (one _ v.0 w.0 a.own b.own) (more _ v.1 w.1 a.left b.left)
+then_look {first = first} {value = value} one more cs v w a b =
+    let same = one_take a.taken b.taken in
+    ap₂ (λ x y. (x, y)) (one _ v.0 w.0 (subst (λ os. first os v.0) same.0 a.own) b.own)
+    (more _ v.1 w.1 (subst (λ ds. value ds v.1) same.1 a.left) b.left)
 
 -- all values of the program on the same words look alike
 pub program_looks_one : {T X : Type 0} {see : T → X} {form : ProgramForm T}

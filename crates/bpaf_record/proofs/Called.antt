@@ -1,7 +1,7 @@
 -- What an answer of a program says by the words: whose keys were spelled of the fields in front of
 -- commands, and which command's word was.
 use Rattle.std.proofs.Common.{◌≡◌, ◌≢◌, ℕ, Bool, true, false, List, [], ◌∷◌, Some, None, refl, ap}
-use Rattle.std.proofs.Common.{subst, if◌then◌else◌, Option, arith, ⊎_elim}
+use Rattle.std.proofs.Common.{subst, Option, arith, ⊎_elim, ◌⊎◌, inl, inr}
 use Rattle.std.specs.List.{Contains}
 use Rattle.std.specs.Option.{option_to_list}
 use Rattle.std.proofs.lemmas.List.Elements.{Contains-append_cases, Contains-append_left}
@@ -17,12 +17,11 @@ use Rattle.bpaf_line.specs.Constructing.{IsContext}
 use Rattle.bpaf_line.specs.Situation.{Context}
 use Rattle.bpaf_laws.specs.Command.{is_one_of}
 use Rattle.bpaf_exact.specs.Names.{Owns}
-use Rattle.bpaf_exact.specs.Pieces.{Cells, Roles, Role, Foreign, Alone, WithNext, pieces}
-use Rattle.bpaf_exact.specs.Pieces.{begin_piece, is_own_role, is_value}
+use Rattle.bpaf_exact.specs.Pieces.{Cells, LinePiece, Roles, Takes, no_cells, empty_stays}
+use Rattle.bpaf_exact.specs.Pieces.{other_stays, takes_argument, takes_flag, is_own_role}
 use Rattle.bpaf_exact.specs.ProgramForm.{ProgramForm}
-use Rattle.bpaf_exact.specs.Programs.{CellsValue, ChoiceValue, first_value, second_value}
-use Rattle.bpaf_exact.specs.Programs.{CommandValue, Opens, opens_here, opens_later, without}
-use Rattle.bpaf_exact.specs.Programs.{without_piece, without_value}
+use Rattle.bpaf_exact.specs.Programs.{CellsValue}
+use Rattle.bpaf_exact.specs.Programs.{CommandValue, Opens, opens_here, opens_later}
 use Rattle.bpaf_exact.specs.Record.{line_cells}
 use Rattle.bpaf_record.specs.Program.{TellsOfWords}
 use Rattle.bpaf_record.specs.Spelled.{WasCalled, WasSpelled}
@@ -49,29 +48,14 @@ left_again (still_there l) (gone m) = gone (left_again l m)
 left_again (gone l) (still_there m) = gone (left_again l m)
 left_again (gone l) (gone m) = gone (left_again l m)
 
--- a value taken away
-value_left : {left cs : Cells} → IsLeft left cs → IsLeft (without_value left) cs
-value_left none_left = none_left
-value_left (still_there {c = None} l) = still_there l
-value_left (still_there {c = Some w} {left = left} {cs = cs} l) = by_test (is_value w)
-  where
-    by_test : (b : Bool) → IsLeft ((if b then None else Some w) ∷ left) (Some w ∷ cs)
-    by_test true = gone l
-    by_test false = still_there l
-value_left (gone l) = gone l
-
--- a piece taken away
-piece_left : (r : Role) (k : Arg) {left cs : Cells} → IsLeft left cs
-    → IsLeft (without_piece r k left) (Some k ∷ cs)
-piece_left Foreign k l = still_there l
-piece_left Alone k l = gone l
-piece_left WithNext k l = gone (value_left l)
-
 -- the pieces of a field taken away
-without_left : (q : Roles) (cs : Cells) → IsLeft (without q cs) cs
-without_left q [] = none_left
-without_left q (None ∷ cs) = still_there (without_left q cs)
-without_left q (Some k ∷ cs) = piece_left (q k) k (without_left q cs)
+taken_left : {q : Roles} {cs left : Cells} {os : List LinePiece} → Takes q cs os left
+    → IsLeft left cs
+taken_left no_cells = none_left
+taken_left (empty_stays t) = still_there (taken_left t)
+taken_left (other_stays e t) = still_there (taken_left t)
+taken_left (takes_flag e t) = gone (taken_left t)
+taken_left (takes_argument e v t) = gone (gone (taken_left t))
 
 -- what stands behind a command's word
 opens_left : {words : List (List ℕ)} {cs ds : Cells} → Opens words cs ds → IsLeft ds cs
@@ -100,28 +84,28 @@ opens_on : (words : List (List ℕ)) {cs ds : Cells} → Opens words cs ds
 opens_on words (opens_here {k = k} is) = (k, (0, omega arith, refl), is)
 opens_on words (opens_later o) = opens_on words o
 
--- own pieces begin with a key where its roles are those of its names
-owned_on : (q : Roles) (key : Names) → Owns q (key ∷ []) → (cs : Cells) → pieces q cs ≢ []
-    → HasPassing (is_key_of key) (present cs)
-owned_on q key owns [] some = absurd (some refl)
-owned_on q key owns (None ∷ cs) some = owned_on q key owns cs some
-owned_on q key owns (Some k ∷ cs) some = by_role (q k) refl some (owned_on q key owns cs)
-  where
-    own : is_own_role (q k) ≡ true → HasPassing (is_key_of key) (present (Some k ∷ cs))
-    own is = (
-      k,
-      (0, omega arith, refl),
-      ⊎_elim (λ passes. passes) (λ (no : false ≡ true). cc)
-          (or_cases (is_key_of key k) false (owns.own k is)),
-    )
+-- an own item is a key where its roles are those of its names
+own_first : {q : Roles} (key : Names) → Owns q (key ∷ []) → (k : Arg) (behind : List Arg)
+    → is_own_role (q k) ≡ true → HasPassing (is_key_of key) (k ∷ behind)
+own_first key owns k behind is = (
+  k,
+  (0, omega arith, refl),
+  ⊎_elim (λ passes. passes) (λ (no : false ≡ true). cc)
+      (or_cases (is_key_of key k) false (owns.own k is)),
+)
 
-    by_role : (r : Role) → q k ≡ r → begin_piece r k cs (pieces q cs) ≢ []
-        → (pieces q cs ≢ [] → HasPassing (is_key_of key) (present cs))
-        → HasPassing (is_key_of key) (present (Some k ∷ cs))
-    by_role Foreign is some behind =
-        let one = behind some in
-        (one.0, Contains-append_right (k ∷ []) (present cs) one.0 one.1, one.2)
-    by_role r is some behind = own (ap is_own_role is)
+-- and own pieces begin with one
+owned_on : {q : Roles} (key : Names) → Owns q (key ∷ []) → {cs left : Cells}
+    {os : List LinePiece} → Takes q cs os left → os ≢ [] → HasPassing (is_key_of key) (present cs)
+owned_on key owns no_cells some = absurd (some refl)
+owned_on key owns (empty_stays t) some = owned_on key owns t some
+owned_on key owns (other_stays {k = k} {cs = cs} e t) some =
+    let one = owned_on key owns t some in
+    (one.0, Contains-append_right (k ∷ []) (present cs) one.0 one.1, one.2)
+owned_on key owns (takes_flag {k = k} {cs = cs} e t) some =
+    own_first key owns k (present cs) (ap is_own_role e)
+owned_on key owns (takes_argument {k = k} {w = w} {cs = cs} e v t) some =
+    own_first key owns k (present (Some w ∷ cs)) (ap is_own_role e)
 
 -- what is left of the line of words
 pub record LeftOfLine (known : Known) (given : Given) (words : List (List ℕ)) (cs : Cells) : Type 0
@@ -146,21 +130,23 @@ told_line told words are = record {
 module _ {known : Known} {given : Given} {words : List (List ℕ)} {cs : Cells}
     (line : LeftOfLine known given words cs) where
   -- So it is without the pieces of a field.
-  pub without_field : (q : Roles) → LeftOfLine known given words (without q cs)
-  without_field q = record {
+  pub without_field : {q : Roles} {os : List LinePiece} {left : Cells} → Takes q cs os left
+      → LeftOfLine known given words left
+  without_field taken = record {
     are = line.are;
     context = line.context;
     on_line = line.on_line;
-    left = left_again (without_left q cs) line.left;
+    left = left_again (taken_left taken) line.left;
   }
 
   -- The pieces of a named field are its key's own there.
-  pub of_field : {key : Names} (q : Roles) → Owns q (key ∷ []) → OwnOf words key (pieces q cs)
-  of_field {key} q owns = record {
+  pub of_field : {key : Names} {q : Roles} → Owns q (key ∷ []) → {os : List LinePiece}
+      {left : Cells} → Takes q cs os left → OwnOf words key os
+  of_field {key} owns taken = record {
     spelled = λ some. subst (WasSpelled key) line.are (
       known,
       item_spelled (is_key_of key) known given line.context line.on_line (λ text. refl)
-          (kept_on (is_key_of key) line.left (owned_on q key owns cs some)),
+          (kept_on (is_key_of key) line.left (owned_on key owns taken some)),
     );
   }
 
@@ -173,7 +159,7 @@ module _ {known : Known} {given : Given} {words : List (List ℕ)} {cs : Cells}
       (subst (λ those. WasCalled those given.words) same (
         known,
         item_spelled (is_one_of opens) known given line.context line.on_line (none_behind opens)
-            (kept_on (is_one_of opens) line.left (opens_on opens command.opens)),
+            (kept_on (is_one_of opens) line.left (opens_on opens command.1)),
       ))
     where
       none_behind : (words : List (List ℕ)) (text : List ℕ) → is_one_of words (PosWord text) ≡ false
@@ -181,7 +167,6 @@ module _ {known : Known} {given : Given} {words : List (List ℕ)} {cs : Cells}
       none_behind (word ∷ words) text = none_behind words text
 
 -- What follows of either of two commands follows of a choice of them.
-pub of_either : {T X : Type 0} {first second : CellsValue T} {cs : Cells} {v : T}
-    → ChoiceValue T first second cs v → (first cs v → X) → (second cs v → X) → X
-of_either (first_value c) one other = one c
-of_either (second_value c) one other = other c
+pub of_either : {A B X : Type 0} → A ⊎ B → (A → X) → (B → X) → X
+of_either (inl c) one other = one c
+of_either (inr c) one other = other c

@@ -1,7 +1,7 @@
 -- The words behind the first `--` are what a repeat of strict words at the end of a record reads,
 -- all of them and in order.
 use Rattle.std.proofs.Common.{◌≡◌, ℕ, Bool, true, false, List, [], ◌∷◌, ◌++◌, map, refl, sym, ap}
-use Rattle.std.proofs.Common.{◌∙◌, if◌then◌else◌, true≢false, subst, cond}
+use Rattle.std.proofs.Common.{◌∙◌, if◌then◌else◌, not, true≢false, subst, cond}
 use Rattle.std.specs.List.{AllZip, AllByRecursion, filter}
 use Rattle.std.proofs.lemmas.Bool.{not-true}
 use Rattle.std.proofs.lemmas.List.Elements.{recursion_from_All}
@@ -87,7 +87,7 @@ module _ (q : Roles) (named : IsNamed q) where
   others_are (o ∷ os) = by_own (is_own q o) refl (others_are os)
     where
       by_own : (b : Bool) → is_own q o ≡ b → items_behind (others q os) ≡ items_behind os
-          → items_behind (if b then others q os else (o ∷ others q os)) ≡ items_behind (o ∷ os)
+          → items_behind (if not b then (o ∷ others q os) else others q os) ≡ items_behind (o ∷ os)
       by_own true e h =
           h ∙ sym (ap (λ b. cond b (first_item o ∷ items_behind os) (items_behind os))
           (piece_before o e))

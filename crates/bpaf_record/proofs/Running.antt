@@ -32,6 +32,7 @@ use Rattle.bpaf_record.specs.Record.{is_flat_record, answer_of, AnswersByFields,
 use Rattle.bpaf_record.specs.Record.{IsValueOrWant, HasWholeLine, PiecesOf}
 use Rattle.bpaf_record.specs.Commands.{left_over}
 use Rattle.bpaf_record.proofs.OneLine.{never_without, same_context}
+use Rattle.bpaf_exact.proofs.Cuts.{read_cut}
 
 -- what a run answers that gives no value is none
 no_value : (T : Type 0) (f : ParseFailure) → IsNoValue (answer_of {T = T} (Err f))
@@ -92,7 +93,7 @@ module _ (T : Type 0) (outcome : Outcome T) (describes : Shape → Type 0) (info
     whole_line v is = record {
       is_value = is;
       together = cut_holds_together roles fields_law.named (line_cells is.context)
-          is.read.cut_into is.read.cut;
+          is.read.cut_into (read_cut is.read);
     }
 
     module _ (context : Context) (is : IsContext known given context)
