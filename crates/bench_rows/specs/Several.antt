@@ -11,7 +11,7 @@ use Rattle.bpaf_laws.specs.Transform.{MapReads}
 use Rattle.bpaf_laws.specs.Choice.{ChoiceOutcome, ChoiceReads, ChoiceDescribes}
 use Rattle.bpaf_laws.proofs.ChoiceLaws.{choice_lawful}
 use Rattle.bpaf_laws.specs.Product.{BothOutcome, BothReads, BothDescribes, LastDescribes}
-use Rattle.bpaf_laws.specs.Product.{ProductOutcome, ProductReads, ProductDescribes}
+use Rattle.bpaf_laws.specs.Product.{ProductOutcome, ProductDescribes}
 use Rattle.bpaf_laws.proofs.ProductLaws.{both_lawful, product_lawful}
 use Rattle.bpaf_laws.specs.Pure.{GivesRefusal, PureOutcome, PureReads}
 use Rattle.bpaf_laws.proofs.PureLaws.{refusal_lawful}
@@ -29,7 +29,7 @@ NestedOutcome fields told = ToldOutcome (ProductOutcome fields (λ x v. v ≡ x)
 
 -- what is read of it
 abbrev pub NestedReads : {V : Type 0} → Readings V → (V → Value → Type 0) → Readings Value
-NestedReads {V} reads told = MapReads V Value (ProductReads V V reads (λ x v. v ≡ x)) told
+NestedReads {V} reads told = MapReads V Value (MapReads V V reads (λ x v. v ≡ x)) told
 
 -- it keeps to the laws where its fields do
 nested_lawful : {V : Type 0} {fields : Outcome V} {reads : Readings V} (told : V → Value → Type 0)

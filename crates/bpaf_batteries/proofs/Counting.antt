@@ -17,15 +17,15 @@ use Rattle.bpaf_laws.specs.Flag.{FlagReads, IsAbsentValue, at_key, in_environmen
 use Rattle.bpaf_laws.specs.Laws.{newly}
 use Rattle.bpaf_laws.specs.Product.{BothOutcome, BothReads}
 use Rattle.bpaf_laws.specs.Reading.{Outcome, Share, Readings, HasItem, IsPlace, Joins}
-use Rattle.bpaf_laws.specs.Repeat.{EachReads, ListReads, CountOutcome, CountReads}
+use Rattle.bpaf_laws.specs.Repeat.{EachReads, ListReads, CountOutcome}
+use Rattle.bpaf_laws.specs.Transform.{MapReads}
 use Rattle.bpaf_batteries.proofs.Keys.{not_both}
 use Rattle.bpaf_batteries.specs.Keys.{is_key, MustStand, AreKeysApart, KeyOutcome, KeyReads}
-use Rattle.bpaf_batteries.specs.Level.{level}
 use Rattle.bpaf_laws.specs.Spared.{IsNotMemory, WithoutMemory}
 use Rattle.bpaf_laws.proofs.ProductSparing.{both_spares, product_spares}
 use Rattle.bpaf_batteries.specs.Verbosity.{CountsSpared}
-use Rattle.bpaf_batteries.specs.Verbosity.{CountsOutcome, IsItemAt, IsLevelOf, keys_in, keys_taken}
-use Rattle.bpaf_batteries.specs.Verbosity.{KeysAreCounted, last_place, PicksItem, VerbosityCounts}
+use Rattle.bpaf_batteries.specs.Verbosity.{CountsOutcome, CountsReads, IsLevelOf, keys_in}
+use Rattle.bpaf_batteries.specs.Verbosity.{keys_taken, KeysAreCounted, PicksItem, VerbosityCounts}
 use Rattle.bpaf_batteries.specs.Verbosity.{VerbosityPicks}
 use Rattle.bpaf_batteries.specs.VerbosityLaws.{counts_lawful}
 
@@ -129,10 +129,11 @@ module _ {T : Type 0} (clones : T → T → Type 0) (flag : ParseFlag T) (stands
       (each_key read.1 vs read.4))
 
   -- a count is of as many keys
-  count_keys : (share : Share) (n : ℕ) → CountReads reads_key context share n
+  count_keys : (share : Share) (n : ℕ)
+      → MapReads (List T) ℕ (ListReads reads_key) (λ values m. m ≡ length values) context share n
       → AreKeys flag context share n
   count_keys share n read =
-      subst (AreKeys flag context share) (sym read.number) (list_keys share read.values read.read)
+      subst (AreKeys flag context share) (sym read.made) (list_keys share read.from read.read)
 
 -- at one place: of a whole share of which some places pass a test and the others don't, it is these
 at_one : (w f r h : Bool) → w ≡ (f || r) → (f ≡ true → h ≡ true) → (r ≡ true → h ≡ false)
@@ -150,8 +151,7 @@ module _ {T : Type 0} (clones : T → T → Type 0) (more fewer : ParseFlag T)
     (keys : AreKeysApart more fewer) (context : Context) (share : Share) where
   -- two counts are as many keys of each flag
   pub counted : (counts : ℕ × ℕ)
-      → BothReads ℕ ℕ (CountReads (KeyReads clones more)) (CountReads (KeyReads clones fewer))
-      context share counts
+      → CountsReads clones more fewer context share counts
       → (counts.0 ≡ keys_in more context share) × (counts.1 ≡ keys_in fewer context share)
   counted counts read =
       let one = count_keys clones more keys.one_stands context read.first_share counts.0
@@ -211,10 +211,8 @@ pub keys_counted : {T : Type 0} (clones : T → T → Type 0) (more fewer : Pars
     → AreKeysApart more fewer → (s t : Situation) (r : Result (ℕ × ℕ) Error)
     → CountsOutcome clones more fewer s r t → IfOk r (KeysAreCounted more fewer s t)
 keys_counted clones more fewer keys s t (Ok counts) o =
-    let read = ((counts_lawful clones more fewer).ok s t counts o).reading in
-    subst (λ (v : ℕ × ℕ). (v.0 ≡ keys_taken more s t) × (v.1 ≡ keys_taken fewer s t))
-    (sym read.made)
-    (counted clones more fewer keys s.context (newly s t) read.values read.read)
+    counted clones more fewer keys s.context (newly s t) counts
+    ((counts_lawful clones more fewer).ok s t counts o).reading
 keys_counted clones more fewer keys s t (Err e) o = tt
 
 module _ {K : Type 0} (more fewer : ParseFlag K) (s t : Situation) (counts : ℕ × ℕ)
@@ -223,15 +221,13 @@ module _ {K : Type 0} (more fewer : ParseFlag K) (s t : Situation) (counts : ℕ
   pub level_counts : (offset min max v : ℤ) → IsLevelOf offset min max counts v
       → VerbosityCounts more fewer offset min max s t v
   level_counts offset min max v is =
-      subst (λ n. v ≡ level offset min max n (keys_taken fewer s t)) are.0
-      (subst (λ n. v ≡ level offset min max counts.0 n) are.1 is)
+      subst (λ n. IsLevelOf offset min max (n, keys_taken fewer s t) v) are.0
+      (subst (λ n. IsLevelOf offset min max (counts.0, n) v) are.1 is)
 
   -- and so is the item
   pub picks_counts : {T : Type 0} (clones : T → T → Type 0) (offset : ℕ) (items : List T) (v : T)
       → PicksItem clones offset items counts v
       → VerbosityPicks more fewer clones offset items s t v
   picks_counts clones offset items v picks =
-      subst (λ n. IsItemAt clones items
-      (level (pos offset) (pos 0) (last_place items) n (keys_taken fewer s t)) v) are.0
-      (subst (λ n. IsItemAt clones items
-      (level (pos offset) (pos 0) (last_place items) counts.0 n) v) are.1 picks)
+      subst (λ n. PicksItem clones offset items (n, keys_taken fewer s t) v) are.0
+      (subst (λ n. PicksItem clones offset items (counts.0, n) v) are.1 picks)

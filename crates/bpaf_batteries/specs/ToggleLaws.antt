@@ -1,14 +1,14 @@
 -- Toggles keep to the laws.
-use Rattle.std.specs.Prelude.{Bool, Option}
+use Rattle.std.specs.Prelude.{Bool, Option, ◌++◌}
+use Rattle.std.proofs.Common.{subst}
 use Rattle.bpaf_text.specs.declared.params.ParseFlag.{ParseFlag}
-use Rattle.bpaf_laws.specs.ShownNames.{ShowsNames}
+use Rattle.bpaf_laws.specs.ShownNames.{ShowsNames, of_flags}
 use Rattle.bpaf_laws.proofs.ShownNames.{choice_shows, flag_shows, many_shows}
 use Rattle.bpaf_laws.proofs.ChoiceLaws.{choice_lawful}
 use Rattle.bpaf_laws.proofs.FlagLaws.{flag_lawful}
 use Rattle.bpaf_laws.proofs.RepeatLaws.{many_lawful}
 use Rattle.bpaf_laws.proofs.TransformLaws.{map_lawful}
 use Rattle.bpaf_laws.specs.Laws.{Lawful}
-use Rattle.bpaf_batteries.specs.Keys.{shorts_of_both}
 use Rattle.bpaf_batteries.specs.Toggle.{IsLastOf, ToggleDescribes, ToggleOutcome, ToggleReads}
 
 -- toggles keep to the laws
@@ -16,14 +16,30 @@ pub toggle_lawful : {T : Type 0} (clones : T → T → Type 0) (one other : Pars
     (catches : Bool)
     → Lawful (Option T) (ToggleOutcome clones one other catches) (ToggleReads clones one other)
 toggle_lawful {T} clones one other catches =
-    map_lawful
-    (many_lawful (choice_lawful (flag_lawful T clones one.named one.present one.absent)
-    (flag_lawful T clones other.named other.present other.absent)) catches)
-    (λ values v. IsLastOf values.items v)
+    let law = map_lawful
+        (many_lawful (choice_lawful (flag_lawful T clones one.named one.present one.absent)
+        (flag_lawful T clones other.named other.present other.absent)) catches)
+        (λ values v. IsLastOf values.items v) in
+    record {
+      ok = λ s t v o.
+          let read = law.ok s t v o in
+          record {
+            keeps = read.keeps;
+            closed = read.closed;
+            reading = record {
+              from = read.reading.read.from;
+              read = read.reading.read.read;
+              made = subst (λ values. IsLastOf values v) read.reading.read.made read.reading.made;
+            };
+          };
+      err = λ s t e o. law.err s t e o;
+      named = λ s t e o. law.named s t e o;
+    }
 
 -- it shows the short names of both keys
 pub toggle_shows : {T : Type 0} (one other : ParseFlag T)
-    → ShowsNames (ToggleDescribes one other) (shorts_of_both one other)
+    → ShowsNames (ToggleDescribes one other) 
+    (of_flags (one.named.names.shorts ++ other.named.names.shorts))
 toggle_shows one other =
     many_shows (choice_shows (flag_shows one.named one.absent)
     (flag_shows other.named other.absent))

@@ -15,12 +15,6 @@ use Rattle.bpaf_laws.specs.OneStretch.{IsStretch}
 use Rattle.bpaf_laws.specs.Reading.{Share, Readings, Outcome, IsEmptyShare, HasPlace}
 use Rattle.bpaf_laws.specs.Spared.{IsNotMemory}
 
--- a reading of the product, off one stretch
-pub record GroupReads (T : Type 0) (inner : Readings T) (context : Context) (share : Share)
-    (v : T) : Type 0 where
-  pub read : inner context share v
-  pub stretch : IsStretch share
-
 -- how many places the first item of a group has: an argument two, each other one
 abbrev pub place_count : Part → ℕ
 place_count (Argument name shorts metavar env help) = 2
