@@ -17,9 +17,9 @@ pub toggle_lawful : {T : Type 0} (clones : T → T → Type 0) (one other : Pars
     → Lawful (Option T) (ToggleOutcome clones one other catches) (ToggleReads clones one other)
 toggle_lawful {T} clones one other catches =
     let law = map_lawful
-        (many_lawful (choice_lawful (flag_lawful T clones one.named one.present one.absent)
-        (flag_lawful T clones other.named other.present other.absent)) catches)
-        (λ values v. IsLastOf values.items v) in
+    (many_lawful (choice_lawful (flag_lawful T clones one.named one.present one.absent)
+    (flag_lawful T clones other.named other.present other.absent)) catches)
+    (λ values v. IsLastOf values.items v) in
     record {
       ok = λ s t v o.
           let read = law.ok s t v o in
@@ -38,7 +38,7 @@ toggle_lawful {T} clones one other catches =
 
 -- it shows the short names of both keys
 pub toggle_shows : {T : Type 0} (one other : ParseFlag T)
-    → ShowsNames (ToggleDescribes one other) 
+    → ShowsNames (ToggleDescribes one other)
     (of_flags (one.named.names.shorts ++ other.named.names.shorts))
 toggle_shows one other =
     many_shows (choice_shows (flag_shows one.named one.absent)

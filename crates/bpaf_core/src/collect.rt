@@ -52,6 +52,7 @@ impl<P, C, T> ParseCollect<P, C, T> {
 /// As `many`, with what is filled from the list in its place; refused also where the collection
 /// wants memory.
 impl<T: Drop, C: FromList<T> + Drop, P: Parser<T>> Parser<C> for ParseCollect<P, C, T> {
+    ghost use Rattle.std.specs.Prelude.{List};
     ghost use Rattle.bpaf_laws.specs.Repeat.{ListReads, CollectOutcome, CollectIsBounded};
     ghost use Rattle.bpaf_laws.specs.Repeat.{ManyDescribes};
     ghost use Rattle.bpaf_laws.specs.Transform.{MapReads};

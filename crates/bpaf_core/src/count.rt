@@ -58,6 +58,7 @@ pub struct ParseCount<P, T> {
 /// The number of inner values, until a turn stops or a value took nothing, which is counted. Every
 /// error at which no turn stops is refused, with the state that it left; so is want of memory.
 impl<T: Drop, P: Parser<T>> Parser<usize> for ParseCount<P, T> {
+    ghost use Rattle.std.specs.Prelude.{◌≡◌, List, ℕ, length};
     ghost use Rattle.bpaf_laws.specs.Repeat.{ListReads, CountOutcome, ManyDescribes};
     ghost use Rattle.bpaf_laws.specs.Transform.{MapReads};
     ghost use Rattle.bpaf_laws.proofs.RepeatLaws.{count_lawful};
@@ -103,6 +104,7 @@ pub struct ParseLast<P> {
 /// parser is evaluated once more, and what it answers is the answer. Every error at which no turn
 /// stops is refused, with the state that it left; so is want of memory.
 impl<T: Drop, P: Parser<T>> Parser<T> for ParseLast<P> {
+    ghost use Rattle.std.specs.Prelude.{◌≡◌, List, [], ◌∷◌, ◌++◌};
     ghost use Rattle.bpaf_laws.specs.Repeat.{ListReads, LastOutcome, SomeDescribes};
     ghost use Rattle.bpaf_laws.specs.Transform.{MapReads};
     ghost use Rattle.bpaf_laws.proofs.RepeatLaws.{last_lawful};

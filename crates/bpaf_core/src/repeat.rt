@@ -60,7 +60,7 @@ impl<P> ParseMany<P> {
 /// nothing, or another error that can be caught, or a value after the first that took nothing.
 /// Every other error is refused, with the state that it left; so is want of memory.
 impl<T: Drop, P: Parser<T>> Parser<Vec<T>> for ParseMany<P> {
-    ghost use Rattle.std.specs.Prelude.{IfOk};
+    ghost use Rattle.std.specs.Prelude.{IfOk, List};
     ghost use Rattle.bpaf_laws.specs.Repeat.{ListReads, ManyOutcome, ManyDescribes, IsBounded};
     ghost use Rattle.bpaf_laws.specs.Transform.{MapReads};
     ghost use Rattle.bpaf_laws.proofs.RepeatLaws.{many_lawful};
@@ -144,7 +144,7 @@ impl<'m, P> ParseSome<'m, P> {
 
 /// As `many`; without a value it refuses with ParseSome and the message.
 impl<'m, T: Drop, P: Parser<T>> Parser<Vec<T>> for ParseSome<'m, P> {
-    ghost use Rattle.std.specs.Prelude.{IfOk};
+    ghost use Rattle.std.specs.Prelude.{false, IfOk, List};
     ghost use Rattle.bpaf_laws.specs.Repeat.{ListReads, SomeOutcome, SomeDescribes, IsBounded, is_nil};
     ghost use Rattle.bpaf_laws.specs.Transform.{MapReads};
     ghost use Rattle.bpaf_laws.proofs.RepeatLaws.{some_lawful};

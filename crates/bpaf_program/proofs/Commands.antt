@@ -66,7 +66,7 @@ module _ {T : Type 0} {inner : Outcome T} {reads wanted : Readings T}
       (EitherCommandOutcome adjacent T inner (EndsRun describes info) called
       (CommandPart called help describes))
       (EitherCommandReads adjacent T (opening_words called) reads)
-      (CommandDescribes called help describes) 
+      (CommandDescribes called help describes)
       (StretchReads T (CommandReads T (name ∷ []) wanted))
       (CommandDescribes (named_only name) own shapes)
   command_hands = record {
