@@ -61,6 +61,7 @@ impl<P> ParseMany<P> {
 /// Every other error is refused, with the state that it left; so is want of memory.
 impl<T: Drop, P: Parser<T>> Parser<Vec<T>> for ParseMany<P> {
     ghost use Rattle.std.specs.Prelude.{IfOk, List};
+    ghost use Rattle.std.specs.Global.{Vec};
     ghost use Rattle.bpaf_laws.specs.Repeat.{ListReads, ManyOutcome, ManyDescribes, IsBounded};
     ghost use Rattle.bpaf_laws.specs.Transform.{MapReads};
     ghost use Rattle.bpaf_laws.proofs.RepeatLaws.{many_lawful};
@@ -145,6 +146,7 @@ impl<'m, P> ParseSome<'m, P> {
 /// As `many`; without a value it refuses with ParseSome and the message.
 impl<'m, T: Drop, P: Parser<T>> Parser<Vec<T>> for ParseSome<'m, P> {
     ghost use Rattle.std.specs.Prelude.{false, IfOk, List};
+    ghost use Rattle.std.specs.Global.{Vec};
     ghost use Rattle.bpaf_laws.specs.Repeat.{ListReads, SomeOutcome, SomeDescribes, IsBounded, is_nil};
     ghost use Rattle.bpaf_laws.specs.Transform.{MapReads};
     ghost use Rattle.bpaf_laws.proofs.RepeatLaws.{some_lawful};

@@ -128,7 +128,7 @@ pub struct ParseGuard<'m, P, F> {
 /// memory.
 impl<'m, T: Drop, P: Parser<T>, F: Fn(&T) -> bool> Parser<T> for ParseGuard<'m, P, F> {
     ghost use Rattle.std.specs.Fn.{FnReturnsAt};
-    ghost use Rattle.std.specs.Prelude.{◌≡◌};
+    ghost use Rattle.std.specs.Prelude.{◌≡◌, true};
     ghost use Rattle.bpaf_laws.specs.Spared.{IsNotMemory, WithoutMemory};
     ghost use Rattle.bpaf_laws.specs.Transform.{GuardOutcome, MapReads};
     ghost use Rattle.bpaf_laws.proofs.TransformLaws.{guard_lawful};
