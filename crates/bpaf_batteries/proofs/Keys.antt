@@ -11,8 +11,8 @@ use Rattle.bpaf_line.specs.Taking.{IsFirst, HasNone}
 use Rattle.bpaf_line.specs.declared.error.Error.{Error}
 use Rattle.bpaf_line.specs.declared.error.Message.{Message}
 use Rattle.bpaf_line.specs.declared.error.Message.TheVariants.{Memory}
-use Rattle.bpaf_laws.specs.Environment.{is_set}
-use Rattle.bpaf_laws.specs.Flag.{FlagOutcome, FlagFails, IsAbsentValue, IsFlagPresent}
+use Rattle.bpaf_laws.specs.Environment.{is_set, IsMeant}
+use Rattle.bpaf_laws.specs.Flag.{FlagOutcome, FlagFails, IsFlagPresent}
 use Rattle.bpaf_laws.specs.Spared.{IsNotMemory}
 use Rattle.bpaf_batteries.specs.Keys.{is_key, MustStand}
 
@@ -40,9 +40,9 @@ module _ {T : Type 0} (clones : T → T → Type 0) (flag : ParseFlag T) (stands
       true≢false (sym (subst (λ envs. is_set s.context.env envs ≡ true) stands.on_the_line set))
 
   -- nor is there an absent value
-  not_absent : (v : T) → IsAbsentValue clones flag.absent v → ⊥
+  not_absent : (v : T) → IsMeant clones flag.absent v → ⊥
   not_absent v value =
-      subst (λ absent. IsAbsentValue clones absent v) stands.required value
+      subst (λ absent. IsMeant clones absent v) stands.required value
 
   -- a flag that is present took its first key
   key_taken : (v : T) → IsFlagPresent flag.named s t → clones flag.present v

@@ -7,9 +7,9 @@ use Rattle.bpaf_base.specs.Items.{is_key_of}
 use Rattle.bpaf_line.specs.{declared.error.Error.Error, declared.error.Message.Message}
 use Rattle.bpaf_line.specs.{declared.error.Message.TheVariants.Memory, Situation.Situation}
 use Rattle.bpaf_line.specs.{Situation.take_place, Taking.HasNone, Taking.TakesFlag}
-use Rattle.bpaf_laws.specs.Environment.{first_set, is_set}
+use Rattle.bpaf_laws.specs.Environment.{first_set, is_set, IsMeant}
 use Rattle.bpaf_laws.specs.Repeat.{is_nil}
-use Rattle.bpaf_laws.specs.Flag.{FlagOutcome, FlagFails, IsAbsentValue}
+use Rattle.bpaf_laws.specs.Flag.{FlagOutcome, FlagFails}
 use Rattle.bpaf_exact.specs.Single.{Groups, Gap, FrontOf, SingleOk, gave_absent, took, SingleErr}
 use Rattle.bpaf_exact.specs.Alternative.{AlternativeOk, AlternativeErr, alternative_memory}
 use Rattle.bpaf_exact.specs.Leaves.{flag_roles, FlagValue, flag_gap, flag_field, key_field}
@@ -106,7 +106,7 @@ module _ (T : Type 0) (clones : T → T → Type 0) (present : T) where
 
   -- else the absent one
   gap_unset : (absent : Option T) (set : Option (List ℕ)) (v : T) → is_some set ≡ false
-      → IsAbsentValue clones absent v → StandsForNone absent set v
+      → IsMeant clones absent v → StandsForNone absent set v
   gap_unset None None v e y = absurd y
   gap_unset (Some kept) None v e y = (refl, y)
   gap_unset absent (Some text) v e y = absurd cc

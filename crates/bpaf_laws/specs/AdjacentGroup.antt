@@ -8,11 +8,10 @@ use Rattle.bpaf_line.specs.declared.missing.MissingItem.{MissingItem}
 use Rattle.bpaf_line.specs.Messages.{is_memory}
 use Rattle.bpaf_line.specs.MissingIn.{IsMissingIn}
 use Rattle.bpaf_line.specs.Stretches.{IsStretchFrom}
-use Rattle.bpaf_line.specs.Situation.{Situation, Context, with_scope, HasNoneOpen, IsNextOpen}
+use Rattle.bpaf_line.specs.Situation.{Situation, with_scope, HasNoneOpen, IsNextOpen}
 use Rattle.bpaf_laws.specs.Counting.{taken_count}
 use Rattle.bpaf_laws.specs.Laws.{newly}
-use Rattle.bpaf_laws.specs.OneStretch.{IsStretch}
-use Rattle.bpaf_laws.specs.Reading.{Share, Readings, Outcome, IsEmptyShare, HasPlace}
+use Rattle.bpaf_laws.specs.Reading.{Share, Outcome, IsEmptyShare, HasPlace}
 use Rattle.bpaf_laws.specs.Spared.{IsNotMemory}
 
 -- how many places the first item of a group has: an argument two, each other one
