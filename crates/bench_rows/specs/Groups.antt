@@ -121,9 +121,9 @@ TogetherOutcome o d (p ∷ q ∷ r ∷ s ∷ ps) = PureOutcome (GivesRefusal wro
 abbrev pub TogetherReads : {P : Type 0} → (P → Readings Value) → List P → Readings Value
 TogetherReads f (p ∷ q ∷ []) = GroupedReads (TwoFields (f p) (f q)) ToldPair
 TogetherReads f (p ∷ q ∷ r ∷ []) = GroupedReads (ThreeFields (f p) (f q) (f r)) ToldTriple
-TogetherReads f [] = PureReads (GivesRefusal wrong_number)
-TogetherReads f (p ∷ []) = PureReads (GivesRefusal wrong_number)
-TogetherReads f (p ∷ q ∷ r ∷ s ∷ ps) = PureReads (GivesRefusal wrong_number)
+TogetherReads f [] = PureReads (λ v. ⊥)
+TogetherReads f (p ∷ []) = PureReads (λ v. ⊥)
+TogetherReads f (p ∷ q ∷ r ∷ s ∷ ps) = PureReads (λ v. ⊥)
 
 -- it keeps to the laws where its parsers do
 pub together_lawful : {P : Type 0} (o : P → Outcome Value) (f : P → Readings Value)

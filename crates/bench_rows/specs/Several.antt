@@ -93,9 +93,9 @@ abbrev pub TupleReads : {P : Type 0} → (P → Readings Value) → List P → R
 TupleReads f (p ∷ q ∷ []) = NestedReads (TwoFields (f p) (f q)) ToldPair
 TupleReads f (p ∷ q ∷ r ∷ []) = NestedReads (ThreeFields (f p) (f q) (f r)) ToldTriple
 TupleReads f (p ∷ q ∷ r ∷ s ∷ []) = NestedReads (FourFields (f p) (f q) (f r) (f s)) ToldQuadruple
-TupleReads f [] = PureReads (GivesRefusal wrong_number)
-TupleReads f (p ∷ []) = PureReads (GivesRefusal wrong_number)
-TupleReads f (p ∷ q ∷ r ∷ s ∷ t ∷ ps) = PureReads (GivesRefusal wrong_number)
+TupleReads f [] = PureReads (λ v. ⊥)
+TupleReads f (p ∷ []) = PureReads (λ v. ⊥)
+TupleReads f (p ∷ q ∷ r ∷ s ∷ t ∷ ps) = PureReads (λ v. ⊥)
 
 -- what it shows
 abbrev pub TupleDescribes : {P : Type 0} → (P → Describes) → List P → Shape → Type 0
@@ -154,9 +154,9 @@ OrElseOutcome o (p ∷ q ∷ r ∷ s ∷ ps) = PureOutcome (GivesRefusal wrong_n
 abbrev pub OrElseReads : {P : Type 0} → (P → Readings Value) → List P → Readings Value
 OrElseReads f (p ∷ q ∷ []) = ChoiceReads (f p) (f q)
 OrElseReads f (p ∷ q ∷ r ∷ []) = ChoiceReads (ChoiceReads (f p) (f q)) (f r)
-OrElseReads f [] = PureReads (GivesRefusal wrong_number)
-OrElseReads f (p ∷ []) = PureReads (GivesRefusal wrong_number)
-OrElseReads f (p ∷ q ∷ r ∷ s ∷ ps) = PureReads (GivesRefusal wrong_number)
+OrElseReads f [] = PureReads (λ v. ⊥)
+OrElseReads f (p ∷ []) = PureReads (λ v. ⊥)
+OrElseReads f (p ∷ q ∷ r ∷ s ∷ ps) = PureReads (λ v. ⊥)
 
 -- what it shows
 abbrev pub OrElseDescribes : {P : Type 0} → (P → Describes) → List P → Shape → Type 0

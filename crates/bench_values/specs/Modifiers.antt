@@ -1,5 +1,6 @@
 -- What one parser answers under a modifier.
-use Rattle.std.specs.Prelude.{◌≡◌, List, [], ◌∷◌, ◌++◌, length, ℕ, Option, codes, refl, true, false}
+use Rattle.std.specs.Prelude.{◌≡◌, List, [], ◌∷◌, ◌++◌, length, ℕ, Ok, Option, codes}
+use Rattle.std.specs.Prelude.{refl, true, false}
 use Rattle.std.specs.Global.{Vec}
 use Rattle.std.specs.declared.collections.VecDeque.{VecDeque}
 use Rattle.std.specs.declared.alloc.Global.{Global}
@@ -115,8 +116,9 @@ OverReads clones over.Map reads = MapReads Value Value reads IsHalf
 OverReads clones (over.Guard limit) reads = MapReads Value Value reads (λ x v. (v ≡ x) × Checks x true)
 OverReads clones (over.Parse limit) reads = AcceptReads reads
 OverReads clones (over.Fallback n) reads =
-    ChoiceReads reads (PureReads (GivesClone clones (number_of n)))
-OverReads clones (over.FallbackWith number) reads = ChoiceReads reads (PureReads (GivesNumber number))
+    ChoiceReads reads (PureReads (clones (number_of n)))
+OverReads clones (over.FallbackWith number) reads =
+    ChoiceReads reads (PureReads (λ v. GivesNumber number (Ok v)))
 OverReads clones over.Hide reads = reads
 
 -- what is shown under a modifier

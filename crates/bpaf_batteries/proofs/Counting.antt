@@ -4,7 +4,7 @@ use Rattle.std.proofs.Common.{◌∷◌, length, slice_get, Result, Ok, Err, IfO
 use Rattle.std.proofs.Common.{None, refl, sym, ◌∙◌, subst, arith, ⊎_elim, inl, inr, true≢false, if◌then◌else◌}
 use Rattle.std.proofs.lemmas.Bool.{cases_eq, eq-eqb, ne_eqb}
 use Rattle.std.proofs.lemmas.Option.{slice_get_within}
-use Rattle.std.specs.Option.{option_map_or}
+use Rattle.std.specs.Option.{option_map_or, IsSomeRelated}
 use Rattle.bpaf_line.specs.declared.error.Error.{Error}
 use Rattle.bpaf_text.specs.declared.params.ParseFlag.{ParseFlag}
 use Rattle.bpaf_base.specs.declared.arg.Arg.{Arg}
@@ -12,7 +12,7 @@ use Rattle.bpaf_index.proofs.Counts.{count_below-same, count_below-fewer, count_
 use Rattle.bpaf_line.specs.Situation.{Situation, Context, item_in, is_marker, count_below}
 use Rattle.bpaf_line.specs.Situation.{with_current}
 use Rattle.bpaf_laws.proofs.CountingLaws.{count_below-joined}
-use Rattle.bpaf_laws.specs.Environment.{first_set, IsMeant}
+use Rattle.bpaf_laws.specs.Environment.{first_set}
 use Rattle.bpaf_laws.specs.Flag.{FlagReads, value_without_key}
 use Rattle.bpaf_laws.specs.Laws.{newly}
 use Rattle.bpaf_laws.specs.Product.{BothOutcome, BothReads}
@@ -81,8 +81,8 @@ module _ {T : Type 0} (clones : T → T → Type 0) (flag : ParseFlag T) (stands
           (λ (other : p ≢ here.0). absurd (true≢false (sym e ∙ ne_eqb p here.0 other)))
           (cases_eq p here.0)
   one_key share v (inr none) =
-      absurd (subst (λ absent. IsMeant clones absent v) stands.required
-      (subst (λ envs. IsMeant clones
+      absurd (subst (λ absent. IsSomeRelated clones absent v) stands.required
+      (subst (λ envs. IsSomeRelated clones
       (value_without_key flag.present flag.absent (first_set context.env envs)) v)
       stands.on_the_line none.1))
 

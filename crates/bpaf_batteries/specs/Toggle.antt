@@ -2,6 +2,7 @@
 use Rattle.std.specs.Prelude.{◌≡◌, ◌⊎◌, ◌<◌, ◌++◌, ◌∷◌, [], ℕ, Bool, true, false, List, Option}
 use Rattle.std.specs.Prelude.{Some, None}
 use Rattle.std.specs.Global.{Vec}
+use Rattle.std.specs.List.{last_or}
 use Rattle.bpaf_doc.specs.Shape.{Shape}
 use Rattle.bpaf_text.specs.declared.params.ParseFlag.{ParseFlag}
 use Rattle.bpaf_base.specs.declared.arg.Arg.{Arg}
@@ -67,7 +68,8 @@ abbrev pub ToggleReads : {T : Type 0} → (T → T → Type 0) → ParseFlag T �
     → Readings (Option T)
 ToggleReads {T} clones one other =
     MapReads (List T) (Option T)
-    (ListReads (ChoiceReads (KeyReads clones one) (KeyReads clones other))) IsLastOf
+    (ListReads (ChoiceReads (KeyReads clones one) (KeyReads clones other)))
+    (λ values v. v ≡ last_or None values)
 
 -- what it shows
 abbrev pub ToggleDescribes : {T : Type 0} → ParseFlag T → ParseFlag T → Shape → Type 0

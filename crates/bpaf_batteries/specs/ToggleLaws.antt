@@ -1,6 +1,7 @@
 -- Toggles keep to the laws.
-use Rattle.std.specs.Prelude.{Bool, Option, ◌++◌}
-use Rattle.std.proofs.Common.{subst}
+use Rattle.std.specs.Prelude.{◌≡◌, Bool, List, [], ◌∷◌, ◌++◌, Option, Some, None, refl}
+use Rattle.std.specs.List.{last_or}
+use Rattle.std.proofs.Common.{ap, subst, sym, ◌∙◌}
 use Rattle.bpaf_text.specs.declared.params.ParseFlag.{ParseFlag}
 use Rattle.bpaf_laws.specs.ShownNames.{ShowsNames, of_flags}
 use Rattle.bpaf_laws.proofs.ShownNames.{choice_shows, flag_shows, many_shows}
@@ -10,6 +11,18 @@ use Rattle.bpaf_laws.proofs.RepeatLaws.{many_lawful}
 use Rattle.bpaf_laws.proofs.TransformLaws.{map_lawful}
 use Rattle.bpaf_laws.specs.Laws.{Lawful}
 use Rattle.bpaf_batteries.specs.Toggle.{IsLastOf, ToggleDescribes, ToggleOutcome, ToggleReads}
+
+-- what stands behind others is the last
+last_behind : {T : Type 0} (default : Option T) (before : List T) (v : T)
+    → last_or default (before ++ v ∷ []) ≡ Some v
+last_behind default [] v = refl
+last_behind default (x ∷ before) v = last_behind (Some x) before v
+
+-- the last of some values, or none without a value
+is_last : {T : Type 0} (values : List T) (v : Option T) → IsLastOf values v
+    → v ≡ last_or None values
+is_last values None none = sym (ap (last_or None) none)
+is_last values (Some v) is = sym (ap (last_or None) is.1 ∙ last_behind None is.0 v)
 
 -- toggles keep to the laws
 pub toggle_lawful : {T : Type 0} (clones : T → T → Type 0) (one other : ParseFlag T)
@@ -29,7 +42,8 @@ toggle_lawful {T} clones one other catches =
             reading = record {
               from = read.reading.read.from;
               read = read.reading.read.read;
-              made = subst (λ values. IsLastOf values v) read.reading.read.made read.reading.made;
+              made = is_last read.reading.read.from v
+                  (subst (λ values. IsLastOf values v) read.reading.read.made read.reading.made);
             };
           };
       err = λ s t e o. law.err s t e o;

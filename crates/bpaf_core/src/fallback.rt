@@ -119,7 +119,7 @@ impl<T: Clone, P: Parser<T>> Parser<T> for ParseFallback<P, T> {
     ghost shorts = { λ p. P.shorts p.inner };
 
     ghost reads = { λ p.
-        ChoiceReads (P.reads p.inner) (PureReads (GivesClone T.is_clone p.value)) };
+        ChoiceReads (P.reads p.inner) (PureReads (T.is_clone p.value)) };
 
     ghost outcome = { λ p. FallbackOutcome (P.outcome p.inner) (GivesClone T.is_clone p.value) };
 
@@ -260,6 +260,7 @@ impl<T: Drop, P: Drop, F: Fn() -> Result<T, E> + Drop, E: Drop> ParseFallbackWit
 /// memory. After all but an inner value the state is as before.
 impl<T, E: Display + Drop, P: Parser<T>, F: Fn() -> Result<T, E>> Parser<T>
     for ParseFallbackWith<T, P, F, E> {
+    ghost use Rattle.std.specs.Prelude.{Ok};
     ghost use Rattle.bpaf_laws.specs.Choice.{ChoiceReads};
     ghost use Rattle.bpaf_laws.specs.Pure.{PureReads};
     ghost use Rattle.bpaf_laws.specs.Default.{FallbackOutcome, GivesAnswer};
@@ -276,7 +277,7 @@ impl<T, E: Display + Drop, P: Parser<T>, F: Fn() -> Result<T, E>> Parser<T>
 
     ghost reads = { λ p.
         ChoiceReads (P.reads p.inner)
-        (PureReads (GivesAnswer (λ r. F.post p.fallback r) E.output)) };
+        (PureReads (λ v. F.post p.fallback (Ok v))) };
 
     ghost outcome = { λ p.
         FallbackOutcome (P.outcome p.inner) (GivesAnswer (λ r. F.post p.fallback r) E.output) };

@@ -6,7 +6,7 @@ use Rattle.bpaf_line.specs.Situation.{Situation}
 use Rattle.bpaf_line.specs.declared.error.Message.{Message}
 use Rattle.bpaf_line.specs.declared.error.Message.TheVariants.{Memory, ParseFailed, ParseFailure}
 use Rattle.bpaf_line.specs.declared.error.Message.TheVariants.{NoArgument}
-use Rattle.bpaf_laws.specs.Environment.{IsMeant}
+use Rattle.std.specs.Option.{IsSomeRelated}
 use Rattle.bpaf_laws.specs.Reading.{Readings}
 use Rattle.bpaf_laws.specs.Laws.{Keeps, Closes, Reads, Lawful, newly}
 use Rattle.bpaf_laws.specs.RefusalNames.{NamesAnswer}
@@ -86,7 +86,7 @@ module _ (T : Type 0) (means : List ℕ → T → Type 0) (argument : KeyWithVal
       → Reads T reads_argument s v t
   variable_read s t v text found meant =
       reads_unset reads_argument s t v found.left
-      (inr (newly_none s, subst (λ set. IsMeant means set v) (sym found.set) meant))
+      (inr (newly_none s, subst (λ set. IsSomeRelated means set v) (sym found.set) meant))
 
   -- what getting a text keeps
   text_keeps : (s t : Situation) (text : List ℕ) → GetsText argument s text t → Keeps s t

@@ -58,18 +58,18 @@ module _ {T : Type 0} {inner : Outcome T} {reads : Readings T} (law : Lawful T i
 
   -- what a fallback answers is a reading
   fallback_read : (gives : Gives T) (s t : Situation) (v : T)
-      → FallbackOutcome inner gives s (Ok v) t → Reads T (ChoiceReads reads (PureReads gives)) s v t
+      → FallbackOutcome inner gives s (Ok v) t → Reads T (ChoiceReads reads (PureReads (λ w. gives (Ok w)))) s v t
   fallback_read gives s t v o =
       ⊎_elim
       (λ ran. let read = law.ok s t v ran
       in record { keeps = read.keeps; closed = read.closed; reading = inl read.reading })
-      (λ fell. reads_same (ChoiceReads reads (PureReads gives)) s t v fell.0.1
+      (λ fell. reads_same (ChoiceReads reads (PureReads (λ w. gives (Ok w)))) s t v fell.0.1
       (inr (newly_none s, fell.1)))
       o
 
   -- fallbacks keep to the laws
   pub fallback_lawful : (gives : Gives T) → NamesGiven gives
-      → Lawful T (FallbackOutcome inner gives) (ChoiceReads reads (PureReads gives))
+      → Lawful T (FallbackOutcome inner gives) (ChoiceReads reads (PureReads (λ w. gives (Ok w))))
   fallback_lawful gives names = record {
     ok = λ s t v o. fallback_read gives s t v o;
     err =

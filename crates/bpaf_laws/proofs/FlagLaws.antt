@@ -1,6 +1,6 @@
 -- Flags keep to the laws.
 use Rattle.std.specs.Prelude.{◌≡◌, ℕ, Bool, true, false, List, Option, Some, None}
-use Rattle.std.specs.Option.{is_some}
+use Rattle.std.specs.Option.{is_some, IsSomeRelated}
 use Rattle.std.proofs.Common.{sym, subst, ⊎_elim, inl, inr, true≢false}
 use Rattle.bpaf_doc.specs.Names.{Names}
 use Rattle.bpaf_text.specs.Named.{Named, flag_part}
@@ -10,7 +10,7 @@ use Rattle.bpaf_line.specs.Taking.{TakesFlag}
 use Rattle.bpaf_line.proofs.Matches.{match_is_open, match_has_item}
 use Rattle.bpaf_line.specs.declared.error.Message.{Message}
 use Rattle.bpaf_line.specs.declared.error.Message.TheVariants.{Memory, ParseFailure}
-use Rattle.bpaf_laws.specs.Environment.{first_set, IsMeant}
+use Rattle.bpaf_laws.specs.Environment.{first_set}
 use Rattle.bpaf_laws.specs.Reading.{Readings}
 use Rattle.bpaf_laws.specs.Laws.{Keeps, Reads, Lawful}
 use Rattle.bpaf_laws.specs.RefusalNames.{NamesAnswer}
@@ -53,13 +53,13 @@ module _ (T : Type 0) (clones : T → T → Type 0) (named : Named) (present : T
 
   -- where a variable is set the present value stands for no key
   kept_set : (set : Option (List ℕ)) (v : T) → is_some set ≡ true → clones present v
-      → IsMeant clones (value_without_key present absent set) v
+      → IsSomeRelated clones (value_without_key present absent set) v
   kept_set (Some text) v is value = value
   kept_set None v is value = absurd (true≢false (sym is))
 
   -- else the absent one does
-  kept_unset : (set : Option (List ℕ)) (v : T) → is_some set ≡ false → IsMeant clones absent v
-      → IsMeant clones (value_without_key present absent set) v
+  kept_unset : (set : Option (List ℕ)) (v : T) → is_some set ≡ false → IsSomeRelated clones absent v
+      → IsSomeRelated clones (value_without_key present absent set) v
   kept_unset (Some text) v is value = absurd (true≢false is)
   kept_unset None v is value = value
 
@@ -73,7 +73,7 @@ module _ (T : Type 0) (clones : T → T → Type 0) (named : Named) (present : T
       is
 
   -- a flag that is absent, with a clone of the absent value, is a reading
-  flag_absent : (s t : Situation) (v : T) → IsFlagAbsent named s t → IsMeant clones absent v
+  flag_absent : (s t : Situation) (v : T) → IsFlagAbsent named s t → IsSomeRelated clones absent v
       → Reads T reads_flag s v t
   flag_absent s t v is value =
       reads_same reads_flag s t v is.0.1

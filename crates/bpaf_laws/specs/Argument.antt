@@ -2,7 +2,7 @@
 use Rattle.std.specs.Prelude.{◌≡◌, ◌⊎◌, ℕ, zero, suc, ◌+◌, ◌≤◌, Bool, true, false, ◌||◌, List, []}
 use Rattle.std.specs.Prelude.{◌∷◌, ◌++◌, Result, Ok, Err, Some, None}
 use Rattle.std.specs.Prelude.{Option, option_and_then}
-use Rattle.std.specs.Option.{option_map_or}
+use Rattle.std.specs.Option.{option_map_or, IsSomeRelated}
 use Rattle.bpaf_doc.specs.Shape.{Shape, Shown, Skip}
 use Rattle.bpaf_text.specs.Named.{KeyWithValue, argument_part}
 use Rattle.bpaf_base.specs.declared.arg.Arg.{Arg}
@@ -13,7 +13,7 @@ use Rattle.bpaf_line.specs.declared.error.Error.{Error}
 use Rattle.bpaf_line.specs.declared.error.Message.{Message}
 use Rattle.bpaf_line.specs.declared.error.Message.TheVariants.{Memory, ParseFailed, NoArgument}
 use Rattle.bpaf_laws.specs.Reading.{Share, Outcome, Readings, IsEmptyShare, IsPair, HasItem}
-use Rattle.bpaf_laws.specs.Environment.{first_set, IsAbsence, IsMeant}
+use Rattle.bpaf_laws.specs.Environment.{first_set, IsAbsence}
 use Rattle.bpaf_laws.specs.Value.{FaultsText}
 
 -- a key of the argument
@@ -54,7 +54,7 @@ IsOwnText true argument context share text = AreKeysWithText argument context sh
 abbrev pub ArgumentReads : (T : Type 0) → (List ℕ → T → Type 0) → KeyWithValue → Readings T
 ArgumentReads T means argument context share v =
     ((text : List ℕ) × IsOwnText argument.last argument context share text × means text v)
-    ⊎ (IsEmptyShare share × IsMeant means (first_set context.env argument.named.envs) v)
+    ⊎ (IsEmptyShare share × IsSomeRelated means (first_set context.env argument.named.envs) v)
 
 -- the first key of the argument and the text behind it are taken
 abbrev pub TakesKeyWithText : KeyWithValue → Situation → List ℕ → Situation → Type 0

@@ -13,11 +13,6 @@ abbrev pub first_set : List (List ℕ × List ℕ) → List (List ℕ) → Optio
 first_set env [] = None
 first_set env (name ∷ names) = option_or (entry_of env name) (first_set env names)
 
--- it is there, and means the value
-abbrev pub IsMeant : {X T : Type 0} → (X → T → Type 0) → Option X → T → Type 0
-IsMeant means None v = ⊥
-IsMeant means (Some x) v = means x v
-
 -- one of the names is set
 abbrev pub is_set : List (List ℕ × List ℕ) → List (List ℕ) → Bool
 is_set env names = is_some (first_set env names)

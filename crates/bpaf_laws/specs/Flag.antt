@@ -1,6 +1,6 @@
 -- Flags, with an absent value or without.
 use Rattle.std.specs.Prelude.{◌≡◌, ◌⊎◌, ℕ, Bool, true, false, List, Ok, Err, Option, Some, None}
-use Rattle.std.specs.Option.{option_map_or}
+use Rattle.std.specs.Option.{option_map_or, IsSomeRelated}
 use Rattle.bpaf_doc.specs.Shape.{Shape, Optional, Shown, Skip}
 use Rattle.bpaf_text.specs.Named.{Named, flag_part}
 use Rattle.bpaf_base.specs.Items.{is_key_of}
@@ -9,7 +9,7 @@ use Rattle.bpaf_line.specs.Taking.{TakesFlag}
 use Rattle.bpaf_line.specs.declared.error.Message.{Message}
 use Rattle.bpaf_line.specs.declared.error.Message.TheVariants.{Memory}
 use Rattle.bpaf_laws.specs.Reading.{Outcome, Readings, IsEmptyShare, IsPlace, HasItem}
-use Rattle.bpaf_laws.specs.Environment.{first_set, is_set, IsAbsence, IsMeant}
+use Rattle.bpaf_laws.specs.Environment.{first_set, is_set, IsAbsence}
 
 -- what stands for no key, by the text of its variable: the present value where that is set, else
 -- the absent one
@@ -23,7 +23,7 @@ abbrev pub FlagReads : (T : Type 0) → (T → T → Type 0) → Named → T →
 FlagReads T clones named present absent context share v =
     ((key : ℕ) × HasItem (is_key_of named.names) context key × IsPlace key share × clones present v)
     ⊎ (IsEmptyShare share
-    × IsMeant clones (value_without_key present absent (first_set context.env named.envs)) v)
+    × IsSomeRelated clones (value_without_key present absent (first_set context.env named.envs)) v)
 
 -- a flag is present: its key is taken; or it is not on the line, and an environment name is set
 abbrev pub IsFlagPresent : Named → Situation → Situation → Type 0
@@ -50,7 +50,7 @@ FlagFails named absent s m t =
 abbrev pub FlagOutcome : {T : Type 0} → (T → T → Type 0) → Named → T → Option T → Outcome T
 FlagOutcome clones named present absent s (Ok v) t =
     (IsFlagPresent named s t × clones present v)
-    ⊎ (IsFlagAbsent named s t × IsMeant clones absent v)
+    ⊎ (IsFlagAbsent named s t × IsSomeRelated clones absent v)
 FlagOutcome clones named present absent s (Err e) t = FlagFails named absent s e.0 t
 
 -- what may be left out is shown so

@@ -87,15 +87,10 @@ module _ {T : Type 0} {inner inner' : Readings T} (also : IsAlso inner inner') w
       → IsAlso (StretchReads T (CommandReads T words inner))
       (StretchReads T (CommandReads T words inner'))
   adjacent_also words context share v read = record {
-    read = record {
-      name = read.read.name;
-      named = read.read.named;
-      name_share = read.read.name_share;
-      is_name = read.read.is_name;
-      inner_share = read.read.inner_share;
-      joins = read.read.joins;
-      read = also context read.read.inner_share v read.read.read;
-    };
+    read = (
+      read.read.0,
+      both_also (λ line own p named. named) also context share (read.read.0, v) read.read.1,
+    );
     stretch = read.stretch;
   }
 
