@@ -1,12 +1,12 @@
 -- Commands: a word that opens a run of its own over the items after it.
 use Rattle.std.specs.Prelude.{◌≡◌, ℕ, Bool, true, false, List, [], ◌∷◌, ◌++◌, Option, Some, None}
-use Rattle.std.specs.Prelude.{map, encode_utf8, slice_get}
+use Rattle.std.specs.Prelude.{map, bytes_eq, encode_utf8, slice_get}
 use Rattle.std.specs.List.{list_any}
 use Rattle.std.specs.Option.{option_map_or}
 use Rattle.bpaf_doc.specs.declared.doc.Piece.{Piece}
 use Rattle.bpaf_doc.specs.Shape.{Shape, Shown, Part, Command}
 use Rattle.bpaf_base.specs.declared.arg.Arg.{Arg}
-use Rattle.bpaf_base.specs.Items.{any_item, is_command_word}
+use Rattle.bpaf_base.specs.Items.{any_item, command_word}
 use Rattle.bpaf_line.specs.Situation.{Situation, item_at, in_scope, is_taken, take_place}
 use Rattle.bpaf_line.specs.Situation.{with_scope, with_path, with_current}
 use Rattle.bpaf_line.specs.Taking.{IsFirst}
@@ -37,7 +37,8 @@ opening_words called = (called.name ∷ called.longs) ++ map encode_utf8 called.
 
 -- an item is one of these words
 abbrev pub is_one_of : List (List ℕ) → Arg → Bool
-is_one_of words item = list_any (λ word. is_command_word word item) words
+is_one_of words item =
+    list_any (λ word. option_map_or (λ own. bytes_eq own word) (command_word item) false) words
 
 -- the first present item in scope is at p, and is one of these words
 pub record IsOpenedAt (words : List (List ℕ)) (s : Situation) (p : ℕ) : Type 0 where
