@@ -4,11 +4,12 @@ use Rattle.bpaf_doc.specs.Shape.{Shape, Part, part_of}
 use Rattle.bpaf_line.specs.Situation.{Situation}
 use Rattle.bpaf_line.specs.declared.error.Error.{Error}
 use Rattle.bpaf_line.specs.declared.error.Message.TheVariants.{Memory}
-use Rattle.bpaf_laws.specs.AdjacentGroup.{GroupOutcome, GroupReads}
+use Rattle.bpaf_laws.specs.AdjacentGroup.{GroupOutcome}
 use Rattle.bpaf_laws.proofs.AdjacentGroupLaws.{group_lawful}
 use Rattle.bpaf_laws.specs.Laws.{Keeps, Lawful, Reads}
 use Rattle.bpaf_laws.proofs.Keeping.{keeps_refl}
-use Rattle.bpaf_laws.specs.Product.{BothOutcome, FailFastOutcome, ProductOutcome, ProductReads}
+use Rattle.bpaf_laws.specs.OneStretch.{StretchReads}
+use Rattle.bpaf_laws.specs.Product.{BothOutcome, FailFastOutcome, ProductOutcome}
 use Rattle.bpaf_laws.specs.Product.{ProductDescribes}
 use Rattle.bpaf_laws.proofs.ProductLaws.{both_lawful, fail_fast_lawful, product_lawful}
 use Rattle.bpaf_laws.specs.Pure.{GivesRefusal, PureOutcome, PureReads}
@@ -51,7 +52,7 @@ pub data GroupedOutcome {V : Type 0} (fast : Outcome V) (describes : List Shape 
 -- what is read of it
 abbrev pub GroupedReads : {V : Type 0} → Readings V → (V → Value → Type 0) → Readings Value
 GroupedReads {V} reads told =
-    MapReads V Value (GroupReads V (ProductReads V V reads (λ x v. v ≡ x))) told
+    MapReads V Value (StretchReads V (MapReads V V reads (λ x v. v ≡ x))) told
 
 -- a group that begins with an item keeps to the laws where its fields do
 begun_lawful : {V : Type 0} {fast : Outcome V} {reads : Readings V} (told : V → Value → Type 0)
@@ -120,9 +121,9 @@ TogetherOutcome o d (p ∷ q ∷ r ∷ s ∷ ps) = PureOutcome (GivesRefusal wro
 abbrev pub TogetherReads : {P : Type 0} → (P → Readings Value) → List P → Readings Value
 TogetherReads f (p ∷ q ∷ []) = GroupedReads (TwoFields (f p) (f q)) ToldPair
 TogetherReads f (p ∷ q ∷ r ∷ []) = GroupedReads (ThreeFields (f p) (f q) (f r)) ToldTriple
-TogetherReads f [] = PureReads (GivesRefusal wrong_number)
-TogetherReads f (p ∷ []) = PureReads (GivesRefusal wrong_number)
-TogetherReads f (p ∷ q ∷ r ∷ s ∷ ps) = PureReads (GivesRefusal wrong_number)
+TogetherReads f [] = PureReads (λ v. ⊥)
+TogetherReads f (p ∷ []) = PureReads (λ v. ⊥)
+TogetherReads f (p ∷ q ∷ r ∷ s ∷ ps) = PureReads (λ v. ⊥)
 
 -- it keeps to the laws where its parsers do
 pub together_lawful : {P : Type 0} (o : P → Outcome Value) (f : P → Readings Value)

@@ -11,7 +11,7 @@ use Rattle.bpaf_laws.specs.Transform.{MapReads}
 use Rattle.bpaf_laws.specs.Choice.{ChoiceOutcome, ChoiceReads, ChoiceDescribes}
 use Rattle.bpaf_laws.proofs.ChoiceLaws.{choice_lawful}
 use Rattle.bpaf_laws.specs.Product.{BothOutcome, BothReads, BothDescribes, LastDescribes}
-use Rattle.bpaf_laws.specs.Product.{ProductOutcome, ProductReads, ProductDescribes}
+use Rattle.bpaf_laws.specs.Product.{ProductOutcome, ProductDescribes}
 use Rattle.bpaf_laws.proofs.ProductLaws.{both_lawful, product_lawful}
 use Rattle.bpaf_laws.specs.Pure.{GivesRefusal, PureOutcome, PureReads}
 use Rattle.bpaf_laws.proofs.PureLaws.{refusal_lawful}
@@ -29,7 +29,7 @@ NestedOutcome fields told = ToldOutcome (ProductOutcome fields (λ x v. v ≡ x)
 
 -- what is read of it
 abbrev pub NestedReads : {V : Type 0} → Readings V → (V → Value → Type 0) → Readings Value
-NestedReads {V} reads told = MapReads V Value (ProductReads V V reads (λ x v. v ≡ x)) told
+NestedReads {V} reads told = MapReads V Value (MapReads V V reads (λ x v. v ≡ x)) told
 
 -- it keeps to the laws where its fields do
 nested_lawful : {V : Type 0} {fields : Outcome V} {reads : Readings V} (told : V → Value → Type 0)
@@ -93,9 +93,9 @@ abbrev pub TupleReads : {P : Type 0} → (P → Readings Value) → List P → R
 TupleReads f (p ∷ q ∷ []) = NestedReads (TwoFields (f p) (f q)) ToldPair
 TupleReads f (p ∷ q ∷ r ∷ []) = NestedReads (ThreeFields (f p) (f q) (f r)) ToldTriple
 TupleReads f (p ∷ q ∷ r ∷ s ∷ []) = NestedReads (FourFields (f p) (f q) (f r) (f s)) ToldQuadruple
-TupleReads f [] = PureReads (GivesRefusal wrong_number)
-TupleReads f (p ∷ []) = PureReads (GivesRefusal wrong_number)
-TupleReads f (p ∷ q ∷ r ∷ s ∷ t ∷ ps) = PureReads (GivesRefusal wrong_number)
+TupleReads f [] = PureReads (λ v. ⊥)
+TupleReads f (p ∷ []) = PureReads (λ v. ⊥)
+TupleReads f (p ∷ q ∷ r ∷ s ∷ t ∷ ps) = PureReads (λ v. ⊥)
 
 -- what it shows
 abbrev pub TupleDescribes : {P : Type 0} → (P → Describes) → List P → Shape → Type 0
@@ -154,9 +154,9 @@ OrElseOutcome o (p ∷ q ∷ r ∷ s ∷ ps) = PureOutcome (GivesRefusal wrong_n
 abbrev pub OrElseReads : {P : Type 0} → (P → Readings Value) → List P → Readings Value
 OrElseReads f (p ∷ q ∷ []) = ChoiceReads (f p) (f q)
 OrElseReads f (p ∷ q ∷ r ∷ []) = ChoiceReads (ChoiceReads (f p) (f q)) (f r)
-OrElseReads f [] = PureReads (GivesRefusal wrong_number)
-OrElseReads f (p ∷ []) = PureReads (GivesRefusal wrong_number)
-OrElseReads f (p ∷ q ∷ r ∷ s ∷ ps) = PureReads (GivesRefusal wrong_number)
+OrElseReads f [] = PureReads (λ v. ⊥)
+OrElseReads f (p ∷ []) = PureReads (λ v. ⊥)
+OrElseReads f (p ∷ q ∷ r ∷ s ∷ ps) = PureReads (λ v. ⊥)
 
 -- what it shows
 abbrev pub OrElseDescribes : {P : Type 0} → (P → Describes) → List P → Shape → Type 0

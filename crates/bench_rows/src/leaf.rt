@@ -15,7 +15,7 @@ pub struct Answer {
 }
 
 impl Parser<Value> for Answer {
-    ghost use Rattle.std.specs.Prelude.{◌≡◌, refl};
+    ghost use Rattle.std.specs.Prelude.{◌≡◌, Ok, refl};
     ghost use Rattle.bpaf_doc.specs.Shape.{Skip};
     ghost use Rattle.bpaf_laws.specs.Pure.{PureReads, PureWithOutcome};
     ghost use Rattle.bpaf_laws.proofs.PureLaws.{pure_with_lawful};
@@ -29,7 +29,7 @@ impl Parser<Value> for Answer {
 
     ghost shorts = { λ p. no_shorts };
 
-    ghost reads = { λ p. PureReads (GivesNumber p.number) };
+    ghost reads = { λ p. PureReads (λ v. GivesNumber p.number (Ok v)) };
 
     ghost outcome = { λ p. PureWithOutcome (GivesNumber p.number) };
 

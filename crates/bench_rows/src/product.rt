@@ -63,7 +63,8 @@ pub struct Product<V, P> {
 
 impl<V: Drop, P: Fields<V>> Parser<V> for Product<V, P> {
     ghost use Rattle.std.specs.Prelude.{◌≡◌};
-    ghost use Rattle.bpaf_laws.specs.Product.{ProductOutcome, ProductReads, ProductDescribes};
+    ghost use Rattle.bpaf_laws.specs.Product.{ProductOutcome, ProductDescribes};
+    ghost use Rattle.bpaf_laws.specs.Transform.{MapReads};
     ghost use Rattle.bpaf_laws.proofs.ProductLaws.{product_lawful};
     ghost use Rattle.bpaf_laws.proofs.ShownNames.{product_shows};
 
@@ -73,7 +74,7 @@ impl<V: Drop, P: Fields<V>> Parser<V> for Product<V, P> {
 
     ghost shorts = { λ p. P.shorts p.fields };
 
-    ghost reads = { λ p. ProductReads V V (P.reads p.fields) (λ x v. v ≡ x) };
+    ghost reads = { λ p. MapReads V V (P.reads p.fields) (λ x v. v ≡ x) };
 
     ghost outcome = { λ p. ProductOutcome (P.outcome p.fields) (λ x v. v ≡ x) };
 

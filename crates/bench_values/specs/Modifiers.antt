@@ -1,5 +1,6 @@
 -- What one parser answers under a modifier.
-use Rattle.std.specs.Prelude.{◌≡◌, List, ℕ, Option, codes, refl, true}
+use Rattle.std.specs.Prelude.{◌≡◌, List, [], ◌∷◌, ◌++◌, length, ℕ, Ok, Option, codes}
+use Rattle.std.specs.Prelude.{refl, true, false}
 use Rattle.std.specs.Global.{Vec}
 use Rattle.std.specs.declared.collections.VecDeque.{VecDeque}
 use Rattle.std.specs.declared.alloc.Global.{Global}
@@ -9,19 +10,19 @@ use Rattle.bpaf_laws.specs.ShownNames.{ShowsNames, no_shorts}
 use Rattle.bpaf_laws.proofs.ShownNames.{many_shows, one_shape, optional_shows, some_shows}
 use Rattle.bpaf_laws.specs.Reading.{Readings, Outcome}
 use Rattle.bpaf_laws.specs.Laws.{Lawful}
-use Rattle.bpaf_laws.specs.Transform.{MapOutcome, MapReads, ParseOutcome, GuardOutcome, GuardReads}
+use Rattle.bpaf_laws.specs.Transform.{MapOutcome, MapReads, ParseOutcome, GuardOutcome}
 use Rattle.bpaf_laws.proofs.TransformLaws.{map_lawful, parse_lawful, guard_lawful}
 use Rattle.bpaf_laws.specs.Hide.{HideOutcome}
 use Rattle.bpaf_laws.proofs.HideLaws.{hide_lawful}
 use Rattle.bpaf_laws.specs.Turn.{TurnOutcome}
-use Rattle.bpaf_laws.specs.Default.{Gives, GivesClone, GivesAnswer, FallbackOutcome, FallbackReads}
+use Rattle.bpaf_laws.specs.Choice.{ChoiceReads}
+use Rattle.bpaf_laws.specs.Pure.{PureReads}
+use Rattle.bpaf_laws.specs.Default.{Gives, GivesClone, GivesAnswer, FallbackOutcome}
 use Rattle.bpaf_laws.specs.Default.{NamesGiven, OptionalReads, OptionalDescribes}
 use Rattle.bpaf_laws.proofs.DefaultLaws.{optional_lawful, fallback_lawful, names_answer}
 use Rattle.bpaf_laws.proofs.NamesAnswer.{names_want}
-use Rattle.bpaf_laws.specs.Repeat.{ManyOutcome, ManyReads, ManyDescribes}
-use Rattle.bpaf_laws.specs.Repeat.{SomeOutcome, SomeReads, SomeDescribes}
-use Rattle.bpaf_laws.specs.Repeat.{CollectOutcome, CollectReads, CountOutcome}
-use Rattle.bpaf_laws.specs.Repeat.{CountReads, LastOutcome, LastReads}
+use Rattle.bpaf_laws.specs.Repeat.{is_nil, ListReads, ManyOutcome, ManyDescribes, SomeOutcome}
+use Rattle.bpaf_laws.specs.Repeat.{SomeDescribes, CollectOutcome, CountOutcome, LastOutcome}
 use Rattle.bpaf_laws.proofs.RepeatLaws.{many_lawful, some_lawful}
 use Rattle.bpaf_laws.proofs.RepeatLaws.{collect_lawful, count_lawful, last_lawful}
 use Rattle.bench_values.specs.Told.{ToldOutcome, told_lawful}
@@ -90,22 +91,34 @@ OverOutcome clones (over.Fallback n) inner = FallbackOutcome inner (GivesClone c
 OverOutcome clones (over.FallbackWith number) inner = FallbackOutcome inner (GivesNumber number)
 OverOutcome clones over.Hide inner = HideOutcome inner
 
+-- what is made of a list of inner readings
+abbrev pub OfList : (R : Type 0) → Readings Value → (List Value → R → Type 0) → Readings R
+OfList R reads makes = MapReads (List Value) R (ListReads reads) makes
+
 -- what is read under a modifier
 abbrev pub OverReads : Clones → Modifier → Readings Value → Readings Value
 OverReads clones over.Same reads = reads
 OverReads clones (over.Optional catch) reads =
     MapReads (Option Value) Value (OptionalReads reads) ToldOption
-OverReads clones (over.Many catch) reads = MapReads (Vec Value) Value (ManyReads reads) ToldList
-OverReads clones (over.Some catch) reads = MapReads (Vec Value) Value (SomeReads reads) ToldList
+OverReads clones (over.Many catch) reads =
+    MapReads (Vec Value) Value (OfList (Vec Value) reads (λ values v. v.items ≡ values)) ToldList
+OverReads clones (over.Some catch) reads =
+    MapReads (Vec Value) Value
+    (OfList (Vec Value) reads (λ values v. (v.items ≡ values) × (is_nil values ≡ false))) ToldList
 OverReads clones (over.Collect catch) reads =
-    MapReads (VecDeque Value Global) Value (CollectReads reads FillsQueue) ToldQueue
-OverReads clones over.Count reads = MapReads ℕ Value (CountReads reads) ToldCount
-OverReads clones over.Last reads = LastReads reads
+    MapReads (VecDeque Value Global) Value (OfList (VecDeque Value Global) reads FillsQueue)
+    ToldQueue
+OverReads clones over.Count reads =
+    MapReads ℕ Value (OfList ℕ reads (λ values n. n ≡ length values)) ToldCount
+OverReads clones over.Last reads =
+    OfList Value reads (λ values v. (before : List Value) × (values ≡ before ++ v ∷ []))
 OverReads clones over.Map reads = MapReads Value Value reads IsHalf
-OverReads clones (over.Guard limit) reads = GuardReads reads Checks
+OverReads clones (over.Guard limit) reads = MapReads Value Value reads (λ x v. (v ≡ x) × Checks x true)
 OverReads clones (over.Parse limit) reads = AcceptReads reads
-OverReads clones (over.Fallback n) reads = FallbackReads reads (GivesClone clones (number_of n))
-OverReads clones (over.FallbackWith number) reads = FallbackReads reads (GivesNumber number)
+OverReads clones (over.Fallback n) reads =
+    ChoiceReads reads (PureReads (clones (number_of n)))
+OverReads clones (over.FallbackWith number) reads =
+    ChoiceReads reads (PureReads (λ v. GivesNumber number (Ok v)))
 OverReads clones over.Hide reads = reads
 
 -- what is shown under a modifier

@@ -11,7 +11,7 @@ use Rattle.std.proofs.lemmas.List.Sums.{position_or_len_is}
 use Rattle.std.proofs.lemmas.Slice.Eq.{bytes_eq-Decides}
 use Rattle.bpaf_base.specs.declared.arg.Arg.{Arg}
 use Rattle.bpaf_base.specs.declared.arg.Arg.TheVariants.{Short, Long, ArgWord, Word}
-use Rattle.bpaf_words.specs.Spelling.{Known, IsArgument, Spelling, Items, Ambiguous, flags_of}
+use Rattle.bpaf_words.specs.Spelling.{Known, IsKnownAs, Spelling, Items, Ambiguous, flags_of}
 use Rattle.bpaf_words.specs.Spelling.{argument_of, Spells, SpellsJoined, flags, argument, neither}
 use Rattle.bpaf_words.specs.Spelling.{both, plain, dash, long, long_value, short, short_value}
 use Rattle.bpaf_words.specs.Spelling.{short_long_value, joined, SpellsByDash, number_word, by_dash}
@@ -53,7 +53,7 @@ module _ (P : Arg → Type 0) (known : Known) (word : List ℕ)
     (long_key : (name : List ℕ) (attached : Bool) (rest : List ℕ) → word ≡ codes "-" ++ rest
     → P (Long name attached word))
     (value : (text : List ℕ) → P (ArgWord text)) (whole : P (Word word))
-    (behind_key : (c : ℕ) (text : List ℕ) → IsArgument known.names c → P (Word text)) where
+    (behind_key : (c : ℕ) (text : List ℕ) → IsKnownAs false true known.names c → P (Word text)) where
   -- each flag has it
   of_flags : (text cs : List ℕ) → ((c : ℕ) → P (Short c false text))
       → AllByRecursion P (flags_of text cs)
@@ -61,7 +61,7 @@ module _ (P : Arg → Type 0) (known : Known) (word : List ℕ)
   of_flags text (c ∷ cs) first = (first c, of_flags [] cs joined_key)
 
   -- each part of an argument has it
-  of_argument : (c : ℕ) (rest : List ℕ) → IsArgument known.names c
+  of_argument : (c : ℕ) (rest : List ℕ) → IsKnownAs false true known.names c
       → ((attached : Bool) → P (Short c attached word)) → AllByRecursion P (argument_of word c rest)
   of_argument c [] is first = (first false, tt)
   of_argument c (b ∷ rest) is first = (first true, (behind_key c (b ∷ rest) is, tt))

@@ -43,7 +43,8 @@ struct FailFast<'p, P> {
 }
 
 impl<'p, V, T, P: Fields<V>, F: Fn(V) -> T> Parser<T> for FailFast<'p, ParseCon<V, P, F>> {
-    ghost use Rattle.bpaf_laws.specs.Product.{ProductOutcome, ProductReads, ProductDescribes};
+    ghost use Rattle.bpaf_laws.specs.Product.{ProductOutcome, ProductDescribes};
+    ghost use Rattle.bpaf_laws.specs.Transform.{MapReads};
     ghost use Rattle.bpaf_laws.proofs.ProductLaws.{product_lawful};
     ghost use Rattle.bpaf_laws.proofs.ShownNames.{product_shows};
 
@@ -54,7 +55,7 @@ impl<'p, V, T, P: Fields<V>, F: Fn(V) -> T> Parser<T> for FailFast<'p, ParseCon<
 
     ghost shorts = { λ p. P.shorts p.product.now.fields };
 
-    ghost reads = { λ p. ProductReads V T (P.reads p.product.now.fields)
+    ghost reads = { λ p. MapReads V T (P.reads p.product.now.fields)
         (λ x y. F.post p.product.now.make x y) };
 
     ghost outcome = { λ p. ProductOutcome (P.fast_outcome p.product.now.fields)
@@ -145,10 +146,11 @@ impl<V, T: Drop, P: Fields<V>, F: Fn(V) -> T> Parser<T> for ParseAdjacent<ParseC
     ghost use Rattle.bpaf_doc.specs.Shape.{part_of};
     ghost use Rattle.bpaf_laws.specs.Laws.{newly};
     ghost use Rattle.bpaf_laws.specs.Spared.{IsNotMemory};
-    ghost use Rattle.bpaf_laws.specs.Product.{ProductOutcome, ProductReads, ProductDescribes};
+    ghost use Rattle.bpaf_laws.specs.Product.{ProductOutcome, ProductDescribes};
+    ghost use Rattle.bpaf_laws.specs.Transform.{MapReads};
     ghost use Rattle.bpaf_laws.proofs.ProductLaws.{product_lawful};
-    ghost use Rattle.bpaf_laws.specs.AdjacentGroup.{GroupDescribes, GroupOutcome, GroupReads};
-    ghost use Rattle.bpaf_laws.specs.OneStretch.{IsStretch};
+    ghost use Rattle.bpaf_laws.specs.AdjacentGroup.{GroupDescribes, GroupOutcome};
+    ghost use Rattle.bpaf_laws.specs.OneStretch.{IsStretch, StretchReads};
     ghost use Rattle.bpaf_laws.proofs.AdjacentGroupLaws.{group_lawful};
     ghost use Rattle.bpaf_laws.proofs.ShownNames.{group_shows, product_shows};
 
@@ -158,7 +160,7 @@ impl<V, T: Drop, P: Fields<V>, F: Fn(V) -> T> Parser<T> for ParseAdjacent<ParseC
 
     ghost shorts = { λ p. P.shorts p.inner.fields };
 
-    ghost reads = { λ p. GroupReads T (ProductReads V T (P.reads p.inner.fields)
+    ghost reads = { λ p. StretchReads T (MapReads V T (P.reads p.inner.fields)
         (λ x y. F.post p.inner.make x y)) };
 
     ghost outcome = { λ p. GroupOutcome T (ProductOutcome (P.fast_outcome p.inner.fields)

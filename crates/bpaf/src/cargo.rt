@@ -48,7 +48,8 @@ pub fn cargo_helper<P: Drop>(
 /// of memory is refused at once.
 impl<T: Drop, P: Parser<T>> Parser<T> for CargoHelper<P> {
     ghost use Rattle.std.specs.Prelude.{◌≡◌, Option, refl};
-    ghost use Rattle.bpaf_laws.specs.Product.{ProductOutcome, ProductReads, ProductDescribes};
+    ghost use Rattle.bpaf_laws.specs.Product.{ProductOutcome, ProductDescribes};
+    ghost use Rattle.bpaf_laws.specs.Transform.{MapReads};
     ghost use Rattle.bpaf_laws.specs.Spared.{IsNotMemory};
     ghost use Rattle.bpaf_doc.specs.Shape.{Any};
     ghost use Rattle.bpaf_laws.specs.Any.{IsLiteral};
@@ -66,7 +67,7 @@ impl<T: Drop, P: Parser<T>> Parser<T> for CargoHelper<P> {
 
     ghost shorts = { λ p. P.shorts p.fields.rest.last };
 
-    ghost reads = { λ p. ProductReads (Option (Unit {0}) × T) T
+    ghost reads = { λ p. MapReads (Option (Unit {0}) × T) T
         (⟦<Both<SkippedWord, Last<P>> as Fields<(Option<()>, T)>>⟧.reads p.fields)
         (λ values v. v ≡ values.1) };
 

@@ -307,7 +307,8 @@ impl<V, P, F> ParseCon<V, P, F> {
 
 impl<V, T, P: Fields<V>, F: Fn(V) -> T> Parser<T> for ParseCon<V, P, F> {
     ghost use Rattle.bpaf_laws.specs.Spared.{IsNotMemory};
-    ghost use Rattle.bpaf_laws.specs.Product.{ProductOutcome, ProductReads, ProductDescribes};
+    ghost use Rattle.bpaf_laws.specs.Product.{ProductOutcome, ProductDescribes};
+    ghost use Rattle.bpaf_laws.specs.Transform.{MapReads};
     ghost use Rattle.bpaf_laws.proofs.ProductLaws.{product_lawful};
     ghost use Rattle.bpaf_laws.proofs.ShownNames.{product_shows};
 
@@ -317,7 +318,7 @@ impl<V, T, P: Fields<V>, F: Fn(V) -> T> Parser<T> for ParseCon<V, P, F> {
 
     ghost shorts = { λ p. P.shorts p.fields };
 
-    ghost reads = { λ p. ProductReads V T (P.reads p.fields) (λ x y. F.post p.make x y) };
+    ghost reads = { λ p. MapReads V T (P.reads p.fields) (λ x y. F.post p.make x y) };
 
     ghost outcome = { λ p. ProductOutcome (P.outcome p.fields) (λ x y. F.post p.make x y) };
 

@@ -19,17 +19,13 @@ is_text_among texts text = list_any (λ other. bytes_eq other text) texts
 abbrev pub is_key_of : Names → Arg → Bool
 is_key_of names (Short c attached word) = is_among names.shorts c
 is_key_of names (Long name attached word) = is_text_among names.longs name
-is_key_of names (ArgWord text) = false
-is_key_of names (Word text) = false
-is_key_of names (PosWord text) = false
+is_key_of names _ = false
 
 -- a key with its value in its own word
 abbrev pub is_attached : Arg → Bool
 is_attached (Short c attached word) = attached
 is_attached (Long name attached word) = attached
-is_attached (ArgWord text) = false
-is_attached (Word text) = false
-is_attached (PosWord text) = false
+is_attached _ = false
 
 -- a key with one of the names; under `adjacent` an attached one
 abbrev pub is_argument_key : Names → Bool → Arg → Bool
@@ -38,27 +34,21 @@ is_argument_key names adjacent item =
 
 -- what a key may have for its value: the text of a Word or an ArgWord
 abbrev pub value_text : Arg → Option (List ℕ)
-value_text (Short c attached word) = None
-value_text (Long name attached word) = None
 value_text (ArgWord text) = Some text
 value_text (Word text) = Some text
-value_text (PosWord text) = None
+value_text _ = None
 
 -- a Word or a PosWord
 abbrev pub is_positional : Arg → Bool
-is_positional (Short c attached word) = false
-is_positional (Long name attached word) = false
-is_positional (ArgWord text) = false
 is_positional (Word text) = true
 is_positional (PosWord text) = true
+is_positional _ = false
 
 -- whether it is a PosWord, and its text
 abbrev pub word_text : Arg → Option (Bool × List ℕ)
-word_text (Short c attached word) = None
-word_text (Long name attached word) = None
-word_text (ArgWord text) = None
 word_text (Word text) = Some (false, text)
 word_text (PosWord text) = Some (true, text)
+word_text _ = None
 
 -- the text of an item: of a key its whole word
 abbrev pub item_text : Arg → List ℕ
@@ -72,11 +62,9 @@ item_text (PosWord text) = text
 -- isn't attached
 abbrev pub command_word : Arg → Option (List ℕ)
 command_word (Short c attached word) = Some word
-command_word (Long name true word) = None
 command_word (Long name false word) = Some word
-command_word (ArgWord text) = None
 command_word (Word text) = Some text
-command_word (PosWord text) = None
+command_word _ = None
 
 -- an item is the word of a command
 abbrev pub is_command_word : List ℕ → Arg → Bool

@@ -1,10 +1,10 @@
 -- Counted keys: what two counts read are as many keys of each flag.
 use Rattle.std.proofs.Common.{◌≡◌, ◌≢◌, ℕ, ◌+◌, ◌<◌, ◌==◌, ◌&&◌, ◌||◌, Bool, true, false, List, []}
 use Rattle.std.proofs.Common.{◌∷◌, length, slice_get, Result, Ok, Err, IfOk, ℤ, pos, Option, Some}
-use Rattle.std.proofs.Common.{None, refl, sym, ◌∙◌, subst, arith, ⊎_elim, true≢false, if◌then◌else◌}
+use Rattle.std.proofs.Common.{None, refl, sym, ◌∙◌, subst, arith, ⊎_elim, inl, inr, true≢false, if◌then◌else◌}
 use Rattle.std.proofs.lemmas.Bool.{cases_eq, eq-eqb, ne_eqb}
 use Rattle.std.proofs.lemmas.Option.{slice_get_within}
-use Rattle.std.specs.Option.{option_map_or}
+use Rattle.std.specs.Option.{option_map_or, IsSomeRelated}
 use Rattle.bpaf_line.specs.declared.error.Error.{Error}
 use Rattle.bpaf_text.specs.declared.params.ParseFlag.{ParseFlag}
 use Rattle.bpaf_base.specs.declared.arg.Arg.{Arg}
@@ -12,20 +12,20 @@ use Rattle.bpaf_index.proofs.Counts.{count_below-same, count_below-fewer, count_
 use Rattle.bpaf_line.specs.Situation.{Situation, Context, item_in, is_marker, count_below}
 use Rattle.bpaf_line.specs.Situation.{with_current}
 use Rattle.bpaf_laws.proofs.CountingLaws.{count_below-joined}
-use Rattle.bpaf_laws.specs.Environment.{is_set}
-use Rattle.bpaf_laws.specs.Flag.{FlagReads, IsAbsentValue, at_key, in_environment, nowhere}
+use Rattle.bpaf_laws.specs.Environment.{first_set}
+use Rattle.bpaf_laws.specs.Flag.{FlagReads, value_without_key}
 use Rattle.bpaf_laws.specs.Laws.{newly}
 use Rattle.bpaf_laws.specs.Product.{BothOutcome, BothReads}
 use Rattle.bpaf_laws.specs.Reading.{Outcome, Share, Readings, HasItem, IsPlace, Joins}
-use Rattle.bpaf_laws.specs.Repeat.{EachReads, ListReads, CountOutcome, CountReads}
+use Rattle.bpaf_laws.specs.Repeat.{EachReads, ListReads, CountOutcome}
+use Rattle.bpaf_laws.specs.Transform.{MapReads}
 use Rattle.bpaf_batteries.proofs.Keys.{not_both}
 use Rattle.bpaf_batteries.specs.Keys.{is_key, MustStand, AreKeysApart, KeyOutcome, KeyReads}
-use Rattle.bpaf_batteries.specs.Level.{level}
 use Rattle.bpaf_laws.specs.Spared.{IsNotMemory, WithoutMemory}
 use Rattle.bpaf_laws.proofs.ProductSparing.{both_spares, product_spares}
 use Rattle.bpaf_batteries.specs.Verbosity.{CountsSpared}
-use Rattle.bpaf_batteries.specs.Verbosity.{CountsOutcome, IsItemAt, IsLevelOf, keys_in, keys_taken}
-use Rattle.bpaf_batteries.specs.Verbosity.{KeysAreCounted, last_place, PicksItem, VerbosityCounts}
+use Rattle.bpaf_batteries.specs.Verbosity.{CountsOutcome, CountsReads, IsLevelOf, keys_in}
+use Rattle.bpaf_batteries.specs.Verbosity.{keys_taken, KeysAreCounted, PicksItem, VerbosityCounts}
 use Rattle.bpaf_batteries.specs.Verbosity.{VerbosityPicks}
 use Rattle.bpaf_batteries.specs.VerbosityLaws.{counts_lawful}
 
@@ -67,23 +67,24 @@ module _ {T : Type 0} (clones : T → T → Type 0) (flag : ParseFlag T) (stands
 
   -- it reads one key
   one_key : (share : Share) (v : T) → reads_key context share v → AreKeys flag context share 1
-  one_key share v (at_key key has is value) = record {
+  one_key share v (inl here) = record {
     keys = λ p there. subst (HasItem (is_key flag) context)
-        (sym (at_place p (sym (is p) ∙ there))) has;
+        (sym (at_place p (sym (here.2 p) ∙ there))) here.1;
     number =
-        one_place share key (length context.line) is (item_within (is_key flag) context key has);
+        one_place share here.0 (length context.line) here.2
+        (item_within (is_key flag) context here.0 here.1);
   }
     where
-      at_place : (p : ℕ) → (p == key) ≡ true → p ≡ key
+      at_place : (p : ℕ) → (p == here.0) ≡ true → p ≡ here.0
       at_place p e = ⊎_elim
-          (λ (same : p ≡ key). same)
-          (λ (other : p ≢ key). absurd (true≢false (sym e ∙ ne_eqb p key other)))
-          (cases_eq p key)
-  one_key share v (in_environment none set value) =
-      absurd (true≢false
-      (sym (subst (λ envs. is_set context.env envs ≡ true) stands.on_the_line set)))
-  one_key share v (nowhere none unset value) =
-      absurd (subst (λ absent. IsAbsentValue clones absent v) stands.required value)
+          (λ (same : p ≡ here.0). same)
+          (λ (other : p ≢ here.0). absurd (true≢false (sym e ∙ ne_eqb p here.0 other)))
+          (cases_eq p here.0)
+  one_key share v (inr none) =
+      absurd (subst (λ absent. IsSomeRelated clones absent v) stands.required
+      (subst (λ envs. IsSomeRelated clones
+      (value_without_key flag.present flag.absent (first_set context.env envs)) v)
+      stands.on_the_line none.1))
 
   -- one share of keys and another make a share of keys
   more_keys : (own rest share : Share) (n : ℕ) → Joins own rest share
@@ -129,10 +130,11 @@ module _ {T : Type 0} (clones : T → T → Type 0) (flag : ParseFlag T) (stands
       (each_key read.1 vs read.4))
 
   -- a count is of as many keys
-  count_keys : (share : Share) (n : ℕ) → CountReads reads_key context share n
+  count_keys : (share : Share) (n : ℕ)
+      → MapReads (List T) ℕ (ListReads reads_key) (λ values m. m ≡ length values) context share n
       → AreKeys flag context share n
   count_keys share n read =
-      subst (AreKeys flag context share) (sym read.number) (list_keys share read.values read.read)
+      subst (AreKeys flag context share) (sym read.made) (list_keys share read.from read.read)
 
 -- at one place: of a whole share of which some places pass a test and the others don't, it is these
 at_one : (w f r h : Bool) → w ≡ (f || r) → (f ≡ true → h ≡ true) → (r ≡ true → h ≡ false)
@@ -150,8 +152,7 @@ module _ {T : Type 0} (clones : T → T → Type 0) (more fewer : ParseFlag T)
     (keys : AreKeysApart more fewer) (context : Context) (share : Share) where
   -- two counts are as many keys of each flag
   pub counted : (counts : ℕ × ℕ)
-      → BothReads ℕ ℕ (CountReads (KeyReads clones more)) (CountReads (KeyReads clones fewer))
-      context share counts
+      → CountsReads clones more fewer context share counts
       → (counts.0 ≡ keys_in more context share) × (counts.1 ≡ keys_in fewer context share)
   counted counts read =
       let one = count_keys clones more keys.one_stands context read.first_share counts.0
@@ -211,10 +212,8 @@ pub keys_counted : {T : Type 0} (clones : T → T → Type 0) (more fewer : Pars
     → AreKeysApart more fewer → (s t : Situation) (r : Result (ℕ × ℕ) Error)
     → CountsOutcome clones more fewer s r t → IfOk r (KeysAreCounted more fewer s t)
 keys_counted clones more fewer keys s t (Ok counts) o =
-    let read = ((counts_lawful clones more fewer).ok s t counts o).reading in
-    subst (λ (v : ℕ × ℕ). (v.0 ≡ keys_taken more s t) × (v.1 ≡ keys_taken fewer s t))
-    (sym read.made)
-    (counted clones more fewer keys s.context (newly s t) read.values read.read)
+    counted clones more fewer keys s.context (newly s t) counts
+    ((counts_lawful clones more fewer).ok s t counts o).reading
 keys_counted clones more fewer keys s t (Err e) o = tt
 
 module _ {K : Type 0} (more fewer : ParseFlag K) (s t : Situation) (counts : ℕ × ℕ)
@@ -223,15 +222,13 @@ module _ {K : Type 0} (more fewer : ParseFlag K) (s t : Situation) (counts : ℕ
   pub level_counts : (offset min max v : ℤ) → IsLevelOf offset min max counts v
       → VerbosityCounts more fewer offset min max s t v
   level_counts offset min max v is =
-      subst (λ n. v ≡ level offset min max n (keys_taken fewer s t)) are.0
-      (subst (λ n. v ≡ level offset min max counts.0 n) are.1 is)
+      subst (λ n. IsLevelOf offset min max (n, keys_taken fewer s t) v) are.0
+      (subst (λ n. IsLevelOf offset min max (counts.0, n) v) are.1 is)
 
   -- and so is the item
   pub picks_counts : {T : Type 0} (clones : T → T → Type 0) (offset : ℕ) (items : List T) (v : T)
       → PicksItem clones offset items counts v
       → VerbosityPicks more fewer clones offset items s t v
   picks_counts clones offset items v picks =
-      subst (λ n. IsItemAt clones items
-      (level (pos offset) (pos 0) (last_place items) n (keys_taken fewer s t)) v) are.0
-      (subst (λ n. IsItemAt clones items
-      (level (pos offset) (pos 0) (last_place items) counts.0 n) v) are.1 picks)
+      subst (λ n. PicksItem clones offset items (n, keys_taken fewer s t) v) are.0
+      (subst (λ n. PicksItem clones offset items (counts.0, n) v) are.1 picks)

@@ -1,7 +1,7 @@
 -- What a flag whose key must stand on the line answers, and what it reads.
 use Rattle.std.proofs.Common.{◌≡◌, ℕ, ◌&&◌, Bool, true, false, Result, Ok, Err, Option, Some, None}
 use Rattle.std.proofs.Common.{sym, ◌∙◌, subst, ⊎_elim, true≢false}
-use Rattle.std.specs.Option.{option_map_or}
+use Rattle.std.specs.Option.{option_map_or, IsSomeRelated}
 use Rattle.std.proofs.lemmas.Bool.{and_from}
 use Rattle.bpaf_text.specs.declared.params.ParseFlag.{ParseFlag}
 use Rattle.bpaf_base.specs.declared.arg.Arg.{Arg}
@@ -12,7 +12,7 @@ use Rattle.bpaf_line.specs.declared.error.Error.{Error}
 use Rattle.bpaf_line.specs.declared.error.Message.{Message}
 use Rattle.bpaf_line.specs.declared.error.Message.TheVariants.{Memory}
 use Rattle.bpaf_laws.specs.Environment.{is_set}
-use Rattle.bpaf_laws.specs.Flag.{FlagOutcome, FlagFails, IsAbsentValue, IsFlagPresent}
+use Rattle.bpaf_laws.specs.Flag.{FlagOutcome, FlagFails, IsFlagPresent}
 use Rattle.bpaf_laws.specs.Spared.{IsNotMemory}
 use Rattle.bpaf_batteries.specs.Keys.{is_key, MustStand}
 
@@ -40,9 +40,9 @@ module _ {T : Type 0} (clones : T → T → Type 0) (flag : ParseFlag T) (stands
       true≢false (sym (subst (λ envs. is_set s.context.env envs ≡ true) stands.on_the_line set))
 
   -- nor is there an absent value
-  not_absent : (v : T) → IsAbsentValue clones flag.absent v → ⊥
+  not_absent : (v : T) → IsSomeRelated clones flag.absent v → ⊥
   not_absent v value =
-      subst (λ absent. IsAbsentValue clones absent v) stands.required value
+      subst (λ absent. IsSomeRelated clones absent v) stands.required value
 
   -- a flag that is present took its first key
   key_taken : (v : T) → IsFlagPresent flag.named s t → clones flag.present v

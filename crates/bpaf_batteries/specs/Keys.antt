@@ -6,8 +6,6 @@ use Rattle.bpaf_text.specs.Named.{nothing_named, with_help, with_long, with_shor
 use Rattle.bpaf_text.specs.declared.params.ParseFlag.{ParseFlag}
 use Rattle.bpaf_base.specs.declared.arg.Arg.{Arg}
 use Rattle.bpaf_base.specs.Items.{is_key_of}
-use Rattle.bpaf_words.specs.Spelling.{ShortNames}
-use Rattle.bpaf_laws.specs.ShownNames.{joined_shorts, of_flags}
 use Rattle.bpaf_laws.specs.Flag.{FlagOutcome, FlagReads}
 use Rattle.bpaf_laws.specs.Reading.{Outcome, Readings}
 
@@ -64,8 +62,3 @@ AreVerboseAndQuiet more fewer =
     (codes "Increase output verbosity, can be used several times") more
     × IsCountedKey letter_q (codes "quiet")
     (codes "Decrease output verbosity, can be used several times") fewer
-
--- the short names of two keys
-abbrev pub shorts_of_both : {T : Type 0} → ParseFlag T → ParseFlag T → ShortNames
-shorts_of_both one other =
-    joined_shorts (of_flags one.named.names.shorts) (of_flags other.named.names.shorts)

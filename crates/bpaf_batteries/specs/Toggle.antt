@@ -2,6 +2,7 @@
 use Rattle.std.specs.Prelude.{◌≡◌, ◌⊎◌, ◌<◌, ◌++◌, ◌∷◌, [], ℕ, Bool, true, false, List, Option}
 use Rattle.std.specs.Prelude.{Some, None}
 use Rattle.std.specs.Global.{Vec}
+use Rattle.std.specs.List.{last_or}
 use Rattle.bpaf_doc.specs.Shape.{Shape}
 use Rattle.bpaf_text.specs.declared.params.ParseFlag.{ParseFlag}
 use Rattle.bpaf_base.specs.declared.arg.Arg.{Arg}
@@ -10,7 +11,7 @@ use Rattle.bpaf_line.specs.Taking.{HasNone, is_match}
 use Rattle.bpaf_laws.specs.Choice.{ChoiceDescribes, ChoiceOutcome, ChoiceReads}
 use Rattle.bpaf_laws.specs.Flag.{flag_shape}
 use Rattle.bpaf_laws.specs.Reading.{Outcome, Readings}
-use Rattle.bpaf_laws.specs.Repeat.{ManyDescribes, ManyOutcome, ManyReads}
+use Rattle.bpaf_laws.specs.Repeat.{ListReads, ManyDescribes, ManyOutcome}
 use Rattle.bpaf_laws.specs.Spared.{WithoutMemory}
 use Rattle.bpaf_laws.specs.Transform.{MapOutcome, MapReads}
 use Rattle.bpaf_batteries.specs.Keys.{is_key, is_either, AreKeysApart, KeyOutcome, KeyReads}
@@ -48,10 +49,6 @@ LastToggleWins clones one other s v = AreKeysApart one other → RightmostGives 
 abbrev pub EitherOutcome : {T : Type 0} → (T → T → Type 0) → ParseFlag T → ParseFlag T → Outcome T
 EitherOutcome clones one other = ChoiceOutcome (KeyOutcome clones one) (KeyOutcome clones other)
 
--- what it reads
-abbrev pub EitherReads : {T : Type 0} → (T → T → Type 0) → ParseFlag T → ParseFlag T → Readings T
-EitherReads clones one other = ChoiceReads (KeyReads clones one) (KeyReads clones other)
-
 -- what a toggle answers: the last value of a repeat of the choice
 abbrev pub ToggleOutcome : {T : Type 0} → (T → T → Type 0) → ParseFlag T → ParseFlag T → Bool
     → Outcome (Option T)
@@ -70,8 +67,9 @@ ToggleSpared clones one other catches =
 abbrev pub ToggleReads : {T : Type 0} → (T → T → Type 0) → ParseFlag T → ParseFlag T
     → Readings (Option T)
 ToggleReads {T} clones one other =
-    MapReads (Vec T) (Option T) (ManyReads (EitherReads clones one other))
-    (λ values v. IsLastOf values.items v)
+    MapReads (List T) (Option T)
+    (ListReads (ChoiceReads (KeyReads clones one) (KeyReads clones other)))
+    (λ values v. v ≡ last_or None values)
 
 -- what it shows
 abbrev pub ToggleDescribes : {T : Type 0} → ParseFlag T → ParseFlag T → Shape → Type 0

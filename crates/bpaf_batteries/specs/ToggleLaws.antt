@@ -1,29 +1,59 @@
 -- Toggles keep to the laws.
-use Rattle.std.specs.Prelude.{Bool, Option}
+use Rattle.std.specs.Prelude.{◌≡◌, Bool, List, [], ◌∷◌, ◌++◌, Option, Some, None, refl}
+use Rattle.std.specs.List.{last_or}
+use Rattle.std.proofs.Common.{ap, subst, sym, ◌∙◌}
 use Rattle.bpaf_text.specs.declared.params.ParseFlag.{ParseFlag}
-use Rattle.bpaf_laws.specs.ShownNames.{ShowsNames}
+use Rattle.bpaf_laws.specs.ShownNames.{ShowsNames, of_flags}
 use Rattle.bpaf_laws.proofs.ShownNames.{choice_shows, flag_shows, many_shows}
 use Rattle.bpaf_laws.proofs.ChoiceLaws.{choice_lawful}
 use Rattle.bpaf_laws.proofs.FlagLaws.{flag_lawful}
 use Rattle.bpaf_laws.proofs.RepeatLaws.{many_lawful}
 use Rattle.bpaf_laws.proofs.TransformLaws.{map_lawful}
 use Rattle.bpaf_laws.specs.Laws.{Lawful}
-use Rattle.bpaf_batteries.specs.Keys.{shorts_of_both}
 use Rattle.bpaf_batteries.specs.Toggle.{IsLastOf, ToggleDescribes, ToggleOutcome, ToggleReads}
+
+-- what stands behind others is the last
+last_behind : {T : Type 0} (default : Option T) (before : List T) (v : T)
+    → last_or default (before ++ v ∷ []) ≡ Some v
+last_behind default [] v = refl
+last_behind default (x ∷ before) v = last_behind (Some x) before v
+
+-- the last of some values, or none without a value
+is_last : {T : Type 0} (values : List T) (v : Option T) → IsLastOf values v
+    → v ≡ last_or None values
+is_last values None none = sym (ap (last_or None) none)
+is_last values (Some v) is = sym (ap (last_or None) is.1 ∙ last_behind None is.0 v)
 
 -- toggles keep to the laws
 pub toggle_lawful : {T : Type 0} (clones : T → T → Type 0) (one other : ParseFlag T)
     (catches : Bool)
     → Lawful (Option T) (ToggleOutcome clones one other catches) (ToggleReads clones one other)
 toggle_lawful {T} clones one other catches =
-    map_lawful
+    let law = map_lawful
     (many_lawful (choice_lawful (flag_lawful T clones one.named one.present one.absent)
     (flag_lawful T clones other.named other.present other.absent)) catches)
-    (λ values v. IsLastOf values.items v)
+    (λ values v. IsLastOf values.items v) in
+    record {
+      ok = λ s t v o.
+          let read = law.ok s t v o in
+          record {
+            keeps = read.keeps;
+            closed = read.closed;
+            reading = record {
+              from = read.reading.read.from;
+              read = read.reading.read.read;
+              made = is_last read.reading.read.from v
+                  (subst (λ values. IsLastOf values v) read.reading.read.made read.reading.made);
+            };
+          };
+      err = λ s t e o. law.err s t e o;
+      named = λ s t e o. law.named s t e o;
+    }
 
 -- it shows the short names of both keys
 pub toggle_shows : {T : Type 0} (one other : ParseFlag T)
-    → ShowsNames (ToggleDescribes one other) (shorts_of_both one other)
+    → ShowsNames (ToggleDescribes one other)
+    (of_flags (one.named.names.shorts ++ other.named.names.shorts))
 toggle_shows one other =
     many_shows (choice_shows (flag_shows one.named one.absent)
     (flag_shows other.named other.absent))

@@ -9,9 +9,10 @@ use Rattle.bpaf_line.specs.Situation.{Situation, Context, item_in, count_below}
 use Rattle.bpaf_laws.specs.Laws.{newly}
 use Rattle.bpaf_laws.specs.Flag.{flag_shape}
 use Rattle.bpaf_laws.specs.Product.{BothDescribes, BothOutcome, BothReads, LastDescribes}
-use Rattle.bpaf_laws.specs.Product.{ProductDescribes, ProductOutcome, ProductReads}
+use Rattle.bpaf_laws.specs.Product.{ProductDescribes, ProductOutcome}
 use Rattle.bpaf_laws.specs.Reading.{Share, Outcome, Readings}
-use Rattle.bpaf_laws.specs.Repeat.{CountOutcome, CountReads, ManyDescribes}
+use Rattle.bpaf_laws.specs.Repeat.{CountOutcome, ListReads, ManyDescribes}
+use Rattle.bpaf_laws.specs.Transform.{MapReads}
 use Rattle.bpaf_batteries.specs.Level.{level}
 use Rattle.bpaf_laws.specs.Spared.{WithoutMemory}
 use Rattle.bpaf_batteries.specs.Keys.{is_key, KeyOutcome, KeyReads}
@@ -49,13 +50,13 @@ CountsSpared clones more fewer =
     (WithoutMemory (CountOutcome (KeyOutcome clones fewer))))
     (λ counts v. v ≡ counts)
 
--- what they read
+-- what they read: so many values of each key
 abbrev pub CountsReads : {T : Type 0} → (T → T → Type 0) → ParseFlag T → ParseFlag T
     → Readings (ℕ × ℕ)
-CountsReads clones more fewer =
-    ProductReads (ℕ × ℕ) (ℕ × ℕ)
-    (BothReads ℕ ℕ (CountReads (KeyReads clones more)) (CountReads (KeyReads clones fewer)))
-    (λ counts v. v ≡ counts)
+CountsReads {T} clones more fewer =
+    BothReads ℕ ℕ
+    (MapReads (List T) ℕ (ListReads (KeyReads clones more)) (λ values n. n ≡ length values))
+    (MapReads (List T) ℕ (ListReads (KeyReads clones fewer)) (λ values n. n ≡ length values))
 
 -- what a counted key shows: its item, which may stand any number of times
 abbrev pub CountShows : {T : Type 0} → ParseFlag T → Shape → Type 0
@@ -70,38 +71,24 @@ CountsDescribe more fewer =
 abbrev pub IsLevelOf : (offset min max : ℤ) → ℕ × ℕ → ℤ → Type 0
 IsLevelOf offset min max counts v = v ≡ level offset min max counts.0 counts.1
 
--- the level of the keys that were newly taken
-abbrev pub level_taken : {T : Type 0} → ParseFlag T → ParseFlag T → (offset min max : ℤ) → Situation
-    → Situation → ℤ
-level_taken more fewer offset min max s t =
-    level offset min max (keys_taken more s t) (keys_taken fewer s t)
-
--- a number is that level
+-- a number is the level of the keys that were newly taken
 abbrev pub VerbosityCounts : {T : Type 0} → ParseFlag T → ParseFlag T → (offset min max : ℤ)
     → Situation → Situation → ℤ → Type 0
 VerbosityCounts more fewer offset min max s t v =
-    v ≡ level_taken more fewer offset min max s t
+    IsLevelOf offset min max (keys_taken more s t, keys_taken fewer s t) v
 
--- a clone of the item at a level
-abbrev pub IsItemAt : {T : Type 0} → (T → T → Type 0) → List T → ℤ → T → Type 0
-IsItemAt {T} clones items at v =
-    (place : ℕ) × (item : T) × (pos place ≡ at) × (slice_get items place ≡ Some item)
-    × clones item v
-
--- the bounds of the places of some items: the last of them
-abbrev pub last_place : {T : Type 0} → List T → ℤ
-last_place items = pos (length items) -ℤ pos 1
-
--- the item at the level of two counts, from the first to the last
+-- a clone of the item at the level of two counts, from the first to the last
 abbrev pub PicksItem : {T : Type 0} → (T → T → Type 0) → ℕ → List T → ℕ × ℕ → T → Type 0
-PicksItem clones offset items counts v =
-    IsItemAt clones items (level (pos offset) (pos 0) (last_place items) counts.0 counts.1) v
+PicksItem {T} clones offset items counts v =
+    (place : ℕ) × (item : T)
+    × IsLevelOf (pos offset) (pos 0) (pos (length items) -ℤ pos 1) counts (pos place)
+    × (slice_get items place ≡ Some item) × clones item v
 
 -- the item at the level of the keys that were newly taken
 abbrev pub VerbosityPicks : {K T : Type 0} → ParseFlag K → ParseFlag K → (T → T → Type 0) → ℕ
     → List T → Situation → Situation → T → Type 0
 VerbosityPicks more fewer clones offset items s t v =
-    IsItemAt clones items (level_taken more fewer (pos offset) (pos 0) (last_place items) s t) v
+    PicksItem clones offset items (keys_taken more s t, keys_taken fewer s t) v
 
 -- an item that is picked by the inner value; an inner refusal is passed on, or memory for the item
 -- is wanted

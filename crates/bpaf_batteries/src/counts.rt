@@ -57,14 +57,16 @@ impl Parser<(usize, usize)> for KeyCounts {
     ghost use Rattle.bpaf_batteries.specs.Verbosity.{CountsSpared, KeysAreCounted};
     ghost use Rattle.bpaf_laws.specs.Spared.{IsNotMemory};
     ghost use Rattle.bpaf_batteries.specs.VerbosityLaws.{counts_lawful};
-    ghost use Rattle.bpaf_batteries.specs.Keys.{shorts_of_both};
+    ghost use Rattle.std.specs.Prelude.{◌++◌};
+    ghost use Rattle.bpaf_laws.specs.ShownNames.{of_flags};
     ghost use Rattle.bpaf_batteries.specs.VerbosityLaws.{counts_show};
 
     ghost can_eval = { λ p. Unit {0} };
 
     ghost describes = { λ p. CountsDescribe p.fields.first.inner p.fields.rest.last.inner };
 
-    ghost shorts = { λ p. shorts_of_both p.fields.first.inner p.fields.rest.last.inner };
+    ghost shorts = { λ p. of_flags (p.fields.first.inner.named.names.shorts
+        ++ p.fields.rest.last.inner.named.names.shorts) };
 
     ghost reads = { λ p.
         CountsReads ⟦<() as Clone>⟧.is_clone p.fields.first.inner p.fields.rest.last.inner };

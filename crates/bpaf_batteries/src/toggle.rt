@@ -44,14 +44,16 @@ impl<T: Clone + Drop> Parser<Option<T>> for ToggleFlag<T> {
     ghost use Rattle.bpaf_batteries.specs.Toggle.{ToggleReads, ToggleSpared};
     ghost use Rattle.bpaf_laws.specs.Spared.{IsNotMemory};
     ghost use Rattle.bpaf_batteries.specs.ToggleLaws.{toggle_lawful};
-    ghost use Rattle.bpaf_batteries.specs.Keys.{shorts_of_both};
+    ghost use Rattle.std.specs.Prelude.{◌++◌};
+    ghost use Rattle.bpaf_laws.specs.ShownNames.{of_flags};
     ghost use Rattle.bpaf_batteries.specs.ToggleLaws.{toggle_shows};
 
     ghost can_eval = { λ p. Unit {0} };
 
     ghost describes = { λ p. ToggleDescribes p.toggles.inner.this p.toggles.inner.that };
 
-    ghost shorts = { λ p. shorts_of_both p.toggles.inner.this p.toggles.inner.that };
+    ghost shorts = { λ p. of_flags (p.toggles.inner.this.named.names.shorts
+        ++ p.toggles.inner.that.named.names.shorts) };
 
     ghost reads = { λ p. ToggleReads T.is_clone p.toggles.inner.this p.toggles.inner.that };
 

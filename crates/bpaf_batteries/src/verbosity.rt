@@ -71,7 +71,8 @@ impl Parser<isize> for VerboseQuiet {
     ghost use Rattle.bpaf_batteries.specs.Verbosity.{CountsSpared, IsLevelOf, VerbosityCounts};
     ghost use Rattle.bpaf_laws.specs.Spared.{IsNotMemory};
     ghost use Rattle.bpaf_batteries.specs.VerbosityLaws.{counts_lawful};
-    ghost use Rattle.bpaf_batteries.specs.Keys.{shorts_of_both};
+    ghost use Rattle.std.specs.Prelude.{◌++◌};
+    ghost use Rattle.bpaf_laws.specs.ShownNames.{of_flags};
     ghost use Rattle.bpaf_batteries.specs.VerbosityLaws.{counts_show};
 
     ghost can_eval = { λ p. Unit {0} };
@@ -79,8 +80,8 @@ impl Parser<isize> for VerboseQuiet {
     ghost describes = { λ p. CountsDescribe
         p.counts.fields.first.inner p.counts.fields.rest.last.inner };
 
-    ghost shorts = { λ p. shorts_of_both
-        p.counts.fields.first.inner p.counts.fields.rest.last.inner };
+    ghost shorts = { λ p. of_flags (p.counts.fields.first.inner.named.names.shorts
+        ++ p.counts.fields.rest.last.inner.named.names.shorts) };
 
     ghost reads = { λ p. MapReads (ℕ × ℕ) ℤ (CountsReads ⟦<() as Clone>⟧.is_clone
         p.counts.fields.first.inner p.counts.fields.rest.last.inner)
@@ -195,7 +196,8 @@ impl<T: Clone + Drop, const N: usize> Parser<T> for VerboseSlice<T, N> {
     ghost use Rattle.bpaf_batteries.specs.Verbosity.{CountsSpared, PickOutcome, VerbosityPicks};
     ghost use Rattle.bpaf_laws.specs.Spared.{IsNotMemory};
     ghost use Rattle.bpaf_batteries.specs.VerbosityLaws.{counts_lawful, pick_lawful};
-    ghost use Rattle.bpaf_batteries.specs.Keys.{shorts_of_both};
+    ghost use Rattle.std.specs.Prelude.{◌++◌};
+    ghost use Rattle.bpaf_laws.specs.ShownNames.{of_flags};
     ghost use Rattle.bpaf_batteries.specs.VerbosityLaws.{counts_show};
 
     ghost can_eval = { λ p. Unit {0} };
@@ -203,8 +205,8 @@ impl<T: Clone + Drop, const N: usize> Parser<T> for VerboseSlice<T, N> {
     ghost describes = { λ p. CountsDescribe
         p.counts.fields.first.inner p.counts.fields.rest.last.inner };
 
-    ghost shorts = { λ p. shorts_of_both
-        p.counts.fields.first.inner p.counts.fields.rest.last.inner };
+    ghost shorts = { λ p. of_flags (p.counts.fields.first.inner.named.names.shorts
+        ++ p.counts.fields.rest.last.inner.named.names.shorts) };
 
     ghost reads = { λ p. MapReads (ℕ × ℕ) T (CountsReads ⟦<() as Clone>⟧.is_clone
         p.counts.fields.first.inner p.counts.fields.rest.last.inner)

@@ -8,9 +8,10 @@ use Rattle.bpaf_line.specs.declared.failure.ParseFailure.{ParseFailure}
 use Rattle.bpaf_line.specs.declared.failure.ParseFailure.TheVariants as failure
 use Rattle.bpaf_line.specs.Stretches.{IsStretchFrom}
 use Rattle.bpaf_line.specs.Situation.{Situation, with_current, with_scope}
-use Rattle.bpaf_laws.specs.AdjacentCommand.{AdjacentReads, AllTaken, IsFirstLeft}
+use Rattle.bpaf_laws.specs.AdjacentCommand.{AllTaken, IsFirstLeft}
 use Rattle.bpaf_laws.specs.Command.{Called, CommandPart, CommandReads, IsNotOpened, IsOpenedAt}
 use Rattle.bpaf_laws.specs.Command.{inside, opened, opening_words}
+use Rattle.bpaf_laws.specs.OneStretch.{StretchReads}
 use Rattle.bpaf_laws.specs.Reading.{Outcome, Readings}
 use Rattle.bpaf_core.specs.Command.{CommandOutcome, IsMissingPart}
 use Rattle.bpaf_parts.specs.Failures.{end_message}
@@ -89,7 +90,7 @@ OutcomeOfCommand {T} command inner describes =
 
 -- what is read of it
 abbrev pub EitherCommandReads : Bool → (T : Type 0) → List (List ℕ) → Readings T → Readings T
-EitherCommandReads true T words inner = AdjacentReads T words inner
+EitherCommandReads true T words inner = StretchReads T (CommandReads T words inner)
 EitherCommandReads false T words inner = CommandReads T words inner
 
 -- what runs inside it: the attempts, or one run

@@ -7,9 +7,9 @@ use Rattle.bpaf_line.specs.declared.error.Error.{Error}
 use Rattle.bpaf_line.specs.declared.failure.ParseFailure.{ParseFailure}
 use Rattle.bpaf_line.specs.Stretches.{IsStretchFrom}
 use Rattle.bpaf_line.specs.Situation.{Situation, is_open, with_current, with_scope}
-use Rattle.bpaf_laws.specs.AdjacentCommand.{AdjacentReads}
-use Rattle.bpaf_laws.specs.Command.{Called, inside, opening_words}
+use Rattle.bpaf_laws.specs.Command.{Called, CommandReads, inside, opening_words}
 use Rattle.bpaf_laws.specs.Laws.{Keeps, Lawful, Reads}
+use Rattle.bpaf_laws.specs.OneStretch.{StretchReads}
 use Rattle.bpaf_laws.specs.Reading.{Outcome, Readings}
 use Rattle.bpaf_laws.proofs.AdjacentCommandLaws.{adjacent_read}
 use Rattle.bpaf_laws.proofs.CommandLaws.{keeps_inside, keeps_opened}
@@ -102,12 +102,13 @@ module _ {T : Type 0} {inner : Outcome T} {ending : Ending} {reads : Readings T}
     -- what an adjacent command answers is a reading, whose share is one stretch
     adjacent_reads : (s t : Situation) (v : T)
         → AdjacentOutcome T inner ending called shows s (Ok v) t
-        → Reads T (AdjacentReads T (opening_words called) reads) s v t
+        → Reads T (StretchReads T (CommandReads T (opening_words called) reads)) s v t
     adjacent_reads s t v (counted w p u at runs) =
         let m : Situation = inside called s p in
         let count = attempts_counted m (p + 1) w runs.0 runs.1 in
         let run = with_scope m (p + 1) count.end in
-        subst (Reads T (AdjacentReads T (opening_words called) reads) s w) (sym runs.2)
+        subst (Reads T (StretchReads T (CommandReads T (opening_words called) reads)) s w)
+        (sym runs.2)
         (adjacent_read called s p at count.end count.ordered count.present w runs.0
         (run_read law ends run w runs.0 count.ran) (run_empty run w runs.0 count.ran))
 

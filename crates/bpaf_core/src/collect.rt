@@ -52,8 +52,10 @@ impl<P, C, T> ParseCollect<P, C, T> {
 /// As `many`, with what is filled from the list in its place; refused also where the collection
 /// wants memory.
 impl<T: Drop, C: FromList<T> + Drop, P: Parser<T>> Parser<C> for ParseCollect<P, C, T> {
-    ghost use Rattle.bpaf_laws.specs.Repeat.{CollectOutcome, CollectReads, CollectIsBounded};
+    ghost use Rattle.std.specs.Prelude.{List};
+    ghost use Rattle.bpaf_laws.specs.Repeat.{ListReads, CollectOutcome, CollectIsBounded};
     ghost use Rattle.bpaf_laws.specs.Repeat.{ManyDescribes};
+    ghost use Rattle.bpaf_laws.specs.Transform.{MapReads};
     ghost use Rattle.bpaf_laws.proofs.RepeatLaws.{collect_lawful};
     ghost use Rattle.bpaf_laws.specs.Spared.{IsNotMemory, WithoutMemory};
     ghost use Rattle.bpaf_laws.proofs.ShownNames.{many_shows};
@@ -64,7 +66,7 @@ impl<T: Drop, C: FromList<T> + Drop, P: Parser<T>> Parser<C> for ParseCollect<P,
 
     ghost shorts = { λ p. P.shorts p.inner };
 
-    ghost reads = { λ p. CollectReads (P.reads p.inner) C.fills };
+    ghost reads = { λ p. MapReads (List T) C (ListReads (P.reads p.inner)) C.fills };
 
     ghost outcome = { λ p. CollectOutcome (P.outcome p.inner) p.catch C.fills };
 

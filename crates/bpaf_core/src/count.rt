@@ -58,7 +58,9 @@ pub struct ParseCount<P, T> {
 /// The number of inner values, until a turn stops or a value took nothing, which is counted. Every
 /// error at which no turn stops is refused, with the state that it left; so is want of memory.
 impl<T: Drop, P: Parser<T>> Parser<usize> for ParseCount<P, T> {
-    ghost use Rattle.bpaf_laws.specs.Repeat.{CountOutcome, CountReads, ManyDescribes};
+    ghost use Rattle.std.specs.Prelude.{◌≡◌, List, ℕ, length};
+    ghost use Rattle.bpaf_laws.specs.Repeat.{ListReads, CountOutcome, ManyDescribes};
+    ghost use Rattle.bpaf_laws.specs.Transform.{MapReads};
     ghost use Rattle.bpaf_laws.proofs.RepeatLaws.{count_lawful};
     ghost use Rattle.bpaf_laws.specs.Spared.{IsNotMemory, WithoutMemory};
     ghost use Rattle.bpaf_laws.proofs.ShownNames.{many_shows};
@@ -69,7 +71,8 @@ impl<T: Drop, P: Parser<T>> Parser<usize> for ParseCount<P, T> {
 
     ghost shorts = { λ p. P.shorts p.inner };
 
-    ghost reads = { λ p. CountReads (P.reads p.inner) };
+    ghost reads = { λ p.
+        MapReads (List T) ℕ (ListReads (P.reads p.inner)) (λ values n. n ≡ length values) };
 
     ghost outcome = { λ p. CountOutcome (P.outcome p.inner) };
 
@@ -101,7 +104,9 @@ pub struct ParseLast<P> {
 /// parser is evaluated once more, and what it answers is the answer. Every error at which no turn
 /// stops is refused, with the state that it left; so is want of memory.
 impl<T: Drop, P: Parser<T>> Parser<T> for ParseLast<P> {
-    ghost use Rattle.bpaf_laws.specs.Repeat.{LastOutcome, LastReads, SomeDescribes};
+    ghost use Rattle.std.specs.Prelude.{◌≡◌, List, [], ◌∷◌, ◌++◌};
+    ghost use Rattle.bpaf_laws.specs.Repeat.{ListReads, LastOutcome, SomeDescribes};
+    ghost use Rattle.bpaf_laws.specs.Transform.{MapReads};
     ghost use Rattle.bpaf_laws.proofs.RepeatLaws.{last_lawful};
     ghost use Rattle.bpaf_laws.specs.Spared.{IsNotMemory, WithoutMemory};
     ghost use Rattle.bpaf_laws.proofs.ShownNames.{some_shows};
@@ -112,7 +117,8 @@ impl<T: Drop, P: Parser<T>> Parser<T> for ParseLast<P> {
 
     ghost shorts = { λ p. P.shorts p.inner };
 
-    ghost reads = { λ p. LastReads (P.reads p.inner) };
+    ghost reads = { λ p. MapReads (List T) T (ListReads (P.reads p.inner))
+        (λ values v. (before : List T) × (values ≡ before ++ v ∷ [])) };
 
     ghost outcome = { λ p. LastOutcome (P.outcome p.inner) };
 

@@ -11,19 +11,22 @@ use std::alloc::{AllocError, Global};
 /// Refused with ParseFail, where neither help nor the version is asked for; and for want of memory,
 /// which is told as nothing else.
 impl Parser<ExtraParams> for Info {
-    ghost use Rattle.std.specs.Prelude.{◌≡◌};
+    ghost use Rattle.std.specs.Prelude.{◌≡◌, ◌++◌};
     ghost use Rattle.std.specs.Result.{IfErr};
     ghost use Rattle.bpaf_core.specs.Leaves.{AsksForNeither};
     ghost use Rattle.bpaf_keys.specs.Extra.{ExtraOutcome, ExtraReads, extra_shape};
     ghost use Rattle.bpaf_keys.proofs.ExtraLaws.{extra_lawful};
-    ghost use Rattle.bpaf_keys.specs.Extra.{extra_shorts};
+    ghost use Rattle.bpaf_laws.specs.ShownNames.{of_flags};
+    ghost use Rattle.std.specs.Option.{option_map_or};
     ghost use Rattle.bpaf_keys.proofs.ExtraLaws.{extra_shows};
 
     ghost can_eval = { λ info. Unit {0} };
 
     ghost describes = { λ info shape. shape ≡ extra_shape info };
 
-    ghost shorts = { λ info. extra_shorts info.version info.help_arg info.version_arg };
+    ghost shorts = { λ info. of_flags (option_map_or
+        (λ text. info.help_arg.names.shorts ++ info.version_arg.names.shorts)
+        info.version info.help_arg.names.shorts) };
 
     ghost reads = { λ info. ExtraReads info };
 

@@ -103,7 +103,9 @@ impl<T: Drop, P: Drop> ParseFallback<P, T> {
 /// caught. Every other error is refused; so is want of memory. After all but an inner value the
 /// state is as before.
 impl<T: Clone, P: Parser<T>> Parser<T> for ParseFallback<P, T> {
-    ghost use Rattle.bpaf_laws.specs.Default.{FallbackOutcome, FallbackReads, GivesClone};
+    ghost use Rattle.bpaf_laws.specs.Choice.{ChoiceReads};
+    ghost use Rattle.bpaf_laws.specs.Pure.{PureReads};
+    ghost use Rattle.bpaf_laws.specs.Default.{FallbackOutcome, GivesClone};
     ghost use Rattle.bpaf_laws.specs.Default.{DefaultDescribes};
     ghost use Rattle.bpaf_laws.proofs.DefaultLaws.{fallback_lawful};
     ghost use Rattle.bpaf_laws.proofs.NamesAnswer.{names_want};
@@ -116,7 +118,8 @@ impl<T: Clone, P: Parser<T>> Parser<T> for ParseFallback<P, T> {
 
     ghost shorts = { λ p. P.shorts p.inner };
 
-    ghost reads = { λ p. FallbackReads (P.reads p.inner) (GivesClone T.is_clone p.value) };
+    ghost reads = { λ p.
+        ChoiceReads (P.reads p.inner) (PureReads (T.is_clone p.value)) };
 
     ghost outcome = { λ p. FallbackOutcome (P.outcome p.inner) (GivesClone T.is_clone p.value) };
 
@@ -257,7 +260,10 @@ impl<T: Drop, P: Drop, F: Fn() -> Result<T, E> + Drop, E: Drop> ParseFallbackWit
 /// memory. After all but an inner value the state is as before.
 impl<T, E: Display + Drop, P: Parser<T>, F: Fn() -> Result<T, E>> Parser<T>
     for ParseFallbackWith<T, P, F, E> {
-    ghost use Rattle.bpaf_laws.specs.Default.{FallbackOutcome, FallbackReads, GivesAnswer};
+    ghost use Rattle.std.specs.Prelude.{Ok};
+    ghost use Rattle.bpaf_laws.specs.Choice.{ChoiceReads};
+    ghost use Rattle.bpaf_laws.specs.Pure.{PureReads};
+    ghost use Rattle.bpaf_laws.specs.Default.{FallbackOutcome, GivesAnswer};
     ghost use Rattle.bpaf_laws.specs.Default.{DefaultDescribes};
     ghost use Rattle.bpaf_laws.proofs.DefaultLaws.{fallback_lawful, names_answer};
     ghost use Rattle.bpaf_laws.specs.Spared.{IsNotMemory, WithoutMemory, DefaultTakesNothing};
@@ -270,7 +276,8 @@ impl<T, E: Display + Drop, P: Parser<T>, F: Fn() -> Result<T, E>> Parser<T>
     ghost shorts = { λ p. P.shorts p.inner };
 
     ghost reads = { λ p.
-        FallbackReads (P.reads p.inner) (GivesAnswer (λ r. F.post p.fallback r) E.output) };
+        ChoiceReads (P.reads p.inner)
+        (PureReads (λ v. F.post p.fallback (Ok v))) };
 
     ghost outcome = { λ p.
         FallbackOutcome (P.outcome p.inner) (GivesAnswer (λ r. F.post p.fallback r) E.output) };

@@ -60,8 +60,10 @@ impl<P> ParseMany<P> {
 /// nothing, or another error that can be caught, or a value after the first that took nothing.
 /// Every other error is refused, with the state that it left; so is want of memory.
 impl<T: Drop, P: Parser<T>> Parser<Vec<T>> for ParseMany<P> {
-    ghost use Rattle.std.specs.Prelude.{IfOk};
-    ghost use Rattle.bpaf_laws.specs.Repeat.{ManyOutcome, ManyReads, ManyDescribes, IsBounded};
+    ghost use Rattle.std.specs.Prelude.{IfOk, List};
+    ghost use Rattle.std.specs.Global.{Vec};
+    ghost use Rattle.bpaf_laws.specs.Repeat.{ListReads, ManyOutcome, ManyDescribes, IsBounded};
+    ghost use Rattle.bpaf_laws.specs.Transform.{MapReads};
     ghost use Rattle.bpaf_laws.proofs.RepeatLaws.{many_lawful};
     ghost use Rattle.bpaf_laws.specs.Spared.{IsNotMemory, WithoutMemory};
     ghost use Rattle.bpaf_laws.proofs.ShownNames.{many_shows};
@@ -72,7 +74,8 @@ impl<T: Drop, P: Parser<T>> Parser<Vec<T>> for ParseMany<P> {
 
     ghost shorts = { λ p. P.shorts p.inner };
 
-    ghost reads = { λ p. ManyReads (P.reads p.inner) };
+    ghost reads = { λ p.
+        MapReads (List T) (Vec T) (ListReads (P.reads p.inner)) (λ values v. v.items ≡ values) };
 
     ghost outcome = { λ p. ManyOutcome (P.outcome p.inner) p.catch };
 
@@ -142,8 +145,10 @@ impl<'m, P> ParseSome<'m, P> {
 
 /// As `many`; without a value it refuses with ParseSome and the message.
 impl<'m, T: Drop, P: Parser<T>> Parser<Vec<T>> for ParseSome<'m, P> {
-    ghost use Rattle.std.specs.Prelude.{IfOk};
-    ghost use Rattle.bpaf_laws.specs.Repeat.{SomeOutcome, SomeReads, SomeDescribes, IsBounded};
+    ghost use Rattle.std.specs.Prelude.{false, IfOk, List};
+    ghost use Rattle.std.specs.Global.{Vec};
+    ghost use Rattle.bpaf_laws.specs.Repeat.{ListReads, SomeOutcome, SomeDescribes, IsBounded, is_nil};
+    ghost use Rattle.bpaf_laws.specs.Transform.{MapReads};
     ghost use Rattle.bpaf_laws.proofs.RepeatLaws.{some_lawful};
     ghost use Rattle.bpaf_laws.specs.Spared.{IsNotMemory, WithoutMemory};
     ghost use Rattle.bpaf_laws.proofs.ShownNames.{some_shows};
@@ -154,7 +159,8 @@ impl<'m, T: Drop, P: Parser<T>> Parser<Vec<T>> for ParseSome<'m, P> {
 
     ghost shorts = { λ p. P.shorts p.inner };
 
-    ghost reads = { λ p. SomeReads (P.reads p.inner) };
+    ghost reads = { λ p. MapReads (List T) (Vec T) (ListReads (P.reads p.inner))
+        (λ values v. (v.items ≡ values) × (is_nil values ≡ false)) };
 
     ghost outcome = { λ p. SomeOutcome (P.outcome p.inner) p.catch p.message.now };
 

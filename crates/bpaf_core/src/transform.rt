@@ -128,8 +128,9 @@ pub struct ParseGuard<'m, P, F> {
 /// memory.
 impl<'m, T: Drop, P: Parser<T>, F: Fn(&T) -> bool> Parser<T> for ParseGuard<'m, P, F> {
     ghost use Rattle.std.specs.Fn.{FnReturnsAt};
+    ghost use Rattle.std.specs.Prelude.{◌≡◌, true};
     ghost use Rattle.bpaf_laws.specs.Spared.{IsNotMemory, WithoutMemory};
-    ghost use Rattle.bpaf_laws.specs.Transform.{GuardOutcome, GuardReads};
+    ghost use Rattle.bpaf_laws.specs.Transform.{GuardOutcome, MapReads};
     ghost use Rattle.bpaf_laws.proofs.TransformLaws.{guard_lawful};
 
     ghost can_eval = { λ p. P.can_eval p.inner × F.IsAlwaysCallable p.check };
@@ -138,7 +139,8 @@ impl<'m, T: Drop, P: Parser<T>, F: Fn(&T) -> bool> Parser<T> for ParseGuard<'m, 
 
     ghost shorts = { λ p. P.shorts p.inner };
 
-    ghost reads = { λ p. GuardReads (P.reads p.inner) (FnReturnsAt F.Fn p.check) };
+    ghost reads = { λ p. MapReads T T (P.reads p.inner)
+        (λ x v. (v ≡ x) × FnReturnsAt F.Fn p.check x true) };
 
     ghost outcome = { λ p.
         GuardOutcome (P.outcome p.inner) (FnReturnsAt F.Fn p.check) p.message.now };

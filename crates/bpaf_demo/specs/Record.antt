@@ -7,9 +7,10 @@ use Rattle.bpaf_text.specs.Named.{KeyWithValue, key_named}
 use Rattle.bpaf_words.specs.Arguments.{Given}
 use Rattle.bpaf_words.specs.Spelling.{Known, knowing}
 use Rattle.bpaf_laws.specs.Argument.{ArgumentReads}
-use Rattle.bpaf_laws.specs.Product.{BothReads, ProductReads}
+use Rattle.bpaf_laws.specs.Product.{BothReads}
 use Rattle.bpaf_laws.specs.Reading.{Readings}
-use Rattle.bpaf_laws.specs.Repeat.{ManyReads}
+use Rattle.bpaf_laws.specs.Repeat.{ListReads}
+use Rattle.bpaf_laws.specs.Transform.{MapReads}
 use Rattle.bpaf.specs.Dealt.{IsDealtOut}
 use Rattle.bpaf.specs.declared.leaves.positional.Position.TheVariants.{Unrestricted}
 use Rattle.bpaf.specs.Positional.{PositionalReads}
@@ -53,12 +54,14 @@ NumReads = ArgumentReads ℕ (SpellsUnsigned 64) number_key
 
 -- what the files read: a word each
 abbrev pub FilesReads : Readings (Vec String)
-FilesReads = ManyReads (PositionalReads String MeansText Unrestricted)
+FilesReads =
+    MapReads (List String) (Vec String)
+    (ListReads (PositionalReads String MeansText Unrestricted)) (λ values v. v.items ≡ values)
 
 -- what the options read: the switch, the number and the files, each place once
 abbrev pub OptionsReads : Readings Options
 OptionsReads =
-    ProductReads FieldValues Options
+    MapReads FieldValues Options
     (BothReads Bool (ℕ × Vec String) (SwitchReads verbose_names)
     (BothReads ℕ (Vec String) NumReads FilesReads))
     (λ x v. v ≡ options_of x)

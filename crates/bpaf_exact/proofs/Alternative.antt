@@ -5,7 +5,8 @@ use Rattle.std.specs.Option.{is_some}
 use Rattle.bpaf_line.specs.{declared.error.Error.Error, Situation.Situation}
 use Rattle.bpaf_laws.specs.Reading.{Outcome}
 use Rattle.bpaf_exact.specs.Flat.{front, Refused, class, cells, IsWholeIn, Steady, FieldKind}
-use Rattle.bpaf_exact.specs.Single.{Groups, FrontOf, Own, own_none, own_more, Readable, Gap, IsMeant, gap_of}
+use Rattle.bpaf_exact.specs.Single.{Groups, FrontOf, Own, own_none, own_more, Readable, Gap, gap_of}
+use Rattle.std.specs.Option.{IsSomeRelated}
 use Rattle.bpaf_exact.specs.Single.{TookGroup, SingleOk, gave_absent, took, SingleErr, of_memory}
 use Rattle.bpaf_exact.specs.Single.{catch_missing, of_missing, of_absent, of_piece, ReadsWords}
 use Rattle.bpaf_exact.specs.Wrappers.{Closure, AgreesOn, ClosedEval, closed_yes, closed_no}
@@ -55,7 +56,7 @@ took_front T value k q s t v o st f e means some =
 
 -- without something there is nothing that it means
 pub gap_empty : {X T : Type 0} (means : X → T → Type 0) (kept : Option X) (v : T)
-    → is_some kept ≡ false → IsMeant means kept v → ⊥
+    → is_some kept ≡ false → IsSomeRelated means kept v → ⊥
 gap_empty means None v h a = a
 gap_empty means (Some x) v h a = cc
 

@@ -6,7 +6,7 @@ use Rattle.bpaf_line.specs.declared.error.Message.TheVariants.{Memory, NoArgumen
 use Rattle.bpaf_line.specs.{declared.error.Error.Error, declared.error.Message.Message}
 use Rattle.bpaf_line.specs.{Situation.Situation}
 use Rattle.bpaf_laws.specs.Argument.{ArgumentOutcome, ArgumentFails, TakesOwnText, TakesBefore}
-use Rattle.bpaf_laws.specs.Argument.{GetsText, IsVariable, LacksText, is_key_with_value}
+use Rattle.bpaf_laws.specs.Argument.{GetsText, LacksText, is_key_with_value}
 use Rattle.bpaf_laws.specs.Environment.{first_set}
 use Rattle.bpaf_laws.specs.Repeat.{is_nil}
 use Rattle.bpaf_exact.specs.Flat.{ByName, class, class_of, cells, IsWholeIn, Variables}
@@ -45,7 +45,8 @@ module _ (T : Type 0) (means : List ℕ → T → Type 0) (argument : KeyWithVal
   value = ArgumentValue means
 
   -- no name is set in the environment
-  never_set : (s : Situation) (text : List ℕ) → IsVariable argument s.context text → ⊥
+  never_set : (s : Situation) (text : List ℕ)
+      → first_set s.context.env argument.named.envs ≡ Some text → ⊥
   never_set s text e =
       let h : first_set s.context.env argument.named.envs ≡ None =
       ap (first_set s.context.env) no_envs in

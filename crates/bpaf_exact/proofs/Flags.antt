@@ -1,7 +1,7 @@
 -- Flags keep to the laws.
 use Rattle.std.proofs.Common.{◌≡◌, ℕ, Bool, true, false, List, [], ◌∷◌, Option, Some, None, Ok}
 use Rattle.std.proofs.Common.{◌&&◌, not, refl, sym, ap, ◌∙◌, subst, ⊎_elim, true≢false}
-use Rattle.std.specs.Option.{is_none, is_some}
+use Rattle.std.specs.Option.{is_none, is_some, IsSomeRelated}
 use Rattle.bpaf_text.specs.Named.{Named as Key, flag_part}
 use Rattle.bpaf_base.specs.Items.{is_key_of}
 use Rattle.bpaf_line.specs.{declared.error.Error.Error, declared.error.Message.Message}
@@ -9,11 +9,11 @@ use Rattle.bpaf_line.specs.{declared.error.Message.TheVariants.Memory, Situation
 use Rattle.bpaf_line.specs.{Situation.take_place, Taking.HasNone, Taking.TakesFlag}
 use Rattle.bpaf_laws.specs.Environment.{first_set, is_set}
 use Rattle.bpaf_laws.specs.Repeat.{is_nil}
-use Rattle.bpaf_laws.specs.Flag.{FlagOutcome, FlagFails, IsAbsentValue}
+use Rattle.bpaf_laws.specs.Flag.{FlagOutcome, FlagFails, value_without_key}
 use Rattle.bpaf_exact.specs.Single.{Groups, Gap, FrontOf, SingleOk, gave_absent, took, SingleErr}
 use Rattle.bpaf_exact.specs.Alternative.{AlternativeOk, AlternativeErr, alternative_memory}
 use Rattle.bpaf_exact.specs.Leaves.{flag_roles, FlagValue, flag_field, key_field}
-use Rattle.bpaf_exact.specs.{Leaves.value_without_key, Single.gap_of}
+use Rattle.bpaf_exact.specs.{Single.gap_of}
 use Rattle.bpaf_exact.specs.{Single.of_memory, Single.of_missing, Single.SingleLaw}
 use Rattle.bpaf_exact.specs.{Alternative.AlternativeLaw, Pieces.Alone, Pieces.Roles}
 use Rattle.bpaf_exact.specs.{Pieces.LinePiece, Pieces.One, Pieces.IsNamed, Flat.class}
@@ -108,7 +108,7 @@ module _ (T : Type 0) (clones : T → T → Type 0) (present : T) where
 
   -- else the absent one
   gap_unset : (absent : Option T) (set : Option (List ℕ)) (v : T) → is_some set ≡ false
-      → IsAbsentValue clones absent v → StandsForNone absent set v
+      → IsSomeRelated clones absent v → StandsForNone absent set v
   gap_unset None None v e y = absurd y
   gap_unset (Some kept) None v e y = (refl, y)
   gap_unset absent (Some text) v e y = absurd cc

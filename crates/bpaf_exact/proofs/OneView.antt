@@ -2,7 +2,7 @@
 -- of a line look alike.
 use Rattle.std.proofs.Common.{◌≡◌, ℕ, Bool, true, false, List, [], ◌∷◌, map, Option, Some, None}
 use Rattle.std.proofs.Common.{◌&&◌, ◌||◌, not, refl, sym, ap, ◌∙◌, subst, inl, inr}
-use Rattle.std.specs.Option.{is_none}
+use Rattle.std.specs.Option.{is_none, IsSomeRelated}
 use Rattle.bpaf_laws.specs.Environment.{first_set}
 use Rattle.bpaf_laws.specs.Repeat.{is_nil}
 use Rattle.std.specs.{Global.Vec, Prelude.option_map}
@@ -12,7 +12,7 @@ use Rattle.bpaf_base.specs.Items.{item_text}
 use Rattle.bpaf_line.specs.Situation.{Context}
 use Rattle.bpaf_laws.specs.Reading.{Outcome}
 use Rattle.bpaf_exact.specs.Flat.{FieldsLaw, FieldsReading, FieldKind, ByName, ReadOff, Variables}
-use Rattle.bpaf_exact.specs.Single.{Groups, Gap, IsMeant, FrontOf, Own, own_none, own_more, SingleLaw}
+use Rattle.bpaf_exact.specs.Single.{Groups, Gap, FrontOf, Own, own_none, own_more, SingleLaw}
 use Rattle.bpaf_exact.specs.Single.{SingleValue, OwnList, listed}
 use Rattle.bpaf_exact.specs.Wrappers.{Closure, OptionalValue, FallbackValue}
 use Rattle.bpaf_exact.specs.Leaves.{FlagValue, ArgumentValue, WordValue, flag_field, LastGroup}
@@ -89,7 +89,7 @@ key_view T X see wide false q each group gap piece groups none = (groups, none)
 
 -- what something means, where it is there
 meant_view : {Y T X : Type 0} (see : T → X) (means : Y → T → Type 0)
-    → ((y : Y) → Alike see (means y)) → (kept : Option Y) → Alike see (IsMeant means kept)
+    → ((y : Y) → Alike see (means y)) → (kept : Option Y) → Alike see (IsSomeRelated means kept)
 meant_view see means u None v w a b = absurd a
 meant_view see means u (Some y) v w a b = u y v w a b
 

@@ -9,12 +9,13 @@ use Rattle.bpaf_exact.specs.Flat.{FieldKind, ByName, OneWord, EachWord, FieldsRe
 use Rattle.bpaf_exact.specs.Single.{Groups, Gap, FrontOf, Own, own_none, own_more, OwnList, listed}
 use Rattle.bpaf_exact.specs.Single.{listed_and_absent, only_absent, SingleValue}
 use Rattle.bpaf_exact.specs.Wrappers.{Closure, OptionalValue, FallbackValue}
-use Rattle.bpaf_exact.specs.{Single.gap_of, Single.IsMeant}
+use Rattle.bpaf_exact.specs.{Single.gap_of}
+use Rattle.bpaf_laws.specs.Flag.{value_without_key}
 use Rattle.bpaf_exact.specs.Leaves.{flag_field, flag_roles, FlagValue, argument_field}
-use Rattle.bpaf_exact.specs.Leaves.{argument_group, argument_roles, key_field, value_without_key}
+use Rattle.bpaf_exact.specs.Leaves.{argument_group, argument_roles, key_field}
 use Rattle.bpaf_laws.specs.Environment.{first_set}
 use Rattle.bpaf_laws.specs.Repeat.{is_nil}
-use Rattle.std.specs.Option.{is_none}
+use Rattle.std.specs.Option.{is_none, IsSomeRelated}
 use Rattle.bpaf_exact.specs.ProgramForm.{ProgramForm, FormLaw, no_program, alternative, single}
 use Rattle.bpaf_exact.specs.ProgramForm.{complete, product, commands, before_commands, program_if}
 use Rattle.bpaf_exact.specs.ProgramForm.{program_closed, program_choice, completed}
@@ -65,7 +66,7 @@ module _ {T : Type 0} (clones : T → T → Type 0) (present : T) where
 
   -- no key
   flag_gap_says : (absent : Option T) (set : Option (List ℕ)) (v : T)
-      → IsMeant clones (value_without_key present absent set) v
+      → IsSomeRelated clones (value_without_key present absent set) v
       → FlagSays clones present absent set [] v
   flag_gap_says None None v m = absurd m
   flag_gap_says (Some a) None v m = says_absent a refl refl refl m
@@ -117,7 +118,7 @@ module _ {T : Type 0} (means : List ℕ → T → Type 0) where
 
   -- no key
   argument_gap_says : {last : Bool} (set : Option (List ℕ)) (v : T)
-      → IsMeant means set v → ArgumentSays means last set [] v
+      → IsSomeRelated means set v → ArgumentSays means last set [] v
   argument_gap_says None v m = absurd m
   argument_gap_says (Some text) v m = says_variable_text text refl refl m
 

@@ -10,6 +10,7 @@ use Rattle.bpaf_line.specs.declared.error.Error.{Error}
 use Rattle.bpaf_line.specs.Situation.{Situation}
 use Rattle.bpaf_line.specs.Taking.{TakesText, HasNone}
 use Rattle.bpaf_laws.specs.Environment.{first_set}
+use Rattle.bpaf_laws.specs.Flag.{value_without_key}
 use Rattle.bpaf_laws.specs.Repeat.{is_nil}
 use Rattle.bpaf_exact.specs.Pieces.{Roles, Alone, WithNext, LinePiece, One, Two, no_roles}
 use Rattle.bpaf_exact.specs.Pieces.{stands_behind, roles_of}
@@ -42,12 +43,6 @@ abbrev pub WordValue : {T : Type 0} → (Bool → Bool) → (List ℕ → T → 
     → Type 0
 WordValue accepts means (One w) v = (accepts (stands_behind w) ≡ true) × means (item_text w) v
 WordValue accepts means (Two k w) v = ⊥
-
--- the value of a flag without a key, by the text of its variable: the present one where that is
--- set, else the absent one, if there is one
-abbrev pub value_without_key : {T : Type 0} → T → Option T → Option (List ℕ) → Option T
-value_without_key present absent (Some text) = Some present
-value_without_key present absent None = absent
 
 -- a key: where it must be there, has no name in the environment and its pieces mean values one by
 -- one, it may stand in a choice

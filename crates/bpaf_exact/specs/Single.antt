@@ -2,6 +2,7 @@
 -- it.
 use Rattle.std.specs.Prelude.{◌≡◌, ℕ, suc, Bool, true, false, List, [], ◌∷◌, Option, Some, None}
 use Rattle.std.specs.Prelude.{Ok, Err, is_some, ◌⊎◌}
+use Rattle.std.specs.Option.{IsSomeRelated}
 use Rattle.bpaf_line.specs.declared.error.Error.{Error}
 use Rattle.bpaf_line.specs.Situation.{Situation, open_count}
 use Rattle.bpaf_laws.specs.Reading.{Outcome}
@@ -42,14 +43,9 @@ pub record Gap (T : Type 0) : Type 1 where
   pub has : Bool
   pub absent : T → Type 0
 
--- a value that something means, if there is something
-abbrev pub IsMeant : {X T : Type 0} → (X → T → Type 0) → Option X → T → Type 0
-IsMeant means None v = ⊥
-IsMeant means (Some x) v = means x v
-
 -- for no piece at all what something means, if there is something
 abbrev pub gap_of : {X T : Type 0} → (X → T → Type 0) → Option X → Gap T
-gap_of means kept = record { has = is_some kept; absent = IsMeant means kept }
+gap_of means kept = record { has = is_some kept; absent = IsSomeRelated means kept }
 
 -- a value read off the front of the own pieces, of which at least one was taken
 pub record TookGroup (T : Type 0) (k : FieldKind) (q : Roles) (group : Groups T) (s : Situation)

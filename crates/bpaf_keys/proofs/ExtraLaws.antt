@@ -1,5 +1,6 @@
 -- Looking for help and the version keeps to the laws.
-use Rattle.std.specs.Prelude.{◌≡◌, Bool, true, false, None, Option, List, Some, Ok, Err, refl}
+use Rattle.std.specs.Prelude.{◌≡◌, ◌++◌, Bool, true, false, None, Option, List, Some, Ok, Err, refl}
+use Rattle.std.specs.Option.{option_map_or}
 use Rattle.bpaf_doc.specs.declared.doc.Piece.{Piece}
 use Rattle.bpaf_doc.specs.Walks.{parts}
 use Rattle.std.proofs.Common.{⊎_elim, inl, inr}
@@ -15,11 +16,11 @@ use Rattle.bpaf_laws.specs.Product.{BothReads}
 use Rattle.bpaf_laws.proofs.FlagLaws.{flag_lawful}
 use Rattle.bpaf_laws.proofs.Keeping.{keeps_same, keeps_trans}
 use Rattle.bpaf_laws.proofs.ProductLaws.{both_lawful}
-use Rattle.bpaf_laws.specs.ShownNames.{ShowsNames, shorts_of}
+use Rattle.bpaf_laws.specs.ShownNames.{ShowsNames, of_flags, shorts_of}
 use Rattle.bpaf_laws.proofs.ShownNames.{both_show, flag_shows, last_shows, one_shape, product_shows}
 use Rattle.bpaf_keys.specs.declared.info.ExtraParams.{ExtraParams}
 use Rattle.bpaf_keys.specs.Extra.{ExtraOutcome, ExtraReads, IsNoVersion, SwitchReads}
-use Rattle.bpaf_keys.specs.Extra.{extra_shape, extra_shape_of, extra_shorts}
+use Rattle.bpaf_keys.specs.Extra.{extra_shape, extra_shape_of}
 use Rattle.bpaf_keys.specs.Extra.{help, neither, no_memory, version}
 use Rattle.bpaf_keys.specs.Info.{RunInfo}
 
@@ -97,12 +98,14 @@ module _ (info : RunInfo) where
 -- and shows the short names of the keys that are looked for
 pub extra_shows : (info : RunInfo)
     → ShowsNames (λ shape. shape ≡ extra_shape info)
-    (extra_shorts info.version info.help_arg info.version_arg)
+    (of_flags (option_map_or (λ text. info.help_arg.names.shorts ++ info.version_arg.names.shorts)
+    info.version info.help_arg.names.shorts))
 extra_shows info = one_shape (of_version info.version info.help_arg info.version_arg)
   where
     of_version : (version : Option (List Piece)) (first second : Named)
         → shorts_of (parts (extra_shape_of version first second))
-        ≡ extra_shorts version first second
+        ≡ of_flags (option_map_or (λ text. first.names.shorts ++ second.names.shorts) version
+        first.names.shorts)
     of_version None first second = (flag_shows {T = Bool} first None).each _ refl
     of_version (Some text) first second =
         (product_shows (both_show (flag_shows {T = Bool} first None)

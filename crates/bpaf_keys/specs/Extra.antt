@@ -12,8 +12,6 @@ use Rattle.bpaf_laws.specs.Flag.{FlagReads, IsFlagAbsent, IsFlagPresent, IsPrese
 use Rattle.bpaf_laws.specs.Laws.{Keeps}
 use Rattle.bpaf_laws.specs.Product.{BothReads}
 use Rattle.bpaf_laws.specs.Reading.{Readings}
-use Rattle.bpaf_laws.specs.ShownNames.{joined_shorts, of_flags}
-use Rattle.bpaf_words.specs.Spelling.{ShortNames}
 use Rattle.bpaf_keys.specs.declared.info.ExtraParams.{ExtraParams}
 use Rattle.bpaf_keys.specs.declared.info.ExtraParams.TheVariants as extra
 use Rattle.bpaf_keys.specs.Info.{RunInfo}
@@ -79,9 +77,3 @@ extra_shape_of (Some text) first second =
 -- that of a run
 abbrev pub extra_shape : RunInfo → Shape
 extra_shape info = extra_shape_of info.version info.help_arg info.version_arg
-
--- the short names that they show
-abbrev pub extra_shorts : Option (List Piece) → Named → Named → ShortNames
-extra_shorts None first second = of_flags first.names.shorts
-extra_shorts (Some text) first second =
-    joined_shorts (of_flags first.names.shorts) (of_flags second.names.shorts)

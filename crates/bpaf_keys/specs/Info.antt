@@ -38,11 +38,6 @@ help_key = usual_key 104 (codes "help") (codes "Prints help information")
 abbrev pub version_key : Named
 version_key = usual_key 86 (codes "version") (codes "Prints version information")
 
--- a key, or the usual one where none is set
-abbrev pub key_or : Named → Option Named → Named
-key_or usual None = usual
-key_or usual (Some key) = key
-
 -- where nothing is set
 abbrev pub plain_info : RunInfo
 plain_info = record {

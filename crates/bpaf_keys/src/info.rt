@@ -2,7 +2,7 @@
 ghost use Rattle.std.specs.Prelude.{◌≡◌, ◌==◌, ◌&&◌, ◌++◌, ◌∷◌, [], IfOk, OnOk};
 ghost use Rattle.bpaf_doc.specs.Prints.{Prints};
 ghost use Rattle.bpaf_text.specs.Named.{Named};
-ghost use Rattle.std.specs.Prelude.{map, string_bytes};
+ghost use Rattle.std.specs.Prelude.{map, string_bytes, unwrap_or};
 ghost use Rattle.bpaf_pages.specs.Help.{help_text};
 ghost use Rattle.bpaf_pages.specs.InsideHelp.{given_by};
 ghost use Rattle.bpaf_doc.specs.Shape.{And, members, shape_of};
@@ -11,7 +11,7 @@ ghost use Rattle.bpaf_keys.specs.Extra.{ExtraOutcome, IsNotAsked, LooksForVersio
 ghost use Rattle.bpaf_keys.specs.Extra.{extra_shape, key_shape};
 ghost use Rattle.bpaf_laws.specs.ShownNames.{shorts_of};
 ghost use Rattle.bpaf_laws.specs.Version.{ShowsVersion, version_text};
-ghost use Rattle.bpaf_keys.specs.Info.{help_key, key_or, page_texts, plain_info, short_descr};
+ghost use Rattle.bpaf_keys.specs.Info.{help_key, page_texts, plain_info, short_descr};
 ghost use Rattle.bpaf_keys.specs.Info.{usual_key};
 ghost use Rattle.bpaf_keys.specs.Info.{version_key};
 ghost use Rattle.bpaf_keys.specs.KnownNames.{known_names};
@@ -72,7 +72,8 @@ impl Drop for Info {
 }
 
 impl Model for Info {
-    ghost use Rattle.bpaf_keys.specs.Info.{RunInfo, help_key, key_or, version_key};
+    ghost use Rattle.std.specs.Prelude.{unwrap_or};
+    ghost use Rattle.bpaf_keys.specs.Info.{RunInfo, help_key, version_key};
 
     ghost Value = { RunInfo };
 
@@ -83,8 +84,8 @@ impl Model for Info {
           header = info.header;
           footer = info.footer;
           usage = info.usage;
-          help_arg = key_or help_key info.help_arg;
-          version_arg = key_or version_key info.version_arg;
+          help_arg = unwrap_or info.help_arg help_key;
+          version_arg = unwrap_or info.version_arg version_key;
           help_if_no_args = info.help_if_no_args;
           max_width = info.max_width;
           numbers = info.numbers;
@@ -126,7 +127,7 @@ fn copy_of(key: &Option<NamedArg>) -> Result<Option<NamedArg>, AllocError>
 /// memory.
 fn push_shorts(key: &Option<NamedArg>, usual: char, names: &mut Vec<char>) -> Result<(), AllocError>
     ensures { OnOk result ((name : _) (help : _) → names.new.items ≡ names.old.items
-        ++ (key_or (usual_key usual name help) key.now).names.shorts) }
+        ++ (unwrap_or key.now (usual_key usual name help)).names.shorts) }
 {
     match key {
         Some(key) => names.extend_from_slice(key.shorts()),

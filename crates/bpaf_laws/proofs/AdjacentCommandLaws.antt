@@ -5,8 +5,8 @@ use Rattle.std.proofs.lemmas.Bool.Decides.{nat_tests}
 use Rattle.bpaf_line.specs.Situation.{Situation, is_open, open_count, with_scope}
 use Rattle.bpaf_laws.specs.Reading.{Readings}
 use Rattle.bpaf_laws.specs.Laws.{Keeps, Reads, newly}
-use Rattle.bpaf_laws.specs.AdjacentCommand.{AdjacentReads}
-use Rattle.bpaf_laws.specs.Command.{Called, IsOpenedAt, inside, opening_words}
+use Rattle.bpaf_laws.specs.Command.{Called, CommandReads, IsOpenedAt, inside, opening_words}
+use Rattle.bpaf_laws.specs.OneStretch.{StretchReads}
 use Rattle.bpaf_laws.proofs.CommandLaws.{closes_inside, keeps_inside, word_is_open}
 use Rattle.bpaf_laws.proofs.Keeping.{keeps_scope, keeps_trans, newly_joins, newly_take}
 use Rattle.bpaf_laws.proofs.OneStretch.{keeps_stretch, newly_stretch}
@@ -42,7 +42,7 @@ module _ (called : Called) (s : Situation) (p : ℕ) (at : IsOpenedAt (opening_w
 
     -- what is read over a stretch of present places behind the word is a reading, with the scope
     -- from the word on
-    pub adjacent_read : Reads T (AdjacentReads T (opening_words called) reads) s v
+    pub adjacent_read : Reads T (StretchReads T (CommandReads T (opening_words called) reads)) s v
         (with_scope t p s.end)
     adjacent_read =
         let m : Situation = inside called s p in
@@ -53,15 +53,17 @@ module _ (called : Called) (s : Situation) (p : ℕ) (at : IsOpenedAt (opening_w
           closed = λ q within outside.
               kept_inside.stays q (closes_inside called s p at q within outside);
           reading = record {
-            command = record {
-              name = p;
-              named = at.named;
-              name_share = newly s m;
-              is_name = newly_take s p (word_is_open (opening_words called) s p at);
-              inner_share = newly m t;
-              joins = newly_joins s m t entered kept_inside;
-              read = read.reading;
-            };
+            read = (
+              p,
+              record {
+                first_share = newly s m;
+                rest_share = newly m t;
+                joins = newly_joins s m t entered kept_inside;
+                first_read =
+                    (at.named, newly_take s p (word_is_open (opening_words called) s p at));
+                rest_read = read.reading;
+              },
+            );
             stretch = record { from = p; to = end; is = one_stretch };
           };
         }

@@ -13,8 +13,8 @@ use Rattle.bpaf_laws.specs.Laws.{Keeps, Reads, Lawful, newly}
 use Rattle.bpaf_laws.specs.RefusalNames.{NamesAnswer}
 use Rattle.bpaf_laws.proofs.NamesAnswer.{names_same, names_want}
 use Rattle.bpaf_laws.specs.Spared.{IsNotMemory, Spares}
-use Rattle.bpaf_laws.specs.OneStretch.{IsStretch}
-use Rattle.bpaf_laws.specs.AdjacentGroup.{GroupReads, Failure, longer, longest, taken_by, Probe}
+use Rattle.bpaf_laws.specs.OneStretch.{IsStretch, StretchReads}
+use Rattle.bpaf_laws.specs.AdjacentGroup.{Failure, longer, longest, taken_by, Probe}
 use Rattle.bpaf_laws.specs.AdjacentGroup.{Narrowed, whole, again, Tries, answered, refused}
 use Rattle.bpaf_laws.specs.AdjacentGroup.{TriedInVain, none_tried, not_taken, all_failed, Searches}
 use Rattle.bpaf_laws.specs.AdjacentGroup.{gave, none_gave, wanted, GroupOutcome, EndsWith}
@@ -67,7 +67,7 @@ module _ {T : Type 0} {inner : Outcome T} {reads : Readings T} (law : Lawful T i
 
   -- a value of theirs is read off one stretch
   tries_read : (a : ℕ) (v : T) (t : Situation) → Tries T inner s a (Ok v) t
-      → Reads T (GroupReads T reads) s v t
+      → Reads T (StretchReads T reads) s v t
   tries_read a v t (answered stop v' left narrowed ran none) =
       let opened = narrowed_open inner s a stop narrowed in
       let read = law.ok (with_scope s a stop) left v' ran in
@@ -119,7 +119,7 @@ module _ {T : Type 0} {inner : Outcome T} {reads : Readings T} (law : Lawful T i
 
   -- what the laws say of an answer
   abbrev IsGood : Result T Error → Situation → Type 0
-  IsGood (Ok v) t = Reads T (GroupReads T reads) s v t
+  IsGood (Ok v) t = Reads T (StretchReads T reads) s v t
   IsGood (Err e) t = Keeps s t × NamesAnswer e.0
 
   -- the longest failure is a good end; so is that there is none
@@ -143,7 +143,7 @@ module _ {T : Type 0} {inner : Outcome T} {reads : Readings T} (law : Lawful T i
 
 -- adjacent groups keep to the laws
 pub group_lawful : {T : Type 0} {inner : Outcome T} {reads : Readings T} (first : Part)
-    → Lawful T inner reads → Lawful T (GroupOutcome T inner first) (GroupReads T reads)
+    → Lawful T inner reads → Lawful T (GroupOutcome T inner first) (StretchReads T reads)
 group_lawful first law = record {
   ok = λ s t v o. searches_good law s first (Ok v) t o;
   err = λ s t e o. (searches_good law s first (Err e) t o).0;

@@ -1,22 +1,22 @@
 -- Arguments keep to the laws.
 use Rattle.std.specs.Prelude.{ℕ, ◌+◌, Bool, true, false, List}
-use Rattle.std.proofs.Common.{sym, subst, ◌∙◌, ⊎_elim, true≢false}
+use Rattle.std.proofs.Common.{sym, subst, ◌∙◌, ⊎_elim, inl, inr, true≢false}
 use Rattle.bpaf_text.specs.Named.{KeyWithValue, argument_part}
 use Rattle.bpaf_line.specs.Situation.{Situation}
-use Rattle.bpaf_line.proofs.Matches.{match_has_item}
 use Rattle.bpaf_line.specs.declared.error.Message.{Message}
 use Rattle.bpaf_line.specs.declared.error.Message.TheVariants.{Memory, ParseFailed, ParseFailure}
 use Rattle.bpaf_line.specs.declared.error.Message.TheVariants.{NoArgument}
+use Rattle.std.specs.Option.{IsSomeRelated}
 use Rattle.bpaf_laws.specs.Reading.{Readings}
 use Rattle.bpaf_laws.specs.Laws.{Keeps, Closes, Reads, Lawful, newly}
 use Rattle.bpaf_laws.specs.RefusalNames.{NamesAnswer}
 use Rattle.bpaf_laws.proofs.NamesAnswer.{names_absence}
 use Rattle.bpaf_laws.proofs.Keeping.{keeps_same, keeps_unset, reads_unset, closes_take_both}
 use Rattle.bpaf_laws.proofs.Keeping.{newly_none, newly_take_both}
-use Rattle.bpaf_laws.proofs.KeysTaken.{key_open, value_there, value_open, value_keeps}
+use Rattle.bpaf_laws.proofs.KeysTaken.{key_open, pair_key, value_open, value_keeps}
 use Rattle.bpaf_laws.proofs.KeysTaken.{took_keys, took_last}
-use Rattle.bpaf_laws.specs.Argument.{is_key_with_value, TakesKeyWithText, TakesOwnText, IsOwnText}
-use Rattle.bpaf_laws.specs.Argument.{TakesBefore, ArgumentReads, behind_key, in_variable}
+use Rattle.bpaf_laws.specs.Argument.{TakesKeyWithText, TakesOwnText, IsOwnText}
+use Rattle.bpaf_laws.specs.Argument.{TakesBefore, ArgumentReads}
 use Rattle.bpaf_laws.specs.Argument.{ArgumentOutcome, ArgumentFails, GetsText, ReadsVariable}
 
 -- a text of the line was got: what that keeps, and the places that it stands on
@@ -33,14 +33,12 @@ module _ (argument : KeyWithValue) (s : Situation) (text : List ℕ) (t : Situat
       subst (GotText false argument s text) (sym takes.taken) (record {
         keeps = subst (Keeps s) takes.taken (value_keeps argument s text t takes);
         closed = closes_take_both s takes.key (takes.key + 1);
-        is = record {
-          key = takes.key;
-          is_key = match_has_item (is_key_with_value argument) s takes.key takes.first.matches;
-          behind = (value_there argument s text t takes).1;
-          places =
-              newly_take_both s takes.key (key_open argument s text t takes)
-              (value_open argument s text t takes);
-        };
+        is = (
+          takes.key,
+          pair_key argument s text t takes,
+          newly_take_both s takes.key (key_open argument s text t takes)
+              (value_open argument s text t takes),
+        );
       })
 
   -- the text of a line, whichever key counts
@@ -59,7 +57,7 @@ module _ (argument : KeyWithValue) (s : Situation) (text : List ℕ) (t : Situat
           greatest = took.greatest;
           is_key = took.is_key;
           no_greater = took.no_greater;
-          behind_it = took.behind_it;
+          before = took.before;
         };
       }
 
@@ -80,14 +78,15 @@ module _ (T : Type 0) (means : List ℕ → T → Type 0) (argument : KeyWithVal
       → Reads T reads_argument s v t
   argument_read s t v text takes meant =
       let got = got_text argument s text t argument.last takes in
-      record { keeps = got.keeps; closed = got.closed; reading = behind_key text got.is meant }
+      record { keeps = got.keeps; closed = got.closed; reading = inl (text, got.is, meant) }
 
   -- a text of the environment, which means the answer, is a reading of it
   variable_read : (s t : Situation) (v : T) (text : List ℕ) → ReadsVariable argument s text t
       → means text v
       → Reads T reads_argument s v t
   variable_read s t v text found meant =
-      reads_unset reads_argument s t v found.left (in_variable text (newly_none s) found.set meant)
+      reads_unset reads_argument s t v found.left
+      (inr (newly_none s, subst (λ set. IsSomeRelated means set v) (sym found.set) meant))
 
   -- what getting a text keeps
   text_keeps : (s t : Situation) (text : List ℕ) → GetsText argument s text t → Keeps s t

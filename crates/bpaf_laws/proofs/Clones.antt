@@ -6,7 +6,8 @@ use Rattle.bpaf_line.specs.Situation.{Situation}
 use Rattle.bpaf_line.specs.declared.error.Error.{Error}
 use Rattle.bpaf_laws.specs.Default.{FallbackOutcome, GivesClone}
 use Rattle.bpaf_laws.specs.Kept.{IsKept}
-use Rattle.bpaf_laws.specs.Flag.{FlagOutcome, IsAbsentValue}
+use Rattle.std.specs.Option.{IsSomeRelated}
+use Rattle.bpaf_laws.specs.Flag.{FlagOutcome}
 use Rattle.bpaf_laws.specs.Reading.{Outcome}
 
 module _ {T : Type 0} {clones : T → T → Type 0}
@@ -20,8 +21,8 @@ module _ {T : Type 0} {clones : T → T → Type 0}
   fallback_kept inner kept s (Err e) t o = o
 
   -- the absent value of a flag, where it keeps one, is that
-  absent_kept : (absent : Option T) (v : T) → IsAbsentValue clones absent v
-      → IsAbsentValue IsKept absent v
+  absent_kept : (absent : Option T) (v : T) → IsSomeRelated clones absent v
+      → IsSomeRelated IsKept absent v
   absent_kept (Some kept) v is = equal kept v is
   absent_kept None v is = is
 

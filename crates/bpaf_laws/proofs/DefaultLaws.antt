@@ -9,7 +9,9 @@ use Rattle.bpaf_laws.specs.Reading.{Readings, Outcome}
 use Rattle.bpaf_laws.specs.Laws.{Keeps, Reads, Lawful}
 use Rattle.bpaf_laws.proofs.Keeping.{keeps_same, reads_same, newly_none}
 use Rattle.bpaf_laws.specs.Turn.{TurnOutcome}
-use Rattle.bpaf_laws.specs.Default.{Gives, NamesGiven, OptionalReads, FallbackReads}
+use Rattle.bpaf_laws.specs.Choice.{ChoiceReads}
+use Rattle.bpaf_laws.specs.Pure.{PureReads}
+use Rattle.bpaf_laws.specs.Default.{Gives, NamesGiven, OptionalReads}
 use Rattle.bpaf_laws.specs.Default.{FallbackOutcome, GivesAnswer}
 use Rattle.bpaf_laws.specs.RefusalNames.{NamesAnswer}
 use Rattle.bpaf_laws.proofs.NamesAnswer.{names_fault, names_want}
@@ -56,17 +58,18 @@ module _ {T : Type 0} {inner : Outcome T} {reads : Readings T} (law : Lawful T i
 
   -- what a fallback answers is a reading
   fallback_read : (gives : Gives T) (s t : Situation) (v : T)
-      → FallbackOutcome inner gives s (Ok v) t → Reads T (FallbackReads reads gives) s v t
+      → FallbackOutcome inner gives s (Ok v) t → Reads T (ChoiceReads reads (PureReads (λ w. gives (Ok w)))) s v t
   fallback_read gives s t v o =
       ⊎_elim
       (λ ran. let read = law.ok s t v ran
       in record { keeps = read.keeps; closed = read.closed; reading = inl read.reading })
-      (λ fell. reads_same (FallbackReads reads gives) s t v fell.0.1 (inr (newly_none s, fell.1)))
+      (λ fell. reads_same (ChoiceReads reads (PureReads (λ w. gives (Ok w)))) s t v fell.0.1
+      (inr (newly_none s, fell.1)))
       o
 
   -- fallbacks keep to the laws
   pub fallback_lawful : (gives : Gives T) → NamesGiven gives
-      → Lawful T (FallbackOutcome inner gives) (FallbackReads reads gives)
+      → Lawful T (FallbackOutcome inner gives) (ChoiceReads reads (PureReads (λ w. gives (Ok w))))
   fallback_lawful gives names = record {
     ok = λ s t v o. fallback_read gives s t v o;
     err =

@@ -1,6 +1,7 @@
 -- Flags keep to the laws.
-use Rattle.std.specs.Prelude.{◌≡◌, Bool, true, false, Option}
-use Rattle.std.proofs.Common.{sym, subst, ⊎_elim}
+use Rattle.std.specs.Prelude.{◌≡◌, ℕ, Bool, true, false, List, Option, Some, None}
+use Rattle.std.specs.Option.{is_some, IsSomeRelated}
+use Rattle.std.proofs.Common.{sym, subst, ⊎_elim, inl, inr, true≢false}
 use Rattle.bpaf_doc.specs.Names.{Names}
 use Rattle.bpaf_text.specs.Named.{Named, flag_part}
 use Rattle.bpaf_line.specs.Situation.{Situation, is_open}
@@ -9,14 +10,15 @@ use Rattle.bpaf_line.specs.Taking.{TakesFlag}
 use Rattle.bpaf_line.proofs.Matches.{match_is_open, match_has_item}
 use Rattle.bpaf_line.specs.declared.error.Message.{Message}
 use Rattle.bpaf_line.specs.declared.error.Message.TheVariants.{Memory, ParseFailure}
+use Rattle.bpaf_laws.specs.Environment.{first_set}
 use Rattle.bpaf_laws.specs.Reading.{Readings}
 use Rattle.bpaf_laws.specs.Laws.{Keeps, Reads, Lawful}
 use Rattle.bpaf_laws.specs.RefusalNames.{NamesAnswer}
 use Rattle.bpaf_laws.proofs.NamesAnswer.{names_absence}
 use Rattle.bpaf_laws.proofs.Keeping.{keeps_same, reads_same, closes_take, newly_none, keeps_take}
 use Rattle.bpaf_laws.proofs.Keeping.{newly_take}
-use Rattle.bpaf_laws.specs.Flag.{FlagReads, at_key, in_environment, nowhere, FlagOutcome, FlagFails}
-use Rattle.bpaf_laws.specs.Flag.{IsAbsentValue, IsFlagPresent, IsFlagAbsent, IsPresent}
+use Rattle.bpaf_laws.specs.Flag.{FlagReads, value_without_key, FlagOutcome, FlagFails}
+use Rattle.bpaf_laws.specs.Flag.{IsFlagPresent, IsFlagAbsent, IsPresent}
 
 -- what looking for a flag keeps
 pub flag_keeps : (names : Names) (s : Situation) (found : Bool) (t : Situation)
@@ -41,24 +43,41 @@ module _ (T : Type 0) (clones : T → T → Type 0) (named : Named) (present : T
       subst (λ w. Reads T reads_flag s v w) (sym takes.2) (record {
         keeps = keeps_take s takes.0 there;
         closed = closes_take s takes.0;
-        reading =
-            at_key takes.0 (match_has_item (is_key_of named.names) s takes.0 takes.1.matches)
-            (newly_take s takes.0 there) value;
+        reading = inl (
+          takes.0,
+          match_has_item (is_key_of named.names) s takes.0 takes.1.matches,
+          newly_take s takes.0 there,
+          value,
+        );
       })
+
+  -- where a variable is set the present value stands for no key
+  kept_set : (set : Option (List ℕ)) (v : T) → is_some set ≡ true → clones present v
+      → IsSomeRelated clones (value_without_key present absent set) v
+  kept_set (Some text) v is value = value
+  kept_set None v is value = absurd (true≢false (sym is))
+
+  -- else the absent one does
+  kept_unset : (set : Option (List ℕ)) (v : T) → is_some set ≡ false → IsSomeRelated clones absent v
+      → IsSomeRelated clones (value_without_key present absent set) v
+  kept_unset (Some text) v is value = absurd (true≢false is)
+  kept_unset None v is value = value
 
   -- a flag that is present, with a clone of the present value, is a reading
   flag_present : (s t : Situation) (v : T) → IsFlagPresent named s t → clones present v
       → Reads T reads_flag s v t
   flag_present s t v is value = ⊎_elim
       (λ takes. flag_found s t v takes value)
-      (λ set. reads_same reads_flag s t v set.0.1 (in_environment (newly_none s) set.1 value))
+      (λ set. reads_same reads_flag s t v set.0.1
+      (inr (newly_none s, kept_set (first_set s.context.env named.envs) v set.1 value)))
       is
 
   -- a flag that is absent, with a clone of the absent value, is a reading
-  flag_absent : (s t : Situation) (v : T) → IsFlagAbsent named s t → IsAbsentValue clones absent v
+  flag_absent : (s t : Situation) (v : T) → IsFlagAbsent named s t → IsSomeRelated clones absent v
       → Reads T reads_flag s v t
   flag_absent s t v is value =
-      reads_same reads_flag s t v is.0.1 (nowhere (newly_none s) is.1 value)
+      reads_same reads_flag s t v is.0.1
+      (inr (newly_none s, kept_unset (first_set s.context.env named.envs) v is.1 value))
 
   -- what the test of a flag's key keeps
   present_keeps : (s t : Situation) (is : Bool) → IsPresent named s is t → Keeps s t

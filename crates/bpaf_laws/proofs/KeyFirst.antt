@@ -78,7 +78,7 @@ lacks_own argument s t key metavar true lacks before =
           bare = bare_before argument s t all key lacks.0.matches lacks.1;
           first = λ q below here.
               let gone = gone_key argument s t all q here (lacks.0.first q below) in
-              ((all.are_keys q gone).text, taken_value argument s t all q gone);
+              ((all.are_keys q gone).0, taken_value argument s t all q gone);
         },
         lacks.2,
       ),

@@ -19,7 +19,7 @@ use Rattle.bpaf_line.proofs.Matches.{match_is_open, match_has_item, value_is_ope
 use Rattle.bpaf_laws.specs.Reading.{Share, HasItem}
 use Rattle.bpaf_laws.specs.Laws.{Keeps, Closes, newly}
 use Rattle.bpaf_laws.specs.Argument.{is_key_with_value, TakesKeyWithText, TakesKeysWithTexts}
-use Rattle.bpaf_laws.specs.Argument.{behind, IsKeyBeforeText, TakesLastText}
+use Rattle.bpaf_laws.specs.Argument.{behind, IsKeyBefore, TakesLastText}
 use Rattle.bpaf_laws.proofs.Keeping.{keeps_refl, keeps_trans, keeps_take, newly_none, newly_joins}
 use Rattle.bpaf_laws.proofs.Keeping.{newly_take_both, closes_take_both}
 use Rattle.bpaf_laws.proofs.CountingLaws.{same_took_none}
@@ -61,10 +61,9 @@ module _ (argument : KeyWithValue) (s : Situation) (text : List ℕ) (t : Situat
   pair_scope p = ap (λ (after : Situation). in_scope after p) takes.taken
 
   -- the key has the text behind it
-  pair_key : IsKeyBeforeText argument s.context takes.key
+  pub pair_key : IsKeyBefore argument s.context takes.key text
   pair_key = record {
     is_key = match_has_item (is_key_with_value argument) s takes.key takes.first.matches;
-    text = text;
     behind_it = value_there.1;
   }
 
@@ -140,7 +139,7 @@ pub record TookKeys (argument : KeyWithValue) (s t : Situation) : Type 0 where
   pub keeps : Keeps s t
   pub scope : (p : ℕ) → in_scope t p ≡ in_scope s p
   pub keys : Share
-  pub are_keys : (p : ℕ) → keys p ≡ true → IsKeyBeforeText argument s.context p
+  pub are_keys : (p : ℕ) → keys p ≡ true → (own : List ℕ) × IsKeyBefore argument s.context p own
   pub places : (p : ℕ) → newly s t p ≡ (keys p || behind keys p)
 
 -- what taking all of them took: the text behind the greatest key is this one
@@ -150,7 +149,7 @@ pub record TookLast (argument : KeyWithValue) (s : Situation) (text : List ℕ) 
   pub greatest : ℕ
   pub is_key : all.keys greatest ≡ true
   pub no_greater : (p : ℕ) → all.keys p ≡ true → p ≤ greatest
-  pub behind_it : option_and_then value_text (item_in s.context (greatest + 1)) ≡ Some text
+  pub before : IsKeyBefore argument s.context greatest text
   pub current : t.current ≡ Some (greatest + 1)
 
 -- one item fewer at least is present in scope when a key and its value are taken
@@ -216,13 +215,15 @@ module _ (argument : KeyWithValue) where
       }
     where
       either : (p : ℕ) (b : Bool) → (p == takes.key) ≡ b → (b || rest.keys p) ≡ true
-          → IsKeyBeforeText argument s.context p
+          → (own : List ℕ) × IsKeyBefore argument s.context p own
       either p true e key =
-          let same : p ≡ takes.key = grind (arith, nat_tests) in
-          subst (IsKeyBeforeText argument s.context) (sym same)
-          (pair_key argument s text m takes)
+          let same : p ≡ takes.key = grind (arith, nat_tests) in (
+            text,
+            subst (λ q. IsKeyBefore argument s.context q text) (sym same)
+                (pair_key argument s text m takes),
+          )
       either p false e key =
-          subst (λ context. IsKeyBeforeText argument context p)
+          subst (λ context. (own : List ℕ) × IsKeyBefore argument context p own)
           (value_keeps argument s text m takes).context (rest.are_keys p key)
 
   -- keys taken in turn
@@ -237,7 +238,7 @@ module _ (argument : KeyWithValue) where
     taken_key p key =
         match_there test s p
         (all.keeps.fresh p (all.places p ∙ ap (λ b. b || behind all.keys p) key))
-        (all.are_keys p key).is_key
+        (all.are_keys p key).1.is_key
 
     -- so did the place behind it
     pub behind_open : (p : ℕ) → all.keys p ≡ true → is_open s (p + 1) ≡ true
@@ -267,9 +268,9 @@ module _ (argument : KeyWithValue) where
         by_key true b f e = refl
         by_key false true f e =
             let value = all.are_keys p f in
-            absurd (value_is_no_key argument (item_in s.context (suc p)) value.text has
+            absurd (value_is_no_key argument (item_in s.context (suc p)) value.0 has
             (ap (λ n. option_and_then value_text (item_in s.context n)) (sym (add-one p))
-            ∙ value.behind_it))
+            ∙ value.1.behind_it))
         by_key false false f e = cc
 
     -- a place that isn't open any more was taken
@@ -310,7 +311,7 @@ module _ (argument : KeyWithValue) where
         apart : (text : List ℕ) → value_after s p ≡ Some text → all.keys (suc p) ≡ true → ⊥
         apart text e key =
             value_is_no_key argument (item_in s.context (suc p)) text
-            (all.are_keys (suc p) key).is_key
+            (all.are_keys (suc p) key).1.is_key
             (ap (λ n. option_and_then value_text (item_in s.context n)) (sym (add-one p))
             ∙ (value_is_open s p text e).1)
 
@@ -349,10 +350,10 @@ module _ (argument : KeyWithValue) where
 
     -- a key that was taken had a text behind it
     pub taken_value : (p : ℕ) (key : all.keys p ≡ true)
-        → value_after s p ≡ Some (all.are_keys p key).text
+        → value_after s p ≡ Some (all.are_keys p key).0
     taken_value p key =
-        value_there_after s p (all.are_keys p key).text (behind_open p key)
-        (all.are_keys p key).behind_it
+        value_there_after s p (all.are_keys p key).0 (behind_open p key)
+        (all.are_keys p key).1.behind_it
 
   -- the last of one key
   last_one : (s t : Situation) (text : List ℕ) → TakesKeyWithText argument s text t
@@ -363,7 +364,7 @@ module _ (argument : KeyWithValue) where
     greatest = takes.key;
     is_key = or_left (takes.key == takes.key) false (grind (arith, nat_tests));
     no_greater = λ p key. at_most p (p == takes.key) refl key;
-    behind_it = (value_there argument s text t takes).1;
+    before = pair_key argument s text t takes;
     current = ap (λ (after : Situation). after.current) takes.taken;
   }
     where
@@ -382,10 +383,8 @@ module _ (argument : KeyWithValue) where
     greatest = rest.greatest;
     is_key = or_right (rest.greatest == takes.key) (rest.all.keys rest.greatest) rest.is_key;
     no_greater = λ p key. at_most p (p == takes.key) refl key;
-    behind_it =
-        ap (λ context. option_and_then value_text (item_in context (rest.greatest + 1)))
-        (sym (value_keeps argument s x m takes).context)
-        ∙ rest.behind_it;
+    before = subst (λ context. IsKeyBefore argument context rest.greatest text)
+        (value_keeps argument s x m takes).context rest.before;
     current = rest.current;
   }
     where
@@ -423,4 +422,4 @@ module _ (argument : KeyWithValue) where
       → value_after s took.greatest ≡ Some text
   last_value s t text took =
       value_there_after s took.greatest text
-      (behind_open s t took.all took.greatest took.is_key) took.behind_it
+      (behind_open s t took.all took.greatest took.is_key) took.before.behind_it

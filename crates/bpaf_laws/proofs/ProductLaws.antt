@@ -10,7 +10,7 @@ use Rattle.bpaf_laws.specs.RefusalNames.{NamesAnswer}
 use Rattle.bpaf_laws.proofs.Keeping.{keeps_of, keeps_trans, keeps_current, closes_trans}
 use Rattle.bpaf_laws.proofs.Keeping.{newly_joins}
 use Rattle.bpaf_laws.specs.Product.{BothReads, BothOutcome, FailFastOutcome, joined, ProductOutcome}
-use Rattle.bpaf_laws.specs.Product.{ProductReads}
+use Rattle.bpaf_laws.specs.Transform.{MapReads}
 
 -- the values of fields that were evaluated one after the other are a reading of both
 both_ok : (A B : Type 0) (first : Outcome A) (rest : Outcome B) (rf : Readings A) (rr : Readings B)
@@ -106,14 +106,14 @@ fail_fast_lawful {A = A} {B = B} {first = first} {rest = rest} {rf = rf} {rr = r
 -- a product keeps to the laws where its fields do
 pub product_lawful : {V T : Type 0} {fields : Outcome V} {reads : Readings V}
     (makes : V → T → Type 0) → Lawful V fields reads
-    → Lawful T (ProductOutcome fields makes) (ProductReads V T reads makes)
+    → Lawful T (ProductOutcome fields makes) (MapReads V T reads makes)
 product_lawful {V} {T} {fields} {reads} makes l = record {
   ok = λ s t v o.
       let r = l.ok s o.0 o.1 o.2 in
-      subst (λ w. Reads T (ProductReads V T reads makes) s v w) (sym o.4) (record {
+      subst (λ w. Reads T (MapReads V T reads makes) s v w) (sym o.4) (record {
         keeps = keeps_current s o.0 None r.keeps;
         closed = r.closed;
-        reading = record { values = o.1; read = r.reading; made = o.3 };
+        reading = record { from = o.1; read = r.reading; made = o.3 };
       });
   err = λ s t e o. subst (λ w. Keeps s w) (sym o.2) (keeps_current s o.0 None (l.err s o.0 e o.1));
   named = λ s t e o. l.named s o.0 e o.1;

@@ -17,9 +17,9 @@ use Rattle.bpaf_laws.specs.RefusalNames.{NamesAnswer}
 use Rattle.bpaf_line.specs.declared.error.Message.TheVariants.{Memory, ParseSome}
 use Rattle.bpaf_laws.specs.Repeat.{is_nil, Turns, UntilStop, UntilError, UntilRest, UntilFault}
 use Rattle.bpaf_laws.specs.Repeat.{stops, rests, ListOutcome, EachReads, ListReads, ManyOutcome}
-use Rattle.bpaf_laws.specs.Repeat.{ManyReads, SomeOutcome, SomeReads, CollectOutcome, CollectReads}
-use Rattle.bpaf_laws.specs.Repeat.{CountOutcome, CountReads, LastOutcome, LastReads, EachTakes}
-use Rattle.bpaf_laws.specs.Repeat.{LaterTake, IsBounded}
+use Rattle.bpaf_laws.specs.Repeat.{SomeOutcome, CollectOutcome, CountOutcome, LastOutcome}
+use Rattle.bpaf_laws.specs.Repeat.{EachTakes, LaterTake, IsBounded}
+use Rattle.bpaf_laws.specs.Transform.{MapReads}
 
 -- what a stop leaves as it was: it takes nothing
 record TakesNothing (s t : Situation) : Type 0 where
@@ -157,23 +157,34 @@ module _ {T : Type 0} {inner : Outcome T} {reads : Readings T} (law : Lawful T i
       → NamesAnswer e.0
   until_error_named s e t run = step_named law catches (is_nil run.values) run.last t e run.fails
 
+  -- a list that was read until a turn stopped, with what is made of it, is a reading
+  made_read : {R : Type 0} (makes : List T → R → Type 0) (s t : Situation) (values : List T) (v : R)
+      → UntilStop inner catches s values t → makes values v
+      → Reads R (MapReads (List T) R (ListReads reads) makes) s v t
+  made_read makes s t values v run made =
+      let read = until_stop_reads s values t run in
+      record {
+        keeps = read.keeps;
+        closed = read.closed;
+        reading = record { from = values; read = read.reading; made = made };
+      }
+
   -- many keeps to the laws
-  pub many_lawful : Lawful (Vec T) (ManyOutcome inner catches) (ManyReads reads)
+  pub many_lawful : Lawful (Vec T) (ManyOutcome inner catches)
+      (MapReads (List T) (Vec T) (ListReads reads) (λ values v. v.items ≡ values))
   many_lawful = record {
-    ok =
-        λ s t values o. let read = until_stop_reads s values.items t o
-        in record { keeps = read.keeps; closed = read.closed; reading = read.reading };
+    ok = λ s t v o. made_read (λ values w. w.items ≡ values) s t v.items v o refl;
     err = λ s t e o. until_error_keeps s e t o;
     named = λ s t e o. until_error_named s e t o;
   }
 
   -- some keeps to the laws
   pub some_lawful : (message : List ℕ)
-      → Lawful (Vec T) (SomeOutcome inner catches message) (SomeReads reads)
+      → Lawful (Vec T) (SomeOutcome inner catches message) (MapReads (List T) (Vec T)
+      (ListReads reads) (λ values v. (v.items ≡ values) × (is_nil values ≡ false)))
   some_lawful message = record {
-    ok =
-        λ s t values o. let read = until_stop_reads s values.items t o.0
-        in record { keeps = read.keeps; closed = read.closed; reading = (read.reading, o.1) };
+    ok = λ s t v o. made_read (λ values w. (w.items ≡ values) × (is_nil values ≡ false)) s t
+        v.items v o.0 (refl, o.1);
     err =
         λ s t e o. ⊎_elim (λ failed. until_error_keeps s e t failed)
         (λ none. (until_stop_reads s [] t none.0).keeps) o;
@@ -185,15 +196,10 @@ module _ {T : Type 0} {inner : Outcome T} {reads : Readings T} (law : Lawful T i
 
   -- collect keeps to the laws
   pub collect_lawful : {C : Type 0} (fills : List T → C → Type 0)
-      → Lawful C (CollectOutcome inner catches fills) (CollectReads reads fills)
+      → Lawful C (CollectOutcome inner catches fills)
+      (MapReads (List T) C (ListReads reads) fills)
   collect_lawful fills = record {
-    ok = λ s t v o.
-        let read = until_stop_reads s o.0 t o.1 in
-        record {
-          keeps = read.keeps;
-          closed = read.closed;
-          reading = record { values = o.0; read = read.reading; filled = o.2 };
-        };
+    ok = λ s t v o. made_read fills s t o.0 v o.1 o.2;
     err =
         λ s t e o. ⊎_elim (λ failed. until_error_keeps s e t failed)
         (λ refused. (until_stop_reads s refused.0 t refused.1).keeps) o;
@@ -280,14 +286,15 @@ module _ {T : Type 0} {inner : Outcome T} {reads : Readings T} (law : Lawful T i
   until_fault_named s e t run = step_named law false (is_nil run.values) run.last t e run.fails
 
   -- count keeps to the laws
-  pub count_lawful : Lawful ℕ (CountOutcome inner) (CountReads reads)
+  pub count_lawful : Lawful ℕ (CountOutcome inner)
+      (MapReads (List T) ℕ (ListReads reads) (λ values n. n ≡ length values))
   count_lawful = record {
     ok = λ s t n o.
         let read = until_rest_reads s o.0 t o.1 in
         record {
           keeps = read.keeps;
           closed = read.closed;
-          reading = record { values = o.0; read = read.reading; number = o.2 };
+          reading = record { from = o.0; read = read.reading; made = o.2 };
         };
     err = λ s t e o. until_fault_keeps s e t o;
     named = λ s t e o. until_fault_named s e t o;
@@ -301,7 +308,8 @@ module _ {T : Type 0} {inner : Outcome T} {reads : Readings T} (law : Lawful T i
 
   -- what last answers is a reading
   last_read : (s t : Situation) (v : T) → LastOutcome inner s (Ok v) t
-      → Reads T (LastReads reads) s v t
+      → Reads T (MapReads (List T) T (ListReads reads)
+      (λ values w. (before : List T) × (values ≡ before ++ w ∷ []))) s v t
   last_read s t v o =
       ⊎_elim
       (λ run.
@@ -309,19 +317,20 @@ module _ {T : Type 0} {inner : Outcome T} {reads : Readings T} (law : Lawful T i
       record {
         keeps = read.keeps;
         closed = read.closed;
-        reading = record { before = run.0; read = read.reading };
+        reading = record { from = run.0 ++ v ∷ []; read = read.reading; made = (run.0, refl) };
       })
       (λ again.
       let read = again_reads s again.0 t v again.1 again.2 in
       record {
         keeps = read.keeps;
         closed = read.closed;
-        reading = record { before = []; read = read.reading };
+        reading = record { from = v ∷ []; read = read.reading; made = ([], refl) };
       })
       o
 
   -- last keeps to the laws
-  pub last_lawful : Lawful T (LastOutcome inner) (LastReads reads)
+  pub last_lawful : Lawful T (LastOutcome inner) (MapReads (List T) T (ListReads reads)
+      (λ values v. (before : List T) × (values ≡ before ++ v ∷ [])))
   last_lawful = record {
     ok = λ s t v o. last_read s t v o;
     err = λ s t e o.

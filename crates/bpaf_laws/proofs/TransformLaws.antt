@@ -1,11 +1,11 @@
 -- Parsers that change the value of an inner one keep to the laws where it does.
-use Rattle.std.specs.Prelude.{ℕ, Bool, List, Result, Ok, Option}
+use Rattle.std.specs.Prelude.{◌≡◌, ℕ, Bool, true, List, Result, Ok, Option, refl}
 use Rattle.std.proofs.Common.{⊎_elim}
 use Rattle.bpaf_laws.specs.Reading.{Readings, Outcome}
 use Rattle.bpaf_line.specs.declared.error.Message.TheVariants.{Memory, GuardFailed, ParseFailed}
 use Rattle.bpaf_laws.specs.Laws.{Reads, Lawful}
 use Rattle.bpaf_laws.proofs.NamesAnswer.{names_fault, names_same}
-use Rattle.bpaf_laws.specs.Transform.{MapReads, MapOutcome, ParseOutcome, GuardReads, GuardOutcome}
+use Rattle.bpaf_laws.specs.Transform.{MapReads, MapOutcome, ParseOutcome, GuardOutcome}
 
 module _ {T : Type 0} {inner : Outcome T} {reads : Readings T} (law : Lawful T inner reads) where
   -- an inner value that was read, with what a closure made of it, is a reading
@@ -44,11 +44,11 @@ module _ {T : Type 0} {inner : Outcome T} {reads : Readings T} (law : Lawful T i
 
   -- and guarded ones
   pub guard_lawful : (checks : T → Bool → Type 0) (message : List ℕ)
-      → Lawful T (GuardOutcome inner checks message) (GuardReads reads checks)
+      → Lawful T (GuardOutcome inner checks message)
+      (MapReads T T reads (λ x v. (v ≡ x) × checks x true))
   guard_lawful checks message = record {
     ok =
-        λ s t v o. let read = law.ok s t v o.0
-        in record { keeps = read.keeps; closed = read.closed; reading = (read.reading, o.1) };
+        λ s t v o. map_read (λ x w. (w ≡ x) × checks x true) s t v v o.0 (refl, o.1);
     err =
         λ s t e o. ⊎_elim (λ refused. law.err s t e refused)
         (λ failed. (law.ok s t failed.0 failed.1).keeps) o;

@@ -1,15 +1,6 @@
 -- Adjacent commands: those that read a word and the items behind it without a gap.
-use Rattle.std.specs.Prelude.{◌≡◌, ℕ, ◌<◌, ◌≤◌, true, false, List}
-use Rattle.bpaf_line.specs.Situation.{Situation, Context, is_taken}
-use Rattle.bpaf_laws.specs.Reading.{Share, Readings}
-use Rattle.bpaf_laws.specs.Command.{CommandReads}
-use Rattle.bpaf_laws.specs.OneStretch.{IsStretch}
-
--- a reading of a command whose whole share is one stretch
-pub record AdjacentReads (T : Type 0) (words : List (List ℕ)) (inner : Readings T)
-    (context : Context) (share : Share) (v : T) : Type 0 where
-  pub command : CommandReads T words inner context share v
-  pub stretch : IsStretch share
+use Rattle.std.specs.Prelude.{◌≡◌, ℕ, ◌<◌, ◌≤◌, true, false}
+use Rattle.bpaf_line.specs.Situation.{Situation, is_taken}
 
 -- each of the places from one up to another is taken
 abbrev pub AllTaken : Situation → ℕ → ℕ → Type 0

@@ -8,18 +8,11 @@ use Rattle.bpaf_line.specs.declared.missing.MissingItem.{MissingItem}
 use Rattle.bpaf_line.specs.Messages.{is_memory}
 use Rattle.bpaf_line.specs.MissingIn.{IsMissingIn}
 use Rattle.bpaf_line.specs.Stretches.{IsStretchFrom}
-use Rattle.bpaf_line.specs.Situation.{Situation, Context, with_scope, HasNoneOpen, IsNextOpen}
+use Rattle.bpaf_line.specs.Situation.{Situation, with_scope, HasNoneOpen, IsNextOpen}
 use Rattle.bpaf_laws.specs.Counting.{taken_count}
 use Rattle.bpaf_laws.specs.Laws.{newly}
-use Rattle.bpaf_laws.specs.OneStretch.{IsStretch}
-use Rattle.bpaf_laws.specs.Reading.{Share, Readings, Outcome, IsEmptyShare, HasPlace}
+use Rattle.bpaf_laws.specs.Reading.{Share, Outcome, IsEmptyShare, HasPlace}
 use Rattle.bpaf_laws.specs.Spared.{IsNotMemory}
-
--- a reading of the product, off one stretch
-pub record GroupReads (T : Type 0) (inner : Readings T) (context : Context) (share : Share)
-    (v : T) : Type 0 where
-  pub read : inner context share v
-  pub stretch : IsStretch share
 
 -- how many places the first item of a group has: an argument two, each other one
 abbrev pub place_count : Part → ℕ

@@ -2,7 +2,7 @@
 use Rattle.std.specs.Prelude.{◌≡◌, ◌⊎◌, ℕ, zero, suc, ◌+◌, ◌≤◌, Bool, true, false, ◌||◌, List, []}
 use Rattle.std.specs.Prelude.{◌∷◌, ◌++◌, Result, Ok, Err, Some, None}
 use Rattle.std.specs.Prelude.{Option, option_and_then}
-use Rattle.std.specs.Option.{option_map_or}
+use Rattle.std.specs.Option.{option_map_or, IsSomeRelated}
 use Rattle.bpaf_doc.specs.Shape.{Shape, Shown, Skip}
 use Rattle.bpaf_text.specs.Named.{KeyWithValue, argument_part}
 use Rattle.bpaf_base.specs.declared.arg.Arg.{Arg}
@@ -12,7 +12,7 @@ use Rattle.bpaf_line.specs.Taking.{TakesValue, RefusesArgument, HasNone}
 use Rattle.bpaf_line.specs.declared.error.Error.{Error}
 use Rattle.bpaf_line.specs.declared.error.Message.{Message}
 use Rattle.bpaf_line.specs.declared.error.Message.TheVariants.{Memory, ParseFailed, NoArgument}
-use Rattle.bpaf_laws.specs.Reading.{Share, Outcome, IsEmptyShare, IsPair, HasItem}
+use Rattle.bpaf_laws.specs.Reading.{Share, Outcome, Readings, IsEmptyShare, IsPair, HasItem}
 use Rattle.bpaf_laws.specs.Environment.{first_set, IsAbsence}
 use Rattle.bpaf_laws.specs.Value.{FaultsText}
 
@@ -20,58 +20,41 @@ use Rattle.bpaf_laws.specs.Value.{FaultsText}
 abbrev pub is_key_with_value : KeyWithValue → Arg → Bool
 is_key_with_value argument = is_argument_key argument.named.names argument.adjacent
 
--- a key of the argument and the next place, a Word or an ArgWord with this text
-pub record IsKeyWithText (argument : KeyWithValue) (context : Context) (share : Share)
-    (text : List ℕ)
+-- a key of the argument is at this place, and behind it a Word or an ArgWord with this text
+pub record IsKeyBefore (argument : KeyWithValue) (context : Context) (key : ℕ) (text : List ℕ)
     : Type 0 where
-  pub key : ℕ
   pub is_key : HasItem (is_key_with_value argument) context key
-  pub behind : option_and_then value_text (item_in context (key + 1)) ≡ Some text
-  pub places : IsPair key share
+  pub behind_it : option_and_then value_text (item_in context (key + 1)) ≡ Some text
 
 -- the places behind those of a set
 abbrev pub behind : Share → Share
 behind keys zero = false
 behind keys (suc p) = keys p
 
--- a key of the argument is at this place, and a Word or an ArgWord behind it
-pub record IsKeyBeforeText (argument : KeyWithValue) (context : Context) (key : ℕ) : Type 0 where
-  pub is_key : HasItem (is_key_with_value argument) context key
-  pub text : List ℕ
-  pub behind_it : option_and_then value_text (item_in context (key + 1)) ≡ Some text
-
--- keys of the argument, one or more, each with the next place, a Word or an ArgWord; that behind
--- the greatest of them has this text
+-- keys of the argument, one or more, and the places behind them; that behind the greatest of them
+-- has this text
 pub record AreKeysWithText (argument : KeyWithValue) (context : Context) (share : Share)
-    (text : List ℕ)
-    : Type 0 where
+    (text : List ℕ) : Type 0 where
   pub keys : Share
-  pub are_keys : (p : ℕ) → keys p ≡ true → IsKeyBeforeText argument context p
+  pub are_keys : (p : ℕ) → keys p ≡ true → (own : List ℕ) × IsKeyBefore argument context p own
   pub places : (p : ℕ) → share p ≡ (keys p || behind keys p)
   pub greatest : ℕ
   pub is_key : keys greatest ≡ true
   pub no_greater : (p : ℕ) → keys p ≡ true → p ≤ greatest
-  pub behind_it : option_and_then value_text (item_in context (greatest + 1)) ≡ Some text
+  pub before : IsKeyBefore argument context greatest text
 
--- the text behind a key; where the last one counts, that behind the last of some keys
+-- a key and the text behind it; where the last one counts, keys and the text behind the last one
 abbrev pub IsOwnText : Bool → KeyWithValue → Context → Share → List ℕ → Type 0
-IsOwnText false = IsKeyWithText
-IsOwnText true = AreKeysWithText
+IsOwnText false argument context share text =
+    (key : ℕ) × IsKeyBefore argument context key text × IsPair key share
+IsOwnText true argument context share text = AreKeysWithText argument context share text
 
--- this is the text of the first of the argument's names in the environment that is set
-abbrev pub IsVariable : KeyWithValue → Context → List ℕ → Type 0
-IsVariable argument context text = first_set context.env argument.named.envs ≡ Some text
-
--- a key and the text behind it, or keys and the text behind the last one, where that counts; or no
--- place and the text of the first environment name that is set; and what that text means
-pub data ArgumentReads (T : Type 0) (means : List ℕ → T → Type 0) (argument : KeyWithValue)
-    (context : Context) (share : Share) (v : T) : Type 0 where
-  behind_key : (text : List ℕ) → IsOwnText argument.last argument context share text
-      → means text v
-      → ArgumentReads T means argument context share v
-  in_variable : (text : List ℕ) → IsEmptyShare share → IsVariable argument context text
-      → means text v
-      → ArgumentReads T means argument context share v
+-- what the text behind a key means; or no place, and what the text of the first environment name
+-- that is set means
+abbrev pub ArgumentReads : (T : Type 0) → (List ℕ → T → Type 0) → KeyWithValue → Readings T
+ArgumentReads T means argument context share v =
+    ((text : List ℕ) × IsOwnText argument.last argument context share text × means text v)
+    ⊎ (IsEmptyShare share × IsSomeRelated means (first_set context.env argument.named.envs) v)
 
 -- the first key of the argument and the text behind it are taken
 abbrev pub TakesKeyWithText : KeyWithValue → Situation → List ℕ → Situation → Type 0
@@ -110,7 +93,7 @@ TakesBefore true argument s t = (texts : List (List ℕ)) × TakesKeysWithTexts 
 pub record ReadsVariable (argument : KeyWithValue) (s : Situation) (text : List ℕ) (t : Situation)
     : Type 0 where
   pub no_key : HasNoKey argument s
-  pub set : IsVariable argument s.context text
+  pub set : first_set s.context.env argument.named.envs ≡ Some text
   pub left : t ≡ with_current s None
 
 -- the text of an argument: that behind its key, which are taken; or where no key is there, that of

@@ -21,9 +21,9 @@ abbrev pub ChoicesOutcome : {T P : Type 0} → (P → Outcome T) → List P → 
 ChoicesOutcome outcome [] = PureOutcome (GivesRefusal no_choice)
 ChoicesOutcome outcome (p ∷ ps) = Nested ChoiceOutcome outcome (outcome p) ps
 
--- a reading of one parser
+-- a reading of one parser; without parsers there is none
 abbrev pub ChoicesReads : {T P : Type 0} → (P → Readings T) → List P → Readings T
-ChoicesReads reads [] = PureReads (GivesRefusal no_choice)
+ChoicesReads reads [] = PureReads (λ v. ⊥)
 ChoicesReads reads (p ∷ ps) = Nested ChoiceReads reads (reads p) ps
 
 -- what all parsers show; without parsers nothing is shown

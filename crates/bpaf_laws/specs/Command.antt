@@ -1,16 +1,17 @@
 -- Commands: a word that opens a run of its own over the items after it.
 use Rattle.std.specs.Prelude.{◌≡◌, ℕ, Bool, true, false, List, [], ◌∷◌, ◌++◌, Option, Some, None}
-use Rattle.std.specs.Prelude.{map, encode_utf8, slice_get}
+use Rattle.std.specs.Prelude.{map, bytes_eq, encode_utf8, slice_get}
 use Rattle.std.specs.List.{list_any}
 use Rattle.std.specs.Option.{option_map_or}
 use Rattle.bpaf_doc.specs.declared.doc.Piece.{Piece}
 use Rattle.bpaf_doc.specs.Shape.{Shape, Shown, Part, Command}
 use Rattle.bpaf_base.specs.declared.arg.Arg.{Arg}
-use Rattle.bpaf_base.specs.Items.{any_item, is_command_word}
-use Rattle.bpaf_line.specs.Situation.{Situation, Context, item_at, in_scope, is_taken, take_place}
+use Rattle.bpaf_base.specs.Items.{any_item, command_word}
+use Rattle.bpaf_line.specs.Situation.{Situation, item_at, in_scope, is_taken, take_place}
 use Rattle.bpaf_line.specs.Situation.{with_scope, with_path, with_current}
 use Rattle.bpaf_line.specs.Taking.{IsFirst}
-use Rattle.bpaf_laws.specs.Reading.{Share, Readings, Joins, IsPlace, HasItem}
+use Rattle.bpaf_laws.specs.Product.{BothReads}
+use Rattle.bpaf_laws.specs.Reading.{Readings, IsPlace, HasItem}
 
 -- the names of a command: the long one that is shown, its other long ones, its short ones
 pub record Called : Type 0 where
@@ -36,7 +37,8 @@ opening_words called = (called.name ∷ called.longs) ++ map encode_utf8 called.
 
 -- an item is one of these words
 abbrev pub is_one_of : List (List ℕ) → Arg → Bool
-is_one_of words item = list_any (λ word. is_command_word word item) words
+is_one_of words item =
+    list_any (λ word. option_map_or (λ own. bytes_eq own word) (command_word item) false) words
 
 -- the first present item in scope is at p, and is one of these words
 pub record IsOpenedAt (words : List (List ℕ)) (s : Situation) (p : ℕ) : Type 0 where
@@ -73,15 +75,10 @@ LeavesNothing s t = (p : ℕ) → in_scope s p ≡ true → is_taken t p ≡ tru
 
 -- the place of a Word, of a Short, or of a Long that isn't attached, whose word is one of the
 -- command's, and a reading of the inner parser
-pub record CommandReads (T : Type 0) (words : List (List ℕ)) (inner : Readings T)
-    (context : Context) (share : Share) (v : T) : Type 0 where
-  pub name : ℕ
-  pub named : HasItem (is_one_of words) context name
-  pub name_share : Share
-  pub is_name : IsPlace name name_share
-  pub inner_share : Share
-  pub joins : Joins name_share inner_share share
-  pub read : inner context inner_share v
+abbrev pub CommandReads : (T : Type 0) → List (List ℕ) → Readings T → Readings T
+CommandReads T words inner context share v =
+    (name : ℕ) × BothReads ℕ T (λ line own p. HasItem (is_one_of words) line p × IsPlace p own)
+    inner context share (name, v)
 
 -- the part that a command may show: its first long and its first short name, its help, and what the
 -- inner parser may show

@@ -38,11 +38,6 @@ abbrev pub OptionalReads : {T : Type 0} → Readings T → Readings (Option T)
 OptionalReads inner context share None = IsEmptyShare share
 OptionalReads inner context share (Some v) = inner context share v
 
--- an inner reading; or no place and a value that is given
-abbrev pub FallbackReads : {T : Type 0} → Readings T → Gives T → Readings T
-FallbackReads inner gives context share v =
-    inner context share v ⊎ (IsEmptyShare share × gives (Ok v))
-
 -- the inner parser answers an error that can be caught
 abbrev pub FallsBack : {T : Type 0} → Outcome T → Situation → Type 0
 FallsBack inner s = (e : Error) × (m : Situation) × inner s (Err e) m × (can_catch e.0 ≡ true)

@@ -1,35 +1,29 @@
 -- Flags, with an absent value or without.
-use Rattle.std.specs.Prelude.{◌≡◌, ◌⊎◌, ℕ, Bool, true, false, Ok, Err, Option, Some, None}
-use Rattle.std.specs.Option.{option_map_or}
+use Rattle.std.specs.Prelude.{◌≡◌, ◌⊎◌, ℕ, Bool, true, false, List, Ok, Err, Option, Some, None}
+use Rattle.std.specs.Option.{option_map_or, IsSomeRelated}
 use Rattle.bpaf_doc.specs.Shape.{Shape, Optional, Shown, Skip}
 use Rattle.bpaf_text.specs.Named.{Named, flag_part}
 use Rattle.bpaf_base.specs.Items.{is_key_of}
-use Rattle.bpaf_line.specs.Situation.{Situation, Context}
+use Rattle.bpaf_line.specs.Situation.{Situation}
 use Rattle.bpaf_line.specs.Taking.{TakesFlag}
 use Rattle.bpaf_line.specs.declared.error.Message.{Message}
 use Rattle.bpaf_line.specs.declared.error.Message.TheVariants.{Memory}
-use Rattle.bpaf_laws.specs.Reading.{Share, Outcome, IsEmptyShare, IsPlace, HasItem}
-use Rattle.bpaf_laws.specs.Environment.{is_set, IsAbsence}
+use Rattle.bpaf_laws.specs.Reading.{Outcome, Readings, IsEmptyShare, IsPlace, HasItem}
+use Rattle.bpaf_laws.specs.Environment.{first_set, is_set, IsAbsence}
 
--- a value that a flag gives where its key is absent: a clone of the absent value, where there is
--- one
-abbrev pub IsAbsentValue : {T : Type 0} → (T → T → Type 0) → Option T → T → Type 0
-IsAbsentValue clones None v = ⊥
-IsAbsentValue clones (Some kept) v = clones kept v
+-- what stands for no key, by the text of its variable: the present value where that is set, else
+-- the absent one
+abbrev pub value_without_key : {T : Type 0} → T → Option T → Option (List ℕ) → Option T
+value_without_key present absent (Some text) = Some present
+value_without_key present absent None = absent
 
 -- one key with one of the names, attached or not, and a clone of the present value; or no place,
--- and one of the present value where an environment name is set, else one of the absent value
-pub data FlagReads (T : Type 0) (clones : T → T → Type 0) (named : Named) (present : T)
-    (absent : Option T)
-    (context : Context) (share : Share) (v : T) : Type 0 where
-  at_key : (key : ℕ) → HasItem (is_key_of named.names) context key → IsPlace key share
-      → clones present v
-      → FlagReads T clones named present absent context share v
-  in_environment : IsEmptyShare share → is_set context.env named.envs ≡ true → clones present v
-      → FlagReads T clones named present absent context share v
-  nowhere : IsEmptyShare share → is_set context.env named.envs ≡ false
-      → IsAbsentValue clones absent v
-      → FlagReads T clones named present absent context share v
+-- and a clone of what stands for no key
+abbrev pub FlagReads : (T : Type 0) → (T → T → Type 0) → Named → T → Option T → Readings T
+FlagReads T clones named present absent context share v =
+    ((key : ℕ) × HasItem (is_key_of named.names) context key × IsPlace key share × clones present v)
+    ⊎ (IsEmptyShare share
+    × IsSomeRelated clones (value_without_key present absent (first_set context.env named.envs)) v)
 
 -- a flag is present: its key is taken; or it is not on the line, and an environment name is set
 abbrev pub IsFlagPresent : Named → Situation → Situation → Type 0
@@ -56,7 +50,7 @@ FlagFails named absent s m t =
 abbrev pub FlagOutcome : {T : Type 0} → (T → T → Type 0) → Named → T → Option T → Outcome T
 FlagOutcome clones named present absent s (Ok v) t =
     (IsFlagPresent named s t × clones present v)
-    ⊎ (IsFlagAbsent named s t × IsAbsentValue clones absent v)
+    ⊎ (IsFlagAbsent named s t × IsSomeRelated clones absent v)
 FlagOutcome clones named present absent s (Err e) t = FlagFails named absent s e.0 t
 
 -- what may be left out is shown so

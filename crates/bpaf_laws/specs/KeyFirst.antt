@@ -9,7 +9,8 @@ use Rattle.bpaf_line.specs.declared.error.Message.{Message}
 use Rattle.bpaf_line.specs.declared.error.Message.TheVariants.{Memory, ParseFailed, NoArgument}
 use Rattle.bpaf_base.specs.declared.arg.Arg.{Arg}
 use Rattle.bpaf_laws.specs.Argument.{is_key_with_value, TakesOwnText, HasNoKey, LacksText}
-use Rattle.bpaf_laws.specs.Argument.{IsVariable, IsNowhere}
+use Rattle.bpaf_laws.specs.Argument.{IsNowhere}
+use Rattle.bpaf_laws.specs.Environment.{first_set}
 use Rattle.bpaf_laws.specs.Reading.{Outcome}
 
 -- p is the last place with a match
@@ -45,7 +46,7 @@ IsBehindKey means argument s v t =
 abbrev pub IsInVariable : {T : Type 0} → (List ℕ → T → Type 0) → KeyWithValue → Situation → T
     → Type 0
 IsInVariable means argument s v =
-    (text : List ℕ) × IsVariable argument s.context text × means text v
+    (text : List ℕ) × (first_set s.context.env argument.named.envs ≡ Some text) × means text v
 
 -- a text that means no value
 abbrev pub MeansNothing : {T : Type 0} → (List ℕ → T → Type 0) → List ℕ → Type 0
@@ -77,7 +78,8 @@ abbrev pub FailsInVariable : {T : Type 0} → (List ℕ → T → Type 0) → Ke
     → Message
     → Type 0
 FailsInVariable means argument s (ParseFailed place fault) =
-    (text : List ℕ) × IsVariable argument s.context text × MeansNothing means text × (place ≡ None)
+    (text : List ℕ) × (first_set s.context.env argument.named.envs ≡ Some text)
+    × MeansNothing means text × (place ≡ None)
 FailsInVariable means argument s Memory = ⊤
 FailsInVariable means argument s m = IsNowhere argument s m
 

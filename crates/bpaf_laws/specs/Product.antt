@@ -49,13 +49,6 @@ ProductOutcome {V} fields makes s (Ok v) t =
 ProductOutcome fields makes s (Err e) t =
     (m : Situation) × fields s (Err e) m × (t ≡ with_current m None)
 
--- the share of the fields, and what the constructor may make of their values
-pub record ProductReads (V T : Type 0) (fields : Readings V) (makes : V → T → Type 0)
-    (context : Context) (share : Share) (v : T) : Type 0 where
-  pub values : V
-  pub read : fields context share values
-  pub made : makes values v
-
 -- shapes that fields show, at the end of the old ones
 abbrev pub AppendsShapes : (List Shape → Type 0) → List Shape → List Shape → Type 0
 AppendsShapes describes old new = (more : List Shape) × describes more × (new ≡ old ++ more)

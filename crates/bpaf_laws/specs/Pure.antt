@@ -10,9 +10,9 @@ abbrev pub GivesRefusal : {T : Type 0} → List ℕ → Gives T
 GivesRefusal message (Ok v) = ⊥
 GivesRefusal message (Err e) = (e.0 ≡ ParseFail message) ⊎ (e.0 ≡ Memory)
 
--- no place, and a value that is given
-abbrev pub PureReads : {T : Type 0} → Gives T → Readings T
-PureReads gives context share v = IsEmptyShare share × gives (Ok v)
+-- no place, and a value of which this holds
+abbrev pub PureReads : {T : Type 0} → (T → Type 0) → Readings T
+PureReads gives context share v = IsEmptyShare share × gives v
 
 -- what is given; no place is current then, and all else is as before
 abbrev pub PureOutcome : {T : Type 0} → Gives T → Outcome T

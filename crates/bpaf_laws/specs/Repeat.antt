@@ -4,7 +4,7 @@ use Rattle.std.specs.Prelude.{length, Ok, Err, Some, None, ⊤}
 use Rattle.std.specs.Global.{Vec}
 use Rattle.bpaf_doc.specs.Shape.{Shape, Many, Optional, Required}
 use Rattle.bpaf_line.specs.Messages.{is_memory}
-use Rattle.bpaf_line.specs.Situation.{Situation, Context, open_count}
+use Rattle.bpaf_line.specs.Situation.{Situation, open_count}
 use Rattle.bpaf_line.specs.declared.error.Error.{Error}
 use Rattle.bpaf_line.specs.declared.error.Message.TheVariants.{Memory, ParseSome}
 use Rattle.bpaf_laws.specs.Reading.{Share, Readings, Outcome, Joins, IsEmptyShare, HasPlace}
@@ -61,10 +61,6 @@ abbrev pub ManyOutcome : {T : Type 0} → Outcome T → Bool → Outcome (Vec T)
 ManyOutcome inner catches s (Ok values) t = ListOutcome inner catches s (Ok values.items) t
 ManyOutcome inner catches s (Err e) t = ListOutcome inner catches s (Err e) t
 
--- the list is read
-abbrev pub ManyReads : {T : Type 0} → Readings T → Readings (Vec T)
-ManyReads inner context share values = ListReads inner context share values.items
-
 -- some: the list, not empty; without a value the message is the answer, or want of memory for it
 abbrev pub SomeOutcome : {T : Type 0} → Outcome T → Bool → List ℕ → Outcome (Vec T)
 SomeOutcome inner catches message s (Ok values) t =
@@ -73,11 +69,6 @@ SomeOutcome inner catches message s (Err e) t =
     ListOutcome inner catches s (Err e) t
     ⊎ (ListOutcome inner catches s (Ok []) t × ((e.0 ≡ ParseSome message) ⊎ (e.0 ≡ Memory)))
 
--- the list is read, and is not empty
-abbrev pub SomeReads : {T : Type 0} → Readings T → Readings (Vec T)
-SomeReads inner context share values =
-    ManyReads inner context share values × (is_nil values.items ≡ false)
-
 -- collect: what is filled from the list; or want of memory for it
 abbrev pub CollectOutcome : {T C : Type 0} → Outcome T → Bool → (List T → C → Type 0) → Outcome C
 CollectOutcome {T} inner catches fills s (Ok v) t =
@@ -85,13 +76,6 @@ CollectOutcome {T} inner catches fills s (Ok v) t =
 CollectOutcome {T} inner catches fills s (Err e) t =
     ListOutcome inner catches s (Err e) t
     ⊎ ((values : List T) × ListOutcome inner catches s (Ok values) t × (is_memory e.0 ≡ true))
-
--- the list is read that the collection is filled from
-pub record CollectReads {T C : Type 0} (inner : Readings T) (fills : List T → C → Type 0)
-    (context : Context) (share : Share) (v : C) : Type 0 where
-  pub values : List T
-  pub read : ListReads inner context share values
-  pub filled : fills values v
 
 -- turns that each took an item, until one stops; or one value alone, that took nothing
 pub data UntilRest {T : Type 0} (inner : Outcome T) (s : Situation) (values : List T)
@@ -115,13 +99,6 @@ CountOutcome {T} inner s (Ok n) t =
     (values : List T) × UntilRest inner s values t × (n ≡ length values)
 CountOutcome inner s (Err e) t = UntilFault inner s e t
 
--- the list is read that has so many values
-pub record CountReads {T : Type 0} (inner : Readings T) (context : Context) (share : Share)
-    (n : ℕ) : Type 0 where
-  pub values : List T
-  pub read : ListReads inner context share values
-  pub number : n ≡ length values
-
 -- last: the last value; without one, what the inner parser answers when it is evaluated once more
 abbrev pub LastOutcome : {T : Type 0} → Outcome T → Outcome T
 LastOutcome {T} inner s (Ok v) t =
@@ -129,12 +106,6 @@ LastOutcome {T} inner s (Ok v) t =
     ⊎ ((m : Situation) × UntilRest inner s [] m × inner m (Ok v) t)
 LastOutcome inner s (Err e) t =
     UntilFault inner s e t ⊎ ((m : Situation) × UntilRest inner s [] m × inner m (Err e) t)
-
--- the list is read that ends in the value
-pub record LastReads {T : Type 0} (inner : Readings T) (context : Context) (share : Share)
-    (v : T) : Type 0 where
-  pub before : List T
-  pub read : ListReads inner context share (before ++ v ∷ [])
 
 -- evaluations one after another that answered these values and each took an item
 abbrev pub EachTakes : {T : Type 0} → Outcome T → Situation → List T → Situation → Type 0

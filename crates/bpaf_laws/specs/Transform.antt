@@ -12,12 +12,12 @@ TellsFault shown fault refusal m =
     (m ≡ Memory) ⊎ ((text : List ℕ) × (m ≡ refusal text)
     × IfSome (shown fault) (λ bytes. text ≡ bytes))
 
--- the share of the inner parser, and what the closure may answer on its value
-pub record MapReads (T R : Type 0) (inner : Readings T) (answers : T → R → Type 0)
+-- a value that is read off the share, and what may be made of it
+pub record MapReads (T R : Type 0) (inner : Readings T) (makes : T → R → Type 0)
     (context : Context) (share : Share) (v : R) : Type 0 where
   pub from : T
   pub read : inner context share from
-  pub made : answers from v
+  pub made : makes from v
 
 -- the closure answers on the inner value; an inner refusal is passed on
 abbrev pub MapOutcome : {T R : Type 0} → Outcome T → (T → R → Type 0) → Outcome R
@@ -31,10 +31,6 @@ ParseOutcome {T} inner answers shown s (Ok v) t = (x : T) × inner s (Ok x) t ×
 ParseOutcome {T} {R} {E} inner answers shown s (Err e) t =
     inner s (Err e) t ⊎ ((x : T) × inner s (Ok x) t × (fault : E) × answers x (Err fault)
     × TellsFault shown fault (ParseFailed t.current) e.0)
-
--- an inner reading whose value the check may accept
-abbrev pub GuardReads : {T : Type 0} → Readings T → (T → Bool → Type 0) → Readings T
-GuardReads inner checks context share v = inner context share v × checks v true
 
 -- the inner value where the check accepts it; else a refusal that names the current place
 abbrev pub GuardOutcome : {T : Type 0} → Outcome T → (T → Bool → Type 0) → List ℕ → Outcome T

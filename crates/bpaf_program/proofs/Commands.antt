@@ -9,13 +9,14 @@ use Rattle.bpaf_words.specs.Arguments.{Given}
 use Rattle.bpaf_words.specs.Spelling.{Known}
 use Rattle.bpaf_line.specs.declared.failure.ParseFailure.{ParseFailure}
 use Rattle.bpaf_line.specs.declared.failure.ParseFailure.TheVariants as failure
-use Rattle.bpaf_laws.specs.AdjacentCommand.{AdjacentReads}
 use Rattle.bpaf_laws.specs.Choice.{ChoiceDescribes, ChoiceOutcome, ChoiceReads}
 use Rattle.bpaf_laws.specs.Command.{Called, CommandDescribes, CommandPart, named_only}
 use Rattle.bpaf_laws.specs.Command.{opening_words}
 use Rattle.bpaf_laws.specs.Laws.{Lawful}
 use Rattle.bpaf_laws.specs.Reading.{Outcome, Readings}
-use Rattle.bpaf_laws.specs.Repeat.{ManyDescribes, ManyOutcome, ManyReads}
+use Rattle.bpaf_laws.specs.OneStretch.{StretchReads}
+use Rattle.bpaf_laws.specs.Repeat.{ListReads, ManyDescribes, ManyOutcome}
+use Rattle.bpaf_laws.specs.Transform.{MapReads}
 use Rattle.bpaf_laws.proofs.ChoiceLaws.{choice_lawful}
 use Rattle.bpaf_laws.proofs.RepeatLaws.{many_lawful}
 use Rattle.bpaf.specs.Info.{RunInfo, plain_info}
@@ -65,7 +66,8 @@ module _ {T : Type 0} {inner : Outcome T} {reads wanted : Readings T}
       (EitherCommandOutcome adjacent T inner (EndsRun describes info) called
       (CommandPart called help describes))
       (EitherCommandReads adjacent T (opening_words called) reads)
-      (CommandDescribes called help describes) (AdjacentReads T (name ∷ []) wanted)
+      (CommandDescribes called help describes)
+      (StretchReads T (CommandReads T (name ∷ []) wanted))
       (CommandDescribes (named_only name) own shapes)
   command_hands = record {
     law = either_lawful law (run_ending describes info) called (CommandPart called help describes)
@@ -113,8 +115,11 @@ choice_hands {showing = showing} one other = record {
 pub many_hands : {T : Type 0} {showing : Showing} {outcome : Outcome T}
     {reads wanted : Readings T} {describes shapes : Shape → Type 0} (catches : Bool)
     → Hands showing outcome reads describes wanted shapes
-    → Hands showing (ManyOutcome outcome catches) (ManyReads reads) (ManyDescribes describes)
-    (ManyReads wanted) (ManyDescribes shapes)
+    → Hands showing (ManyOutcome outcome catches)
+    (MapReads (List T) (Vec T) (ListReads reads) (λ values v. v.items ≡ values))
+    (ManyDescribes describes)
+    (MapReads (List T) (Vec T) (ListReads wanted) (λ values v. v.items ≡ values))
+    (ManyDescribes shapes)
 many_hands {showing = showing} catches is = record {
   law = many_lawful is.law catches;
   hands = many_hands_on showing is.law is.hands catches;

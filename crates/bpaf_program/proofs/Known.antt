@@ -14,9 +14,10 @@ use Rattle.bpaf_laws.specs.Argument.{ArgumentOutcome, ArgumentReads, argument_sh
 use Rattle.bpaf_laws.specs.Flag.{FlagOutcome, FlagReads, flag_shape}
 use Rattle.bpaf_laws.specs.Laws.{Lawful}
 use Rattle.bpaf_laws.specs.Product.{BothDescribes, BothOutcome, BothReads, LastDescribes}
-use Rattle.bpaf_laws.specs.Product.{ProductDescribes, ProductOutcome, ProductReads}
+use Rattle.bpaf_laws.specs.Product.{ProductDescribes, ProductOutcome}
 use Rattle.bpaf_laws.specs.Reading.{Outcome, Readings}
-use Rattle.bpaf_laws.specs.Repeat.{ManyDescribes, ManyOutcome, ManyReads}
+use Rattle.bpaf_laws.specs.Repeat.{ListReads, ManyDescribes, ManyOutcome}
+use Rattle.bpaf_laws.specs.Transform.{MapReads}
 use Rattle.bpaf_laws.proofs.ArgumentLaws.{argument_lawful}
 use Rattle.bpaf_laws.proofs.FlagLaws.{flag_lawful}
 use Rattle.bpaf_laws.proofs.ProductLaws.{both_lawful, product_lawful}
@@ -34,7 +35,7 @@ use Rattle.bpaf.proofs.Asked.{positional_hands_on, product_hands_on}
 use Rattle.bpaf.proofs.Helps.{argument_without_help, flag_without_help, key_with_help}
 use Rattle.bpaf_program.specs.Fields.{IsArgument, IsSwitch, IsWord, SwitchReads, switch_shape}
 use Rattle.bpaf_program.specs.Values.{IsKept}
-use Rattle.bpaf_program.proofs.ReadsToo.{IsAlso, both_also, many_also, product_also, word_also}
+use Rattle.bpaf_program.proofs.ReadsToo.{IsAlso, both_also, made_also, many_also, word_also}
 use Rattle.bpaf_program.proofs.Shown.{both_show, help_asked, last_shows, many_shows}
 use Rattle.bpaf_program.proofs.Shown.{product_shows}
 
@@ -100,8 +101,11 @@ word_known {T} means {position} {metavar} {text} {help} {word} is = record {
 pub many_known : {T : Type 0} {outcome : Outcome T} {reads wanted : Readings T}
     {describes : Shape → Type 0} {shape : Shape} (catches : Bool)
     → IsKnown outcome reads describes wanted shape
-    → IsKnown (ManyOutcome outcome catches) (ManyReads reads) (ManyDescribes describes)
-    (ManyReads wanted) (Many (Optional shape))
+    → IsKnown (ManyOutcome outcome catches)
+    (MapReads (List T) (Vec T) (ListReads reads) (λ values v. v.items ≡ values))
+    (ManyDescribes describes)
+    (MapReads (List T) (Vec T) (ListReads wanted) (λ values v. v.items ≡ values))
+    (Many (Optional shape))
 many_known catches inner = record {
   law = many_lawful inner.law catches;
   nothing = many_hands_on nothing_shown inner.law inner.nothing catches;
@@ -141,12 +145,12 @@ both_known first rest = record {
 pub product_known : {V T : Type 0} {fields : Outcome V} {reads wanted : Readings V}
     {describes : List Shape → Type 0} {shapes : List Shape} {makes wants : V → T → Type 0}
     → ((x : V) (v : T) → makes x v → wants x v) → IsKnown fields reads describes wanted shapes
-    → IsKnown (ProductOutcome fields makes) (ProductReads V T reads makes)
-    (ProductDescribes describes) (ProductReads V T wanted wants) (And (members shapes))
+    → IsKnown (ProductOutcome fields makes) (MapReads V T reads makes)
+    (ProductDescribes describes) (MapReads V T wanted wants) (And (members shapes))
 product_known {makes = makes} made fields = record {
   law = product_lawful makes fields.law;
   nothing = product_hands_on nothing_shown makes fields.nothing;
-  also = product_also fields.also made;
+  also = made_also fields.also made;
   shown = (_, fields.shown, refl);
   only = product_shows _ _ fields.only;
 }

@@ -1,13 +1,16 @@
 -- What one parser reads another reads too: of combinators where that holds of what is inside.
 use Rattle.std.proofs.Common.{◌≡◌, ℕ, List, [], ◌∷◌, Option, inl, inr, ⊎_elim}
+use Rattle.std.specs.Global.{Vec}
 use Rattle.bpaf_text.specs.Named.{Named}
 use Rattle.bpaf_line.specs.Situation.{Context}
-use Rattle.bpaf_laws.specs.AdjacentCommand.{AdjacentReads}
 use Rattle.bpaf_laws.specs.Choice.{ChoiceReads}
 use Rattle.bpaf_laws.specs.Flag.{FlagReads}
-use Rattle.bpaf_laws.specs.Product.{BothReads, ProductReads}
+use Rattle.bpaf_laws.specs.Command.{CommandReads}
+use Rattle.bpaf_laws.specs.OneStretch.{StretchReads}
+use Rattle.bpaf_laws.specs.Product.{BothReads}
 use Rattle.bpaf_laws.specs.Reading.{Readings, Share}
-use Rattle.bpaf_laws.specs.Repeat.{EachReads, ListReads, ManyReads}
+use Rattle.bpaf_laws.specs.Repeat.{EachReads, ListReads}
+use Rattle.bpaf_laws.specs.Transform.{MapReads}
 use Rattle.bpaf.specs.declared.leaves.positional.Position.{Position}
 use Rattle.bpaf.specs.Positional.{PositionalReads}
 
@@ -40,14 +43,14 @@ both_also one others context share v read = record {
   rest_read = others context read.rest_share v.1 read.rest_read;
 }
 
--- what a constructor makes of fields
-pub product_also : {V T : Type 0} {fields fields' : Readings V} {makes makes' : V → T → Type 0}
-    → IsAlso fields fields' → ((x : V) (v : T) → makes x v → makes' x v)
-    → IsAlso (ProductReads V T fields makes) (ProductReads V T fields' makes')
-product_also also made context share v read = record {
-  values = read.values;
-  read = also context share read.values read.read;
-  made = made read.values v read.made;
+-- what is made of a value
+pub made_also : {V T : Type 0} {inner inner' : Readings V} {makes makes' : V → T → Type 0}
+    → IsAlso inner inner' → ((x : V) (v : T) → makes x v → makes' x v)
+    → IsAlso (MapReads V T inner makes) (MapReads V T inner' makes')
+made_also also made context share v read = record {
+  from = read.from;
+  read = also context share read.from read.read;
+  made = made read.from v read.made;
 }
 
 module _ {T : Type 0} {inner inner' : Readings T} (also : IsAlso inner inner') where
@@ -75,22 +78,19 @@ module _ {T : Type 0} {inner inner' : Readings T} (also : IsAlso inner inner') w
   )
 
   -- a repeat
-  pub many_also : IsAlso (ManyReads inner) (ManyReads inner')
-  many_also context share values read = list_also context share values.items read
+  pub many_also : IsAlso (MapReads (List T) (Vec T) (ListReads inner) (λ values v. v.items ≡ values))
+      (MapReads (List T) (Vec T) (ListReads inner') (λ values v. v.items ≡ values))
+  many_also = made_also list_also (λ values v made. made)
 
   -- an adjacent command of one name
   pub adjacent_also : (words : List (List ℕ))
-      → IsAlso (AdjacentReads T words inner) (AdjacentReads T words inner')
+      → IsAlso (StretchReads T (CommandReads T words inner))
+      (StretchReads T (CommandReads T words inner'))
   adjacent_also words context share v read = record {
-    command = record {
-      name = read.command.name;
-      named = read.command.named;
-      name_share = read.command.name_share;
-      is_name = read.command.is_name;
-      inner_share = read.command.inner_share;
-      joins = read.command.joins;
-      read = also context read.command.inner_share v read.command.read;
-    };
+    read = (
+      read.read.0,
+      both_also (λ line own p named. named) also context share (read.read.0, v) read.read.1,
+    );
     stretch = read.stretch;
   }
 

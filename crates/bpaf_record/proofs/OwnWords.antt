@@ -9,14 +9,14 @@ use Rattle.bpaf_doc.specs.Names.{Names}
 use Rattle.bpaf_base.specs.Items.{is_among, is_text_among}
 use Rattle.bpaf_base.specs.declared.arg.Arg.TheVariants.{Short, Long}
 use Rattle.bpaf_words.specs.Spelling.{HasNoEquals, IsNumberWord, Items, by_dash, dash_char}
-use Rattle.bpaf_words.specs.Spelling.{equals_byte, long, short}
+use Rattle.bpaf_words.specs.Spelling.{long, short}
 use Rattle.bpaf.specs.Marker.{words_before}
 use Rattle.bpaf_record.specs.Spelled.{IsSpelledByAny}
 
 -- a long name that stands by itself: not empty, and without `=`
 abbrev pub is_long_name : List ℕ → Bool
 is_long_name [] = false
-is_long_name (b ∷ bs) = list_all (λ byte. not (byte == equals_byte)) (b ∷ bs)
+is_long_name (b ∷ bs) = list_all (λ byte. not (byte == 61)) (b ∷ bs)
 
 -- it is not empty
 is_some_name : (name : List ℕ) → is_long_name name ≡ true → name ≢ []
@@ -27,9 +27,9 @@ is_some_name (b ∷ bs) is none = cc
 has_no_equals : (name : List ℕ) → is_long_name name ≡ true → HasNoEquals name
 has_no_equals [] is i within same = absurd cc
 has_no_equals (b ∷ bs) is i within same =
-    let pass = AllPass-from_list_all (λ byte. not (byte == equals_byte)) (b ∷ bs) is i 0 within in
-    let fails : not (slice_index (b ∷ bs) i == equals_byte) ≡ false =
-    ap (λ byte. not (byte == equals_byte)) same in
+    let pass = AllPass-from_list_all (λ byte. not (byte == 61)) (b ∷ bs) is i 0 within in
+    let fails : not (slice_index (b ∷ bs) i == 61) ≡ false =
+    ap (λ byte. not (byte == 61)) same in
     cc
 
 -- `--name` is no number

@@ -1,5 +1,5 @@
 -- A walk over joined letters: the flags at the front, and what stands where they end.
-use Rattle.std.proofs.Common.{◌≡◌, ◌≢◌, ℕ, zero, suc, ◌+◌, ◌≤◌, false, ◌==◌, List, [], ◌∷◌, ◌++◌}
+use Rattle.std.proofs.Common.{◌≡◌, ◌≢◌, ℕ, zero, suc, ◌+◌, ◌≤◌, true, false, ◌==◌, List, [], ◌∷◌, ◌++◌}
 use Rattle.std.proofs.Common.{length, refl, ap, sym, ◌∙◌, arith, rules, take, if◌then◌else◌}
 use Rattle.std.proofs.Common.{append_assoc, append-nil, encode_utf8, encode_utf8_all, All}
 use Rattle.std.proofs.Common.{length-append}
@@ -10,7 +10,7 @@ use Rattle.std.proofs.lemmas.Bool.Decides.{nat_tests}
 use Rattle.std.proofs.lemmas.Grind.{common_steps}
 use Rattle.bpaf_base.specs.declared.arg.Arg.{Arg}
 use Rattle.bpaf_base.specs.declared.arg.Arg.TheVariants.{Short, Word}
-use Rattle.bpaf_words.specs.Spelling.{ShortNames, IsFlag, IsArgument, IsNeither, IsBoth, flags_of}
+use Rattle.bpaf_words.specs.Spelling.{ShortNames, IsKnownAs, flags_of}
 use Rattle.bpaf_words.specs.Spelling.{argument_of, SpellsJoined, Items, Ambiguous, flags, argument}
 use Rattle.bpaf_words.specs.Spelling.{neither, both}
 use Rattle.std.proofs.lemmas.List.{nil_from_length}
@@ -21,7 +21,7 @@ pub record Walked (names : ShortNames) (word letters : List ℕ) (old new : List
     (rest : List ℕ) : Type 0 where
   pub fs : List ℕ
   pub cut : letters ≡ encode_utf8_all fs ++ rest
-  pub all_flags : All (IsFlag names) fs
+  pub all_flags : All (IsKnownAs true false names) fs
   pub items : new ≡ old ++ flags_of word fs
   pub counted : count ≡ length fs
 
@@ -60,7 +60,7 @@ walked_none names word letters old =
 -- a walk over one flag more
 pub walked_more : (names : ShortNames) (word letters : List ℕ) (old new : List Arg) (count : ℕ)
     (rest : List ℕ) (c : ℕ) (after text : List ℕ) (newer : List Arg)
-    → Walked names word letters old new count rest → rest ≡ encode_utf8 c ++ after → IsFlag names c
+    → Walked names word letters old new count rest → rest ≡ encode_utf8 c ++ after → IsKnownAs true false names c
     → text ≡ (if count == 0 then word else []) → newer ≡ new ++ Short c false text ∷ []
     → Walked names word letters old newer (count + 1) after
 walked_more names word letters old new count rest c after text newer w e f t n = record {
@@ -69,7 +69,7 @@ walked_more names word letters old new count rest c after text newer w e f t n =
       ∙ (sym (append_assoc (encode_utf8_all w.fs) (encode_utf8 c) after)
       ∙ ap (λ x. x ++ after) (sym (encodes-append w.fs (c ∷ [])
       ∙ ap (λ x. encode_utf8_all w.fs ++ x) (append-nil (encode_utf8 c))))));
-  all_flags = All-push (IsFlag names) w.fs c w.all_flags f;
+  all_flags = All-push (IsKnownAs true false names) w.fs c w.all_flags f;
   items = n ∙ (ap (λ x. x ++ Short c false text ∷ []) w.items
       ∙ (append_assoc old (flags_of word w.fs) (Short c false text ∷ [])
       ∙ ap (λ x. old ++ x) (rw (t ∙ sym (text_after_is word w.fs count w.counted))
@@ -124,7 +124,7 @@ ends names word letters old new count rest cs w e l =
 -- where a walk stops at a character that is both: the letters are ambiguous there
 pub stops_both : (names : ShortNames) (word letters : List ℕ) (old new : List Arg) (count : ℕ)
     (rest : List ℕ) (c : ℕ) (after : List ℕ)
-    → Walked names word letters old new count rest → rest ≡ encode_utf8 c ++ after → IsBoth names c
+    → Walked names word letters old new count rest → rest ≡ encode_utf8 c ++ after → IsKnownAs true true names c
     → (cs : List ℕ) → letters ≡ encode_utf8_all cs
     → SpellsJoined names word cs (Ambiguous (count + 1))
 stops_both names word letters old new count rest c after w e b cs l =
@@ -135,7 +135,7 @@ stops_both names word letters old new count rest c after w e b cs l =
 pub stops_neither : (names : ShortNames) (word letters : List ℕ) (old new newer : List Arg)
     (count : ℕ) (rest : List ℕ) (c : ℕ) (after : List ℕ)
     → Walked names word letters old new count rest → rest ≡ encode_utf8 c ++ after
-    → IsNeither names c → newer ≡ old ++ Word word ∷ []
+    → IsKnownAs false false names c → newer ≡ old ++ Word word ∷ []
     → (cs : List ℕ) → letters ≡ encode_utf8_all cs → (xs : List Arg)
     × SpellsJoined names word cs (Items xs) × (newer ≡ old ++ xs)
 stops_neither names word letters old new newer count rest c after w e b n cs l =
@@ -146,7 +146,7 @@ stops_neither names word letters old new newer count rest c after w e b n cs l =
 pub stops_argument : (names : ShortNames) (word letters : List ℕ) (old new newer : List Arg)
     (count : ℕ) (rest : List ℕ) (c : ℕ) (after : List ℕ)
     → Walked names word letters old new count rest → rest ≡ encode_utf8 c ++ after
-    → IsArgument names c → newer ≡ new ++ argument_of word c after
+    → IsKnownAs false true names c → newer ≡ new ++ argument_of word c after
     → (cs : List ℕ) → letters ≡ encode_utf8_all cs → (xs : List Arg)
     × SpellsJoined names word cs (Items xs) × (newer ≡ old ++ xs)
 stops_argument names word letters old new newer count rest c after w e b n cs l =

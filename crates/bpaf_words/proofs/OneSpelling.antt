@@ -10,7 +10,7 @@ use Rattle.std.proofs.lemmas.Str.{encode_ascii, encode_same, cons_from_encodes, 
 use Rattle.bpaf_base.specs.declared.arg.Arg.TheVariants.{Short, Long, ArgWord, Word}
 use Rattle.bpaf_base.specs.Items.{is_among}
 use Rattle.bpaf_words.specs.Spelling.{ShortNames, Known, IsNumberWord, SpellsByDash, number_word}
-use Rattle.bpaf_words.specs.Spelling.{by_dash, NumberWord, dash_case_of, IsFlag, HasNoEquals}
+use Rattle.bpaf_words.specs.Spelling.{by_dash, NumberWord, dash_case_of, IsKnownAs, HasNoEquals}
 use Rattle.bpaf_words.specs.Spelling.{Spelling, Items, Ambiguous, flags_of, argument_of}
 use Rattle.bpaf_words.specs.Spelling.{SpellsJoined, flags, argument, neither, both, Spells, plain}
 use Rattle.bpaf_words.specs.Spelling.{dash, long, long_value, short, short_value, short_long_value}
@@ -120,13 +120,13 @@ module _ (names : ShortNames) (word : List ℕ) where
   walk (c ∷ cs) = if c == 45 then walk_dash cs else (PlainWord, Items (Word word ∷ []))
 
 -- the walk goes over flags
-over_flags : (names : ShortNames) (word fs gs cs : List ℕ) → All (IsFlag names) gs
+over_flags : (names : ShortNames) (word fs gs cs : List ℕ) → All (IsKnownAs true false names) gs
     → walk_joined names word fs (gs ++ cs) ≡ walk_joined names word (fs ++ gs) cs
 over_flags names word fs [] cs h = ap (λ x. walk_joined names word x cs) (sym (append-nil fs))
 over_flags names word fs (g ∷ gs) cs h =
-    let f = All_head (IsFlag names) g gs h in
-    rw (f.flag, f.no_argument) (over_flags names word (fs ++ g ∷ []) gs cs
-    (All_tail (IsFlag names) g gs h)
+    let f = All_head (IsKnownAs true false names) g gs h in
+    rw (f.as_flag, f.as_argument) (over_flags names word (fs ++ g ∷ []) gs cs
+    (All_tail (IsKnownAs true false names) g gs h)
     ∙ ap (λ x. walk_joined names word x cs) (append_assoc fs (g ∷ []) gs))
 
 -- over joined characters the walk finds the case and the items of each spelling
@@ -136,13 +136,13 @@ walk_finds_joined names word cs s (flags h) =
     ap (walk_joined names word []) (sym (append-nil cs)) ∙ over_flags names word [] cs [] h
 walk_finds_joined names word cs s (argument fs c rest e h i) =
     ap (walk_joined names word []) e
-    ∙ (over_flags names word [] fs (c ∷ rest) h ∙ rw (i.no_flag, i.argument) refl)
+    ∙ (over_flags names word [] fs (c ∷ rest) h ∙ rw (i.as_flag, i.as_argument) refl)
 walk_finds_joined names word cs s (neither fs c rest e h i) =
     ap (walk_joined names word []) e
-    ∙ (over_flags names word [] fs (c ∷ rest) h ∙ rw (i.no_flag, i.no_argument) refl)
+    ∙ (over_flags names word [] fs (c ∷ rest) h ∙ rw (i.as_flag, i.as_argument) refl)
 walk_finds_joined names word cs s (both fs c rest e h i) =
     ap (walk_joined names word []) e
-    ∙ (over_flags names word [] fs (c ∷ rest) h ∙ rw (i.flag, i.argument) refl)
+    ∙ (over_flags names word [] fs (c ∷ rest) h ∙ rw (i.as_flag, i.as_argument) refl)
 
 -- a character other than `-` fails the test for `-`
 not_dash : (c : ℕ) → c ≢ 45 → (c == 45) ≡ false
@@ -230,27 +230,27 @@ walk_finds names word cs s w (joined c d ds x e n h j) =
 
 -- what the walk finds is a spelling
 joined_by : (names : ShortNames) (word all fs : List ℕ) (c : ℕ) (cs : List ℕ) (f a : Bool)
-    → all ≡ fs ++ c ∷ cs → All (IsFlag names) fs → is_among names.flags c ≡ f
+    → all ≡ fs ++ c ∷ cs → All (IsKnownAs true false names) fs → is_among names.flags c ≡ f
     → is_among names.arguments c ≡ a
-    → (All (IsFlag names) (fs ++ c ∷ [])
+    → (All (IsKnownAs true false names) (fs ++ c ∷ [])
     → SpellsJoined names word all (walk_joined names word (fs ++ c ∷ []) cs).1)
     → SpellsJoined names word all (walk_joined names word fs (c ∷ cs)).1
 joined_by names word all fs c cs true true e h p q more =
-    rw (p, q) (both fs c cs e h (record { flag = p; argument = q }))
+    rw (p, q) (both fs c cs e h (record { as_flag = p; as_argument = q }))
 joined_by names word all fs c cs true false e h p q more =
-    rw (p, q) (more (All-push (IsFlag names) fs c h (record { flag = p; no_argument = q })))
+    rw (p, q) (more (All-push (IsKnownAs true false names) fs c h (record { as_flag = p; as_argument = q })))
 joined_by names word all fs c cs false true e h p q more =
-    rw (p, q) (argument fs c cs e h (record { no_flag = p; argument = q }))
+    rw (p, q) (argument fs c cs e h (record { as_flag = p; as_argument = q }))
 joined_by names word all fs c cs false false e h p q more =
-    rw (p, q) (neither fs c cs e h (record { no_flag = p; no_argument = q }))
+    rw (p, q) (neither fs c cs e h (record { as_flag = p; as_argument = q }))
 
 -- joined characters spell what the walk over them finds
 finds_joined : (names : ShortNames) (word all fs cs : List ℕ) → all ≡ fs ++ cs
-    → All (IsFlag names) fs → SpellsJoined names word all (walk_joined names word fs cs).1
+    → All (IsKnownAs true false names) fs → SpellsJoined names word all (walk_joined names word fs cs).1
 finds_joined names word all fs [] e h =
     let same : all ≡ fs = e ∙ append-nil fs in
     subst (λ x. SpellsJoined names word all (Items (flags_of word x))) same
-    (flags (subst (All (IsFlag names)) (sym same) h))
+    (flags (subst (All (IsKnownAs true false names)) (sym same) h))
 finds_joined names word all fs (c ∷ cs) e h =
     joined_by names word all fs c cs (is_among names.flags c)
     (is_among names.arguments c) e h refl refl

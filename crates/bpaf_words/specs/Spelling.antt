@@ -26,25 +26,10 @@ known_at numbers names = record { names = names; numbers = numbers }
 abbrev pub knowing : ShortNames → Known
 knowing names = known_at false names
 
--- a known flag, and no known argument
-pub record IsFlag (names : ShortNames) (c : ℕ) : Type 0 where
-  pub flag : is_among names.flags c ≡ true
-  pub no_argument : is_among names.arguments c ≡ false
-
--- a known argument, and no known flag
-pub record IsArgument (names : ShortNames) (c : ℕ) : Type 0 where
-  pub no_flag : is_among names.flags c ≡ false
-  pub argument : is_among names.arguments c ≡ true
-
--- neither of them
-pub record IsNeither (names : ShortNames) (c : ℕ) : Type 0 where
-  pub no_flag : is_among names.flags c ≡ false
-  pub no_argument : is_among names.arguments c ≡ false
-
--- both of them
-pub record IsBoth (names : ShortNames) (c : ℕ) : Type 0 where
-  pub flag : is_among names.flags c ≡ true
-  pub argument : is_among names.arguments c ≡ true
+-- whether a character is a known flag, and whether it is a known argument
+pub record IsKnownAs (flag argument : Bool) (names : ShortNames) (c : ℕ) : Type 0 where
+  pub as_flag : is_among names.flags c ≡ flag
+  pub as_argument : is_among names.arguments c ≡ argument
 
 -- what a word spells: items, or nothing, because the character of this number, the dash being 0, is
 -- both
@@ -64,29 +49,26 @@ argument_of word c (b ∷ rest) = Short c true word ∷ Word (b ∷ rest) ∷ []
 
 -- joined characters cs of a word: flags, then perhaps one that is none
 pub data SpellsJoined (names : ShortNames) (word : List ℕ) (cs : List ℕ) : Spelling → Type 0 where
-  flags : All (IsFlag names) cs → SpellsJoined names word cs (Items (flags_of word cs))
-  argument : (fs : List ℕ) (c : ℕ) (rest : List ℕ) → cs ≡ fs ++ c ∷ rest → All (IsFlag names) fs
-      → IsArgument names c
+  flags : All (IsKnownAs true false names) cs
+      → SpellsJoined names word cs (Items (flags_of word cs))
+  argument : (fs : List ℕ) (c : ℕ) (rest : List ℕ) → cs ≡ fs ++ c ∷ rest
+      → All (IsKnownAs true false names) fs → IsKnownAs false true names c
       → SpellsJoined names word cs
       (Items (flags_of word fs ++ argument_of word c (encode_utf8_all rest)))
-  neither : (fs : List ℕ) (c : ℕ) (rest : List ℕ) → cs ≡ fs ++ c ∷ rest → All (IsFlag names) fs
-      → IsNeither names c
+  neither : (fs : List ℕ) (c : ℕ) (rest : List ℕ) → cs ≡ fs ++ c ∷ rest
+      → All (IsKnownAs true false names) fs → IsKnownAs false false names c
       → SpellsJoined names word cs (Items (Word word ∷ []))
-  both : (fs : List ℕ) (c : ℕ) (rest : List ℕ) → cs ≡ fs ++ c ∷ rest → All (IsFlag names) fs
-      → IsBoth names c
+  both : (fs : List ℕ) (c : ℕ) (rest : List ℕ) → cs ≡ fs ++ c ∷ rest
+      → All (IsKnownAs true false names) fs → IsKnownAs true true names c
       → SpellsJoined names word cs (Ambiguous (length fs + 1))
 
 -- the character `-`
 abbrev pub dash_char : ℕ
 dash_char = 45
 
--- the byte of `=`
-abbrev pub equals_byte : ℕ
-equals_byte = 61
-
--- no byte of it is `=`
+-- no byte of it is 61, that of `=`
 abbrev pub HasNoEquals : List ℕ → Type 0
-HasNoEquals n = EachIndex n (λ i. slice_index n i ≢ equals_byte)
+HasNoEquals n = EachIndex n (λ i. slice_index n i ≢ 61)
 
 -- what a word other than `--` spells, where it isn't a number that is a word
 pub data SpellsByDash (names : ShortNames) (word : List ℕ) : Spelling → Type 0 where

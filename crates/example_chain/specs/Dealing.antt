@@ -6,11 +6,13 @@ use Rattle.bpaf_doc.specs.Names.{Names}
 use Rattle.bpaf_text.specs.Meaning.{SpellsSigned, SpellsUnsigned}
 use Rattle.bpaf_words.specs.Arguments.{Given}
 use Rattle.bpaf_words.specs.Spelling.{Known, knowing}
-use Rattle.bpaf_laws.specs.AdjacentCommand.{AdjacentReads}
 use Rattle.bpaf_laws.specs.Choice.{ChoiceReads}
-use Rattle.bpaf_laws.specs.Product.{BothReads, ProductReads}
+use Rattle.bpaf_laws.specs.Command.{CommandReads}
+use Rattle.bpaf_laws.specs.OneStretch.{StretchReads}
+use Rattle.bpaf_laws.specs.Product.{BothReads}
 use Rattle.bpaf_laws.specs.Reading.{Readings}
-use Rattle.bpaf_laws.specs.Repeat.{ManyReads}
+use Rattle.bpaf_laws.specs.Repeat.{ListReads}
+use Rattle.bpaf_laws.specs.Transform.{MapReads}
 use Rattle.bpaf.specs.Dealt.{IsDealtOut}
 use Rattle.bpaf.specs.declared.leaves.positional.Position.TheVariants.{Unrestricted}
 use Rattle.bpaf.specs.Positional.{PositionalReads}
@@ -44,7 +46,7 @@ LeftReads = SwitchReads left_names
 
 -- a step, by what it is made of
 abbrev pub PartsRead : {V : Type 0} → Readings V → (V → Step) → Readings Step
-PartsRead {V} parts make = ProductReads V Step parts (λ x step. step ≡ make x)
+PartsRead {V} parts make = MapReads V Step parts (λ x step. step ≡ make x)
 
 -- `DX DY`
 abbrev pub MoveReads : Readings Step
@@ -60,7 +62,7 @@ RepeatReads = PartsRead {V = ℕ} NumberReads (λ n. Repeat n)
 
 -- one stretch of words: this name, and what is read behind it
 abbrev pub ChainedReads : List ℕ → Readings Step → Readings Step
-ChainedReads word inner = AdjacentReads Step (word ∷ []) inner
+ChainedReads word inner = StretchReads Step (CommandReads Step (word ∷ []) inner)
 
 -- one of the three commands, by what is read behind their names
 abbrev pub StepReads : (move turn repeat : Readings Step) → Readings Step
@@ -71,8 +73,9 @@ StepReads move turn repeat =
 -- all places of the words' line but the first `--` are dealt out to the steps, each used once
 abbrev pub AreDealt : (move turn repeat : Readings Step) → List (List ℕ) → Vec Step → Type 0
 AreDealt move turn repeat words =
-    IsDealtOut (Vec Step) (ManyReads (StepReads move turn repeat)) program_known
-    (program_given words)
+    IsDealtOut (Vec Step)
+    (MapReads (List Step) (Vec Step) (ListReads (StepReads move turn repeat))
+    (λ values v. v.items ≡ values)) program_known (program_given words)
 
 -- so are the steps of the program, each made of its own parts
 abbrev pub AreDealtSteps : List (List ℕ) → Vec Step → Type 0

@@ -4,9 +4,10 @@ use Rattle.std.specs.Global.{Vec}
 use Rattle.bpaf_doc.specs.Names.{Names}
 use Rattle.bpaf_words.specs.Arguments.{Given}
 use Rattle.bpaf_words.specs.Spelling.{Known, knowing}
-use Rattle.bpaf_laws.specs.Product.{BothReads, ProductReads}
+use Rattle.bpaf_laws.specs.Product.{BothReads}
 use Rattle.bpaf_laws.specs.Reading.{Readings}
-use Rattle.bpaf_laws.specs.Repeat.{ManyReads}
+use Rattle.bpaf_laws.specs.Repeat.{ListReads}
+use Rattle.bpaf_laws.specs.Transform.{MapReads}
 use Rattle.bpaf.specs.declared.leaves.positional.Position.{Position}
 use Rattle.bpaf.specs.declared.leaves.positional.Position.TheVariants.{Strict, NonStrict}
 use Rattle.bpaf.specs.Dealt.{IsDealtOut}
@@ -44,14 +45,19 @@ FieldValues = Bool × (Bool × (String × Vec String))
 abbrev pub launch_of : FieldValues → Launch
 launch_of x = record { verbose = x.0; dry_run = x.1.0; name = x.1.1.0; words = x.1.1.1 }
 
+-- what the words that are passed on read: each one behind the first `--`
+abbrev pub PassedReads : Readings (Vec String)
+PassedReads =
+    MapReads (List String) (Vec String) (ListReads (WordReads Strict)) (λ values v. v.items ≡ values)
+
 -- what a launch reads: the two switches, a name that stands before the first `--`, and the words
 -- that are passed on, each behind it; each place once
 abbrev pub LaunchReads : Readings Launch
 LaunchReads =
-    ProductReads FieldValues Launch
+    MapReads FieldValues Launch
     (BothReads Bool (Bool × (String × Vec String)) (SwitchReads verbose_names)
     (BothReads Bool (String × Vec String) (SwitchReads dry_run_names)
-    (BothReads String (Vec String) (WordReads NonStrict) (ManyReads (WordReads Strict)))))
+    (BothReads String (Vec String) (WordReads NonStrict) PassedReads)))
     (λ x launch. launch ≡ launch_of x)
 
 -- all places of the words' line but the first `--` are dealt out to the two switches, the name and

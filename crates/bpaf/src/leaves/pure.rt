@@ -48,7 +48,7 @@ impl<T: Clone> Parser<T> for ParsePure<T> {
 
     ghost shorts = { λ p. no_shorts };
 
-    ghost reads = { λ p. PureReads (GivesClone T.is_clone p.value) };
+    ghost reads = { λ p. PureReads (T.is_clone p.value) };
 
     ghost outcome = { λ p. PureOutcome (GivesClone T.is_clone p.value) };
 
@@ -101,7 +101,7 @@ pub fn pure_with<T, F: Fn() -> Result<T, E>, E: Display>(f: F) -> ParsePureWith<
 /// The closure's value; its fault is refused with PureFailed, and so is want of memory for the text
 /// of that. Nothing changes, the current place neither: a check round it names the word before it.
 impl<T, F: Fn() -> Result<T, E>, E: Display + Drop> Parser<T> for ParsePureWith<T, F, E> {
-    ghost use Rattle.std.specs.Prelude.{◌≡◌, refl};
+    ghost use Rattle.std.specs.Prelude.{◌≡◌, Ok, refl};
     ghost use Rattle.bpaf_doc.specs.Shape.{Skip};
     ghost use Rattle.std.specs.Result.{IfErr};
     ghost use Rattle.bpaf_laws.specs.Default.{GivesAnswer};
@@ -118,7 +118,7 @@ impl<T, F: Fn() -> Result<T, E>, E: Display + Drop> Parser<T> for ParsePureWith<
 
     ghost shorts = { λ p. no_shorts };
 
-    ghost reads = { λ p. PureReads (GivesAnswer (λ r. F.post p.f r) E.output) };
+    ghost reads = { λ p. PureReads (λ v. F.post p.f (Ok v)) };
 
     ghost outcome = { λ p. PureWithOutcome (GivesAnswer (λ r. F.post p.f r) E.output) };
 
@@ -183,7 +183,7 @@ impl<T> Parser<T> for ParseFail<T> {
 
     ghost shorts = { λ p. no_shorts };
 
-    ghost reads = { λ p. PureReads (GivesRefusal p.message.now) };
+    ghost reads = { λ p. PureReads (λ v. ⊥) };
 
     ghost outcome = { λ p. PureOutcome (GivesRefusal p.message.now) };
 

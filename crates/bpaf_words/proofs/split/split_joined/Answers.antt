@@ -18,24 +18,24 @@ pub returns-in-true-true : goal.returns-in-true-true
 returns-in-true-true c =
     stops_both _ _ _ _ _ _ _ _ _ c.loop-c.invariant c.in-Some.ensures.steps.0
     (record {
-      flag = sym c.in-true-true.ensures.value;
-      argument = sym c.in-true-true.ensures'.value;
+      as_flag = sym c.in-true-true.ensures.value;
+      as_argument = sym c.in-true-true.ensures'.value;
     })
 
 pub returns-in-false-true : goal.returns-in-false-true
 returns-in-false-true c =
     stops_argument _ _ _ _ _ _ _ _ _ _ c.loop-c.invariant c.in-Some.ensures.steps.0
     (record {
-      no_flag = sym c.in-false-true.ensures.value;
-      argument = sym c.in-false-true.ensures'.value;
+      as_flag = sym c.in-false-true.ensures.value;
+      as_argument = sym c.in-false-true.ensures'.value;
     })
     (rw (← c.as_str.ensures) c.in_ok-push_argument-in-false-true.ensures)
 
 pub returns-in-false-false : goal.returns-in-false-false
 returns-in-false-false c = stops_neither _ _ _ _ _ _ _ _ _ _ c.loop-c.invariant
     c.in-Some.ensures.steps.0 (record {
-      no_flag = sym c.in-false-false.ensures.value;
-      no_argument = sym c.in-false-false.ensures'.value;
+      as_flag = sym c.in-false-false.ensures.value;
+      as_argument = sym c.in-false-false.ensures'.value;
     })
     (c.in_ok-push_word-in-false-false.ensures
     ∙ ap (λ x. x ++ Word c.args.word.now ∷ [])
@@ -51,8 +51,8 @@ overflow_add-count c = omega (
 pub loop-c-preserved : goal.loop-c-preserved
 loop-c-preserved c = walked_more _ _ _ _ _ _ _ _ _ _ _ c.loop-c.invariant c.in-Some.ensures.steps.0
     (record {
-      flag = sym c.in-true-false.ensures.value;
-      no_argument = sym c.in-true-false.ensures'.value;
+      as_flag = sym c.in-true-false.ensures.value;
+      as_argument = sym c.in-true-false.ensures'.value;
     })
     (first_text c.args.word.now c.if-count-eq0.text.now c.loop-c.count
     (λ z. elim c.if-count-eq0.branch

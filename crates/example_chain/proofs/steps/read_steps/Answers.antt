@@ -1,6 +1,6 @@
 use Rattle.std.proofs.Common.{rules}
 use Rattle.bpaf_program.proofs.ReadsToo.{adjacent_also, both_also, choice_also, flag_also, many_also}
-use Rattle.bpaf_program.proofs.ReadsToo.{product_also, word_also}
+use Rattle.bpaf_program.proofs.ReadsToo.{made_also, word_also}
 use Rattle.bpaf_program.proofs.Commands.{also_dealt}
 use Rattle.example_chain.proofs.steps.read_steps.Goals as goal
 
@@ -11,12 +11,12 @@ pub returns-clause-dealt : goal.returns-clause-dealt
 returns-clause-dealt c =
     also_dealt
     (many_also (choice_also (choice_also
-    (adjacent_also (product_also
+    (adjacent_also (made_also
     (both_also (word_also _ (search rules)) (word_also _ (search rules)))
     (λ x step e. search rules)) _)
-    (adjacent_also (product_also
+    (adjacent_also (made_also
     (both_also (flag_also _ (search rules) (search rules) (search rules))
     (word_also _ (search rules)))
     (λ x step e. search rules)) _))
-    (adjacent_also (product_also (word_also _ (search rules)) (λ n step e. search rules)) _)))
+    (adjacent_also (made_also (word_also _ (search rules)) (λ n step e. search rules)) _)))
     _ _ _ c.read_chain.ensures.dealt
