@@ -11,10 +11,10 @@
 //!   (specs/Flat.antt). Single evaluations, which repeats and defaults build on, keep to
 //!   `SingleLaw` (specs/Single.antt), required flags, arguments and choices of them to
 //!   `AlternativeLaw` (specs/Alternative.antt).
-//! - What a parser is to a flat record is its `FlatForm`: how it reads its pieces. Each combinator
-//!   is a function on forms; what isn't flat computes to `not_flat` (specs/FlatForm.antt,
-//!   specs/Leaves.antt, specs/Wrappers.antt, specs/Gathered.antt). Keys are kept apart by their
-//!   names (specs/Names.antt).
+//! - What a parser is to a flat record, and to a program, is its `ProgramForm`: how it reads what is
+//!   present. Each combinator is a function on forms; what is nothing to a program computes to
+//!   `no_program` (specs/ProgramForm.antt, specs/Leaves.antt, specs/Wrappers.antt,
+//!   specs/Gathered.antt). Keys are kept apart by their names (specs/Names.antt).
 //! - The value of a record on a line is read off the pieces of its cut (specs/Record.antt), and
 //!   each answer of a run is exact (specs/Theorem.antt).
 //! - A line that is cut holds together (`HoldsTogether`, specs/Accepted.antt): each key is one of
@@ -32,12 +32,11 @@
 //! - A program is a flat record, or named fields and then commands, behind the word of each of which
 //!   stands a program again. Its values are said of the cells of its scope: the fields' own pieces
 //!   are taken away, the first thing left opens a command, and what stands behind it is that
-//!   command's (specs/Programs.antt). What a parser is to a program is its `ProgramForm`, of which
-//!   the `FlatForm` is the plain part (specs/ProgramForm.antt); each answer of a run is exact where
-//!   it is a program (`runs_as_program`, proofs/ProgramForm.antt). What its values say of the cells
-//!   stands in specs/ProgramSays.antt and proofs/ProgramSays.antt.
+//!   command's (specs/Programs.antt). Each answer of a run is exact where the parser is a program
+//!   (`runs_as_program`, proofs/ProgramForm.antt). What its values say of the cells stands in
+//!   specs/ProgramSays.antt and proofs/ProgramSays.antt.
 //!
 //! Proofs that closures, repeats, choices and products keep to these laws by their tables stand in
-//! proofs/: proofs/ByTables.antt, proofs/ProgramForm.antt and proofs/FlatForm.antt have one lemma for
-//! each type of parser, proofs/Exact.antt the theorem of flat records.
+//! proofs/: proofs/ByTables.antt and proofs/ProgramForm.antt have one lemma for each type of parser,
+//! and the theorems.
 #![tactic(auto)]

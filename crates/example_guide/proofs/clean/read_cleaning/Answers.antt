@@ -22,4 +22,4 @@ returns-clause-called c =
     (λ list. let made : cleaning.task ≡ List list.2.told.from = search rules in
     absurd (subst IsRemoval made is))
     (λ remove. let line = told_line told (map string_bytes c.args.words.now) (search rules) in
-    command_called (without_field line force.told.taken) remove (codes "remove" ∷ []) (search rules)))
+    command_called (without_field line force.told.taken) remove.1 (codes "remove" ∷ []) (search rules)))
