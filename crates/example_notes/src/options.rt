@@ -46,6 +46,8 @@ pub enum Tag {
 struct NotesProgram {}
 
 impl KnownProgram<Notes> for NotesProgram {
+    ghost use Rattle.std.specs.Prelude.{refl};
+
     ghost grammar = { notes_parser };
 
     ghost whole = { λ variables. refl };

@@ -10,7 +10,7 @@ use std::test::Fail;
 struct Verbose {}
 
 impl KnownProgram<bool> for Verbose {
-    ghost use Rattle.std.specs.Prelude.{[], codes};
+    ghost use Rattle.std.specs.Prelude.{[], codes, refl};
     ghost use Rattle.bpaf_program.specs.KnownFields.{known_switch};
 
     ghost grammar = { known_switch (record { shorts = codes "v"; longs = [] }) };
