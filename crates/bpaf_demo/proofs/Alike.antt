@@ -6,7 +6,7 @@ use Rattle.bpaf_exact.specs.OneView.{Alike}
 use Rattle.bpaf_program.specs.Lines.{line, truth}
 use Rattle.bpaf_program.proofs.LookAlike.{alone_seen, both_seen, con_seen, field_seen, many_seen}
 use Rattle.bpaf_program.proofs.LookAlike.{number_seen, switch_seen, text_word_seen}
-use Rattle.bpaf_program.proofs.SeenPrograms.{program_looks_one, record_look}
+use Rattle.bpaf_program.proofs.SeenPrograms.{program_looks_one, values_look}
 use Rattle.bpaf_demo.specs.Exact.{IsOptionsOf}
 use Rattle.bpaf_demo.specs.Lines.{file_lines, lines}
 use Rattle.bpaf_demo.specs.Record.{number_key, options_of, program_given, program_known}
@@ -16,12 +16,12 @@ use Rattle.bpaf_demo.specs.Record.{verbose_names}
 pub same_lines : (words : List (List ℕ)) → All IsUtf8 words → Alike lines (IsOptionsOf words)
 same_lines words =
     program_looks_one
-    (record_look (con_seen
+    (values_look (con_seen
     (both_seen (field_seen (switch_seen verbose_names))
     (both_seen (field_seen (number_seen 64 number_key refl))
     (alone_seen (field_seen (many_seen (text_word_seen Unrestricted (codes "FILE")))))))
     options_of lines
     (λ x y same. ap (λ (seen : Bool × (ℕ × List (List ℕ))).
     line (codes "verbose: " ++ truth seen.0) ++ line (codes "num: " ++ decimal seen.1.0)
-    ++ file_lines seen.1.1) same)) refl)
+    ++ file_lines seen.1.1) same)))
     program_known (program_given words)

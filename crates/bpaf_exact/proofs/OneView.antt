@@ -23,16 +23,18 @@ use Rattle.bpaf_exact.specs.ProgramForm.{ProgramForm, alternative, single, compl
 use Rattle.bpaf_exact.specs.ProgramForm.{commands, before_commands, FormLaw, program_if}
 use Rattle.bpaf_exact.specs.ProgramForm.{program_closed, completed, program_field, may_follow}
 use Rattle.bpaf_exact.specs.ProgramForm.{program_both, program_alone, program_con, whole_program}
-use Rattle.bpaf_exact.specs.ProgramForm.{is_record, product_roles, program_optional, program_value}
+use Rattle.bpaf_exact.specs.ProgramForm.{is_record, no_program, product_roles, program_optional}
+use Rattle.bpaf_exact.specs.ProgramForm.{program_value}
 use Rattle.bpaf_exact.specs.Programs.{OptionalCommands}
 use Rattle.bpaf_exact.specs.OneView.{Alike, OneGroup, HasOneView, Respects, pair_view, LooksLike}
 use Rattle.bpaf_exact.specs.{Single.listed_and_absent, Single.only_absent, Single.repeated}
 use Rattle.bpaf_exact.specs.{Leaves.word_by, Record.line_cells}
 use Rattle.bpaf_exact.specs.{ProgramForm.product_reading, OneView.RunsToOne}
 use Rattle.bpaf_exact.specs.{Pieces.Cells, Pieces.Roles, Pieces.LinePiece, Pieces.One, Pieces.Two}
+use Rattle.bpaf_exact.specs.{Pieces.IsNamed}
 use Rattle.bpaf_exact.specs.{Gathered.list_closure, Names.are_all_apart}
 use Rattle.bpaf_exact.proofs.{Alternative.alternative_single, Cuts.one_cut, LastArguments.last_same}
-use Rattle.bpaf_exact.proofs.{ProgramForm.record_law, ProgramForm.record_value}
+use Rattle.bpaf_exact.proofs.{ProgramForm.record_law, ProgramForm.whole_law}
 use Rattle.bpaf_exact.proofs.{Commands.none_opens, ProgramForm.runs_exactly, Repeat.own_nil}
 use Rattle.bpaf_exact.proofs.{Cuts.read_cut, BeforeCommands.one_take}
 
@@ -359,25 +361,34 @@ module _ (T X : Type 0) (see : T → X) where
 
   -- all that is read off the same cells looks alike
   reads_one : (env : Variables) (outcome : Outcome T) (names : List Names)
-      (words : List (List ℕ)) (s : ProgramForm T) → is_record s ≡ true
+      (words : List (List ℕ)) (s : ProgramForm T) → IsNamed (product_roles (whole_program s))
       → FormLaw env outcome names words s → HasOneView see s → (cs : Cells)
       → Alike see (ReadOff T (product_roles (whole_program s))
       (product_reading (whole_program s)).value cs)
-  reads_one env outcome names words s h l u cs v w a b =
-      let f = record_law env T outcome names words s h l in
-      let c = one_cut (product_roles (whole_program s)) cs a.cut_into b.cut_into f.named
-      (read_cut a) (read_cut b) in
+  reads_one env outcome names words s named l u cs v w a b =
+      let c = one_cut (product_roles (whole_program s)) cs a.cut_into b.cut_into named (read_cut a)
+      (read_cut b) in
       product_view (whole_program s) (record_view env outcome names words s l u) b.cut_into v w
       (subst (λ os. (product_reading (whole_program s)).value os v) c a.read) b.read
 
-  -- All values of the same cells look alike.
-  pub record_looks_one : (env : Variables) (outcome : Outcome T) (names : List Names)
-      (words : List (List ℕ)) (s : ProgramForm T) → is_record s ≡ true
-      → FormLaw env outcome names words s → HasOneView see s → (cs : Cells)
-      → Alike see (program_value s cs)
-  record_looks_one env outcome names words s h l u cs v w a b =
-      reads_one env outcome names words s h l u cs v w (record_value s h cs v a)
-      (record_value s h cs w b)
+  -- All values of a program on the same cells look alike.
+  pub values_look_one : (env : Variables) (outcome : Outcome T) (names : List Names)
+      (words : List (List ℕ)) (s : ProgramForm T) → FormLaw env outcome names words s
+      → HasOneView see s → (cs : Cells) → Alike see (program_value s cs)
+  values_look_one env outcome names words (alternative wide q value) l u cs v w a b =
+      reads_one env outcome names words (alternative wide q value)
+      (whole_law env T outcome names words (alternative wide q value) l).0.named l u cs v w a b
+  values_look_one env outcome names words (single wide k q group gap) l u cs v w a b =
+      reads_one env outcome names words (single wide k q group gap)
+      (whole_law env T outcome names words (single wide k q group gap) l).0.named l u cs v w a b
+  values_look_one env outcome names words (complete wide k q value) l u cs v w a b =
+      reads_one env outcome names words (complete wide k q value)
+      (whole_law env T outcome names words (complete wide k q value) l).0.named l u cs v w a b
+  values_look_one env outcome names words (product wide named q fields) l u cs v w a b =
+      reads_one env outcome names words (product wide named q fields) l.0.named l u cs v w a b
+  values_look_one env outcome names words (commands optional value) l u cs v w a b = u cs v w a b
+  values_look_one env outcome names words (before_commands value) l u cs v w a b = u cs v w a b
+  values_look_one env outcome names words no_program l u cs v w a b = absurd a
 
   -- Where the record has a value, each answer looks like it, or is want of memory; with the value
   -- itself for a view, it is that value.
@@ -387,5 +398,6 @@ module _ (T X : Type 0) (see : T → X) where
       → RunsToOne see outcome s context
   runs_to_one outcome names words s h context l u a v ran r =
       like_this outcome _ _ context (record_law context.env T outcome names words s h l)
-      (reads_one context.env outcome names words s h l u (line_cells context)) a v
+      (reads_one context.env outcome names words s
+      (record_law context.env T outcome names words s h l).named l u (line_cells context)) a v
       (runs_exactly T outcome names words s h context l a ran) r

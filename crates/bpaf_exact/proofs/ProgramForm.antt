@@ -29,7 +29,6 @@ use Rattle.bpaf_exact.specs.ProgramForm.{product_reading, whole_value}
 use Rattle.bpaf_exact.specs.Programs.{CellsValue, ProgramLaw, CommandEval, are_plain, WordsApart}
 use Rattle.bpaf_exact.specs.Record.{line_cells, RunAnswer, Accepted, RunRan, IsAcceptedOrWant}
 use Rattle.bpaf_exact.specs.{Flat.FieldLaw, Flat.FieldsLaw, Flat.both_reading, Flat.keys}
-use Rattle.bpaf_exact.specs.{Flat.ReadOff, Pieces.Cells}
 use Rattle.bpaf_exact.specs.{Flat.Variables, Flat.cells, Wrappers.FallbackEval}
 use Rattle.bpaf_exact.specs.{Wrappers.OptionalValue, Wrappers.FallbackValue, Pieces.Roles}
 use Rattle.bpaf_exact.specs.{Pieces.no_roles, Pieces.either, Pieces.LinePiece, Names.Owns}
@@ -346,16 +345,6 @@ module _ (env : Variables) (T : Type 0) (outcome : Outcome T) (names : List Name
       record { roles = q; program = record_program T outcome q fields l.0; owns = l.1 }
   program_law no_program h l = absurd cc
   program_law s h l = end_law (program_field s) refl (whole_law s l)
-
--- the values of a flat record are read off the pieces of its line
-pub record_value : {T : Type 0} (s : ProgramForm T) → is_record s ≡ true → (cs : Cells) (v : T)
-    → program_value s cs v
-    → ReadOff T (product_roles (whole_program s)) (product_reading (whole_program s)).value cs v
-record_value (alternative wide q value) h cs v read = read
-record_value (single wide k q group gap) h cs v read = read
-record_value (complete wide k q value) h cs v read = read
-record_value (product wide named q fields) h cs v read = read
-record_value _ h cs v read = absurd cc
 
 -- a command
 pub program_command_law : (env : Variables) (T : Type 0) (inner : Outcome T) (apart : Bool)

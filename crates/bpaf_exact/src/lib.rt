@@ -27,7 +27,7 @@
 //!   (proofs/Says.antt, one lemma for each combinator).
 //! - A line may have several values that differ in what contracts don't see, such as the room of a
 //!   text. Where closures can't tell apart what looks alike, the values of a line look alike
-//!   (specs/OneView.antt, `record_looks_one` and `runs_to_one` of proofs/OneView.antt).
+//!   (specs/OneView.antt, `values_look_one` and `runs_to_one` of proofs/OneView.antt).
 //!
 //! - A program is a flat record, or named fields and then commands, behind the word of each of which
 //!   stands a program again. Its values are said of the cells of its scope: the fields' own pieces

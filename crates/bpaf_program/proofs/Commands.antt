@@ -132,17 +132,6 @@ module _ {T : Type 0} {showing : Showing} {outcome : Outcome T} {reads wanted : 
     {describes shapes : Shape → Type 0}
     (is : Hands showing outcome reads describes wanted shapes) {known names : Known}
     {given own : Given} where
-  -- what it deals out is dealt out as is wanted
-  pub hands_dealt : (r : Result T ParseFailure)
-      → IfOk r (λ v. IsDealtOut T reads known given v) → known ≡ names → given ≡ own
-      → IfOk r (λ v. IsDealtOut T wanted names own v)
-  hands_dealt (Ok v) dealt known_is same = record {
-    context = dealt.context;
-    is_context = rw (known_is, same) at dealt.is_context;
-    read = is.also dealt.context _ v dealt.read;
-  }
-  hands_dealt (Err f) dealt known_is same = tt
-
   -- what it shows in place of a value is a page that the words ask for
   pub hands_asked : IsAlsoShown (IsAskedAt shapes plain_info) showing
       → (r : Result T ParseFailure) → {info : RunInfo}
@@ -159,14 +148,3 @@ module _ {T : Type 0} {showing : Showing} {outcome : Outcome T} {reads wanted : 
       (λ page. page))
       doc full (rw (plain, known_is, same) at was)
   hands_asked asks _ runs plain known_is same = tt
-
--- what is dealt out to the one is to the other
-pub also_dealt : {T : Type 0} {reads wanted : Readings T} → IsAlso reads wanted → (known : Known)
-    (given : Given) (r : Result T ParseFailure) → IfOk r (λ v. IsDealtOut T reads known given v)
-    → IfOk r (λ v. IsDealtOut T wanted known given v)
-also_dealt also known given (Ok v) dealt = record {
-  context = dealt.context;
-  is_context = dealt.is_context;
-  read = also dealt.context _ v dealt.read;
-}
-also_dealt also known given (Err f) dealt = tt

@@ -160,17 +160,6 @@ module _ {T : Type 0} {outcome : Outcome T} {reads wanted : Readings T}
     {describes : Shape → Type 0} {shape : Shape}
     (is : IsKnown outcome reads describes wanted shape) {known names : Known} {given own : Given}
   where
-    -- what it deals out is dealt out as is wanted
-    pub known_dealt : (r : Result T ParseFailure)
-        → IfOk r (λ v. IsDealtOut T reads known given v) → known ≡ names → given ≡ own
-        → IfOk r (λ v. IsDealtOut T wanted names own v)
-    known_dealt (Ok v) dealt known_is same = record {
-      context = dealt.context;
-      is_context = rw (known_is, same) at dealt.is_context;
-      read = is.also dealt.context _ v dealt.read;
-    }
-    known_dealt (Err f) dealt known_is same = tt
-
     -- what it shows in place of a value is help that the words ask for
     pub known_asked : (shapes : Shape → Type 0) → shapes shape → (r : Result T ParseFailure)
         → {info : RunInfo} → RunsWords T outcome describes info known given r → info ≡ plain_info

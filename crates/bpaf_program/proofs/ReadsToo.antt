@@ -1,8 +1,11 @@
 -- What one parser reads another reads too: of combinators where that holds of what is inside.
-use Rattle.std.proofs.Common.{◌≡◌, ℕ, List, [], ◌∷◌, Option, inl, inr, ⊎_elim}
+use Rattle.std.proofs.Common.{◌≡◌, ℕ, List, [], ◌∷◌, Option, Result, Ok, Err, IfOk, inl, inr, ⊎_elim}
 use Rattle.std.specs.Global.{Vec}
 use Rattle.bpaf_text.specs.Named.{Named}
+use Rattle.bpaf_words.specs.Arguments.{Given}
+use Rattle.bpaf_words.specs.Spelling.{Known}
 use Rattle.bpaf_line.specs.Situation.{Context}
+use Rattle.bpaf_line.specs.declared.failure.ParseFailure.{ParseFailure}
 use Rattle.bpaf_laws.specs.Choice.{ChoiceReads}
 use Rattle.bpaf_laws.specs.Flag.{FlagReads}
 use Rattle.bpaf_laws.specs.Command.{CommandReads}
@@ -13,11 +16,24 @@ use Rattle.bpaf_laws.specs.Repeat.{EachReads, ListReads}
 use Rattle.bpaf_laws.specs.Transform.{MapReads}
 use Rattle.bpaf.specs.declared.leaves.positional.Position.{Position}
 use Rattle.bpaf.specs.Positional.{PositionalReads}
+use Rattle.bpaf.specs.Dealt.{IsDealtOut}
 
 -- each reading of the one is a reading of the other
 abbrev pub IsAlso : {T : Type 0} → Readings T → Readings T → Type 0
 IsAlso {T} first second =
     (context : Context) (share : Share) (v : T) → first context share v → second context share v
+
+-- what is dealt out to the one is dealt out to the other
+pub also_dealt : {T : Type 0} {reads wanted : Readings T} → IsAlso reads wanted
+    → {known names : Known} {given own : Given} (r : Result T ParseFailure)
+    → IfOk r (λ v. IsDealtOut T reads known given v) → known ≡ names → given ≡ own
+    → IfOk r (λ v. IsDealtOut T wanted names own v)
+also_dealt also (Ok v) dealt known_is given_is = record {
+  context = dealt.context;
+  is_context = rw (known_is, given_is) at dealt.is_context;
+  read = also dealt.context _ v dealt.read;
+}
+also_dealt also (Err f) dealt known_is given_is = tt
 
 -- a word at this position
 pub word_also : {T : Type 0} (means : List ℕ → T → Type 0) {at position : Position} → at ≡ position

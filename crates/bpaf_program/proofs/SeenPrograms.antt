@@ -8,14 +8,14 @@ use Rattle.bpaf_laws.specs.Product.{BothOutcome}
 use Rattle.bpaf_laws.specs.Reading.{Outcome}
 use Rattle.bpaf_exact.specs.OneView.{Alike, pair_view}
 use Rattle.bpaf_exact.specs.Pieces.{Cells, LinePiece, Roles}
-use Rattle.bpaf_exact.specs.ProgramForm.{ProgramForm, are_words_apart, is_record}
+use Rattle.bpaf_exact.specs.ProgramForm.{ProgramForm, are_words_apart}
 use Rattle.bpaf_exact.specs.ProgramForm.{program_alone, program_both, program_con, program_field}
 use Rattle.bpaf_exact.specs.ProgramForm.{program_value}
 use Rattle.bpaf_exact.specs.Programs.{CellsValue, ChoiceValue, CommandValue, FieldThen}
 use Rattle.bpaf_exact.specs.Programs.{Opens}
 use Rattle.bpaf_exact.proofs.BeforeCommands.{one_take}
 use Rattle.bpaf_exact.proofs.Commands.{opens_apart, opens_left, opens_right}
-use Rattle.bpaf_exact.proofs.OneView.{record_looks_one}
+use Rattle.bpaf_exact.proofs.OneView.{values_look_one}
 use Rattle.bpaf_exact.proofs.ProgramForm.{words_apart}
 use Rattle.bpaf_exact.proofs.Programs.{opens_one}
 use Rattle.bpaf_exact.specs.Record.{line_cells}
@@ -35,12 +35,11 @@ pub record AreSeen {T X : Type 0} (see : T → X) (words : List (List ℕ)) (val
   pub look : LooksOne see value
   pub opened : (cs : Cells) (v : T) → value cs v → (ds : Cells) × Opens words cs ds
 
--- a flat record
-pub record_look : {T X : Type 0} {outcome : Outcome T} {see : T → X} {names : List Names}
-    {form : ProgramForm T} → IsSeen outcome see names form → is_record form ≡ true
-    → LooksOne see (program_value form)
-record_look {T} {X} {outcome} {see} {names} {form} is record_is =
-    record_looks_one T X see [] outcome names [] form record_is (is.law []) is.view
+-- a program whose values look alike
+pub values_look : {T X : Type 0} {outcome : Outcome T} {see : T → X} {names : List Names}
+    {form : ProgramForm T} → IsSeen outcome see names form → LooksOne see (program_value form)
+values_look {T} {X} {outcome} {see} {names} {form} is =
+    values_look_one T X see [] outcome names [] form (is.law []) is.view
 
 module _ {T X : Type 0} {see : T → X} where
   -- a command over what looks alike
@@ -91,16 +90,15 @@ pub fields_seen : {A B X Y : Type 0} {see : A → X} {look : B → Y} {own other
     (program_both own others (program_field first) rest)
 fields_seen one more = both_seen (field_seen one) more
 
--- a command over a flat record, whose constructor makes this of the fields
+-- a command over a record, whose constructor makes this of the fields
 pub record_seen : {V T X Y : Type 0} {outcome : Outcome V} {see : V → X} {names : List Names}
     {fields : ProgramForm V} (word : List ℕ) (make : V → T) (look : T → Y)
     → IsSeen outcome see names fields
     → ((x y : V) → see x ≡ see y → look (make x) ≡ look (make y))
-    → is_record (program_con (makes make) fields) ≡ true
     → AreSeen look (word ∷ [])
     (CommandValue T (word ∷ []) (program_value (program_con (makes make) fields)))
-record_seen word make look is same record_is =
-    command_seen word (record_look (con_seen is make look same) record_is)
+record_seen word make look is same =
+    command_seen word (values_look (con_seen is make look same))
 
 module _ {T X B Y : Type 0} {see : T → X} (make : T → B) (look : B → Y)
     (same : (x y : T) → see x ≡ see y → look (make x) ≡ look (make y)) where

@@ -17,10 +17,10 @@ same_lines words =
     (of.then_look (of.field_seen (of.optional_seen (of.text_seen notes.dir_key refl))).view
     (of.choice_seen (of.record_seen (codes "add") notes.add_of task_lines
     (of.fields_seen (of.many_seen (of.text_seen notes.tag_key refl)) (of.last_seen (of.many_seen
-    word))) (λ x y same. rw (ap (λ p. p.0) same, ap (λ p. p.1) same) refl) refl)
+    word))) (λ x y same. rw (ap (λ p. p.0) same, ap (λ p. p.1) same) refl))
     (of.choice_seen (of.record_seen (codes "list") task.List task_lines (of.last_seen
-    (of.default_seen (of.number_seen 64 notes.max_key refl) 10)) (λ x y same. cc) refl)
+    (of.default_seen (of.number_seen 64 notes.max_key refl) 10)) (λ x y same. cc))
     (of.made_seen task.Tag task_lines (λ x y same. same) (of.command_seen (codes "tag")
-    (of.choice_seen (of.record_seen (codes "add") tag.Add tag_lines name (λ x y same. cc) refl)
-    (of.record_seen (codes "remove") tag.Remove tag_lines name (λ x y same. cc) refl) refl).look))
+    (of.choice_seen (of.record_seen (codes "add") tag.Add tag_lines name (λ x y same. cc))
+    (of.record_seen (codes "remove") tag.Remove tag_lines name (λ x y same. cc)) refl).look))
     refl) refl).look))) (of.program_names notes.notes_parser) _ (of.are_texts words)

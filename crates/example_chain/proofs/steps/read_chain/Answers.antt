@@ -3,7 +3,8 @@ use Rattle.bpaf_words.specs.Arguments.{given_of}
 use Rattle.bpaf_keys.specs.Info.{plain_info}
 use Rattle.bpaf_laws.specs.ShownNames.{joined_shorts, no_shorts}
 use Rattle.bpaf.specs.Known.{known_names}
-use Rattle.bpaf_program.proofs.Commands.{choice_hands, hands_as, hands_asked, hands_dealt}
+use Rattle.bpaf_program.proofs.Commands.{choice_hands, hands_as, hands_asked}
+use Rattle.bpaf_program.proofs.ReadsToo.{also_dealt}
 use Rattle.bpaf_program.proofs.Commands.{many_hands}
 use Rattle.example_chain.specs.Dealing.{program_given}
 use Rattle.example_chain.specs.Shown.{IsPage, move_title, of_move, of_program, of_repeat, of_turn}
@@ -46,7 +47,7 @@ returns g c =
     rw (go_is.inner_is, turn_is.inner_is, repeat_is.inner_is) c.requires.no_names in
     let known = ap₂ known_names info no_names in
     record {
-      dealt = hands_dealt pages _ c.run_once.ensures.dealt known given;
+      dealt = also_dealt pages.also _ c.run_once.ensures.dealt known given;
       asked = hands_asked pages (λ s doc full asked. of_program asked) _
           c.run_once.ensures.outcome info known given;
     }

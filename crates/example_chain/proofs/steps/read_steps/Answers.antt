@@ -1,7 +1,6 @@
-use Rattle.std.proofs.Common.{rules}
-use Rattle.bpaf_program.proofs.ReadsToo.{adjacent_also, both_also, choice_also, flag_also, many_also}
+use Rattle.std.proofs.Common.{refl, rules}
+use Rattle.bpaf_program.proofs.ReadsToo.{adjacent_also, also_dealt, both_also, choice_also, flag_also, many_also}
 use Rattle.bpaf_program.proofs.ReadsToo.{made_also, word_also}
-use Rattle.bpaf_program.proofs.Commands.{also_dealt}
 use Rattle.example_chain.proofs.steps.read_steps.Goals as goal
 
 pub read_chain-requires-clause-no_names : goal.read_chain-requires-clause-no_names
@@ -19,4 +18,4 @@ returns-clause-dealt c =
     (word_also _ (search rules)))
     (λ x step e. search rules)) _))
     (adjacent_also (made_also (word_also _ (search rules)) (λ n step e. search rules)) _)))
-    _ _ _ c.read_chain.ensures.dealt
+    _ c.read_chain.ensures.dealt refl refl
