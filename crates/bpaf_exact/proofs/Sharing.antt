@@ -6,7 +6,8 @@ use Rattle.bpaf_base.specs.{Items.is_key_of, Items.is_positional, declared.arg.A
 use Rattle.bpaf_base.specs.{declared.arg.Arg.TheVariants.PosWord, declared.arg.Arg.Arg}
 use Rattle.bpaf_exact.specs.Pieces.{Cells, Cut, argument, at_end, flag, passed, word}
 use Rattle.bpaf_exact.specs.Pieces.{Takes, no_cells, empty_stays, other_stays, takes_flag}
-use Rattle.bpaf_exact.specs.Pieces.{takes_argument, Role, Foreign, Alone, WithNext, Roles, LinePiece, One}
+use Rattle.bpaf_exact.specs.Pieces.{takes_argument, Role, Foreign, Alone, WithNext, Roles}
+use Rattle.bpaf_exact.specs.Pieces.{LinePiece, One}
 use Rattle.bpaf_exact.specs.Pieces.{Two, is_own_role, is_own, mine, others, either, either_role}
 use Rattle.bpaf_exact.specs.{Names.are_all_apart, Names.Owns, Names.is_key_of_any, Says.EachOwn}
 use Rattle.bpaf_exact.specs.{Says.Fits, Says.first_item, Says.keyed, Says.unkeyed, Flat.OneWord}
@@ -207,7 +208,8 @@ module _ (q : Roles) (none : (k : Arg) → is_own_role (q k) ≡ false) where
   pub others_none : (os : List LinePiece) → others q os ≡ os
   others_none [] = refl
   others_none (o ∷ os) =
-      ap (λ c. if not c then (o ∷ others q os) else others q os) (own_first q o ∙ none (first_item o))
+      ap (λ c. if not c then (o ∷ others q os) else others q os)
+      (own_first q o ∙ none (first_item o))
       ∙ ap (λ z. o ∷ z) (others_none os)
 
 -- where no piece is another's, each is one's own
@@ -233,7 +235,8 @@ others_both q r (o ∷ os) =
         → others r (others q (o ∷ os)) ≡ others (either q r) (o ∷ os)
     by_role x first both h = (
         ap (λ c. others r (if not c then (o ∷ others q os) else others q os)) first ∙ by_own x h
-        ∙ sym (ap (λ c. if not c then (o ∷ others (either q r) os) else others (either q r) os) both)
+        ∙ sym (ap (λ c. if not c then (o ∷ others (either q r) os) else others (either q r) os)
+        both)
         )
       where
         by_own : (x : Role) → others r (others q os) ≡ others (either q r) os
@@ -244,7 +247,8 @@ others_both q r (o ∷ os) =
         by_own WithNext h = h
         by_own Foreign h =
             ap (λ c. if not c then (o ∷ others r (others q os)) else others r (others q os))
-            (own_first r o) ∙ ap (λ z. if not (is_own_role (r (first_item o))) then (o ∷ z) else z) h
+            (own_first r o)
+            ∙ ap (λ z. if not (is_own_role (r (first_item o))) then (o ∷ z) else z) h
 
 -- behind a positional field no item is another field's own
 pub none_behind : (r : Roles) (own behind : List Names) → Owns r behind
@@ -266,8 +270,8 @@ pub apart_none : (names : List Names) → are_all_apart names [] ≡ true
 apart_none [] = refl
 apart_none (own ∷ names) = apart_none names
 
--- Of a product with words, which stands last in another: the pieces that begin with its keys, and the
--- words that are left to it.
+-- Of a product with words, which stands last in another: the pieces that begin with its keys, and
+-- the words that are left to it.
 
 -- what is left of pieces without those of others fits as they do
 pub others_fit : (q r : Roles) (names : List Names) (os : List LinePiece) → Fits names r os
@@ -283,7 +287,8 @@ pub rest_fit : (r : Roles) (names : List Names) (whole os : List LinePiece) → 
 rest_fit r names [] os fits fit = others_fit r r names os fit
 rest_fit r names (o ∷ whole) os fits fit =
     elim (is_key_of_any names (first_item o)) as
-    (λ b. Fits names r ((if b then (o ∷ keyed names whole) else keyed names whole) ++ others r os)) [
+    (λ b. Fits names r
+    ((if b then (o ∷ keyed names whole) else keyed names whole) ++ others r os)) [
       | true ↦ (fits.0, rest_fit r names whole os fits.1 fit)
       | false ↦ rest_fit r names whole os fits.1 fit
     ]

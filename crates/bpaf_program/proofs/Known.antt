@@ -36,7 +36,7 @@ use Rattle.bpaf.proofs.Asked.{positional_hands_on, product_hands_on}
 use Rattle.bpaf.proofs.Helps.{argument_without_help, flag_without_help, key_with_help}
 use Rattle.bpaf_program.specs.Fields.{IsArgument, IsSwitch, IsWord, SwitchReads, switch_shape}
 use Rattle.bpaf_program.specs.Values.{IsKept}
-use Rattle.bpaf_program.proofs.ReadsToo.{IsAlso, both_also, made_also, many_also, word_also}
+use Rattle.bpaf_program.proofs.ReadsToo.{IsAlso, also_dealt, both_also, made_also, many_also, word_also}
 use Rattle.bpaf_program.proofs.Shown.{both_show, help_asked, last_shows, many_shows}
 use Rattle.bpaf_program.proofs.Shown.{product_shows}
 
@@ -160,6 +160,12 @@ module _ {T : Type 0} {outcome : Outcome T} {reads wanted : Readings T}
     {describes : Shape → Type 0} {shape : Shape}
     (is : IsKnown outcome reads describes wanted shape) {known names : Known} {given own : Given}
   where
+    -- what it deals out is dealt out as is wanted
+    pub known_dealt : (r : Result T ParseFailure)
+        → IfOk r (λ v. IsDealtOut T reads known given v) → known ≡ names → given ≡ own
+        → IfOk r (λ v. IsDealtOut T wanted names own v)
+    known_dealt = also_dealt is.also
+
     -- what it shows in place of a value is help that the words ask for
     pub known_asked : (shapes : Shape → Type 0) → shapes shape → (r : Result T ParseFailure)
         → {info : RunInfo} → RunsWords T outcome describes info known given r → info ≡ plain_info

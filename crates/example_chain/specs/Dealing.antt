@@ -70,12 +70,16 @@ StepReads move turn repeat =
     ChoiceReads (ChoiceReads (ChainedReads (codes "move") move)
     (ChainedReads (codes "turn") turn)) (ChainedReads (codes "repeat") repeat)
 
+-- some steps, each of which is one of three kinds
+abbrev pub StepsRead : (move turn repeat : Readings Step) → Readings (Vec Step)
+StepsRead move turn repeat =
+    MapReads (List Step) (Vec Step) (ListReads (StepReads move turn repeat))
+    (λ values v. v.items ≡ values)
+
 -- all places of the words' line but the first `--` are dealt out to the steps, each used once
 abbrev pub AreDealt : (move turn repeat : Readings Step) → List (List ℕ) → Vec Step → Type 0
 AreDealt move turn repeat words =
-    IsDealtOut (Vec Step)
-    (MapReads (List Step) (Vec Step) (ListReads (StepReads move turn repeat))
-    (λ values v. v.items ≡ values)) program_known (program_given words)
+    IsDealtOut (Vec Step) (StepsRead move turn repeat) program_known (program_given words)
 
 -- so are the steps of the program, each made of its own parts
 abbrev pub AreDealtSteps : List (List ℕ) → Vec Step → Type 0

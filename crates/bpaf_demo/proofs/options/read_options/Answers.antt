@@ -9,7 +9,7 @@ use Rattle.bpaf_program.specs.Values.{MeansText}
 use Rattle.bpaf_program.proofs.Known as dealt
 use Rattle.bpaf_program.proofs.KnownFields.{argument_known, many_known, switch_known, word_known}
 use Rattle.bpaf_program.proofs.KnownParser.{both_known, con_known, last_known, program_exactly}
-use Rattle.bpaf_program.proofs.{ReadsToo.also_dealt, Running.are_texts}
+use Rattle.bpaf_program.proofs.Running.{are_texts}
 use Rattle.bpaf_demo.specs.Exact.{fields as record_fields, record_of}
 use Rattle.bpaf_demo.specs.Record.{number_key, options_of, program_given, verbose_names}
 use Rattle.bpaf_demo.specs.Shown.{IsProgramShape}
@@ -46,7 +46,7 @@ returns c =
     (dealt.last_known (dealt.many_known fields.rest.rest.last.catch
     (dealt.word_known MeansText files.1)))) in
     record {
-      dealt = also_dealt (dealt.product_known (λ x v e. search rules) known).also _
+      dealt = dealt.known_dealt (dealt.product_known (λ x v e. search rules) known) _
           c.run_record.ensures.dealt (rw (info, verbose.1.named_is, num.1.key_is) refl) given;
       asked = dealt.known_asked (dealt.product_known (λ x v e. e) known) IsProgramShape
           (record {

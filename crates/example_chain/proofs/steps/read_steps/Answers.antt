@@ -1,6 +1,8 @@
 use Rattle.std.proofs.Common.{refl, rules}
-use Rattle.bpaf_program.proofs.ReadsToo.{adjacent_also, also_dealt, both_also, choice_also, flag_also, many_also}
+use Rattle.bpaf_program.proofs.ReadsToo.{adjacent_also, also_dealt, both_also, choice_also}
+use Rattle.bpaf_program.proofs.ReadsToo.{flag_also, many_also}
 use Rattle.bpaf_program.proofs.ReadsToo.{made_also, word_also}
+use Rattle.example_chain.specs.Dealing.{MoveReads, RepeatReads, StepsRead, TurnReads}
 use Rattle.example_chain.proofs.steps.read_steps.Goals as goal
 
 pub read_chain-requires-clause-no_names : goal.read_chain-requires-clause-no_names
@@ -8,7 +10,7 @@ read_chain-requires-clause-no_names c = search rules
 
 pub returns-clause-dealt : goal.returns-clause-dealt
 returns-clause-dealt c =
-    also_dealt
+    also_dealt {wanted = StepsRead MoveReads TurnReads RepeatReads}
     (many_also (choice_also (choice_also
     (adjacent_also (made_also
     (both_also (word_also _ (search rules)) (word_also _ (search rules)))

@@ -8,7 +8,7 @@ use Rattle.bpaf_program.specs.Values.{MeansText}
 use Rattle.bpaf_program.proofs.Known as dealt
 use Rattle.bpaf_program.proofs.KnownFields.{many_known, switch_known, word_known}
 use Rattle.bpaf_program.proofs.KnownParser.{both_known, con_known, last_known, program_exactly}
-use Rattle.bpaf_program.proofs.{ReadsToo.also_dealt, Running.are_texts}
+use Rattle.bpaf_program.proofs.Running.{are_texts}
 use Rattle.example_launch.specs.Dealing.{dry_run_names, launch_of, program_given, verbose_names}
 use Rattle.example_launch.specs.Exact.{AnswersLaunch, fields, launcher}
 use Rattle.example_launch.specs.Shown.{IsProgramShape}
@@ -51,7 +51,7 @@ returns c =
     record {
       exact = exact;
       launch = launch_asked _ _
-          (also_dealt (dealt.product_known (λ x v e. search rules) known).also _
+          (dealt.known_dealt (dealt.product_known (λ x v e. search rules) known) _
           c.run_once.ensures.dealt (rw (verbose.1.named_is, dry_run.1.named_is) refl) given)
           exact;
       asked = dealt.known_asked (dealt.product_known (λ x v e. e) known) IsProgramShape
