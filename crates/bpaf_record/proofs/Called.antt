@@ -21,7 +21,7 @@ use Rattle.bpaf_exact.specs.Pieces.{Cells, LinePiece, Roles, Takes, no_cells, em
 use Rattle.bpaf_exact.specs.Pieces.{other_stays, takes_argument, takes_flag, is_own_role}
 use Rattle.bpaf_exact.specs.ProgramForm.{ProgramForm}
 use Rattle.bpaf_exact.specs.Programs.{CellsValue}
-use Rattle.bpaf_exact.specs.Programs.{CommandValue, Opens, opens_here, opens_later}
+use Rattle.bpaf_exact.specs.Programs.{Opens, opens_here, opens_later}
 use Rattle.bpaf_exact.specs.Record.{line_cells}
 use Rattle.bpaf_record.specs.Program.{TellsOfWords}
 use Rattle.bpaf_record.specs.Spelled.{WasCalled, WasSpelled}
@@ -150,16 +150,15 @@ module _ {known : Known} {given : Given} {words : List (List ℕ)} {cs : Cells}
     );
   }
 
-  -- The word of a command that has the value was spelled.
-  pub command_called : {T : Type 0} {opens : List (List ℕ)} {inner : CellsValue T} {v : T}
-      → CommandValue T opens inner cs v → (names : List (List ℕ)) → opens ≡ names
-      → WasCalled names words
-  command_called {T} {opens} command names same =
+  -- The word of a command that opens something was spelled.
+  pub command_called : {opens : List (List ℕ)} {behind : Cells} → Opens opens cs behind
+      → (names : List (List ℕ)) → opens ≡ names → WasCalled names words
+  command_called {opens} there names same =
       subst (WasCalled names) line.are
       (subst (λ those. WasCalled those given.words) same (
         known,
         item_spelled (is_one_of opens) known given line.context line.on_line (none_behind opens)
-            (kept_on (is_one_of opens) line.left (opens_on opens command.1)),
+            (kept_on (is_one_of opens) line.left (opens_on opens there)),
       ))
     where
       none_behind : (words : List (List ℕ)) (text : List ℕ) → is_one_of words (PosWord text) ≡ false
