@@ -172,7 +172,8 @@ module _ (env : Variables) (T : Type 0) (outcome : Outcome T) (names : List Name
   )
     where
       by_name : (j : FieldKind) → FieldLaw env T outcome j q value
-          → NamedLaw env (is_named j) outcome (either (keys j q) no_roles) (last_reading j q value).value
+          → NamedLaw env (is_named j) outcome (either (keys j q) no_roles)
+          (last_reading j q value).value
       by_name ByName l = named_last_law T outcome q value l
       by_name (OneWord z) l = tt
       by_name (EachWord z) l = tt

@@ -12,8 +12,8 @@ use Rattle.bpaf_base.specs.Items.{item_text}
 use Rattle.bpaf_line.specs.Situation.{Context}
 use Rattle.bpaf_laws.specs.Reading.{Outcome}
 use Rattle.bpaf_exact.specs.Flat.{FieldsLaw, FieldsReading, FieldKind, ByName, ReadOff, Variables}
-use Rattle.bpaf_exact.specs.Single.{Groups, Gap, IsMeant, FrontOf, Own, own_none, own_more, SingleLaw}
-use Rattle.bpaf_exact.specs.Single.{SingleValue, OwnList, listed}
+use Rattle.bpaf_exact.specs.Single.{Groups, Gap, IsMeant, FrontOf, Own, own_none, own_more}
+use Rattle.bpaf_exact.specs.Single.{SingleLaw, SingleValue, OwnList, listed}
 use Rattle.bpaf_exact.specs.Wrappers.{Closure, OptionalValue, FallbackValue}
 use Rattle.bpaf_exact.specs.Leaves.{FlagValue, ArgumentValue, WordValue, flag_field, LastGroup}
 use Rattle.bpaf_exact.specs.Leaves.{argument_field, argument_group, argument_roles}

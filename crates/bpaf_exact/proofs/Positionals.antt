@@ -1,6 +1,7 @@
 -- Positional words keep to the laws.
 use Rattle.std.proofs.Common.{◌≡◌, ℕ, Bool, true, false, List, [], ◌∷◌, Some, None, Ok, Err, refl}
-use Rattle.std.proofs.Common.{sym, ap, ◌∙◌, not, subst, true≢false, if◌then◌else◌, option_and_then, take}
+use Rattle.std.proofs.Common.{sym, ap, ◌∙◌, not, subst, true≢false, if◌then◌else◌, option_and_then}
+use Rattle.std.proofs.Common.{take}
 use Rattle.std.specs.Option.{option_map_or}
 use Rattle.bpaf_base.specs.declared.arg.Arg.{Arg}
 use Rattle.bpaf_base.specs.declared.arg.Arg.TheVariants.{Word, PosWord}
@@ -17,7 +18,8 @@ use Rattle.bpaf_exact.specs.Leaves.{WordEval, WordValue, word_by, word_fault, wo
 use Rattle.bpaf_exact.specs.Leaves.{word_missing}
 use Rattle.bpaf_exact.specs.{Flat.is_behind, Flat.Variables, Single.SingleLaw, Leaves.word_passed}
 use Rattle.bpaf_exact.specs.{Leaves.word_read, FlatForm.FormLaw}
-use Rattle.bpaf_exact.proofs.Fronts.{back_more, back_one, each_front, front_more, front_one, of_front_more}
+use Rattle.bpaf_exact.proofs.Fronts.{back_more, back_one, each_front, front_more, front_one}
+use Rattle.bpaf_exact.proofs.Fronts.{of_front_more}
 use Rattle.bpaf_exact.proofs.Matching.{match_of, ByTest, by_test, no_pieces, one_taken}
 use Rattle.bpaf_exact.proofs.{Fronts.of_front_one, Alternative.took_front, Places.take_steady}
 use Rattle.bpaf_exact.proofs.{Words.never_two, Cells.begin_at}
@@ -95,7 +97,8 @@ module _ (T : Type 0) (b : Bool) (value : LinePiece → T → Type 0)
 
   -- a value is that of the first word
   word_ok : {env : Variables} (s t : Situation) (v : T) → IsWholeIn env s
-      → WordEval T b value s (Ok v) t → SingleOk T (OneWord b) word_roles group (gap_of value None) s v t
+      → WordEval T b value s (Ok v) t
+      → SingleOk T (OneWord b) word_roles group (gap_of value None) s v t
   word_ok s t v w (word_read {p = p} {strict = strict} {text = text} takes y) =
       let m = took_word s t p strict text takes in
       let e = word_pieces m.takes in
@@ -105,7 +108,8 @@ module _ (T : Type 0) (b : Bool) (value : LinePiece → T → Type 0)
 
   -- a refusal: there is no word, or the first can't be read
   word_err : {env : Variables} (s t : Situation) (e : Error) → IsWholeIn env s
-      → WordEval T b value s (Err e) t → SingleErr T (OneWord b) word_roles group (gap_of value None) s e t
+      → WordEval T b value s (Err e) t
+      → SingleErr T (OneWord b) word_roles group (gap_of value None) s e t
   word_err s t e w (word_fault {p = p} {strict = strict} {text = text} takes before n c) =
       let m = took_word s t p strict text takes in
       let i = word_pieces m.takes in

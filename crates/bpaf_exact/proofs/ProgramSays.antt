@@ -16,8 +16,7 @@ use Rattle.bpaf_exact.specs.ProgramForm.{program_choice, program_choices, progra
 use Rattle.bpaf_exact.specs.ProgramForm.{whole_program, opened_form, program_command}
 use Rattle.bpaf_exact.specs.ProgramForm.{program_field, program_alone, program_both, program_con}
 use Rattle.bpaf_exact.specs.ProgramForm.{is_program, program_value, are_words_apart}
-use Rattle.bpaf_exact.specs.Programs.{CellsValue, CommandValue, ChoiceValue}
-use Rattle.bpaf_exact.specs.Programs.{OptionalCommands}
+use Rattle.bpaf_exact.specs.Programs.{CellsValue, CommandValue, ChoiceValue, OptionalCommands}
 use Rattle.bpaf_exact.specs.ProgramSays.{ProgramSaid, of_pieces, of_cells, ProgramFieldsSaid}
 use Rattle.bpaf_exact.specs.ProgramSays.{of_all_pieces, of_all_cells, IsSaid, ProgramFormSays}
 use Rattle.bpaf_exact.specs.ProgramSays.{program_kind, ProgramSays, ProgramFieldsFormSay}

@@ -9,7 +9,12 @@ use Rattle.bpaf_exact.specs.Flat.{FieldKind, ByName, OneWord, EachWord, FieldsRe
 use Rattle.bpaf_exact.specs.Single.{Groups, Gap, FrontOf, Own, own_none, own_more, OwnList, listed}
 use Rattle.bpaf_exact.specs.Single.{listed_and_absent, only_absent, SingleValue}
 use Rattle.bpaf_exact.specs.Wrappers.{Closure, OptionalValue, FallbackValue}
-use Rattle.bpaf_exact.specs.{Single.gap_of, Single.IsMeant}
+use Rattle.bpaf_exact.specs.{Single.gap_of, Single.IsMeant, Pieces.no_roles, Flat.back}
+use Rattle.bpaf_exact.specs.{Flat.both_reading, Flat.Variables, Single.repeated}
+use Rattle.bpaf_exact.specs.{Leaves.ArgumentValue, Leaves.WordValue, Leaves.word_by}
+use Rattle.bpaf_exact.specs.{FlatForm.flat_whole, Says.FieldsSay, Says.its_pieces, Says.words_after}
+use Rattle.bpaf_exact.specs.{Names.Owns, Names.are_all_apart, Gathered.LastOf}
+use Rattle.bpaf_exact.specs.{Alternative.either_value, Record.last_reading}
 use Rattle.bpaf_exact.specs.Leaves.{flag_field, flag_roles, FlagValue, argument_field}
 use Rattle.bpaf_exact.specs.Leaves.{argument_group, argument_roles, key_field, value_without_key}
 use Rattle.bpaf_laws.specs.Environment.{first_set}
@@ -28,14 +33,7 @@ use Rattle.bpaf_exact.specs.Says.{WordSays, EitherSays, says_this, says_that, Ma
 use Rattle.bpaf_exact.specs.Says.{OptionalSays, says_some, says_none, FallbackSays, says_own}
 use Rattle.bpaf_exact.specs.Says.{says_kept, FrontSays, RepeatSays, says_in_turn, says_alone}
 use Rattle.bpaf_exact.specs.Says.{LastSays, FieldsSaid, RecordSays, FormSays, Says, FieldsFormSays}
-use Rattle.bpaf_exact.specs.{Pieces.no_roles, Flat.back, Flat.both_reading}
-use Rattle.bpaf_exact.specs.{Flat.Variables, Single.repeated}
-use Rattle.bpaf_exact.specs.{Leaves.ArgumentValue}
-use Rattle.bpaf_exact.specs.{Leaves.WordValue, Leaves.word_by, FlatForm.flat_whole, Says.FieldsSay}
-use Rattle.bpaf_exact.specs.{Says.its_pieces, Says.words_after, Names.Owns, Names.are_all_apart}
-use Rattle.bpaf_exact.specs.{Gathered.LastOf, Alternative.either_value}
 use Rattle.std.specs.Prelude.{MatchBool}
-use Rattle.bpaf_exact.specs.{Record.last_reading}
 use Rattle.bpaf_exact.proofs.Sharing.{mine_rest, others_fit, others_rest, rest_fit, apart_none}
 use Rattle.bpaf_exact.proofs.Sharing.{each_own, first_fits, no_fits, own_fit, second_fits}
 use Rattle.bpaf_exact.proofs.Sharing.{mine_keyed, others_unkeyed, mine_within, first_within}

@@ -4,10 +4,10 @@ use Rattle.std.proofs.Common.{if◌then◌else◌, not, ◌++◌, ◌||◌, ◌�
 use Rattle.std.proofs.lemmas.List.Folds.{list_any-append}
 use Rattle.bpaf_base.specs.{Items.is_key_of, Items.is_positional, declared.arg.Arg.TheVariants.Word}
 use Rattle.bpaf_base.specs.{declared.arg.Arg.TheVariants.PosWord, declared.arg.Arg.Arg}
-use Rattle.bpaf_exact.specs.Pieces.{Cells, Cut, argument, at_end, flag, passed, word}
-use Rattle.bpaf_exact.specs.Pieces.{Takes, no_cells, empty_stays, other_stays, takes_flag}
-use Rattle.bpaf_exact.specs.Pieces.{takes_argument, Role, Foreign, Alone, WithNext, Roles, LinePiece, One}
-use Rattle.bpaf_exact.specs.Pieces.{Two, is_own_role, is_own, mine, others, either, either_role}
+use Rattle.bpaf_exact.specs.Pieces.{Cells, Cut, argument, at_end, flag, passed, word, Takes}
+use Rattle.bpaf_exact.specs.Pieces.{no_cells, empty_stays, other_stays, takes_flag, takes_argument}
+use Rattle.bpaf_exact.specs.Pieces.{Role, Foreign, Alone, WithNext, Roles, LinePiece, One, Two}
+use Rattle.bpaf_exact.specs.Pieces.{is_own_role, is_own, mine, others, either, either_role}
 use Rattle.bpaf_exact.specs.{Names.are_all_apart, Names.Owns, Names.is_key_of_any, Says.EachOwn}
 use Rattle.bpaf_exact.specs.{Says.Fits, Says.first_item, Says.keyed, Says.unkeyed, Flat.OneWord}
 use Rattle.bpaf_exact.specs.{FlatForm.may_follow}
@@ -207,7 +207,8 @@ module _ (q : Roles) (none : (k : Arg) → is_own_role (q k) ≡ false) where
   pub others_none : (os : List LinePiece) → others q os ≡ os
   others_none [] = refl
   others_none (o ∷ os) =
-      ap (λ c. if not c then (o ∷ others q os) else others q os) (own_first q o ∙ none (first_item o))
+      ap (λ c. if not c then (o ∷ others q os) else others q os)
+      (own_first q o ∙ none (first_item o))
       ∙ ap (λ z. o ∷ z) (others_none os)
 
 -- where no piece is another's, each is one's own
@@ -233,7 +234,8 @@ others_both q r (o ∷ os) =
         → others r (others q (o ∷ os)) ≡ others (either q r) (o ∷ os)
     by_role x first both h = (
         ap (λ c. others r (if not c then (o ∷ others q os) else others q os)) first ∙ by_own x h
-        ∙ sym (ap (λ c. if not c then (o ∷ others (either q r) os) else others (either q r) os) both)
+        ∙ sym (ap (λ c. if not c then (o ∷ others (either q r) os) else others (either q r) os)
+        both)
         )
       where
         by_own : (x : Role) → others r (others q os) ≡ others (either q r) os
@@ -244,7 +246,8 @@ others_both q r (o ∷ os) =
         by_own WithNext h = h
         by_own Foreign h =
             ap (λ c. if not c then (o ∷ others r (others q os)) else others r (others q os))
-            (own_first r o) ∙ ap (λ z. if not (is_own_role (r (first_item o))) then (o ∷ z) else z) h
+            (own_first r o)
+            ∙ ap (λ z. if not (is_own_role (r (first_item o))) then (o ∷ z) else z) h
 
 -- behind a positional field no item is another field's own
 pub none_behind : (r : Roles) (own behind : List Names) → Owns r behind

@@ -7,9 +7,8 @@ use Rattle.bpaf_exact.specs.Single.{listed_and_absent, only_absent, SingleValue,
 use Rattle.bpaf_exact.specs.Wrappers.{Closure, OptionalValue, FallbackValue}
 use Rattle.bpaf_exact.specs.FlatForm.{FlatForm, not_flat, alternative, single, complete, product}
 use Rattle.bpaf_exact.specs.FlatForm.{flat_closed, flat_optional, flat_fallback, flat_field, only_if}
-use Rattle.bpaf_exact.specs.{FlatForm.is_product}
-use Rattle.bpaf_exact.specs.{Pieces.Roles, Pieces.LinePiece, Gathered.LastOf, Alternative.HasBad}
-use Rattle.bpaf_exact.specs.{Record.last_reading, Leaves.key_field}
+use Rattle.bpaf_exact.specs.{FlatForm.is_product, Pieces.Roles, Pieces.LinePiece, Gathered.LastOf}
+use Rattle.bpaf_exact.specs.{Alternative.HasBad, Record.last_reading, Leaves.key_field}
 use Rattle.bpaf_exact.specs.{Leaves.word_by, Accepted.OneByOne, Accepted.AtMostOne}
 use Rattle.bpaf_exact.specs.{Accepted.HasNoSurplus, Accepted.IsPartOf}
 use Rattle.bpaf_exact.proofs.Alternative.{own_bad}

@@ -12,8 +12,7 @@ use Rattle.bpaf_exact.specs.FlatForm.{flat_field, is_record}
 use Rattle.bpaf_exact.specs.OneView.{Alike, HasOneView, pair_view}
 use Rattle.bpaf_exact.specs.Pieces.{Cells, LinePiece, Roles}
 use Rattle.bpaf_exact.specs.ProgramForm.{ProgramForm, are_words_apart, plain, program_value}
-use Rattle.bpaf_exact.specs.Programs.{CellsValue, ChoiceValue, CommandValue, FieldThen}
-use Rattle.bpaf_exact.specs.Programs.{Opens}
+use Rattle.bpaf_exact.specs.Programs.{CellsValue, ChoiceValue, CommandValue, FieldThen, Opens}
 use Rattle.bpaf_exact.proofs.BeforeCommands.{one_take}
 use Rattle.bpaf_exact.proofs.Commands.{opens_apart, opens_left, opens_right}
 use Rattle.bpaf_exact.proofs.OneView.{record_looks_one}

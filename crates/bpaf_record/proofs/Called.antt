@@ -20,8 +20,7 @@ use Rattle.bpaf_exact.specs.Names.{Owns}
 use Rattle.bpaf_exact.specs.Pieces.{Cells, LinePiece, Roles, Takes, no_cells, empty_stays}
 use Rattle.bpaf_exact.specs.Pieces.{other_stays, takes_argument, takes_flag, is_own_role}
 use Rattle.bpaf_exact.specs.ProgramForm.{ProgramForm}
-use Rattle.bpaf_exact.specs.Programs.{CellsValue}
-use Rattle.bpaf_exact.specs.Programs.{Opens, opens_here, opens_later}
+use Rattle.bpaf_exact.specs.Programs.{CellsValue, Opens, opens_here, opens_later}
 use Rattle.bpaf_exact.specs.Record.{line_cells}
 use Rattle.bpaf_record.specs.Program.{TellsOfWords}
 use Rattle.bpaf_record.specs.Spelled.{WasCalled, WasSpelled}
