@@ -37,6 +37,7 @@ launch_passes : (own : List (List ℕ)) (v : Launch) → IsLaunchValue own v
     → map string_bytes v.words.items ≡ words_behind own
 launch_passes own v value =
     let cut = value.read.cut_into in
+    let left = others (flag_roles dry_run_names) (others (flag_roles verbose_names) cut) in
     let launch = value.read.read in
     let words = launch.read.1.1 in
     let passed = (listed_says (list_closure String) {names = []}
@@ -44,7 +45,7 @@ launch_passes own v value =
     ap (λ launch. map string_bytes launch.words.items) launch.made
     ∙ (ap (map string_bytes) passed.made
     ∙ (texts_are _ passed.from (strict_words passed.told)
-    ∙ (name_before _ (name_says _ _ words.0)
+    ∙ (name_before left (name_says _ _ words.0)
     ∙ (flag_leaves dry_run_names (others (flag_roles verbose_names) cut)
     ∙ (flag_leaves verbose_names cut ∙ line_behind value.on_line (read_cut value.read))))))
 
