@@ -8,7 +8,8 @@ use Rattle.bpaf_line.specs.{Situation.Situation, Situation.with_current}
 use Rattle.bpaf_laws.specs.Argument.{TakesKeyWithText, HasNoKey, IsNowhere, ReadsVariable}
 use Rattle.bpaf_laws.specs.{Argument.is_key_with_value, Environment.first_set}
 use Rattle.bpaf_exact.specs.Flat.{ByName, Refused, Steady, cells, class, class_of, Variables}
-use Rattle.bpaf_exact.specs.Single.{Groups, gap_of, SingleErr, SingleOk, gave_absent, of_absent, of_missing}
+use Rattle.bpaf_exact.specs.Single.{Groups, gap_of, SingleErr, SingleOk, gave_absent, of_absent}
+use Rattle.bpaf_exact.specs.Single.{of_missing}
 use Rattle.bpaf_exact.specs.{Pieces.WithNext, Pieces.Roles, Pieces.Two, Pieces.IsNamed}
 use Rattle.bpaf_exact.specs.{Pieces.pieces, Alternative.TakesFirst}
 use Rattle.bpaf_exact.specs.{Leaves.argument_roles, Names.Owns}

@@ -11,7 +11,8 @@ use Rattle.bpaf_laws.specs.Environment.{first_set}
 use Rattle.bpaf_laws.specs.Repeat.{is_nil}
 use Rattle.bpaf_exact.specs.Flat.{ByName, class, class_of, cells, IsWholeIn, Variables}
 use Rattle.bpaf_exact.specs.Alternative.{AlternativeOk, AlternativeErr, alternative_memory}
-use Rattle.bpaf_exact.specs.Single.{FrontOf, Gap, gap_of, Groups, SingleErr, SingleLaw, SingleOk, took}
+use Rattle.bpaf_exact.specs.Single.{FrontOf, Gap, gap_of, Groups, SingleErr, SingleLaw, SingleOk}
+use Rattle.bpaf_exact.specs.Single.{took}
 use Rattle.bpaf_exact.specs.Leaves.{argument_roles, ArgumentValue, argument_field}
 use Rattle.bpaf_exact.specs.Leaves.{argument_group, key_field}
 use Rattle.bpaf_exact.specs.{Alternative.AlternativeLaw, Single.of_memory, Single.of_piece}
@@ -21,10 +22,9 @@ use Rattle.bpaf_exact.proofs.ArgumentPieces.{TookPair, named, nowhere, owns, too
 use Rattle.bpaf_exact.proofs.ArgumentPieces.{test, no_key, variable_fault, variable_read}
 use Rattle.bpaf_exact.proofs.Matching.{match_of, bare_taken, first_alternative, first_refused}
 use Rattle.bpaf_exact.proofs.{Matching.missing_same, Matching.absence_missing}
+use Rattle.bpaf_exact.proofs.{Classes.missing_class, First.first_pieces, First.first_takes}
+use Rattle.bpaf_exact.proofs.{First.takes_nonempty, LastArguments.last_argument_law}
 use Rattle.bpaf_exact.proofs.Alternative.{gap_empty, took_front}
-use Rattle.bpaf_exact.proofs.{Classes.missing_class, First.first_pieces}
-use Rattle.bpaf_exact.proofs.{First.first_takes, First.takes_nonempty}
-use Rattle.bpaf_exact.proofs.{LastArguments.last_argument_law}
 
 -- the text of an argument behind its key
 takes_pair : (argument : KeyWithValue) → argument.last ≡ false → (s t : Situation) (text : List ℕ)

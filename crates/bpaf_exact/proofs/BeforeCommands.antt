@@ -5,16 +5,14 @@ use Rattle.std.proofs.Common.{Result, Ok, Err, refl, sym, ap, ◌∙◌, subst, 
 use Rattle.bpaf_line.specs.{declared.error.Error.Error, Situation.Situation}
 use Rattle.bpaf_laws.specs.{Choice.depth, Product.BothOutcome, Product.ProductOutcome}
 use Rattle.bpaf_laws.specs.{Reading.Outcome}
-use Rattle.bpaf_exact.specs.Pieces.{Cells, Role, Foreign, Roles, LinePiece, One, Two, pieces}
-use Rattle.bpaf_exact.specs.Pieces.{Apart, is_own_role, IsNamed, TakesPiece, takes_one}
-use Rattle.bpaf_exact.specs.Pieces.{takes_two, takes_later, TakesPieces, takes_none, takes_more}
-use Rattle.bpaf_exact.specs.Pieces.{Takes, no_cells, empty_stays, other_stays, takes_flag}
-use Rattle.bpaf_exact.specs.Pieces.{takes_argument}
+use Rattle.bpaf_exact.specs.Pieces.{Cells, Role, Foreign, Roles, LinePiece, One, Two, pieces, Apart}
+use Rattle.bpaf_exact.specs.Pieces.{is_own_role, IsNamed, TakesPiece, takes_one, takes_two}
+use Rattle.bpaf_exact.specs.Pieces.{takes_later, TakesPieces, takes_none, takes_more, Takes}
+use Rattle.bpaf_exact.specs.Pieces.{no_cells, empty_stays, other_stays, takes_flag, takes_argument}
 use Rattle.bpaf_exact.specs.Flat.{OfMemory, class, cells, NonePresent, IsWholeIn, ByName, FieldLaw}
-use Rattle.bpaf_exact.specs.Programs.{CellsValue, FieldThen}
-use Rattle.bpaf_exact.specs.Programs.{LeavesToOthers, ProgramLaw}
-use Rattle.bpaf_exact.specs.Wrappers.{ClosedValue}
+use Rattle.bpaf_exact.specs.Programs.{CellsValue, FieldThen, LeavesToOthers, ProgramLaw}
 use Rattle.bpaf_exact.specs.Programs.{IsSpelledLine, AllSpelled, no_cell, empty_cell, spelled_cell}
+use Rattle.bpaf_exact.specs.Wrappers.{ClosedValue}
 use Rattle.bpaf_exact.specs.{Pieces.either, Pieces.either_role, Flat.Variables, Programs.GivesAll}
 use Rattle.bpaf_exact.specs.{Wrappers.map_closure}
 use Rattle.bpaf_exact.proofs.Product.{none_outside_after, values_of_both, RefusedBy, for_memory}

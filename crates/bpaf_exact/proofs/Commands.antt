@@ -18,12 +18,10 @@ use Rattle.bpaf_exact.specs.Record.{run_leftover, run_memory, run_refusal, IsAcc
 use Rattle.bpaf_exact.specs.Wrappers.{Closure, AgreesOn, ClosedEval, closed_yes, closed_no}
 use Rattle.bpaf_exact.specs.Wrappers.{closed_memory, closed_err, OptionalEval, optional_some}
 use Rattle.bpaf_exact.specs.Programs.{CellsValue, Opens, opens_here, opens_later, OpensNone}
-use Rattle.bpaf_exact.specs.Programs.{ChoiceValue, OptionalCommands}
-use Rattle.bpaf_exact.specs.Programs.{ProgramLaw}
+use Rattle.bpaf_exact.specs.Programs.{ChoiceValue, OptionalCommands, ProgramLaw, CommandsLaw}
+use Rattle.bpaf_exact.specs.Programs.{FindsNoCommand, WordsApart, IsSpelledLine, GivesAll}
 use Rattle.bpaf_exact.specs.Wrappers.{ClosedValue}
-use Rattle.bpaf_exact.specs.Programs.{CommandsLaw, FindsNoCommand, WordsApart, IsSpelledLine}
 use Rattle.bpaf_exact.specs.Wrappers.{optional_none, optional_err, optional_memory}
-use Rattle.bpaf_exact.specs.Programs.{GivesAll}
 use Rattle.bpaf_exact.specs.Pieces.{Cells, Roles, pieces, either}
 use Rattle.bpaf_exact.specs.Single.{Stops, nothing_found, caught, present_count}
 use Rattle.bpaf_exact.proofs.{BeforeCommands.apart_first, BeforeCommands.apart_second}

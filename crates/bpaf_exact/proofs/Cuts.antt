@@ -5,8 +5,8 @@ use Rattle.bpaf_base.specs.Items.{is_positional}
 use Rattle.bpaf_exact.specs.Flat.{NonePresent, no_place, none_here, ReadOff}
 use Rattle.bpaf_exact.specs.Pieces.{Cells, Role, Foreign, Alone, WithNext, Roles, LinePiece, One}
 use Rattle.bpaf_exact.specs.Pieces.{Two, IsNamed, Cut, at_end, passed, flag, argument, word, either}
-use Rattle.bpaf_exact.specs.Pieces.{word_roles, is_own_role, Takes, no_cells, empty_stays, other_stays}
-use Rattle.bpaf_exact.specs.Pieces.{takes_flag, takes_argument}
+use Rattle.bpaf_exact.specs.Pieces.{word_roles, is_own_role, Takes, no_cells, empty_stays}
+use Rattle.bpaf_exact.specs.Pieces.{other_stays, takes_flag, takes_argument}
 use Rattle.bpaf_exact.proofs.Cells.{word_foreign}
 
 -- two cuts of the same cells are one

@@ -22,18 +22,32 @@ behind_first os first behind e =
     subst (λ z. first ++ drop (length first) z ≡ z) e
     (ap (λ z. first ++ z) (drop-append_seam first behind))
 
--- what a field takes and what it leaves are all
+-- what a repeat takes and what it leaves are all
+each_back : (b : Bool) (os : List LinePiece)
+    → front (EachWord b) os ++ back (EachWord b) os ≡ os
+each_back false os = behind_first os os [] (append-nil os)
+each_back true os =
+    let n = position_or_len is_behind os in
+    behind_first os (take n os) (drop n os) (take-append-drop n os)
+
+-- so it is with any field
 front_back : (k : FieldKind) (os : List LinePiece) → front k os ++ back k os ≡ os
 front_back ByName os = append-nil os
-front_back (EachWord b) os =
-    let n = position_or_len (λ o. b && is_behind o) os in
-    behind_first os (take n os) (drop n os) (take-append-drop n os)
+front_back (EachWord b) os = each_back b os
 front_back (OneWord b) os =
-    let n = position_or_len (λ o. b && is_behind o) os in
-    let words = take n os in
-    behind_first os (take 1 words) (drop 1 words ++ drop n os)
-    (sym (append_assoc (take 1 words) (drop 1 words) (drop n os))
-    ∙ (ap (λ z. z ++ drop n os) (take-append-drop 1 words) ∙ take-append-drop n os))
+    let words = front (EachWord b) os in
+    let rest = back (EachWord b) os in
+    behind_first os (take 1 words) (drop 1 words ++ rest)
+    (sym (append_assoc (take 1 words) (drop 1 words) rest)
+    ∙ (ap (λ z. z ++ rest) (take-append-drop 1 words) ∙ each_back b os))
+
+-- of nothing it takes nothing
+pub front_nil : (k : FieldKind) → front k [] ≡ []
+front_nil ByName = refl
+front_nil (OneWord false) = refl
+front_nil (OneWord true) = refl
+front_nil (EachWord false) = refl
+front_nil (EachWord true) = refl
 
 -- where a field takes none it leaves all
 pub back_all : (k : FieldKind) (os : List LinePiece) → front k os ≡ [] → back k os ≡ os
@@ -69,7 +83,8 @@ no_keys_left _ q cs os e = tt
 pub each_front : (b : Bool) (o : LinePiece) (os : List LinePiece)
     → front (EachWord b) (o ∷ os)
     ≡ (if not (b && is_behind o) then (o ∷ front (EachWord b) os) else [])
-each_front b o os = take_while-cons (λ o. not (b && is_behind o)) o os
+each_front false o os = refl
+each_front true o os = take_while-cons (λ o. not (is_behind o)) o os
 
 -- A first piece that a field may take: any, where it doesn't stop before one behind `--`.
 
@@ -109,7 +124,8 @@ of_front_one b os o e =
 pub of_front_more : (b : Bool) (os : List LinePiece) (o : LinePiece) (rest : List LinePiece)
     → front (EachWord b) os ≡ o ∷ rest
     → (more : List LinePiece) × (os ≡ o ∷ more) × (rest ≡ front (EachWord b) more)
-of_front_more b [] o rest e = absurd cc
+of_front_more b [] o rest e =
+    let none : [] ≡ o ∷ rest = sym (front_nil (EachWord b)) ∙ e in absurd cc
 of_front_more b (x ∷ os) o rest e =
     elim (b && is_behind x)
     as (λ z. (if not z then (x ∷ front (EachWord b) os) else []) ≡ o ∷ rest

@@ -11,7 +11,8 @@ use Rattle.bpaf_laws.specs.Argument.{TakesOwnText, TakesBefore, is_key_with_valu
 use Rattle.bpaf_laws.specs.Environment.{first_set}
 use Rattle.bpaf_exact.specs.Pieces.{Roles, LinePiece, One, Two, pieces, takes_none, takes_more}
 use Rattle.bpaf_exact.specs.Flat.{class, class_of, cells, IsWholeIn, ByName, Steady, Refused}
-use Rattle.bpaf_exact.specs.Single.{Gap, gap_of, TakesAny, SingleOk, took, SingleErr, of_memory, of_piece}
+use Rattle.bpaf_exact.specs.Single.{Gap, gap_of, TakesAny, SingleOk, took, SingleErr, of_memory}
+use Rattle.bpaf_exact.specs.Single.{of_piece}
 use Rattle.bpaf_exact.specs.Leaves.{argument_roles}
 use Rattle.bpaf_exact.specs.{Flat.Variables, Single.SingleLaw, Leaves.LastGroup}
 use Rattle.bpaf_exact.proofs.ArgumentPieces.{TookPair, test, named, took_pair, no_key, nowhere}
@@ -153,7 +154,13 @@ module _ (T : Type 0) (means : List ℕ → T → Type 0) (argument : KeyWithVal
   last_read s t text v got m =
       let a = got.pieces_are in
       let group : (rest : List LinePiece) → rest ≡ []
-      → LastGroup T means (pieces q (cells s)) v rest = (λ rest none. (a.before, (a.key, a.word), whole s t text got, subst (λ z. means z v) (sym a.text_is) m, none)) in
+      → LastGroup T means (pieces q (cells s)) v rest = (λ rest none. (
+        a.before,
+        (a.key, a.word),
+        whole s t text got,
+        subst (λ z. means z v) (sym a.text_is) m,
+        none,
+      )) in
       took (record {
         steady = a.steady;
         takes = a.any;

@@ -19,7 +19,7 @@ use Rattle.bpaf_exact.specs.Leaves.{word_missing}
 use Rattle.bpaf_exact.specs.{Flat.is_behind, Flat.Variables, Single.SingleLaw, Leaves.word_passed}
 use Rattle.bpaf_exact.specs.{Leaves.word_read, ProgramForm.FormLaw}
 use Rattle.bpaf_exact.proofs.Fronts.{back_more, back_one, each_front, front_more, front_one}
-use Rattle.bpaf_exact.proofs.Fronts.{of_front_more}
+use Rattle.bpaf_exact.proofs.Fronts.{front_nil, of_front_more}
 use Rattle.bpaf_exact.proofs.Matching.{match_of, ByTest, by_test, no_pieces, one_taken}
 use Rattle.bpaf_exact.proofs.{Fronts.of_front_one, Alternative.took_front, Places.take_steady}
 use Rattle.bpaf_exact.proofs.{Words.never_two, Cells.begin_at}
@@ -122,7 +122,8 @@ module _ (T : Type 0) (b : Bool) (value : LinePiece → T → Type 0)
       n m.word x m.text_is (subst (λ z. value z x) j y.2))
   word_err s t e w (word_missing none c) =
       of_missing (catch_missing c) refl
-      (ap (front (OneWord b)) (no_pieces is_positional word_roles Alone s test none)) (λ c. refl)
+      (ap (front (OneWord b)) (no_pieces is_positional word_roles Alone s test none)
+      ∙ front_nil (OneWord b)) (λ c. refl)
   word_err s t e w (word_passed {p = p} {text = text} h takes c) =
       let m = took_word s t p true text takes in
       of_missing (catch_other c) refl

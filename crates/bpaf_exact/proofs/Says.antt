@@ -33,9 +33,8 @@ use Rattle.bpaf_exact.specs.{Pieces.no_roles, Flat.back, Flat.both_reading}
 use Rattle.bpaf_exact.specs.{Flat.Variables, Single.repeated, Leaves.ArgumentValue}
 use Rattle.bpaf_exact.specs.{Leaves.WordValue, Leaves.word_by, Says.FieldsSay}
 use Rattle.bpaf_exact.specs.{Says.its_pieces, Says.words_after, Names.Owns, Names.are_all_apart}
-use Rattle.bpaf_exact.specs.{Gathered.LastOf, Alternative.either_value}
+use Rattle.bpaf_exact.specs.{Gathered.LastOf, Alternative.either_value, Record.last_reading}
 use Rattle.std.specs.Prelude.{MatchBool}
-use Rattle.bpaf_exact.specs.{Record.last_reading}
 use Rattle.bpaf_exact.proofs.Sharing.{mine_rest, others_fit, others_rest, rest_fit, apart_none}
 use Rattle.bpaf_exact.proofs.Sharing.{each_own, first_fits, no_fits, own_fit, second_fits}
 use Rattle.bpaf_exact.proofs.Sharing.{mine_keyed, others_unkeyed, mine_within, first_within}

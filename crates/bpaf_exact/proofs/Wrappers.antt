@@ -11,9 +11,8 @@ use Rattle.bpaf_exact.specs.Single.{ReadsWords, SingleLaw, SingleValue, CanCatch
 use Rattle.bpaf_exact.specs.Wrappers.{Closure, Decides, AgreesOn, ClosedEval, closed_yes, closed_no}
 use Rattle.bpaf_exact.specs.Wrappers.{closed_memory, closed_err, ClosedValue, OptionalEval}
 use Rattle.bpaf_exact.specs.Wrappers.{optional_some, optional_none, optional_err, optional_memory}
-use Rattle.bpaf_exact.specs.Wrappers.{OptionalValue, FallbackEval}
-use Rattle.bpaf_exact.specs.Wrappers.{fallback_ok, fallback_given, fallback_no, fallback_memory}
-use Rattle.bpaf_exact.specs.Wrappers.{fallback_err, FallbackValue}
+use Rattle.bpaf_exact.specs.Wrappers.{OptionalValue, FallbackEval, fallback_ok, fallback_given}
+use Rattle.bpaf_exact.specs.Wrappers.{fallback_no, fallback_memory, fallback_err, FallbackValue}
 use Rattle.bpaf_exact.specs.Flat.{FieldTook, FieldLaw, Variables}
 use Rattle.bpaf_exact.specs.Pieces.{Roles, LinePiece, pieces, takes_none}
 use Rattle.bpaf_exact.proofs.Repeat.{any_some, same_takes, catch_none, stopped_by, stops_by}

@@ -1,6 +1,5 @@
 -- Required flags and arguments, and choices of them: each piece has its value by itself.
-use Rattle.std.specs.Prelude.{◌≡◌, true, List, [], ◌∷◌, Option, Some, None, Ok, Err}
-use Rattle.std.specs.Prelude.{◌⊎◌, MatchBool}
+use Rattle.std.specs.Prelude.{◌≡◌, true, List, [], ◌∷◌, Option, Some, None, Ok, Err, ◌⊎◌, MatchBool}
 use Rattle.bpaf_base.specs.declared.arg.Arg.{Arg}
 use Rattle.bpaf_line.specs.declared.error.Error.{Error}
 use Rattle.bpaf_line.specs.Situation.{Situation}

@@ -1,7 +1,7 @@
 -- What a flat field keeps to when it is evaluated: its answer and what it takes depend on its own
 -- pieces alone.
 use Rattle.std.specs.Prelude.{◌≡◌, ◌<◌, ℕ, zero, suc, Bool, true, false, List, [], ◌∷◌, length}
-use Rattle.std.specs.Prelude.{Option, None, Ok, Err, ◌&&◌, not, take, drop, filter}
+use Rattle.std.specs.Prelude.{Option, None, Ok, Err, if◌then◌else◌, not, take, drop, filter}
 use Rattle.std.specs.List.{before_first}
 use Rattle.bpaf_base.specs.declared.arg.Arg.{Arg}
 use Rattle.bpaf_line.specs.declared.error.Error.{Error}
@@ -90,8 +90,8 @@ is_behind (Two k w) = false
 -- without a repeat one of them, if there is one.
 abbrev pub portion : FieldKind → Roles → List LinePiece → List LinePiece
 portion ByName q os = filter (is_own q) os
-portion (OneWord stops) q os = take 1 (before_first (λ o. stops && is_behind o) os)
-portion (EachWord stops) q os = before_first (λ o. stops && is_behind o) os
+portion (OneWord stops) q os = take 1 (if stops then before_first is_behind os else os)
+portion (EachWord stops) q os = if stops then before_first is_behind os else os
 
 -- what it leaves to the fields after it
 abbrev pub left : FieldKind → Roles → List LinePiece → List LinePiece

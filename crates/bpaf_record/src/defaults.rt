@@ -1,5 +1,5 @@
 //! Fields that may be missing, and commands that may be left out.
-ghost use Rattle.std.specs.Prelude.{◌≡◌, true};
+ghost use Rattle.std.specs.Prelude.{◌≡◌, true, Ok, Err};
 ghost use Rattle.bpaf_record.specs.Grammar.{command_words, keys_of, program_form};
 
 use crate::field::{FlatField, ProgramField};
@@ -85,19 +85,20 @@ impl<T: Clone, P: FlatField<T>> FlatField<T> for ParseFallback<P, T> {}
 /// The closure must not refuse where it may give a value.
 impl<T, E: Display + Drop, P: ProgramField<T>, F: Fn() -> Result<T, E>> ProgramField<T>
     for ParseFallbackWith<T, P, F, E> {
-    ghost use Rattle.bpaf_exact.specs.Wrappers.{Decides, answer_closure};
+    ghost use Rattle.bpaf_exact.specs.Wrappers.{answer_closure, parse_closure};
     ghost use Rattle.bpaf_exact.specs.ProgramSays.{said_fallback};
     ghost use Rattle.bpaf_exact.proofs.ByTables.{fallback_with_law};
     ghost use Rattle.bpaf_exact.proofs.ProgramSays.{program_fallback_says};
     ghost use Rattle.bpaf_record.specs.Grammar.{fallback};
 
     ghost grammar = { λ p.
-        fallback (answer_closure (λ r. F.post p.fallback r)) (P.grammar p.inner) };
+        fallback (parse_closure (λ u r. F.post p.fallback r)) (P.grammar p.inner) };
 
     ghost says = { λ variables. said_fallback (λ p. p.inner)
         (λ p. answer_closure (λ r. F.post p.fallback r)) (P.says variables) };
 
-    ghost agrees = { λ p. P.agrees p.inner × Decides (answer_closure (λ r. F.post p.fallback r)) };
+    ghost agrees = { λ p. P.agrees p.inner × ((v : T) (fault : E) → F.post p.fallback (Ok v)
+        → F.post p.fallback (Err fault) → ⊥) };
 
     #[tactic(auto, using(crate::proofs::Parts::fallback_part_is))]
     fn part(&self) -> ProgramPart {
@@ -114,7 +115,8 @@ impl<T, E: Display + Drop, P: ProgramField<T>, F: Fn() -> Result<T, E>> ProgramF
 
     ghost law = { λ p a variables. fallback_with_law variables T _ _ (λ r. F.post p.fallback r)
         E.output (keys_of (P.grammar p.inner) true) (command_words (P.grammar p.inner))
-        (program_form (P.grammar p.inner) variables) a.1 (P.law p.inner a.0 variables) };
+        (program_form (P.grammar p.inner) variables) (λ u v y n. a.1 v n.0 y n.1)
+        (P.law p.inner a.0 variables) };
 
     ghost said = { λ p a variables. program_fallback_says (λ p. p.inner) p
         (P.said p.inner a.0 variables) (λ p. answer_closure (λ r. F.post p.fallback r)) };

@@ -25,7 +25,7 @@ returns c =
           λ variables. closure_agrees _ (λ x v made refused. search rules) _
               (argument_one (number_one 64) fields.rest.first.inner variables),
         ),
-        (tt, λ x v made refused. search rules),
+        (tt, λ v fault made refused. search rules),
       ),
     ))
     (λ dimming told. told_of_line told (map string_bytes c.args.words.now) (search rules)
