@@ -20,11 +20,12 @@ use Rattle.bpaf_laws.specs.Reading.{Outcome, Share, Readings, HasItem, IsPlace, 
 use Rattle.bpaf_laws.specs.Repeat.{EachReads, ListReads, CountOutcome}
 use Rattle.bpaf_laws.specs.Transform.{MapReads}
 use Rattle.bpaf_batteries.proofs.Keys.{not_both}
+use Rattle.bpaf_batteries.specs.Level.{IsLevelOf}
 use Rattle.bpaf_batteries.specs.Keys.{is_key, MustStand, AreKeysApart, KeyOutcome, KeyReads}
 use Rattle.bpaf_laws.specs.Spared.{IsNotMemory, WithoutMemory}
 use Rattle.bpaf_laws.proofs.ProductSparing.{both_spares, product_spares}
 use Rattle.bpaf_batteries.specs.Verbosity.{CountsSpared}
-use Rattle.bpaf_batteries.specs.Verbosity.{CountsOutcome, CountsReads, IsLevelOf, keys_in}
+use Rattle.bpaf_batteries.specs.Verbosity.{CountsOutcome, CountsReads, keys_in}
 use Rattle.bpaf_batteries.specs.Verbosity.{keys_taken, KeysAreCounted, PicksItem, VerbosityCounts}
 use Rattle.bpaf_batteries.specs.Verbosity.{VerbosityPicks}
 use Rattle.bpaf_batteries.specs.VerbosityLaws.{counts_lawful}

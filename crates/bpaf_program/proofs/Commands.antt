@@ -3,6 +3,7 @@ use Rattle.std.proofs.Common.{◌≡◌, ◌∷◌, Bool, true, false, List, [],
 use Rattle.std.proofs.Common.{IfOk, ap}
 use Rattle.std.proofs.Common.{ℕ, subst, ⊎_elim}
 use Rattle.std.specs.Result.{IfErr}
+use Rattle.std.specs.Global.{Vec}
 use Rattle.bpaf_doc.specs.declared.doc.Piece.{Piece}
 use Rattle.bpaf_doc.specs.Shape.{Shape}
 use Rattle.bpaf_words.specs.Arguments.{Given}
@@ -10,8 +11,8 @@ use Rattle.bpaf_words.specs.Spelling.{Known}
 use Rattle.bpaf_line.specs.declared.failure.ParseFailure.{ParseFailure}
 use Rattle.bpaf_line.specs.declared.failure.ParseFailure.TheVariants as failure
 use Rattle.bpaf_laws.specs.Choice.{ChoiceDescribes, ChoiceOutcome, ChoiceReads}
-use Rattle.bpaf_laws.specs.Command.{Called, CommandDescribes, CommandPart, named_only}
-use Rattle.bpaf_laws.specs.Command.{opening_words}
+use Rattle.bpaf_laws.specs.Command.{Called, CommandDescribes, CommandPart, CommandReads}
+use Rattle.bpaf_laws.specs.Command.{named_only, opening_words}
 use Rattle.bpaf_laws.specs.Laws.{Lawful}
 use Rattle.bpaf_laws.specs.Reading.{Outcome, Readings}
 use Rattle.bpaf_laws.specs.OneStretch.{StretchReads}

@@ -2,6 +2,7 @@
 use Rattle.std.proofs.Common.{◌≡◌, Bool, true, false, ℕ, List, [], ◌∷◌, Some, Result, Ok, Err, IfOk}
 use Rattle.std.proofs.Common.{refl, subst, sym}
 use Rattle.std.specs.Result.{IfErr}
+use Rattle.std.specs.Global.{Vec}
 use Rattle.bpaf_doc.specs.declared.doc.Piece.{Piece}
 use Rattle.bpaf_doc.specs.Names.{Names}
 use Rattle.bpaf_doc.specs.Shape.{Shape, And, Many, Optional, members}

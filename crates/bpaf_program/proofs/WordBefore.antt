@@ -1,6 +1,6 @@
 -- A word that must stand before `--`, where no argument is known by a short name, is one of the
 -- words there.
-use Rattle.std.proofs.Common.{◌≡◌, ℕ, Bool, true, not, List, Option, Some, refl, subst}
+use Rattle.std.proofs.Common.{◌≡◌, ℕ, Bool, true, false, not, List, Option, Some, refl, subst}
 use Rattle.std.proofs.Common.{ap, option_and_then}
 use Rattle.std.specs.Prelude.{option_map}
 use Rattle.std.specs.List.{Contains}
@@ -8,7 +8,7 @@ use Rattle.bpaf_base.specs.declared.arg.Arg.{Arg}
 use Rattle.bpaf_base.specs.declared.arg.Arg.TheVariants.{Word}
 use Rattle.bpaf_words.specs.Arguments.{Given}
 use Rattle.bpaf_base.specs.Items.{word_text}
-use Rattle.bpaf_words.specs.Spelling.{IsArgument, Known}
+use Rattle.bpaf_words.specs.Spelling.{IsKnownAs, Known}
 use Rattle.bpaf_line.specs.Constructing.{IsContext}
 use Rattle.bpaf_line.specs.Situation.{Context, item_in}
 use Rattle.bpaf_laws.specs.Reading.{Share}
@@ -28,7 +28,7 @@ left_word at strict text is left =
 
 -- the text of a word that is read before `--` is one of the words there
 pub word_before : {T : Type 0} {means : List ℕ → T → Type 0} (known : Known)
-    → ((c : ℕ) → ¬ (IsArgument known.names c)) → (given : Given) {context : Context} {share : Share}
+    → ((c : ℕ) → ¬ (IsKnownAs false true known.names c)) → (given : Given) {context : Context} {share : Share}
     {v : T} → IsContext known given context
     → (read : PositionalReads T means NonStrict context share v)
     → Contains (words_before given.words) read.text

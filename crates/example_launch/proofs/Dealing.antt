@@ -57,7 +57,7 @@ launch_asked own (Ok v) dealt exact =
       named = subst (λ launch. Contains (words_before own) (string_bytes launch.name))
           (sym dealt.read.made)
           (subst (Contains (words_before own)) (sym found.meant)
-          (word_before program_known (λ c is. absurd (true≢false (sym is.argument)))
+          (word_before program_known (λ c is. absurd (true≢false (sym is.as_argument)))
           (program_given own) dealt.is_context found));
       passed = launch_passes own v exact.sound;
     }
