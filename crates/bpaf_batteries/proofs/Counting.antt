@@ -1,6 +1,6 @@
 -- Counted keys: what two counts read are as many keys of each flag.
 use Rattle.std.proofs.Common.{◌≡◌, ◌≢◌, ℕ, ◌+◌, ◌<◌, ◌==◌, ◌&&◌, ◌||◌, Bool, true, false, List, []}
-use Rattle.std.proofs.Common.{◌∷◌, length, slice_get, Result, Ok, Err, IfOk, ℤ, pos, Option, Some}
+use Rattle.std.proofs.Common.{◌∷◌, length, slice_get, Result, Ok, Err, IfOk, ℤ, Option, Some}
 use Rattle.std.proofs.Common.{None, refl, sym, ◌∙◌, subst, arith, ⊎_elim, inl, inr, true≢false, if◌then◌else◌}
 use Rattle.std.proofs.lemmas.Bool.{cases_eq, eq-eqb, ne_eqb}
 use Rattle.std.proofs.lemmas.Option.{slice_get_within}
@@ -15,13 +15,13 @@ use Rattle.bpaf_laws.proofs.CountingLaws.{count_below-joined}
 use Rattle.bpaf_laws.specs.Environment.{first_set}
 use Rattle.bpaf_laws.specs.Flag.{FlagReads, value_without_key}
 use Rattle.bpaf_laws.specs.Laws.{newly}
-use Rattle.bpaf_laws.specs.Product.{BothOutcome, BothReads}
+use Rattle.bpaf_laws.specs.Product.{BothOutcome}
 use Rattle.bpaf_laws.specs.Reading.{Outcome, Share, Readings, HasItem, IsPlace, Joins}
 use Rattle.bpaf_laws.specs.Repeat.{EachReads, ListReads, CountOutcome}
 use Rattle.bpaf_laws.specs.Transform.{MapReads}
 use Rattle.bpaf_batteries.proofs.Keys.{not_both}
 use Rattle.bpaf_batteries.specs.Level.{IsLevelOf}
-use Rattle.bpaf_batteries.specs.Keys.{is_key, MustStand, AreKeysApart, KeyOutcome, KeyReads}
+use Rattle.bpaf_batteries.specs.Keys.{is_key, MustStand, AreKeysApart, KeyOutcome}
 use Rattle.bpaf_laws.specs.Spared.{IsNotMemory, WithoutMemory}
 use Rattle.bpaf_laws.proofs.ProductSparing.{both_spares, product_spares}
 use Rattle.bpaf_batteries.specs.Verbosity.{CountsSpared}

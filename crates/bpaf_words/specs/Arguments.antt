@@ -2,7 +2,6 @@
 use Rattle.std.specs.Prelude.{◌≡◌, ℕ, List, [], map, Option, None, option_map, string_bytes, String}
 use Rattle.std.specs.declared.collections.BTreeMap.{BTreeMap}
 use Rattle.std.specs.declared.alloc.Global.{Global}
-use Rattle.std.specs.Borrow.{Bor}
 use Rattle.std.specs.Option.{option_map_or}
 use Rattle.bpaf_words.specs.declared.args.Words.{Words}
 use Rattle.bpaf_words.specs.declared.args.Words.TheVariants.{Strs, Strings}
