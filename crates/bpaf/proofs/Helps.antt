@@ -4,7 +4,7 @@ use Rattle.bpaf_doc.specs.declared.doc.Piece.{Piece}
 use Rattle.bpaf_text.specs.Named.{Named, KeyWithValue, with_help}
 use Rattle.bpaf_line.specs.Situation.{Context}
 use Rattle.bpaf_laws.specs.Argument.{IsKeyBefore, IsOwnText, ArgumentReads}
-use Rattle.bpaf_laws.specs.Flag.{FlagReads}
+use Rattle.bpaf_laws.specs.Flag.{FlagReads, at_key, nowhere}
 use Rattle.bpaf_laws.specs.Reading.{Share}
 
 -- what a flag with a help reads it reads without
@@ -12,7 +12,10 @@ pub flag_without_help : (T : Type 0) (clones : T → T → Type 0) (named : Name
     (present : T) (absent : Option T) (context : Context) (share : Share) (v : T)
     → FlagReads T clones (with_help named help) present absent context share v
     → FlagReads T clones named present absent context share v
-flag_without_help T clones named help present absent context share v read = read
+flag_without_help T clones named help present absent context share v (at_key key has alone is) =
+    at_key key has alone is
+flag_without_help T clones named help present absent context share v (nowhere none is) =
+    nowhere none is
 
 -- the key with this help
 abbrev pub key_with_help : KeyWithValue → List Piece → KeyWithValue

@@ -2,7 +2,7 @@
 use Rattle.std.specs.Prelude.{ℕ, Bool, true, false, not, ◌&&◌, ◌==◌, List, ◌++◌, Option, Some, None}
 use Rattle.std.specs.Prelude.{bytes_eq, codes, encode_utf8}
 use Rattle.std.specs.List.{list_any}
-use Rattle.std.specs.Option.{option_map_or}
+use Rattle.std.specs.Option.{is_some, option_map_or}
 use Rattle.bpaf_base.specs.Names.{Names}
 use Rattle.bpaf_base.specs.declared.arg.Arg.{Arg}
 use Rattle.bpaf_base.specs.declared.arg.Arg.TheVariants.{Short, Long, ArgWord, Word, PosWord}
@@ -38,17 +38,15 @@ value_text (ArgWord text) = Some text
 value_text (Word text) = Some text
 value_text _ = None
 
--- a Word or a PosWord
-abbrev pub is_positional : Arg → Bool
-is_positional (Word text) = true
-is_positional (PosWord text) = true
-is_positional _ = false
-
 -- whether it is a PosWord, and its text
 abbrev pub word_text : Arg → Option (Bool × List ℕ)
 word_text (Word text) = Some (false, text)
 word_text (PosWord text) = Some (true, text)
 word_text _ = None
+
+-- a Word or a PosWord
+abbrev pub is_positional : Arg → Bool
+is_positional item = is_some (word_text item)
 
 -- the text of an item: of a key its whole word
 abbrev pub item_text : Arg → List ℕ

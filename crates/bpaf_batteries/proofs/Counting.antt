@@ -1,7 +1,7 @@
 -- Counted keys: what two counts read are as many keys of each flag.
 use Rattle.std.proofs.Common.{◌≡◌, ◌≢◌, ℕ, ◌+◌, ◌<◌, ◌==◌, ◌&&◌, ◌||◌, Bool, true, false, List, []}
-use Rattle.std.proofs.Common.{◌∷◌, length, slice_get, Result, Ok, Err, IfOk, ℤ, pos, Option, Some}
-use Rattle.std.proofs.Common.{None, refl, sym, ◌∙◌, subst, arith, ⊎_elim, inl, inr, true≢false, if◌then◌else◌}
+use Rattle.std.proofs.Common.{◌∷◌, length, slice_get, Result, Ok, Err, IfOk, ℤ, Option, Some}
+use Rattle.std.proofs.Common.{None, refl, sym, ◌∙◌, subst, arith, ⊎_elim, true≢false, if◌then◌else◌}
 use Rattle.std.proofs.lemmas.Bool.{cases_eq, eq-eqb, ne_eqb}
 use Rattle.std.proofs.lemmas.Option.{slice_get_within}
 use Rattle.std.specs.Option.{option_map_or, IsSomeRelated}
@@ -13,18 +13,19 @@ use Rattle.bpaf_line.specs.Situation.{Situation, Context, item_in, is_marker, co
 use Rattle.bpaf_line.specs.Situation.{with_current}
 use Rattle.bpaf_laws.proofs.CountingLaws.{count_below-joined}
 use Rattle.bpaf_laws.specs.Environment.{first_set}
-use Rattle.bpaf_laws.specs.Flag.{FlagReads, value_without_key}
+use Rattle.bpaf_laws.specs.Flag.{FlagReads, at_key, nowhere, value_without_key}
 use Rattle.bpaf_laws.specs.Laws.{newly}
-use Rattle.bpaf_laws.specs.Product.{BothOutcome, BothReads}
+use Rattle.bpaf_laws.specs.Product.{BothOutcome}
 use Rattle.bpaf_laws.specs.Reading.{Outcome, Share, Readings, HasItem, IsPlace, Joins}
 use Rattle.bpaf_laws.specs.Repeat.{EachReads, ListReads, CountOutcome}
 use Rattle.bpaf_laws.specs.Transform.{MapReads}
 use Rattle.bpaf_batteries.proofs.Keys.{not_both}
-use Rattle.bpaf_batteries.specs.Keys.{is_key, MustStand, AreKeysApart, KeyOutcome, KeyReads}
+use Rattle.bpaf_batteries.specs.Level.{IsLevelOf}
+use Rattle.bpaf_batteries.specs.Keys.{is_key, MustStand, AreKeysApart, KeyOutcome}
 use Rattle.bpaf_laws.specs.Spared.{IsNotMemory, WithoutMemory}
 use Rattle.bpaf_laws.proofs.ProductSparing.{both_spares, product_spares}
 use Rattle.bpaf_batteries.specs.Verbosity.{CountsSpared}
-use Rattle.bpaf_batteries.specs.Verbosity.{CountsOutcome, CountsReads, IsLevelOf, keys_in}
+use Rattle.bpaf_batteries.specs.Verbosity.{CountsOutcome, CountsReads, keys_in}
 use Rattle.bpaf_batteries.specs.Verbosity.{keys_taken, KeysAreCounted, PicksItem, VerbosityCounts}
 use Rattle.bpaf_batteries.specs.Verbosity.{VerbosityPicks}
 use Rattle.bpaf_batteries.specs.VerbosityLaws.{counts_lawful}
@@ -67,24 +68,23 @@ module _ {T : Type 0} (clones : T → T → Type 0) (flag : ParseFlag T) (stands
 
   -- it reads one key
   one_key : (share : Share) (v : T) → reads_key context share v → AreKeys flag context share 1
-  one_key share v (inl here) = record {
+  one_key share v (at_key key has is value) = record {
     keys = λ p there. subst (HasItem (is_key flag) context)
-        (sym (at_place p (sym (here.2 p) ∙ there))) here.1;
+        (sym (at_place p (sym (is p) ∙ there))) has;
     number =
-        one_place share here.0 (length context.line) here.2
-        (item_within (is_key flag) context here.0 here.1);
+        one_place share key (length context.line) is (item_within (is_key flag) context key has);
   }
     where
-      at_place : (p : ℕ) → (p == here.0) ≡ true → p ≡ here.0
+      at_place : (p : ℕ) → (p == key) ≡ true → p ≡ key
       at_place p e = ⊎_elim
-          (λ (same : p ≡ here.0). same)
-          (λ (other : p ≢ here.0). absurd (true≢false (sym e ∙ ne_eqb p here.0 other)))
-          (cases_eq p here.0)
-  one_key share v (inr none) =
+          (λ (same : p ≡ key). same)
+          (λ (other : p ≢ key). absurd (true≢false (sym e ∙ ne_eqb p key other)))
+          (cases_eq p key)
+  one_key share v (nowhere none kept) =
       absurd (subst (λ absent. IsSomeRelated clones absent v) stands.required
       (subst (λ envs. IsSomeRelated clones
       (value_without_key flag.present flag.absent (first_set context.env envs)) v)
-      stands.on_the_line none.1))
+      stands.on_the_line kept))
 
   -- one share of keys and another make a share of keys
   more_keys : (own rest share : Share) (n : ℕ) → Joins own rest share

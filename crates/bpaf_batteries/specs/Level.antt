@@ -1,7 +1,9 @@
 -- A level within bounds.
-use Rattle.std.specs.Prelude.{ℕ, ℤ, pos, ◌+ℤ◌, ◌-ℤ◌}
+use Rattle.std.specs.Prelude.{◌≡◌, ℕ, ℤ, pos, ◌+ℤ◌, ◌-ℤ◌}
 use Rattle.std.specs.Int.{int_max, int_min}
 
--- an offset plus a first count minus a second one; or the bound that this passes
-abbrev pub level : (offset min max : ℤ) → (more fewer : ℕ) → ℤ
-level offset min max more fewer = int_max min (int_min ((offset +ℤ pos more) -ℤ pos fewer) max)
+-- the level of two counts: an offset plus the first one minus the second one; or the bound that
+-- this passes
+abbrev pub IsLevelOf : (offset min max : ℤ) → ℕ × ℕ → ℤ → Type 0
+IsLevelOf offset min max counts v =
+    v ≡ int_max min (int_min ((offset +ℤ pos counts.0) -ℤ pos counts.1) max)

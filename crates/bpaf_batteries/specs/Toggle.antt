@@ -1,7 +1,6 @@
 -- A toggle: the last value of two keys that may each stand any number of times.
 use Rattle.std.specs.Prelude.{◌≡◌, ◌⊎◌, ◌<◌, ◌++◌, ◌∷◌, [], ℕ, Bool, true, false, List, Option}
 use Rattle.std.specs.Prelude.{Some, None}
-use Rattle.std.specs.Global.{Vec}
 use Rattle.std.specs.List.{last_or}
 use Rattle.bpaf_doc.specs.Shape.{Shape}
 use Rattle.bpaf_text.specs.declared.params.ParseFlag.{ParseFlag}

@@ -13,7 +13,7 @@ use Rattle.bpaf_laws.specs.Product.{ProductDescribes, ProductOutcome}
 use Rattle.bpaf_laws.specs.Reading.{Share, Outcome, Readings}
 use Rattle.bpaf_laws.specs.Repeat.{CountOutcome, ListReads, ManyDescribes}
 use Rattle.bpaf_laws.specs.Transform.{MapReads}
-use Rattle.bpaf_batteries.specs.Level.{level}
+use Rattle.bpaf_batteries.specs.Level.{IsLevelOf}
 use Rattle.bpaf_laws.specs.Spared.{WithoutMemory}
 use Rattle.bpaf_batteries.specs.Keys.{is_key, KeyOutcome, KeyReads}
 
@@ -66,10 +66,6 @@ CountShows flag = ManyDescribes (λ shape. shape ≡ flag_shape flag.named flag.
 abbrev pub CountsDescribe : {T : Type 0} → ParseFlag T → ParseFlag T → Shape → Type 0
 CountsDescribe more fewer =
     ProductDescribes (BothDescribes (CountShows more) (LastDescribes (CountShows fewer)))
-
--- a number is the level of two counts
-abbrev pub IsLevelOf : (offset min max : ℤ) → ℕ × ℕ → ℤ → Type 0
-IsLevelOf offset min max counts v = v ≡ level offset min max counts.0 counts.1
 
 -- a number is the level of the keys that were newly taken
 abbrev pub VerbosityCounts : {T : Type 0} → ParseFlag T → ParseFlag T → (offset min max : ℤ)

@@ -1,7 +1,7 @@
 //! How much a program tells, as a number or as a member of a list.
 ghost use Rattle.std.specs.Prelude.{◌≡◌, ◌<◌, ◌≤◌, ◌≤ℤ◌, ◌-ℤ◌, IfOk, length, pos};
 ghost use Rattle.bpaf_batteries.specs.Keys.{AreVerboseAndQuiet};
-ghost use Rattle.bpaf_batteries.specs.Level.{level};
+ghost use Rattle.bpaf_batteries.specs.Level.{IsLevelOf};
 ghost use Rattle.bpaf_batteries.specs.Verbosity.{PicksItem};
 
 use crate::counts::{KeyCounts, verbose_and_quiet};
@@ -56,7 +56,7 @@ pub fn verbose_and_quiet_by_number(
 /// The offset plus the first count minus the second, within the bounds.
 fn level(offset: isize, min: isize, max: isize, more: usize, fewer: usize) -> isize
     requires { min ≤ℤ max }
-    ensures { result ≡ level offset min max more fewer }
+    ensures { IsLevelOf offset min max (more, fewer) result }
 {
     let moved = offset as i128 + more as i128 - fewer as i128;
     moved.clamp(min as i128, max as i128) as isize
@@ -68,7 +68,7 @@ impl Parser<isize> for VerboseQuiet {
     ghost use Rattle.bpaf_laws.specs.Transform.{MapOutcome, MapReads};
     ghost use Rattle.bpaf_laws.proofs.TransformLaws.{map_lawful};
     ghost use Rattle.bpaf_batteries.specs.Verbosity.{CountsDescribe, CountsOutcome, CountsReads};
-    ghost use Rattle.bpaf_batteries.specs.Verbosity.{CountsSpared, IsLevelOf, VerbosityCounts};
+    ghost use Rattle.bpaf_batteries.specs.Verbosity.{CountsSpared, VerbosityCounts};
     ghost use Rattle.bpaf_laws.specs.Spared.{IsNotMemory};
     ghost use Rattle.bpaf_batteries.specs.VerbosityLaws.{counts_lawful};
     ghost use Rattle.std.specs.Prelude.{◌++◌};
@@ -166,7 +166,7 @@ pub fn verbose_by_slice<T: Drop, const N: usize>(
 /// The offset plus the first count minus the second, as a place among so many items.
 fn place(offset: usize, len: usize, more: usize, fewer: usize) -> usize
     requires { 1 ≤ len }
-    ensures level { pos result ≡ level (pos offset) (pos 0) (pos len -ℤ pos 1) more fewer }
+    ensures level { IsLevelOf (pos offset) (pos 0) (pos len -ℤ pos 1) (more, fewer) (pos result) }
     ensures within { result < len }
 {
     let moved = offset as i128 + more as i128 - fewer as i128;

@@ -7,9 +7,8 @@ use Rattle.bpaf_keys.specs.Info.{RunInfo}
 -- a negative number a word
 abbrev pub known_names : RunInfo → ShortNames → Known
 known_names info shorts = record {
-  names = record {
+  names = record shorts {
     flags = shorts.flags ++ info.help_arg.names.shorts ++ info.version_arg.names.shorts;
-    arguments = shorts.arguments;
   };
   numbers = info.numbers;
 }

@@ -53,17 +53,17 @@ module _ (called : Called) (s : Situation) (p : ℕ) (at : IsOpenedAt (opening_w
           closed = λ q within outside.
               kept_inside.stays q (closes_inside called s p at q within outside);
           reading = record {
-            read = (
-              p,
-              record {
+            read = record {
+              name = p;
+              read = record {
                 first_share = newly s m;
                 rest_share = newly m t;
                 joins = newly_joins s m t entered kept_inside;
                 first_read =
                     (at.named, newly_take s p (word_is_open (opening_words called) s p at));
                 rest_read = read.reading;
-              },
-            );
+              };
+            };
             stretch = record { from = p; to = end; is = one_stretch };
           };
         }

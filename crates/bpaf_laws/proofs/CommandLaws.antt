@@ -99,15 +99,15 @@ module _ (called : Called) (s : Situation) (p : ℕ)
         record {
           keeps = keeps_trans s m t keeps_inside read.keeps;
           closed = closes_trans s m t read.keeps closes_inside read.closed;
-          reading = (
-            p,
-            record {
+          reading = record {
+            name = p;
+            read = record {
               first_share = newly s m;
               rest_share = newly m t;
               joins = newly_joins s m t keeps_inside read.keeps;
               first_read =
                   (at.named, newly_take s p (word_is_open (opening_words called) s p at));
               rest_read = read.reading;
-            },
-          );
+            };
+          };
         }

@@ -1,7 +1,7 @@
 -- Flags keep to the laws.
 use Rattle.std.specs.Prelude.{◌≡◌, ℕ, Bool, true, false, List, Option, Some, None}
 use Rattle.std.specs.Option.{is_some, IsSomeRelated}
-use Rattle.std.proofs.Common.{sym, subst, ⊎_elim, inl, inr, true≢false}
+use Rattle.std.proofs.Common.{sym, subst, ⊎_elim, true≢false}
 use Rattle.bpaf_doc.specs.Names.{Names}
 use Rattle.bpaf_text.specs.Named.{Named, flag_part}
 use Rattle.bpaf_line.specs.Situation.{Situation, is_open}
@@ -17,7 +17,7 @@ use Rattle.bpaf_laws.specs.RefusalNames.{NamesAnswer}
 use Rattle.bpaf_laws.proofs.NamesAnswer.{names_absence}
 use Rattle.bpaf_laws.proofs.Keeping.{keeps_same, reads_same, closes_take, newly_none, keeps_take}
 use Rattle.bpaf_laws.proofs.Keeping.{newly_take}
-use Rattle.bpaf_laws.specs.Flag.{FlagReads, value_without_key, FlagOutcome, FlagFails}
+use Rattle.bpaf_laws.specs.Flag.{FlagReads, at_key, nowhere, value_without_key, FlagOutcome, FlagFails}
 use Rattle.bpaf_laws.specs.Flag.{IsFlagPresent, IsFlagAbsent, IsPresent}
 
 -- what looking for a flag keeps
@@ -43,12 +43,9 @@ module _ (T : Type 0) (clones : T → T → Type 0) (named : Named) (present : T
       subst (λ w. Reads T reads_flag s v w) (sym takes.2) (record {
         keeps = keeps_take s takes.0 there;
         closed = closes_take s takes.0;
-        reading = inl (
-          takes.0,
-          match_has_item (is_key_of named.names) s takes.0 takes.1.matches,
-          newly_take s takes.0 there,
-          value,
-        );
+        reading =
+            at_key takes.0 (match_has_item (is_key_of named.names) s takes.0 takes.1.matches)
+            (newly_take s takes.0 there) value;
       })
 
   -- where a variable is set the present value stands for no key
@@ -69,7 +66,7 @@ module _ (T : Type 0) (clones : T → T → Type 0) (named : Named) (present : T
   flag_present s t v is value = ⊎_elim
       (λ takes. flag_found s t v takes value)
       (λ set. reads_same reads_flag s t v set.0.1
-      (inr (newly_none s, kept_set (first_set s.context.env named.envs) v set.1 value)))
+      (nowhere (newly_none s) (kept_set (first_set s.context.env named.envs) v set.1 value)))
       is
 
   -- a flag that is absent, with a clone of the absent value, is a reading
@@ -77,7 +74,7 @@ module _ (T : Type 0) (clones : T → T → Type 0) (named : Named) (present : T
       → Reads T reads_flag s v t
   flag_absent s t v is value =
       reads_same reads_flag s t v is.0.1
-      (inr (newly_none s, kept_unset (first_set s.context.env named.envs) v is.1 value))
+      (nowhere (newly_none s) (kept_unset (first_set s.context.env named.envs) v is.1 value))
 
   -- what the test of a flag's key keeps
   present_keeps : (s t : Situation) (is : Bool) → IsPresent named s is t → Keeps s t

@@ -23,7 +23,7 @@ is_key_with_value argument = is_argument_key argument.named.names argument.adjac
 -- a key of the argument is at this place, and behind it a Word or an ArgWord with this text
 pub record IsKeyBefore (argument : KeyWithValue) (context : Context) (key : ℕ) (text : List ℕ)
     : Type 0 where
-  pub is_key : HasItem (is_key_with_value argument) context key
+  pub is_key : HasItem (is_argument_key argument.named.names argument.adjacent) context key
   pub behind_it : option_and_then value_text (item_in context (key + 1)) ≡ Some text
 
 -- the places behind those of a set

@@ -7,11 +7,11 @@ use Rattle.bpaf_doc.specs.declared.doc.Piece.{Piece}
 use Rattle.bpaf_doc.specs.Shape.{Shape, Shown, Part, Command}
 use Rattle.bpaf_base.specs.declared.arg.Arg.{Arg}
 use Rattle.bpaf_base.specs.Items.{any_item, command_word}
-use Rattle.bpaf_line.specs.Situation.{Situation, item_at, in_scope, is_taken, take_place}
+use Rattle.bpaf_line.specs.Situation.{Situation, Context, item_at, in_scope, is_taken, take_place}
 use Rattle.bpaf_line.specs.Situation.{with_scope, with_path, with_current}
 use Rattle.bpaf_line.specs.Taking.{IsFirst}
 use Rattle.bpaf_laws.specs.Product.{BothReads}
-use Rattle.bpaf_laws.specs.Reading.{Readings, IsPlace, HasItem}
+use Rattle.bpaf_laws.specs.Reading.{Share, Readings, IsPlace, HasItem}
 
 -- the names of a command: the long one that is shown, its other long ones, its short ones
 pub record Called : Type 0 where
@@ -75,10 +75,11 @@ LeavesNothing s t = (p : ℕ) → in_scope s p ≡ true → is_taken t p ≡ tru
 
 -- the place of a Word, of a Short, or of a Long that isn't attached, whose word is one of the
 -- command's, and a reading of the inner parser
-abbrev pub CommandReads : (T : Type 0) → List (List ℕ) → Readings T → Readings T
-CommandReads T words inner context share v =
-    (name : ℕ) × BothReads ℕ T (λ line own p. HasItem (is_one_of words) line p × IsPlace p own)
-    inner context share (name, v)
+pub record CommandReads (T : Type 0) (words : List (List ℕ)) (inner : Readings T)
+    (context : Context) (share : Share) (v : T) : Type 0 where
+  pub name : ℕ
+  pub read : BothReads ℕ T (λ line own p. HasItem (is_one_of words) line p × IsPlace p own) inner
+      context share (name, v)
 
 -- the part that a command may show: its first long and its first short name, its help, and what the
 -- inner parser may show

@@ -4,11 +4,11 @@ use Rattle.std.specs.Option.{option_map_or, IsSomeRelated}
 use Rattle.bpaf_doc.specs.Shape.{Shape, Optional, Shown, Skip}
 use Rattle.bpaf_text.specs.Named.{Named, flag_part}
 use Rattle.bpaf_base.specs.Items.{is_key_of}
-use Rattle.bpaf_line.specs.Situation.{Situation}
+use Rattle.bpaf_line.specs.Situation.{Situation, Context}
 use Rattle.bpaf_line.specs.Taking.{TakesFlag}
 use Rattle.bpaf_line.specs.declared.error.Message.{Message}
 use Rattle.bpaf_line.specs.declared.error.Message.TheVariants.{Memory}
-use Rattle.bpaf_laws.specs.Reading.{Outcome, Readings, IsEmptyShare, IsPlace, HasItem}
+use Rattle.bpaf_laws.specs.Reading.{Share, Outcome, IsEmptyShare, IsPlace, HasItem}
 use Rattle.bpaf_laws.specs.Environment.{first_set, is_set, IsAbsence}
 
 -- what stands for no key, by the text of its variable: the present value where that is set, else
@@ -19,11 +19,13 @@ value_without_key present absent None = absent
 
 -- one key with one of the names, attached or not, and a clone of the present value; or no place,
 -- and a clone of what stands for no key
-abbrev pub FlagReads : (T : Type 0) → (T → T → Type 0) → Named → T → Option T → Readings T
-FlagReads T clones named present absent context share v =
-    ((key : ℕ) × HasItem (is_key_of named.names) context key × IsPlace key share × clones present v)
-    ⊎ (IsEmptyShare share
-    × IsSomeRelated clones (value_without_key present absent (first_set context.env named.envs)) v)
+pub data FlagReads (T : Type 0) (clones : T → T → Type 0) (named : Named) (present : T)
+    (absent : Option T) (context : Context) (share : Share) (v : T) : Type 0 where
+  at_key : (key : ℕ) → HasItem (is_key_of named.names) context key → IsPlace key share
+      → clones present v → FlagReads T clones named present absent context share v
+  nowhere : IsEmptyShare share
+      → IsSomeRelated clones (value_without_key present absent (first_set context.env named.envs)) v
+      → FlagReads T clones named present absent context share v
 
 -- a flag is present: its key is taken; or it is not on the line, and an environment name is set
 abbrev pub IsFlagPresent : Named → Situation → Situation → Type 0

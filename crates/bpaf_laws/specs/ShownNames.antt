@@ -19,10 +19,8 @@ of_arguments shorts = record { flags = []; arguments = shorts }
 
 -- those of the one, and of the other
 abbrev pub joined_shorts : ShortNames → ShortNames → ShortNames
-joined_shorts one other = record {
-  flags = one.flags ++ other.flags;
-  arguments = one.arguments ++ other.arguments;
-}
+joined_shorts one other =
+    record { flags = one.flags ++ other.flags; arguments = one.arguments ++ other.arguments }
 
 -- those of some parsers, one after the other
 abbrev pub all_shorts : {P : Type 0} → (P → ShortNames) → List P → ShortNames

@@ -1,9 +1,9 @@
 //! How a state begins, and how it is copied.
 ghost use Rattle.std.specs.Prelude.{ℕ, ◌≡◌, ◌*◌, ◌<◌, ◌≤◌, length, IfOk, OnOk, IfSome, All, IsUtf8};
 ghost use Rattle.std.specs.Prelude.{map, option_map, option_to_list, string_bytes};
-ghost use Rattle.std.specs.Prelude.{true};
+ghost use Rattle.std.specs.Prelude.{[], true};
 ghost use Rattle.bpaf_words.specs.Arguments.{words_of, given_of, name_of, env_of, entries_of};
-ghost use Rattle.bpaf_words.specs.Arguments.{env_entries};
+ghost use Rattle.std.specs.Option.{option_map_or};
 ghost use Rattle.bpaf_words.specs.Spelling.{knowing, known_at};
 ghost use Rattle.bpaf_line.specs.Constructing.{Constructs};
 ghost use Rattle.bpaf_index.specs.Bits.{has_bit};
@@ -221,7 +221,8 @@ fn copy_env(
     alloc: Global,
     env: Option<&BTreeMap<String, String>>,
 ) -> Result<Option<RcSlice<(Text, Text)>>, AllocError>
-    ensures { IfOk result (λ entries. shared_entries entries ≡ env_entries env.entry) }
+    ensures { IfOk result (λ entries.
+        shared_entries entries ≡ option_map_or (λ e. entries_of e.now) env.entry []) }
 {
     match env {
         None => Ok(None),

@@ -103,10 +103,11 @@ module _ {T : Type 0} {inner inner' : Readings T} (also : IsAlso inner inner') w
       → IsAlso (StretchReads T (CommandReads T words inner))
       (StretchReads T (CommandReads T words inner'))
   adjacent_also words context share v read = record {
-    read = (
-      read.read.0,
-      both_also (λ line own p named. named) also context share (read.read.0, v) read.read.1,
-    );
+    read = record {
+      name = read.read.name;
+      read = both_also (λ line own p named. named) also context share (read.read.name, v)
+          read.read.read;
+    };
     stretch = read.stretch;
   }
 

@@ -2,7 +2,6 @@
 use Rattle.std.specs.Prelude.{◌≡◌, ℕ, List, [], map, Option, None, option_map, string_bytes, String}
 use Rattle.std.specs.declared.collections.BTreeMap.{BTreeMap}
 use Rattle.std.specs.declared.alloc.Global.{Global}
-use Rattle.std.specs.Borrow.{Bor}
 use Rattle.std.specs.Option.{option_map_or}
 use Rattle.bpaf_words.specs.declared.args.Words.{Words}
 use Rattle.bpaf_words.specs.declared.args.Words.TheVariants.{Strs, Strings}
@@ -17,22 +16,17 @@ words_in (Strings words) = map string_bytes words.now
 abbrev pub entries_of : BTreeMap (String Global) (String Global) Global → List (List ℕ × List ℕ)
 entries_of env = map (λ e. (string_bytes e.0, string_bytes e.1)) env.entries
 
--- those of an environment that may be left out; none is the empty one
-abbrev pub env_entries : Option (Bor (BTreeMap (String Global) (String Global) Global))
-    → List (List ℕ × List ℕ)
-env_entries env = option_map_or (λ e. entries_of e.now) env []
-
 -- what a run is given: words, an environment, and perhaps a name
 pub record Given : Type 0 where
   pub words : List (List ℕ)
   pub env : List (List ℕ × List ℕ)
   pub name : Option (List ℕ)
 
--- that of a value of the program
+-- that of a value of the program; without an environment no entries
 abbrev pub given_of : Args → Given
 given_of args = record {
   words = words_in args.words;
-  env = env_entries args.env;
+  env = option_map_or (λ e. entries_of e.now) args.env [];
   name = option_map (λ n. n.now) args.name;
 }
 

@@ -1,8 +1,8 @@
 //! What a run is given.
 ghost use Rattle.std.specs.Prelude.{◌≡◌, ◌<◌, Some, length, slice_get, List, ℕ, map, option_map};
-ghost use Rattle.std.specs.Prelude.{string_bytes};
+ghost use Rattle.std.specs.Prelude.{[], string_bytes};
 ghost use Rattle.bpaf_words.specs.Arguments.{words_in, words_of, name_of, env_of, entries_of};
-ghost use Rattle.bpaf_words.specs.Arguments.{env_entries};
+ghost use Rattle.std.specs.Option.{option_map_or};
 
 use std::collections::BTreeMap;
 
@@ -134,7 +134,7 @@ impl<'a> Args<'a> {
 
     /// The environment, where there is one.
     pub fn env(self) -> Option<&'a BTreeMap<String, String>>
-        ensures { env_entries result ≡ env_of self.entry }
+        ensures { option_map_or (λ e. entries_of e.now) result [] ≡ env_of self.entry }
     {
         self.env
     }
