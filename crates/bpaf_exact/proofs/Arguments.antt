@@ -1,5 +1,6 @@
 -- Arguments keep to the laws.
-use Rattle.std.proofs.Common.{Some, ◌≡◌, ℕ, Bool, true, false, List, [], ◌∷◌, Ok, refl, sym, ap, ◌∙◌}
+use Rattle.std.proofs.Common.{Some, ◌≡◌, ℕ, Bool, true, false, List, [], ◌∷◌, Ok, refl, sym, ap}
+use Rattle.std.proofs.Common.{◌∙◌}
 use Rattle.std.proofs.Common.{None, ◌&&◌, not, subst, ⊎_elim}
 use Rattle.bpaf_text.specs.Named.{KeyWithValue, argument_part}
 use Rattle.bpaf_line.specs.declared.error.Message.TheVariants.{Memory, NoArgument, ParseFailed}

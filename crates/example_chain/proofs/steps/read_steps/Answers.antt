@@ -1,5 +1,6 @@
 use Rattle.std.proofs.Common.{rules}
-use Rattle.bpaf_program.proofs.ReadsToo.{adjacent_also, both_also, choice_also, flag_also, many_also}
+use Rattle.bpaf_program.proofs.ReadsToo.{adjacent_also, both_also, choice_also, flag_also}
+use Rattle.bpaf_program.proofs.ReadsToo.{many_also}
 use Rattle.bpaf_program.proofs.ReadsToo.{made_also, word_also}
 use Rattle.bpaf_program.proofs.Commands.{also_dealt}
 use Rattle.example_chain.proofs.steps.read_steps.Goals as goal
