@@ -113,7 +113,8 @@ OverReads clones over.Count reads =
 OverReads clones over.Last reads =
     OfList Value reads (λ values v. (before : List Value) × (values ≡ before ++ v ∷ []))
 OverReads clones over.Map reads = MapReads Value Value reads IsHalf
-OverReads clones (over.Guard limit) reads = MapReads Value Value reads (λ x v. (v ≡ x) × Checks x true)
+OverReads clones (over.Guard limit) reads = MapReads Value Value reads (λ x v. (v ≡ x)
+    × Checks x true)
 OverReads clones (over.Parse limit) reads = AcceptReads reads
 OverReads clones (over.Fallback n) reads =
     ChoiceReads reads (PureReads (clones (number_of n)))

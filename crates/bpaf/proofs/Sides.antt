@@ -53,7 +53,8 @@ module _ (P : Arg → Type 0) (known : Known) (word : List ℕ)
     (long_key : (name : List ℕ) (attached : Bool) (rest : List ℕ) → word ≡ codes "-" ++ rest
     → P (Long name attached word))
     (value : (text : List ℕ) → P (ArgWord text)) (whole : P (Word word))
-    (behind_key : (c : ℕ) (text : List ℕ) → IsKnownAs false true known.names c → P (Word text)) where
+    (behind_key : (c : ℕ) (text : List ℕ) → IsKnownAs false true known.names c
+    → P (Word text)) where
   -- each flag has it
   of_flags : (text cs : List ℕ) → ((c : ℕ) → P (Short c false text))
       → AllByRecursion P (flags_of text cs)

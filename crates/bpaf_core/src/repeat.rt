@@ -147,7 +147,8 @@ impl<'m, P> ParseSome<'m, P> {
 impl<'m, T: Drop, P: Parser<T>> Parser<Vec<T>> for ParseSome<'m, P> {
     ghost use Rattle.std.specs.Prelude.{false, IfOk, List};
     ghost use Rattle.std.specs.Global.{Vec};
-    ghost use Rattle.bpaf_laws.specs.Repeat.{ListReads, SomeOutcome, SomeDescribes, IsBounded, is_nil};
+    ghost use Rattle.bpaf_laws.specs.Repeat.{ListReads, SomeOutcome, SomeDescribes, IsBounded};
+    ghost use Rattle.bpaf_laws.specs.Repeat.{is_nil};
     ghost use Rattle.bpaf_laws.specs.Transform.{MapReads};
     ghost use Rattle.bpaf_laws.proofs.RepeatLaws.{some_lawful};
     ghost use Rattle.bpaf_laws.specs.Spared.{IsNotMemory, WithoutMemory};

@@ -261,7 +261,8 @@ impl Info {
         meta: &Meta,
     ) -> Result<(Vec<char>, Vec<char>), AllocError>
         ensures { IfOk result (λ r. let names = (known_names self.now (shorts_of
-            (parts (shape_of meta.now)))).names in (r.0.items ≡ names.flags) × (r.1.items ≡ names.arguments)) }
+            (parts (shape_of meta.now)))).names in (r.0.items ≡ names.flags)
+            × (r.1.items ≡ names.arguments)) }
     {
         let mut flags = Vec::new(alloc);
         let mut arguments = Vec::new(alloc);

@@ -58,7 +58,8 @@ module _ {T : Type 0} {inner : Outcome T} {reads : Readings T} (law : Lawful T i
 
   -- what a fallback answers is a reading
   fallback_read : (gives : Gives T) (s t : Situation) (v : T)
-      → FallbackOutcome inner gives s (Ok v) t → Reads T (ChoiceReads reads (PureReads (λ w. gives (Ok w)))) s v t
+      → FallbackOutcome inner gives s (Ok v) t
+      → Reads T (ChoiceReads reads (PureReads (λ w. gives (Ok w)))) s v t
   fallback_read gives s t v o =
       ⊎_elim
       (λ ran. let read = law.ok s t v ran

@@ -17,7 +17,8 @@ use Rattle.bpaf_laws.specs.RefusalNames.{NamesAnswer}
 use Rattle.bpaf_laws.proofs.NamesAnswer.{names_absence}
 use Rattle.bpaf_laws.proofs.Keeping.{keeps_same, reads_same, closes_take, newly_none, keeps_take}
 use Rattle.bpaf_laws.proofs.Keeping.{newly_take}
-use Rattle.bpaf_laws.specs.Flag.{FlagReads, at_key, nowhere, value_without_key, FlagOutcome, FlagFails}
+use Rattle.bpaf_laws.specs.Flag.{FlagReads, at_key, nowhere, value_without_key, FlagOutcome}
+use Rattle.bpaf_laws.specs.Flag.{FlagFails}
 use Rattle.bpaf_laws.specs.Flag.{IsFlagPresent, IsFlagAbsent, IsPresent}
 
 -- what looking for a flag keeps

@@ -244,7 +244,8 @@ module _ (argument : KeyWithValue) where
     pub behind_open : (p : ℕ) → all.keys p ≡ true → is_open s (p + 1) ≡ true
     behind_open p key =
         ap (is_open s) (add-one p)
-        ∙ all.keeps.fresh (suc p) (all.places (suc p) ∙ or_right (all.keys (suc p)) (all.keys p) key)
+        ∙ all.keeps.fresh (suc p) (all.places (suc p) ∙ or_right (all.keys (suc p))
+        (all.keys p) key)
 
     -- a key that is there later was there at first
     pub key_before : (p : ℕ) → is_match test t p ≡ true → is_match test s p ≡ true

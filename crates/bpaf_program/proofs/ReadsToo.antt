@@ -94,7 +94,8 @@ module _ {T : Type 0} {inner inner' : Readings T} (also : IsAlso inner inner') w
   )
 
   -- a repeat
-  pub many_also : IsAlso (MapReads (List T) (Vec T) (ListReads inner) (λ values v. v.items ≡ values))
+  pub many_also : IsAlso (MapReads (List T) (Vec T) (ListReads inner)
+      (λ values v. v.items ≡ values))
       (MapReads (List T) (Vec T) (ListReads inner') (λ values v. v.items ≡ values))
   many_also = made_also list_also (λ values v made. made)
 

@@ -28,7 +28,8 @@ left_word at strict text is left =
 
 -- the text of a word that is read before `--` is one of the words there
 pub word_before : {T : Type 0} {means : List ℕ → T → Type 0} (known : Known)
-    → ((c : ℕ) → ¬ (IsKnownAs false true known.names c)) → (given : Given) {context : Context} {share : Share}
+    → ((c : ℕ) → ¬ (IsKnownAs false true known.names c))
+    → (given : Given) {context : Context} {share : Share}
     {v : T} → IsContext known given context
     → (read : PositionalReads T means NonStrict context share v)
     → Contains (words_before given.words) read.text

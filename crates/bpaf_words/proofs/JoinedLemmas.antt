@@ -1,5 +1,6 @@
 -- A walk over joined letters: the flags at the front, and what stands where they end.
-use Rattle.std.proofs.Common.{◌≡◌, ◌≢◌, ℕ, zero, suc, ◌+◌, ◌≤◌, true, false, ◌==◌, List, [], ◌∷◌, ◌++◌}
+use Rattle.std.proofs.Common.{◌≡◌, ◌≢◌, ℕ, zero, suc, ◌+◌, ◌≤◌, true, false, ◌==◌, List, [], ◌∷◌}
+use Rattle.std.proofs.Common.{◌++◌}
 use Rattle.std.proofs.Common.{length, refl, ap, sym, ◌∙◌, arith, rules, take, if◌then◌else◌}
 use Rattle.std.proofs.Common.{append_assoc, append-nil, encode_utf8, encode_utf8_all, All}
 use Rattle.std.proofs.Common.{length-append}
@@ -60,7 +61,8 @@ walked_none names word letters old =
 -- a walk over one flag more
 pub walked_more : (names : ShortNames) (word letters : List ℕ) (old new : List Arg) (count : ℕ)
     (rest : List ℕ) (c : ℕ) (after text : List ℕ) (newer : List Arg)
-    → Walked names word letters old new count rest → rest ≡ encode_utf8 c ++ after → IsKnownAs true false names c
+    → Walked names word letters old new count rest → rest ≡ encode_utf8 c ++ after
+    → IsKnownAs true false names c
     → text ≡ (if count == 0 then word else []) → newer ≡ new ++ Short c false text ∷ []
     → Walked names word letters old newer (count + 1) after
 walked_more names word letters old new count rest c after text newer w e f t n = record {
@@ -124,7 +126,8 @@ ends names word letters old new count rest cs w e l =
 -- where a walk stops at a character that is both: the letters are ambiguous there
 pub stops_both : (names : ShortNames) (word letters : List ℕ) (old new : List Arg) (count : ℕ)
     (rest : List ℕ) (c : ℕ) (after : List ℕ)
-    → Walked names word letters old new count rest → rest ≡ encode_utf8 c ++ after → IsKnownAs true true names c
+    → Walked names word letters old new count rest → rest ≡ encode_utf8 c ++ after
+    → IsKnownAs true true names c
     → (cs : List ℕ) → letters ≡ encode_utf8_all cs
     → SpellsJoined names word cs (Ambiguous (count + 1))
 stops_both names word letters old new count rest c after w e b cs l =

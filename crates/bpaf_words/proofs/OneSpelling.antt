@@ -238,7 +238,8 @@ joined_by : (names : ShortNames) (word all fs : List ℕ) (c : ℕ) (cs : List �
 joined_by names word all fs c cs true true e h p q more =
     rw (p, q) (both fs c cs e h (record { as_flag = p; as_argument = q }))
 joined_by names word all fs c cs true false e h p q more =
-    rw (p, q) (more (All-push (IsKnownAs true false names) fs c h (record { as_flag = p; as_argument = q })))
+    rw (p, q) (more (All-push (IsKnownAs true false names) fs c h
+    (record { as_flag = p; as_argument = q })))
 joined_by names word all fs c cs false true e h p q more =
     rw (p, q) (argument fs c cs e h (record { as_flag = p; as_argument = q }))
 joined_by names word all fs c cs false false e h p q more =
@@ -246,7 +247,8 @@ joined_by names word all fs c cs false false e h p q more =
 
 -- joined characters spell what the walk over them finds
 finds_joined : (names : ShortNames) (word all fs cs : List ℕ) → all ≡ fs ++ cs
-    → All (IsKnownAs true false names) fs → SpellsJoined names word all (walk_joined names word fs cs).1
+    → All (IsKnownAs true false names) fs
+    → SpellsJoined names word all (walk_joined names word fs cs).1
 finds_joined names word all fs [] e h =
     let same : all ≡ fs = e ∙ append-nil fs in
     subst (λ x. SpellsJoined names word all (Items (flags_of word x))) same
@@ -350,7 +352,11 @@ one_by_dash names word u n =
     record {
       spelling = (walk names word cs).1;
       spells = found;
-      only = λ s a. let e = walk_finds names word cs s w a in (ap (λ p. p.0) (sym e ∙ own), sym (ap (λ p. p.1) e));
+      only = λ s a. let e = walk_finds names word cs s w a in (
+        ap (λ p. p.0) (sym e ∙ own),
+        sym (ap
+            (λ p. p.1) e),
+      );
     }
 
 -- a number that is a word has no other case

@@ -48,7 +48,8 @@ launch_of x = record { verbose = x.0; dry_run = x.1.0; name = x.1.1.0; words = x
 -- what the words that are passed on read: each one behind the first `--`
 abbrev pub PassedReads : Readings (Vec String)
 PassedReads =
-    MapReads (List String) (Vec String) (ListReads (WordReads Strict)) (λ values v. v.items ≡ values)
+    MapReads (List String) (Vec String) (ListReads (WordReads Strict))
+    (λ values v. v.items ≡ values)
 
 -- what a launch reads: the two switches, a name that stands before the first `--`, and the words
 -- that are passed on, each behind it; each place once
