@@ -7,10 +7,8 @@ use Rattle.bpaf_program.specs.Lines.{line, truth}
 use Rattle.bpaf_program.proofs.LookAlike.{alone_seen, both_seen, con_seen, field_seen, many_seen}
 use Rattle.bpaf_program.proofs.LookAlike.{number_seen, switch_seen, text_word_seen}
 use Rattle.bpaf_program.proofs.SeenPrograms.{program_looks_one, values_look}
-use Rattle.bpaf_demo.specs.Exact.{IsOptionsOf}
-use Rattle.bpaf_demo.specs.Lines.{file_lines, lines}
 use Rattle.bpaf_demo.specs.Record.{number_key, options_of, program_given, program_known}
-use Rattle.bpaf_demo.specs.Record.{verbose_names}
+use Rattle.bpaf_demo.specs.{Exact.IsOptionsOf, Lines.file_lines, Lines.lines, Record.verbose_names}
 
 -- of options the lines are seen
 pub same_lines : (words : List (List ℕ)) → All IsUtf8 words → Alike lines (IsOptionsOf words)

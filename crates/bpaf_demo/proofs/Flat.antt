@@ -2,15 +2,12 @@
 use Rattle.std.proofs.Common.{◌≡◌, Bool, List, codes, false, refl, true}
 use Rattle.bpaf_doc.specs.declared.doc.Piece.{Piece}
 use Rattle.bpaf_text.specs.declared.params.ParseFlag.{ParseFlag}
-use Rattle.bpaf_text.specs.Meaning.{SpellsUnsigned}
-use Rattle.bpaf_text.specs.Named.{KeyWithValue}
+use Rattle.bpaf_text.specs.{Meaning.SpellsUnsigned, Named.KeyWithValue}
 use Rattle.bpaf_keys.specs.Info.{RunInfo, plain_info}
 use Rattle.bpaf_core.specs.declared.repeat.ParseMany.{ParseMany}
 use Rattle.bpaf.specs.declared.leaves.positional.ParsePositional.{ParsePositional}
 use Rattle.bpaf.specs.declared.leaves.positional.Position.TheVariants.{Unrestricted}
-use Rattle.bpaf_exact.specs.Flat.{Variables}
-use Rattle.bpaf_exact.specs.Gathered.{list_closure}
-use Rattle.bpaf_exact.specs.Wrappers.{Closure}
+use Rattle.bpaf_exact.specs.{Flat.Variables, Gathered.list_closure, Wrappers.Closure}
 use Rattle.bpaf_record.specs.Grammar.{Grammar, alone, argument, both, flag, keys_of, product}
 use Rattle.bpaf_record.specs.Grammar.{program_form, repeat, word}
 use Rattle.bpaf_record.specs.Record.{is_flat_record}

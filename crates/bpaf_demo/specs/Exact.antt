@@ -5,11 +5,9 @@ use Rattle.bpaf_line.specs.declared.failure.ParseFailure.{ParseFailure}
 use Rattle.bpaf.specs.declared.leaves.positional.Position.TheVariants.{Unrestricted}
 use Rattle.bpaf_record.specs.Grammar.{Grammar, alone, argument, both, word}
 use Rattle.bpaf_program.specs.KnownFields.{known_con, known_many, known_switch}
-use Rattle.bpaf_program.specs.KnownParser.{IsExactFor, IsValueBy}
-use Rattle.bpaf_program.specs.Values.{MeansText}
-use Rattle.bpaf_demo.specs.declared.options.Options.{Options}
+use Rattle.bpaf_program.specs.{KnownParser.IsExactFor, KnownParser.IsValueBy, Values.MeansText}
 use Rattle.bpaf_demo.specs.Record.{FieldValues, number_key, options_of, program_given}
-use Rattle.bpaf_demo.specs.Record.{verbose_names}
+use Rattle.bpaf_demo.specs.{declared.options.Options.Options, Record.verbose_names}
 
 -- a switch, the number that the text behind the last of its keys spells, and all words
 abbrev pub fields : Grammar FieldValues

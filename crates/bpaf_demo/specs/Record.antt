@@ -2,20 +2,13 @@
 use Rattle.std.specs.Prelude.{◌≡◌, ℕ, Bool, true, false, List, [], ◌∷◌, Some, codes}
 use Rattle.std.specs.Global.{Vec}
 use Rattle.bpaf_doc.specs.Names.{Names}
-use Rattle.bpaf_text.specs.Meaning.{SpellsUnsigned}
-use Rattle.bpaf_text.specs.Named.{KeyWithValue, key_named}
-use Rattle.bpaf_words.specs.Arguments.{Given}
-use Rattle.bpaf_words.specs.Spelling.{Known, knowing}
-use Rattle.bpaf_laws.specs.Argument.{ArgumentReads}
-use Rattle.bpaf_laws.specs.Product.{BothReads}
-use Rattle.bpaf_laws.specs.Reading.{Readings}
-use Rattle.bpaf_laws.specs.Repeat.{ListReads}
-use Rattle.bpaf_laws.specs.Transform.{MapReads}
-use Rattle.bpaf.specs.Dealt.{IsDealtOut}
+use Rattle.bpaf_text.specs.{Meaning.SpellsUnsigned, Named.KeyWithValue, Named.key_named}
+use Rattle.bpaf_words.specs.{Arguments.Given, Spelling.Known, Spelling.knowing}
+use Rattle.bpaf_laws.specs.{Argument.ArgumentReads, Product.BothReads, Reading.Readings}
+use Rattle.bpaf_laws.specs.{Repeat.ListReads, Transform.MapReads}
 use Rattle.bpaf.specs.declared.leaves.positional.Position.TheVariants.{Unrestricted}
-use Rattle.bpaf.specs.Positional.{PositionalReads}
-use Rattle.bpaf_program.specs.Fields.{SwitchReads}
-use Rattle.bpaf_program.specs.Values.{MeansText, String}
+use Rattle.bpaf.specs.{Dealt.IsDealtOut, Positional.PositionalReads}
+use Rattle.bpaf_program.specs.{Fields.NamedSwitchReads, Values.MeansText, Values.String}
 use Rattle.bpaf_demo.specs.declared.options.Options.{Options}
 
 -- the names of the switch
@@ -62,7 +55,7 @@ FilesReads =
 abbrev pub OptionsReads : Readings Options
 OptionsReads =
     MapReads FieldValues Options
-    (BothReads Bool (ℕ × Vec String) (SwitchReads verbose_names)
+    (BothReads Bool (ℕ × Vec String) (NamedSwitchReads verbose_names)
     (BothReads ℕ (Vec String) NumReads FilesReads))
     (λ x v. v ≡ options_of x)
 

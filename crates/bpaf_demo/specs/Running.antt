@@ -1,16 +1,11 @@
 -- What a run of the program does.
 use Rattle.std.specs.Prelude.{ℕ, Bool, List, Result}
-use Rattle.bpaf_doc.specs.declared.doc.Piece.{Piece}
-use Rattle.bpaf_doc.specs.Print.{printed}
+use Rattle.bpaf_doc.specs.{declared.doc.Piece.Piece, Print.printed}
 use Rattle.bpaf_line.specs.declared.failure.ParseFailure.{ParseFailure}
 use Rattle.bpaf_program.specs.Running.{AnswersByText, PrintsTextOf}
-use Rattle.bpaf_program.specs.Sink.{Written}
-use Rattle.bpaf_program.specs.Values.{String}
-use Rattle.bpaf_demo.specs.declared.options.Options.{Options}
-use Rattle.bpaf_demo.specs.Exact.{IsOptionsOf}
-use Rattle.bpaf_demo.specs.Lines.{lines}
-use Rattle.bpaf_demo.specs.Record.{IsDealtOptions}
-use Rattle.bpaf_demo.specs.Shown.{IsHelpAsked}
+use Rattle.bpaf_program.specs.{Sink.Written, Values.String}
+use Rattle.bpaf_demo.specs.{declared.options.Options.Options, Exact.IsOptionsOf, Lines.lines}
+use Rattle.bpaf_demo.specs.{Record.IsDealtOptions, Shown.IsHelpAsked}
 
 -- a text that answers the words: the lines of options that are dealt out of them and are the
 -- record's value on them, or where the record has none the text of the help page that they ask for

@@ -1,15 +1,14 @@
 -- A cut line holds together, and what its named fields leave to positional ones.
-use Rattle.std.proofs.Common.{◌≡◌, ℕ, true, List, [], ◌∷◌, ◌++◌, Some, None, refl, sym}
-use Rattle.std.proofs.Common.{ap, ◌∙◌, subst, not}
-use Rattle.std.proofs.lemmas.List.{append_assoc}
+use Rattle.std.proofs.Common.{◌≡◌, ℕ, true, List, [], ◌∷◌, ◌++◌, Some, None, refl, sym, ap, ◌∙◌}
 use Rattle.std.proofs.lemmas.List.Elements.{All-nil, All-cons, filter-append}
+use Rattle.std.proofs.{Common.subst, Common.not, lemmas.List.append_assoc}
 use Rattle.std.specs.List.{AllPass}
+use Rattle.bpaf_base.specs.declared.arg.Arg.TheVariants.{ArgWord}
 use Rattle.bpaf_base.specs.{Items.is_positional, declared.arg.Arg.Arg}
-use Rattle.bpaf_base.specs.{declared.arg.Arg.TheVariants.ArgWord}
 use Rattle.bpaf_exact.specs.Pieces.{Cells, Roles, Alone, WithNext, LinePiece, One, Two, is_value}
 use Rattle.bpaf_exact.specs.Pieces.{is_key, is_own_role, is_own, others, IsNamed, Cut, at_end}
-use Rattle.bpaf_exact.specs.Accepted.{HasItsValue, EndsInKey, is_word_alone, HoldsTogether}
 use Rattle.bpaf_exact.specs.Pieces.{passed, flag, argument, word, no_roles}
+use Rattle.bpaf_exact.specs.Accepted.{HasItsValue, EndsInKey, is_word_alone, HoldsTogether}
 use Rattle.bpaf_exact.proofs.Cells.{value_not_key, word_not_key, value_foreign, word_foreign}
 use Rattle.bpaf_exact.proofs.Cells.{others_own, others_foreign}
 

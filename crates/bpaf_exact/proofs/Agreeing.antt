@@ -3,10 +3,8 @@ use Rattle.std.proofs.Common.{◌≡◌, ℕ, List, sym, subst, ◌∙◌}
 use Rattle.bpaf_text.specs.{Meaning.SpellsUnsigned, Named.KeyWithValue}
 use Rattle.bpaf_exact.specs.ProgramForm.{Agrees, ProgramForm, alternative, commands, complete}
 use Rattle.bpaf_exact.specs.ProgramForm.{product, program_closed, single}
-use Rattle.bpaf_exact.specs.OneView.{Alike, HasOneView}
-use Rattle.bpaf_exact.specs.{Leaves.argument_field}
-use Rattle.bpaf_exact.specs.{Wrappers.AgreesOn, Wrappers.Closure}
-use Rattle.bpaf_exact.specs.{Wrappers.Decides, Flat.Variables}
+use Rattle.bpaf_exact.specs.{OneView.Alike, OneView.HasOneView, Leaves.argument_field}
+use Rattle.bpaf_exact.specs.{Wrappers.AgreesOn, Wrappers.Closure, Wrappers.Decides, Flat.Variables}
 use Rattle.bpaf_exact.proofs.OneView.{argument_view, closed_view}
 
 -- a closure that accepts both or refuses both of what looks alike

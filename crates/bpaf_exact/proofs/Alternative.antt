@@ -1,22 +1,21 @@
 -- Alternatives as fields, and closures round alternatives and single fields.
 use Rattle.std.proofs.Common.{◌≡◌, List, [], ◌∷◌, Option, Some, None, Ok, Err, refl, sym, ap, ◌∙◌}
 use Rattle.std.proofs.Common.{subst, inl, inr, ◌⊎◌, false}
-use Rattle.std.specs.Option.{is_some}
+use Rattle.std.specs.Option.{is_some, IsSomeRelated}
 use Rattle.bpaf_line.specs.{declared.error.Error.Error, Situation.Situation}
 use Rattle.bpaf_laws.specs.Reading.{Outcome}
 use Rattle.bpaf_exact.specs.Flat.{front, Refused, class, cells, IsWholeIn, Steady, FieldKind}
+use Rattle.bpaf_exact.specs.Flat.{ByName, OneWord, EachWord, Variables}
 use Rattle.bpaf_exact.specs.Single.{Groups, FrontOf, Own, own_none, own_more, Readable, Gap, gap_of}
-use Rattle.std.specs.Option.{IsSomeRelated}
 use Rattle.bpaf_exact.specs.Single.{TookGroup, SingleOk, gave_absent, took, SingleErr, of_memory}
 use Rattle.bpaf_exact.specs.Single.{catch_missing, of_missing, of_absent, of_piece, ReadsWords}
+use Rattle.bpaf_exact.specs.Single.{SingleLaw}
 use Rattle.bpaf_exact.specs.Wrappers.{Closure, AgreesOn, ClosedEval, closed_yes, closed_no}
-use Rattle.bpaf_exact.specs.Wrappers.{closed_memory, closed_err, closed_gap}
+use Rattle.bpaf_exact.specs.Wrappers.{closed_memory, closed_err, closed_gap, ClosedValue}
 use Rattle.bpaf_exact.specs.Alternative.{TakesFirst, HasBad, bad_here, bad_later, AlternativeOk}
 use Rattle.bpaf_exact.specs.Alternative.{AlternativeErr, alternative_memory, alternative_missing}
-use Rattle.bpaf_exact.specs.{Flat.ByName, Flat.OneWord, Flat.EachWord, Flat.Variables}
-use Rattle.bpaf_exact.specs.{Single.SingleLaw, Wrappers.ClosedValue}
-use Rattle.bpaf_exact.specs.{Alternative.alternative_refused, Alternative.AlternativeLaw}
-use Rattle.bpaf_exact.specs.{Pieces.Roles, Pieces.LinePiece, Pieces.pieces, Pieces.takes_none}
+use Rattle.bpaf_exact.specs.Alternative.{alternative_refused, AlternativeLaw}
+use Rattle.bpaf_exact.specs.Pieces.{Roles, LinePiece, pieces, takes_none}
 use Rattle.bpaf_exact.proofs.First.{first_pieces, first_takes, takes_nonempty, bad_given_back}
 use Rattle.bpaf_exact.proofs.First.{bad_nonempty}
 

@@ -1,18 +1,17 @@
 -- A key of an argument and its value are a piece.
-use Rattle.std.proofs.Common.{◌≡◌, ℕ, true, List, [], ◌∷◌, Option, Some, None, refl, sym, ap}
-use Rattle.std.proofs.{Common.◌∙◌, Common.subst, lemmas.Bool.and_parts}
+use Rattle.std.proofs.Common.{◌≡◌, ℕ, true, List, [], ◌∷◌, Option, Some, None, refl, sym, ap, subst}
+use Rattle.std.proofs.{Common.◌∙◌, lemmas.Bool.and_parts}
 use Rattle.bpaf_text.specs.Named.{KeyWithValue, argument_part}
 use Rattle.bpaf_base.specs.{declared.arg.Arg.Arg, Items.is_key_of, Items.item_text}
+use Rattle.bpaf_line.specs.Situation.{Situation, with_current}
 use Rattle.bpaf_line.specs.{declared.error.Error.Error, declared.error.Message.Message}
-use Rattle.bpaf_line.specs.{Situation.Situation, Situation.with_current}
 use Rattle.bpaf_laws.specs.Argument.{TakesKeyWithText, HasNoKey, IsNowhere, ReadsVariable}
 use Rattle.bpaf_laws.specs.{Argument.is_key_with_value, Environment.first_set}
 use Rattle.bpaf_exact.specs.Flat.{ByName, Refused, Steady, cells, class, class_of, Variables}
 use Rattle.bpaf_exact.specs.Single.{Groups, gap_of, SingleErr, SingleOk, gave_absent, of_absent}
-use Rattle.bpaf_exact.specs.Single.{of_missing}
-use Rattle.bpaf_exact.specs.{Pieces.WithNext, Pieces.Roles, Pieces.Two, Pieces.IsNamed}
-use Rattle.bpaf_exact.specs.{Pieces.pieces, Alternative.TakesFirst}
-use Rattle.bpaf_exact.specs.{Leaves.argument_roles, Names.Owns}
+use Rattle.bpaf_exact.specs.Pieces.{WithNext, Roles, Two, IsNamed, pieces}
+use Rattle.bpaf_exact.specs.Alternative.{TakesFirst}
+use Rattle.bpaf_exact.specs.{Single.of_missing, Leaves.argument_roles, Names.Owns}
 use Rattle.bpaf_exact.proofs.Matching.{match_of, ByTest, by_test, test_named, test_owns, behind_of}
 use Rattle.bpaf_exact.proofs.Matching.{pair_is, two_taken, two_steady, no_pieces, absence_caught}
 use Rattle.bpaf_exact.proofs.{Product.steady_refl, Records.current_cells, Records.same_steady}

@@ -3,28 +3,25 @@ use Rattle.std.proofs.Common.{◌≡◌, ℕ, Bool, true, false, List, [], ◌�
 use Rattle.std.proofs.Common.{Some, None, ◌&&◌, ◌||◌, not, subst, ⊎_elim}
 use Rattle.bpaf_text.specs.Named.{KeyWithValue, argument_part}
 use Rattle.bpaf_line.specs.declared.error.Message.TheVariants.{Memory, NoArgument, ParseFailed}
-use Rattle.bpaf_line.specs.{declared.error.Error.Error, declared.error.Message.Message}
-use Rattle.bpaf_line.specs.{Situation.Situation}
+use Rattle.bpaf_line.specs.declared.error.Message.{Message}
+use Rattle.bpaf_line.specs.{declared.error.Error.Error, Situation.Situation}
 use Rattle.bpaf_laws.specs.Argument.{ArgumentOutcome, ArgumentFails, TakesOwnText, TakesBefore}
 use Rattle.bpaf_laws.specs.Argument.{GetsText, LacksText, is_key_with_value}
-use Rattle.bpaf_laws.specs.Environment.{first_set}
-use Rattle.bpaf_laws.specs.Repeat.{is_nil}
+use Rattle.bpaf_laws.specs.{Environment.first_set, Repeat.is_nil}
 use Rattle.bpaf_exact.specs.Flat.{ByName, class, class_of, cells, IsWholeIn, Variables}
 use Rattle.bpaf_exact.specs.Alternative.{AlternativeOk, AlternativeErr, alternative_memory}
 use Rattle.bpaf_exact.specs.Single.{FrontOf, Gap, gap_of, Groups, SingleErr, SingleLaw, SingleOk}
-use Rattle.bpaf_exact.specs.Single.{took}
-use Rattle.bpaf_exact.specs.Leaves.{argument_roles, ArgumentValue, argument_field}
-use Rattle.bpaf_exact.specs.Leaves.{argument_group, key_field}
-use Rattle.bpaf_exact.specs.{Alternative.AlternativeLaw, Single.of_memory, Single.of_piece}
-use Rattle.bpaf_exact.specs.{Pieces.Roles, Pieces.LinePiece, Pieces.One, Pieces.Two, Pieces.pieces}
-use Rattle.bpaf_exact.specs.ProgramForm.{FormLaw}
-use Rattle.bpaf_exact.proofs.ArgumentPieces.{TookPair, named, nowhere, owns, took_pair}
-use Rattle.bpaf_exact.proofs.ArgumentPieces.{test, no_key, variable_fault, variable_read}
+use Rattle.bpaf_exact.specs.Single.{took, of_memory, of_piece}
+use Rattle.bpaf_exact.specs.Leaves.{argument_roles, ArgumentValue, argument_field, argument_group}
+use Rattle.bpaf_exact.specs.Pieces.{Roles, LinePiece, One, Two, pieces}
+use Rattle.bpaf_exact.specs.{Alternative.AlternativeLaw, Leaves.key_field, ProgramForm.FormLaw}
+use Rattle.bpaf_exact.proofs.ArgumentPieces.{TookPair, named, nowhere, owns, took_pair, test}
+use Rattle.bpaf_exact.proofs.ArgumentPieces.{no_key, variable_fault, variable_read}
 use Rattle.bpaf_exact.proofs.Matching.{match_of, bare_taken, first_alternative, first_refused}
-use Rattle.bpaf_exact.proofs.{Matching.missing_same, Matching.absence_missing}
-use Rattle.bpaf_exact.proofs.{Classes.missing_class, First.first_pieces, First.first_takes}
-use Rattle.bpaf_exact.proofs.{First.takes_nonempty, LastArguments.last_argument_law}
+use Rattle.bpaf_exact.proofs.Matching.{missing_same, absence_missing}
+use Rattle.bpaf_exact.proofs.First.{first_pieces, first_takes, takes_nonempty}
 use Rattle.bpaf_exact.proofs.Alternative.{gap_empty, took_front}
+use Rattle.bpaf_exact.proofs.{Classes.missing_class, LastArguments.last_argument_law}
 
 -- the text of an argument behind its key
 takes_pair : (argument : KeyWithValue) → argument.last ≡ false → (s t : Situation) (text : List ℕ)

@@ -1,10 +1,10 @@
 -- A named field before others, the last of which are commands: together they keep to the laws of a
 -- program.
-use Rattle.std.proofs.Common.{◌≡◌, ◌≤◌, true, List, [], ◌∷◌, length, Some, None}
-use Rattle.std.proofs.Common.{Result, Ok, Err, refl, sym, ap, ◌∙◌, subst, arith, if◌then◌else◌}
+use Rattle.std.proofs.Common.{◌≡◌, ◌≤◌, true, List, [], ◌∷◌, length, Some, None, Result, Ok, Err}
+use Rattle.std.proofs.Common.{refl, sym, ap, ◌∙◌, subst, arith, if◌then◌else◌}
 use Rattle.bpaf_line.specs.{declared.error.Error.Error, Situation.Situation}
-use Rattle.bpaf_laws.specs.{Choice.depth, Product.BothOutcome, Product.ProductOutcome}
-use Rattle.bpaf_laws.specs.{Reading.Outcome}
+use Rattle.bpaf_laws.specs.Product.{BothOutcome, ProductOutcome}
+use Rattle.bpaf_laws.specs.{Choice.depth, Reading.Outcome}
 use Rattle.bpaf_exact.specs.Pieces.{Cells, Role, Foreign, Roles, LinePiece, One, Two, pieces, Apart}
 use Rattle.bpaf_exact.specs.Pieces.{is_own_role, IsNamed, TakesPiece, takes_one, takes_two}
 use Rattle.bpaf_exact.specs.Pieces.{takes_later, TakesPieces, takes_none, takes_more, Takes}
@@ -12,12 +12,11 @@ use Rattle.bpaf_exact.specs.Pieces.{no_cells, empty_stays, other_stays, takes_fl
 use Rattle.bpaf_exact.specs.Flat.{OfMemory, class, cells, NonePresent, IsWholeIn, ByName, FieldLaw}
 use Rattle.bpaf_exact.specs.Programs.{CellsValue, FieldThen, LeavesToOthers, ProgramLaw}
 use Rattle.bpaf_exact.specs.Programs.{IsSpelledLine, AllSpelled, no_cell, empty_cell, spelled_cell}
-use Rattle.bpaf_exact.specs.Wrappers.{ClosedValue}
+use Rattle.bpaf_exact.specs.Wrappers.{ClosedValue, map_closure}
 use Rattle.bpaf_exact.specs.{Pieces.either, Pieces.either_role, Flat.Variables, Programs.GivesAll}
-use Rattle.bpaf_exact.specs.{Wrappers.map_closure}
 use Rattle.bpaf_exact.proofs.Product.{none_outside_after, values_of_both, RefusedBy, for_memory}
-use Rattle.bpaf_exact.proofs.{Cells.nil_rest, Cells.nil_foreign, Cells.value_foreign}
-use Rattle.bpaf_exact.proofs.{Cells.begin_at, Product.by_first, Product.by_rest, Product.refused_by}
+use Rattle.bpaf_exact.proofs.Product.{by_first, by_rest, refused_by}
+use Rattle.bpaf_exact.proofs.Cells.{nil_rest, nil_foreign, value_foreign, begin_at}
 use Rattle.bpaf_exact.proofs.{Programs.cells_spelled, Records.current_cells}
 
 -- What is taken, and what is left.

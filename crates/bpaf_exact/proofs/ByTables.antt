@@ -4,33 +4,29 @@ use Rattle.std.proofs.Common.{Err, refl, sym, ap, ◌∙◌, subst, inl, inr, �
 use Rattle.std.proofs.Common.{length, not}
 use Rattle.std.specs.Global.{Vec}
 use Rattle.bpaf_doc.specs.Names.{Names}
-use Rattle.bpaf_line.specs.{declared.error.Error.Error, Messages.can_catch}
-use Rattle.bpaf_line.specs.{declared.error.Message.Message}
-use Rattle.bpaf_line.specs.{declared.error.Message.TheVariants.Missing, Situation.Situation}
-use Rattle.bpaf_laws.specs.Repeat.{ManyOutcome, SomeOutcome, CollectOutcome, CountOutcome}
-use Rattle.bpaf_laws.specs.{Repeat.LastOutcome, Repeat.is_nil, Hide.HideOutcome, Hide.hidden}
-use Rattle.bpaf_laws.specs.{Default.Gives, Default.GivesClone, Default.GivesAnswer}
-use Rattle.bpaf_laws.specs.{Default.FallbackOutcome, Reading.Outcome, Turn.TurnOutcome}
-use Rattle.bpaf_laws.specs.{Transform.MapOutcome, Transform.ParseOutcome, Transform.GuardOutcome}
+use Rattle.bpaf_line.specs.declared.error.Message.{Message}
+use Rattle.bpaf_line.specs.declared.error.Message.TheVariants.{Missing}
+use Rattle.bpaf_line.specs.{declared.error.Error.Error, Messages.can_catch, Situation.Situation}
+use Rattle.bpaf_laws.specs.Repeat.{ManyOutcome, SomeOutcome, CollectOutcome, CountOutcome, is_nil}
+use Rattle.bpaf_laws.specs.Default.{Gives, GivesClone, GivesAnswer, FallbackOutcome}
+use Rattle.bpaf_laws.specs.Transform.{MapOutcome, ParseOutcome, GuardOutcome}
+use Rattle.bpaf_laws.specs.{Hide.HideOutcome, Hide.hidden, Reading.Outcome, Turn.TurnOutcome}
 use Rattle.bpaf_exact.specs.Flat.{OfMemory, Caught, Refused, class, class_of, Variables, ErrorClass}
-use Rattle.bpaf_exact.specs.Single.{CanCatch, RepeatOutcome, catch_missing, catch_other}
+use Rattle.bpaf_exact.specs.Single.{CanCatch, RepeatOutcome, catch_missing, catch_other, OwnList}
 use Rattle.bpaf_exact.specs.Wrappers.{Closure, Decides, map_closure, parse_closure, guard_closure}
-use Rattle.bpaf_exact.specs.Wrappers.{answer_closure, ClosedEval, closed_yes}
-use Rattle.bpaf_exact.specs.Wrappers.{closed_no, closed_memory, closed_err, OptionalEval}
-use Rattle.bpaf_exact.specs.Wrappers.{optional_some, optional_none, optional_err, optional_memory}
-use Rattle.bpaf_exact.specs.Wrappers.{FallbackEval, fallback_ok, fallback_given, fallback_no}
-use Rattle.bpaf_exact.specs.Gathered.{list_closure, some_closure}
+use Rattle.bpaf_exact.specs.Wrappers.{answer_closure, ClosedEval, closed_yes, closed_no}
+use Rattle.bpaf_exact.specs.Wrappers.{closed_memory, closed_err, OptionalEval, optional_some}
+use Rattle.bpaf_exact.specs.Wrappers.{optional_none, optional_err, optional_memory, FallbackEval}
+use Rattle.bpaf_exact.specs.Wrappers.{fallback_ok, fallback_given, fallback_no, fallback_memory}
+use Rattle.bpaf_exact.specs.Wrappers.{fallback_err, FallbackValue}
 use Rattle.bpaf_exact.specs.ProgramForm.{ProgramForm, FormLaw, Agrees, program_closed, completed}
 use Rattle.bpaf_exact.specs.ProgramForm.{program_dressed, program_if, program_optional}
-use Rattle.bpaf_exact.specs.{Wrappers.fallback_memory, Wrappers.fallback_err}
-use Rattle.bpaf_exact.specs.{Wrappers.FallbackValue, Single.OwnList, Single.repeated}
-use Rattle.bpaf_exact.specs.{Gathered.LastOf}
+use Rattle.bpaf_exact.specs.{Single.repeated, Gathered.list_closure, Gathered.some_closure}
 use Rattle.bpaf_exact.proofs.Classes.{memory_class, caught_class, kept_class, stops_at, goes_on}
 use Rattle.bpaf_exact.proofs.ProgramForm.{listed_law, narrower_form, never_refuses}
 use Rattle.bpaf_exact.proofs.ProgramForm.{program_closed_law, program_dressed_law}
-use Rattle.bpaf_exact.proofs.ProgramForm.{program_fallback_law, program_last_law}
-use Rattle.bpaf_exact.proofs.ProgramForm.{program_optional_law, some_agrees}
-use Rattle.bpaf_exact.proofs.{Narrow.AllowsNoMore, Narrow.no_more}
+use Rattle.bpaf_exact.proofs.ProgramForm.{program_fallback_law, program_optional_law, some_agrees}
+use Rattle.bpaf_exact.proofs.Narrow.{AllowsNoMore, no_more}
 
 -- map
 map_within : (A B : Type 0) (inner : Outcome A) (answers : A → B → Type 0)

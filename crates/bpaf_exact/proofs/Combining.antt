@@ -1,10 +1,9 @@
 -- The class of two refusals combined.
 use Rattle.std.proofs.Common.{◌≡◌, Bool, true, false, if◌then◌else◌, refl, sym, ap, ◌∙◌, inl, inr}
 use Rattle.std.proofs.Common.{◌⊎◌, ⊎_elim, true≢false}
-use Rattle.bpaf_line.specs.declared.error.Message.{Message}
 use Rattle.bpaf_line.specs.declared.error.Message.TheVariants.{Missing, ParseFailure}
 use Rattle.bpaf_line.specs.Combining.{Combines, CombinesSpared}
-use Rattle.bpaf_line.specs.Messages.{is_memory, can_catch}
+use Rattle.bpaf_line.specs.{declared.error.Message.Message, Messages.is_memory, Messages.can_catch}
 use Rattle.bpaf_exact.specs.Flat.{OfMemory, OfMissing, Refused, is_missing, class_of_tests}
 use Rattle.bpaf_exact.specs.Flat.{class_of}
 use Rattle.bpaf_exact.proofs.Classes.{missing_caught}

@@ -1,35 +1,34 @@
 -- Closures round commands, choices of them, and commands that may be left out keep to the laws.
 use Rattle.std.proofs.Common.{◌≡◌, ◌≤◌, ℕ, Bool, true, false, ◌||◌, List, [], ◌++◌, length, Option}
 use Rattle.std.proofs.Common.{Some, None, Result, Ok, Err, refl, sym, ap, ◌∙◌, subst, inl, inr}
-use Rattle.std.proofs.{Common.⊎_elim, Common.arith, Common.true≢false, lemmas.Bool.and_parts}
-use Rattle.std.proofs.{lemmas.List.Folds.list_any-append}
+use Rattle.std.proofs.Common.{⊎_elim, arith, true≢false}
+use Rattle.std.proofs.{lemmas.Bool.and_parts, lemmas.List.Folds.list_any-append}
 use Rattle.bpaf_base.specs.Items.{is_command_word}
+use Rattle.bpaf_line.specs.Messages.{is_memory, is_wrong_input}
+use Rattle.bpaf_line.specs.Situation.{Situation, Context, beginning}
 use Rattle.bpaf_line.specs.{declared.error.Error.Error, declared.error.Message.Message}
 use Rattle.bpaf_line.specs.{declared.error.Message.TheVariants.Missing, Conflicts.ConflictsSaved}
-use Rattle.bpaf_line.specs.{Messages.is_memory, Messages.is_wrong_input, Situation.Situation}
-use Rattle.bpaf_line.specs.{Situation.Context, Situation.beginning}
 use Rattle.bpaf_laws.specs.Choice.{Chosen, depth, branch_of, ChoiceOutcome, EqualDepths, OneOk}
-use Rattle.bpaf_laws.specs.{Choice.Winner, Command.is_one_of, Reading.Outcome, Spared.IsNotMemory}
-use Rattle.bpaf_laws.specs.{Turn.is_untouched}
+use Rattle.bpaf_laws.specs.Spared.{IsNotMemory}
+use Rattle.bpaf_laws.specs.{Choice.Winner, Command.is_one_of, Reading.Outcome, Turn.is_untouched}
 use Rattle.bpaf_exact.specs.Flat.{ErrorClass, OfMemory, OfMissing, is_missing, class, cells}
 use Rattle.bpaf_exact.specs.Flat.{NonePresent, no_place, none_here, IsWholeIn, Variables}
 use Rattle.bpaf_exact.specs.Record.{line_cells, RunAnswer, Accepted, RunRan, run_value}
 use Rattle.bpaf_exact.specs.Record.{run_leftover, run_memory, run_refusal, IsAcceptedOrWant}
 use Rattle.bpaf_exact.specs.Wrappers.{Closure, AgreesOn, ClosedEval, closed_yes, closed_no}
 use Rattle.bpaf_exact.specs.Wrappers.{closed_memory, closed_err, OptionalEval, optional_some}
+use Rattle.bpaf_exact.specs.Wrappers.{ClosedValue, optional_none, optional_err, optional_memory}
 use Rattle.bpaf_exact.specs.Programs.{CellsValue, Opens, opens_here, opens_later, OpensNone}
 use Rattle.bpaf_exact.specs.Programs.{ChoiceValue, OptionalCommands, ProgramLaw, CommandsLaw}
 use Rattle.bpaf_exact.specs.Programs.{FindsNoCommand, WordsApart, IsSpelledLine, GivesAll}
-use Rattle.bpaf_exact.specs.Wrappers.{ClosedValue}
-use Rattle.bpaf_exact.specs.Wrappers.{optional_none, optional_err, optional_memory}
 use Rattle.bpaf_exact.specs.Pieces.{Cells, Roles, pieces, either}
 use Rattle.bpaf_exact.specs.Single.{Stops, nothing_found, caught, present_count}
-use Rattle.bpaf_exact.proofs.{BeforeCommands.apart_first, BeforeCommands.apart_second}
-use Rattle.bpaf_exact.proofs.{Choice.same_scope, Choice.cells_same, Choice.saved_steady}
-use Rattle.bpaf_exact.proofs.{Classes.memory_class, Classes.not_memory, Combining.combined_missing}
-use Rattle.bpaf_exact.proofs.{Combining.is_missing_of, Counts.open_present, Exact.first_cells_are}
-use Rattle.bpaf_exact.proofs.{Exact.no_value, Records.none_counted, Records.count_none}
-use Rattle.bpaf_exact.proofs.Exact.{all_whole}
+use Rattle.bpaf_exact.proofs.BeforeCommands.{apart_first, apart_second}
+use Rattle.bpaf_exact.proofs.Choice.{same_scope, cells_same, saved_steady}
+use Rattle.bpaf_exact.proofs.Combining.{combined_missing, is_missing_of}
+use Rattle.bpaf_exact.proofs.Exact.{first_cells_are, no_value, all_whole}
+use Rattle.bpaf_exact.proofs.Records.{none_counted, count_none}
+use Rattle.bpaf_exact.proofs.{Classes.memory_class, Classes.not_memory, Counts.open_present}
 
 -- Closures.
 module _ (A B : Type 0) (inner : Outcome A) (r : Roles) (value : CellsValue A) (f : Closure A B)

@@ -9,8 +9,7 @@ use Rattle.bpaf_index.proofs.Counts.{count_below-same, count_below-some}
 use Rattle.bpaf_line.proofs.{Matches.open_has_item, Places.open_in_line}
 use Rattle.bpaf_exact.specs.Pieces.{Cells, Roles, LinePiece, TakesPiece, takes_one, takes_two}
 use Rattle.bpaf_exact.specs.Pieces.{takes_later, TakesPieces, takes_none, takes_more}
-use Rattle.bpaf_exact.specs.Flat.{cells, first_cells}
-use Rattle.bpaf_exact.specs.Single.{present_count, TakesAny}
+use Rattle.bpaf_exact.specs.{Flat.cells, Flat.first_cells, Single.present_count, Single.TakesAny}
 
 -- a piece taken leaves fewer items
 pub takes_fewer : (q : Roles) {cs ds : Cells} {o : LinePiece} → TakesPiece q cs o ds

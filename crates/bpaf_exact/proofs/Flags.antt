@@ -2,28 +2,25 @@
 use Rattle.std.proofs.Common.{◌≡◌, ℕ, Bool, true, false, List, [], ◌∷◌, Option, Some, None, Ok}
 use Rattle.std.proofs.Common.{◌&&◌, not, refl, sym, ap, ◌∙◌, subst, ⊎_elim, true≢false}
 use Rattle.std.specs.Option.{is_none, is_some, IsSomeRelated}
-use Rattle.bpaf_text.specs.Named.{Named as Key, flag_part}
 use Rattle.bpaf_base.specs.Items.{is_key_of}
 use Rattle.bpaf_line.specs.{declared.error.Error.Error, declared.error.Message.Message}
 use Rattle.bpaf_line.specs.{declared.error.Message.TheVariants.Memory, Situation.Situation}
 use Rattle.bpaf_line.specs.{Situation.take_place, Taking.HasNone, Taking.TakesFlag}
-use Rattle.bpaf_laws.specs.Environment.{first_set, is_set}
-use Rattle.bpaf_laws.specs.Repeat.{is_nil}
 use Rattle.bpaf_laws.specs.Flag.{FlagOutcome, FlagFails, value_without_key}
+use Rattle.bpaf_laws.specs.{Environment.first_set, Environment.is_set, Repeat.is_nil}
 use Rattle.bpaf_exact.specs.Single.{Groups, Gap, FrontOf, SingleOk, gave_absent, took, SingleErr}
+use Rattle.bpaf_exact.specs.Single.{gap_of, of_memory, of_missing, SingleLaw}
 use Rattle.bpaf_exact.specs.Alternative.{AlternativeOk, AlternativeErr, alternative_memory}
 use Rattle.bpaf_exact.specs.Leaves.{flag_roles, FlagValue, flag_field, key_field}
-use Rattle.bpaf_exact.specs.{Single.gap_of}
-use Rattle.bpaf_exact.specs.{Single.of_memory, Single.of_missing, Single.SingleLaw}
-use Rattle.bpaf_exact.specs.{Alternative.AlternativeLaw, Pieces.Alone, Pieces.Roles}
-use Rattle.bpaf_exact.specs.{Pieces.LinePiece, Pieces.One, Pieces.IsNamed, Flat.class}
-use Rattle.bpaf_exact.specs.{Flat.class_of, Flat.IsWholeIn, Flat.ByName, Flat.Variables, Names.Owns}
-use Rattle.bpaf_exact.specs.ProgramForm.{FormLaw}
+use Rattle.bpaf_exact.specs.Pieces.{Alone, Roles, LinePiece, One, IsNamed}
+use Rattle.bpaf_exact.specs.Flat.{class, class_of, IsWholeIn, ByName, Variables}
+use Rattle.bpaf_exact.specs.{Alternative.AlternativeLaw, Names.Owns, ProgramForm.FormLaw}
 use Rattle.bpaf_exact.proofs.Alternative.{gap_empty, took_front}
 use Rattle.bpaf_exact.proofs.Matching.{match_of, ByTest, by_test, test_named, no_pieces, one_taken}
 use Rattle.bpaf_exact.proofs.Matching.{first_alternative, missing_same, absence_missing, test_owns}
 use Rattle.bpaf_exact.proofs.{Matching.absence_caught, Classes.missing_class, Product.steady_refl}
 use Rattle.bpaf_exact.proofs.{First.first_pieces, Places.take_steady}
+use Rattle.bpaf_text.specs.Named.{Named as Key, flag_part}
 
 -- a flag
 module _ (T : Type 0) (clones : T → T → Type 0) (key : Key) (present : T) where

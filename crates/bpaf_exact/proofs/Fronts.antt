@@ -2,12 +2,11 @@
 use Rattle.std.proofs.Common.{◌≡◌, Bool, true, false, List, [], ◌∷◌, ap, refl, if◌then◌else◌, ◌++◌}
 use Rattle.std.proofs.Common.{◌&&◌, ◌∙◌, sym, subst, not, take, drop, length, append-nil}
 use Rattle.std.specs.List.{position_or_len}
-use Rattle.std.proofs.Math.Seq.{drop-append_seam}
 use Rattle.std.proofs.lemmas.List.{append_assoc, take-append-drop}
-use Rattle.std.proofs.lemmas.List.Sums.{take_while-cons}
-use Rattle.bpaf_exact.specs.Flat.{FieldKind, ByName, OneWord, EachWord, back, front}
-use Rattle.bpaf_exact.specs.{Flat.NoKeysLeft, Flat.is_behind, Pieces.Cells}
-use Rattle.bpaf_exact.specs.{Pieces.LinePiece, Pieces.Roles, Pieces.pieces, Single.repeated}
+use Rattle.std.proofs.{Math.Seq.drop-append_seam, lemmas.List.Sums.take_while-cons}
+use Rattle.bpaf_exact.specs.Flat.{FieldKind, ByName, OneWord, EachWord, back, front, NoKeysLeft}
+use Rattle.bpaf_exact.specs.Pieces.{Cells, LinePiece, Roles, pieces}
+use Rattle.bpaf_exact.specs.{Flat.is_behind, Single.repeated}
 
 -- a list that something stands in isn't empty
 pub never_nil : {T : Type 0} (before : List T) (x : T) (behind : List T)

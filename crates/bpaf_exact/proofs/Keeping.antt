@@ -4,9 +4,8 @@ use Rattle.bpaf_doc.specs.Names.{Names}
 use Rattle.bpaf_laws.specs.{Product.BothOutcome, Reading.Outcome}
 use Rattle.bpaf_exact.specs.ProgramForm.{ProgramForm, FormLaw, program_alone, program_both}
 use Rattle.bpaf_exact.specs.ProgramSays.{FieldsKeep, ProgramFieldsSaid, ProgramSaid, ProgramSays}
-use Rattle.bpaf_exact.specs.{ProgramForm.program_field, ProgramSays.fields_said_inside}
-use Rattle.bpaf_exact.specs.{ProgramSays.said_alone, ProgramSays.said_both, Says.SaidKind}
-use Rattle.bpaf_exact.specs.{Flat.Variables}
+use Rattle.bpaf_exact.specs.ProgramSays.{fields_said_inside, said_alone, said_both}
+use Rattle.bpaf_exact.specs.{ProgramForm.program_field, Says.SaidKind, Flat.Variables}
 use Rattle.bpaf_exact.proofs.ProgramForm.{program_alone_law, program_both_law, program_field_law}
 use Rattle.bpaf_exact.proofs.ProgramSays.{inside_say, program_alone_says, program_both_say}
 

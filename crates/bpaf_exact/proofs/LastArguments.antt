@@ -4,22 +4,21 @@ use Rattle.std.proofs.Common.{⊎_elim, map}
 use Rattle.bpaf_text.specs.Named.{KeyWithValue}
 use Rattle.bpaf_base.specs.{declared.arg.Arg.Arg, Items.item_text}
 use Rattle.bpaf_line.specs.declared.error.Message.TheVariants.{Memory, NoArgument, ParseFailed}
-use Rattle.bpaf_line.specs.{declared.error.Error.Error, declared.error.Message.Message}
-use Rattle.bpaf_line.specs.{Situation.Situation}
+use Rattle.bpaf_line.specs.declared.error.Message.{Message}
+use Rattle.bpaf_line.specs.{declared.error.Error.Error, Situation.Situation}
 use Rattle.bpaf_laws.specs.Argument.{ArgumentOutcome, ArgumentFails, TakesKeysWithTexts}
 use Rattle.bpaf_laws.specs.Argument.{TakesOwnText, TakesBefore, is_key_with_value}
 use Rattle.bpaf_laws.specs.Environment.{first_set}
 use Rattle.bpaf_exact.specs.Pieces.{Roles, LinePiece, One, Two, pieces, takes_none, takes_more}
 use Rattle.bpaf_exact.specs.Flat.{class, class_of, cells, IsWholeIn, ByName, Steady, Refused}
 use Rattle.bpaf_exact.specs.Single.{Gap, gap_of, TakesAny, SingleOk, took, SingleErr, of_memory}
-use Rattle.bpaf_exact.specs.Single.{of_piece}
-use Rattle.bpaf_exact.specs.Leaves.{argument_roles}
-use Rattle.bpaf_exact.specs.{Flat.Variables, Single.SingleLaw, Leaves.LastGroup}
+use Rattle.bpaf_exact.specs.Leaves.{argument_roles, LastGroup}
+use Rattle.bpaf_exact.specs.{Flat.Variables, Single.of_piece, Single.SingleLaw}
 use Rattle.bpaf_exact.proofs.ArgumentPieces.{TookPair, test, named, took_pair, no_key, nowhere}
 use Rattle.bpaf_exact.proofs.ArgumentPieces.{variable_read, variable_fault}
-use Rattle.bpaf_exact.proofs.{First.first_takes, First.first_pieces, First.takes_nonempty}
-use Rattle.bpaf_exact.proofs.{Matching.match_of, Matching.bare_taken, Product.steady_trans}
-use Rattle.bpaf_exact.proofs.{Fronts.never_nil, Alternative.gap_empty}
+use Rattle.bpaf_exact.proofs.First.{first_takes, first_pieces, takes_nonempty}
+use Rattle.bpaf_exact.proofs.Matching.{match_of, bare_taken}
+use Rattle.bpaf_exact.proofs.{Product.steady_trans, Fronts.never_nil, Alternative.gap_empty}
 
 -- the last element of a list is one
 pub last_same : (T : Type 0) (xs ys : List T) (v w : T) → xs ++ (v ∷ []) ≡ ys ++ (w ∷ []) → v ≡ w

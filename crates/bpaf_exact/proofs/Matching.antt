@@ -8,23 +8,21 @@ use Rattle.bpaf_base.specs.declared.arg.Arg.{Arg}
 use Rattle.bpaf_base.specs.declared.arg.Arg.TheVariants.{ArgWord, Word}
 use Rattle.bpaf_base.specs.Items.{is_key_of, value_text, item_text}
 use Rattle.bpaf_line.specs.Taking.{open_item, is_match, IsFirst, HasNone, value_after}
-use Rattle.bpaf_line.specs.declared.error.Error.{Error}
-use Rattle.bpaf_line.specs.declared.error.Message.{Message}
 use Rattle.bpaf_line.specs.declared.error.Message.TheVariants.{Missing, NoEnv}
 use Rattle.bpaf_line.specs.Situation.{Situation, take_place}
+use Rattle.bpaf_line.specs.{declared.error.Error.Error, declared.error.Message.Message}
 use Rattle.bpaf_line.proofs.{Places.open_in_line, Matches.open_item_there}
 use Rattle.bpaf_laws.specs.Environment.{IsAbsence, MissesItem}
 use Rattle.bpaf_exact.specs.Pieces.{Role, Foreign, Alone, WithNext, Roles, LinePiece, One, Two}
+use Rattle.bpaf_exact.specs.Pieces.{is_value, is_key, is_own_role, IsNamed, pieces}
 use Rattle.bpaf_exact.specs.Flat.{OfMissing, Refused, is_missing, class, class_of, cells, Steady}
 use Rattle.bpaf_exact.specs.Alternative.{NotOwn, TakesFirst, HasBad, bad_here, AlternativeOk}
 use Rattle.bpaf_exact.specs.Alternative.{AlternativeErr, alternative_missing, alternative_refused}
-use Rattle.bpaf_exact.specs.Pieces.{is_value, is_key, is_own_role, IsNamed, pieces}
-use Rattle.bpaf_exact.specs.Names.{Owns}
-use Rattle.bpaf_exact.specs.Single.{CanCatch, catch_missing, catch_other}
+use Rattle.bpaf_exact.specs.{Names.Owns, Single.CanCatch, Single.catch_missing, Single.catch_other}
 use Rattle.bpaf_exact.proofs.Places.{take_steady, NoneBefore, take_one, take_two, none_present}
-use Rattle.bpaf_exact.proofs.{Places.BareHead, Places.bare_first, Places.open_one, Places.open_two}
-use Rattle.bpaf_exact.proofs.{Classes.missing_class, Product.steady_refl, Product.steady_trans}
-use Rattle.bpaf_exact.proofs.{First.first_takes, Names.named_key}
+use Rattle.bpaf_exact.proofs.Places.{BareHead, bare_first, open_one, open_two}
+use Rattle.bpaf_exact.proofs.Product.{steady_refl, steady_trans}
+use Rattle.bpaf_exact.proofs.{Classes.missing_class, First.first_takes, Names.named_key}
 
 -- the item of a match
 pub record Match (test : Arg → Bool) (s : Situation) (p : ℕ) : Type 0 where

@@ -1,14 +1,13 @@
 -- An outcome that allows no more than another keeps to the same laws.
-use Rattle.std.proofs.Common.{◌≡◌, Bool, true, false, List, Result, Ok, Err, refl, sym, ◌∙◌}
+use Rattle.std.proofs.Common.{◌≡◌, List, Result, Ok, Err, refl, sym, ◌∙◌}
 use Rattle.bpaf_line.specs.{declared.error.Error.Error, Situation.Situation}
 use Rattle.bpaf_laws.specs.Reading.{Outcome}
 use Rattle.bpaf_exact.specs.Alternative.{AlternativeErr, alternative_memory, alternative_missing}
-use Rattle.bpaf_exact.specs.Flat.{FieldKind, FieldLaw, FieldsLaw, FieldsReading, OfMemory}
+use Rattle.bpaf_exact.specs.Alternative.{alternative_refused, AlternativeLaw}
+use Rattle.bpaf_exact.specs.Flat.{FieldKind, FieldLaw, FieldsLaw, FieldsReading, OfMemory, class}
 use Rattle.bpaf_exact.specs.Single.{CanCatch, Gap, Groups, SingleErr, catch_missing, catch_other}
-use Rattle.bpaf_exact.specs.{Alternative.alternative_refused, Flat.class, Flat.Variables}
-use Rattle.bpaf_exact.specs.{Alternative.AlternativeLaw, Single.SingleLaw, Single.of_absent}
-use Rattle.bpaf_exact.specs.{Single.of_memory, Single.of_missing, Single.of_piece, Pieces.LinePiece}
-use Rattle.bpaf_exact.specs.{Pieces.Roles}
+use Rattle.bpaf_exact.specs.Single.{SingleLaw, of_absent, of_memory, of_missing, of_piece}
+use Rattle.bpaf_exact.specs.{Flat.Variables, Pieces.LinePiece, Pieces.Roles}
 
 -- what b allows a allows too, of a refusal one of the same class
 pub record AllowsNoMore (T : Type 0) (a b : Outcome T) : Type 0 where

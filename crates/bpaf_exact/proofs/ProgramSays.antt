@@ -1,16 +1,14 @@
 -- Of each combinator: its values say what is told of them, where those of its inner parsers do.
-use Rattle.std.proofs.Common.{◌≡◌, ℕ, Bool, true, false, List, [], ◌∷◌, ◌++◌, Some, None}
-use Rattle.std.proofs.Common.{not, ◌&&◌, refl, zero, suc, arith, inl, inr}
+use Rattle.std.proofs.Common.{◌≡◌, ℕ, Bool, true, false, List, [], ◌∷◌, ◌++◌, Some, None, not, ◌&&◌}
+use Rattle.std.proofs.Common.{refl, zero, suc, arith, inl, inr}
 use Rattle.std.proofs.lemmas.Bool.{and_parts}
 use Rattle.std.specs.List.{Contains}
 use Rattle.bpaf_doc.specs.Names.{Names}
-use Rattle.bpaf_laws.specs.{Command.Called, Command.opening_words}
-use Rattle.bpaf_laws.specs.{Reading.Outcome}
-use Rattle.bpaf_exact.specs.Says.{SaidKind, form_kind, of_kind, repeated_kind, Said, Says}
-use Rattle.bpaf_exact.specs.Says.{MadeSays, FallbackSays, LastSays, RepeatSays, FormSays, Fits}
+use Rattle.bpaf_laws.specs.{Command.Called, Command.opening_words, Reading.Outcome}
+use Rattle.bpaf_exact.specs.Says.{SaidKind, form_kind, of_kind, repeated_kind, Said, Says, FormSays}
 use Rattle.bpaf_exact.specs.ProgramForm.{ProgramForm, no_program, alternative, single, complete}
-use Rattle.bpaf_exact.specs.ProgramForm.{product, commands, before_commands, FormLaw, EachAgrees}
-use Rattle.bpaf_exact.specs.ProgramForm.{program_if, program_closed, program_dressed, completed}
+use Rattle.bpaf_exact.specs.ProgramForm.{product, commands, before_commands, FormLaw, program_if}
+use Rattle.bpaf_exact.specs.ProgramForm.{program_closed, program_dressed, completed}
 use Rattle.bpaf_exact.specs.ProgramForm.{program_optional, program_choice, choice_only}
 use Rattle.bpaf_exact.specs.ProgramForm.{program_field, program_both, program_alone, program_con}
 use Rattle.bpaf_exact.specs.ProgramForm.{whole_program, program_value, is_program, program_command}
@@ -18,23 +16,20 @@ use Rattle.bpaf_exact.specs.ProgramForm.{are_words_apart, product_roles, product
 use Rattle.bpaf_exact.specs.Programs.{CellsValue, CommandValue, ChoiceValue, OptionalCommands}
 use Rattle.bpaf_exact.specs.ProgramSays.{ProgramSaid, of_pieces, of_cells, ProgramFieldsSaid}
 use Rattle.bpaf_exact.specs.ProgramSays.{of_all_pieces, of_all_cells, IsSaid, CellsSay}
-use Rattle.bpaf_exact.specs.ProgramSays.{ProgramFormSays, ProgramSays, ProgramFieldsFormSay}
-use Rattle.bpaf_exact.specs.ProgramSays.{ProgramFieldsSay, cells_said, said_choice}
-use Rattle.bpaf_exact.specs.ProgramSays.{said_alone, said_both, said_con, said_closed}
-use Rattle.bpaf_exact.specs.ProgramSays.{said_command, said_dressed, said_optional}
-use Rattle.bpaf_exact.specs.ProgramSays.{said_fallback, said_last, said_repeat, fields_said_inside}
-use Rattle.bpaf_exact.specs.{Wrappers.ClosedValue, Programs.are_plain}
-use Rattle.bpaf_exact.specs.{Wrappers.FallbackValue, Wrappers.OptionalValue, Single.OwnList}
-use Rattle.bpaf_exact.specs.{Single.SingleValue, Single.repeated, Gathered.LastOf}
-use Rattle.bpaf_exact.specs.{Pieces.Roles, Pieces.LinePiece, Flat.ByName}
-use Rattle.bpaf_exact.specs.{Flat.Variables, Flat.FieldKind, Flat.FieldsReading, Flat.ReadOff}
-use Rattle.bpaf_exact.specs.{Names.are_all_apart, Names.Owns, Wrappers.Closure, Single.Groups}
-use Rattle.bpaf_exact.specs.{Single.Gap, ProgramSays.CutSays, ProgramSays.FieldThenSays}
-use Rattle.bpaf_exact.proofs.Says.{alone_says, both_say, choice_into, choice_says}
-use Rattle.bpaf_exact.proofs.Says.{closed_says, con_says, field_owned, field_says, optional_says}
-use Rattle.bpaf_exact.proofs.Says.{owned, record_says, unless_says, fallback_says, OwnsKeys}
-use Rattle.bpaf_exact.proofs.{Says.last_says, Says.listed_says, ProgramForm.whole_law}
-use Rattle.bpaf_exact.proofs.{Sharing.cut_fit, Sharing.taken_own, Cuts.read_cut}
+use Rattle.bpaf_exact.specs.ProgramSays.{ProgramFormSays, ProgramSays, ProgramFieldsSay, cells_said}
+use Rattle.bpaf_exact.specs.ProgramSays.{said_choice, said_alone, said_both, said_con, said_closed}
+use Rattle.bpaf_exact.specs.ProgramSays.{said_command, said_dressed, said_optional, said_fallback}
+use Rattle.bpaf_exact.specs.ProgramSays.{said_last, said_repeat, fields_said_inside, CutSays}
+use Rattle.bpaf_exact.specs.Wrappers.{ClosedValue, FallbackValue, OptionalValue, Closure}
+use Rattle.bpaf_exact.specs.Single.{OwnList, repeated, Groups, Gap}
+use Rattle.bpaf_exact.specs.Flat.{ByName, Variables, FieldKind, ReadOff}
+use Rattle.bpaf_exact.specs.{Programs.are_plain, ProgramSays.FieldThenSays, Names.are_all_apart}
+use Rattle.bpaf_exact.specs.{Names.Owns, Gathered.LastOf, Pieces.LinePiece}
+use Rattle.bpaf_exact.proofs.Says.{alone_says, both_say, choice_into, choice_says, closed_says}
+use Rattle.bpaf_exact.proofs.Says.{con_says, field_owned, field_says, optional_says, owned}
+use Rattle.bpaf_exact.proofs.Says.{record_says, unless_says, fallback_says, OwnsKeys, last_says}
+use Rattle.bpaf_exact.proofs.Sharing.{cut_fit, taken_own}
+use Rattle.bpaf_exact.proofs.{Says.listed_says, ProgramForm.whole_law, Cuts.read_cut}
 
 -- where a test holds
 cells_if : {T : Type 0} (b : Bool) (s : ProgramForm T) (said : CellsValue T)

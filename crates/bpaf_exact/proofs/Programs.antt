@@ -3,32 +3,31 @@
 use Rattle.std.proofs.Common.{◌≡◌, ◌≤◌, ◌<◌, ℕ, zero, suc, Bool, true, false, not, ◌&&◌, List, []}
 use Rattle.std.proofs.Common.{◌∷◌, length, Option, Some, None, Result, Ok, Err, refl, sym, ap, ◌∙◌}
 use Rattle.std.proofs.Common.{subst, inl, inr, ⊎_elim, arith, true≢false, if◌then◌else◌, ◌||◌}
-use Rattle.std.proofs.{Common.bytes_eq, lemmas.Bool.cases_lt, lemmas.Bool.cases_Bool}
-use Rattle.std.proofs.{lemmas.Bool.and_parts, lemmas.Bool.Decides.nat_tests}
-use Rattle.std.proofs.{lemmas.List.length_push, lemmas.Slice.Eq.bytes_eq-Decides}
+use Rattle.std.proofs.lemmas.Bool.{cases_lt, cases_Bool, and_parts}
+use Rattle.std.proofs.lemmas.Slice.Eq.{bytes_eq-Decides}
+use Rattle.std.proofs.{Common.bytes_eq, lemmas.Bool.Decides.nat_tests, lemmas.List.length_push}
 use Rattle.std.specs.{List.list_any, Option.option_map_or}
-use Rattle.bpaf_base.specs.{declared.arg.Arg.Arg, declared.arg.Arg.TheVariants.Short}
-use Rattle.bpaf_base.specs.{declared.arg.Arg.TheVariants.Long, Items.any_item}
-use Rattle.bpaf_line.specs.{declared.error.Error.Error, Situation.Situation, Situation.in_scope}
-use Rattle.bpaf_line.specs.{Situation.is_taken, Situation.item_at, Taking.open_item}
+use Rattle.bpaf_base.specs.declared.arg.Arg.TheVariants.{Short, Long}
+use Rattle.bpaf_base.specs.{declared.arg.Arg.Arg, Items.any_item}
+use Rattle.bpaf_line.specs.Situation.{Situation, in_scope, is_taken, item_at}
+use Rattle.bpaf_line.specs.{declared.error.Error.Error, Taking.open_item}
 use Rattle.bpaf_line.proofs.Places.{open_in_scope, taken_here, taken_other, taken_stays}
 use Rattle.bpaf_line.proofs.Matches.{match_is_open, open_item_there}
 use Rattle.bpaf_laws.specs.Command.{Called, IsNotOpened, IsOpenedAt, inside, is_one_of}
 use Rattle.bpaf_laws.specs.{Command.opening_words, Choice.depth, Reading.Outcome}
 use Rattle.bpaf_exact.specs.Flat.{cells, first_cells, NonePresent, IsWholeIn, FieldsLaw}
+use Rattle.bpaf_exact.specs.Flat.{FieldsReading, ReadOff, Variables}
 use Rattle.bpaf_exact.specs.Programs.{CellsValue, Opens, opens_here, opens_later, OpensNone}
 use Rattle.bpaf_exact.specs.Programs.{is_dashed, is_spelled, IsSpelledLine, AllSpelled, no_cell}
 use Rattle.bpaf_exact.specs.Programs.{empty_cell, spelled_cell, are_plain, CommandValue}
 use Rattle.bpaf_exact.specs.Programs.{LeavesToOthers, ProgramLaw, FindsNoCommand, CommandsLaw}
 use Rattle.bpaf_exact.specs.Programs.{CommandEval, command_value, command_leftover, command_refused}
-use Rattle.bpaf_exact.specs.Flat.{FieldsReading, ReadOff, Variables}
 use Rattle.bpaf_exact.specs.Programs.{command_missing, command_memory, GivesAll}
 use Rattle.bpaf_exact.specs.Pieces.{Cells, Roles, pieces, IsNamed, is_key}
-use Rattle.bpaf_exact.proofs.{Choice.HasItem, Choice.has_item, Counts.open_present}
-use Rattle.bpaf_exact.proofs.{Matching.match_of, Places.same_cells, Places.same_item}
-use Rattle.bpaf_exact.proofs.{Places.closed_item, Places.TakenOne, Product.no_own_in_cut}
-use Rattle.bpaf_exact.proofs.{Records.count_none, Cells.begin_at}
-use Rattle.bpaf_exact.proofs.Cuts.{read_cut}
+use Rattle.bpaf_exact.proofs.Choice.{HasItem, has_item}
+use Rattle.bpaf_exact.proofs.Places.{same_cells, same_item, closed_item, TakenOne}
+use Rattle.bpaf_exact.proofs.{Counts.open_present, Matching.match_of, Product.no_own_in_cut}
+use Rattle.bpaf_exact.proofs.{Records.count_none, Cells.begin_at, Cuts.read_cut}
 
 -- A command's word on cells.
 

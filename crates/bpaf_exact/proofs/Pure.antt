@@ -4,11 +4,10 @@ use Rattle.bpaf_line.specs.{Situation.Situation, declared.error.Error.Error}
 use Rattle.bpaf_laws.specs.{Default.GivesClone, Pure.PureOutcome}
 use Rattle.bpaf_doc.specs.Names.{Names}
 use Rattle.bpaf_exact.specs.Flat.{ByName, FieldTook, IsWholeIn, OfMemory, cells, class, Variables}
-use Rattle.bpaf_exact.specs.{Pieces.LinePiece, Pieces.TakesPieces, Pieces.no_roles}
-use Rattle.bpaf_exact.specs.{Pieces.takes_none, ProgramForm.FormLaw, Leaves.pure_field, Says.Says}
-use Rattle.bpaf_exact.specs.{Says.of_kind}
+use Rattle.bpaf_exact.specs.Pieces.{LinePiece, TakesPieces, no_roles, takes_none}
+use Rattle.bpaf_exact.specs.{ProgramForm.FormLaw, Leaves.pure_field, Says.Says, Says.of_kind}
+use Rattle.bpaf_exact.proofs.NamedProducts.{none_of_nobody}
 use Rattle.bpaf_exact.proofs.{Classes.memory_class, ProgramForm.no_names, Records.current_cells}
-use Rattle.bpaf_exact.proofs.{NamedProducts.none_of_nobody}
 
 module _ (T : Type 0) (clones : T → T → Type 0) (kept : T) where
   -- what it stands for

@@ -3,15 +3,14 @@ use Rattle.std.proofs.Common.{◌≡◌, List, [], ◌∷◌, Some, None, Ok, re
 use Rattle.bpaf_line.specs.Situation.{Situation, with_current}
 use Rattle.bpaf_laws.specs.{Product.ProductOutcome, Reading.Outcome}
 use Rattle.bpaf_exact.specs.Pieces.{Cells, Roles, Role, Foreign, LinePiece, IsNamed, Cut, either}
+use Rattle.bpaf_exact.specs.Pieces.{either_role, no_roles, pieces}
 use Rattle.bpaf_exact.specs.Flat.{cells, NonePresent, no_place, none_here, IsWholeIn, Steady}
 use Rattle.bpaf_exact.specs.Flat.{FieldKind, ByName, keys, OwnItems, FieldLaw, FieldsLaw, ReadOff}
 use Rattle.bpaf_exact.specs.Flat.{Before, FieldsReading, HasValue, portion, front, Variables}
-use Rattle.bpaf_exact.specs.{Pieces.either_role, Pieces.no_roles, Pieces.pieces}
-use Rattle.bpaf_exact.specs.{Single.present_count, Wrappers.map_closure}
-use Rattle.bpaf_exact.specs.{Record.last_reading, Wrappers.ClosedValue}
-use Rattle.bpaf_exact.proofs.Words.{empty_cut, cut_empty}
+use Rattle.bpaf_exact.specs.Wrappers.{map_closure, ClosedValue}
+use Rattle.bpaf_exact.specs.{Single.present_count, Record.last_reading}
 use Rattle.bpaf_exact.proofs.Product.{step_back, none_left, own_portion, step_on}
-use Rattle.bpaf_exact.proofs.Cuts.{read_off}
+use Rattle.bpaf_exact.proofs.{Words.empty_cut, Words.cut_empty, Cuts.read_off}
 
 -- Nothing is present where the count is nought.
 pub none_counted : (cs : Cells) → present_count cs ≡ 0 → NonePresent cs

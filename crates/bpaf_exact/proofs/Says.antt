@@ -2,20 +2,15 @@
 use Rattle.std.proofs.Common.{◌≡◌, ℕ, Bool, true, false, List, [], ◌∷◌, ◌++◌, Option, Some, None}
 use Rattle.std.proofs.Common.{◌&&◌, ◌||◌, not, refl, sym, ap, ◌∙◌, subst, append-nil, inl, inr}
 use Rattle.bpaf_doc.specs.Names.{Names}
-use Rattle.bpaf_text.specs.Named.{Named as Key, KeyWithValue}
-use Rattle.bpaf_laws.specs.Reading.{Outcome}
 use Rattle.bpaf_exact.specs.Pieces.{Roles, LinePiece, One, Two, is_own, mine, others, either}
 use Rattle.bpaf_exact.specs.Flat.{FieldKind, ByName, OneWord, EachWord, FieldsReading, keys, front}
 use Rattle.bpaf_exact.specs.Single.{Groups, Gap, FrontOf, Own, own_none, own_more, OwnList, listed}
-use Rattle.bpaf_exact.specs.Single.{listed_and_absent, only_absent, SingleValue}
+use Rattle.bpaf_exact.specs.Single.{listed_and_absent, only_absent, SingleValue, gap_of, repeated}
 use Rattle.bpaf_exact.specs.Wrappers.{Closure, OptionalValue, FallbackValue}
-use Rattle.bpaf_exact.specs.{Single.gap_of}
 use Rattle.bpaf_laws.specs.Flag.{value_without_key}
 use Rattle.bpaf_exact.specs.Leaves.{flag_field, flag_roles, FlagValue, argument_field}
-use Rattle.bpaf_exact.specs.Leaves.{argument_group, argument_roles, key_field}
-use Rattle.bpaf_laws.specs.Environment.{first_set}
-use Rattle.bpaf_laws.specs.Repeat.{is_nil}
-use Rattle.std.specs.Option.{is_none, IsSomeRelated}
+use Rattle.bpaf_exact.specs.Leaves.{argument_group, argument_roles, key_field, ArgumentValue}
+use Rattle.bpaf_laws.specs.{Reading.Outcome, Environment.first_set, Repeat.is_nil}
 use Rattle.bpaf_exact.specs.ProgramForm.{ProgramForm, FormLaw, no_program, alternative, single}
 use Rattle.bpaf_exact.specs.ProgramForm.{complete, product, commands, before_commands, program_if}
 use Rattle.bpaf_exact.specs.ProgramForm.{program_closed, program_choice, completed}
@@ -29,18 +24,18 @@ use Rattle.bpaf_exact.specs.Says.{WordSays, EitherSays, says_this, says_that, Ma
 use Rattle.bpaf_exact.specs.Says.{OptionalSays, says_some, says_none, FallbackSays, says_own}
 use Rattle.bpaf_exact.specs.Says.{says_kept, FrontSays, RepeatSays, says_in_turn, says_alone}
 use Rattle.bpaf_exact.specs.Says.{LastSays, FieldsSaid, RecordSays, FormSays, Says, FieldsFormSays}
-use Rattle.bpaf_exact.specs.{Pieces.no_roles, Flat.back, Flat.both_reading}
-use Rattle.bpaf_exact.specs.{Flat.Variables, Single.repeated, Leaves.ArgumentValue}
-use Rattle.bpaf_exact.specs.{Leaves.WordValue, Leaves.word_by, Says.FieldsSay}
-use Rattle.bpaf_exact.specs.{Says.its_pieces, Says.words_after, Names.Owns, Names.are_all_apart}
+use Rattle.bpaf_exact.specs.Says.{FieldsSay, its_pieces, words_after}
+use Rattle.bpaf_exact.specs.{Pieces.no_roles, Flat.back, Flat.both_reading, Flat.Variables}
+use Rattle.bpaf_exact.specs.{Leaves.WordValue, Leaves.word_by, Names.Owns, Names.are_all_apart}
 use Rattle.bpaf_exact.specs.{Gathered.LastOf, Alternative.either_value, Record.last_reading}
-use Rattle.std.specs.Prelude.{MatchBool}
+use Rattle.std.specs.{Option.is_none, Option.IsSomeRelated, Prelude.MatchBool}
 use Rattle.bpaf_exact.proofs.Sharing.{mine_rest, others_fit, others_rest, rest_fit, apart_none}
 use Rattle.bpaf_exact.proofs.Sharing.{each_own, first_fits, no_fits, own_fit, second_fits}
 use Rattle.bpaf_exact.proofs.Sharing.{mine_keyed, others_unkeyed, mine_within, first_within}
 use Rattle.bpaf_exact.proofs.Sharing.{second_within, mine_of_others, mine_none, others_none}
-use Rattle.bpaf_exact.proofs.{Sharing.all_mine, Sharing.others_both, Sharing.none_behind}
+use Rattle.bpaf_exact.proofs.Sharing.{all_mine, others_both, none_behind}
 use Rattle.bpaf_exact.proofs.{Fronts.all_front, Fronts.never_nil, Names.apart_of_names}
+use Rattle.bpaf_text.specs.Named.{Named as Key, KeyWithValue}
 
 -- Leaves.
 

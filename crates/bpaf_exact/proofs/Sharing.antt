@@ -2,17 +2,16 @@
 use Rattle.std.proofs.Common.{◌≡◌, Bool, true, false, List, [], ◌∷◌, refl, sym, ap, ◌∙◌}
 use Rattle.std.proofs.Common.{if◌then◌else◌, not, ◌++◌, ◌||◌, ◌⊎◌, ⊎_elim, inl, inr}
 use Rattle.std.proofs.lemmas.List.Folds.{list_any-append}
-use Rattle.bpaf_base.specs.{Items.is_key_of, Items.is_positional, declared.arg.Arg.TheVariants.Word}
-use Rattle.bpaf_base.specs.{declared.arg.Arg.TheVariants.PosWord, declared.arg.Arg.Arg}
-use Rattle.bpaf_exact.specs.Pieces.{Cells, Cut, argument, at_end, flag, passed, word}
-use Rattle.bpaf_exact.specs.Pieces.{Takes, no_cells, empty_stays, other_stays, takes_flag}
-use Rattle.bpaf_exact.specs.Pieces.{takes_argument, Role, Foreign, Alone, WithNext, Roles}
-use Rattle.bpaf_exact.specs.Pieces.{LinePiece, One}
-use Rattle.bpaf_exact.specs.Pieces.{Two, is_own_role, is_own, mine, others, either, either_role}
-use Rattle.bpaf_exact.specs.{Names.are_all_apart, Names.Owns, Names.is_key_of_any, Says.EachOwn}
-use Rattle.bpaf_exact.specs.{Says.Fits, Says.first_item, Says.keyed, Says.unkeyed, Flat.OneWord}
-use Rattle.bpaf_exact.specs.{ProgramForm.may_follow}
-use Rattle.bpaf_exact.proofs.{Names.one_list, Names.or_true}
+use Rattle.bpaf_base.specs.declared.arg.Arg.TheVariants.{Word, PosWord}
+use Rattle.bpaf_base.specs.{Items.is_key_of, Items.is_positional, declared.arg.Arg.Arg}
+use Rattle.bpaf_exact.specs.Pieces.{Cells, Cut, argument, at_end, flag, passed, word, Takes}
+use Rattle.bpaf_exact.specs.Pieces.{no_cells, empty_stays, other_stays, takes_flag, takes_argument}
+use Rattle.bpaf_exact.specs.Pieces.{Role, Foreign, Alone, WithNext, Roles, LinePiece, One, Two}
+use Rattle.bpaf_exact.specs.Pieces.{is_own_role, is_own, mine, others, either, either_role}
+use Rattle.bpaf_exact.specs.Names.{are_all_apart, Owns, is_key_of_any}
+use Rattle.bpaf_exact.specs.Says.{EachOwn, Fits, first_item, keyed, unkeyed}
+use Rattle.bpaf_exact.specs.{Flat.OneWord, ProgramForm.may_follow}
+use Rattle.bpaf_exact.proofs.Names.{one_list, or_true}
 use Rattle.bpaf_doc.specs.Names.{Names}
 
 -- a test that holds of no item fails

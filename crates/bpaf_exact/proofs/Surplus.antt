@@ -7,10 +7,9 @@ use Rattle.bpaf_exact.specs.Single.{listed_and_absent, only_absent, SingleValue,
 use Rattle.bpaf_exact.specs.Wrappers.{Closure, OptionalValue, FallbackValue}
 use Rattle.bpaf_exact.specs.ProgramForm.{ProgramForm, alternative, single, complete, product}
 use Rattle.bpaf_exact.specs.ProgramForm.{program_closed, completed, program_field, program_if}
+use Rattle.bpaf_exact.specs.Accepted.{OneByOne, AtMostOne, HasNoSurplus, IsPartOf}
 use Rattle.bpaf_exact.specs.{Pieces.Roles, Pieces.LinePiece, Gathered.LastOf, Alternative.HasBad}
-use Rattle.bpaf_exact.specs.{Record.last_reading, Leaves.key_field}
-use Rattle.bpaf_exact.specs.{Leaves.word_by, Accepted.OneByOne, Accepted.AtMostOne}
-use Rattle.bpaf_exact.specs.{Accepted.HasNoSurplus, Accepted.IsPartOf}
+use Rattle.bpaf_exact.specs.{Record.last_reading, Leaves.key_field, Leaves.word_by}
 use Rattle.bpaf_exact.proofs.Alternative.{own_bad}
 
 -- A surplus occurrence.

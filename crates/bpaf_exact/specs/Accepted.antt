@@ -2,13 +2,11 @@
 -- without a repeat has an occurrence too many.
 use Rattle.std.specs.Prelude.{◌≡◌, ℕ, Bool, true, false, List, [], ◌∷◌, ◌++◌, Some}
 use Rattle.std.specs.List.{AllPass}
-use Rattle.bpaf_base.specs.Items.{is_positional}
-use Rattle.bpaf_base.specs.declared.arg.Arg.{Arg}
 use Rattle.bpaf_base.specs.declared.arg.Arg.TheVariants.{ArgWord}
+use Rattle.bpaf_base.specs.{Items.is_positional, declared.arg.Arg.Arg}
 use Rattle.bpaf_exact.specs.Pieces.{Cells, Roles, WithNext, LinePiece, One, Two, is_value, is_key}
-use Rattle.bpaf_exact.specs.Pieces.{is_own_role, others, Cut}
-use Rattle.bpaf_exact.specs.Single.{Groups}
 use Rattle.bpaf_exact.specs.ProgramForm.{ProgramForm, single, complete, product}
+use Rattle.bpaf_exact.specs.{Pieces.is_own_role, Pieces.others, Pieces.Cut, Single.Groups}
 
 -- Behind an argument's key stands its value. Both are one piece, and the words left to positional
 -- fields are those before the key and those behind the value.

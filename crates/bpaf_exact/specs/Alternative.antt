@@ -1,8 +1,7 @@
 -- Required flags and arguments, and choices of them: each piece has its value by itself.
 use Rattle.std.specs.Prelude.{◌≡◌, true, List, [], ◌∷◌, Option, Some, None, Ok, Err, ◌⊎◌, MatchBool}
 use Rattle.bpaf_base.specs.declared.arg.Arg.{Arg}
-use Rattle.bpaf_line.specs.declared.error.Error.{Error}
-use Rattle.bpaf_line.specs.Situation.{Situation}
+use Rattle.bpaf_line.specs.{declared.error.Error.Error, Situation.Situation}
 use Rattle.bpaf_laws.specs.Reading.{Outcome}
 use Rattle.bpaf_exact.specs.Pieces.{Cells, Roles, Foreign, Alone, WithNext, LinePiece, One, Two}
 use Rattle.bpaf_exact.specs.Pieces.{is_value, is_own, pieces, TakesPiece, IsNamed}

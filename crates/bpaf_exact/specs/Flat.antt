@@ -3,18 +3,15 @@
 use Rattle.std.specs.Prelude.{◌≡◌, ◌<◌, ℕ, zero, suc, Bool, true, false, List, [], ◌∷◌, length}
 use Rattle.std.specs.Prelude.{Option, None, Ok, Err, if◌then◌else◌, not, take, drop, filter}
 use Rattle.std.specs.List.{before_first}
-use Rattle.bpaf_base.specs.declared.arg.Arg.{Arg}
-use Rattle.bpaf_line.specs.declared.error.Error.{Error}
-use Rattle.bpaf_line.specs.declared.error.Message.{Message}
 use Rattle.bpaf_line.specs.declared.error.Message.TheVariants.{Missing}
-use Rattle.bpaf_line.specs.Messages.{is_memory, can_catch}
 use Rattle.bpaf_line.specs.Situation.{Situation, is_taken}
-use Rattle.bpaf_line.specs.Taking.{open_item}
+use Rattle.bpaf_line.specs.{declared.error.Error.Error, declared.error.Message.Message}
+use Rattle.bpaf_line.specs.{Messages.is_memory, Messages.can_catch, Taking.open_item}
 use Rattle.bpaf_laws.specs.Reading.{Outcome}
-use Rattle.bpaf_exact.specs.Pieces.{Cells, Roles, Foreign, LinePiece, One, Two, is_own}
-use Rattle.bpaf_exact.specs.Pieces.{no_roles, stands_behind, word_roles, IsNamed, Apart, Cut}
-use Rattle.bpaf_exact.specs.Pieces.{pieces, TakesPieces, Takes, either, roles_of, Alone}
-use Rattle.bpaf_base.specs.Items.{is_positional}
+use Rattle.bpaf_exact.specs.Pieces.{Cells, Roles, Foreign, LinePiece, One, Two, is_own, no_roles}
+use Rattle.bpaf_exact.specs.Pieces.{stands_behind, word_roles, IsNamed, Apart, Cut, pieces}
+use Rattle.bpaf_exact.specs.Pieces.{TakesPieces, Takes, either, roles_of, Alone}
+use Rattle.bpaf_base.specs.{declared.arg.Arg.Arg, Items.is_positional}
 
 -- the classes of refusals
 pub data ErrorClass : Type 0 where

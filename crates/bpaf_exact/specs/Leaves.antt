@@ -3,21 +3,17 @@ use Rattle.std.specs.Prelude.{◌≡◌, ℕ, Bool, true, false, List, [], ◌�
 use Rattle.std.specs.Prelude.{Ok, Err, not, ◌&&◌, ◌||◌, ◌++◌, map}
 use Rattle.std.specs.Option.{is_none}
 use Rattle.bpaf_doc.specs.Names.{Names}
-use Rattle.bpaf_text.specs.Named.{Named as Key, KeyWithValue}
 use Rattle.bpaf_base.specs.declared.arg.Arg.{Arg}
 use Rattle.bpaf_base.specs.Items.{is_argument_key, is_key_of, is_positional, item_text, word_text}
-use Rattle.bpaf_line.specs.declared.error.Error.{Error}
-use Rattle.bpaf_line.specs.Situation.{Situation}
 use Rattle.bpaf_line.specs.Taking.{TakesText, HasNone}
-use Rattle.bpaf_laws.specs.Environment.{first_set}
-use Rattle.bpaf_laws.specs.Flag.{value_without_key}
-use Rattle.bpaf_laws.specs.Repeat.{is_nil}
+use Rattle.bpaf_line.specs.{declared.error.Error.Error, Situation.Situation}
+use Rattle.bpaf_laws.specs.{Environment.first_set, Flag.value_without_key, Repeat.is_nil}
 use Rattle.bpaf_exact.specs.Pieces.{Roles, Alone, WithNext, LinePiece, One, Two, no_roles}
-use Rattle.bpaf_exact.specs.Pieces.{stands_behind, roles_of}
 use Rattle.bpaf_exact.specs.Flat.{ByName, Caught, OneWord, OfMemory, OfMissing, Refused, Variables}
-use Rattle.bpaf_exact.specs.Flat.{class}
 use Rattle.bpaf_exact.specs.Single.{Gap, Groups, FrontOf, gap_of}
 use Rattle.bpaf_exact.specs.ProgramForm.{ProgramForm, alternative, complete, single}
+use Rattle.bpaf_exact.specs.{Pieces.stands_behind, Pieces.roles_of, Flat.class}
+use Rattle.bpaf_text.specs.Named.{Named as Key, KeyWithValue}
 
 -- the items of a flag: keys with one of its names, each by itself
 abbrev pub flag_roles : Names → Roles

@@ -3,13 +3,11 @@
 use Rattle.std.specs.Prelude.{◌≡◌, List}
 use Rattle.bpaf_line.specs.Situation.{Context, beginning}
 use Rattle.bpaf_laws.specs.Reading.{Outcome}
-use Rattle.bpaf_exact.specs.Pieces.{Cells, LinePiece}
-use Rattle.bpaf_exact.specs.Single.{Groups}
 use Rattle.bpaf_exact.specs.ProgramForm.{ProgramForm, no_program, alternative, single, complete}
 use Rattle.bpaf_exact.specs.ProgramForm.{product, commands, before_commands, product_roles}
 use Rattle.bpaf_exact.specs.ProgramForm.{product_reading, whole_program}
-use Rattle.bpaf_exact.specs.Wrappers.{Closure}
 use Rattle.bpaf_exact.specs.Record.{RunAnswer, Accepted, NoMemory, Refusal, RecordValue, RunRan}
+use Rattle.bpaf_exact.specs.{Pieces.Cells, Pieces.LinePiece, Single.Groups, Wrappers.Closure}
 
 -- all these values look alike
 abbrev pub Alike : {T X : Type 0} → (T → X) → (T → Type 0) → Type 0

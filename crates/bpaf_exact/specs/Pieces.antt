@@ -2,9 +2,8 @@
 use Rattle.std.specs.Prelude.{◌≡◌, Bool, true, false, List, [], ◌∷◌, Option, Some, None}
 use Rattle.std.specs.Prelude.{if◌then◌else◌, filter, not}
 use Rattle.std.specs.Option.{is_some}
-use Rattle.bpaf_base.specs.Items.{value_text, is_positional}
-use Rattle.bpaf_base.specs.declared.arg.Arg.{Arg}
 use Rattle.bpaf_base.specs.declared.arg.Arg.TheVariants.{Short, Long, PosWord}
+use Rattle.bpaf_base.specs.{Items.value_text, Items.is_positional, declared.arg.Arg.Arg}
 
 -- the places of a line, each with the item that is present there, if one is
 abbrev pub Cells : Type 0

@@ -1,22 +1,18 @@
 -- What a parser is to a program: how it reads what is present, and the law that this puts on its
 -- outcome.
-use Rattle.std.specs.Prelude.{ℕ, Bool, true, false, not, ◌&&◌, ◌||◌, List, [], ◌∷◌, Option}
-use Rattle.std.specs.Prelude.{None}
-use Rattle.std.specs.Prelude.{bytes_eq}
-use Rattle.std.specs.List.{list_all}
+use Rattle.std.specs.Prelude.{ℕ, Bool, true, false, not, ◌&&◌, ◌||◌, List, [], ◌∷◌, Option, None}
+use Rattle.std.specs.{Prelude.bytes_eq, List.list_all}
 use Rattle.bpaf_doc.specs.Names.{Names}
-use Rattle.bpaf_laws.specs.Command.{Called, opening_words}
-use Rattle.bpaf_laws.specs.Reading.{Outcome}
+use Rattle.bpaf_laws.specs.{Command.Called, Command.opening_words, Reading.Outcome}
 use Rattle.bpaf_exact.specs.Alternative.{AlternativeLaw, either_value}
 use Rattle.bpaf_exact.specs.Flat.{FieldKind, ByName, FieldLaw, FieldsLaw, keys, FieldsReading}
 use Rattle.bpaf_exact.specs.Flat.{ReadOff, both_reading, Variables}
-use Rattle.bpaf_exact.specs.Names.{Owns, are_all_apart}
 use Rattle.bpaf_exact.specs.Pieces.{Cells, Roles, LinePiece, either, no_roles}
 use Rattle.bpaf_exact.specs.Programs.{CellsValue, CommandValue, ChoiceValue, OptionalCommands}
 use Rattle.bpaf_exact.specs.Programs.{FieldThen, ProgramLaw, CommandsLaw, are_plain}
-use Rattle.bpaf_exact.specs.Record.{last_reading}
 use Rattle.bpaf_exact.specs.Single.{Groups, Gap, FrontOf, gap_of, SingleLaw, SingleValue}
 use Rattle.bpaf_exact.specs.Wrappers.{Closure, AgreesOn, ClosedValue, OptionalValue, closed_gap}
+use Rattle.bpaf_exact.specs.{Names.Owns, Names.are_all_apart, Record.last_reading}
 
 -- what a parser is to a program, with its own items and its values; a wide field or record may
 -- stand in a program alone, and in no flat record

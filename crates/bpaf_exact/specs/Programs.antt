@@ -7,10 +7,8 @@ use Rattle.bpaf_base.specs.declared.arg.Arg.{Arg}
 use Rattle.bpaf_base.specs.declared.arg.Arg.TheVariants.{Short, Long}
 use Rattle.bpaf_line.specs.declared.error.Error.{Error}
 use Rattle.bpaf_line.specs.Situation.{Situation, Context, item_in, open_count, with_current}
-use Rattle.bpaf_laws.specs.Choice.{depth}
 use Rattle.bpaf_laws.specs.Command.{Called, IsNotOpened, IsOpenedAt, inside, is_one_of}
-use Rattle.bpaf_laws.specs.Command.{opening_words}
-use Rattle.bpaf_laws.specs.Reading.{Outcome}
+use Rattle.bpaf_laws.specs.{Choice.depth, Command.opening_words, Reading.Outcome}
 use Rattle.bpaf_exact.specs.Pieces.{Cells, Roles, LinePiece, pieces, Apart, IsNamed, Takes}
 use Rattle.bpaf_exact.specs.Flat.{OfMemory, OfMissing, class, cells, NonePresent, IsWholeIn}
 use Rattle.bpaf_exact.specs.Flat.{Variables}

@@ -1,19 +1,14 @@
 -- What the value of a field says of the pieces of a line that are its own, and what the values of a
 -- record say of the line, field by field.
 use Rattle.std.specs.Prelude.{◌≡◌, ℕ, Bool, true, false, List, [], ◌∷◌, ◌++◌, Option, Some, None}
-use Rattle.std.specs.Prelude.{filter, map, not}
-use Rattle.std.specs.List.{Contains}
+use Rattle.std.specs.{Prelude.filter, Prelude.map, Prelude.not, List.Contains}
 use Rattle.bpaf_doc.specs.Names.{Names}
-use Rattle.bpaf_base.specs.Items.{item_text}
-use Rattle.bpaf_base.specs.declared.arg.Arg.{Arg}
+use Rattle.bpaf_base.specs.{Items.item_text, declared.arg.Arg.Arg}
 use Rattle.bpaf_exact.specs.Pieces.{LinePiece, One, Roles, Two, is_own, mine, others, stands_behind}
-use Rattle.bpaf_exact.specs.Names.{is_key_of_any}
 use Rattle.bpaf_exact.specs.Flat.{FieldKind, ByName, front, back}
-use Rattle.bpaf_exact.specs.Single.{Own, repeated}
-use Rattle.bpaf_exact.specs.Wrappers.{Closure}
-use Rattle.bpaf_exact.specs.Gathered.{IsLast}
 use Rattle.bpaf_exact.specs.ProgramForm.{ProgramForm, no_program, alternative, single, complete}
-use Rattle.bpaf_exact.specs.ProgramForm.{product}
+use Rattle.bpaf_exact.specs.{Names.is_key_of_any, Single.Own, Single.repeated, Wrappers.Closure}
+use Rattle.bpaf_exact.specs.{Gathered.IsLast, ProgramForm.product}
 
 -- The pieces of a field's own.
 

@@ -2,8 +2,7 @@
 use Rattle.bpaf_line.specs.Situation.{Context, beginning}
 use Rattle.bpaf_laws.specs.Reading.{Outcome}
 use Rattle.bpaf_exact.specs.Record.{RunAnswer, IsExact, RunRan}
-use Rattle.bpaf_exact.specs.ProgramForm.{ProgramForm, product_roles, product_reading}
-use Rattle.bpaf_exact.specs.ProgramForm.{whole_program}
+use Rattle.bpaf_exact.specs.ProgramForm.{ProgramForm, product_roles, product_reading, whole_program}
 
 -- each answer that a run over the line may give is exact: a value of the record, want of memory, or
 -- a refusal where it has none

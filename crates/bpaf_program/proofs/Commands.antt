@@ -1,38 +1,26 @@
 -- Parsers with adjacent commands inside: what they read, and that they show a page of theirs alone.
-use Rattle.std.proofs.Common.{◌≡◌, ◌∷◌, Bool, true, false, List, [], Option, Result, Ok, Err}
-use Rattle.std.proofs.Common.{IfOk, ap}
-use Rattle.std.proofs.Common.{ℕ, subst, ⊎_elim}
-use Rattle.std.specs.Result.{IfErr}
-use Rattle.std.specs.Global.{Vec}
-use Rattle.bpaf_doc.specs.declared.doc.Piece.{Piece}
-use Rattle.bpaf_doc.specs.Shape.{Shape}
-use Rattle.bpaf_words.specs.Arguments.{Given}
-use Rattle.bpaf_words.specs.Spelling.{Known}
+use Rattle.std.proofs.Common.{◌≡◌, ◌∷◌, Bool, true, false, List, [], Option, Result, Err}
+use Rattle.std.proofs.Common.{ap, ℕ, subst, ⊎_elim}
+use Rattle.std.specs.{Result.IfErr, Global.Vec}
+use Rattle.bpaf_doc.specs.{declared.doc.Piece.Piece, Shape.Shape}
+use Rattle.bpaf_words.specs.{Arguments.Given, Spelling.Known}
 use Rattle.bpaf_line.specs.declared.failure.ParseFailure.{ParseFailure}
-use Rattle.bpaf_line.specs.declared.failure.ParseFailure.TheVariants as failure
 use Rattle.bpaf_laws.specs.Choice.{ChoiceDescribes, ChoiceOutcome, ChoiceReads}
-use Rattle.bpaf_laws.specs.Command.{Called, CommandDescribes, CommandPart, CommandReads}
-use Rattle.bpaf_laws.specs.Command.{named_only, opening_words}
-use Rattle.bpaf_laws.specs.Laws.{Lawful}
-use Rattle.bpaf_laws.specs.Reading.{Outcome, Readings}
-use Rattle.bpaf_laws.specs.OneStretch.{StretchReads}
+use Rattle.bpaf_laws.specs.Command.{Called, CommandDescribes, CommandPart, CommandReads, named_only}
 use Rattle.bpaf_laws.specs.Repeat.{ListReads, ManyDescribes, ManyOutcome}
-use Rattle.bpaf_laws.specs.Transform.{MapReads}
-use Rattle.bpaf_laws.proofs.ChoiceLaws.{choice_lawful}
-use Rattle.bpaf_laws.proofs.RepeatLaws.{many_lawful}
-use Rattle.bpaf.specs.Info.{RunInfo, plain_info}
+use Rattle.bpaf_laws.specs.{Command.opening_words, Laws.Lawful, Reading.Outcome, Reading.Readings}
+use Rattle.bpaf_laws.specs.{OneStretch.StretchReads, Transform.MapReads}
+use Rattle.bpaf_laws.proofs.{ChoiceLaws.choice_lawful, RepeatLaws.many_lawful}
 use Rattle.bpaf.specs.Adjacent.{EitherCommandOutcome, EitherCommandReads}
-use Rattle.bpaf.specs.AdjacentLaws.{either_lawful}
-use Rattle.bpaf.specs.Dealt.{IsDealtOut}
-use Rattle.bpaf.specs.Ending.{EndsRun}
-use Rattle.bpaf.specs.EndingLaws.{run_ending}
-use Rattle.bpaf.specs.Run.{RunsWords}
 use Rattle.bpaf.specs.Asked.{BehindWord, HandsOn, IfShown, IsAskedAt, RunShows, Showing}
 use Rattle.bpaf.specs.Asked.{ShowsNothing, WordsShow, nothing_shown}
+use Rattle.bpaf.specs.{Info.RunInfo, Info.plain_info, AdjacentLaws.either_lawful}
+use Rattle.bpaf.specs.{Ending.EndsRun, EndingLaws.run_ending, Run.RunsWords}
 use Rattle.bpaf.proofs.Asked.{IsAlsoShown, answer_shows, asked_at_also, hands_also, many_hands_on}
 use Rattle.bpaf.proofs.Asked.{words_also}
 use Rattle.bpaf.proofs.HandsOn.{behind_also, choice_hands_on, command_hands_on}
 use Rattle.bpaf_program.proofs.ReadsToo.{IsAlso, adjacent_also, choice_also, many_also}
+use Rattle.bpaf_line.specs.declared.failure.ParseFailure.TheVariants as failure
 
 -- a parser keeps to the laws, hands on what may be shown, reads what is wanted, and shows these
 -- shapes alone

@@ -1,7 +1,7 @@
 -- What an end tells of the answer.
 use Rattle.std.proofs.Common.{◌≡◌, ℕ, Result, Ok, Err, refl, ap, subst}
 use Rattle.bpaf_line.specs.declared.failure.ParseFailure.{ParseFailure}
-use Rattle.bpaf_program.specs.Ending.{EndsBy, IsTold, with_status, with_value}
+use Rattle.bpaf_program.specs.Ending.{EndsBy, TellsFailure, with_status, with_value}
 use Rattle.bpaf_program.specs.Sink.{IsUntouched, Written}
 
 module _ {T : Type 0} (out err : Written) (answer : Result T ParseFailure) (r : Result T ℕ)
@@ -18,11 +18,11 @@ module _ {T : Type 0} (out err : Written) (answer : Result T ParseFailure) (r : 
 
   -- a status is that of what is told of a failure
   pub ended_status : (status : ℕ) → r ≡ Err status
-      → (f : ParseFailure) × (answer ≡ Err f) × IsTold out err f status
+      → (f : ParseFailure) × (answer ≡ Err f) × TellsFailure out err f status
   ended_status status is = by_end answer r ends is
     where
       by_end : (a : Result T ParseFailure) (s : Result T ℕ) → EndsBy out err a s → s ≡ Err status
-          → (f : ParseFailure) × (a ≡ Err f) × IsTold out err f status
+          → (f : ParseFailure) × (a ≡ Err f) × TellsFailure out err f status
       by_end a s (with_value kept quiet) e = absurd cc
       by_end a s (with_status {f = f} {status = n} told) e =
-          let same : n ≡ status = cc in (f, refl, subst (IsTold out err f) same told)
+          let same : n ≡ status = cc in (f, refl, subst (TellsFailure out err f) same told)

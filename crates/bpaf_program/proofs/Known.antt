@@ -1,44 +1,36 @@
 -- Parsers of a program whose makings are known: what each reads, shows and keeps to.
-use Rattle.std.proofs.Common.{◌≡◌, Bool, true, false, ℕ, List, [], ◌∷◌, Some, Result, Ok, Err, IfOk}
+use Rattle.std.proofs.Common.{◌≡◌, Bool, true, false, ℕ, List, [], ◌∷◌, Some, Result, IfOk}
 use Rattle.std.proofs.Common.{refl, subst, sym}
-use Rattle.std.specs.Result.{IfErr}
-use Rattle.std.specs.Global.{Vec}
-use Rattle.bpaf_doc.specs.declared.doc.Piece.{Piece}
-use Rattle.bpaf_doc.specs.Names.{Names}
+use Rattle.std.specs.{Result.IfErr, Global.Vec}
 use Rattle.bpaf_doc.specs.Shape.{Shape, And, Many, Optional, members}
+use Rattle.bpaf_doc.specs.{declared.doc.Piece.Piece, Names.Names}
 use Rattle.bpaf_text.specs.declared.params.ParseFlag.{ParseFlag}
 use Rattle.bpaf_text.specs.Named.{KeyWithValue, key_named}
-use Rattle.bpaf_words.specs.Arguments.{Given}
-use Rattle.bpaf_words.specs.Spelling.{Known}
+use Rattle.bpaf_words.specs.{Arguments.Given, Spelling.Known}
 use Rattle.bpaf_line.specs.declared.failure.ParseFailure.{ParseFailure}
 use Rattle.bpaf_laws.specs.Argument.{ArgumentOutcome, ArgumentReads, argument_shape}
 use Rattle.bpaf_laws.specs.Flag.{FlagOutcome, FlagReads, flag_shape}
-use Rattle.bpaf_laws.specs.Laws.{Lawful}
 use Rattle.bpaf_laws.specs.Product.{BothDescribes, BothOutcome, BothReads, LastDescribes}
 use Rattle.bpaf_laws.specs.Product.{ProductDescribes, ProductOutcome}
-use Rattle.bpaf_laws.specs.Reading.{Outcome, Readings}
 use Rattle.bpaf_laws.specs.Repeat.{ListReads, ManyDescribes, ManyOutcome}
-use Rattle.bpaf_laws.specs.Transform.{MapReads}
+use Rattle.bpaf_laws.specs.{Laws.Lawful, Reading.Outcome, Reading.Readings, Transform.MapReads}
 use Rattle.bpaf_laws.proofs.ArgumentLaws.{argument_lawful}
-use Rattle.bpaf_laws.proofs.FlagLaws.{flag_lawful}
 use Rattle.bpaf_laws.proofs.ProductLaws.{both_lawful, product_lawful}
-use Rattle.bpaf_laws.proofs.RepeatLaws.{many_lawful}
-use Rattle.bpaf.specs.Info.{RunInfo, plain_info}
-use Rattle.bpaf.specs.Dealt.{IsDealtOut}
-use Rattle.bpaf.specs.Run.{RunsWords}
+use Rattle.bpaf_laws.proofs.{FlagLaws.flag_lawful, RepeatLaws.many_lawful}
 use Rattle.bpaf.specs.declared.leaves.positional.ParsePositional.{ParsePositional}
 use Rattle.bpaf.specs.declared.leaves.positional.Position.{Position}
 use Rattle.bpaf.specs.Asked.{IfShown, ShowsNothing, WasAsked, nothing_shown}
 use Rattle.bpaf.specs.Positional.{PositionalOutcome, PositionalReads, positional_shape}
 use Rattle.bpaf.specs.PositionalLaws.{positional_lawful}
+use Rattle.bpaf.specs.{Info.RunInfo, Info.plain_info, Dealt.IsDealtOut, Run.RunsWords}
 use Rattle.bpaf.proofs.Asked.{argument_hands_on, both_hands_on, flag_hands_on, many_hands_on}
 use Rattle.bpaf.proofs.Asked.{positional_hands_on, product_hands_on}
 use Rattle.bpaf.proofs.Helps.{argument_without_help, flag_without_help, key_with_help}
-use Rattle.bpaf_program.specs.Fields.{IsArgument, IsSwitch, IsWord, SwitchReads, switch_shape}
+use Rattle.bpaf_program.specs.Fields.{IsArgument, IsSwitch, IsWord, NamedSwitchReads, switch_shape}
 use Rattle.bpaf_program.specs.Values.{IsKept}
-use Rattle.bpaf_program.proofs.ReadsToo.{IsAlso, also_dealt, both_also, made_also, many_also, word_also}
-use Rattle.bpaf_program.proofs.Shown.{both_show, help_asked, last_shows, many_shows}
-use Rattle.bpaf_program.proofs.Shown.{product_shows}
+use Rattle.bpaf_program.proofs.ReadsToo.{IsAlso, also_dealt, both_also, made_also, many_also}
+use Rattle.bpaf_program.proofs.ReadsToo.{word_also}
+use Rattle.bpaf_program.proofs.Shown.{both_show, help_asked, last_shows, many_shows, product_shows}
 
 -- a parser, or fields, keep to the laws, show nothing by themselves, read what is wanted, and show
 -- this alone
@@ -56,7 +48,7 @@ pub switch_known : {names : Names} {text : List ℕ} {help : List Piece} {switch
     → IsKnown (FlagOutcome IsKept switch.named switch.present switch.absent)
     (FlagReads Bool IsKept switch.named switch.present switch.absent)
     (λ shape. shape ≡ flag_shape switch.named switch.absent)
-    (SwitchReads names) (switch_shape names help)
+    (NamedSwitchReads names) (switch_shape names help)
 switch_known {names} {text} {help} {switch} is = record {
   law = flag_lawful Bool IsKept switch.named switch.present switch.absent;
   nothing = flag_hands_on nothing_shown IsKept switch.named switch.present switch.absent;

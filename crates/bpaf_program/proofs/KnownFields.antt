@@ -1,31 +1,20 @@
 -- The fields of a program are known where what they are made of is.
 use Rattle.std.proofs.Common.{◌≡◌, Bool, true, false, List, [], ℕ, Option, Some, refl}
-use Rattle.bpaf_doc.specs.declared.doc.Piece.{Piece}
-use Rattle.bpaf_doc.specs.Names.{Names}
+use Rattle.bpaf_doc.specs.{declared.doc.Piece.Piece, Names.Names}
 use Rattle.bpaf_words.specs.Spelling.{ShortNames}
 use Rattle.bpaf_text.specs.Named.{KeyWithValue, Named, key_named}
-use Rattle.bpaf_laws.specs.Argument.{ArgumentOutcome}
-use Rattle.bpaf_laws.specs.Default.{FallbackOutcome, GivesClone}
-use Rattle.bpaf_laws.specs.Flag.{FlagOutcome}
-use Rattle.bpaf_laws.specs.Reading.{Outcome}
-use Rattle.bpaf_laws.specs.Repeat.{ManyOutcome}
 use Rattle.bpaf_laws.specs.ShownNames.{no_shorts, of_arguments, of_flags}
-use Rattle.bpaf_laws.specs.Turn.{TurnOutcome}
-use Rattle.bpaf.specs.declared.leaves.positional.Position.{Position}
-use Rattle.bpaf.specs.Positional.{PositionalOutcome}
+use Rattle.bpaf_laws.specs.{Argument.ArgumentOutcome, Default.FallbackOutcome, Default.GivesClone}
+use Rattle.bpaf_laws.specs.{Flag.FlagOutcome, Reading.Outcome, Repeat.ManyOutcome, Turn.TurnOutcome}
+use Rattle.bpaf.specs.{declared.leaves.positional.Position.Position, Positional.PositionalOutcome}
 use Rattle.bpaf_exact.proofs.Arguments.{argument_field_law}
-use Rattle.bpaf_exact.proofs.Flags.{flag_field_law}
 use Rattle.bpaf_exact.proofs.ByTables.{fallback_law, many_law, optional_law}
-use Rattle.bpaf_record.specs.Grammar.{Grammar, argument, command_words, keys_of, program_form}
-use Rattle.bpaf_record.specs.Grammar.{word}
+use Rattle.bpaf_record.specs.Grammar.{Grammar, argument, command_words, keys_of, program_form, word}
 use Rattle.bpaf_record.specs.Positional.{positional_law}
-use Rattle.bpaf_program.specs.KnownFields.{known_default, known_many, known_optional}
-use Rattle.bpaf_program.specs.KnownFields.{known_switch}
-use Rattle.bpaf_program.specs.KnownParser.{IsKnownParser}
-use Rattle.bpaf_exact.proofs.Narrow.{no_more}
-use Rattle.bpaf_exact.proofs.ProgramForm.{narrower_form}
+use Rattle.bpaf_program.specs.KnownFields.{known_default, known_many, known_optional, known_switch}
+use Rattle.bpaf_exact.proofs.{Flags.flag_field_law, Narrow.no_more, ProgramForm.narrower_form}
 use Rattle.bpaf_laws.proofs.Clones.{fallback_kept}
-use Rattle.bpaf_program.specs.Values.{IsKept}
+use Rattle.bpaf_program.specs.{KnownParser.IsKnownParser, Values.IsKept}
 
 -- a switch, with some help or none
 pub switch_known : (names : Names) (help : Option (List Piece)) {named : Named}

@@ -1,33 +1,23 @@
 -- The parsers of a program are known where what they are made of is.
-use Rattle.std.proofs.Common.{◌≡◌, All, true, List, [], ℕ, Result, Ok, Err, IsUtf8, ap, ap₂, refl, ◌∙◌}
+use Rattle.std.proofs.Common.{◌≡◌, All, true, List, [], ℕ, Result, Ok, Err, IsUtf8, ap, ap₂, refl}
+use Rattle.std.proofs.Common.{◌∙◌}
 use Rattle.bpaf_doc.specs.Shape.{Shape}
-use Rattle.bpaf_words.specs.Arguments.{Given}
-use Rattle.bpaf_words.specs.Spelling.{ShortNames}
-use Rattle.bpaf_line.specs.Situation.{Situation}
-use Rattle.bpaf_line.specs.declared.error.Error.{Error}
+use Rattle.bpaf_words.specs.{Arguments.Given, Spelling.ShortNames}
 use Rattle.bpaf_line.specs.declared.failure.ParseFailure.{ParseFailure}
+use Rattle.bpaf_line.specs.{Situation.Situation, declared.error.Error.Error}
 use Rattle.bpaf_core.specs.declared.commands.ParseCommand.{ParseCommand}
-use Rattle.bpaf_laws.specs.Choice.{ChoiceOutcome}
-use Rattle.bpaf_laws.specs.Command.{CommandPart, named_only}
 use Rattle.bpaf_laws.specs.Product.{BothOutcome, ProductOutcome}
-use Rattle.bpaf_laws.specs.ShownNames.{joined_shorts}
-use Rattle.bpaf_laws.specs.Reading.{Outcome}
-use Rattle.bpaf_laws.specs.Transform.{MapOutcome}
-use Rattle.bpaf.specs.Adjacent.{EitherCommandOutcome}
-use Rattle.bpaf.specs.Ending.{EndsRun}
-use Rattle.bpaf.specs.Info.{RunInfo, plain_info}
-use Rattle.bpaf.specs.Known.{known_names}
-use Rattle.bpaf.specs.Run.{RunsWords}
+use Rattle.bpaf_laws.specs.{Choice.ChoiceOutcome, Command.CommandPart, Command.named_only}
+use Rattle.bpaf_laws.specs.{ShownNames.joined_shorts, Reading.Outcome, Transform.MapOutcome}
+use Rattle.bpaf.specs.{Adjacent.EitherCommandOutcome, Ending.EndsRun, Info.RunInfo, Info.plain_info}
+use Rattle.bpaf.specs.{Known.known_names, Run.RunsWords}
 use Rattle.bpaf_exact.specs.ProgramForm.{is_program, program_field}
-use Rattle.bpaf_exact.proofs.Narrow.{AllowsNoMore, no_more}
-use Rattle.bpaf_exact.proofs.ProgramForm.{narrower_form, program_alone_law}
-use Rattle.bpaf_exact.proofs.ProgramForm.{program_both_law, program_choice_law, program_con_law}
-use Rattle.bpaf_exact.proofs.ProgramForm.{program_field_law}
-use Rattle.bpaf_exact.proofs.ByTables.{map_law}
+use Rattle.bpaf_exact.proofs.ProgramForm.{narrower_form, program_alone_law, program_both_law}
+use Rattle.bpaf_exact.proofs.ProgramForm.{program_choice_law, program_con_law, program_field_law}
+use Rattle.bpaf_exact.proofs.{Narrow.AllowsNoMore, Narrow.no_more, ByTables.map_law}
 use Rattle.bpaf_record.specs.Commands.{plain_command_law}
 use Rattle.bpaf_record.specs.Grammar.{Grammar, alone, both, choice, command_words, keys_of}
-use Rattle.bpaf_record.specs.Grammar.{program_form}
-use Rattle.bpaf_record.specs.Program.{AnswersAsProgram}
+use Rattle.bpaf_record.specs.{Grammar.program_form, Program.AnswersAsProgram}
 use Rattle.bpaf_record.proofs.Programs.{answers_as_program}
 use Rattle.bpaf_program.specs.Fields.{IsPlainCommand}
 use Rattle.bpaf_program.specs.KnownFields.{known_command, known_con, known_map}

@@ -1,40 +1,29 @@
 -- Flat fields and records all of whose values on the same pieces look alike.
-use Rattle.std.proofs.Common.{◌≡◌, Bool, true, false, List, [], ◌∷◌, ◌++◌, Some, map, ℕ}
-use Rattle.std.proofs.Common.{ap, not, string_bytes, subst, sym, ◌&&◌, ◌||◌, ◌∙◌}
+use Rattle.std.proofs.Common.{◌≡◌, Bool, true, false, List, [], ◌∷◌, ◌++◌, Some, map, ℕ, ap, not}
+use Rattle.std.proofs.Common.{string_bytes, subst, sym, ◌&&◌, ◌||◌, ◌∙◌}
 use Rattle.std.specs.Prelude.{option_map}
 use Rattle.bpaf_doc.specs.Names.{Names}
-use Rattle.bpaf_text.specs.Meaning.{SpellsUnsigned}
-use Rattle.bpaf_text.specs.Named.{KeyWithValue, key_named}
+use Rattle.bpaf_text.specs.{Meaning.SpellsUnsigned, Named.KeyWithValue, Named.key_named}
 use Rattle.bpaf_laws.specs.Default.{FallbackOutcome, GivesClone}
-use Rattle.bpaf_laws.specs.Argument.{ArgumentOutcome}
-use Rattle.bpaf_laws.specs.Environment.{first_set}
-use Rattle.bpaf_laws.specs.Flag.{FlagOutcome}
 use Rattle.bpaf_laws.specs.Product.{BothOutcome, ProductOutcome}
-use Rattle.bpaf_laws.specs.Reading.{Outcome}
-use Rattle.bpaf_laws.specs.Repeat.{ManyOutcome, is_nil}
-use Rattle.bpaf_laws.specs.Turn.{TurnOutcome}
+use Rattle.bpaf_laws.specs.{Argument.ArgumentOutcome, Environment.first_set, Flag.FlagOutcome}
+use Rattle.bpaf_laws.specs.{Reading.Outcome, Repeat.ManyOutcome, Repeat.is_nil, Turn.TurnOutcome}
 use Rattle.bpaf.specs.declared.leaves.positional.Position.{Position}
 use Rattle.bpaf.specs.Positional.{PositionalOutcome, accepts}
-use Rattle.bpaf_exact.specs.Gathered.{list_closure}
 use Rattle.bpaf_exact.specs.ProgramForm.{FormLaw, ProgramForm, completed, program_alone}
 use Rattle.bpaf_exact.specs.ProgramForm.{program_both, program_closed, program_con, program_field}
-use Rattle.bpaf_exact.specs.ProgramForm.{program_optional}
-use Rattle.bpaf_exact.specs.Single.{OwnList, repeated}
-use Rattle.bpaf_exact.specs.Flat.{Variables}
 use Rattle.bpaf_record.specs.Positional.{positional_law}
-use Rattle.bpaf_exact.specs.Leaves.{ArgumentValue, argument_field, argument_group}
-use Rattle.bpaf_exact.specs.Single.{gap_of}
-use Rattle.bpaf_exact.specs.Leaves.{argument_roles, flag_field, key_field, word_by}
-use Rattle.bpaf_exact.specs.OneView.{Alike, HasOneView, pair_view}
-use Rattle.bpaf_exact.specs.Wrappers.{FallbackValue, map_closure}
-use Rattle.bpaf_exact.proofs.Arguments.{argument_field_law}
+use Rattle.bpaf_exact.specs.Leaves.{ArgumentValue, argument_field, argument_group, argument_roles}
+use Rattle.bpaf_exact.specs.{Gathered.list_closure, ProgramForm.program_optional, Single.OwnList}
+use Rattle.bpaf_exact.specs.{Single.repeated, Single.gap_of, Flat.Variables, Leaves.flag_field}
+use Rattle.bpaf_exact.specs.{Leaves.key_field, Leaves.word_by, OneView.Alike, OneView.HasOneView}
+use Rattle.bpaf_exact.specs.{OneView.pair_view, Wrappers.FallbackValue, Wrappers.map_closure}
 use Rattle.bpaf_exact.proofs.ProgramForm.{program_alone_law, program_both_law, program_con_law}
 use Rattle.bpaf_exact.proofs.ProgramForm.{program_field_law}
-use Rattle.bpaf_exact.proofs.Flags.{flag_field_law}
 use Rattle.bpaf_exact.proofs.OneView.{alone_view, argument_view, both_view, con_view, field_view}
 use Rattle.bpaf_exact.proofs.OneView.{fallback_view, flag_view, many_view, optional_field_view}
-use Rattle.bpaf_exact.proofs.OneView.{word_view}
 use Rattle.bpaf_exact.proofs.ByTables.{fallback_law, many_law, optional_law}
+use Rattle.bpaf_exact.proofs.{Arguments.argument_field_law, Flags.flag_field_law, OneView.word_view}
 use Rattle.bpaf_program.specs.Values.{IsKept, MeansText, String}
 
 -- a form that this outcome, of a parser with these keys, keeps to, and whose values look alike

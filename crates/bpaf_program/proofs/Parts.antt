@@ -1,13 +1,11 @@
 -- A text of which a part is written.
 use Rattle.std.proofs.Common.{◌≡◌, ◌==◌, Bool, true, false, ℕ, ◌-◌, List, [], ◌∷◌, ◌++◌, Option}
-use Rattle.std.proofs.Common.{Some, None, Result, Ok, Err, OnOk, OnErr}
-use Rattle.std.proofs.Common.{take, drop, length, refl, sym, ap, subst, ◌∙◌}
-use Rattle.std.proofs.Common.{append_assoc, append-nil}
+use Rattle.std.proofs.Common.{Some, None, Result, Ok, Err, OnOk, OnErr, take, drop, length, refl}
+use Rattle.std.proofs.Common.{sym, ap, subst, ◌∙◌, append_assoc, append-nil}
 use Rattle.std.proofs.KnownBytes.{Appends-trans, Appends-kept}
 use Rattle.std.proofs.lemmas.List.{take_rest, take-append-drop}
 use Rattle.std.specs.Io.KnownBytes.{Appends, Keeps}
-use Rattle.bpaf_program.specs.Sink.{Failed, KnownSink, Writes, WritesPart, Written}
-use Rattle.bpaf_program.specs.Sink.{wrote}
+use Rattle.bpaf_program.specs.Sink.{Failed, KnownSink, Writes, WritesPart, Written, wrote}
 use Rattle.bpaf_program.specs.Ending.{TellsLine, told_in_part, told_whole}
 
 -- all of a text is written but this rest

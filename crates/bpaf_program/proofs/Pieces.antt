@@ -1,8 +1,7 @@
 -- What is printed of a document from one of its pieces on.
 use Rattle.std.proofs.Common.{◌≡◌, ◌<◌, ◌+◌, ◌||◌, ℕ, Bool, true, false, not, List, ◌∷◌, ◌++◌, ap}
 use Rattle.std.proofs.Common.{ap₂, arith, drop, drop-cons, get_or, length, refl, suc, sym, ◌∙◌}
-use Rattle.bpaf_doc.specs.declared.doc.Piece.{Piece}
-use Rattle.bpaf_doc.specs.Print.{printed}
+use Rattle.bpaf_doc.specs.{declared.doc.Piece.Piece, Print.printed}
 
 module _ (full : Bool) (pieces : List Piece) (i : ℕ) (piece : Piece) (within : i < length pieces)
     (here : piece ≡ get_or pieces i piece) where

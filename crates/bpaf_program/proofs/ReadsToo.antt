@@ -1,22 +1,15 @@
 -- What one parser reads another reads too: of combinators where that holds of what is inside.
-use Rattle.std.proofs.Common.{◌≡◌, ℕ, List, [], ◌∷◌, Option, Result, Ok, Err, IfOk, inl, inr, ⊎_elim}
+use Rattle.std.proofs.Common.{◌≡◌, ℕ, List, [], ◌∷◌, Option, Result, Ok, Err, IfOk, inl, inr}
+use Rattle.std.proofs.Common.{⊎_elim}
 use Rattle.std.specs.Global.{Vec}
 use Rattle.bpaf_text.specs.Named.{Named}
-use Rattle.bpaf_words.specs.Arguments.{Given}
-use Rattle.bpaf_words.specs.Spelling.{Known}
-use Rattle.bpaf_line.specs.Situation.{Context}
-use Rattle.bpaf_line.specs.declared.failure.ParseFailure.{ParseFailure}
-use Rattle.bpaf_laws.specs.Choice.{ChoiceReads}
-use Rattle.bpaf_laws.specs.Flag.{FlagReads}
-use Rattle.bpaf_laws.specs.Command.{CommandReads}
-use Rattle.bpaf_laws.specs.OneStretch.{StretchReads}
-use Rattle.bpaf_laws.specs.Product.{BothReads}
-use Rattle.bpaf_laws.specs.Reading.{Readings, Share}
-use Rattle.bpaf_laws.specs.Repeat.{EachReads, ListReads}
-use Rattle.bpaf_laws.specs.Transform.{MapReads}
+use Rattle.bpaf_words.specs.{Arguments.Given, Spelling.Known}
+use Rattle.bpaf_line.specs.{Situation.Context, declared.failure.ParseFailure.ParseFailure}
+use Rattle.bpaf_laws.specs.{Choice.ChoiceReads, Flag.FlagReads, Command.CommandReads}
+use Rattle.bpaf_laws.specs.{OneStretch.StretchReads, Product.BothReads, Reading.Readings}
+use Rattle.bpaf_laws.specs.{Reading.Share, Repeat.EachReads, Repeat.ListReads, Transform.MapReads}
 use Rattle.bpaf.specs.declared.leaves.positional.Position.{Position}
-use Rattle.bpaf.specs.Positional.{PositionalReads}
-use Rattle.bpaf.specs.Dealt.{IsDealtOut}
+use Rattle.bpaf.specs.{Positional.PositionalReads, Dealt.IsDealtOut}
 
 -- each reading of the one is a reading of the other
 abbrev pub IsAlso : {T : Type 0} → Readings T → Readings T → Type 0

@@ -1,23 +1,17 @@
 -- A program that prints its answer runs to the texts that answer its words.
-use Rattle.std.proofs.Common.{Ok, ◌≡◌, ℕ, Bool, List, Result, Err, string_bytes, codes}
-use Rattle.std.proofs.Common.{All, IfOk, IsUtf8, inl, inr, map, refl, slice_index_or, subst, sym}
-use Rattle.std.specs.declared.alloc.Global.{Global}
-use Rattle.std.specs.Prelude.{String}
-use Rattle.std.specs.Result.{IsErr, IsErrAnd}
-use Rattle.std.proofs.lemmas.List.Elements.{All-map}
-use Rattle.std.proofs.lemmas.Str.{IsUtf8-string_bytes}
-use Rattle.bpaf_doc.specs.declared.doc.Piece.{Piece}
-use Rattle.bpaf_doc.specs.Print.{printed}
+use Rattle.std.proofs.Common.{Ok, ◌≡◌, ℕ, Bool, List, Result, Err, string_bytes, codes, All, IfOk}
+use Rattle.std.proofs.Common.{IsUtf8, inl, inr, map, refl, slice_index_or, subst, sym}
+use Rattle.std.specs.{declared.alloc.Global.Global, Prelude.String, Result.IsErr, Result.IsErrAnd}
+use Rattle.std.proofs.{lemmas.List.Elements.All-map, lemmas.Str.IsUtf8-string_bytes}
+use Rattle.bpaf_doc.specs.{declared.doc.Piece.Piece, Print.printed}
 use Rattle.bpaf_line.specs.declared.failure.ParseFailure.{ParseFailure}
 use Rattle.bpaf_line.specs.declared.failure.ParseFailure.TheVariants.{Stdout, Stderr, Memory}
 use Rattle.bpaf.specs.Asked.{IfShown}
 use Rattle.bpaf_exact.specs.OneView.{Alike}
-use Rattle.bpaf_program.specs.Ending.{IsPrinted, IsShown, IsTold, given, told}
-use Rattle.bpaf_program.specs.KnownParser.{IsExactFor}
+use Rattle.bpaf_program.specs.Ending.{IsPrinted, IsShown, TellsFailure, given, told}
 use Rattle.bpaf_program.specs.Running.{AnswersByText, AnswersText, AnswersTextOf, IsTextOrWant}
 use Rattle.bpaf_program.specs.Running.{OrPage, Prints, PrintsTextOf, RunsTo, memory_wanted, shows}
-use Rattle.bpaf_program.specs.Running.{tells, written}
-use Rattle.bpaf_program.specs.Sink.{Written}
+use Rattle.bpaf_program.specs.{KnownParser.IsExactFor, Running.tells, Running.written, Sink.Written}
 
 -- texts are in UTF-8
 pub are_texts : (words : List (String Global)) → All IsUtf8 (map string_bytes words)
@@ -41,7 +35,7 @@ refusal_answers answers asked f help is = tt
 
 module _ (answers : List ℕ → Type 0) (out err : Written) where
   -- what is told of a failure is a text that was asked for, or a message
-  told_runs : (f : ParseFailure) (status : ℕ) → IsTold out err f status
+  told_runs : (f : ParseFailure) (status : ℕ) → TellsFailure out err f status
       → AnswersText answers (Err f) → RunsTo answers out err status
   told_runs (Stdout doc full) status is answer = shows _ answer is.0 is.1
   told_runs (Stderr doc) status is answer = tells _ is.0 is.1
@@ -75,7 +69,7 @@ runs_to_said said {out} {err} {r} {status} printed is =
 
 module _ (out err : Written) where
   -- where memory was wanted, that alone is told
-  wants : (text : List ℕ) (f : ParseFailure) (status : ℕ) → IsTold out err f status → f ≡ Memory
+  wants : (text : List ℕ) (f : ParseFailure) (status : ℕ) → TellsFailure out err f status → f ≡ Memory
       → Prints text out err status
   wants text Memory status is own = memory_wanted is.0 is.1
   wants text f status is own = absurd cc

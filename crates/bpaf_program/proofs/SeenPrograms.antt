@@ -1,25 +1,17 @@
 -- Programs all of whose values on the same words look alike.
-use Rattle.std.proofs.Common.{◌≡◌, All, true, false, IsUtf8, List, [], ◌∷◌, ◌++◌, ℕ, ap, ap₂}
-use Rattle.std.proofs.Common.{subst, sym, ◌∙◌, inl, inr}
+use Rattle.std.proofs.Common.{◌≡◌, All, true, IsUtf8, List, [], ◌∷◌, ◌++◌, ℕ, ap, ap₂, subst}
+use Rattle.std.proofs.Common.{sym, ◌∙◌, inl, inr}
 use Rattle.bpaf_doc.specs.Names.{Names}
-use Rattle.bpaf_words.specs.Arguments.{Given}
-use Rattle.bpaf_words.specs.Spelling.{Known}
-use Rattle.bpaf_laws.specs.Product.{BothOutcome}
-use Rattle.bpaf_laws.specs.Reading.{Outcome}
-use Rattle.bpaf_exact.specs.OneView.{Alike, pair_view}
-use Rattle.bpaf_exact.specs.Pieces.{Cells, LinePiece, Roles}
-use Rattle.bpaf_exact.specs.ProgramForm.{ProgramForm, are_words_apart}
-use Rattle.bpaf_exact.specs.ProgramForm.{program_alone, program_both, program_con, program_field}
-use Rattle.bpaf_exact.specs.ProgramForm.{program_value}
-use Rattle.bpaf_exact.specs.Programs.{CellsValue, ChoiceValue, CommandValue, FieldThen}
-use Rattle.bpaf_exact.specs.Programs.{Opens}
-use Rattle.bpaf_exact.proofs.BeforeCommands.{one_take}
+use Rattle.bpaf_words.specs.{Arguments.Given, Spelling.Known}
+use Rattle.bpaf_laws.specs.{Product.BothOutcome, Reading.Outcome}
+use Rattle.bpaf_exact.specs.ProgramForm.{ProgramForm, are_words_apart, program_alone, program_both}
+use Rattle.bpaf_exact.specs.ProgramForm.{program_con, program_field, program_value}
+use Rattle.bpaf_exact.specs.Programs.{CellsValue, ChoiceValue, CommandValue, FieldThen, Opens}
 use Rattle.bpaf_exact.proofs.Commands.{opens_apart, opens_left, opens_right}
-use Rattle.bpaf_exact.proofs.OneView.{values_look_one}
 use Rattle.bpaf_exact.proofs.ProgramForm.{words_apart}
-use Rattle.bpaf_exact.proofs.Programs.{opens_one}
-use Rattle.bpaf_exact.specs.Record.{line_cells}
-use Rattle.bpaf_exact.specs.Wrappers.{ClosedValue}
+use Rattle.bpaf_exact.proofs.{BeforeCommands.one_take, OneView.values_look_one, Programs.opens_one}
+use Rattle.bpaf_exact.specs.{OneView.Alike, OneView.pair_view, Pieces.Cells, Pieces.LinePiece}
+use Rattle.bpaf_exact.specs.{Pieces.Roles, Record.line_cells, Wrappers.ClosedValue}
 use Rattle.bpaf_record.specs.Program.{IsProgramValueOf}
 use Rattle.bpaf_record.proofs.OneLine.{same_context}
 use Rattle.bpaf_program.specs.KnownParser.{makes}

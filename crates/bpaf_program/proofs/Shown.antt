@@ -2,18 +2,14 @@
 use Rattle.std.proofs.Common.{◌≡◌, List, [], ◌∷◌, Result, Ok, Err, ap, ◌∙◌}
 use Rattle.std.specs.Result.{IfErr}
 use Rattle.bpaf_doc.specs.Shape.{Shape, And, Many, Optional, members}
-use Rattle.bpaf_words.specs.Arguments.{Given}
-use Rattle.bpaf_words.specs.Spelling.{Known}
+use Rattle.bpaf_words.specs.{Arguments.Given, Spelling.Known}
 use Rattle.bpaf_line.specs.declared.failure.ParseFailure.{ParseFailure}
-use Rattle.bpaf_line.specs.declared.failure.ParseFailure.TheVariants as failure
-use Rattle.bpaf_laws.specs.Laws.{Lawful}
 use Rattle.bpaf_laws.specs.Product.{BothDescribes, LastDescribes, ProductDescribes}
-use Rattle.bpaf_laws.specs.Reading.{Outcome, Readings}
-use Rattle.bpaf_laws.specs.Repeat.{ManyDescribes}
-use Rattle.bpaf.specs.Info.{RunInfo, plain_info}
-use Rattle.bpaf.specs.Run.{RunsWords}
+use Rattle.bpaf_laws.specs.{Laws.Lawful, Reading.Outcome, Reading.Readings, Repeat.ManyDescribes}
 use Rattle.bpaf.specs.Asked.{IfShown, ShowsNothing, WasAsked}
+use Rattle.bpaf.specs.{Info.RunInfo, Info.plain_info, Run.RunsWords}
 use Rattle.bpaf.proofs.Asked.{answer_asked, asked_also}
+use Rattle.bpaf_line.specs.declared.failure.ParseFailure.TheVariants as failure
 
 -- this shape alone is shown
 abbrev pub ShowsOnly : (Shape → Type 0) → Shape → Type 0

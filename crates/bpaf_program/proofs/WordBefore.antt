@@ -1,20 +1,15 @@
 -- A word that must stand before `--`, where no argument is known by a short name, is one of the
 -- words there.
-use Rattle.std.proofs.Common.{◌≡◌, ℕ, Bool, true, false, not, List, Option, Some, refl, subst}
-use Rattle.std.proofs.Common.{ap, option_and_then}
-use Rattle.std.specs.Prelude.{option_map}
-use Rattle.std.specs.List.{Contains}
-use Rattle.bpaf_base.specs.declared.arg.Arg.{Arg}
+use Rattle.std.proofs.Common.{◌≡◌, ℕ, Bool, true, false, not, List, Option, Some, refl, subst, ap}
+use Rattle.std.proofs.Common.{option_and_then}
+use Rattle.std.specs.{Prelude.option_map, List.Contains}
 use Rattle.bpaf_base.specs.declared.arg.Arg.TheVariants.{Word}
-use Rattle.bpaf_words.specs.Arguments.{Given}
-use Rattle.bpaf_base.specs.Items.{word_text}
-use Rattle.bpaf_words.specs.Spelling.{IsKnownAs, Known}
-use Rattle.bpaf_line.specs.Constructing.{IsContext}
-use Rattle.bpaf_line.specs.Situation.{Context, item_in}
+use Rattle.bpaf_base.specs.{declared.arg.Arg.Arg, Items.word_text}
+use Rattle.bpaf_words.specs.{Arguments.Given, Spelling.IsKnownAs, Spelling.Known}
+use Rattle.bpaf_line.specs.{Constructing.IsContext, Situation.Context, Situation.item_in}
 use Rattle.bpaf_laws.specs.Reading.{Share}
 use Rattle.bpaf.specs.declared.leaves.positional.Position.TheVariants.{NonStrict}
-use Rattle.bpaf.specs.Marker.{words_before}
-use Rattle.bpaf.specs.Positional.{PositionalReads}
+use Rattle.bpaf.specs.{Marker.words_before, Positional.PositionalReads}
 use Rattle.bpaf.proofs.Sides.{all_spelled}
 use Rattle.bpaf_record.proofs.OnLine.{each_at}
 

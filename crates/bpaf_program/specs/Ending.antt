@@ -26,18 +26,18 @@ pub data TellsLine (err : Written) (line : List ℕ) : ℕ → Type 0 where
 -- How a failure is told, and the status: on `out` what was asked for, or on `err` the line of a
 -- message, or that memory was wanted. Where a write fails a beginning of that is written, and
 -- nothing after it.
-abbrev pub IsTold : (out err : Written) → ParseFailure → ℕ → Type 0
-IsTold out err (Stdout doc full) status = IsShown out (printed full doc) status × IsUntouched err
-IsTold out err (Stderr doc) status =
+abbrev pub TellsFailure : (out err : Written) → ParseFailure → ℕ → Type 0
+TellsFailure out err (Stdout doc full) status = IsShown out (printed full doc) status × IsUntouched err
+TellsFailure out err (Stderr doc) status =
     IsUntouched out × TellsLine err (error_line (printed true doc)) status
-IsTold out err Memory status = IsUntouched out × TellsLine err memory_line status
+TellsFailure out err Memory status = IsUntouched out × TellsLine err memory_line status
 
 -- how a run ends by an answer: with its value and nothing written, or with the status of what is
 -- told
 pub data EndsBy {T : Type 0} (out err : Written) : Result T ParseFailure → Result T ℕ → Type 0
   where
     with_value : {v : T} → IsUntouched out → IsUntouched err → EndsBy out err (Ok v) (Ok v)
-    with_status : {f : ParseFailure} {status : ℕ} → IsTold out err f status
+    with_status : {f : ParseFailure} {status : ℕ} → TellsFailure out err f status
         → EndsBy out err (Err f) (Err status)
 
 -- a run ends by one of these answers
@@ -53,5 +53,5 @@ pub data IsPrinted (out err : Written) {A : Type 0} (text_of : A → List ℕ)
     : Result A ParseFailure → ℕ → Type 0 where
   given : {v : A} {status : ℕ} → IsShown out (text_of v) status → IsUntouched err
       → IsPrinted out err text_of (Ok v) status
-  told : {f : ParseFailure} {status : ℕ} → IsTold out err f status
+  told : {f : ParseFailure} {status : ℕ} → TellsFailure out err f status
       → IsPrinted out err text_of (Err f) status

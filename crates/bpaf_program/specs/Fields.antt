@@ -1,18 +1,12 @@
 -- All that a field is which a function of a program makes: without a help, or with one of some text.
 use Rattle.std.specs.Prelude.{◌≡◌, Bool, true, false, ℕ, List, Option, Some, None}
-use Rattle.bpaf_doc.specs.declared.doc.Piece.{Piece}
-use Rattle.bpaf_doc.specs.Fold.{TextPieces}
-use Rattle.bpaf_doc.specs.Names.{Names}
-use Rattle.bpaf_doc.specs.Shape.{Shape}
+use Rattle.bpaf_doc.specs.{declared.doc.Piece.Piece, Fold.TextPieces, Names.Names, Shape.Shape}
 use Rattle.bpaf_text.specs.declared.params.ParseFlag.{ParseFlag}
 use Rattle.bpaf_text.specs.Named.{KeyWithValue, key_named, with_help}
-use Rattle.bpaf_laws.specs.Command.{named_only}
-use Rattle.bpaf_laws.specs.Flag.{FlagReads, flag_shape}
-use Rattle.bpaf_laws.specs.Reading.{Readings}
+use Rattle.bpaf_laws.specs.{Command.named_only, Flag.FlagReads, Flag.flag_shape, Reading.Readings}
 use Rattle.bpaf_core.specs.declared.commands.ParseCommand.{ParseCommand}
-use Rattle.bpaf.specs.Info.{plain_info}
 use Rattle.bpaf.specs.declared.leaves.positional.ParsePositional.{ParsePositional}
-use Rattle.bpaf.specs.declared.leaves.positional.Position.{Position}
+use Rattle.bpaf.specs.{Info.plain_info, declared.leaves.positional.Position.Position}
 use Rattle.bpaf_program.specs.Values.{IsKept}
 
 -- a flag with these names, its present value and perhaps an absent one, and no help
@@ -37,8 +31,8 @@ plain_argument names metavar = record {
 }
 
 -- what a switch with these names reads
-abbrev pub SwitchReads : Names → Readings Bool
-SwitchReads names = FlagReads Bool IsKept (key_named names) true (Some false)
+abbrev pub NamedSwitchReads : Names → Readings Bool
+NamedSwitchReads names = FlagReads Bool IsKept (key_named names) true (Some false)
 
 -- what it shows with this help
 abbrev pub switch_shape : Names → List Piece → Shape

@@ -5,12 +5,10 @@ use Rattle.bpaf_doc.specs.Names.{Names}
 use Rattle.bpaf_text.specs.Named.{key_named}
 use Rattle.bpaf_laws.specs.Command.{named_only}
 use Rattle.bpaf.specs.Info.{plain_info}
-use Rattle.bpaf_exact.specs.Gathered.{list_closure}
-use Rattle.bpaf_exact.specs.Wrappers.{map_closure}
+use Rattle.bpaf_exact.specs.{Gathered.list_closure, Wrappers.map_closure}
 use Rattle.bpaf_record.specs.Grammar.{Grammar, closed, command, fallback, flag, optional, product}
 use Rattle.bpaf_record.specs.Grammar.{repeat}
-use Rattle.bpaf_program.specs.KnownParser.{makes}
-use Rattle.bpaf_program.specs.Values.{IsKept}
+use Rattle.bpaf_program.specs.{KnownParser.makes, Values.IsKept}
 
 -- a switch
 abbrev pub known_switch : Names → Grammar Bool

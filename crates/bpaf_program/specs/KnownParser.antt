@@ -1,20 +1,16 @@
 -- What is known of the parsers that a function of a program is handed: of what they are made.
 use Rattle.std.specs.Prelude.{◌≡◌, true, IfOk, [], Result}
-use Rattle.bpaf_words.specs.Arguments.{Given}
-use Rattle.bpaf_words.specs.Spelling.{Known, ShortNames}
+use Rattle.bpaf_words.specs.{Arguments.Given, Spelling.Known, Spelling.ShortNames}
 use Rattle.bpaf_line.specs.declared.failure.ParseFailure.{ParseFailure}
 use Rattle.bpaf_laws.specs.Reading.{Outcome}
 use Rattle.bpaf_laws.specs.ShownNames.{joined_shorts, no_shorts, of_arguments, of_flags}
-use Rattle.bpaf.specs.Info.{plain_info}
-use Rattle.bpaf.specs.Known.{known_names}
-use Rattle.bpaf_exact.specs.Flat.{Variables}
-use Rattle.bpaf_exact.specs.ProgramForm.{FormLaw}
+use Rattle.bpaf.specs.{Info.plain_info, Known.known_names}
 use Rattle.bpaf_exact.specs.Wrappers.{Closure, map_closure}
+use Rattle.bpaf_exact.specs.{Flat.Variables, ProgramForm.FormLaw}
 use Rattle.bpaf_record.specs.Grammar.{Grammar, alone, argument, both, choice, closed, command}
 use Rattle.bpaf_record.specs.Grammar.{command_words, fallback, flag, keys_of, last, optional}
 use Rattle.bpaf_record.specs.Grammar.{product, program_form, repeat}
-use Rattle.bpaf_record.specs.Program.{IsProgramValueOf}
-use Rattle.bpaf_record.specs.Record.{IsValueOrWant}
+use Rattle.bpaf_record.specs.{Program.IsProgramValueOf, Record.IsValueOrWant}
 
 -- a closure that makes this of a value
 abbrev pub makes : {A B : Type 0} → (A → B) → Closure A B

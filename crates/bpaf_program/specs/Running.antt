@@ -1,8 +1,7 @@
 -- What a program writes that answers its words with a text.
 use Rattle.std.specs.Prelude.{◌≡◌, ◌⊎◌, ℕ, Bool, List, Result, Ok, Err, String, string_bytes}
 use Rattle.std.specs.declared.alloc.Global.{Global}
-use Rattle.bpaf_doc.specs.declared.doc.Piece.{Piece}
-use Rattle.bpaf_doc.specs.Print.{printed}
+use Rattle.bpaf_doc.specs.{declared.doc.Piece.Piece, Print.printed}
 use Rattle.bpaf_line.specs.declared.failure.ParseFailure.{ParseFailure}
 use Rattle.bpaf_line.specs.declared.failure.ParseFailure.TheVariants.{Stdout, Stderr, Memory}
 use Rattle.bpaf_program.specs.Ending.{IsShown, TellsLine, error_line, memory_line}

@@ -1,7 +1,6 @@
 -- Sinks, of whose writes a contract can speak, and what a run writes to one.
 use Rattle.std.specs.Prelude.{◌≡◌, ◌≢◌, ℕ, List, ◌∷◌, ◌++◌, length, Option, Result, Ok, Err}
-use Rattle.std.specs.Io.KnownBytes.{Appends}
-use Rattle.std.specs.declared.io.Error.{Error}
+use Rattle.std.specs.{Io.KnownBytes.Appends, declared.io.Error.Error}
 
 -- what is known of a sink: the bytes that it holds, where these are known, and what a write of some
 -- bytes may answer and leave, which only a call of that write gives

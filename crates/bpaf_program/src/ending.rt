@@ -1,7 +1,7 @@
 //! The end of a program: the value, or its text is written and its status told.
 ghost use Rattle.std.specs.Prelude.{string_bytes, true};
 ghost use Rattle.bpaf_doc.specs.Print.{printed};
-ghost use Rattle.bpaf_program.specs.Ending.{EndsBy, IsPrinted, IsShown, IsTold, TellsLine};
+ghost use Rattle.bpaf_program.specs.Ending.{EndsBy, IsPrinted, IsShown, TellsFailure, TellsLine};
 ghost use Rattle.bpaf_program.specs.Ending.{error_line, memory_line};
 ghost use Rattle.bpaf_program.specs.Sink.{wrote};
 
@@ -53,7 +53,7 @@ pub fn print<S: Sink, E: Sink>(answer: Result<String, ParseFailure>, out: &mut S
 
 /// Shows what was asked for on `out`, or tells a refusal on `err`, and gives the status.
 fn tell<S: Sink, E: Sink>(failure: ParseFailure, out: &mut S, err: &mut E) -> u8
-    ensures { IsTold (wrote S.known out.old out.new) (wrote E.known err.old err.new) failure
+    ensures { TellsFailure (wrote S.known out.old out.new) (wrote E.known err.old err.new) failure
         result }
 {
     match failure {

@@ -5,7 +5,7 @@
 //!
 //! - [`Program::run`] runs options over words and ends a run that gives no value: what was asked
 //!   for stands on one writer, with status 0, or the line of a message on the other, with status 1
-//!   (`IsTold`, specs/Ending.antt). A value comes with nothing written. [`run_record`] is the same
+//!   (`TellsFailure`, specs/Ending.antt). A value comes with nothing written. [`run_record`] is the same
 //!   for a flat record, whose answer is exact, and [`run_program`] for a program with commands.
 //! - [`end`] does so with the answer of any run, and [`print`] prints the text of an answer and
 //!   gives the status (`IsPrinted`). [`write_text`] writes a text of which, where a write fails, a

@@ -2,19 +2,15 @@
 use Rattle.std.proofs.Common.{◌≡◌, ◌≢◌, ℕ, Bool, true, false, List, [], ◌∷◌, None, Some, Option}
 use Rattle.std.proofs.Common.{IsSome, Result, Ok, Err, IfOk, All, IsUtf8, sym, ◌∙◌, subst, refl}
 use Rattle.bpaf_doc.specs.Names.{Names}
-use Rattle.bpaf_words.specs.Arguments.{Given}
-use Rattle.bpaf_words.specs.Spelling.{Known}
+use Rattle.bpaf_words.specs.{Arguments.Given, Spelling.Known}
 use Rattle.bpaf_line.specs.declared.failure.ParseFailure.{ParseFailure}
 use Rattle.bpaf_exact.specs.Pieces.{LinePiece, Roles}
-use Rattle.bpaf_exact.specs.ProgramForm.{ProgramForm}
-use Rattle.bpaf_exact.specs.ProgramSays.{CutSays}
 use Rattle.bpaf_exact.specs.Says.{Said, FlagSays, says_present, says_variable, says_absent}
-use Rattle.bpaf_exact.specs.Says.{ArgumentSays, keyed}
-use Rattle.bpaf_exact.specs.Says.{OptionalSays, says_some, says_none, FallbackSays, says_own}
-use Rattle.bpaf_exact.specs.Says.{says_kept, RepeatSays}
+use Rattle.bpaf_exact.specs.Says.{ArgumentSays, keyed, OptionalSays, says_some, says_none}
+use Rattle.bpaf_exact.specs.Says.{FallbackSays, says_own, says_kept, RepeatSays}
+use Rattle.bpaf_exact.specs.{ProgramForm.ProgramForm, ProgramSays.CutSays}
 use Rattle.bpaf_exact.proofs.Needed.{NeedsPiece, argument_needs, no_values, repeat_needs}
-use Rattle.bpaf_record.specs.Program.{TellsOfWords}
-use Rattle.bpaf_record.specs.Spelled.{IsSpelledByAny, WasSpelled}
+use Rattle.bpaf_record.specs.{Program.TellsOfWords, Spelled.IsSpelledByAny, Spelled.WasSpelled}
 use Rattle.bpaf_record.proofs.Spelled.{piece_was_spelled, spelled_has_piece}
 
 -- what follows of a value that says so is said of the answer

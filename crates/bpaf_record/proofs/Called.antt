@@ -2,32 +2,22 @@
 -- commands, and which command's word was.
 use Rattle.std.proofs.Common.{◌≡◌, ◌≢◌, ℕ, Bool, true, false, List, [], ◌∷◌, Some, None, refl, ap}
 use Rattle.std.proofs.Common.{subst, Option, arith, ⊎_elim, ◌⊎◌, inl, inr}
-use Rattle.std.specs.List.{Contains}
-use Rattle.std.specs.Option.{option_to_list}
+use Rattle.std.specs.{List.Contains, Option.option_to_list}
 use Rattle.std.proofs.lemmas.List.Elements.{Contains-append_cases, Contains-append_left}
-use Rattle.std.proofs.lemmas.List.Elements.{Contains-append_right}
-use Rattle.std.proofs.lemmas.Bool.{or_cases}
+use Rattle.std.proofs.{lemmas.List.Elements.Contains-append_right, lemmas.Bool.or_cases}
 use Rattle.bpaf_doc.specs.Names.{Names}
-use Rattle.bpaf_base.specs.declared.arg.Arg.{Arg}
 use Rattle.bpaf_base.specs.declared.arg.Arg.TheVariants.{PosWord}
-use Rattle.bpaf_base.specs.Items.{is_key_of}
-use Rattle.bpaf_words.specs.Arguments.{Given}
-use Rattle.bpaf_words.specs.Spelling.{Known}
-use Rattle.bpaf_line.specs.Constructing.{IsContext}
-use Rattle.bpaf_line.specs.Situation.{Context}
+use Rattle.bpaf_base.specs.{declared.arg.Arg.Arg, Items.is_key_of}
+use Rattle.bpaf_words.specs.{Arguments.Given, Spelling.Known}
+use Rattle.bpaf_line.specs.{Constructing.IsContext, Situation.Context}
 use Rattle.bpaf_laws.specs.Command.{is_one_of}
-use Rattle.bpaf_exact.specs.Names.{Owns}
 use Rattle.bpaf_exact.specs.Pieces.{Cells, LinePiece, Roles, Takes, no_cells, empty_stays}
 use Rattle.bpaf_exact.specs.Pieces.{other_stays, takes_argument, takes_flag, is_own_role}
-use Rattle.bpaf_exact.specs.ProgramForm.{ProgramForm}
-use Rattle.bpaf_exact.specs.Programs.{CellsValue}
-use Rattle.bpaf_exact.specs.Programs.{Opens, opens_here, opens_later}
-use Rattle.bpaf_exact.specs.Record.{line_cells}
-use Rattle.bpaf_record.specs.Program.{TellsOfWords}
-use Rattle.bpaf_record.specs.Spelled.{WasCalled, WasSpelled}
-use Rattle.bpaf_record.proofs.Answered.{OwnOf}
-use Rattle.bpaf_record.proofs.OnLine.{present}
+use Rattle.bpaf_exact.specs.Programs.{CellsValue, Opens, opens_here, opens_later}
+use Rattle.bpaf_exact.specs.{Names.Owns, ProgramForm.ProgramForm, Record.line_cells}
+use Rattle.bpaf_record.specs.{Program.TellsOfWords, Spelled.WasCalled, Spelled.WasSpelled}
 use Rattle.bpaf_record.proofs.Spelled.{HasPassing, item_spelled}
+use Rattle.bpaf_record.proofs.{Answered.OwnOf, OnLine.present}
 
 -- what is left of cells: at each place what was there, or nothing
 pub data IsLeft : Cells → Cells → Type 0 where

@@ -1,8 +1,7 @@
 -- A choice of any number of parsers is one of two, nested to the left.
-use Rattle.std.proofs.Common.{◌≡◌, ℕ, zero, suc, ◌+◌, ◌<◌, ◌≤◌, true, List, [], ◌∷◌, ◌++◌, length}
+use Rattle.std.proofs.Common.{◌≡◌, ℕ, zero, suc, ◌+◌, ◌<◌, ◌≤◌, List, [], ◌∷◌, ◌++◌, length}
 use Rattle.std.proofs.Common.{take, flat_map, slice_index_or, refl, sym, ap, ◌∙◌, arith, append-nil}
-use Rattle.std.proofs.Common.{append_assoc, Bool}
-use Rattle.std.proofs.lemmas.List.{take_more}
+use Rattle.std.proofs.{Common.append_assoc, Common.Bool, lemmas.List.take_more}
 use Rattle.bpaf_laws.specs.Choices.{Nested}
 use Rattle.bpaf_record.specs.Grammar.{Grammar, choice, choices_of, command_words, keys_of}
 

@@ -2,31 +2,24 @@
 -- the words behind it.
 use Rattle.std.proofs.Common.{◌≡◌, ◌<◌, ℕ, zero, suc, Bool, true, false, List, [], ◌∷◌, ◌++◌, ◌==◌}
 use Rattle.std.proofs.Common.{Option, Some, None, length, map, refl, sym, ap, ◌∙◌, arith, All}
-use Rattle.std.proofs.Common.{subst, codes, slice_get, if◌then◌else◌, append-nil, cond}
-use Rattle.std.proofs.Common.{drop}
+use Rattle.std.proofs.Common.{subst, codes, slice_get, if◌then◌else◌, append-nil, cond, drop}
 use Rattle.std.specs.Prelude.{flat_map, get_or}
-use Rattle.std.specs.List.{Contains, filter}
-use Rattle.std.specs.Option.{option_to_list}
-use Rattle.std.proofs.lemmas.List.{get_or_at}
+use Rattle.std.specs.{List.Contains, List.filter, Option.option_to_list}
 use Rattle.std.proofs.lemmas.List.Elements.{All-append, All-contains, All-map}
 use Rattle.std.proofs.lemmas.List.Elements.{Contains-append_right}
-use Rattle.std.proofs.lemmas.Option.{slice_get_within}
-use Prim.Native.Nat.compare
-use Rattle.bpaf_base.specs.declared.arg.Arg.{Arg}
-use Rattle.bpaf_base.specs.declared.arg.Arg.TheVariants.{PosWord}
-use Rattle.bpaf_words.specs.Arguments.{Given}
+use Rattle.std.proofs.{lemmas.List.get_or_at, lemmas.Option.slice_get_within}
+use Rattle.bpaf_base.specs.{declared.arg.Arg.Arg, declared.arg.Arg.TheVariants.PosWord}
 use Rattle.bpaf_words.specs.Line.{HasNoMarker, IsLine, SpellAll, with_marker, without_marker}
-use Rattle.bpaf_words.specs.Spelling.{Known}
+use Rattle.bpaf_words.specs.{Arguments.Given, Spelling.Known}
 use Rattle.bpaf_line.specs.Constructing.{IsContext}
 use Rattle.bpaf_line.specs.Situation.{Context, is_marker, item_in}
 use Rattle.bpaf.specs.Marker.{is_marker_word, words_before, words_behind}
 use Rattle.bpaf.proofs.Sides.{EachOf, all_spelled, of_words, two_sides}
-use Rattle.bpaf_exact.specs.Flat.{first_cells}
 use Rattle.bpaf_exact.specs.Pieces.{Cells, Cut, LinePiece, Roles, argument, at_end, flag, is_value}
 use Rattle.bpaf_exact.specs.Pieces.{passed, word}
 use Rattle.bpaf_exact.specs.Programs.{IsSpelledLine, is_dashed, is_spelled}
-use Rattle.bpaf_exact.specs.Record.{line_cells}
-use Rattle.bpaf_exact.specs.Says.{first_item}
+use Rattle.bpaf_exact.specs.{Flat.first_cells, Record.line_cells, Says.first_item}
+use Prim.Native.Nat.compare
 
 -- the items that are present
 abbrev pub present : Cells → List Arg

@@ -1,12 +1,9 @@
 -- By the same names words that are texts have one line.
 use Rattle.std.proofs.Common.{◌≡◌, ℕ, All, IsUtf8, List, Option, refl, sym, ◌∙◌}
 use Rattle.bpaf_base.specs.declared.arg.Arg.{Arg}
-use Rattle.bpaf_words.specs.Arguments.{Given}
-use Rattle.bpaf_words.specs.Line.{HasNoLine}
-use Rattle.bpaf_words.specs.Spelling.{Known}
+use Rattle.bpaf_words.specs.{Arguments.Given, Line.HasNoLine, Spelling.Known}
 use Rattle.bpaf_words.proofs.OneLine.{one_lines}
-use Rattle.bpaf_line.specs.Constructing.{IsContext}
-use Rattle.bpaf_line.specs.Situation.{Context}
+use Rattle.bpaf_line.specs.{Constructing.IsContext, Situation.Context}
 
 -- contexts of the same line, marker, environment and name are one
 same_fields : (l m : List Arg) (p q : Option ℕ) (e f : List (List ℕ × List ℕ))

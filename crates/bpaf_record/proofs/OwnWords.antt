@@ -1,15 +1,13 @@
 -- The word of a key by itself spells it, whatever names are known.
 use Rattle.std.proofs.Common.{◌≡◌, ◌≢◌, ◌==◌, ℕ, Bool, true, false, not, List, [], ◌∷◌, ◌++◌, codes}
 use Rattle.std.proofs.Common.{refl, ap, sym, ◌∙◌, subst, arith, length, slice_index, ◌<◌}
-use Rattle.std.specs.List.{Contains, list_all}
-use Rattle.std.specs.Char.{IsAsciiDigit}
-use Rattle.std.proofs.lemmas.List.Sums.{AllPass-from_list_all}
-use Rattle.std.proofs.lemmas.Str.{encode_ascii}
+use Rattle.std.specs.{List.Contains, List.list_all, Char.IsAsciiDigit}
+use Rattle.std.proofs.{lemmas.List.Sums.AllPass-from_list_all, lemmas.Str.encode_ascii}
 use Rattle.bpaf_doc.specs.Names.{Names}
 use Rattle.bpaf_base.specs.Items.{is_among, is_text_among}
 use Rattle.bpaf_base.specs.declared.arg.Arg.TheVariants.{Short, Long}
-use Rattle.bpaf_words.specs.Spelling.{HasNoEquals, IsNumberWord, Items, by_dash, dash_char}
-use Rattle.bpaf_words.specs.Spelling.{long, short}
+use Rattle.bpaf_words.specs.Spelling.{HasNoEquals, IsNumberWord, Items, by_dash, dash_char, long}
+use Rattle.bpaf_words.specs.Spelling.{short}
 use Rattle.bpaf.specs.Marker.{words_before}
 use Rattle.bpaf_record.specs.Spelled.{IsSpelledByAny}
 

@@ -6,19 +6,16 @@ use Rattle.std.proofs.lemmas.List.Folds.{list_all-append}
 use Rattle.bpaf_doc.specs.Names.{Names}
 use Rattle.bpaf_laws.specs.Command.{Called, opening_words}
 use Rattle.bpaf_exact.specs.Flat.{FieldKind, ByName, OneWord, EachWord}
-use Rattle.bpaf_exact.specs.Gathered.{LastOf}
-use Rattle.bpaf_exact.specs.Names.{are_all_apart}
 use Rattle.bpaf_exact.specs.ProgramForm.{ProgramForm, no_program, alternative, single, complete}
 use Rattle.bpaf_exact.specs.ProgramForm.{product, commands, before_commands, program_if}
 use Rattle.bpaf_exact.specs.ProgramForm.{program_closed, program_dressed, completed}
 use Rattle.bpaf_exact.specs.ProgramForm.{program_optional, are_words_apart, program_choice}
 use Rattle.bpaf_exact.specs.ProgramForm.{choice_only, is_named, is_program, is_record, may_follow}
 use Rattle.bpaf_exact.specs.ProgramForm.{program_alone, program_both, program_command, program_con}
-use Rattle.bpaf_exact.specs.ProgramForm.{program_field}
-use Rattle.bpaf_exact.specs.Programs.{are_plain}
 use Rattle.bpaf_exact.specs.Single.{Gap, Groups, OwnList, repeated}
-use Rattle.bpaf_exact.specs.Pieces.{LinePiece}
 use Rattle.bpaf_exact.specs.Wrappers.{Closure, FallbackValue}
+use Rattle.bpaf_exact.specs.{Gathered.LastOf, Names.are_all_apart, ProgramForm.program_field}
+use Rattle.bpaf_exact.specs.{Programs.are_plain, Pieces.LinePiece}
 use Rattle.bpaf_record.specs.declared.part.ProgramPart.TheVariants.{Complete, Product, Commands}
 use Rattle.bpaf_record.specs.Part.{kind_of, part_of, part_if, closed_part, completed_part}
 use Rattle.bpaf_record.specs.Part.{dressed_part, optional_part, chosen_part, only_part}

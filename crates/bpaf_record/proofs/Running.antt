@@ -1,38 +1,31 @@
 -- Each answer that the table of a run allows to a flat record keeps to its fields.
-use Rattle.std.proofs.Common.{◌≡◌, true, false, List, Some, None, Result, Ok, Err, IfOk, All, IsUtf8, refl}
-use Rattle.std.proofs.Common.{ap, subst, sym, not, ℕ}
+use Rattle.std.proofs.Common.{◌≡◌, true, List, Some, None, Result, Ok, Err, IfOk, All}
+use Rattle.std.proofs.Common.{IsUtf8, refl, ap, subst, sym, not, ℕ}
 use Rattle.std.proofs.lemmas.Bool.{and_parts}
-use Rattle.bpaf_doc.specs.Names.{Names}
-use Rattle.bpaf_doc.specs.Shape.{Shape}
-use Rattle.bpaf_words.specs.Arguments.{Given}
-use Rattle.bpaf_words.specs.Spelling.{Known}
-use Rattle.bpaf_line.specs.Constructing.{IsContext}
-use Rattle.bpaf_line.specs.declared.error.Error.{Error}
+use Rattle.bpaf_doc.specs.{Names.Names, Shape.Shape}
+use Rattle.bpaf_words.specs.{Arguments.Given, Spelling.Known}
 use Rattle.bpaf_line.specs.declared.failure.ParseFailure.{ParseFailure}
-use Rattle.bpaf_line.specs.declared.failure.ParseFailure.TheVariants as failure
 use Rattle.bpaf_line.specs.Situation.{Context, Situation, beginning}
+use Rattle.bpaf_line.specs.{Constructing.IsContext, declared.error.Error.Error}
 use Rattle.bpaf_laws.specs.Reading.{Outcome}
-use Rattle.bpaf.specs.Ending.{EndsRun, memory, usage, passed_on, refused as told_refusal}
-use Rattle.bpaf.specs.Ending.{leftover as told_leftover}
 use Rattle.bpaf.specs.Info.{RunInfo}
 use Rattle.bpaf.specs.Run.{Runs, RunsWords, value, leftover, refused, ran}
-use Rattle.bpaf.specs.Run.{no_line as none_there, no_memory as wanted}
 use Rattle.bpaf_exact.specs.Flat.{FieldsLaw, FieldsReading}
-use Rattle.bpaf_exact.specs.Pieces.{Cut, Roles}
 use Rattle.bpaf_exact.specs.Record.{RunRan, run_value, run_leftover, run_memory, run_refusal}
 use Rattle.bpaf_exact.specs.Record.{IsNoValue, IsAcceptedOrWant, IsExact, RecordValue, line_cells}
 use Rattle.bpaf_exact.specs.ProgramForm.{ProgramForm, alternative, single, complete, product}
 use Rattle.bpaf_exact.specs.ProgramForm.{FormLaw, is_record, product_roles, product_reading}
-use Rattle.bpaf_exact.specs.ProgramForm.{whole_program}
-use Rattle.bpaf_exact.proofs.Classes.{memory_class, not_memory}
-use Rattle.bpaf_exact.proofs.Accepted.{cut_holds_together}
-use Rattle.bpaf_exact.proofs.ProgramForm.{record_law, runs_exactly}
-use Rattle.bpaf_record.specs.Program.{is_whole_program}
+use Rattle.bpaf_exact.specs.{Pieces.Cut, Pieces.Roles, ProgramForm.whole_program}
 use Rattle.bpaf_record.specs.Record.{is_flat_record, answer_of, AnswersByFields, IsValueOf}
 use Rattle.bpaf_record.specs.Record.{IsValueOrWant, HasWholeLine, PiecesOf}
-use Rattle.bpaf_record.specs.Commands.{left_over}
+use Rattle.bpaf_record.specs.{Program.is_whole_program, Commands.left_over}
 use Rattle.bpaf_record.proofs.OneLine.{never_without, same_context}
-use Rattle.bpaf_exact.proofs.Cuts.{read_cut}
+use Rattle.bpaf_exact.proofs.{Classes.memory_class, Classes.not_memory, Accepted.cut_holds_together}
+use Rattle.bpaf_exact.proofs.{ProgramForm.record_law, ProgramForm.runs_exactly, Cuts.read_cut}
+use Rattle.bpaf_line.specs.declared.failure.ParseFailure.TheVariants as failure
+use Rattle.bpaf.specs.Ending.{EndsRun, memory, usage, passed_on, refused as told_refusal}
+use Rattle.bpaf.specs.Ending.{leftover as told_leftover}
+use Rattle.bpaf.specs.Run.{no_line as none_there, no_memory as wanted}
 
 -- what a run answers that gives no value is none
 no_value : (T : Type 0) (f : ParseFailure) → IsNoValue (answer_of {T = T} (Err f))

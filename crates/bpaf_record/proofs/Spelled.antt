@@ -10,19 +10,15 @@ use Rattle.std.proofs.lemmas.List.Elements.{Contains-append_left, Contains-appen
 use Rattle.std.proofs.lemmas.List.Elements.{Contains-get_or, filter_passes}
 use Rattle.std.proofs.lemmas.List.Sums.{count_by_more_yes, length-filter, sum_by-take-le}
 use Rattle.bpaf_doc.specs.Names.{Names}
-use Rattle.bpaf_base.specs.Items.{is_key_of}
-use Rattle.bpaf_base.specs.declared.arg.Arg.{Arg}
 use Rattle.bpaf_base.specs.declared.arg.Arg.TheVariants.{Short, Long, PosWord}
-use Rattle.bpaf_words.specs.Arguments.{Given}
-use Rattle.bpaf_words.specs.Line.{HasNoMarker, SpellAll}
+use Rattle.bpaf_base.specs.{Items.is_key_of, declared.arg.Arg.Arg}
 use Rattle.bpaf_words.specs.Spelling.{Known, Items, Spells}
+use Rattle.bpaf_words.specs.{Arguments.Given, Line.HasNoMarker, Line.SpellAll}
 use Rattle.bpaf_words.proofs.OneSpelling.{one_spelling}
-use Rattle.bpaf_line.specs.Constructing.{IsContext}
-use Rattle.bpaf_line.specs.Situation.{Context}
+use Rattle.bpaf_line.specs.{Constructing.IsContext, Situation.Context}
 use Rattle.bpaf.specs.Marker.{is_marker_word, words_before, words_behind}
 use Rattle.bpaf_exact.specs.Pieces.{Roles, LinePiece, Cut, is_value}
-use Rattle.bpaf_exact.specs.Record.{line_cells}
-use Rattle.bpaf_exact.specs.Says.{first_item, keyed}
+use Rattle.bpaf_exact.specs.{Record.line_cells, Says.first_item, Says.keyed}
 use Rattle.bpaf_record.specs.Spelled.{IsSpelledByAny, IsSpelledItem, WasSpelled}
 use Rattle.bpaf_record.proofs.OnLine.{cut_kept, each_present, on_line, present}
 

@@ -1,10 +1,8 @@
 -- What a plain command answers is what exactness says of one; so it keeps to the laws of commands,
 -- where what runs behind its word keeps to those of a program.
-use Rattle.std.proofs.Common.{◌≡◌, ℕ, Bool, true, false, List, Some, None, Result, Ok, Err, ap}
-use Rattle.std.proofs.Common.{inl, inr}
-use Rattle.bpaf_doc.specs.Names.{Names}
-use Rattle.bpaf_doc.specs.Shape.{Part, Shape}
-use Rattle.bpaf_line.specs.declared.error.Error.{Error}
+use Rattle.std.proofs.Common.{◌≡◌, ℕ, Bool, true, false, List, Some, None, Result, Ok, Err, ap, inl}
+use Rattle.std.proofs.Common.{inr}
+use Rattle.bpaf_doc.specs.{Names.Names, Shape.Part, Shape.Shape}
 use Rattle.bpaf_line.specs.declared.failure.ParseFailure.{ParseFailure}
 use Rattle.bpaf_line.specs.Situation.{Situation, open_count, with_current}
 use Rattle.bpaf_laws.specs.Command.{Called, IsNotOpened, IsOpenedAt, inside, opening_words}
@@ -12,20 +10,18 @@ use Rattle.bpaf_laws.specs.Reading.{Outcome}
 use Rattle.bpaf_core.specs.Adjacent.{EitherCommandOutcome}
 use Rattle.bpaf_core.specs.Command.{CommandOutcome, value, ended, missing, no_memory, IsMissingPart}
 use Rattle.bpaf_parts.specs.Failures.{end_message}
-use Rattle.bpaf.specs.Ending.{EndsRun, memory, usage, passed_on, refused as told_refusal}
-use Rattle.bpaf.specs.Ending.{leftover as told_leftover}
 use Rattle.bpaf.specs.Info.{RunInfo}
-use Rattle.bpaf.specs.Run.{Runs, value as ran_value, leftover, refused}
 use Rattle.bpaf_exact.specs.Flat.{class_of, Variables}
 use Rattle.bpaf_exact.specs.Programs.{CommandEval, command_value, command_leftover, command_refused}
 use Rattle.bpaf_exact.specs.Programs.{command_missing, command_memory}
-use Rattle.bpaf_exact.proofs.Classes.{not_memory}
-use Rattle.bpaf_exact.proofs.Narrow.{no_more}
 use Rattle.bpaf_exact.specs.ProgramForm.{ProgramForm, FormLaw, program_command}
 use Rattle.bpaf_exact.proofs.ProgramForm.{program_command_law, narrower_form}
 use Rattle.bpaf.specs.Leftover.{IsLeftover, conflict, only_once, not_expected}
-use Rattle.bpaf_line.specs.declared.error.Message.{Message}
-use Rattle.bpaf_exact.proofs.Counts.{open_counted}
+use Rattle.bpaf_line.specs.{declared.error.Error.Error, declared.error.Message.Message}
+use Rattle.bpaf_exact.proofs.{Classes.not_memory, Narrow.no_more, Counts.open_counted}
+use Rattle.bpaf.specs.Ending.{EndsRun, memory, usage, passed_on, refused as told_refusal}
+use Rattle.bpaf.specs.Ending.{leftover as told_leftover}
+use Rattle.bpaf.specs.Run.{Runs, value as ran_value, leftover, refused}
 
 -- where something is told of what is left something is
 pub left_over : (s : Situation) (m : Message) → IsLeftover s m → open_count s ≡ 0 → ⊥

@@ -1,25 +1,20 @@
 -- The grammar of programs: of which parsers they are made, and by which steps.
-use Rattle.std.specs.Prelude.{ℕ, Bool, not, true, false, List, [], ◌∷◌, ◌++◌, Option}
-use Rattle.std.specs.Prelude.{if◌then◌else◌}
+use Rattle.std.specs.Prelude.{ℕ, Bool, not, true, false, List, [], ◌∷◌, ◌++◌, Option, if◌then◌else◌}
 use Rattle.bpaf_doc.specs.Names.{Names}
-use Rattle.bpaf_text.specs.Named.{Named as Key, KeyWithValue}
-use Rattle.bpaf_laws.specs.Choices.{Nested}
-use Rattle.bpaf_laws.specs.Command.{Called, opening_words}
+use Rattle.bpaf_laws.specs.{Choices.Nested, Command.Called, Command.opening_words}
 use Rattle.bpaf.specs.declared.leaves.positional.Position.{Position}
-use Rattle.bpaf.specs.Info.{RunInfo}
-use Rattle.bpaf.specs.Positional.{accepts}
+use Rattle.bpaf.specs.{Info.RunInfo, Positional.accepts}
 use Rattle.bpaf_exact.specs.Flat.{ByName, OneWord, Variables}
-use Rattle.bpaf_exact.specs.Gathered.{LastOf}
 use Rattle.bpaf_exact.specs.Leaves.{argument_field, flag_field, pure_field, word_by}
 use Rattle.bpaf_exact.specs.ProgramForm.{ProgramForm, choice_only, completed, no_program}
 use Rattle.bpaf_exact.specs.ProgramForm.{program_alone, program_both, program_choice}
 use Rattle.bpaf_exact.specs.ProgramForm.{program_closed, program_command, program_con}
 use Rattle.bpaf_exact.specs.ProgramForm.{program_dressed, program_field, program_if}
-use Rattle.bpaf_exact.specs.ProgramForm.{program_optional}
 use Rattle.bpaf_exact.specs.Says.{SaidKind, form_kind, of_kind, repeated_kind}
-use Rattle.bpaf_exact.specs.Single.{OwnList, repeated}
-use Rattle.bpaf_exact.specs.Wrappers.{Closure, FallbackValue}
+use Rattle.bpaf_exact.specs.{Gathered.LastOf, ProgramForm.program_optional, Single.OwnList}
+use Rattle.bpaf_exact.specs.{Single.repeated, Wrappers.Closure, Wrappers.FallbackValue}
 use Rattle.bpaf_record.specs.Record.{are_unusual}
+use Rattle.bpaf_text.specs.Named.{Named as Key, KeyWithValue}
 
 -- what a parser is made of: what it is by itself, or a step and the parsers inside
 pub data Grammar : Type 0 → Type 1 where

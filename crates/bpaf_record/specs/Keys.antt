@@ -1,6 +1,5 @@
 -- Names that two keys have in common.
-use Rattle.std.specs.Prelude.{ℕ, Bool, not, List}
-use Rattle.std.specs.List.{list_all}
+use Rattle.std.specs.{Prelude.ℕ, Prelude.Bool, Prelude.not, Prelude.List, List.list_all}
 use Rattle.bpaf_base.specs.Items.{is_among, is_text_among}
 
 -- none of the short names is one of the others

@@ -1,16 +1,14 @@
 -- A choice of any number of parsers keeps to the laws of its form, and its values say what is told of
 -- them, where those of the parsers do.
-use Rattle.std.specs.Prelude.{Bool, true, List, [], ◌∷◌}
+use Rattle.std.specs.Prelude.{true, List, [], ◌∷◌}
 use Rattle.std.specs.List.{Contains}
 use Rattle.bpaf_doc.specs.Names.{Names}
-use Rattle.bpaf_laws.specs.Choice.{ChoiceOutcome}
 use Rattle.bpaf_laws.specs.Choices.{ChoicesOutcome, Nested}
-use Rattle.bpaf_laws.specs.Reading.{Outcome}
-use Rattle.bpaf_exact.specs.Flat.{ByName, Variables}
+use Rattle.bpaf_laws.specs.{Choice.ChoiceOutcome, Reading.Outcome}
 use Rattle.bpaf_exact.specs.ProgramForm.{EachAgrees, FormLaw, choice_only}
 use Rattle.bpaf_exact.specs.ProgramSays.{ProgramFormSays, ProgramSaid, ProgramSays, of_cells}
 use Rattle.bpaf_exact.specs.ProgramSays.{of_pieces, said_choices}
-use Rattle.bpaf_exact.specs.Says.{SaidKind, of_kind}
+use Rattle.bpaf_exact.specs.{Flat.ByName, Flat.Variables, Says.SaidKind, Says.of_kind}
 use Rattle.bpaf_exact.proofs.ProgramForm.{choice_only_law, program_choice_law}
 use Rattle.bpaf_exact.proofs.ProgramSays.{Into, at_first, first_says, in_rest, more_says}
 use Rattle.bpaf_record.specs.Grammar.{Grammar, choice, choices_of, command_words, keys_of, only}

@@ -3,12 +3,11 @@ use Rattle.std.specs.Prelude.{Bool, true, false, not, ◌&&◌, ◌||◌}
 use Rattle.bpaf_exact.specs.Flat.{FieldKind, ByName}
 use Rattle.bpaf_exact.specs.ProgramForm.{ProgramForm, no_program, alternative, single, complete}
 use Rattle.bpaf_exact.specs.ProgramForm.{product, commands, before_commands}
-use Rattle.bpaf_record.specs.declared.part.Kind.{Kind}
 use Rattle.bpaf_record.specs.declared.part.Kind.TheVariants.{Named, Word}
-use Rattle.bpaf_record.specs.declared.part.ProgramPart.{ProgramPart}
 use Rattle.bpaf_record.specs.declared.part.ProgramPart.TheVariants.{NoPart, Alternative, Single}
 use Rattle.bpaf_record.specs.declared.part.ProgramPart.TheVariants.{Complete, Product, Commands}
 use Rattle.bpaf_record.specs.declared.part.ProgramPart.TheVariants.{BeforeCommands}
+use Rattle.bpaf_record.specs.{declared.part.Kind.Kind, declared.part.ProgramPart.ProgramPart}
 
 -- by a name, or a positional word
 abbrev pub kind_of : FieldKind → Kind

@@ -1,20 +1,16 @@
 -- Positional words keep to the laws of their form.
 use Rattle.std.proofs.Common.{◌≡◌, ℕ, Bool, true, false, List, [], Some, Result, Ok, Err, refl, sym}
 use Rattle.std.proofs.Common.{ap, ◌∙◌, not, subst, true≢false}
-use Rattle.bpaf_base.specs.declared.arg.Arg.{Arg}
-use Rattle.bpaf_base.specs.Items.{word_text}
-use Rattle.bpaf_line.specs.declared.error.Error.{Error}
+use Rattle.bpaf_base.specs.{declared.arg.Arg.Arg, Items.word_text}
 use Rattle.bpaf_line.specs.declared.error.Message.{Message}
 use Rattle.bpaf_line.specs.declared.error.Message.TheVariants.{Memory, Missing, ParseFailed}
 use Rattle.bpaf_line.specs.declared.error.Message.TheVariants.{StrictPos, NonStrictPos}
-use Rattle.bpaf_line.specs.Situation.{Situation}
-use Rattle.bpaf_exact.specs.Flat.{class, class_of, Variables}
-use Rattle.bpaf_exact.specs.Leaves.{WordValue, WordEval, word_by, word_fault}
-use Rattle.bpaf_exact.specs.Leaves.{word_memory, word_missing, word_passed, word_read}
-use Rattle.bpaf_exact.specs.ProgramForm.{FormLaw}
-use Rattle.bpaf_exact.specs.Pieces.{One}
-use Rattle.bpaf_exact.proofs.{Narrow.no_more, ProgramForm.narrower_form}
+use Rattle.bpaf_line.specs.{declared.error.Error.Error, Situation.Situation}
+use Rattle.bpaf_exact.specs.Leaves.{WordValue, WordEval, word_by, word_fault, word_memory}
+use Rattle.bpaf_exact.specs.{Flat.class, Flat.class_of, Flat.Variables, Leaves.word_missing}
+use Rattle.bpaf_exact.specs.{Leaves.word_passed, Leaves.word_read, ProgramForm.FormLaw, Pieces.One}
 use Rattle.bpaf_exact.proofs.Positionals.{stands_before, word_by_law, word_is}
+use Rattle.bpaf_exact.proofs.{Narrow.no_more, ProgramForm.narrower_form}
 use Rattle.bpaf.specs.declared.leaves.positional.Position.{Position}
 use Rattle.bpaf.specs.Positional.{PositionalOutcome, PositionalFails, accepts}
 

@@ -1,15 +1,12 @@
 -- Programs with commands.
 use Rattle.std.specs.Prelude.{All, Bool, ◌&&◌, IfOk, IsUtf8, List, Result}
 use Rattle.bpaf_doc.specs.Names.{Names}
-use Rattle.bpaf_words.specs.Arguments.{Given}
-use Rattle.bpaf_words.specs.Spelling.{Known}
-use Rattle.bpaf_line.specs.Constructing.{IsContext}
+use Rattle.bpaf_words.specs.{Arguments.Given, Spelling.Known}
 use Rattle.bpaf_line.specs.declared.failure.ParseFailure.{ParseFailure}
-use Rattle.bpaf_line.specs.Situation.{Context}
+use Rattle.bpaf_line.specs.{Constructing.IsContext, Situation.Context}
 use Rattle.bpaf.specs.Info.{RunInfo}
 use Rattle.bpaf_exact.specs.ProgramForm.{ProgramForm, is_program, program_value}
-use Rattle.bpaf_exact.specs.Programs.{CellsValue}
-use Rattle.bpaf_exact.specs.Record.{line_cells}
+use Rattle.bpaf_exact.specs.{Programs.CellsValue, Record.line_cells}
 use Rattle.bpaf_record.specs.Record.{IsValueOrWant, are_unusual}
 
 -- a program none of whose own keys shares a name with those of help and version

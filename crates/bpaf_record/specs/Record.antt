@@ -2,19 +2,15 @@
 use Rattle.std.specs.Prelude.{◌≡◌, All, Bool, ◌&&◌, IfOk, IsUtf8, List, Result, Ok, Err}
 use Rattle.std.specs.List.{list_all}
 use Rattle.bpaf_doc.specs.Names.{Names}
-use Rattle.bpaf_words.specs.Arguments.{Given}
-use Rattle.bpaf_words.specs.Spelling.{Known}
-use Rattle.bpaf_line.specs.Constructing.{IsContext}
+use Rattle.bpaf_words.specs.{Arguments.Given, Spelling.Known}
 use Rattle.bpaf_line.specs.declared.failure.ParseFailure.{ParseFailure}
-use Rattle.bpaf_line.specs.declared.failure.ParseFailure.TheVariants as failure
-use Rattle.bpaf_line.specs.Situation.{Context}
+use Rattle.bpaf_line.specs.{Constructing.IsContext, Situation.Context}
 use Rattle.bpaf.specs.Info.{RunInfo}
-use Rattle.bpaf_exact.specs.Accepted.{HoldsTogether}
-use Rattle.bpaf_exact.specs.Names.{are_apart}
 use Rattle.bpaf_exact.specs.Pieces.{LinePiece, Cut}
 use Rattle.bpaf_exact.specs.Record.{RunAnswer, Accepted, NoMemory, Refusal, RecordValue, line_cells}
 use Rattle.bpaf_exact.specs.ProgramForm.{ProgramForm, is_record, product_roles, product_reading}
-use Rattle.bpaf_exact.specs.ProgramForm.{whole_program}
+use Rattle.bpaf_exact.specs.{Accepted.HoldsTogether, Names.are_apart, ProgramForm.whole_program}
+use Rattle.bpaf_line.specs.declared.failure.ParseFailure.TheVariants as failure
 
 -- none of these keys shares a name with those of help and version
 abbrev pub are_unusual : List Names → RunInfo → Bool

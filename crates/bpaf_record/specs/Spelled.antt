@@ -2,9 +2,8 @@
 use Rattle.std.specs.Prelude.{◌≡◌, Bool, true, ℕ, List}
 use Rattle.std.specs.List.{Contains}
 use Rattle.bpaf_doc.specs.Names.{Names}
-use Rattle.bpaf_base.specs.Items.{is_key_of}
 use Rattle.bpaf_words.specs.Spelling.{Known, Items, ShortNames, Spells, known_at}
-use Rattle.bpaf_base.specs.declared.arg.Arg.{Arg}
+use Rattle.bpaf_base.specs.{Items.is_key_of, declared.arg.Arg.Arg}
 use Rattle.bpaf_laws.specs.Command.{is_one_of}
 use Rattle.bpaf.specs.Marker.{words_before}
 

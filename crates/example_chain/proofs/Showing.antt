@@ -1,17 +1,14 @@
 -- What the commands of the program read, and that they show their help pages alone.
 use Rattle.std.proofs.Common.{◌≡◌, true, ap}
 use Rattle.bpaf_laws.specs.Command.{CommandDescribes, named_only, opening_words}
-use Rattle.bpaf_laws.specs.Laws.{Lawful}
-use Rattle.bpaf_laws.specs.Reading.{Outcome, Readings}
+use Rattle.bpaf_laws.specs.{Laws.Lawful, Reading.Outcome, Reading.Readings}
 use Rattle.bpaf_keys.specs.Info.{short_descr}
 use Rattle.bpaf_core.specs.Adjacent.{EitherCommandReads, OutcomeOfCommand}
 use Rattle.bpaf_core.specs.declared.commands.ParseCommand.{ParseCommand}
 use Rattle.bpaf.proofs.Asked.{hands_also}
 use Rattle.bpaf_program.proofs.Commands.{Hands, command_hands}
-use Rattle.example_chain.specs.declared.steps.Step.{Step}
-use Rattle.example_chain.specs.Dealing.{ChainedReads}
-use Rattle.example_chain.specs.Shown.{IsCommandPage, IsCommandShape, IsDescribed, Shapes, ShowsAs}
-use Rattle.example_chain.specs.Shown.{Titled}
+use Rattle.example_chain.specs.Shown.{IsCommandPage, IsCommandShape, IsDescribed, ShownShapes, ShowsAs}
+use Rattle.example_chain.specs.{declared.steps.Step.Step, Dealing.ChainedReads, Shown.Titled}
 
 -- a command of this title over this parser
 pub record IsTitled {P : Type 0} (title : Titled) (parser : P) (command : ParseCommand Step P)
@@ -23,7 +20,7 @@ pub record IsTitled {P : Type 0} (title : Titled) (parser : P) (command : ParseC
   pub described : IsDescribed title.text command.info
 
 module _ {P : Type 0} (outcome : P → Outcome Step) (reads : P → Readings Step)
-    (describes : P → Shapes) where
+    (describes : P → ShownShapes) where
   -- what such a command does, where its parser keeps to the laws and shows as it should: it shows
   -- its help page alone
   abbrev pub Chained : Titled → P → ParseCommand Step P → Type 0

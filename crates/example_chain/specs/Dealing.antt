@@ -4,19 +4,13 @@ use Rattle.std.specs.Global.{Vec}
 use mir.Syntax.{w64}
 use Rattle.bpaf_doc.specs.Names.{Names}
 use Rattle.bpaf_text.specs.Meaning.{SpellsSigned, SpellsUnsigned}
-use Rattle.bpaf_words.specs.Arguments.{Given}
-use Rattle.bpaf_words.specs.Spelling.{Known, knowing}
-use Rattle.bpaf_laws.specs.Choice.{ChoiceReads}
-use Rattle.bpaf_laws.specs.Command.{CommandReads}
+use Rattle.bpaf_words.specs.{Arguments.Given, Spelling.Known, Spelling.knowing}
 use Rattle.bpaf_laws.specs.OneStretch.{StretchReads}
-use Rattle.bpaf_laws.specs.Product.{BothReads}
-use Rattle.bpaf_laws.specs.Reading.{Readings}
-use Rattle.bpaf_laws.specs.Repeat.{ListReads}
-use Rattle.bpaf_laws.specs.Transform.{MapReads}
-use Rattle.bpaf.specs.Dealt.{IsDealtOut}
+use Rattle.bpaf_laws.specs.{Choice.ChoiceReads, Command.CommandReads, Product.BothReads}
+use Rattle.bpaf_laws.specs.{Reading.Readings, Repeat.ListReads, Transform.MapReads}
 use Rattle.bpaf.specs.declared.leaves.positional.Position.TheVariants.{Unrestricted}
-use Rattle.bpaf.specs.Positional.{PositionalReads}
-use Rattle.bpaf_program.specs.Fields.{SwitchReads}
+use Rattle.bpaf.specs.{Dealt.IsDealtOut, Positional.PositionalReads}
+use Rattle.bpaf_program.specs.Fields.{NamedSwitchReads}
 use Rattle.example_chain.specs.declared.steps.Step.{Step}
 use Rattle.example_chain.specs.declared.steps.Step.TheVariants.{Move, Turn, Repeat}
 
@@ -42,7 +36,7 @@ IntegerReads = PositionalReads ℤ (SpellsSigned w64) Unrestricted
 
 -- the switch `--left`
 abbrev pub LeftReads : Readings Bool
-LeftReads = SwitchReads left_names
+LeftReads = NamedSwitchReads left_names
 
 -- a step, by what it is made of
 abbrev pub PartsRead : {V : Type 0} → Readings V → (V → Step) → Readings Step

@@ -1,12 +1,8 @@
 -- What a run of the program answers.
-use Rattle.std.specs.Prelude.{ℕ, Bool, List}
-use Rattle.std.specs.Global.{Vec}
-use Rattle.bpaf_doc.specs.declared.doc.Piece.{Piece}
-use Rattle.bpaf_doc.specs.Print.{printed}
+use Rattle.std.specs.{Prelude.ℕ, Prelude.Bool, Prelude.List, Global.Vec}
+use Rattle.bpaf_doc.specs.{declared.doc.Piece.Piece, Print.printed}
 use Rattle.example_chain.specs.declared.steps.Step.{Step}
-use Rattle.example_chain.specs.Dealing.{AreDealtSteps}
-use Rattle.example_chain.specs.Lines.{step_lines}
-use Rattle.example_chain.specs.Shown.{IsHelpAsked}
+use Rattle.example_chain.specs.{Dealing.AreDealtSteps, Lines.step_lines, Shown.IsHelpAsked}
 
 -- a text that answers the words: the lines of steps that are dealt out of them, or the text of a
 -- help page that they ask for

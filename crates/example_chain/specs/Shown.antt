@@ -1,16 +1,11 @@
 -- What the program shows where it is asked for help.
 use Rattle.std.specs.Prelude.{◌≡◌, ℕ, Bool, false, List, Some, codes}
-use Rattle.bpaf_doc.specs.declared.doc.Piece.{Piece}
-use Rattle.bpaf_doc.specs.Fold.{TextPieces}
-use Rattle.bpaf_doc.specs.Shape.{Shape}
+use Rattle.bpaf_doc.specs.{declared.doc.Piece.Piece, Fold.TextPieces, Shape.Shape}
 use Rattle.bpaf_text.specs.Named.{key_named}
 use Rattle.bpaf_line.specs.Situation.{Situation}
-use Rattle.bpaf_laws.specs.Choice.{ChoiceDescribes}
-use Rattle.bpaf_laws.specs.Command.{CommandDescribes, named_only}
-use Rattle.bpaf_laws.specs.Flag.{flag_shape}
 use Rattle.bpaf_laws.specs.Product.{BothDescribes, LastDescribes, ProductDescribes}
-use Rattle.bpaf_laws.specs.Reading.{Outcome}
-use Rattle.bpaf_laws.specs.Repeat.{ManyDescribes}
+use Rattle.bpaf_laws.specs.{Choice.ChoiceDescribes, Command.CommandDescribes, Command.named_only}
+use Rattle.bpaf_laws.specs.{Flag.flag_shape, Reading.Outcome, Repeat.ManyDescribes}
 use Rattle.bpaf_keys.specs.Info.{RunInfo, plain_info, short_descr}
 use Rattle.bpaf.specs.Asked.{BehindWord, IsAskedAt, ShowsNothing, WordsShow}
 use Rattle.bpaf.specs.declared.leaves.positional.Position.TheVariants.{Unrestricted}
@@ -19,8 +14,8 @@ use Rattle.example_chain.specs.declared.steps.Step.{Step}
 use Rattle.example_chain.specs.Dealing.{left_names, program_given, program_known}
 
 -- what shapes may be shown
-abbrev pub Shapes : Type 1
-Shapes = Shape → Type 0
+abbrev pub ShownShapes : Type 1
+ShownShapes = Shape → Type 0
 
 -- a word by this name, with this help
 pub record IsWordShape (name text : List ℕ) (shape : Shape) : Type 0 where
@@ -29,27 +24,27 @@ pub record IsWordShape (name text : List ℕ) (shape : Shape) : Type 0 where
   pub is : shape ≡ positional_shape Unrestricted name (Some help)
 
 -- the switch `--left`
-abbrev pub IsLeftShape : Shapes
+abbrev pub IsLeftShape : ShownShapes
 IsLeftShape shape = shape ≡ flag_shape (key_named left_names) (Some false)
 
 -- `DX DY`
-abbrev pub IsMoveShape : Shapes
+abbrev pub IsMoveShape : ShownShapes
 IsMoveShape =
     ProductDescribes (BothDescribes (IsWordShape (codes "DX") (codes "How far to the right"))
     (LastDescribes (IsWordShape (codes "DY") (codes "How far up"))))
 
 -- `[--left] DEGREES`
-abbrev pub IsTurnShape : Shapes
+abbrev pub IsTurnShape : ShownShapes
 IsTurnShape =
     ProductDescribes (BothDescribes IsLeftShape
     (LastDescribes (IsWordShape (codes "DEGREES") (codes "How far to turn"))))
 
 -- `N`
-abbrev pub IsRepeatShape : Shapes
+abbrev pub IsRepeatShape : ShownShapes
 IsRepeatShape = ProductDescribes (LastDescribes (IsWordShape (codes "N") (codes "How many times")))
 
 -- a parser shows nothing by itself, and these shapes alone
-pub record ShowsAs (shapes describes : Shapes) (outcome : Outcome Step) : Type 0 where
+pub record ShowsAs (shapes describes : ShownShapes) (outcome : Outcome Step) : Type 0 where
   pub nothing : ShowsNothing outcome
   pub shapes_are : (shape : Shape) → describes shape → shapes shape
 
@@ -57,7 +52,7 @@ pub record ShowsAs (shapes describes : Shapes) (outcome : Outcome Step) : Type 0
 pub record Titled : Type 1 where
   pub name : List ℕ
   pub text : List ℕ
-  pub shapes : Shapes
+  pub shapes : ShownShapes
 
 -- the commands of the program
 abbrev pub move_title : Titled
@@ -84,7 +79,7 @@ pub record IsCommandShape (title : Titled) (shape : Shape) : Type 0 where
   pub is : CommandDescribes (named_only title.name) (short_descr info) title.shapes shape
 
 -- what the program shows: any number of its commands
-abbrev pub IsProgramShape : Shapes
+abbrev pub IsProgramShape : ShownShapes
 IsProgramShape =
     ManyDescribes (ChoiceDescribes (ChoiceDescribes (IsCommandShape move_title)
     (IsCommandShape turn_title)) (IsCommandShape repeat_title))

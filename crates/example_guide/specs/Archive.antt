@@ -5,8 +5,7 @@ use Rattle.bpaf_doc.specs.Names.{Names}
 use Rattle.bpaf.specs.Marker.{words_before}
 use Rattle.bpaf_record.specs.Spelled.{WasSpelled}
 use Rattle.bpaf_program.specs.Fields.{plain_argument, plain_flag, plain_switch}
-use Rattle.example_guide.specs.declared.archive.Archive.{Archive}
-use Rattle.example_guide.specs.declared.archive.Keys.{Keys}
+use Rattle.example_guide.specs.{declared.archive.Archive.Archive, declared.archive.Keys.Keys}
 
 -- a key of one letter and this name
 abbrev pub key : List ℕ → List ℕ → Names

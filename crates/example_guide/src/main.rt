@@ -31,6 +31,7 @@ use bpaf_program::{end, words};
 use clean::Task;
 use git::{Command, read_git};
 use options::{Options, read_options};
+use std::alloc::{AllocError, Global};
 use std::collections::BTreeMap;
 use std::process::ExitCode;
 use std::{env, io};
@@ -43,18 +44,7 @@ fn main(rt: HostRuntime) -> io::Result<ExitCode> {
     let variables = environment(&rt)?;
     match end(asked(&rt, &variables), &mut out, &mut err) {
         Ok(options) => {
-            let size = options.size;
-            println!(rt; "size: {size}")?;
-            show_backup(&rt)?;
-            show_removal(&rt)?;
-            show_head(&rt)?;
-            show_archive(&rt)?;
-            show_dimming(&rt)?;
-            show_cleaning(&rt)?;
-            show_row(&rt)?;
-            show_sum(&rt)?;
-            show_color(&rt)?;
-            show_commit(&rt)?;
+            show_all(&rt, options.size)?;
             Ok(ExitCode::SUCCESS)
         }
         Err(status) => Ok(ExitCode::from(status)),
@@ -79,20 +69,33 @@ fn environment(rt: &HostRuntime) -> io::Result<BTreeMap<String, String>> {
     Ok(variables)
 }
 
+/// Tells the size, and what each program reads off words of its own.
+fn show_all(rt: &HostRuntime, size: u128) -> io::Result<()> {
+    println!(rt; "size: {size}")?;
+    show_backup(rt)?;
+    show_removal(rt)?;
+    show_head(rt)?;
+    show_archive(rt)?;
+    show_dimming(rt)?;
+    show_cleaning(rt)?;
+    show_row(rt)?;
+    show_sum(rt)?;
+    show_color(rt)?;
+    show_commit(rt)
+}
+
+/// Words as a process has them.
+fn words_of(alloc: Global, words: &[&str]) -> Result<Vec<String>, AllocError> {
+    let mut owned = Vec::new(alloc);
+    for word in words {
+        owned.push(String::from_str(alloc, word)?)?;
+    }
+    Ok(owned)
+}
+
 /// Tells what a backup reads off words of its own.
 fn show_backup(rt: &HostRuntime) -> io::Result<()> {
-    let words = [
-        "-j",
-        "4",
-        "a",
-        "--depth=2",
-        "-k1",
-        "-v",
-        "b",
-        "-s",
-        "5",
-        "c",
-    ];
+    let words = ["-j4", "a", "--depth=2", "-k1", "-v", "b", "-s", "5", "c"];
     match backup::read_backup(rt.alloc(), &words).ok() {
         Some(Some(backup)) => {
             let verbose = backup.verbose;
@@ -105,28 +108,21 @@ fn show_backup(rt: &HostRuntime) -> io::Result<()> {
 
 /// Runs the remover on words of its own.
 fn show_removal(rt: &HostRuntime) -> io::Result<()> {
-    let file = String::from_str(rt.alloc(), "a")?;
-    let key = String::from_str(rt.alloc(), "-f")?;
-    let words = [file, key];
+    let words = words_of(rt.alloc(), &["a", "-f"])?;
     let status = remove::run(rt.alloc(), &words, &mut rt.stdout(), &mut rt.stderr());
     println!(rt; "removal: status {status}")
 }
 
 /// Runs the `head` on words of its own.
 fn show_head(rt: &HostRuntime) -> io::Result<()> {
-    let key = String::from_str(rt.alloc(), "--bytes=5")?;
-    let file = String::from_str(rt.alloc(), "a")?;
-    let words = [key, file];
+    let words = words_of(rt.alloc(), &["--bytes=5", "a"])?;
     let status = head::run(rt.alloc(), &words, &mut rt.stdout(), &mut rt.stderr());
     println!(rt; "head: status {status}")
 }
 
 /// Tells what an archiver reads off words of its own.
 fn show_archive(rt: &HostRuntime) -> io::Result<()> {
-    let keys = String::from_str(rt.alloc(), "-avv")?;
-    let out = String::from_str(rt.alloc(), "-oa.tar")?;
-    let root = String::from_str(rt.alloc(), "--root=b")?;
-    let words = [keys, out, root];
+    let words = words_of(rt.alloc(), &["-avv", "-oa.tar", "--root=b"])?;
     match archive::read_archive(rt.alloc(), &words).ok() {
         Some(archive) => {
             let root = archive.root.as_str();
@@ -140,9 +136,7 @@ fn show_archive(rt: &HostRuntime) -> io::Result<()> {
 
 /// Tells what a dimmer reads off words of its own.
 fn show_dimming(rt: &HostRuntime) -> io::Result<()> {
-    let percent = String::from_str(rt.alloc(), "--percent=40")?;
-    let lamp = String::from_str(rt.alloc(), "-l3")?;
-    let words = [percent, lamp];
+    let words = words_of(rt.alloc(), &["--percent=40", "-l3"])?;
     match dim::read_dimming(rt.alloc(), &words).ok() {
         Some(dimming) => {
             let percent = dimming.percent;
@@ -156,10 +150,7 @@ fn show_dimming(rt: &HostRuntime) -> io::Result<()> {
 
 /// Tells what the program with commands reads off words of its own.
 fn show_cleaning(rt: &HostRuntime) -> io::Result<()> {
-    let command = String::from_str(rt.alloc(), "remove")?;
-    let key = String::from_str(rt.alloc(), "-f")?;
-    let file = String::from_str(rt.alloc(), "a")?;
-    let words = [command, key, file];
+    let words = words_of(rt.alloc(), &["remove", "-f", "a"])?;
     match clean::read_cleaning(rt.alloc(), &words).ok() {
         Some(cleaning) => {
             let force = cleaning.force;
@@ -208,9 +199,7 @@ fn show_color(rt: &HostRuntime) -> io::Result<()> {
 
 /// Tells what `git` reads off words of its own.
 fn show_commit(rt: &HostRuntime) -> io::Result<()> {
-    let command = String::from_str(rt.alloc(), "commit")?;
-    let message = String::from_str(rt.alloc(), "-mdone")?;
-    let words = [command, message];
+    let words = words_of(rt.alloc(), &["commit", "-mdone"])?;
     match read_git(rt.alloc(), &words).ok() {
         Some(git) => match git.command {
             Command::Commit { all, message } => {

@@ -1,5 +1,5 @@
 -- All launches that the same words have print the same lines.
-use Rattle.std.proofs.Common.{[], ◌++◌, All, Bool, IsUtf8, List, ap, codes, refl, ℕ}
+use Rattle.std.proofs.Common.{[], ◌++◌, All, Bool, IsUtf8, List, ap, codes, ℕ}
 use Rattle.bpaf.specs.declared.leaves.positional.Position.TheVariants.{NonStrict, Strict}
 use Rattle.bpaf_exact.specs.OneView.{Alike}
 use Rattle.bpaf_program.specs.Lines.{line, line_each, truth}
@@ -7,9 +7,7 @@ use Rattle.bpaf_program.proofs.LookAlike.{alone_seen, both_seen, con_seen, field
 use Rattle.bpaf_program.proofs.LookAlike.{switch_seen, text_word_seen}
 use Rattle.bpaf_program.proofs.SeenPrograms.{program_looks_one, values_look}
 use Rattle.example_launch.specs.Dealing.{dry_run_names, launch_of, program_given, program_known}
-use Rattle.example_launch.specs.Dealing.{verbose_names}
-use Rattle.example_launch.specs.Exact.{IsLaunchValue}
-use Rattle.example_launch.specs.Lines.{lines}
+use Rattle.example_launch.specs.{Dealing.verbose_names, Exact.IsLaunchValue, Lines.lines}
 
 -- of a launch the lines are seen
 pub same_lines : (words : List (List ℕ)) → All IsUtf8 words → Alike lines (IsLaunchValue words)

@@ -2,19 +2,13 @@
 use Rattle.std.specs.Prelude.{◌≡◌, ℕ, Bool, List, [], ◌∷◌, Some, codes, map, string_bytes, Contains}
 use Rattle.std.specs.Global.{Vec}
 use Rattle.bpaf_doc.specs.Names.{Names}
-use Rattle.bpaf_words.specs.Arguments.{Given}
-use Rattle.bpaf_words.specs.Spelling.{Known, knowing}
-use Rattle.bpaf_laws.specs.Product.{BothReads}
-use Rattle.bpaf_laws.specs.Reading.{Readings}
-use Rattle.bpaf_laws.specs.Repeat.{ListReads}
+use Rattle.bpaf_words.specs.{Arguments.Given, Spelling.Known, Spelling.knowing}
 use Rattle.bpaf_laws.specs.Transform.{MapReads}
-use Rattle.bpaf.specs.declared.leaves.positional.Position.{Position}
+use Rattle.bpaf_laws.specs.{Product.BothReads, Reading.Readings, Repeat.ListReads}
 use Rattle.bpaf.specs.declared.leaves.positional.Position.TheVariants.{Strict, NonStrict}
-use Rattle.bpaf.specs.Dealt.{IsDealtOut}
-use Rattle.bpaf.specs.Marker.{words_before, words_behind}
-use Rattle.bpaf.specs.Positional.{PositionalReads}
-use Rattle.bpaf_program.specs.Fields.{SwitchReads}
-use Rattle.bpaf_program.specs.Values.{MeansText, String}
+use Rattle.bpaf.specs.{declared.leaves.positional.Position.Position, Dealt.IsDealtOut}
+use Rattle.bpaf.specs.{Marker.words_before, Marker.words_behind, Positional.PositionalReads}
+use Rattle.bpaf_program.specs.{Fields.NamedSwitchReads, Values.MeansText, Values.String}
 use Rattle.example_launch.specs.declared.options.Launch.{Launch}
 
 -- the names of the switch by which more is told
@@ -56,8 +50,8 @@ PassedReads =
 abbrev pub LaunchReads : Readings Launch
 LaunchReads =
     MapReads FieldValues Launch
-    (BothReads Bool (Bool × (String × Vec String)) (SwitchReads verbose_names)
-    (BothReads Bool (String × Vec String) (SwitchReads dry_run_names)
+    (BothReads Bool (Bool × (String × Vec String)) (NamedSwitchReads verbose_names)
+    (BothReads Bool (String × Vec String) (NamedSwitchReads dry_run_names)
     (BothReads String (Vec String) (WordReads NonStrict) PassedReads)))
     (λ x launch. launch ≡ launch_of x)
 

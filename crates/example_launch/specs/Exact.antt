@@ -4,11 +4,9 @@ use Rattle.bpaf_line.specs.declared.failure.ParseFailure.{ParseFailure}
 use Rattle.bpaf.specs.declared.leaves.positional.Position.TheVariants.{Strict, NonStrict}
 use Rattle.bpaf_record.specs.Grammar.{Grammar, alone, both, word}
 use Rattle.bpaf_program.specs.KnownFields.{known_con, known_many, known_switch}
-use Rattle.bpaf_program.specs.KnownParser.{IsExactFor, IsValueBy}
-use Rattle.bpaf_program.specs.Values.{MeansText}
-use Rattle.example_launch.specs.declared.options.Launch.{Launch}
+use Rattle.bpaf_program.specs.{KnownParser.IsExactFor, KnownParser.IsValueBy, Values.MeansText}
 use Rattle.example_launch.specs.Dealing.{FieldValues, dry_run_names, launch_of, program_given}
-use Rattle.example_launch.specs.Dealing.{verbose_names}
+use Rattle.example_launch.specs.{declared.options.Launch.Launch, Dealing.verbose_names}
 
 -- two switches, a word before `--`, and all words behind it
 abbrev pub fields : Grammar FieldValues

@@ -1,15 +1,10 @@
 -- What a run of the program answers.
 use Rattle.std.specs.Prelude.{ℕ, Bool, List, Result}
-use Rattle.bpaf_doc.specs.declared.doc.Piece.{Piece}
-use Rattle.bpaf_doc.specs.Print.{printed}
-use Rattle.example_launch.specs.declared.options.Launch.{Launch}
+use Rattle.bpaf_doc.specs.{declared.doc.Piece.Piece, Print.printed}
 use Rattle.bpaf_line.specs.declared.failure.ParseFailure.{ParseFailure}
-use Rattle.bpaf_program.specs.Running.{AnswersByText}
-use Rattle.bpaf_program.specs.Values.{String}
-use Rattle.example_launch.specs.Dealing.{IsLaunchOf}
-use Rattle.example_launch.specs.Exact.{IsLaunchValue}
-use Rattle.example_launch.specs.Lines.{lines}
-use Rattle.example_launch.specs.Shown.{IsHelpAsked}
+use Rattle.bpaf_program.specs.{Running.AnswersByText, Values.String}
+use Rattle.example_launch.specs.{declared.options.Launch.Launch, Dealing.IsLaunchOf}
+use Rattle.example_launch.specs.{Exact.IsLaunchValue, Lines.lines, Shown.IsHelpAsked}
 
 -- a text that answers the words: the lines of a launch that they ask for, or the text of the help
 -- page that they ask for

@@ -1,16 +1,13 @@
 -- What the program shows where it is asked for help.
 use Rattle.std.specs.Prelude.{◌≡◌, ℕ, Bool, List, [], ◌∷◌, Some, codes}
-use Rattle.bpaf_doc.specs.declared.doc.Piece.{Piece}
-use Rattle.bpaf_doc.specs.Fold.{TextPieces}
 use Rattle.bpaf_doc.specs.Shape.{Shape, And, Many, Optional, members}
+use Rattle.bpaf_doc.specs.{declared.doc.Piece.Piece, Fold.TextPieces}
 use Rattle.bpaf_line.specs.declared.failure.ParseFailure.{ParseFailure}
 use Rattle.bpaf_keys.specs.Info.{plain_info}
-use Rattle.bpaf.specs.Asked.{IfShown, WasAsked}
 use Rattle.bpaf.specs.declared.leaves.positional.Position.TheVariants.{Strict, NonStrict}
-use Rattle.bpaf.specs.Positional.{positional_shape}
+use Rattle.bpaf.specs.{Asked.IfShown, Asked.WasAsked, Positional.positional_shape}
 use Rattle.bpaf_program.specs.Fields.{switch_shape}
-use Rattle.example_launch.specs.Dealing.{dry_run_names, program_given, program_known}
-use Rattle.example_launch.specs.Dealing.{verbose_names}
+use Rattle.example_launch.specs.Dealing.{dry_run_names, program_given, program_known, verbose_names}
 
 -- what the program's name shows
 abbrev pub name_shape : List Piece → Shape

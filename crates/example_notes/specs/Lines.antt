@@ -1,12 +1,10 @@
 -- What the program prints: a line for each part.
 use Rattle.std.specs.Prelude.{ℕ, List, [], ◌++◌, Option, Some, None, map, codes, option_map}
-use Rattle.std.specs.Prelude.{string_bytes}
-use Rattle.std.specs.Fmt.{decimal}
+use Rattle.std.specs.{Prelude.string_bytes, Fmt.decimal}
 use Rattle.bpaf_program.specs.Lines.{line, line_each, truth}
 use Rattle.example_notes.specs.declared.options.Notes.{Notes}
-use Rattle.example_notes.specs.declared.options.Tag.{Tag}
+use Rattle.example_notes.specs.{declared.options.Tag.Tag, declared.options.Task.Task}
 use Rattle.example_notes.specs.declared.options.Tag.TheVariants as tag
-use Rattle.example_notes.specs.declared.options.Task.{Task}
 use Rattle.example_notes.specs.declared.options.Task.TheVariants as task
 
 -- the line of a directory, where there is one

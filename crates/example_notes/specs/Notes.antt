@@ -2,21 +2,18 @@
 use Rattle.std.specs.Prelude.{Bool, ℕ, List, [], ◌∷◌, Option, Some, Result, codes}
 use Rattle.std.specs.Global.{Vec}
 use Rattle.bpaf_doc.specs.Names.{Names}
-use Rattle.bpaf_text.specs.Meaning.{SpellsUnsigned}
-use Rattle.bpaf_text.specs.Named.{KeyWithValue}
+use Rattle.bpaf_text.specs.{Meaning.SpellsUnsigned, Named.KeyWithValue}
 use Rattle.bpaf_words.specs.Arguments.{Given}
 use Rattle.bpaf_line.specs.declared.failure.ParseFailure.{ParseFailure}
 use Rattle.bpaf.specs.declared.leaves.positional.Position.TheVariants.{Unrestricted}
 use Rattle.bpaf_record.specs.Grammar.{Grammar, alone, argument, both, choice, word}
-use Rattle.bpaf_program.specs.Fields.{plain_argument}
 use Rattle.bpaf_program.specs.KnownFields.{known_command, known_con, known_default, known_many}
 use Rattle.bpaf_program.specs.KnownFields.{known_map, known_optional, known_switch}
 use Rattle.bpaf_program.specs.KnownParser.{IsExactFor, IsValueBy}
-use Rattle.bpaf_program.specs.Values.{MeansText, String}
+use Rattle.bpaf_program.specs.{Fields.plain_argument, Values.MeansText, Values.String}
 use Rattle.example_notes.specs.declared.options.Notes.{Notes}
-use Rattle.example_notes.specs.declared.options.Tag.{Tag}
+use Rattle.example_notes.specs.{declared.options.Tag.Tag, declared.options.Task.Task}
 use Rattle.example_notes.specs.declared.options.Tag.TheVariants as tag
-use Rattle.example_notes.specs.declared.options.Task.{Task}
 use Rattle.example_notes.specs.declared.options.Task.TheVariants as task
 
 -- a key of one letter and this name

@@ -3,8 +3,7 @@ use Rattle.std.specs.Prelude.{ℕ, List, Result}
 use Rattle.bpaf_line.specs.declared.failure.ParseFailure.{ParseFailure}
 use Rattle.bpaf_program.specs.Running.{AnswersByText, IsTextOf, OrPage}
 use Rattle.bpaf_program.specs.Values.{String}
-use Rattle.example_notes.specs.Lines.{lines}
-use Rattle.example_notes.specs.Notes.{IsNotesOf}
+use Rattle.example_notes.specs.{Lines.lines, Notes.IsNotesOf}
 
 -- a text is the lines of a value of the program on words
 abbrev pub AreLinesOf : (words : List (List ℕ)) (text : List ℕ) → Type 0

@@ -2,8 +2,7 @@
 use Rattle.std.proofs.Common.{◌≡◌, ◌∙◌, Option, Some, None, drop, [], ap, refl, sym}
 use Rattle.std.specs.declared.vec.IntoIter.{IntoIter}
 use Rattle.std.specs.Vec.Iter.{into_iter_items, into_iter_steps}
-use Rattle.std.proofs.IntoIterSteps.{All-taken}
-use Rattle.std.proofs.lemmas.Result.{IfOk-weaker}
+use Rattle.std.proofs.{IntoIterSteps.All-taken, lemmas.Result.IfOk-weaker}
 use Rattle.bpaf_program.proofs.process.behind_the_first.Goals as goal
 
 -- what one more word leaves

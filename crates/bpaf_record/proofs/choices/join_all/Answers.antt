@@ -1,6 +1,5 @@
-use Rattle.std.proofs.Common.{◌∙◌, ap, sym, take}
-use Rattle.bpaf_record.specs.Grammar.{choices_of, program_form}
-use Rattle.bpaf_record.specs.Part.{part_of}
+use Rattle.std.proofs.Common.{◌∙◌, ap, sym}
+use Rattle.bpaf_record.specs.{Grammar.program_form, Part.part_of}
 use Rattle.bpaf_record.proofs.Nested.{first_is}
 use Rattle.bpaf_record.proofs.choices.join_all.Goals as goal
 

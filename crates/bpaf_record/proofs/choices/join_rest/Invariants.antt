@@ -1,7 +1,6 @@
 use Rattle.std.proofs.Common.{◌≡◌, ◌≤◌, take}
 use Rattle.bpaf_exact.specs.Flat.{Variables}
-use Rattle.bpaf_record.specs.Grammar.{choices_of, program_form}
-use Rattle.bpaf_record.specs.Part.{part_of}
+use Rattle.bpaf_record.specs.{Grammar.choices_of, Grammar.program_form, Part.part_of}
 use Rattle.bpaf_record.proofs.choices.join_rest.Given as goal
 
 abbrev pub invariant-loop-index : goal.invariant-loop-index

@@ -1,7 +1,6 @@
 use Rattle.std.proofs.Common.{refl, rules}
 use Rattle.bpaf_program.proofs.ReadsToo.{adjacent_also, also_dealt, both_also, choice_also}
-use Rattle.bpaf_program.proofs.ReadsToo.{flag_also, many_also}
-use Rattle.bpaf_program.proofs.ReadsToo.{made_also, word_also}
+use Rattle.bpaf_program.proofs.ReadsToo.{flag_also, many_also, made_also, word_also}
 use Rattle.example_chain.specs.Dealing.{MoveReads, RepeatReads, StepsRead, TurnReads}
 use Rattle.example_chain.proofs.steps.read_steps.Goals as goal
 

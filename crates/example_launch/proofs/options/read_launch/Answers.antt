@@ -3,9 +3,7 @@ use Rattle.bpaf_words.specs.Arguments.{given_of}
 use Rattle.bpaf.specs.declared.leaves.positional.Position.TheVariants.{Strict, NonStrict}
 use Rattle.bpaf_program.specs.Fields.{HasSwitch, HasWord}
 use Rattle.bpaf_record.specs.Grammar.{word}
-use Rattle.bpaf_program.specs.KnownFields.{known_switch}
-use Rattle.bpaf_program.specs.Values.{MeansText}
-use Rattle.bpaf_program.proofs.Known as dealt
+use Rattle.bpaf_program.specs.{KnownFields.known_switch, Values.MeansText}
 use Rattle.bpaf_program.proofs.KnownFields.{many_known, switch_known, word_known}
 use Rattle.bpaf_program.proofs.KnownParser.{both_known, con_known, last_known, program_exactly}
 use Rattle.bpaf_program.proofs.Running.{are_texts}
@@ -13,6 +11,7 @@ use Rattle.example_launch.specs.Dealing.{dry_run_names, launch_of, program_given
 use Rattle.example_launch.specs.Exact.{AnswersLaunch, fields, launcher}
 use Rattle.example_launch.specs.Shown.{IsProgramShape}
 use Rattle.example_launch.proofs.Dealing.{launch_asked}
+use Rattle.bpaf_program.proofs.Known as dealt
 use Rattle.example_launch.proofs.options.read_launch.Goals as goal
 
 pub returns : goal.returns
