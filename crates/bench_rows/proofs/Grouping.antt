@@ -1,17 +1,14 @@
 -- A group by what its constructor makes of the values: here the values themselves.
 use Rattle.std.proofs.Common.{◌≡◌, ◌+◌, ℕ, List, Result, Ok, Err, ⊎_elim, inl, inr}
 use Rattle.bpaf_doc.specs.Shape.{Part}
-use Rattle.bpaf_line.specs.Situation.{Situation}
-use Rattle.bpaf_line.specs.declared.error.Error.{Error}
+use Rattle.bpaf_line.specs.{Situation.Situation, declared.error.Error.Error}
 use Rattle.bpaf_laws.specs.AdjacentGroup.{Failure, GroupOutcome, Narrowed, Probe, Searches, Tries}
-use Rattle.bpaf_laws.specs.AdjacentGroup.{TriedInVain, again, all_failed, answered, gave}
-use Rattle.bpaf_laws.specs.AdjacentGroup.{none_gave, none_tried, not_taken, place_count, refused}
-use Rattle.bpaf_laws.specs.AdjacentGroup.{wanted, whole}
-use Rattle.bpaf_laws.specs.Product.{ProductOutcome}
+use Rattle.bpaf_laws.specs.AdjacentGroup.{TriedInVain, again, all_failed, answered, gave, none_gave}
+use Rattle.bpaf_laws.specs.AdjacentGroup.{none_tried, not_taken, place_count, refused, wanted}
 use Rattle.bpaf_laws.specs.Reading.{HasPlace, IsEmptyShare, Outcome, Share}
+use Rattle.bpaf_laws.specs.{AdjacentGroup.whole, Product.ProductOutcome}
 use Rattle.bench_rows.specs.Groups.{BegunOutcome}
-use Rattle.bench_values.specs.Told.{ToldOutcome}
-use Rattle.bench_values.specs.declared.value.Value.{Value}
+use Rattle.bench_values.specs.{Told.ToldOutcome, declared.value.Value.Value}
 
 -- each answer of the one is one of the other
 abbrev pub Allows : {T : Type 0} → Outcome T → Outcome T → Type 0

@@ -1,31 +1,22 @@
 -- Adjacent groups of parsers of one type.
 use Rattle.std.specs.Prelude.{◌≡◌, List, [], ◌∷◌, ℕ, Result, Ok, Err, codes}
-use Rattle.bpaf_doc.specs.Shape.{Shape, Part, part_of}
-use Rattle.bpaf_line.specs.Situation.{Situation}
-use Rattle.bpaf_line.specs.declared.error.Error.{Error}
 use Rattle.bpaf_line.specs.declared.error.Message.TheVariants.{Memory}
-use Rattle.bpaf_laws.specs.AdjacentGroup.{GroupOutcome}
+use Rattle.bpaf_line.specs.{Situation.Situation, declared.error.Error.Error}
 use Rattle.bpaf_laws.proofs.AdjacentGroupLaws.{group_lawful}
-use Rattle.bpaf_laws.specs.Laws.{Keeps, Lawful, Reads}
-use Rattle.bpaf_laws.proofs.Keeping.{keeps_refl}
-use Rattle.bpaf_laws.specs.OneStretch.{StretchReads}
-use Rattle.bpaf_laws.specs.Product.{BothOutcome, FailFastOutcome, ProductOutcome}
-use Rattle.bpaf_laws.specs.Product.{ProductDescribes}
+use Rattle.bpaf_laws.specs.Product.{BothOutcome, FailFastOutcome, ProductOutcome, ProductDescribes}
 use Rattle.bpaf_laws.proofs.ProductLaws.{both_lawful, fail_fast_lawful, product_lawful}
 use Rattle.bpaf_laws.specs.Pure.{GivesRefusal, PureOutcome, PureReads}
-use Rattle.bpaf_laws.proofs.PureLaws.{refusal_lawful}
-use Rattle.bpaf_laws.specs.RefusalNames.{NamesAnswer}
-use Rattle.bpaf_laws.proofs.NamesAnswer.{names_same}
-use Rattle.bpaf_laws.specs.Reading.{Readings, Outcome}
-use Rattle.bpaf_laws.specs.Transform.{MapReads}
+use Rattle.bpaf_laws.proofs.{Keeping.keeps_refl, PureLaws.refusal_lawful, NamesAnswer.names_same}
+use Rattle.bpaf_laws.specs.{AdjacentGroup.GroupOutcome, Laws.Keeps, Laws.Lawful, Laws.Reads}
+use Rattle.bpaf_laws.specs.{OneStretch.StretchReads, RefusalNames.NamesAnswer, Reading.Readings}
+use Rattle.bpaf_laws.specs.{Reading.Outcome, Transform.MapReads}
 use Rattle.bpaf.specs.declared.adjacent.AdjacentError.TheVariants.{NoFirstItem}
 use Rattle.bpaf.specs.Remembering.{IsFirstOf, IsRefused}
-use Rattle.bpaf_doc.specs.declared.item.Item.{Item}
-use Rattle.bench_rows.specs.Several.{Describes, ThreeDescribe, ThreeFields, TwoDescribe}
-use Rattle.bench_rows.specs.Several.{TwoFields, wrong_number}
-use Rattle.bench_values.specs.Told.{ToldOutcome, told_lawful}
+use Rattle.bpaf_doc.specs.{Shape.Shape, Shape.Part, Shape.part_of, declared.item.Item.Item}
+use Rattle.bench_rows.specs.Several.{Describes, ThreeDescribe, ThreeFields, TwoDescribe, TwoFields}
+use Rattle.bench_rows.specs.Several.{wrong_number}
 use Rattle.bench_values.specs.Values.{ToldPair, ToldTriple}
-use Rattle.bench_values.specs.declared.value.Value.{Value}
+use Rattle.bench_values.specs.{Told.ToldOutcome, Told.told_lawful, declared.value.Value.Value}
 
 -- the message of a group whose fields show no item first
 abbrev pub no_first_item : List ℕ

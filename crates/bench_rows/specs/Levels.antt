@@ -5,21 +5,17 @@ use Rattle.bpaf_words.specs.Spelling.{ShortNames}
 use Rattle.bpaf_laws.specs.ShownNames.{ShowsNames, all_shorts}
 use Rattle.bpaf_laws.proofs.ShownNames.{choices_show, command_shows, group_shows}
 use Rattle.bpaf_laws.specs.Reading.{Readings, Outcome}
-use Rattle.bpaf_laws.specs.Laws.{Lawful}
 use Rattle.bpaf_laws.specs.Choices.{ChoicesOutcome, ChoicesReads, ChoicesDescribes}
 use Rattle.bpaf_laws.proofs.ChoicesLaws.{choices_lawful}
-use Rattle.bpaf_laws.specs.Command.{CommandDescribes}
 use Rattle.bench_values.specs.Commands.{CalledOutcome, CalledReads, called_lawful}
-use Rattle.bpaf_laws.specs.AdjacentGroup.{GroupDescribes}
+use Rattle.bpaf_laws.specs.{Laws.Lawful, Command.CommandDescribes, AdjacentGroup.GroupDescribes}
 use Rattle.bench_values.specs.Modifiers.{Clones, OverOutcome, OverReads, OverDescribes, over_lawful}
 use Rattle.bench_values.specs.Modifiers.{over_shorts, over_shows}
 use Rattle.bench_rows.specs.Groups.{TogetherOutcome, TogetherReads, together_lawful}
 use Rattle.bench_rows.specs.Several.{TupleOutcome, TupleReads, TupleDescribes, tuple_lawful}
-use Rattle.bench_rows.specs.Several.{OrElseOutcome, OrElseReads, OrElseDescribes}
-use Rattle.bench_rows.specs.Several.{or_else_lawful, or_else_shorts, or_else_shows}
-use Rattle.bench_rows.specs.Several.{tuple_shorts, tuple_shows}
-use Rattle.bench_values.specs.declared.value.Value.{Value}
-use Rattle.bench_values.specs.declared.kind.Kind.{Kind}
+use Rattle.bench_rows.specs.Several.{OrElseOutcome, OrElseReads, OrElseDescribes, or_else_lawful}
+use Rattle.bench_rows.specs.Several.{or_else_shorts, or_else_shows, tuple_shorts, tuple_shows}
+use Rattle.bench_values.specs.{declared.value.Value.Value, declared.kind.Kind.Kind}
 use Rattle.bench_values.specs.declared.kind.Kind.TheVariants as kind
 
 -- what a level answers: a modifier and a command are over the choice of all its parsers

@@ -4,20 +4,16 @@ use Rattle.bpaf_doc.specs.Shape.{Shape, Skip}
 use Rattle.bpaf_words.specs.Spelling.{ShortNames}
 use Rattle.bpaf_laws.specs.ShownNames.{ShowsNames, joined_shorts, no_shorts}
 use Rattle.bpaf_laws.proofs.ShownNames.{both_show, choice_shows, last_shows, one_shape}
-use Rattle.bpaf_laws.proofs.ShownNames.{product_shows}
-use Rattle.bpaf_laws.specs.Reading.{Readings, Outcome}
-use Rattle.bpaf_laws.specs.Laws.{Lawful}
-use Rattle.bpaf_laws.specs.Transform.{MapReads}
 use Rattle.bpaf_laws.specs.Choice.{ChoiceOutcome, ChoiceReads, ChoiceDescribes}
 use Rattle.bpaf_laws.proofs.ChoiceLaws.{choice_lawful}
 use Rattle.bpaf_laws.specs.Product.{BothOutcome, BothReads, BothDescribes, LastDescribes}
 use Rattle.bpaf_laws.specs.Product.{ProductOutcome, ProductDescribes}
 use Rattle.bpaf_laws.proofs.ProductLaws.{both_lawful, product_lawful}
 use Rattle.bpaf_laws.specs.Pure.{GivesRefusal, PureOutcome, PureReads}
-use Rattle.bpaf_laws.proofs.PureLaws.{refusal_lawful}
-use Rattle.bench_values.specs.Told.{ToldOutcome, told_lawful}
+use Rattle.bpaf_laws.specs.{Reading.Readings, Reading.Outcome, Laws.Lawful, Transform.MapReads}
+use Rattle.bpaf_laws.proofs.{ShownNames.product_shows, PureLaws.refusal_lawful}
 use Rattle.bench_values.specs.Values.{ToldPair, ToldTriple, ToldQuadruple}
-use Rattle.bench_values.specs.declared.value.Value.{Value}
+use Rattle.bench_values.specs.{Told.ToldOutcome, Told.told_lawful, declared.value.Value.Value}
 
 -- the message of any other number of parsers, which refuse every line
 abbrev pub wrong_number : List ℕ

@@ -97,10 +97,8 @@ impl Parser<Value> for Leaf {
     ghost use Rattle.bench_values.specs.Modifiers.{number_named};
     ghost use Rattle.bpaf_laws.proofs.AnyLaws.{any_lawful};
     ghost use Rattle.bench_rows.specs.declared.leaf.Leaf.TheVariants.{Switch, Flag, Number};
-    ghost use Rattle.bench_rows.specs.declared.leaf.Leaf.TheVariants.{Integer, Text};
-    ghost use Rattle.bench_rows.specs.declared.leaf.Leaf.TheVariants.{NumberWord};
-    ghost use Rattle.bench_rows.specs.declared.leaf.Leaf.TheVariants.{Word, Pure, PureWith};
-    ghost use Rattle.bench_rows.specs.declared.leaf.Leaf.TheVariants.{Fail};
+    ghost use Rattle.bench_rows.specs.declared.leaf.Leaf.TheVariants.{Integer, Text, NumberWord};
+    ghost use Rattle.bench_rows.specs.declared.leaf.Leaf.TheVariants.{Word, Pure, PureWith, Fail};
     ghost use Rattle.bench_rows.specs.declared.leaf.Leaf.TheVariants.{Literal, Any, Appname};
     ghost use Rattle.bench_rows.specs.declared.leaf.Leaf.TheVariants.{Unread};
     ghost use Rattle.bench_values.specs.Told.{told_lawful};

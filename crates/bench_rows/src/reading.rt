@@ -87,10 +87,8 @@ fn read_leaf(tokens: &mut Tokens<'_>) -> Result<Leaf, Fault> {
 
 impl Described for Leaf {
     ghost use Rattle.bench_rows.specs.declared.leaf.Leaf.TheVariants.{Switch, Flag, Number};
-    ghost use Rattle.bench_rows.specs.declared.leaf.Leaf.TheVariants.{Integer, Text};
-    ghost use Rattle.bench_rows.specs.declared.leaf.Leaf.TheVariants.{NumberWord};
-    ghost use Rattle.bench_rows.specs.declared.leaf.Leaf.TheVariants.{Word, Pure, PureWith};
-    ghost use Rattle.bench_rows.specs.declared.leaf.Leaf.TheVariants.{Fail};
+    ghost use Rattle.bench_rows.specs.declared.leaf.Leaf.TheVariants.{Integer, Text, NumberWord};
+    ghost use Rattle.bench_rows.specs.declared.leaf.Leaf.TheVariants.{Word, Pure, PureWith, Fail};
     ghost use Rattle.bench_rows.specs.declared.leaf.Leaf.TheVariants.{Literal, Any, Appname};
     ghost use Rattle.bench_rows.specs.declared.leaf.Leaf.TheVariants.{Unread};
 

@@ -2,10 +2,9 @@
 ghost use Rattle.std.specs.Prelude.{◌≡◌, All, IfOk};
 ghost use Rattle.bpaf_doc.specs.Shape.{shape_of};
 ghost use Rattle.bpaf_laws.specs.Product.{ProductDescribes};
-ghost use Rattle.bench_rows.specs.Several.{FourOutcome, NestedOutcome, ThreeOutcome};
-ghost use Rattle.bench_rows.specs.Several.{TwoOutcome};
-ghost use Rattle.bench_rows.specs.Several.{OrElseDescribes, OrElseOutcome};
-ghost use Rattle.bench_rows.specs.Several.{TupleDescribes, TupleOutcome};
+ghost use Rattle.bench_rows.specs.Several.{FourOutcome, NestedOutcome, ThreeOutcome, TwoOutcome};
+ghost use Rattle.bench_rows.specs.Several.{OrElseDescribes, OrElseOutcome, TupleDescribes};
+ghost use Rattle.bench_rows.specs.Several.{TupleOutcome};
 
 use crate::product::Product;
 use bench_values::{AsValue, Lent, Told, Value};

@@ -3,15 +3,12 @@ use Rattle.std.specs.Prelude.{◌≡◌, ◌⊎◌, Bool, None, Ok, Err}
 use Rattle.std.proofs.Common.{⊎_elim}
 use Rattle.bpaf_doc.specs.Shape.{Shape}
 use Rattle.bpaf_line.specs.declared.error.Message.TheVariants.{Memory}
-use Rattle.bpaf_laws.specs.Reading.{Readings, Outcome}
-use Rattle.bpaf_laws.specs.Laws.{Lawful}
-use Rattle.bpaf_laws.proofs.NamesAnswer.{names_same}
 use Rattle.bpaf_laws.specs.Command.{Called, CommandPart, opening_words}
-use Rattle.bpaf_laws.proofs.Keeping.{keeps_same}
+use Rattle.bpaf_laws.specs.{Reading.Readings, Reading.Outcome, Laws.Lawful}
+use Rattle.bpaf_laws.proofs.{NamesAnswer.names_same, Keeping.keeps_same}
 use Rattle.bpaf_core.specs.Adjacent.{EitherCommandOutcome, EitherCommandReads}
-use Rattle.bpaf_core.specs.AdjacentLaws.{either_lawful}
 use Rattle.bpaf_core.specs.Ending.{Ending, EndsRun}
-use Rattle.bpaf_core.specs.EndingLaws.{run_ending}
+use Rattle.bpaf_core.specs.{AdjacentLaws.either_lawful, EndingLaws.run_ending}
 use Rattle.bpaf_keys.specs.Info.{plain_info}
 use Rattle.bench_values.specs.declared.value.Value.{Value}
 

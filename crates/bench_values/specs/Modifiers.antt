@@ -1,36 +1,27 @@
 -- What one parser answers under a modifier.
-use Rattle.std.specs.Prelude.{◌≡◌, List, [], ◌∷◌, ◌++◌, length, ℕ, Ok, Option, codes}
-use Rattle.std.specs.Prelude.{refl, true, false}
-use Rattle.std.specs.Global.{Vec}
+use Rattle.std.specs.Prelude.{◌≡◌, List, [], ◌∷◌, ◌++◌, length, ℕ, Ok, Option, codes, refl, true}
 use Rattle.std.specs.declared.collections.VecDeque.{VecDeque}
-use Rattle.std.specs.declared.alloc.Global.{Global}
+use Rattle.std.specs.{Prelude.false, Global.Vec, declared.alloc.Global.Global}
 use Rattle.bpaf_doc.specs.Shape.{Shape, Skip}
 use Rattle.bpaf_words.specs.Spelling.{ShortNames}
 use Rattle.bpaf_laws.specs.ShownNames.{ShowsNames, no_shorts}
 use Rattle.bpaf_laws.proofs.ShownNames.{many_shows, one_shape, optional_shows, some_shows}
-use Rattle.bpaf_laws.specs.Reading.{Readings, Outcome}
-use Rattle.bpaf_laws.specs.Laws.{Lawful}
 use Rattle.bpaf_laws.specs.Transform.{MapOutcome, MapReads, ParseOutcome, GuardOutcome}
 use Rattle.bpaf_laws.proofs.TransformLaws.{map_lawful, parse_lawful, guard_lawful}
-use Rattle.bpaf_laws.specs.Hide.{HideOutcome}
-use Rattle.bpaf_laws.proofs.HideLaws.{hide_lawful}
-use Rattle.bpaf_laws.specs.Turn.{TurnOutcome}
-use Rattle.bpaf_laws.specs.Choice.{ChoiceReads}
-use Rattle.bpaf_laws.specs.Pure.{PureReads}
-use Rattle.bpaf_laws.specs.Default.{Gives, GivesClone, GivesAnswer, FallbackOutcome}
-use Rattle.bpaf_laws.specs.Default.{NamesGiven, OptionalReads, OptionalDescribes}
+use Rattle.bpaf_laws.specs.Default.{Gives, GivesClone, GivesAnswer, FallbackOutcome, NamesGiven}
+use Rattle.bpaf_laws.specs.Default.{OptionalReads, OptionalDescribes}
 use Rattle.bpaf_laws.proofs.DefaultLaws.{optional_lawful, fallback_lawful, names_answer}
-use Rattle.bpaf_laws.proofs.NamesAnswer.{names_want}
 use Rattle.bpaf_laws.specs.Repeat.{is_nil, ListReads, ManyOutcome, ManyDescribes, SomeOutcome}
 use Rattle.bpaf_laws.specs.Repeat.{SomeDescribes, CollectOutcome, CountOutcome, LastOutcome}
-use Rattle.bpaf_laws.proofs.RepeatLaws.{many_lawful, some_lawful}
-use Rattle.bpaf_laws.proofs.RepeatLaws.{collect_lawful, count_lawful, last_lawful}
+use Rattle.bpaf_laws.specs.{Reading.Readings, Reading.Outcome, Laws.Lawful, Hide.HideOutcome}
+use Rattle.bpaf_laws.specs.{Turn.TurnOutcome, Choice.ChoiceReads, Pure.PureReads}
+use Rattle.bpaf_laws.proofs.RepeatLaws.{many_lawful, some_lawful, collect_lawful, count_lawful}
+use Rattle.bpaf_laws.proofs.{HideLaws.hide_lawful, NamesAnswer.names_want, RepeatLaws.last_lawful}
 use Rattle.bench_values.specs.Told.{ToldOutcome, told_lawful}
 use Rattle.bench_values.specs.Values.{ToldOption, ToldQueue}
 use Rattle.bench_values.specs.Closures.{IsHalf, Accepts, Checks, AnswersNumber, untold}
-use Rattle.bench_values.specs.declared.value.Value.{Value}
+use Rattle.bench_values.specs.{declared.value.Value.Value, declared.kind.Modifier.Modifier}
 use Rattle.bench_values.specs.declared.value.Value.TheVariants as value
-use Rattle.bench_values.specs.declared.kind.Modifier.{Modifier}
 use Rattle.bench_values.specs.declared.kind.Modifier.TheVariants as over
 
 -- a list of values

@@ -2,11 +2,8 @@
 use Rattle.std.specs.Prelude.{◌≡◌, ◌⊎◌, true, Ok, Err}
 use Rattle.std.proofs.Common.{⊎_elim}
 use Rattle.bpaf_line.specs.Messages.{is_memory}
-use Rattle.bpaf_laws.specs.Reading.{Readings, Outcome}
-use Rattle.bpaf_laws.specs.Laws.{Lawful}
-use Rattle.bpaf_laws.proofs.NamesAnswer.{names_want}
-use Rattle.bpaf_laws.specs.Transform.{MapReads}
-use Rattle.bpaf_laws.proofs.TransformLaws.{map_lawful}
+use Rattle.bpaf_laws.specs.{Reading.Readings, Reading.Outcome, Laws.Lawful, Transform.MapReads}
+use Rattle.bpaf_laws.proofs.{NamesAnswer.names_want, TransformLaws.map_lawful}
 
 -- what is told of the inner answer; or want of memory for that
 abbrev pub ToldOutcome : {T R : Type 0} → Outcome T → (T → R → Type 0) → Outcome R

@@ -1,8 +1,7 @@
 -- What values are told as.
 use Rattle.std.specs.Prelude.{◌≡◌, List, [], ◌∷◌, All, Option, Some, None}
 use Rattle.std.specs.declared.collections.VecDeque.{VecDeque}
-use Rattle.std.specs.declared.alloc.Global.{Global}
-use Rattle.std.specs.Global.{Box, Vec}
+use Rattle.std.specs.{declared.alloc.Global.Global, Global.Box, Global.Vec}
 use Rattle.bench_values.specs.declared.value.Value.{Value}
 use Rattle.bench_values.specs.declared.value.Value.TheVariants.{Absent, Present, Tuple}
 use Rattle.bench_values.specs.declared.value.Value.TheVariants as value

@@ -1,13 +1,11 @@
 -- How the attempts of an adjacent group follow one another.
 use Rattle.std.proofs.Common.{◌≡◌, ℕ, ◌<◌, Result, Ok, Err, subst, sym}
-use Rattle.bpaf_line.specs.declared.error.Error.{Error}
-use Rattle.bpaf_line.specs.Situation.{Situation, with_scope}
+use Rattle.bpaf_line.specs.{declared.error.Error.Error, Situation.Situation, Situation.with_scope}
 use Rattle.bpaf_line.proofs.Places.{open_in_scope}
 use Rattle.bpaf_laws.specs.AdjacentGroup.{Narrowed, again, Tries, answered, refused}
 use Rattle.bpaf_laws.specs.Reading.{Outcome}
-use Rattle.bpaf.specs.declared.adjacent.attempts.AttemptEnd.{AttemptEnd}
+use Rattle.bpaf.specs.{declared.adjacent.attempts.AttemptEnd.AttemptEnd, Remembering.EndsAttempt}
 use Rattle.bpaf.specs.declared.adjacent.attempts.AttemptEnd.TheVariants as ending
-use Rattle.bpaf.specs.Remembering.{EndsAttempt}
 
 module _ (T : Type 0) (inner : Outcome T) (s b u : Situation) (place stop : ℕ) (same : b ≡ s)
     (narrowed : Narrowed T inner s place stop) where

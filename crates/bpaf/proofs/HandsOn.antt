@@ -1,36 +1,26 @@
 -- What choices and commands show is what their parsers do.
-use Rattle.std.proofs.Common.{◌≡◌, ◌⊎◌, Bool, true, false, ℕ, ◌+◌, List, Result}
-use Rattle.std.proofs.Common.{Ok}
-use Rattle.std.proofs.Common.{inl, inr, Err, sym, subst, ap, ◌∙◌, ⊎_elim, true≢false}
-use Rattle.std.proofs.Common.{if◌then◌else◌}
-use Rattle.bpaf_doc.specs.declared.doc.Piece.{Piece}
-use Rattle.bpaf_doc.specs.Shape.{Part, Shape}
-use Rattle.bpaf_line.specs.declared.error.Error.{Error}
-use Rattle.bpaf_line.specs.declared.error.Message.{Message}
+use Rattle.std.proofs.Common.{◌≡◌, ◌⊎◌, Bool, true, false, ℕ, ◌+◌, List, Result, Ok, inl, inr, Err}
+use Rattle.std.proofs.Common.{sym, subst, ap, ◌∙◌, ⊎_elim, true≢false, if◌then◌else◌}
+use Rattle.bpaf_doc.specs.{declared.doc.Piece.Piece, Shape.Part, Shape.Shape}
 use Rattle.bpaf_line.specs.declared.error.Message.TheVariants.{Memory, Missing, ParseFailure}
-use Rattle.bpaf_line.specs.declared.failure.ParseFailure.{ParseFailure as Failure}
-use Rattle.bpaf_line.specs.declared.failure.ParseFailure.TheVariants as failure
 use Rattle.bpaf_line.specs.Combining.{Combines, CombinesSpared}
-use Rattle.bpaf_line.specs.Messages.{can_catch, is_memory}
-use Rattle.bpaf_line.specs.Stretches.{IsStretchFrom}
 use Rattle.bpaf_line.specs.Situation.{Situation, with_scope}
+use Rattle.bpaf_line.specs.{declared.error.Error.Error, declared.error.Message.Message}
+use Rattle.bpaf_line.specs.{Messages.can_catch, Messages.is_memory, Stretches.IsStretchFrom}
 use Rattle.bpaf_laws.proofs.ChoiceLaws.{no_value, not_winner}
 use Rattle.bpaf_laws.specs.Choice.{branch_of, ChoiceOutcome, Chosen, EqualDepths}
 use Rattle.bpaf_laws.specs.Command.{Called, IsOpenedAt, inside, opening_words}
-use Rattle.bpaf_laws.specs.Laws.{Lawful}
-use Rattle.bpaf_laws.specs.Reading.{Outcome, Readings}
-use Rattle.bpaf_laws.proofs.Keeping.{keeps_refl}
-use Rattle.bpaf_laws.proofs.OneStretch.{keeps_stretch}
+use Rattle.bpaf_laws.specs.{Laws.Lawful, Reading.Outcome, Reading.Readings}
+use Rattle.bpaf_laws.proofs.{Keeping.keeps_refl, OneStretch.keeps_stretch}
 use Rattle.bpaf_core.specs.Adjacent.{AdjacentOutcome, Attempt, Attempts, EitherCommandOutcome}
-use Rattle.bpaf_core.specs.Adjacent.{Retry}
-use Rattle.bpaf_core.specs.Adjacent.{failed, first_fails, no_path, nothing_left, second_fails}
-use Rattle.bpaf_core.specs.Adjacent.{unnamed, wants_memory}
+use Rattle.bpaf_core.specs.Adjacent.{Retry, failed, first_fails, no_path, nothing_left}
+use Rattle.bpaf_core.specs.Adjacent.{second_fails, unnamed, wants_memory}
 use Rattle.bpaf_core.specs.Command.{CommandOutcome, IsMissingPart, ended, missing, no_memory}
-use Rattle.bpaf_core.specs.Failures.{end_message}
-use Rattle.bpaf_core.specs.Ending.{Ending, EndsRun}
-use Rattle.bpaf_core.specs.Info.{RunInfo}
+use Rattle.bpaf_core.specs.{Failures.end_message, Ending.Ending, Ending.EndsRun, Info.RunInfo}
 use Rattle.bpaf.specs.Asked.{BehindWord, CameTo, HandsOn, RunShows, Showing, inner_answer}
 use Rattle.bpaf.proofs.Asked.{IsAlsoShown, came_also, came_from, run_shows}
+use Rattle.bpaf_line.specs.declared.failure.ParseFailure.{ParseFailure as Failure}
+use Rattle.bpaf_line.specs.declared.failure.ParseFailure.TheVariants as failure
 
 -- one of two, by a test
 of_either : (caught : Bool) (first second both : Message) (f : Failure)

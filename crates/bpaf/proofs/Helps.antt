@@ -4,8 +4,7 @@ use Rattle.bpaf_doc.specs.declared.doc.Piece.{Piece}
 use Rattle.bpaf_text.specs.Named.{Named, KeyWithValue, with_help}
 use Rattle.bpaf_line.specs.Situation.{Context}
 use Rattle.bpaf_laws.specs.Argument.{IsKeyBefore, IsOwnText, ArgumentReads}
-use Rattle.bpaf_laws.specs.Flag.{FlagReads, at_key, nowhere}
-use Rattle.bpaf_laws.specs.Reading.{Share}
+use Rattle.bpaf_laws.specs.{Flag.FlagReads, Flag.at_key, Flag.nowhere, Reading.Share}
 
 -- what a flag with a help reads it reads without
 pub flag_without_help : (T : Type 0) (clones : T → T → Type 0) (named : Named) (help : List Piece)

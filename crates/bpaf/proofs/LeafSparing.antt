@@ -3,14 +3,11 @@ use Rattle.std.specs.Prelude.{◌≡◌, false, ℕ, Bool, List, Option, Result,
 use Rattle.std.specs.Result.{IfErr}
 use Rattle.std.proofs.Common.{true≢false, subst, sym, ◌∙◌, ap, inl, inr}
 use Rattle.bpaf_doc.specs.Shape.{Part}
-use Rattle.bpaf_line.specs.declared.error.Error.{Error}
 use Rattle.bpaf_line.specs.declared.error.Message.{Message}
 use Rattle.bpaf_line.specs.declared.error.Message.TheVariants.{Memory, Missing}
-use Rattle.bpaf_line.specs.Messages.{is_memory}
-use Rattle.bpaf_line.specs.Situation.{Situation}
+use Rattle.bpaf_line.specs.{declared.error.Error.Error, Messages.is_memory, Situation.Situation}
 use Rattle.bpaf_laws.specs.Any.{AnyFails, AnyOutcome, ArePassed, Looks, looked_at}
-use Rattle.bpaf_laws.specs.Default.{GivesAnswer}
-use Rattle.bpaf_laws.specs.Pure.{GivesRefusal}
+use Rattle.bpaf_laws.specs.{Default.GivesAnswer, Pure.GivesRefusal}
 use Rattle.bpaf.specs.declared.leaves.positional.Position.{Position}
 use Rattle.bpaf.specs.Leaves.{FaultsWordAlone, PassesAll, TellsAnswer, TellsWhole}
 use Rattle.bpaf.specs.Positional.{PositionalFails, PositionalOutcome}

@@ -1,12 +1,9 @@
 -- A walk that looks at one item after another.
 use Rattle.std.proofs.Common.{◌≡◌, ℕ, Bool, true, false, List, [], ◌∷◌, ◌++◌, sym, ◌∙◌, ap}
-use Rattle.std.proofs.Common.{append_assoc, true≢false}
-use Rattle.std.proofs.Common.{Option, Some, None}
+use Rattle.std.proofs.Common.{append_assoc, true≢false, Option, Some, None}
 use Rattle.std.proofs.lemmas.List.Elements.{All-push}
-use Rattle.bpaf_base.specs.declared.arg.Arg.{Arg}
-use Rattle.bpaf_base.specs.Items.{item_text}
-use Rattle.bpaf_line.specs.OpenItems.{open_items}
-use Rattle.bpaf_line.specs.Situation.{Situation, is_open}
+use Rattle.bpaf_base.specs.{declared.arg.Arg.Arg, Items.item_text}
+use Rattle.bpaf_line.specs.{OpenItems.open_items, Situation.Situation, Situation.is_open}
 use Rattle.bpaf_laws.specs.Any.{Looks, ArePassed}
 use Rattle.bpaf_laws.proofs.AnyLaws.{match_placed}
 use Rattle.bpaf.specs.Matching.{FindsMatch}

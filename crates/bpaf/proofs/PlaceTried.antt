@@ -2,14 +2,10 @@
 use Rattle.std.proofs.Common.{◌≡◌, ℕ, Bool, true, false, Result, Ok, Err, Option, Some, None, ap}
 use Rattle.std.proofs.Common.{subst, sym, ◌∙◌, true≢false}
 use Rattle.std.specs.Result.{IsErr, IsErrAnd}
-use Rattle.bpaf_line.specs.declared.error.Error.{Error}
-use Rattle.bpaf_line.specs.declared.mark.Mark.{Mark}
-use Rattle.bpaf_line.specs.Marks.{Fits, undone}
-use Rattle.bpaf_line.specs.Messages.{is_memory}
-use Rattle.bpaf_line.specs.Situation.{Situation}
+use Rattle.bpaf_line.specs.{declared.error.Error.Error, declared.mark.Mark.Mark, Marks.Fits}
+use Rattle.bpaf_line.specs.{Marks.undone, Messages.is_memory, Situation.Situation}
 use Rattle.bpaf_laws.specs.AdjacentGroup.{Failure, Probe, Tries, longer}
-use Rattle.bpaf_laws.specs.Laws.{Keeps, Lawful, newly}
-use Rattle.bpaf_laws.specs.Reading.{Outcome, Readings}
+use Rattle.bpaf_laws.specs.{Laws.Keeps, Laws.Lawful, Laws.newly, Reading.Outcome, Reading.Readings}
 use Rattle.bpaf_laws.proofs.AdjacentGroupLaws.{tries_keep}
 use Rattle.bpaf.specs.PlaceTried.{TriesAt, failed, found, no_memory, skipped}
 use Rattle.bpaf.specs.Remembering.{Takes, HasPlaceIf}

@@ -1,15 +1,12 @@
 -- How an adjacent group goes from place to place.
-use Rattle.std.proofs.Common.{◌≡◌, ℕ, ◌+◌, List, [], ◌∷◌, Result, Ok, Err, Option, Some, None}
-use Rattle.std.proofs.Common.{refl, ap, subst, sym, ◌∙◌, ⊎_elim, true, option_map}
+use Rattle.std.proofs.Common.{◌≡◌, ℕ, ◌+◌, List, [], ◌∷◌, Result, Ok, Err, Option, Some, None, refl}
+use Rattle.std.proofs.Common.{ap, subst, sym, ◌∙◌, ⊎_elim, true, option_map}
 use Rattle.bpaf_doc.specs.Shape.{Part}
-use Rattle.bpaf_line.specs.declared.error.Error.{Error}
-use Rattle.bpaf_line.specs.Messages.{is_memory}
-use Rattle.bpaf_line.specs.Situation.{Situation}
+use Rattle.bpaf_line.specs.{declared.error.Error.Error, Messages.is_memory, Situation.Situation}
 use Rattle.bpaf_laws.specs.AdjacentGroup.{Failure, GroupOutcome, HasNoStart, IsGroupStart, Probe}
 use Rattle.bpaf_laws.specs.AdjacentGroup.{EndsWith, Tries, TriedInVain, all_failed, gave, longer}
 use Rattle.bpaf_laws.specs.AdjacentGroup.{longest, none_gave, none_tried, not_taken, place_count}
-use Rattle.bpaf_laws.specs.AdjacentGroup.{wanted}
-use Rattle.bpaf_laws.specs.Reading.{Outcome, HasPlace}
+use Rattle.bpaf_laws.specs.{AdjacentGroup.wanted, Reading.Outcome, Reading.HasPlace}
 use Rattle.bpaf.specs.declared.adjacent.failures.Remembered.{Remembered}
 use Rattle.bpaf.specs.PlaceTried.{TriesAt, failed, found, no_memory, skipped}
 use Rattle.bpaf.specs.Remembering.{IsEnd, failure_from, failure_of}

@@ -1,20 +1,13 @@
 -- How the search of an adjacent group is put together.
 use Rattle.std.proofs.Common.{◌≡◌, ℕ, ◌+◌, ◌≤◌, ◌<◌, Bool, true, false, nat_lt, if◌then◌else◌}
 use Rattle.std.proofs.Common.{Result, Ok, Err, MatchResult, Some, ap, subst, sym, ◌∙◌, arith}
-use Rattle.std.proofs.Common.{true≢false}
-use Rattle.std.proofs.lemmas.Bool.{lt-ltb}
-use Rattle.std.proofs.lemmas.Bool.Decides.{nat_tests}
-use Rattle.bpaf_line.specs.declared.error.Error.{Error}
-use Rattle.bpaf_line.specs.Changes.{Changes}
-use Rattle.bpaf_line.specs.declared.mark.Mark.{Mark}
-use Rattle.bpaf_line.specs.Marks.{CanRedo, redone, undone}
-use Rattle.bpaf_line.specs.Messages.{is_memory}
+use Rattle.std.proofs.{Common.true≢false, lemmas.Bool.lt-ltb, lemmas.Bool.Decides.nat_tests}
 use Rattle.bpaf_line.specs.Situation.{Situation, open_count, with_scope}
-use Rattle.bpaf_laws.specs.AdjacentGroup.{taken_by}
-use Rattle.bpaf_laws.specs.Counting.{taken_count}
+use Rattle.bpaf_line.specs.{declared.error.Error.Error, Changes.Changes, declared.mark.Mark.Mark}
+use Rattle.bpaf_line.specs.{Marks.CanRedo, Marks.redone, Marks.undone, Messages.is_memory}
 use Rattle.bpaf_laws.specs.Laws.{Keeps, Closes, Lawful, newly}
 use Rattle.bpaf_laws.specs.Reading.{Outcome, Readings}
-use Rattle.bpaf_laws.specs.Spared.{IsNotMemory}
+use Rattle.bpaf_laws.specs.{AdjacentGroup.taken_by, Counting.taken_count, Spared.IsNotMemory}
 use Rattle.bpaf_laws.proofs.CountingLaws.{fewer_took, same_took_none, open_count-falls}
 use Rattle.bpaf_laws.proofs.Keeping.{keeps_of, keeps_scope}
 use Rattle.bpaf.specs.declared.adjacent.failures.Remembered.{Remembered}

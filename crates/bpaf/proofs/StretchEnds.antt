@@ -5,8 +5,7 @@ use Rattle.std.proofs.lemmas.Bool.{cases_lt}
 use Rattle.bpaf_line.specs.Stretches.{IsStretchFrom}
 use Rattle.bpaf_line.specs.Situation.{Situation, count_below, is_open, open_count, IsNextOpen}
 use Rattle.bpaf_line.proofs.Counts.{count_below-cut, count_below-most, count_below-none}
-use Rattle.bpaf_line.proofs.Counts.{count_below-split}
-use Rattle.bpaf_line.proofs.Places.{open_in_scope}
+use Rattle.bpaf_line.proofs.{Counts.count_below-split, Places.open_in_scope}
 
 -- of a set with n numbers below n each is one
 count_below-full : (f : ℕ → Bool) (n : ℕ) → count_below f n ≡ n → (q : ℕ) → q < n → f q ≡ true

@@ -1,10 +1,8 @@
 -- What a field and those behind it answer where values are dropped.
 use Rattle.std.specs.Prelude.{Result, Ok, Err}
 use Rattle.std.proofs.Common.{inl, refl}
-use Rattle.bpaf_line.specs.Situation.{Situation}
-use Rattle.bpaf_line.specs.declared.error.Error.{Error}
-use Rattle.bpaf_laws.specs.Reading.{Outcome}
-use Rattle.bpaf_laws.specs.Product.{BothOutcome}
+use Rattle.bpaf_line.specs.{Situation.Situation, declared.error.Error.Error}
+use Rattle.bpaf_laws.specs.{Reading.Outcome, Product.BothOutcome}
 use Rattle.bpaf.specs.WithoutValue.{WithoutValue}
 
 -- behind a field that has a value, both answer what the fields behind it do

@@ -1,23 +1,15 @@
 -- Help, or a version, that a run was asked for and shows.
 use Rattle.std.specs.Prelude.{◌≡◌, ◌⊎◌, ℕ, Bool, List, Err, Ok, ⊤}
-use Rattle.bpaf_doc.specs.declared.doc.Piece.{Piece}
-use Rattle.bpaf_doc.specs.Shape.{Shape}
-use Rattle.bpaf_words.specs.Arguments.{Given}
-use Rattle.bpaf_line.specs.declared.error.Error.{Error}
-use Rattle.bpaf_line.specs.declared.error.Message.{Message}
-use Rattle.bpaf_line.specs.declared.error.Message.TheVariants as message
-use Rattle.bpaf_line.specs.declared.failure.ParseFailure.{ParseFailure}
-use Rattle.bpaf_line.specs.declared.failure.ParseFailure.TheVariants as failure
+use Rattle.bpaf_doc.specs.{declared.doc.Piece.Piece, Shape.Shape}
 use Rattle.bpaf_line.specs.Situation.{Context, Situation, beginning}
 use Rattle.bpaf_laws.specs.Command.{Called, IsOpenedAt, inside, opening_words}
-use Rattle.bpaf_laws.specs.Laws.{Keeps}
-use Rattle.bpaf_laws.specs.Reading.{Outcome}
-use Rattle.bpaf_core.specs.ExtraParams.{ExtraParams}
-use Rattle.bpaf_core.specs.Ending.{Shows}
-use Rattle.bpaf_core.specs.Extra.{ExtraOutcome}
-use Rattle.bpaf_core.specs.Info.{RunInfo}
-use Rattle.bpaf_words.specs.Spelling.{Known}
-use Rattle.bpaf_line.specs.Constructing.{IsContext}
+use Rattle.bpaf_laws.specs.{Laws.Keeps, Reading.Outcome}
+use Rattle.bpaf_core.specs.{ExtraParams.ExtraParams, Ending.Shows, Extra.ExtraOutcome, Info.RunInfo}
+use Rattle.bpaf_words.specs.{Arguments.Given, Spelling.Known}
+use Rattle.bpaf_line.specs.{declared.error.Error.Error, declared.error.Message.Message}
+use Rattle.bpaf_line.specs.{declared.failure.ParseFailure.ParseFailure, Constructing.IsContext}
+use Rattle.bpaf_line.specs.declared.error.Message.TheVariants as message
+use Rattle.bpaf_line.specs.declared.failure.ParseFailure.TheVariants as failure
 
 -- what may be shown in a situation, in full or not
 abbrev pub Showing : Type 1

@@ -1,9 +1,7 @@
 -- Want of memory of leaves: of a text that is read, and of a look at an item.
 use Rattle.std.specs.Prelude.{◌≡◌, false, ℕ, Bool, List, Option, IfSome, Result, Err}
-use Rattle.bpaf_line.specs.declared.error.Error.{Error}
 use Rattle.bpaf_line.specs.declared.error.Message.TheVariants.{ParseFail, ParseFailed, PureFailed}
-use Rattle.bpaf_line.specs.Messages.{is_memory}
-use Rattle.bpaf_line.specs.Situation.{Situation}
+use Rattle.bpaf_line.specs.{declared.error.Error.Error, Messages.is_memory, Situation.Situation}
 use Rattle.bpaf_laws.specs.Any.{ArePassed, Looks, looked_at}
 use Rattle.bpaf.specs.Positional.{TakesSome}
 

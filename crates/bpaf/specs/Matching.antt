@@ -1,7 +1,6 @@
 -- How the first item that matches is found.
 use Rattle.std.specs.Prelude.{◌≡◌, ℕ, Bool, Option, Some, None}
-use Rattle.bpaf_base.specs.declared.arg.Arg.{Arg}
-use Rattle.bpaf_base.specs.Items.{is_attached}
+use Rattle.bpaf_base.specs.{declared.arg.Arg.Arg, Items.is_attached}
 use Rattle.bpaf_line.specs.Situation.{Situation}
 use Rattle.bpaf_laws.specs.Any.{Looks, ArePassed, FirstMatch, looked_at}
 

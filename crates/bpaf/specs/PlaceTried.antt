@@ -1,8 +1,6 @@
 -- What comes of a place at which an adjacent group is looked for.
 use Rattle.std.specs.Prelude.{◌≡◌, ℕ, true, false, Result, Ok, Err, Option, Some, None}
-use Rattle.bpaf_line.specs.declared.error.Error.{Error}
-use Rattle.bpaf_line.specs.Messages.{is_memory}
-use Rattle.bpaf_line.specs.Situation.{Situation}
+use Rattle.bpaf_line.specs.{declared.error.Error.Error, Messages.is_memory, Situation.Situation}
 use Rattle.bpaf_laws.specs.AdjacentGroup.{Failure, Probe, Tries, longer}
 use Rattle.bpaf_laws.specs.Reading.{Outcome, IsEmptyShare, HasPlace}
 

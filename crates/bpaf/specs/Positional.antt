@@ -1,20 +1,18 @@
 -- Positional words.
-use Rattle.std.specs.Prelude.{◌≡◌, ◌⊎◌, ℕ, Bool, true, false, not, List, Ok, Err}
-use Rattle.std.specs.Prelude.{Option, Some, None, option_and_then}
+use Rattle.std.specs.Prelude.{◌≡◌, ◌⊎◌, ℕ, Bool, true, false, not, List, Ok, Err, Option, Some}
+use Rattle.std.specs.Prelude.{None, option_and_then}
 use Rattle.bpaf_doc.specs.declared.doc.Piece.{Piece}
-use Rattle.bpaf_doc.specs.Shape.{Shape, Shown, Positional, Strict as StrictShape}
 use Rattle.bpaf_base.specs.Items.{is_positional, word_text}
-use Rattle.bpaf_line.specs.MissingIn.{IsMissingIn}
 use Rattle.bpaf_line.specs.Situation.{Situation, Context, item_in}
 use Rattle.bpaf_line.specs.Taking.{TakesText, HasNone}
-use Rattle.bpaf_line.specs.declared.error.Message.{Message}
 use Rattle.bpaf_line.specs.declared.error.Message.TheVariants.{Memory, Missing, ParseFailed}
 use Rattle.bpaf_line.specs.declared.error.Message.TheVariants.{StrictPos, NonStrictPos}
-use Rattle.bpaf_laws.specs.Reading.{Share, Outcome, IsPlace}
-use Rattle.bpaf_laws.specs.Value.{FaultsText}
+use Rattle.bpaf_line.specs.{MissingIn.IsMissingIn, declared.error.Message.Message}
+use Rattle.bpaf_laws.specs.{Reading.Share, Reading.Outcome, Reading.IsPlace, Value.FaultsText}
 use Rattle.bpaf.specs.declared.leaves.positional.Position.{Position}
 use Rattle.bpaf.specs.declared.leaves.positional.Position.TheVariants.{Unrestricted, Strict}
 use Rattle.bpaf.specs.declared.leaves.positional.Position.TheVariants.{NonStrict}
+use Rattle.bpaf_doc.specs.Shape.{Shape, Shown, Positional, Strict as StrictShape}
 
 -- a word may stand on this side of `--`; strict tells that it stands on the right
 abbrev pub accepts : Position → Bool → Bool

@@ -2,16 +2,12 @@
 use Rattle.std.specs.Prelude.{◌≡◌, ℕ, Bool, true, List, Option, refl}
 use Rattle.bpaf_doc.specs.declared.doc.Piece.{Piece}
 use Rattle.std.proofs.Common.{sym, subst, ⊎_elim}
-use Rattle.bpaf_line.specs.Situation.{Situation, is_open}
-use Rattle.bpaf_line.specs.declared.error.Message.{Message}
 use Rattle.bpaf_line.specs.declared.error.Message.TheVariants.{Memory, Missing, ParseFailed}
 use Rattle.bpaf_line.specs.declared.error.Message.TheVariants.{ParseFailure, StrictPos}
-use Rattle.bpaf_line.specs.declared.error.Message.TheVariants.{NonStrictPos}
-use Rattle.bpaf_line.specs.Taking.{TakesText}
-use Rattle.bpaf_laws.specs.Reading.{Readings}
-use Rattle.bpaf_laws.specs.Laws.{Keeps, Reads, Lawful}
-use Rattle.bpaf_laws.specs.RefusalNames.{NamesAnswer}
-use Rattle.bpaf_laws.specs.ShownNames.{ShowsNames, no_shorts}
+use Rattle.bpaf_line.specs.{Situation.Situation, Situation.is_open, declared.error.Message.Message}
+use Rattle.bpaf_line.specs.{declared.error.Message.TheVariants.NonStrictPos, Taking.TakesText}
+use Rattle.bpaf_laws.specs.{Reading.Readings, Laws.Keeps, Laws.Reads, Laws.Lawful}
+use Rattle.bpaf_laws.specs.{RefusalNames.NamesAnswer, ShownNames.ShowsNames, ShownNames.no_shorts}
 use Rattle.bpaf_laws.proofs.ShownNames.{one_shape}
 use Rattle.bpaf_laws.proofs.Keeping.{keeps_same, closes_take, keeps_take, newly_take}
 use Rattle.bpaf_base.specs.Items.{is_positional}

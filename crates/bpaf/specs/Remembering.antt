@@ -1,26 +1,21 @@
 -- What the search of an adjacent group keeps of a failure, and what its steps answer.
 use Rattle.std.specs.Prelude.{◌≡◌, ◌⊎◌, ℕ, ◌+◌, Bool, true, false, List, Result, Ok, Err, Option}
 use Rattle.std.specs.Prelude.{Some, None, IfSome, option_map}
-use Rattle.bpaf_doc.specs.declared.item.Item.{Item}
 use Rattle.bpaf_doc.specs.Shape.{Shape, Part, part_of}
-use Rattle.bpaf_doc.specs.Walks.{first_part}
-use Rattle.bpaf_line.specs.declared.error.Error.{Error}
-use Rattle.bpaf_line.specs.declared.error.Message.TheVariants as message
-use Rattle.bpaf_line.specs.declared.missing.MissingItem.{MissingItem}
-use Rattle.bpaf_line.specs.Marks.{CanRedo, redone}
-use Rattle.bpaf_line.specs.Messages.{is_memory}
-use Rattle.bpaf_line.specs.MissingIn.{IsMissingIn}
+use Rattle.bpaf_doc.specs.{declared.item.Item.Item, Walks.first_part}
 use Rattle.bpaf_line.specs.Situation.{Situation, open_count, with_scope, HasNoneOpen, IsNextOpen}
+use Rattle.bpaf_line.specs.{declared.error.Error.Error, declared.missing.MissingItem.MissingItem}
+use Rattle.bpaf_line.specs.{Marks.CanRedo, Marks.redone, Messages.is_memory, MissingIn.IsMissingIn}
 use Rattle.bpaf_laws.specs.AdjacentGroup.{Failure, EndsWith, longer, taken_by}
-use Rattle.bpaf_laws.specs.Laws.{newly}
 use Rattle.bpaf_laws.specs.Reading.{Outcome, Share, IsEmptyShare, HasPlace}
-use Rattle.bpaf_laws.specs.Spared.{IsNotMemory}
+use Rattle.bpaf_laws.specs.{Laws.newly, Spared.IsNotMemory}
 use Rattle.bpaf.specs.declared.adjacent.AdjacentError.{AdjacentError}
-use Rattle.bpaf.specs.declared.adjacent.AdjacentError.TheVariants as refused
 use Rattle.bpaf.specs.declared.adjacent.attempts.AttemptEnd.{AttemptEnd}
-use Rattle.bpaf.specs.declared.adjacent.attempts.AttemptEnd.TheVariants as ending
 use Rattle.bpaf.specs.declared.adjacent.failures.Failed.{Failed}
 use Rattle.bpaf.specs.declared.adjacent.failures.Remembered.{Remembered}
+use Rattle.bpaf_line.specs.declared.error.Message.TheVariants as message
+use Rattle.bpaf.specs.declared.adjacent.AdjacentError.TheVariants as refused
+use Rattle.bpaf.specs.declared.adjacent.attempts.AttemptEnd.TheVariants as ending
 
 -- a failure whose steps begin at a situation
 abbrev pub failure_from : Situation → Failed → Failure

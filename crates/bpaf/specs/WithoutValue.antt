@@ -1,8 +1,6 @@
 -- Fields whose values are dropped: behind one that has failed they are evaluated for their errors.
 use Rattle.std.specs.Prelude.{◌≡◌, true, false, ◌⊎◌, Result, Ok, Err, if◌then◌else◌}
-use Rattle.bpaf_line.specs.Situation.{Situation}
-use Rattle.bpaf_line.specs.Messages.{is_memory}
-use Rattle.bpaf_line.specs.declared.error.Error.{Error}
+use Rattle.bpaf_line.specs.{Situation.Situation, Messages.is_memory, declared.error.Error.Error}
 use Rattle.bpaf_laws.specs.Reading.{Outcome}
 
 -- the same answers, of which an Ok tells no value

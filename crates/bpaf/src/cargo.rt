@@ -57,8 +57,7 @@ impl<T: Drop, P: Parser<T>> Parser<T> for CargoHelper<P> {
     ghost use Rattle.bpaf_laws.proofs.DefaultLaws.{optional_lawful};
     ghost use Rattle.bpaf_laws.proofs.HideLaws.{hide_lawful};
     ghost use Rattle.bpaf_laws.proofs.ProductLaws.{both_lawful, product_lawful};
-    ghost use Rattle.bpaf_laws.proofs.ShownNames.{both_show, last_shows, one_shape};
-    ghost use Rattle.bpaf_laws.proofs.ShownNames.{product_shows};
+    ghost use Rattle.bpaf_laws.proofs.ShownNames.{both_show, last_shows, one_shape, product_shows};
 
     ghost can_eval = { λ p. P.can_eval p.fields.rest.last };
 

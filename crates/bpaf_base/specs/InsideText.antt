@@ -1,9 +1,8 @@
 -- What a short text is kept as.
 use Rattle.std.specs.Prelude.{ℕ, ◌≤◌, List, length, take, string_bytes}
 use Rattle.std.specs.Str.{IsUtf8}
-use Rattle.bpaf_base.specs.declared.short.ShortText.TheInside.{Inside}
-use Rattle.bpaf_base.specs.declared.text.Kept.{Kept}
 use Rattle.bpaf_base.specs.declared.text.Kept.TheVariants.{Short, Long}
+use Rattle.bpaf_base.specs.{declared.short.ShortText.TheInside.Inside, declared.text.Kept.Kept}
 
 -- the bytes in front
 abbrev pub front_of : Inside → List ℕ

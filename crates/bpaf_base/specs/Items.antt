@@ -1,11 +1,9 @@
 -- Items: what a test on one computes.
 use Rattle.std.specs.Prelude.{ℕ, Bool, true, false, not, ◌&&◌, ◌==◌, List, ◌++◌, Option, Some, None}
 use Rattle.std.specs.Prelude.{bytes_eq, codes, encode_utf8}
-use Rattle.std.specs.List.{list_any}
-use Rattle.std.specs.Option.{is_some, option_map_or}
-use Rattle.bpaf_base.specs.Names.{Names}
-use Rattle.bpaf_base.specs.declared.arg.Arg.{Arg}
+use Rattle.std.specs.{List.list_any, Option.is_some, Option.option_map_or}
 use Rattle.bpaf_base.specs.declared.arg.Arg.TheVariants.{Short, Long, ArgWord, Word, PosWord}
+use Rattle.bpaf_base.specs.{Names.Names, declared.arg.Arg.Arg}
 
 -- c is among cs
 abbrev pub is_among : List ℕ → ℕ → Bool

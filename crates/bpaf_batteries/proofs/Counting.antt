@@ -1,34 +1,28 @@
 -- Counted keys: what two counts read are as many keys of each flag.
 use Rattle.std.proofs.Common.{◌≡◌, ◌≢◌, ℕ, ◌+◌, ◌<◌, ◌==◌, ◌&&◌, ◌||◌, Bool, true, false, List, []}
-use Rattle.std.proofs.Common.{◌∷◌, length, slice_get, Result, Ok, Err, IfOk, ℤ, Option, Some}
-use Rattle.std.proofs.Common.{None, refl, sym, ◌∙◌, subst, arith, ⊎_elim, true≢false, if◌then◌else◌}
+use Rattle.std.proofs.Common.{◌∷◌, length, slice_get, Result, Ok, Err, IfOk, ℤ, Option, Some, None}
+use Rattle.std.proofs.Common.{refl, sym, ◌∙◌, subst, arith, ⊎_elim, true≢false, if◌then◌else◌}
 use Rattle.std.proofs.lemmas.Bool.{cases_eq, eq-eqb, ne_eqb}
 use Rattle.std.proofs.lemmas.Option.{slice_get_within}
 use Rattle.std.specs.Option.{option_map_or, IsSomeRelated}
-use Rattle.bpaf_line.specs.declared.error.Error.{Error}
 use Rattle.bpaf_text.specs.declared.params.ParseFlag.{ParseFlag}
 use Rattle.bpaf_base.specs.declared.arg.Arg.{Arg}
 use Rattle.bpaf_index.proofs.Counts.{count_below-same, count_below-fewer, count_below-none}
 use Rattle.bpaf_line.specs.Situation.{Situation, Context, item_in, is_marker, count_below}
-use Rattle.bpaf_line.specs.Situation.{with_current}
+use Rattle.bpaf_line.specs.{declared.error.Error.Error, Situation.with_current}
 use Rattle.bpaf_laws.proofs.CountingLaws.{count_below-joined}
-use Rattle.bpaf_laws.specs.Environment.{first_set}
 use Rattle.bpaf_laws.specs.Flag.{FlagReads, at_key, nowhere, value_without_key}
-use Rattle.bpaf_laws.specs.Laws.{newly}
-use Rattle.bpaf_laws.specs.Product.{BothOutcome}
 use Rattle.bpaf_laws.specs.Reading.{Outcome, Share, Readings, HasItem, IsPlace, Joins}
 use Rattle.bpaf_laws.specs.Repeat.{EachReads, ListReads, CountOutcome}
-use Rattle.bpaf_laws.specs.Transform.{MapReads}
 use Rattle.bpaf_batteries.proofs.Keys.{not_both}
-use Rattle.bpaf_batteries.specs.Level.{IsLevelOf}
 use Rattle.bpaf_batteries.specs.Keys.{is_key, MustStand, AreKeysApart, KeyOutcome}
-use Rattle.bpaf_laws.specs.Spared.{IsNotMemory, WithoutMemory}
+use Rattle.bpaf_laws.specs.{Environment.first_set, Laws.newly, Product.BothOutcome}
+use Rattle.bpaf_laws.specs.{Transform.MapReads, Spared.IsNotMemory, Spared.WithoutMemory}
 use Rattle.bpaf_laws.proofs.ProductSparing.{both_spares, product_spares}
-use Rattle.bpaf_batteries.specs.Verbosity.{CountsSpared}
-use Rattle.bpaf_batteries.specs.Verbosity.{CountsOutcome, CountsReads, keys_in}
+use Rattle.bpaf_batteries.specs.Verbosity.{CountsSpared, CountsOutcome, CountsReads, keys_in}
 use Rattle.bpaf_batteries.specs.Verbosity.{keys_taken, KeysAreCounted, PicksItem, VerbosityCounts}
-use Rattle.bpaf_batteries.specs.Verbosity.{VerbosityPicks}
 use Rattle.bpaf_batteries.specs.VerbosityLaws.{counts_lawful}
+use Rattle.bpaf_batteries.specs.{Level.IsLevelOf, Verbosity.VerbosityPicks}
 
 -- a share of so many places, each with a key of a flag
 record AreKeys {T : Type 0} (flag : ParseFlag T) (context : Context) (share : Share) (n : ℕ)

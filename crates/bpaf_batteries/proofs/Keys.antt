@@ -5,15 +5,12 @@ use Rattle.std.specs.Option.{option_map_or, IsSomeRelated}
 use Rattle.std.proofs.lemmas.Bool.{and_from}
 use Rattle.bpaf_text.specs.declared.params.ParseFlag.{ParseFlag}
 use Rattle.bpaf_base.specs.declared.arg.Arg.{Arg}
-use Rattle.bpaf_line.specs.Messages.{is_memory}
 use Rattle.bpaf_line.specs.Situation.{Situation, take_place}
-use Rattle.bpaf_line.specs.Taking.{IsFirst, HasNone}
-use Rattle.bpaf_line.specs.declared.error.Error.{Error}
-use Rattle.bpaf_line.specs.declared.error.Message.{Message}
 use Rattle.bpaf_line.specs.declared.error.Message.TheVariants.{Memory}
-use Rattle.bpaf_laws.specs.Environment.{is_set}
+use Rattle.bpaf_line.specs.{Messages.is_memory, Taking.IsFirst, Taking.HasNone}
+use Rattle.bpaf_line.specs.{declared.error.Error.Error, declared.error.Message.Message}
 use Rattle.bpaf_laws.specs.Flag.{FlagOutcome, FlagFails, IsFlagPresent}
-use Rattle.bpaf_laws.specs.Spared.{IsNotMemory}
+use Rattle.bpaf_laws.specs.{Environment.is_set, Spared.IsNotMemory}
 use Rattle.bpaf_batteries.specs.Keys.{is_key, MustStand}
 
 -- of two tests that no item passes both, an item passes not both

@@ -5,22 +5,17 @@ use Rattle.std.proofs.Common.{[], ◌∷◌, ◌++◌, Result, Ok, Err, Option, 
 use Rattle.std.proofs.Common.{ap, subst, arith, inl, inr, ⊎_elim, true≢false, if◌then◌else◌}
 use Rattle.std.proofs.lemmas.Bool.{cases_eq, cases_lt, not-true, and_parts, or_right}
 use Rattle.std.proofs.lemmas.Bool.Decides.{nat_tests}
-use Rattle.std.specs.Option.{option_map_or}
 use Rattle.bpaf_text.specs.declared.params.ParseFlag.{ParseFlag}
 use Rattle.bpaf_base.specs.declared.arg.Arg.{Arg}
-use Rattle.bpaf_line.proofs.Matches.{match_is_open}
-use Rattle.std.specs.Int.{from_bool}
+use Rattle.std.specs.{Option.option_map_or, Int.from_bool}
 use Rattle.bpaf_line.proofs.Places.{open_count-put, open_not_taken, taken_here, taken_other}
-use Rattle.bpaf_line.proofs.Places.{taken_stays}
-use Rattle.bpaf_line.specs.Conflicts.{ConflictsSaved, IsWinner}
-use Rattle.bpaf_line.specs.Messages.{is_memory}
+use Rattle.bpaf_line.proofs.{Matches.match_is_open, Places.taken_stays}
 use Rattle.bpaf_line.specs.Situation.{Situation, is_taken, in_scope, is_open, item_at, item_in}
-use Rattle.bpaf_line.specs.Situation.{open_count, take_place}
 use Rattle.bpaf_line.specs.Taking.{IsFirst, HasNone, is_match, open_item}
-use Rattle.bpaf_line.specs.declared.error.Error.{Error}
+use Rattle.bpaf_line.specs.{Conflicts.ConflictsSaved, Conflicts.IsWinner, Messages.is_memory}
+use Rattle.bpaf_line.specs.{Situation.open_count, Situation.take_place, declared.error.Error.Error}
 use Rattle.bpaf_laws.proofs.ChoiceLaws.{choice_lawful, no_value, not_winner}
-use Rattle.bpaf_laws.proofs.CountingLaws.{same_took_none}
-use Rattle.bpaf_laws.proofs.FlagLaws.{flag_lawful}
+use Rattle.bpaf_laws.proofs.{CountingLaws.same_took_none, FlagLaws.flag_lawful}
 use Rattle.bpaf_laws.specs.Choice.{BranchesEval, Chosen, EqualDepths, Winner, branch_of, depth}
 use Rattle.bpaf_laws.specs.Repeat.{Turns, UntilStop, is_nil}
 use Rattle.bpaf_laws.specs.Turn.{TurnOutcome, stops_step, stops_spared, is_untouched}

@@ -1,13 +1,10 @@
 -- Required flags as the batteries have them, of which only keys on the line count.
 use Rattle.std.specs.Prelude.{◌≡◌, ℕ, List, [], Bool, false, ◌&&◌, ◌||◌, None, codes}
-use Rattle.bpaf_doc.specs.Fold.{TextPieces}
-use Rattle.bpaf_doc.specs.declared.doc.Piece.{Piece}
+use Rattle.bpaf_doc.specs.{Fold.TextPieces, declared.doc.Piece.Piece}
 use Rattle.bpaf_text.specs.Named.{nothing_named, with_help, with_long, with_short}
 use Rattle.bpaf_text.specs.declared.params.ParseFlag.{ParseFlag}
-use Rattle.bpaf_base.specs.declared.arg.Arg.{Arg}
-use Rattle.bpaf_base.specs.Items.{is_key_of}
-use Rattle.bpaf_laws.specs.Flag.{FlagOutcome, FlagReads}
-use Rattle.bpaf_laws.specs.Reading.{Outcome, Readings}
+use Rattle.bpaf_base.specs.{declared.arg.Arg.Arg, Items.is_key_of}
+use Rattle.bpaf_laws.specs.{Flag.FlagOutcome, Flag.FlagReads, Reading.Outcome, Reading.Readings}
 
 -- an item is a key of a flag
 abbrev pub is_key : {T : Type 0} → ParseFlag T → Arg → Bool

@@ -1,18 +1,14 @@
 -- A toggle: the last value of two keys that may each stand any number of times.
 use Rattle.std.specs.Prelude.{◌≡◌, ◌⊎◌, ◌<◌, ◌++◌, ◌∷◌, [], ℕ, Bool, true, false, List, Option}
-use Rattle.std.specs.Prelude.{Some, None}
-use Rattle.std.specs.List.{last_or}
+use Rattle.std.specs.{Prelude.Some, Prelude.None, List.last_or}
 use Rattle.bpaf_doc.specs.Shape.{Shape}
 use Rattle.bpaf_text.specs.declared.params.ParseFlag.{ParseFlag}
 use Rattle.bpaf_base.specs.declared.arg.Arg.{Arg}
-use Rattle.bpaf_line.specs.Situation.{Situation}
-use Rattle.bpaf_line.specs.Taking.{HasNone, is_match}
+use Rattle.bpaf_line.specs.{Situation.Situation, Taking.HasNone, Taking.is_match}
 use Rattle.bpaf_laws.specs.Choice.{ChoiceDescribes, ChoiceOutcome, ChoiceReads}
-use Rattle.bpaf_laws.specs.Flag.{flag_shape}
-use Rattle.bpaf_laws.specs.Reading.{Outcome, Readings}
 use Rattle.bpaf_laws.specs.Repeat.{ListReads, ManyDescribes, ManyOutcome}
-use Rattle.bpaf_laws.specs.Spared.{WithoutMemory}
-use Rattle.bpaf_laws.specs.Transform.{MapOutcome, MapReads}
+use Rattle.bpaf_laws.specs.{Flag.flag_shape, Reading.Outcome, Reading.Readings}
+use Rattle.bpaf_laws.specs.{Spared.WithoutMemory, Transform.MapOutcome, Transform.MapReads}
 use Rattle.bpaf_batteries.specs.Keys.{is_key, is_either, AreKeysApart, KeyOutcome, KeyReads}
 
 -- the last of some values; none where there is none

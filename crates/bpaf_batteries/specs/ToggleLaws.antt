@@ -3,13 +3,10 @@ use Rattle.std.specs.Prelude.{◌≡◌, Bool, List, [], ◌∷◌, ◌++◌, Op
 use Rattle.std.specs.List.{last_or}
 use Rattle.std.proofs.Common.{ap, subst, sym, ◌∙◌}
 use Rattle.bpaf_text.specs.declared.params.ParseFlag.{ParseFlag}
-use Rattle.bpaf_laws.specs.ShownNames.{ShowsNames, of_flags}
 use Rattle.bpaf_laws.proofs.ShownNames.{choice_shows, flag_shows, many_shows}
-use Rattle.bpaf_laws.proofs.ChoiceLaws.{choice_lawful}
-use Rattle.bpaf_laws.proofs.FlagLaws.{flag_lawful}
-use Rattle.bpaf_laws.proofs.RepeatLaws.{many_lawful}
 use Rattle.bpaf_laws.proofs.TransformLaws.{map_lawful}
-use Rattle.bpaf_laws.specs.Laws.{Lawful}
+use Rattle.bpaf_laws.proofs.{ChoiceLaws.choice_lawful, FlagLaws.flag_lawful, RepeatLaws.many_lawful}
+use Rattle.bpaf_laws.specs.{ShownNames.ShowsNames, ShownNames.of_flags, Laws.Lawful}
 use Rattle.bpaf_batteries.specs.Toggle.{IsLastOf, ToggleDescribes, ToggleOutcome, ToggleReads}
 
 -- what stands behind others is the last

@@ -1,21 +1,16 @@
 -- A level from two counted keys.
-use Rattle.std.specs.Prelude.{◌≡◌, ◌⊎◌, ◌&&◌, ℕ, ℤ, pos, false, true, ◌-ℤ◌, List, length}
-use Rattle.std.specs.Prelude.{slice_get, Some, Ok, Err}
-use Rattle.std.specs.Option.{option_map_or}
+use Rattle.std.specs.Prelude.{◌≡◌, ◌⊎◌, ◌&&◌, ℕ, ℤ, pos, false, true, ◌-ℤ◌, List, length, slice_get}
+use Rattle.std.specs.{Prelude.Some, Prelude.Ok, Prelude.Err, Option.option_map_or}
 use Rattle.bpaf_doc.specs.Shape.{Shape}
 use Rattle.bpaf_text.specs.declared.params.ParseFlag.{ParseFlag}
 use Rattle.bpaf_line.specs.Messages.{is_memory}
 use Rattle.bpaf_line.specs.Situation.{Situation, Context, item_in, count_below}
-use Rattle.bpaf_laws.specs.Laws.{newly}
-use Rattle.bpaf_laws.specs.Flag.{flag_shape}
 use Rattle.bpaf_laws.specs.Product.{BothDescribes, BothOutcome, BothReads, LastDescribes}
 use Rattle.bpaf_laws.specs.Product.{ProductDescribes, ProductOutcome}
 use Rattle.bpaf_laws.specs.Reading.{Share, Outcome, Readings}
 use Rattle.bpaf_laws.specs.Repeat.{CountOutcome, ListReads, ManyDescribes}
-use Rattle.bpaf_laws.specs.Transform.{MapReads}
-use Rattle.bpaf_batteries.specs.Level.{IsLevelOf}
-use Rattle.bpaf_laws.specs.Spared.{WithoutMemory}
-use Rattle.bpaf_batteries.specs.Keys.{is_key, KeyOutcome, KeyReads}
+use Rattle.bpaf_laws.specs.{Laws.newly, Flag.flag_shape, Transform.MapReads, Spared.WithoutMemory}
+use Rattle.bpaf_batteries.specs.{Level.IsLevelOf, Keys.is_key, Keys.KeyOutcome, Keys.KeyReads}
 
 -- how many places of a share have a key of a flag
 abbrev pub keys_in : {T : Type 0} → ParseFlag T → Context → Share → ℕ

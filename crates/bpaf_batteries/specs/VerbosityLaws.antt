@@ -5,15 +5,11 @@ use Rattle.bpaf_text.specs.declared.params.ParseFlag.{ParseFlag}
 use Rattle.bpaf_laws.specs.ShownNames.{ShowsNames, of_flags}
 use Rattle.bpaf_laws.proofs.ShownNames.{both_show, flag_shows, last_shows, many_shows}
 use Rattle.bpaf_laws.proofs.ShownNames.{product_shows}
-use Rattle.bpaf_laws.proofs.FlagLaws.{flag_lawful}
 use Rattle.bpaf_laws.proofs.ProductLaws.{both_lawful, product_lawful}
-use Rattle.bpaf_laws.proofs.RepeatLaws.{count_lawful}
 use Rattle.bpaf_laws.proofs.TransformLaws.{map_lawful}
-use Rattle.bpaf_laws.specs.Laws.{Lawful, newly}
-use Rattle.bpaf_laws.proofs.NamesAnswer.{names_want}
-use Rattle.bpaf_laws.specs.Reading.{Outcome, Readings}
-use Rattle.bpaf_laws.specs.Repeat.{CountOutcome, ListReads}
-use Rattle.bpaf_laws.specs.Transform.{MapReads}
+use Rattle.bpaf_laws.proofs.{FlagLaws.flag_lawful, RepeatLaws.count_lawful, NamesAnswer.names_want}
+use Rattle.bpaf_laws.specs.{Laws.Lawful, Laws.newly, Reading.Outcome, Reading.Readings}
+use Rattle.bpaf_laws.specs.{Repeat.CountOutcome, Repeat.ListReads, Transform.MapReads}
 use Rattle.bpaf_batteries.specs.Keys.{KeyOutcome, KeyReads}
 use Rattle.bpaf_batteries.specs.Verbosity.{CountsDescribe, CountsOutcome, CountsReads, PickOutcome}
 

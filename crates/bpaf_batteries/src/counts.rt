@@ -52,14 +52,12 @@ pub(crate) fn verbose_and_quiet(alloc: Global) -> Result<KeyCounts, AllocError>
 
 /// Both counts; then no word is current.
 impl Parser<(usize, usize)> for KeyCounts {
-    ghost use Rattle.std.specs.Prelude.{IfOk};
+    ghost use Rattle.std.specs.Prelude.{IfOk, ◌++◌};
     ghost use Rattle.bpaf_batteries.specs.Verbosity.{CountsDescribe, CountsOutcome, CountsReads};
     ghost use Rattle.bpaf_batteries.specs.Verbosity.{CountsSpared, KeysAreCounted};
     ghost use Rattle.bpaf_laws.specs.Spared.{IsNotMemory};
-    ghost use Rattle.bpaf_batteries.specs.VerbosityLaws.{counts_lawful};
-    ghost use Rattle.std.specs.Prelude.{◌++◌};
+    ghost use Rattle.bpaf_batteries.specs.VerbosityLaws.{counts_lawful, counts_show};
     ghost use Rattle.bpaf_laws.specs.ShownNames.{of_flags};
-    ghost use Rattle.bpaf_batteries.specs.VerbosityLaws.{counts_show};
 
     ghost can_eval = { λ p. Unit {0} };
 

@@ -39,14 +39,12 @@ pub fn toggle_flag<T: Clone + Drop>(a: NamedArg, val_a: T, b: NamedArg, val_b: T
 /// The last of the values of the two keys in the order of the line. Every refusal of the repeat is
 /// passed on; want of memory is refused.
 impl<T: Clone + Drop> Parser<Option<T>> for ToggleFlag<T> {
-    ghost use Rattle.std.specs.Prelude.{IfOk};
+    ghost use Rattle.std.specs.Prelude.{IfOk, ◌++◌};
     ghost use Rattle.bpaf_batteries.specs.Toggle.{LastToggleWins, ToggleDescribes, ToggleOutcome};
     ghost use Rattle.bpaf_batteries.specs.Toggle.{ToggleReads, ToggleSpared};
     ghost use Rattle.bpaf_laws.specs.Spared.{IsNotMemory};
-    ghost use Rattle.bpaf_batteries.specs.ToggleLaws.{toggle_lawful};
-    ghost use Rattle.std.specs.Prelude.{◌++◌};
+    ghost use Rattle.bpaf_batteries.specs.ToggleLaws.{toggle_lawful, toggle_shows};
     ghost use Rattle.bpaf_laws.specs.ShownNames.{of_flags};
-    ghost use Rattle.bpaf_batteries.specs.ToggleLaws.{toggle_shows};
 
     ghost can_eval = { λ p. Unit {0} };
 

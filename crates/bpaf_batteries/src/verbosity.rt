@@ -64,16 +64,14 @@ fn level(offset: isize, min: isize, max: isize, more: usize, fewer: usize) -> is
 
 /// The level of both counts; a refusal of the keys is passed on.
 impl Parser<isize> for VerboseQuiet {
-    ghost use Rattle.std.specs.Prelude.{ℕ, ℤ, IfOk};
+    ghost use Rattle.std.specs.Prelude.{ℕ, ℤ, IfOk, ◌++◌};
     ghost use Rattle.bpaf_laws.specs.Transform.{MapOutcome, MapReads};
     ghost use Rattle.bpaf_laws.proofs.TransformLaws.{map_lawful};
     ghost use Rattle.bpaf_batteries.specs.Verbosity.{CountsDescribe, CountsOutcome, CountsReads};
     ghost use Rattle.bpaf_batteries.specs.Verbosity.{CountsSpared, VerbosityCounts};
     ghost use Rattle.bpaf_laws.specs.Spared.{IsNotMemory};
-    ghost use Rattle.bpaf_batteries.specs.VerbosityLaws.{counts_lawful};
-    ghost use Rattle.std.specs.Prelude.{◌++◌};
+    ghost use Rattle.bpaf_batteries.specs.VerbosityLaws.{counts_lawful, counts_show};
     ghost use Rattle.bpaf_laws.specs.ShownNames.{of_flags};
-    ghost use Rattle.bpaf_batteries.specs.VerbosityLaws.{counts_show};
 
     ghost can_eval = { λ p. Unit {0} };
 
@@ -190,15 +188,13 @@ fn item_at<T: Clone + Drop>(
 /// The item at the level of both counts; a refusal of the keys is passed on, and memory for the
 /// item may be wanted.
 impl<T: Clone + Drop, const N: usize> Parser<T> for VerboseSlice<T, N> {
-    ghost use Rattle.std.specs.Prelude.{ℕ, IfOk};
+    ghost use Rattle.std.specs.Prelude.{ℕ, IfOk, ◌++◌};
     ghost use Rattle.bpaf_laws.specs.Transform.{MapReads};
     ghost use Rattle.bpaf_batteries.specs.Verbosity.{CountsDescribe, CountsOutcome, CountsReads};
     ghost use Rattle.bpaf_batteries.specs.Verbosity.{CountsSpared, PickOutcome, VerbosityPicks};
     ghost use Rattle.bpaf_laws.specs.Spared.{IsNotMemory};
-    ghost use Rattle.bpaf_batteries.specs.VerbosityLaws.{counts_lawful, pick_lawful};
-    ghost use Rattle.std.specs.Prelude.{◌++◌};
+    ghost use Rattle.bpaf_batteries.specs.VerbosityLaws.{counts_lawful, pick_lawful, counts_show};
     ghost use Rattle.bpaf_laws.specs.ShownNames.{of_flags};
-    ghost use Rattle.bpaf_batteries.specs.VerbosityLaws.{counts_show};
 
     ghost can_eval = { λ p. Unit {0} };
 

@@ -1,27 +1,20 @@
 -- How the attempts of an adjacent command are put together.
-use Rattle.std.proofs.Common.{◌≡◌, ℕ, ◌≤◌, true, length, Result, Ok, Err, ⊎_elim, refl, subst}
-use Rattle.std.proofs.Common.{sym, ap, ◌∙◌, true≢false}
+use Rattle.std.proofs.Common.{◌≡◌, ℕ, ◌≤◌, true, length, Result, Ok, Err, ⊎_elim, refl, subst, sym}
+use Rattle.std.proofs.Common.{ap, ◌∙◌, true≢false}
 use Rattle.std.specs.Result.{IsErr, IsErrAnd}
-use Rattle.bpaf_line.specs.Changes.{Changes}
 use Rattle.bpaf_line.specs.declared.failure.ParseFailure.{ParseFailure}
-use Rattle.bpaf_line.specs.declared.failure.ParseFailure.TheVariants as failure
-use Rattle.bpaf_line.specs.declared.mark.Mark.{Mark}
 use Rattle.bpaf_line.specs.Marks.{Fits, KeepsMarks, redone, undone}
-use Rattle.bpaf_line.specs.Messages.{is_memory}
-use Rattle.bpaf_line.specs.Stretches.{IsStretchFrom}
-use Rattle.bpaf_line.specs.Situation.{Situation, with_scope}
+use Rattle.bpaf_line.specs.{Changes.Changes, declared.mark.Mark.Mark, Messages.is_memory}
+use Rattle.bpaf_line.specs.{Stretches.IsStretchFrom, Situation.Situation, Situation.with_scope}
 use Rattle.bpaf_line.proofs.Marks.{keeps_marks_refl, keeps_marks_scope, keeps_marks_trans}
-use Rattle.bpaf_laws.specs.AdjacentCommand.{IsFirstLeft}
-use Rattle.bpaf_laws.specs.Laws.{Lawful}
 use Rattle.bpaf_laws.specs.Reading.{Outcome, Readings}
-use Rattle.bpaf_core.specs.Adjacent.{Attempt, Attempts, GivesBack, IsTold, Retry}
-use Rattle.bpaf_core.specs.Adjacent.{first_fails, second_counts, second_fails}
-use Rattle.bpaf_core.specs.Adjacent.{wants_memory}
+use Rattle.bpaf_laws.specs.{AdjacentCommand.IsFirstLeft, Laws.Lawful}
+use Rattle.bpaf_core.specs.Adjacent.{Attempt, Attempts, GivesBack, IsTold, Retry, first_fails}
+use Rattle.bpaf_core.specs.Adjacent.{second_counts, second_fails, wants_memory}
 use Rattle.bpaf_parts.specs.Failures.{end_message}
-use Rattle.bpaf_core.specs.CommandLaws.{runs_keeps}
-use Rattle.bpaf_core.specs.Ending.{Ending}
 use Rattle.bpaf_core.specs.EndingLaws.{LawfulEnding}
-use Rattle.bpaf_core.specs.Run.{Runs}
+use Rattle.bpaf_core.specs.{CommandLaws.runs_keeps, Ending.Ending, Run.Runs}
+use Rattle.bpaf_line.specs.declared.failure.ParseFailure.TheVariants as failure
 
 -- an end that is told as want of memory is want of memory
 pub memory_end : (f : ParseFailure) → is_memory (end_message f) ≡ true → f ≡ failure.Memory

@@ -2,21 +2,16 @@
 use Rattle.std.specs.Prelude.{◌≡◌, ℕ, ◌+◌, Bool, true, false, Result, Ok, Err}
 use Rattle.std.proofs.Common.{subst, true≢false}
 use Rattle.bpaf_doc.specs.Shape.{Part}
-use Rattle.bpaf_line.specs.declared.error.Error.{Error}
-use Rattle.bpaf_line.specs.declared.failure.ParseFailure.{ParseFailure}
-use Rattle.bpaf_line.specs.Messages.{is_memory}
-use Rattle.bpaf_line.specs.Situation.{Situation, with_scope}
-use Rattle.bpaf_laws.specs.Command.{Called, inside}
-use Rattle.bpaf_laws.specs.Reading.{Outcome}
+use Rattle.bpaf_line.specs.{declared.error.Error.Error, declared.failure.ParseFailure.ParseFailure}
+use Rattle.bpaf_line.specs.{Messages.is_memory, Situation.Situation, Situation.with_scope}
 use Rattle.bpaf_laws.specs.Spared.{IsNotMemory, WithoutMemory}
+use Rattle.bpaf_laws.specs.{Command.Called, Command.inside, Reading.Outcome}
 use Rattle.bpaf_core.specs.Adjacent.{AdjacentOutcome, Attempts, EitherCommandOutcome, IsTold, Retry}
 use Rattle.bpaf_core.specs.Adjacent.{counted, failed, first_counts, first_fails, no_path}
 use Rattle.bpaf_core.specs.Adjacent.{nothing_left, second_counts, second_fails, unnamed}
-use Rattle.bpaf_core.specs.Adjacent.{wants_memory}
 use Rattle.bpaf_core.specs.Command.{CommandOutcome, ended, missing, no_memory, value}
-use Rattle.bpaf_core.specs.Ending.{Ending}
-use Rattle.bpaf_core.specs.EndingLaws.{LawfulEnding}
 use Rattle.bpaf_core.specs.Run.{IsNotWant, Runs, leftover, refused}
+use Rattle.bpaf_core.specs.{Adjacent.wants_memory, Ending.Ending, EndingLaws.LawfulEnding}
 use Rattle.bpaf_core.specs.Run.{value as run_value}
 
 -- a run that isn't told as want of memory had no inner want of memory

@@ -1,21 +1,18 @@
 -- How the answers of a command are put together.
-use Rattle.std.proofs.Common.{◌≡◌, ℕ, Bool, true, false, None, Result, Ok, Err, ⊎_elim, subst}
-use Rattle.std.proofs.Common.{sym, true≢false}
+use Rattle.std.proofs.Common.{◌≡◌, ℕ, Bool, true, false, None, Result, Ok, Err, ⊎_elim, subst, sym}
+use Rattle.std.proofs.Common.{true≢false}
 use Rattle.std.specs.Result.{IsErr, IsErrAnd}
 use Rattle.bpaf_doc.specs.Shape.{Part}
-use Rattle.bpaf_line.specs.declared.error.Error.{Error}
-use Rattle.bpaf_line.specs.declared.error.Message.TheVariants as message
-use Rattle.bpaf_line.specs.declared.failure.ParseFailure.{ParseFailure}
 use Rattle.bpaf_line.specs.Situation.{Situation, with_current}
+use Rattle.bpaf_line.specs.{declared.error.Error.Error, declared.failure.ParseFailure.ParseFailure}
 use Rattle.bpaf_laws.specs.Reading.{Outcome}
 use Rattle.bpaf_laws.specs.Command.{Called, IsNotOpened, IsOpenedAt, opened, opening_words}
-use Rattle.bpaf_core.specs.Ending.{Ending}
-use Rattle.bpaf_core.specs.Run.{Runs}
 use Rattle.bpaf_core.specs.Command.{IsMissingPart, ended, missing, no_memory, value}
 use Rattle.bpaf_parts.specs.Failures.{end_message}
 use Rattle.bpaf_core.specs.Adjacent.{AdjacentRuns, EitherCommandOutcome, Enters, RunsInside}
-use Rattle.bpaf_core.specs.Adjacent.{StaysOutside}
-use Rattle.bpaf_core.specs.Adjacent.{counted, failed, no_path, unnamed}
+use Rattle.bpaf_core.specs.Adjacent.{StaysOutside, counted, failed, no_path, unnamed}
+use Rattle.bpaf_core.specs.{Ending.Ending, Run.Runs}
+use Rattle.bpaf_line.specs.declared.error.Message.TheVariants as message
 
 -- a plain command runs once inside
 pub runs_plain : {T : Type 0} (inner : Outcome T) (ending : Ending) (adjacent : Bool)

@@ -3,21 +3,18 @@ use Rattle.std.proofs.Common.{◌≡◌, ℕ, ◌<◌, Bool, true, false, not, �
 use Rattle.std.proofs.Common.{IfOk, refl, subst, ap, arith, true≢false, nat_lt}
 use Rattle.std.proofs.lemmas.Bool.Decides.{nat_tests}
 use mathlib.Core.Path.{fun_ext}
-use Rattle.bpaf_line.specs.declared.failure.ParseFailure.{ParseFailure}
 use Rattle.bpaf_doc.specs.Shape.{Shape}
 use Rattle.bpaf_keys.specs.Info.{RunInfo}
-use Rattle.bpaf_words.specs.Spelling.{Known}
-use Rattle.bpaf_line.specs.Constructing.{IsContext}
-use Rattle.bpaf_words.specs.Arguments.{Given}
+use Rattle.bpaf_words.specs.{Spelling.Known, Arguments.Given}
 use Rattle.bpaf_line.specs.Situation.{Situation, Context, beginning, is_taken, is_open, in_scope}
 use Rattle.bpaf_line.specs.Situation.{is_marker, is_dealt_place, open_count}
+use Rattle.bpaf_line.specs.{declared.failure.ParseFailure.ParseFailure, Constructing.IsContext}
 use Rattle.bpaf_line.proofs.Beginning.{taken_at_beginning}
 use Rattle.bpaf_laws.specs.Reading.{Readings, Outcome, Share}
 use Rattle.bpaf_laws.specs.Laws.{Lawful, Keeps, Closes, newly}
 use Rattle.bpaf_laws.proofs.CountingLaws.{none_below}
-use Rattle.bpaf_core.specs.Ending.{EndsRun}
 use Rattle.bpaf_core.specs.Run.{Runs, RunsWords, value, ran}
-use Rattle.bpaf_core.specs.Dealt.{IsDealtOut}
+use Rattle.bpaf_core.specs.{Ending.EndsRun, Dealt.IsDealtOut}
 
 -- at one place: newly taken is the same as dealt, where each dealt place is taken
 dealt_at : (taken before dealt : Bool) → before ≡ not dealt → (dealt ≡ true → taken ≡ true)

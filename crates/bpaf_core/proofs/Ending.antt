@@ -1,19 +1,14 @@
 -- How the end of a run that has no value is put together.
-use Rattle.std.proofs.Common.{◌≡◌, true, false, not, ◌&&◌, Bool}
-use Rattle.std.proofs.Common.{subst, sym, ◌∙◌, ap}
-use Rattle.std.proofs.Common.{refl}
+use Rattle.std.proofs.Common.{◌≡◌, true, false, not, ◌&&◌, Bool, subst, sym, ◌∙◌, ap, refl}
 use Rattle.bpaf_doc.specs.Shape.{Shape}
-use Rattle.bpaf_line.specs.declared.error.Message.{Message}
-use Rattle.bpaf_line.specs.declared.error.Message.TheVariants as message
 use Rattle.bpaf_line.specs.declared.failure.ParseFailure.{ParseFailure}
-use Rattle.bpaf_line.specs.declared.failure.ParseFailure.TheVariants as failure
-use Rattle.bpaf_line.specs.Messages.{is_memory}
-use Rattle.bpaf_line.specs.Situation.{Situation}
-use Rattle.bpaf_core.specs.Ending.{EndsRefused, PassesOrTells, ShowsHelp, Tells}
-use Rattle.bpaf_core.specs.Ending.{is_shown}
-use Rattle.bpaf_line.specs.Messages.{is_answer}
-use Rattle.bpaf_core.specs.Ending.{memory, passed_on, refused, usage}
+use Rattle.bpaf_line.specs.Messages.{is_memory, is_answer}
+use Rattle.bpaf_line.specs.{declared.error.Message.Message, Situation.Situation}
+use Rattle.bpaf_core.specs.Ending.{EndsRefused, PassesOrTells, ShowsHelp, Tells, is_shown, memory}
+use Rattle.bpaf_core.specs.Ending.{passed_on, refused, usage}
 use Rattle.bpaf_keys.specs.Info.{RunInfo}
+use Rattle.bpaf_line.specs.declared.error.Message.TheVariants as message
+use Rattle.bpaf_line.specs.declared.failure.ParseFailure.TheVariants as failure
 
 module _ (describes : Shape → Type 0) (info : RunInfo) (t : Situation) where
   -- want of memory ends the run

@@ -4,17 +4,14 @@ use Rattle.std.specs.Prelude.{◌≡◌, ℕ, Bool, true, false, Ok}
 use Rattle.std.proofs.Common.{sym, true≢false}
 use Rattle.bpaf_doc.specs.Shape.{Part}
 use Rattle.bpaf_line.specs.Situation.{Situation, with_scope}
-use Rattle.bpaf_laws.specs.Command.{Called, LeavesNothing, inside}
-use Rattle.bpaf_laws.specs.Laws.{Lawful, newly}
-use Rattle.bpaf_laws.specs.OneStretch.{IsStretch}
-use Rattle.bpaf_laws.specs.Reading.{Outcome, Readings}
+use Rattle.bpaf_laws.specs.{Command.Called, Command.LeavesNothing, Command.inside, Laws.Lawful}
+use Rattle.bpaf_laws.specs.{Laws.newly, OneStretch.IsStretch, Reading.Outcome, Reading.Readings}
 use Rattle.bpaf_laws.proofs.CommandLaws.{leaves_nothing}
 use Rattle.bpaf_core.specs.Adjacent.{Attempts, EitherCommandOutcome}
 use Rattle.bpaf_core.specs.AdjacentLaws.{attempts_counted, either_lawful}
 use Rattle.bpaf_core.specs.Command.{CommandOutcome, value}
 use Rattle.bpaf_core.specs.CommandLaws.{command_lawful, run_empty, runs_keeps}
-use Rattle.bpaf_core.specs.Ending.{Ending}
-use Rattle.bpaf_core.specs.EndingLaws.{LawfulEnding}
+use Rattle.bpaf_core.specs.{Ending.Ending, EndingLaws.LawfulEnding}
 
 module _ {T : Type 0} {inner : Outcome T} {ending : Ending} {reads : Readings T}
     (law : Lawful T inner reads)

@@ -2,31 +2,23 @@
 use Rattle.std.proofs.Common.{◌≡◌, true, false, Some, None, Result, Ok, Err, refl, subst, sym}
 use Rattle.std.specs.Result.{IfErr}
 use Rattle.bpaf_doc.specs.Shape.{Shape}
-use Rattle.bpaf_line.specs.declared.error.Error.{Error}
-use Rattle.bpaf_line.specs.declared.error.Message.{Message}
-use Rattle.bpaf_line.specs.declared.failure.ParseFailure.{ParseFailure}
-use Rattle.bpaf_line.specs.declared.failure.ParseFailure.TheVariants as failure
-use Rattle.bpaf_line.specs.Rendering.{Renders}
-use Rattle.bpaf_line.specs.Messages.{is_answer}
-use Rattle.bpaf_line.specs.Situation.{Situation, beginning}
+use Rattle.bpaf_line.specs.{declared.error.Error.Error, declared.error.Message.Message}
+use Rattle.bpaf_line.specs.{declared.failure.ParseFailure.ParseFailure, Rendering.Renders}
+use Rattle.bpaf_line.specs.{Messages.is_answer, Situation.Situation, Situation.beginning}
 use Rattle.bpaf_laws.proofs.NamesAnswer.{name_of, shows_nothing}
-use Rattle.bpaf_laws.specs.Laws.{Lawful}
-use Rattle.bpaf_laws.specs.Reading.{Outcome, Readings}
-use Rattle.bpaf_laws.specs.RefusalNames as names
 use Rattle.bpaf_laws.specs.RefusalNames.{NamesAnswer, Refusal, refusal_of}
-use Rattle.bpaf_words.specs.Arguments.{Given}
-use Rattle.bpaf_words.specs.Spelling.{Known}
-use Rattle.bpaf_keys.specs.declared.info.ExtraParams.{ExtraParams}
+use Rattle.bpaf_laws.specs.{Laws.Lawful, Reading.Outcome, Reading.Readings}
+use Rattle.bpaf_words.specs.{Arguments.Given, Spelling.Known}
+use Rattle.bpaf_core.specs.Ending.{EndsRun, Shows, ShowsHelp, Tells, shows_usage}
+use Rattle.bpaf_keys.specs.{declared.info.ExtraParams.ExtraParams, Extra.ExtraOutcome, Info.RunInfo}
+use Rattle.bpaf_core.specs.Refusals.{IsNamed, IsOneOfTwelve, IsToldOf}
+use Rattle.bpaf_core.specs.{EndingLaws.leftover_is_told, Run.Runs, Run.RunsWords}
+use Rattle.bpaf_line.specs.declared.failure.ParseFailure.TheVariants as failure
+use Rattle.bpaf_laws.specs.RefusalNames as names
 use Rattle.bpaf_keys.specs.declared.info.ExtraParams.TheVariants as extra
 use Rattle.bpaf_core.specs.Ending as ending
-use Rattle.bpaf_core.specs.Ending.{EndsRun, Shows, ShowsHelp, Tells, shows_usage}
-use Rattle.bpaf_core.specs.EndingLaws.{leftover_is_told}
-use Rattle.bpaf_keys.specs.Extra.{ExtraOutcome}
-use Rattle.bpaf_keys.specs.Info.{RunInfo}
-use Rattle.bpaf_core.specs.Refusals.{IsNamed, IsOneOfTwelve, IsToldOf}
 use Rattle.bpaf_core.specs.Refusals as name
 use Rattle.bpaf_core.specs.Run as run
-use Rattle.bpaf_core.specs.Run.{Runs, RunsWords}
 
 module _ {T : Type 0} (inner : Outcome T) (describes : Shape → Type 0) (info : RunInfo) where
   module _ (s : Situation) where

@@ -2,12 +2,9 @@
 use Rattle.std.specs.Prelude.{Result}
 use Rattle.std.proofs.Common.{true≢false}
 use Rattle.bpaf_doc.specs.Shape.{Shape}
-use Rattle.bpaf_line.specs.declared.failure.ParseFailure.{ParseFailure}
-use Rattle.bpaf_line.specs.Situation.{beginning}
-use Rattle.bpaf_words.specs.Arguments.{Given}
-use Rattle.bpaf_words.specs.Spelling.{Known}
-use Rattle.bpaf_laws.specs.Reading.{Outcome}
-use Rattle.bpaf_laws.specs.Spared.{WithoutMemory}
+use Rattle.bpaf_line.specs.{declared.failure.ParseFailure.ParseFailure, Situation.beginning}
+use Rattle.bpaf_words.specs.{Arguments.Given, Spelling.Known}
+use Rattle.bpaf_laws.specs.{Reading.Outcome, Spared.WithoutMemory}
 use Rattle.bpaf_keys.specs.Info.{RunInfo}
 use Rattle.bpaf_core.specs.EndingLaws.{run_ending}
 use Rattle.bpaf_core.specs.Run.{IsNotWant, RunsWords, ran, no_line, no_memory}

@@ -1,31 +1,22 @@
 -- How the answers of a run are put together.
-use Rattle.std.proofs.Common.{◌≡◌, ◌==◌, ℕ, Bool, true, List, []}
-use Rattle.std.proofs.Common.{ap, Result, Ok, Err, ⊎_elim, subst}
-use Rattle.std.proofs.Common.{sym, refl, IsErrAnd}
+use Rattle.std.proofs.Common.{◌≡◌, ◌==◌, ℕ, Bool, true, List, [], ap, Result, Ok, Err, ⊎_elim}
+use Rattle.std.proofs.Common.{subst, sym, refl, IsErrAnd, arith}
 use Rattle.std.specs.Result.{IfErr}
 use Rattle.std.proofs.lemmas.Bool.Decides.{nat_tests}
-use Rattle.std.proofs.Common.{arith}
-use Rattle.bpaf_line.specs.declared.error.Message.{Message}
 use Rattle.bpaf_line.specs.declared.error.Message.TheVariants.{Memory, Ambiguity}
 use Rattle.bpaf_line.specs.declared.failure.ParseFailure.{ParseFailure}
-use Rattle.bpaf_line.specs.declared.failure.ParseFailure.TheVariants as failure
 use Rattle.bpaf_line.specs.Situation.{Situation, Context, beginning}
-use Rattle.bpaf_laws.specs.Reading.{Outcome}
-use Rattle.bpaf_doc.specs.Shape.{Shape}
 use Rattle.bpaf_keys.specs.Info.{RunInfo}
-use Rattle.bpaf_core.specs.Known.{known_names, Starts}
-use Rattle.bpaf_doc.specs.Walks.{parts}
-use Rattle.bpaf_laws.specs.ShownNames.{ShowsNames, shorts_of}
-use Rattle.bpaf_words.specs.Arguments.{Given}
-use Rattle.bpaf_words.specs.Line.{IsLine}
+use Rattle.bpaf_doc.specs.{Shape.Shape, Walks.parts}
+use Rattle.bpaf_laws.specs.{Reading.Outcome, ShownNames.ShowsNames, ShownNames.shorts_of}
 use Rattle.bpaf_words.specs.Spelling.{Known, ShortNames, known_at}
-use Rattle.bpaf_words.specs.Splitting.{ReadsLine}
-use Rattle.bpaf_words.specs.declared.line.Line.{Line}
-use Rattle.bpaf_words.specs.declared.line.LineFault.{LineFault}
-use Rattle.bpaf_line.specs.Rendering.{Renders}
-use Rattle.bpaf_core.specs.Ending.{EndsRun, TellsNoLine}
+use Rattle.bpaf_words.specs.{Arguments.Given, Line.IsLine, Splitting.ReadsLine}
+use Rattle.bpaf_words.specs.{declared.line.Line.Line, declared.line.LineFault.LineFault}
+use Rattle.bpaf_line.specs.{declared.error.Message.Message, Rendering.Renders}
 use Rattle.bpaf_core.specs.Run.{Runs, RunsWords, ran, no_line, no_memory}
 use Rattle.bpaf_core.specs.Refusals.{IsOneOfTwelve, without_memory}
+use Rattle.bpaf_core.specs.{Known.known_names, Known.Starts, Ending.EndsRun, Ending.TellsNoLine}
+use Rattle.bpaf_line.specs.declared.failure.ParseFailure.TheVariants as failure
 
 -- a count that was tested for nothing
 pub nothing_left : (n : ℕ) (empty : Bool) → empty ≡ (n == 0) → empty ≡ true → n ≡ 0

@@ -1,8 +1,7 @@
 -- What a parser with a default shows.
 use Rattle.std.proofs.Common.{◌≡◌, List, Option, Some, None, sym, subst, Result, Ok, Err, IfOk}
-use Rattle.bpaf_doc.specs.declared.doc.Piece.{Piece}
-use Rattle.bpaf_doc.specs.declared.meta.Meta.{Meta}
 use Rattle.bpaf_doc.specs.Shape.{Shape, shape_of}
+use Rattle.bpaf_doc.specs.{declared.doc.Piece.Piece, declared.meta.Meta.Meta}
 use Rattle.bpaf_laws.specs.Default.{DefaultDescribes}
 
 -- what is shown of one shape is shown of a parser that may show it

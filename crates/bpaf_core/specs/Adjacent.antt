@@ -2,23 +2,20 @@
 -- gap.
 use Rattle.std.specs.Prelude.{◌≡◌, ◌⊎◌, ℕ, ◌+◌, Bool, true, false, List, None, Result, Ok, Err}
 use Rattle.bpaf_doc.specs.Shape.{Part, Shape}
-use Rattle.bpaf_line.specs.declared.error.Error.{Error}
-use Rattle.bpaf_line.specs.declared.error.Message.TheVariants as message
 use Rattle.bpaf_line.specs.declared.failure.ParseFailure.{ParseFailure}
-use Rattle.bpaf_line.specs.declared.failure.ParseFailure.TheVariants as failure
-use Rattle.bpaf_line.specs.Stretches.{IsStretchFrom}
 use Rattle.bpaf_line.specs.Situation.{Situation, with_current, with_scope}
+use Rattle.bpaf_line.specs.{declared.error.Error.Error, Stretches.IsStretchFrom}
 use Rattle.bpaf_laws.specs.AdjacentCommand.{AllTaken, IsFirstLeft}
 use Rattle.bpaf_laws.specs.Command.{Called, CommandPart, CommandReads, IsNotOpened, IsOpenedAt}
 use Rattle.bpaf_laws.specs.Command.{inside, opened, opening_words}
-use Rattle.bpaf_laws.specs.OneStretch.{StretchReads}
-use Rattle.bpaf_laws.specs.Reading.{Outcome, Readings}
+use Rattle.bpaf_laws.specs.{OneStretch.StretchReads, Reading.Outcome, Reading.Readings}
 use Rattle.bpaf_core.specs.Command.{CommandOutcome, IsMissingPart}
 use Rattle.bpaf_parts.specs.Failures.{end_message}
+use Rattle.bpaf_line.specs.declared.error.Message.TheVariants as message
+use Rattle.bpaf_line.specs.declared.failure.ParseFailure.TheVariants as failure
 pub use Rattle.bpaf_parts.specs.Failures.{IsTold, GivesBack}
-use Rattle.bpaf_core.specs.Ending.{Ending, EndsRun}
-use Rattle.bpaf_core.specs.Run.{Runs}
 use Rattle.bpaf_core.specs.declared.commands.ParseCommand.{ParseCommand}
+use Rattle.bpaf_core.specs.{Ending.Ending, Ending.EndsRun, Run.Runs}
 
 -- an attempt: a run over the places from one up to another
 abbrev pub Attempt : (T : Type 0) → Outcome T → Ending → Situation → ℕ → ℕ → Result T ParseFailure

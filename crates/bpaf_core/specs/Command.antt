@@ -1,18 +1,15 @@
 -- What a command answers.
 use Rattle.std.specs.Prelude.{◌≡◌, ◌⊎◌, ℕ, List, Some, None, Result, Ok, Err}
 use Rattle.bpaf_doc.specs.Shape.{Part}
-use Rattle.bpaf_line.specs.declared.error.Error.{Error}
-use Rattle.bpaf_line.specs.declared.error.Message.{Message}
-use Rattle.bpaf_line.specs.declared.error.Message.TheVariants as message
 use Rattle.bpaf_line.specs.declared.failure.ParseFailure.{ParseFailure}
-use Rattle.bpaf_line.specs.declared.missing.MissingItem.{MissingItem}
-use Rattle.bpaf_line.specs.MissingIn.{IsMissingIn}
 use Rattle.bpaf_line.specs.Situation.{Situation, with_current}
+use Rattle.bpaf_line.specs.{declared.error.Error.Error, declared.error.Message.Message}
+use Rattle.bpaf_line.specs.{declared.missing.MissingItem.MissingItem, MissingIn.IsMissingIn}
 use Rattle.bpaf_laws.specs.Reading.{Outcome}
 use Rattle.bpaf_laws.specs.Command.{Called, IsNotOpened, IsOpenedAt, inside, opened, opening_words}
 use Rattle.bpaf_parts.specs.Failures.{end_message}
-use Rattle.bpaf_core.specs.Ending.{Ending}
-use Rattle.bpaf_core.specs.Run.{Runs}
+use Rattle.bpaf_core.specs.{Ending.Ending, Run.Runs}
+use Rattle.bpaf_line.specs.declared.error.Message.TheVariants as message
 
 -- a part that the command may show is missing; or memory for that is wanted
 abbrev pub IsMissingPart : (Part → Type 0) → Situation → Message → Type 0

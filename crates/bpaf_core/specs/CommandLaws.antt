@@ -1,27 +1,22 @@
 -- Commands keep to the laws where their inner parsers do.
 use Rattle.std.specs.Prelude.{◌≡◌, Some, None, Result, Ok, Err, refl}
 use Rattle.bpaf_doc.specs.Shape.{Part}
-use Rattle.bpaf_line.specs.declared.error.Error.{Error}
-use Rattle.bpaf_line.specs.declared.error.Message.{Message}
 use Rattle.bpaf_line.specs.declared.error.Message.TheVariants.{Memory, Missing}
-use Rattle.bpaf_line.specs.declared.failure.ParseFailure.TheVariants as failure
 use Rattle.bpaf_line.specs.declared.failure.ParseFailure.{ParseFailure}
 use Rattle.bpaf_line.specs.Situation.{Situation, open_count, with_current}
-use Rattle.bpaf_laws.specs.Reading.{Outcome, Readings}
-use Rattle.bpaf_laws.specs.Laws.{Keeps, Lawful, Reads}
+use Rattle.bpaf_line.specs.{declared.error.Error.Error, declared.error.Message.Message}
 use Rattle.bpaf_laws.specs.Command.{Called, CommandReads, inside, opening_words}
 use Rattle.bpaf_laws.proofs.CommandLaws.{inside_read, keeps_inside, keeps_opened}
-use Rattle.bpaf_laws.proofs.Keeping.{keeps_trans, keeps_unset}
-use Rattle.bpaf_laws.proofs.NamesAnswer.{names_same}
+use Rattle.bpaf_laws.proofs.{Keeping.keeps_trans, Keeping.keeps_unset, NamesAnswer.names_same}
 use Rattle.bpaf_laws.specs.RefusalNames.{HasSomeName, NamesAnswer}
+use Rattle.bpaf_laws.specs.{Reading.Outcome, Reading.Readings, Laws.Keeps, Laws.Lawful, Laws.Reads}
 use Rattle.std.proofs.Common.{⊎_elim}
-use Rattle.bpaf_core.specs.Ending.{Ending}
-use Rattle.bpaf_core.specs.EndingLaws.{LawfulEnding}
 use Rattle.bpaf_core.specs.Run.{Runs, leftover, refused}
-use Rattle.bpaf_core.specs.Run.{value as run_value}
-use Rattle.bpaf_core.specs.Command.{CommandOutcome, IsMissingPart, ended, missing, no_memory}
-use Rattle.bpaf_core.specs.Command.{value}
+use Rattle.bpaf_core.specs.Command.{CommandOutcome, IsMissingPart, ended, missing, no_memory, value}
+use Rattle.bpaf_core.specs.{Ending.Ending, EndingLaws.LawfulEnding}
 use Rattle.bpaf_parts.specs.Failures.{end_message}
+use Rattle.bpaf_line.specs.declared.failure.ParseFailure.TheVariants as failure
+use Rattle.bpaf_core.specs.Run.{value as run_value}
 
 -- after a value of a run nothing is present
 pub run_empty : {T : Type 0} {inner : Outcome T} {ending : Ending} (s : Situation) (v : T)

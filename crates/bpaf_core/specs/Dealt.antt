@@ -1,8 +1,6 @@
 -- A value that is dealt out of words.
-use Rattle.bpaf_words.specs.Arguments.{Given}
-use Rattle.bpaf_words.specs.Spelling.{Known}
-use Rattle.bpaf_line.specs.Constructing.{IsContext}
-use Rattle.bpaf_line.specs.Situation.{Context, is_dealt_place}
+use Rattle.bpaf_words.specs.{Arguments.Given, Spelling.Known}
+use Rattle.bpaf_line.specs.{Constructing.IsContext, Situation.Context, Situation.is_dealt_place}
 use Rattle.bpaf_laws.specs.Reading.{Readings}
 
 -- v is read off all places of the words' line but that of the marker; the line is that by these

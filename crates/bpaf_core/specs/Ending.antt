@@ -1,23 +1,18 @@
 -- How a run ends that has no value.
-use Rattle.std.specs.Prelude.{◌≡◌, ◌==◌, Bool, true, false, not, ◌&&◌, List, Option}
-use Rattle.std.specs.Prelude.{Some}
-use Rattle.std.specs.Prelude.{None, Ok, Err, ⊤}
-use Rattle.bpaf_doc.specs.declared.doc.Piece.{Piece}
+use Rattle.std.specs.Prelude.{◌≡◌, ◌==◌, Bool, true, false, not, ◌&&◌, List, Option, Some, None, Ok}
+use Rattle.std.specs.Prelude.{Err, ⊤}
 use Rattle.bpaf_pages.specs.Help.{help_text}
-use Rattle.bpaf_doc.specs.Prints.{Prints}
-use Rattle.bpaf_doc.specs.Shape.{Shape}
-use Rattle.bpaf_line.specs.declared.error.Error.{Error}
-use Rattle.bpaf_line.specs.declared.error.Message.{Message}
-use Rattle.bpaf_line.specs.declared.error.Message.TheVariants as message
+use Rattle.bpaf_doc.specs.{declared.doc.Piece.Piece, Prints.Prints, Shape.Shape}
 use Rattle.bpaf_line.specs.declared.failure.ParseFailure.{ParseFailure}
-use Rattle.bpaf_line.specs.declared.failure.ParseFailure.TheVariants as failure
 use Rattle.bpaf_messages.specs.Leftover.{IsLeftover}
-use Rattle.bpaf_line.specs.Messages.{is_answer, is_memory}
-use Rattle.bpaf_line.specs.Rendering.{Renders}
 use Rattle.bpaf_line.specs.Situation.{Situation, open_count}
+use Rattle.bpaf_line.specs.{declared.error.Error.Error, declared.error.Message.Message}
+use Rattle.bpaf_line.specs.{Messages.is_answer, Messages.is_memory, Rendering.Renders}
 use Rattle.bpaf_keys.specs.declared.info.ExtraParams.{ExtraParams}
-use Rattle.bpaf_keys.specs.declared.info.ExtraParams.TheVariants as extra
 use Rattle.bpaf_keys.specs.Extra.{ExtraOutcome, extra_shape}
+use Rattle.bpaf_line.specs.declared.error.Message.TheVariants as message
+use Rattle.bpaf_line.specs.declared.failure.ParseFailure.TheVariants as failure
+use Rattle.bpaf_keys.specs.declared.info.ExtraParams.TheVariants as extra
 pub use Rattle.bpaf_messages.specs.Faults.{TellsNoLine}
 pub use Rattle.bpaf_parts.specs.Failures.{is_shown}
 use Rattle.bpaf_keys.specs.Info.{RunInfo, page_texts}

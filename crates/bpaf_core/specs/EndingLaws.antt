@@ -2,28 +2,23 @@
 use Rattle.std.specs.Prelude.{◌≡◌, false, IfSome, Option, Some, refl}
 use Rattle.std.proofs.Common.{true≢false}
 use Rattle.bpaf_doc.specs.Shape.{Shape}
-use Rattle.bpaf_line.specs.declared.error.Message.{Message}
 use Rattle.bpaf_line.specs.declared.failure.ParseFailure.{ParseFailure}
-use Rattle.bpaf_line.specs.declared.failure.ParseFailure.TheVariants as failure
-use Rattle.bpaf_messages.specs.Leftover as left
 use Rattle.bpaf_messages.specs.Leftover.{IsLeftover}
 use Rattle.bpaf_line.specs.Messages.{is_answer, is_memory}
-use Rattle.bpaf_line.specs.Situation.{Situation}
-use Rattle.bpaf_laws.specs.Laws.{Keeps}
-use Rattle.bpaf_laws.proofs.Keeping.{keeps_refl}
-use Rattle.bpaf_laws.proofs.NamesAnswer.{told_has_name}
+use Rattle.bpaf_line.specs.{declared.error.Message.Message, Situation.Situation}
+use Rattle.bpaf_laws.proofs.{Keeping.keeps_refl, NamesAnswer.told_has_name}
 use Rattle.bpaf_laws.specs.RefusalNames.{HasSomeName, NamesAnswer, help, help_or_version, no_memory}
-use Rattle.bpaf_laws.specs.RefusalNames.{version}
-use Rattle.bpaf_laws.specs.RefusalNames as name
+use Rattle.bpaf_laws.specs.{Laws.Keeps, RefusalNames.version}
 use Rattle.bpaf_parts.specs.Failures.{end_message}
 use Rattle.bpaf_core.specs.Ending.{Ending, EndsRun, Shows, Tells, leftover, memory, passed_on}
-use Rattle.bpaf_core.specs.Ending.{refused}
-use Rattle.bpaf_core.specs.Ending.{shown, told, usage, wanting}
+use Rattle.bpaf_core.specs.Ending.{refused, shown, told, usage, wanting}
 use Rattle.bpaf_keys.proofs.ExtraLaws.{extra_lawful}
 use Rattle.bpaf_keys.specs.declared.info.ExtraParams.{ExtraParams}
+use Rattle.bpaf_keys.specs.{Extra.extra_shape, Info.RunInfo, Info.page_texts}
+use Rattle.bpaf_line.specs.declared.failure.ParseFailure.TheVariants as failure
+use Rattle.bpaf_messages.specs.Leftover as left
+use Rattle.bpaf_laws.specs.RefusalNames as name
 use Rattle.bpaf_keys.specs.declared.info.ExtraParams.TheVariants as extra
-use Rattle.bpaf_keys.specs.Extra.{extra_shape}
-use Rattle.bpaf_keys.specs.Info.{RunInfo, page_texts}
 
 -- an ending keeps what each evaluation keeps, tells want of memory as nothing else, and has one of
 -- the twelve names where an answer that it hands on has

@@ -1,13 +1,9 @@
 -- How a run over words starts, and the order of what is shown.
 use Rattle.std.specs.Prelude.{◌≡◌, Bool, false, Result, Ok, Err, ⊤}
-use Rattle.bpaf_doc.specs.Order.{in_order}
-use Rattle.bpaf_doc.specs.Shape.{Shape}
-use Rattle.bpaf_words.specs.Arguments.{Given}
-use Rattle.bpaf_words.specs.Line.{HasNoLine}
-use Rattle.bpaf_words.specs.Spelling.{Known}
-use Rattle.bpaf_line.specs.Constructing.{IsContext}
+use Rattle.bpaf_doc.specs.{Order.in_order, Shape.Shape}
+use Rattle.bpaf_words.specs.{Arguments.Given, Line.HasNoLine, Spelling.Known}
 use Rattle.bpaf_line.specs.Situation.{Situation, Context, beginning}
-use Rattle.bpaf_line.specs.declared.error.Message.{Message}
+use Rattle.bpaf_line.specs.{Constructing.IsContext, declared.error.Message.Message}
 use Rattle.bpaf_line.specs.declared.error.Message.TheVariants as message
 pub use Rattle.bpaf_keys.specs.KnownNames.{known_names}
 

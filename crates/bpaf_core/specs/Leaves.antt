@@ -1,14 +1,10 @@
 -- Want of memory of leaves: of a clone, and of a text that is read.
 use Rattle.std.specs.Prelude.{◌≡◌, false, ℕ, List, Option, None}
-use Rattle.bpaf_line.specs.declared.error.Error.{Error}
 use Rattle.bpaf_line.specs.declared.error.Message.TheVariants.{ParseFailed}
-use Rattle.bpaf_line.specs.Messages.{is_memory}
-use Rattle.bpaf_line.specs.Situation.{Situation}
+use Rattle.bpaf_line.specs.{declared.error.Error.Error, Messages.is_memory, Situation.Situation}
 use Rattle.bpaf_text.specs.Named.{KeyWithValue, Named}
-use Rattle.bpaf_laws.specs.Argument.{GetsText}
-use Rattle.bpaf_laws.specs.Flag.{IsFlagAbsent}
-use Rattle.bpaf_keys.specs.Extra.{IsNoVersion}
-use Rattle.bpaf_keys.specs.Info.{RunInfo}
+use Rattle.bpaf_laws.specs.{Argument.GetsText, Flag.IsFlagAbsent}
+use Rattle.bpaf_keys.specs.{Extra.IsNoVersion, Info.RunInfo}
 
 -- a refusal of a flag that isn't want of memory is of one that is absent and has no absent value:
 -- no clone was to be made

@@ -1,21 +1,16 @@
 -- What a run answers.
 use Rattle.std.specs.Prelude.{◌≡◌, ℕ, false, List, [], Result, Ok, Err, Some, None}
-use Rattle.bpaf_line.specs.declared.error.Error.{Error}
-use Rattle.bpaf_line.specs.declared.error.Message.TheVariants as message
-use Rattle.bpaf_line.specs.declared.failure.ParseFailure.{ParseFailure}
-use Rattle.bpaf_line.specs.declared.failure.ParseFailure.TheVariants as failure
-use Rattle.bpaf_line.specs.Messages.{is_memory}
-use Rattle.bpaf_words.specs.Arguments.{Given}
-use Rattle.bpaf_words.specs.Line.{HasNoLine}
-use Rattle.bpaf_words.specs.Spelling.{Known}
-use Rattle.bpaf_line.specs.Constructing.{IsContext}
-use Rattle.bpaf_line.specs.Rendering.{Renders}
+use Rattle.bpaf_words.specs.{Arguments.Given, Line.HasNoLine, Spelling.Known}
 use Rattle.bpaf_line.specs.Situation.{Situation, Context, beginning, open_count}
+use Rattle.bpaf_line.specs.{declared.error.Error.Error, declared.failure.ParseFailure.ParseFailure}
+use Rattle.bpaf_line.specs.{Messages.is_memory, Constructing.IsContext, Rendering.Renders}
 use Rattle.bpaf_doc.specs.Shape.{Shape}
 use Rattle.bpaf_core.specs.Ending.{Ending, EndsRun}
 use Rattle.bpaf_parts.specs.Failures.{end_message}
 use Rattle.bpaf_keys.specs.Info.{RunInfo}
 use Rattle.bpaf_laws.specs.Reading.{Outcome}
+use Rattle.bpaf_line.specs.declared.error.Message.TheVariants as message
+use Rattle.bpaf_line.specs.declared.failure.ParseFailure.TheVariants as failure
 
 -- a run's answer that isn't told as want of memory
 abbrev pub IsNotWant : {T : Type 0} → Result T ParseFailure → Type 0

@@ -1,6 +1,5 @@
 //! Commands: a word that opens a run of its own over the items after it.
-ghost use Rattle.std.specs.Prelude.{◌≡◌, IfOk, Some, List};
-ghost use Rattle.std.specs.Prelude.{true, false};
+ghost use Rattle.std.specs.Prelude.{◌≡◌, IfOk, Some, List, true, false};
 ghost use Rattle.bpaf_doc.specs.declared.doc.Piece.{Piece};
 ghost use Rattle.bpaf_doc.specs.Fold.{TextPieces};
 ghost use Rattle.bpaf_laws.specs.Command.{named_only, with_long_name, with_short_name};

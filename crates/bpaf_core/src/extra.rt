@@ -15,10 +15,9 @@ impl Parser<ExtraParams> for Info {
     ghost use Rattle.std.specs.Result.{IfErr};
     ghost use Rattle.bpaf_core.specs.Leaves.{AsksForNeither};
     ghost use Rattle.bpaf_keys.specs.Extra.{ExtraOutcome, ExtraReads, extra_shape};
-    ghost use Rattle.bpaf_keys.proofs.ExtraLaws.{extra_lawful};
+    ghost use Rattle.bpaf_keys.proofs.ExtraLaws.{extra_lawful, extra_shows};
     ghost use Rattle.bpaf_laws.specs.ShownNames.{of_flags};
     ghost use Rattle.std.specs.Option.{option_map_or};
-    ghost use Rattle.bpaf_keys.proofs.ExtraLaws.{extra_shows};
 
     ghost can_eval = { λ info. Unit {0} };
 

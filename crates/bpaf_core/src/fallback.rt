@@ -1,8 +1,7 @@
 //! A value that stands in where a parser gives none.
 ghost use Rattle.std.specs.Prelude.{◌≡◌, IfOk};
 ghost use Rattle.std.specs.Fn.{FnReturnsAt};
-ghost use Rattle.bpaf_laws.specs.Default.{AttemptOutcome, ShowsAnswer};
-ghost use Rattle.bpaf_laws.specs.Default.{ShowsDefault};
+ghost use Rattle.bpaf_laws.specs.Default.{AttemptOutcome, ShowsAnswer, ShowsDefault};
 ghost use Rattle.bpaf_laws.specs.Default.{ShowsFormatted};
 
 use crate::parser::Parser;
@@ -105,8 +104,7 @@ impl<T: Drop, P: Drop> ParseFallback<P, T> {
 impl<T: Clone, P: Parser<T>> Parser<T> for ParseFallback<P, T> {
     ghost use Rattle.bpaf_laws.specs.Choice.{ChoiceReads};
     ghost use Rattle.bpaf_laws.specs.Pure.{PureReads};
-    ghost use Rattle.bpaf_laws.specs.Default.{FallbackOutcome, GivesClone};
-    ghost use Rattle.bpaf_laws.specs.Default.{DefaultDescribes};
+    ghost use Rattle.bpaf_laws.specs.Default.{FallbackOutcome, GivesClone, DefaultDescribes};
     ghost use Rattle.bpaf_laws.proofs.DefaultLaws.{fallback_lawful};
     ghost use Rattle.bpaf_laws.proofs.NamesAnswer.{names_want};
     ghost use Rattle.bpaf_laws.specs.Spared.{IsNotMemory, WithoutMemory, DefaultTakesNothing};
@@ -263,8 +261,7 @@ impl<T, E: Display + Drop, P: Parser<T>, F: Fn() -> Result<T, E>> Parser<T>
     ghost use Rattle.std.specs.Prelude.{Ok};
     ghost use Rattle.bpaf_laws.specs.Choice.{ChoiceReads};
     ghost use Rattle.bpaf_laws.specs.Pure.{PureReads};
-    ghost use Rattle.bpaf_laws.specs.Default.{FallbackOutcome, GivesAnswer};
-    ghost use Rattle.bpaf_laws.specs.Default.{DefaultDescribes};
+    ghost use Rattle.bpaf_laws.specs.Default.{FallbackOutcome, GivesAnswer, DefaultDescribes};
     ghost use Rattle.bpaf_laws.proofs.DefaultLaws.{fallback_lawful, names_answer};
     ghost use Rattle.bpaf_laws.specs.Spared.{IsNotMemory, WithoutMemory, DefaultTakesNothing};
     ghost use Rattle.bpaf_laws.proofs.ShownNames.{default_shows};

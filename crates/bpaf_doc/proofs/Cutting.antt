@@ -2,15 +2,12 @@
 use Rattle.std.proofs.Common.{◌≡◌, ℕ, suc, ◌<◌, ◌≤◌, Bool, true, false, not, ◌&&◌, ◌||◌, ◌==◌, List}
 use Rattle.std.proofs.Common.{[], ◌∷◌, ◌++◌, length, drop, if◌then◌else◌, refl, ap, sym, ◌∙◌, arith}
 use Rattle.std.proofs.Common.{append-nil, subst, Some, None, option_map}
-use Rattle.std.proofs.lemmas.Bool.Decides.{nat_tests}
-use Rattle.std.proofs.lemmas.List.Concat.{flat_map-append}
 use Rattle.std.proofs.lemmas.List.Elements.{filter-append}
-use Rattle.std.specs.Prelude.{filter, flat_map}
-use Rattle.std.specs.Str.Pattern.{LacksTextAt}
-use Rattle.bpaf_doc.specs.declared.doc.Piece.{Piece}
-use Rattle.bpaf_doc.specs.Print.{printed}
+use Rattle.std.proofs.{lemmas.Bool.Decides.nat_tests, lemmas.List.Concat.flat_map-append}
+use Rattle.std.specs.{Prelude.filter, Prelude.flat_map, Str.Pattern.LacksTextAt}
 use Rattle.bpaf_doc.specs.Fold.{folded, empty_line, begins_with_empty_line, cut_at_empty_line}
 use Rattle.bpaf_doc.specs.Fold.{folded_parts, folded_whole, TextPieces, whole, cut}
+use Rattle.bpaf_doc.specs.{declared.doc.Piece.Piece, Print.printed}
 
 -- where no empty line stands first, the test says so
 lacks_first :

@@ -1,9 +1,7 @@
 -- Documents that print nothing.
 use Rattle.std.proofs.Common.{◌≡◌, ℕ, suc, ◌<◌, true, false, ◌==◌, List, [], ◌∷◌, ◌++◌, ap, sym}
 use Rattle.std.proofs.Common.{◌∙◌, drop, length, get_or, drop-cons, subst, refl}
-use Rattle.bpaf_doc.specs.declared.doc.Piece.{Piece}
-use Rattle.bpaf_doc.specs.Print.{printed}
-use Rattle.bpaf_doc.specs.Prints.{is_nil}
+use Rattle.bpaf_doc.specs.{declared.doc.Piece.Piece, Print.printed, Prints.is_nil}
 
 -- a text before another is not empty where it isn't
 not_nil : (text rest : List ℕ) → (length text == 0) ≡ false → is_nil (text ++ rest) ≡ false

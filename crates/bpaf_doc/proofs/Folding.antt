@@ -4,12 +4,11 @@ use Rattle.std.proofs.Common.{List, [], ◌∷◌, ◌++◌, length, slice_index
 use Rattle.std.proofs.Common.{ap, sym, ◌∙◌, arith, append_assoc, subst}
 use Rattle.std.proofs.lemmas.Bool.Decides.{nat_tests}
 use Rattle.std.specs.Str.Pattern.{LacksTextAt}
-use Rattle.bpaf_doc.specs.declared.doc.Piece.{Piece}
-use Rattle.bpaf_doc.specs.declared.doc.Style.TheVariants as style
-use Rattle.bpaf_doc.specs.Print.{shown_as}
 use Rattle.bpaf_doc.specs.Fold.{folded, folded_after, keeps_break, break_or_space, break_between}
 use Rattle.bpaf_doc.specs.Fold.{HasNoBreak, empty_line, detail, whole_pieces, cut_pieces}
 use Rattle.bpaf_doc.specs.Fold.{TextPieces, whole, cut}
+use Rattle.bpaf_doc.specs.{declared.doc.Piece.Piece, Print.shown_as}
+use Rattle.bpaf_doc.specs.declared.doc.Style.TheVariants as style
 
 -- one character, where it is known whether it is a line break
 folded_character :

@@ -3,9 +3,8 @@ use Rattle.std.proofs.Common.{◌≡◌, ℕ, suc, ◌+◌, ◌<◌, List, ◌�
 use Rattle.std.proofs.Common.{drop, length, get_or, drop-cons, add-one}
 use Rattle.std.specs.List.{flat_map}
 use Rattle.std.proofs.lemmas.Grind.{flat_map-append}
-use Rattle.bpaf_doc.specs.declared.meta.Meta.{Meta}
 use Rattle.bpaf_doc.specs.Shape.{Part, shape_of, members_of}
-use Rattle.bpaf_doc.specs.Walks.{parts, parts_of_all}
+use Rattle.bpaf_doc.specs.{declared.meta.Meta.Meta, Walks.parts, Walks.parts_of_all}
 
 -- one member more: what was gathered before it, and what it and those after it give
 pub gathered_step :

@@ -3,10 +3,9 @@ use Rattle.std.proofs.Common.{◌≡◌, List, [], ◌∷◌, Vec, map, refl, ap
 use Rattle.std.specs.declared.alloc.Global.{Global}
 use Rattle.bpaf_doc.specs.declared.item.Item.TheOpen.{Meta-F}
 use Rattle.bpaf_doc.specs.declared.item.Item.TheFolds.{fold-roll-Meta}
-use Rattle.bpaf_doc.specs.declared.meta.Meta.{Meta}
-use Rattle.bpaf_doc.specs.declared.meta.Meta as meta
 use Rattle.bpaf_doc.specs.Shape.{Shape, Part, Or, alternatives, members, part_layer, shape_layer}
-use Rattle.bpaf_doc.specs.Shape.{shape_of, shapes_of}
+use Rattle.bpaf_doc.specs.{declared.meta.Meta.Meta, Shape.shape_of, Shape.shapes_of}
+use Rattle.bpaf_doc.specs.declared.meta.Meta as meta
 
 -- the members that a list makes are those of the list
 shapes_of_members : (shapes : List Shape) → shapes_of (members shapes) ≡ shapes

@@ -1,11 +1,9 @@
 -- Texts with their line breaks folded.
 use Rattle.std.specs.Prelude.{◌≡◌, ◌≢◌, ℕ, ◌<◌, ◌≤◌, Bool, true, false, not, ◌&&◌, ◌||◌, ◌==◌, List}
-use Rattle.std.specs.Prelude.{[], ◌∷◌, ◌++◌, length, slice_index, if◌then◌else◌, drop}
-use Rattle.std.specs.Prelude.{Option, Some, None, option_map}
-use Rattle.std.specs.Str.Pattern.{LacksTextAt}
-use Rattle.bpaf_doc.specs.declared.doc.Piece.{Piece}
+use Rattle.std.specs.Prelude.{[], ◌∷◌, ◌++◌, length, slice_index, if◌then◌else◌, drop, Option, Some}
+use Rattle.std.specs.{Prelude.None, Prelude.option_map, Str.Pattern.LacksTextAt}
+use Rattle.bpaf_doc.specs.{declared.doc.Piece.Piece, Print.shown_as, Print.line_break}
 use Rattle.bpaf_doc.specs.declared.doc.Style.TheVariants as style
-use Rattle.bpaf_doc.specs.Print.{shown_as, line_break}
 
 -- a space
 abbrev pub space : ℕ

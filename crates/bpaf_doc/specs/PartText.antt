@@ -1,8 +1,7 @@
 -- How an item is written inside messages and usage.
 use Rattle.std.specs.Prelude.{ℕ, List, ◌++◌, codes, encode_utf8, true}
-use Rattle.bpaf_doc.specs.Print.{printed}
-use Rattle.bpaf_doc.specs.Shape.{Name, Short, Long, Both, Part}
-use Rattle.bpaf_doc.specs.Shape.{Any, Positional, Command, Flag, Argument}
+use Rattle.bpaf_doc.specs.Shape.{Name, Short, Long, Both, Part, Any, Positional, Command, Flag}
+use Rattle.bpaf_doc.specs.{Print.printed, Shape.Argument}
 
 -- the long name with its dashes, or the short one where there is no long name
 abbrev pub name_text : Name → List ℕ

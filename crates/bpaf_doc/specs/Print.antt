@@ -1,9 +1,7 @@
 -- What a document prints.
 use Rattle.std.specs.Prelude.{ℕ, Bool, false, not, ◌||◌, ◌==◌, List, [], ◌∷◌, ◌++◌, Option, Some}
-use Rattle.std.specs.Prelude.{None, filter}
-use Rattle.std.specs.List.{flat_map, before_first}
-use Rattle.bpaf_doc.specs.declared.doc.Piece.{Piece}
-use Rattle.bpaf_doc.specs.declared.doc.Style.{Style}
+use Rattle.std.specs.{Prelude.None, Prelude.filter, List.flat_map, List.before_first}
+use Rattle.bpaf_doc.specs.{declared.doc.Piece.Piece, declared.doc.Style.Style}
 use Rattle.bpaf_doc.specs.declared.doc.Style.TheVariants as style
 
 -- the texts of the pieces in order, with the detail only in a full print

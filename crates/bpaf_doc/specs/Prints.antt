@@ -1,7 +1,6 @@
 -- What a document prints, in the two prints that it has.
 use Rattle.std.specs.Prelude.{◌≡◌, ℕ, Bool, true, false, List, [], ◌∷◌}
-use Rattle.bpaf_doc.specs.declared.doc.Piece.{Piece}
-use Rattle.bpaf_doc.specs.Print.{printed}
+use Rattle.bpaf_doc.specs.{declared.doc.Piece.Piece, Print.printed}
 
 -- a text in both prints: in full where the flag is true, else without the detail
 abbrev pub Print : Type 0

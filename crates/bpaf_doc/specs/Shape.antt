@@ -1,13 +1,11 @@
 -- What a parser shows of itself, as contracts see it: a tree without addresses and room.
 use Rattle.std.specs.Prelude.{ℕ, Bool, List, [], ◌∷◌, Option, Some, None, map}
-use Rattle.bpaf_doc.specs.declared.doc.Piece.{Piece}
-use Rattle.bpaf_doc.specs.declared.item.ShortLong.{ShortLong}
-use Rattle.bpaf_doc.specs.declared.item.ShortLong.TheVariants as short_long
-use Rattle.bpaf_doc.specs.declared.item.Item.{Item}
 use Rattle.bpaf_doc.specs.declared.item.Item.TheOpen.{Item-F, Meta-F}
 use Rattle.bpaf_doc.specs.declared.item.Item.TheFolds.{fold-Item, fold-Meta}
-use Rattle.bpaf_doc.specs.declared.meta.Meta.{Meta}
+use Rattle.bpaf_doc.specs.{declared.doc.Piece.Piece, declared.item.ShortLong.ShortLong}
+use Rattle.bpaf_doc.specs.{declared.item.Item.Item, declared.meta.Meta.Meta}
 use Rattle.bpaf_base.specs.Names.{Names}
+use Rattle.bpaf_doc.specs.declared.item.ShortLong.TheVariants as short_long
 
 -- the names that are shown: a short one, a long one, or both
 pub data Name : Type 0 where

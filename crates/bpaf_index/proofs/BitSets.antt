@@ -1,12 +1,10 @@
 -- The bits of several places at once, and the least place of some.
 use Rattle.std.proofs.Common.{◌≡◌, ◌≢◌, ℕ, ◌<◌, ◌≤◌, ◌==◌, Bool, true, false, not, ◌&&◌, List, []}
-use Rattle.std.proofs.Common.{◌∷◌, ◌++◌, Option, Some, None, length, refl, ap, sym, ◌∙◌}
-use Rattle.std.proofs.Common.{arith, ⊎_elim, min, if◌then◌else◌, true≢false, slice_index}
-use Rattle.std.proofs.lemmas.List.Folds.{list_any_at}
+use Rattle.std.proofs.Common.{◌∷◌, ◌++◌, Option, Some, None, length, refl, ap, sym, ◌∙◌, arith}
+use Rattle.std.proofs.Common.{⊎_elim, min, if◌then◌else◌, true≢false, slice_index}
 use Rattle.std.proofs.lemmas.Bool.{cases_eq, cases_lt, eq-eqb, or_right}
-use Rattle.std.proofs.Math.Bool.{beq}
-use Rattle.bpaf_index.specs.Bits.{has_bit, lesser_of, is_on_as, ChangesBit, ChangesBits}
-use Rattle.bpaf_index.specs.Bits.{IsLeastIn}
+use Rattle.std.proofs.{lemmas.List.Folds.list_any_at, Math.Bool.beq}
+use Rattle.bpaf_index.specs.Bits.{has_bit, lesser_of, is_on_as, ChangesBit, ChangesBits, IsLeastIn}
 use Rattle.bpaf_index.specs.Places.{is_on}
 use Rattle.bpaf_index.proofs.Places.{is_on_push, on_others}
 

@@ -1,31 +1,21 @@
 -- Chains: how a line's places are linked, and how a walk along the links goes.
-use Rattle.std.proofs.Common.{◌-◌, ◌≡◌, ◌≢◌, ℕ, zero, suc, refl, ◌+◌, ◌<◌, ◌≤◌, true, false}
-use Rattle.std.proofs.Common.{Bool, List, [], ◌∷◌, ◌||◌}
-use Rattle.std.proofs.Common.{length, map, take, ap, sym, ◌∙◌, subst, arith, ⊎_elim, get_or}
-use Rattle.std.proofs.Common.{slice_index, slice_index_or, slice_set, nat_lt, if◌then◌else◌, min}
-use Rattle.std.proofs.Common.{length-set, get_or-set_same, get_or-set_other}
-use Rattle.std.specs.BTreeMap.{is_at}
-use Rattle.std.specs.Map.{lookup}
-use Rattle.std.specs.Option.{option_map_or, unwrap_or}
-use Rattle.std.specs.Ordering.{nat_cmp}
-use Rattle.std.specs.Rc.{rc_slice_items}
-use Rattle.std.specs.Vec.{with_item}
-use Rattle.std.proofs.lemmas.Slice.Eq.{bytes_eq-Decides}
+use Rattle.std.proofs.Common.{◌-◌, ◌≡◌, ◌≢◌, ℕ, zero, suc, refl, ◌+◌, ◌<◌, ◌≤◌, true, false, Bool}
+use Rattle.std.proofs.Common.{List, [], ◌∷◌, ◌||◌, length, map, take, ap, sym, ◌∙◌, subst, arith}
+use Rattle.std.proofs.Common.{⊎_elim, get_or, slice_index, slice_index_or, slice_set, nat_lt}
+use Rattle.std.proofs.Common.{if◌then◌else◌, min, length-set, get_or-set_same, get_or-set_other}
+use Rattle.std.specs.{BTreeMap.is_at, Map.lookup, Option.option_map_or, Option.unwrap_or}
+use Rattle.std.specs.{Ordering.nat_cmp, Rc.rc_slice_items, Vec.with_item}
 use Rattle.std.proofs.lemmas.Bool.{cases_lt, cases_eq, ltb-true, eqb-true}
 use Rattle.std.proofs.lemmas.List.{get_or_read, length-map, length-take, length-take-le}
-use Rattle.std.proofs.lemmas.Option.{slice_get_read}
-use Rattle.bpaf_base.specs.Names.{Names}
-use Rattle.bpaf_base.specs.declared.arg.Arg.{Arg}
+use Rattle.std.proofs.{lemmas.Slice.Eq.bytes_eq-Decides, lemmas.Option.slice_get_read}
 use Rattle.bpaf_base.specs.declared.arg.Arg.TheVariants.{Short, Long, ArgWord, Word, PosWord}
-use Rattle.bpaf_base.specs.Items.{is_key_of}
-use Rattle.bpaf_index.specs.declared.chains.Chains.TheInside.{Inside}
-use Rattle.bpaf_index.specs.declared.classes.Slot.{Slot}
+use Rattle.bpaf_base.specs.{Names.Names, declared.arg.Arg.Arg, Items.is_key_of}
 use Rattle.bpaf_index.specs.declared.classes.Slot.TheVariants.{Own, Free, Other}
 use Rattle.bpaf_index.specs.Chained.{Chained, IsNextOf, IsPlaceOf, IsChainStart, HasWalked}
-use Rattle.bpaf_index.specs.Chained.{AreBehind, Naming, class_by, slot_of}
-use Rattle.bpaf_index.specs.Chained.{class_of_short, class_of_long, class_in, head_of}
-use Rattle.bpaf_index.specs.Chained.{names_of, named_at, is_key, HasNoKeyFrom}
-use Rattle.bpaf_index.specs.InsideChains.{chained_of, IsLinked}
+use Rattle.bpaf_index.specs.Chained.{AreBehind, Naming, class_by, slot_of, class_of_short}
+use Rattle.bpaf_index.specs.Chained.{class_of_long, class_in, head_of, names_of, named_at, is_key}
+use Rattle.bpaf_index.specs.{declared.chains.Chains.TheInside.Inside, declared.classes.Slot.Slot}
+use Rattle.bpaf_index.specs.{Chained.HasNoKeyFrom, InsideChains.chained_of, InsideChains.IsLinked}
 
 -- the places from one on are linked, and each class to its first place from there on
 pub record IsLinkedFrom (classes next heads : List ℕ) (low : ℕ) : Type 0 where

@@ -3,16 +3,12 @@ use Rattle.std.proofs.Common.{◌≡◌, ◌≢◌, ℕ, ◌+◌, ◌-◌, ◌<�
 use Rattle.std.proofs.Common.{length, map, take, drop, ap, sym, refl, ◌∙◌, subst, arith, get_or}
 use Rattle.std.proofs.Common.{Some, None, Option, false, ◌||◌, ◌*◌, if◌then◌else◌, ⊎_elim}
 use Rattle.std.proofs.Common.{slice_get, slice_index, slice_set, length-set, get_or-set_same}
-use Rattle.std.proofs.Common.{get_or-set_other}
 use Rattle.std.specs.Bool.{⊤}
-use Rattle.std.proofs.lemmas.Bool.{cases_eq}
 use Rattle.std.proofs.lemmas.List.{take_more, drop-append-le, map-append, length-take-le, drop_all}
-use Rattle.std.proofs.lemmas.List.{take-append-drop}
 use Rattle.std.proofs.lemmas.Slice.Eq.{bytes_eq-Decides}
-use Rattle.bpaf_base.specs.Names.{Names}
-use Rattle.bpaf_base.specs.declared.arg.Arg.{Arg}
+use Rattle.std.proofs.{Common.get_or-set_other, lemmas.Bool.cases_eq, lemmas.List.take-append-drop}
 use Rattle.bpaf_base.specs.declared.arg.Arg.TheVariants.{Short, Long, ArgWord, Word, PosWord}
-use Rattle.bpaf_base.specs.Items.{is_key_of}
+use Rattle.bpaf_base.specs.{Names.Names, declared.arg.Arg.Arg, Items.is_key_of}
 use Rattle.bpaf_index.specs.declared.classes.Slot.{Slot}
 use Rattle.bpaf_index.specs.declared.classes.Slot.TheVariants.{Own, Free, Other}
 use Rattle.bpaf_index.specs.Chained.{Naming, KeepsKnown, Owns, OwnsNow, class_in, class_by}

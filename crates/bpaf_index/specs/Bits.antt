@@ -1,7 +1,6 @@
 -- A set of places, as bits in words of 64.
 use Rattle.std.specs.Prelude.{ℕ, ◌≡◌, ◌≢◌, ◌+◌, ◌<◌, ◌≤◌, ◌/◌, ◌%◌, ◌==◌, ◌*◌, Bool, true, false}
-use Rattle.std.specs.Prelude.{not}
-use Rattle.std.specs.Prelude.{◌&&◌, nat_le, List, length, slice_index, Option, None, Some, min}
+use Rattle.std.specs.Prelude.{not, ◌&&◌, nat_le, List, length, slice_index, Option, None, Some, min}
 use Rattle.std.specs.Prelude.{if◌then◌else◌}
 use Rattle.std.specs.Int.{bit_at}
 use Rattle.bpaf_index.specs.Places.{count_below, is_on}

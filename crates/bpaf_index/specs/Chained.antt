@@ -1,23 +1,16 @@
 -- The places of a line, chained by the names of their items. No contract above this crate speaks of
 -- them.
-use Rattle.std.specs.Prelude.{ℕ, ◌+◌, ◌*◌, ◌/◌, ◌%◌, ◌^◌, ◌≡◌, ◌≢◌, ◌<◌, ◌≤◌, true, List, []}
-use Rattle.std.specs.Prelude.{◌∷◌}
-use Rattle.std.specs.Prelude.{length, map, take, slice_index, slice_set, slice_get, Option, Some, None, ⊤}
-use Rattle.std.specs.Prelude.{nat_lt, ◌-◌, Bool, false, if◌then◌else◌, min, string_bytes}
-use Rattle.std.specs.Prelude.{String as StringIn}
-use Rattle.std.specs.BTreeMap.{is_at}
-use Rattle.std.specs.Cmp.Lexicographic.{slice_cmp}
-use Rattle.std.specs.List.{fold}
-use Rattle.std.specs.Map.{lookup}
-use Rattle.std.specs.Ordering.{nat_cmp}
+use Rattle.std.specs.Prelude.{ℕ, ◌+◌, ◌*◌, ◌/◌, ◌%◌, ◌^◌, ◌≡◌, ◌≢◌, ◌<◌, ◌≤◌, true, List, [], ◌∷◌}
+use Rattle.std.specs.Prelude.{length, map, take, slice_index, slice_set, slice_get, Option, Some}
+use Rattle.std.specs.Prelude.{None, ⊤, nat_lt, ◌-◌, Bool, false, if◌then◌else◌, min, string_bytes}
 use Rattle.std.specs.Option.{option_map_or, unwrap_or}
-use Rattle.std.specs.declared.alloc.Global.{Global}
-use Rattle.bpaf_base.specs.Names.{Names}
-use Rattle.bpaf_base.specs.declared.arg.Arg.{Arg}
+use Rattle.std.specs.{BTreeMap.is_at, Cmp.Lexicographic.slice_cmp, List.fold, Map.lookup}
+use Rattle.std.specs.{Ordering.nat_cmp, declared.alloc.Global.Global}
 use Rattle.bpaf_base.specs.declared.arg.Arg.TheVariants.{Short, Long, ArgWord, Word, PosWord}
-use Rattle.bpaf_base.specs.Items.{is_key_of}
+use Rattle.bpaf_base.specs.{Names.Names, declared.arg.Arg.Arg, Items.is_key_of}
 use Rattle.bpaf_index.specs.declared.classes.Slot.{Slot}
 use Rattle.bpaf_index.specs.declared.classes.Slot.TheVariants.{Own, Free, Other}
+use Rattle.std.specs.Prelude.{String as StringIn}
 
 -- names with their classes
 abbrev pub ClassNames : Type 0

@@ -1,8 +1,7 @@
 //! The classes of a line's names, by which its places are chained.
-ghost use Rattle.std.specs.Prelude.{◌≡◌, ◌≢◌, ◌+◌, ◌-◌, ◌*◌, ◌<◌, ◌≤◌, [], ◌∷◌, IfOk, IfSome};
-ghost use Rattle.std.specs.Prelude.{OnOk, IsSome, Some, length, map, drop, take, min, slice_index};
-ghost use Rattle.std.specs.Prelude.{slice_get};
-ghost use Rattle.std.specs.Prelude.{◌^◌};
+ghost use Rattle.std.specs.Prelude.{◌≡◌, ◌≢◌, ◌+◌, ◌-◌, ◌*◌, ◌<◌, ◌≤◌, [], ◌∷◌, IfOk, IfSome, OnOk};
+ghost use Rattle.std.specs.Prelude.{IsSome, Some, length, map, drop, take, min, slice_index};
+ghost use Rattle.std.specs.Prelude.{slice_get, ◌^◌};
 ghost use Rattle.std.specs.BTreeMap.{is_at};
 ghost use Rattle.std.specs.Map.{lookup};
 ghost use Rattle.std.specs.Option.{unwrap_or};
@@ -11,8 +10,8 @@ ghost use Rattle.bpaf_base.specs.declared.arg.Arg.{Arg};
 ghost use Rattle.bpaf_base.specs.Items.{is_key_of};
 ghost use Rattle.bpaf_index.specs.Chained.{text_number, whole_number, class_of_number};
 ghost use Rattle.bpaf_index.specs.Chained.{class_of_short, class_of_long, class_in, class_among};
-ghost use Rattle.bpaf_index.specs.Chained.{slot_at, slot_of, unless_other, IsInside};
-ghost use Rattle.bpaf_index.specs.Chained.{is_key, KeepsKnown, Owns};
+ghost use Rattle.bpaf_index.specs.Chained.{slot_at, slot_of, unless_other, IsInside, is_key};
+ghost use Rattle.bpaf_index.specs.Chained.{KeepsKnown, Owns};
 
 use bpaf_base::{Arg, Text, is_key_of};
 use std::alloc::{AllocError, Global};

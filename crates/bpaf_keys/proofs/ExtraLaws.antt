@@ -1,28 +1,20 @@
 -- Looking for help and the version keeps to the laws.
 use Rattle.std.specs.Prelude.{◌≡◌, ◌++◌, Bool, true, false, None, Option, List, Some, Ok, Err, refl}
 use Rattle.std.specs.Option.{option_map_or}
-use Rattle.bpaf_doc.specs.declared.doc.Piece.{Piece}
-use Rattle.bpaf_doc.specs.Walks.{parts}
+use Rattle.bpaf_doc.specs.{declared.doc.Piece.Piece, Walks.parts}
 use Rattle.std.proofs.Common.{⊎_elim, inl, inr}
 use Rattle.bpaf_text.specs.Named.{Named}
-use Rattle.bpaf_line.specs.declared.error.Error.{Error}
-use Rattle.bpaf_line.specs.Situation.{Situation}
-use Rattle.bpaf_laws.specs.Flag.{FlagOutcome, IsPresent}
-use Rattle.bpaf_laws.specs.RefusalNames.{NamesAnswer}
-use Rattle.bpaf_laws.proofs.NamesAnswer.{names_same}
 use Rattle.bpaf_line.specs.declared.error.Message.TheVariants.{Memory, ParseFail}
-use Rattle.bpaf_laws.specs.Laws.{Keeps, Lawful, Reads}
-use Rattle.bpaf_laws.specs.Product.{BothReads}
-use Rattle.bpaf_laws.proofs.FlagLaws.{flag_lawful}
+use Rattle.bpaf_line.specs.{declared.error.Error.Error, Situation.Situation}
 use Rattle.bpaf_laws.proofs.Keeping.{keeps_same, keeps_trans}
-use Rattle.bpaf_laws.proofs.ProductLaws.{both_lawful}
 use Rattle.bpaf_laws.specs.ShownNames.{ShowsNames, of_flags, shorts_of}
+use Rattle.bpaf_laws.specs.{Flag.FlagOutcome, Flag.IsPresent, RefusalNames.NamesAnswer, Laws.Keeps}
+use Rattle.bpaf_laws.specs.{Laws.Lawful, Laws.Reads, Product.BothReads}
 use Rattle.bpaf_laws.proofs.ShownNames.{both_show, flag_shows, last_shows, one_shape, product_shows}
-use Rattle.bpaf_keys.specs.declared.info.ExtraParams.{ExtraParams}
-use Rattle.bpaf_keys.specs.Extra.{ExtraOutcome, ExtraReads, IsNoVersion, SwitchReads}
-use Rattle.bpaf_keys.specs.Extra.{extra_shape, extra_shape_of}
-use Rattle.bpaf_keys.specs.Extra.{help, neither, no_memory, version}
-use Rattle.bpaf_keys.specs.Info.{RunInfo}
+use Rattle.bpaf_laws.proofs.{NamesAnswer.names_same, FlagLaws.flag_lawful, ProductLaws.both_lawful}
+use Rattle.bpaf_keys.specs.Extra.{ExtraOutcome, ExtraReads, IsNoVersion, SwitchReads, extra_shape}
+use Rattle.bpaf_keys.specs.Extra.{extra_shape_of, help, neither, no_memory, version}
+use Rattle.bpaf_keys.specs.{declared.info.ExtraParams.ExtraParams, Info.RunInfo}
 
 -- a key that is there or not, as a switch answers it
 switch_answers : (named : Named) (s : Situation) (is : Bool) (t : Situation)

@@ -1,21 +1,18 @@
 -- How looking for help and the version is put together.
-use Rattle.std.proofs.Common.{◌≡◌, Bool, true, false, List, Option, Some, None}
-use Rattle.std.proofs.Common.{Result, Ok, Err, ⊎_elim, inr, subst, sym, ◌∙◌, ap, true≢false}
-use Rattle.std.specs.Prelude.{codes}
-use Rattle.std.specs.Result.{IsErr, IsErrAnd}
+use Rattle.std.proofs.Common.{◌≡◌, Bool, true, false, List, Option, Some, None, Result, Ok, Err}
+use Rattle.std.proofs.Common.{⊎_elim, inr, subst, sym, ◌∙◌, ap, true≢false}
+use Rattle.std.specs.{Prelude.codes, Result.IsErr, Result.IsErrAnd}
 use Rattle.bpaf_doc.specs.declared.doc.Piece.{Piece}
 use Rattle.bpaf_text.specs.Named.{Named}
-use Rattle.bpaf_line.specs.declared.error.Error.{Error}
-use Rattle.bpaf_line.specs.declared.error.Message.TheVariants as message
-use Rattle.bpaf_line.specs.Situation.{Situation}
+use Rattle.bpaf_line.specs.{declared.error.Error.Error, Situation.Situation}
 use Rattle.bpaf_laws.specs.Flag.{IsFlagAbsent, IsFlagPresent, IsPresent}
 use Rattle.bpaf_laws.proofs.Keeping.{keeps_refl, keeps_trans}
 use Rattle.bpaf_keys.specs.declared.info.ExtraParams.{ExtraParams}
-use Rattle.bpaf_keys.specs.declared.info.ExtraParams.TheVariants as extra
-use Rattle.bpaf_keys.specs.Extra.{ExtraOutcome, IsNotAsked, LooksForVersion}
-use Rattle.bpaf_keys.specs.Extra.{help, neither, no_memory, version}
+use Rattle.bpaf_keys.specs.Extra.{ExtraOutcome, IsNotAsked, LooksForVersion, help, neither}
 use Rattle.bpaf_keys.proofs.ExtraLaws.{key_keeps, no_version_keeps}
-use Rattle.bpaf_keys.specs.Info.{RunInfo}
+use Rattle.bpaf_keys.specs.{Extra.no_memory, Extra.version, Info.RunInfo}
+use Rattle.bpaf_line.specs.declared.error.Message.TheVariants as message
+use Rattle.bpaf_keys.specs.declared.info.ExtraParams.TheVariants as extra
 
 -- a key that was found is present
 found_key : (key named : Named) (s : Situation) (is : Bool) (t : Situation) → key ≡ named

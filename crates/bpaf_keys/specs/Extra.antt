@@ -1,20 +1,15 @@
 -- What a run may be asked for beside its value: help, and the version.
 use Rattle.std.specs.Prelude.{◌≡◌, ◌⊎◌, Bool, true, false, List, [], ◌∷◌, Option, Some, None, Ok}
 use Rattle.std.specs.Prelude.{Result, Err, codes}
-use Rattle.bpaf_doc.specs.declared.doc.Piece.{Piece}
-use Rattle.bpaf_doc.specs.Shape.{Shape, And, members}
+use Rattle.bpaf_doc.specs.{declared.doc.Piece.Piece, Shape.Shape, Shape.And, Shape.members}
 use Rattle.bpaf_text.specs.Named.{Named}
-use Rattle.bpaf_line.specs.declared.error.Error.{Error}
 use Rattle.bpaf_line.specs.declared.error.Message.{Message}
-use Rattle.bpaf_line.specs.declared.error.Message.TheVariants as message
-use Rattle.bpaf_line.specs.Situation.{Situation}
+use Rattle.bpaf_line.specs.{declared.error.Error.Error, Situation.Situation}
 use Rattle.bpaf_laws.specs.Flag.{FlagReads, IsFlagAbsent, IsFlagPresent, IsPresent, flag_shape}
-use Rattle.bpaf_laws.specs.Laws.{Keeps}
-use Rattle.bpaf_laws.specs.Product.{BothReads}
-use Rattle.bpaf_laws.specs.Reading.{Readings}
-use Rattle.bpaf_keys.specs.declared.info.ExtraParams.{ExtraParams}
+use Rattle.bpaf_laws.specs.{Laws.Keeps, Product.BothReads, Reading.Readings}
+use Rattle.bpaf_keys.specs.{declared.info.ExtraParams.ExtraParams, Info.RunInfo}
+use Rattle.bpaf_line.specs.declared.error.Message.TheVariants as message
 use Rattle.bpaf_keys.specs.declared.info.ExtraParams.TheVariants as extra
-use Rattle.bpaf_keys.specs.Info.{RunInfo}
 
 -- the version isn't asked for: none is set, or its key isn't there
 abbrev pub IsNoVersion : RunInfo → Situation → Situation → Type 0

@@ -1,11 +1,10 @@
 -- What a run knows beside its parser.
 use Rattle.std.specs.Prelude.{ℕ, Bool, false, List, [], ◌∷◌, Option, Some, None, codes}
 use Rattle.std.specs.Prelude.{option_and_then}
-use Rattle.bpaf_doc.specs.declared.doc.Piece.{Piece}
-use Rattle.bpaf_doc.specs.declared.doc.Style.TheVariants as style
 use Rattle.bpaf_pages.specs.Help.{PageTexts}
-use Rattle.bpaf_doc.specs.Print.{first_line, shown_as}
+use Rattle.bpaf_doc.specs.{declared.doc.Piece.Piece, Print.first_line, Print.shown_as}
 use Rattle.bpaf_text.specs.Named.{Named}
+use Rattle.bpaf_doc.specs.declared.doc.Style.TheVariants as style
 
 -- the version, the texts around the help page, the keys that ask for help and for the version,
 -- whether help is shown where nothing is there to read, how wide a page may be, and whether a

@@ -1,8 +1,7 @@
 //! The names of a command, and its word.
 ghost use Rattle.std.specs.Prelude.{◌≡◌, [], ◌∷◌, map, encode_utf8, slice_get, IfOk};
-ghost use Rattle.bpaf_laws.specs.Command.{OpensScope, TakesOpening};
-ghost use Rattle.bpaf_laws.specs.Command.{named_only, opening_words, with_long_name};
-ghost use Rattle.bpaf_laws.specs.Command.{with_short_name};
+ghost use Rattle.bpaf_laws.specs.Command.{OpensScope, TakesOpening, named_only, opening_words};
+ghost use Rattle.bpaf_laws.specs.Command.{with_long_name, with_short_name};
 
 use bpaf_doc::Text;
 use bpaf_line::State;

@@ -1,12 +1,11 @@
 -- Behind the word of an adjacent command: what is read there is one stretch.
-use Rattle.std.proofs.Common.{◌≡◌, ℕ, ◌+◌, ◌<◌, ◌≤◌, ◌==◌, true, ◌&&◌, ◌||◌, nat_le, nat_lt}
-use Rattle.std.proofs.Common.{ap, ◌∙◌, arith}
+use Rattle.std.proofs.Common.{◌≡◌, ℕ, ◌+◌, ◌<◌, ◌≤◌, ◌==◌, true, ◌&&◌, ◌||◌, nat_le, nat_lt, ap}
+use Rattle.std.proofs.Common.{◌∙◌, arith}
 use Rattle.std.proofs.lemmas.Bool.Decides.{nat_tests}
 use Rattle.bpaf_line.specs.Situation.{Situation, is_open, open_count, with_scope}
-use Rattle.bpaf_laws.specs.Reading.{Readings}
 use Rattle.bpaf_laws.specs.Laws.{Keeps, Reads, newly}
 use Rattle.bpaf_laws.specs.Command.{Called, CommandReads, IsOpenedAt, inside, opening_words}
-use Rattle.bpaf_laws.specs.OneStretch.{StretchReads}
+use Rattle.bpaf_laws.specs.{Reading.Readings, OneStretch.StretchReads}
 use Rattle.bpaf_laws.proofs.CommandLaws.{closes_inside, keeps_inside, word_is_open}
 use Rattle.bpaf_laws.proofs.Keeping.{keeps_scope, keeps_trans, newly_joins, newly_take}
 use Rattle.bpaf_laws.proofs.OneStretch.{keeps_stretch, newly_stretch}

@@ -4,25 +4,20 @@ use Rattle.std.specs.Prelude.{List, Result, Ok, Err, Option, Some, None, if◌th
 use Rattle.std.proofs.Common.{ap, sym, subst, ◌∙◌, ◌+◌, arith, true≢false}
 use Rattle.std.proofs.lemmas.Bool.{and_parts}
 use Rattle.bpaf_doc.specs.Shape.{Part}
-use Rattle.bpaf_line.specs.declared.error.Error.{Error}
-use Rattle.bpaf_line.specs.declared.error.Message.TheVariants.{Missing}
 use Rattle.bpaf_line.specs.Situation.{Situation, is_taken, is_open, with_scope}
+use Rattle.bpaf_line.specs.{declared.error.Error.Error, declared.error.Message.TheVariants.Missing}
 use Rattle.bpaf_line.proofs.Places.{open_in_scope, open_not_taken}
 use Rattle.bpaf_laws.specs.Reading.{Readings, Outcome, Share, IsEmptyShare, HasPlace}
 use Rattle.bpaf_laws.specs.Laws.{Keeps, Reads, Lawful, newly}
-use Rattle.bpaf_laws.specs.RefusalNames.{NamesAnswer}
-use Rattle.bpaf_laws.proofs.NamesAnswer.{names_same, names_want}
-use Rattle.bpaf_laws.specs.Spared.{IsNotMemory, Spares}
-use Rattle.bpaf_laws.specs.OneStretch.{IsStretch, StretchReads}
-use Rattle.bpaf_laws.specs.AdjacentGroup.{Failure, longer, longest, taken_by, Probe}
-use Rattle.bpaf_laws.specs.AdjacentGroup.{Narrowed, whole, again, Tries, answered, refused}
-use Rattle.bpaf_laws.specs.AdjacentGroup.{TriedInVain, none_tried, not_taken, all_failed, Searches}
-use Rattle.bpaf_laws.specs.AdjacentGroup.{gave, none_gave, wanted, GroupOutcome, EndsWith}
-use Rattle.bpaf_laws.specs.AdjacentGroup.{place_count}
-use Rattle.bpaf_laws.specs.Counting.{taken_count}
+use Rattle.bpaf_laws.specs.AdjacentGroup.{Failure, longer, longest, taken_by, Probe, Narrowed}
+use Rattle.bpaf_laws.specs.AdjacentGroup.{whole, again, Tries, answered, refused, TriedInVain}
+use Rattle.bpaf_laws.specs.AdjacentGroup.{none_tried, not_taken, all_failed, Searches, gave}
+use Rattle.bpaf_laws.specs.AdjacentGroup.{none_gave, wanted, GroupOutcome, EndsWith, place_count}
+use Rattle.bpaf_laws.specs.{RefusalNames.NamesAnswer, Spared.IsNotMemory, Spared.Spares}
+use Rattle.bpaf_laws.specs.{OneStretch.IsStretch, OneStretch.StretchReads, Counting.taken_count}
 use Rattle.bpaf_laws.proofs.Keeping.{keeps_of, keeps_refl, keeps_same, keeps_trans, keeps_scope}
 use Rattle.bpaf_laws.proofs.OneStretch.{between, new_in_stretch, keeps_stretch}
-use Rattle.bpaf_laws.proofs.Sparing.{not_both}
+use Rattle.bpaf_laws.proofs.{NamesAnswer.names_same, NamesAnswer.names_want, Sparing.not_both}
 
 -- at one place: what isn't present in a scope in which it lies is taken
 taken_of : (x y : Bool) → (x && not y) ≡ false → x ≡ true → y ≡ true

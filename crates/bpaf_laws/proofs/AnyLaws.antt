@@ -1,24 +1,18 @@
 -- Items that a look matches: what is read of them keeps to the laws.
 use Rattle.std.proofs.Common.{◌≡◌, ℕ, ◌+◌, Bool, true, false, List, [], ◌∷◌, refl, sym, subst, inl}
-use Rattle.std.proofs.Common.{inr, arith}
-use Rattle.std.proofs.Common.{Option, Some, None, option_map, if◌then◌else◌}
-use Rattle.std.specs.Prelude.{All, Contains}
-use Rattle.std.specs.List.{filter_map, cons_option}
+use Rattle.std.proofs.Common.{inr, arith, Option, Some, None, option_map, if◌then◌else◌}
+use Rattle.std.specs.{Prelude.All, Prelude.Contains, List.filter_map, List.cons_option}
 use Rattle.std.proofs.lemmas.List.Elements.{All-nil, All-cons, All-take, All-contains}
 use Rattle.std.proofs.lemmas.List.Elements.{Contains-append_right}
 use Rattle.bpaf_doc.specs.Shape.{Part}
-use Rattle.bpaf_base.specs.declared.arg.Arg.{Arg}
-use Rattle.bpaf_base.specs.Items.{is_attached}
-use Rattle.bpaf_line.specs.OpenItems.{placed_item}
+use Rattle.bpaf_base.specs.{declared.arg.Arg.Arg, Items.is_attached}
 use Rattle.bpaf_line.specs.Situation.{Situation, is_open, item_at, take_place}
-use Rattle.bpaf_line.specs.Taking.{open_item}
-use Rattle.bpaf_line.specs.declared.error.Message.{Message}
 use Rattle.bpaf_line.specs.declared.error.Message.TheVariants.{Memory, Missing, ParseFailure}
+use Rattle.bpaf_line.specs.{OpenItems.placed_item, Taking.open_item, declared.error.Message.Message}
 use Rattle.bpaf_line.proofs.Matches.{open_item_there}
 use Rattle.bpaf_laws.specs.Laws.{Keeps, Reads, Lawful}
-use Rattle.bpaf_laws.specs.RefusalNames.{NamesAnswer}
 use Rattle.bpaf_laws.specs.Any.{Looks, AnyReads, AnyOutcome, AnyFails, FirstMatch, looked_at}
-use Rattle.bpaf_laws.specs.Any.{take_item}
+use Rattle.bpaf_laws.specs.{RefusalNames.NamesAnswer, Any.take_item}
 use Rattle.bpaf_laws.proofs.Keeping.{keeps_same, keeps_take, keeps_trans, closes_take}
 use Rattle.bpaf_laws.proofs.Keeping.{closes_take_both, newly_take, newly_take_both}
 

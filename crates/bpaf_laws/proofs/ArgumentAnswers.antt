@@ -1,10 +1,9 @@
 -- How the answers of an argument are put together.
 use Rattle.std.proofs.Common.{ℕ, List, Result, Ok, Err, inr}
 use Rattle.bpaf_text.specs.Named.{KeyWithValue}
-use Rattle.bpaf_line.specs.declared.error.Error.{Error}
 use Rattle.bpaf_line.specs.declared.error.Message.{Message}
 use Rattle.bpaf_line.specs.declared.error.Message.TheVariants.{Memory, ParseFailed}
-use Rattle.bpaf_line.specs.Situation.{Situation}
+use Rattle.bpaf_line.specs.{declared.error.Error.Error, Situation.Situation}
 use Rattle.bpaf_laws.specs.Value.{ReadsValue, FaultsText}
 use Rattle.bpaf_laws.specs.Argument.{ArgumentOutcome, ArgumentFails, GetsText}
 

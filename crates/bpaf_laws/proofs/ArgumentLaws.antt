@@ -2,22 +2,18 @@
 use Rattle.std.specs.Prelude.{ℕ, ◌+◌, Bool, true, false, List}
 use Rattle.std.proofs.Common.{sym, subst, ◌∙◌, ⊎_elim, inl, inr, true≢false}
 use Rattle.bpaf_text.specs.Named.{KeyWithValue, argument_part}
-use Rattle.bpaf_line.specs.Situation.{Situation}
-use Rattle.bpaf_line.specs.declared.error.Message.{Message}
 use Rattle.bpaf_line.specs.declared.error.Message.TheVariants.{Memory, ParseFailed, ParseFailure}
 use Rattle.bpaf_line.specs.declared.error.Message.TheVariants.{NoArgument}
+use Rattle.bpaf_line.specs.{Situation.Situation, declared.error.Message.Message}
 use Rattle.std.specs.Option.{IsSomeRelated}
-use Rattle.bpaf_laws.specs.Reading.{Readings}
 use Rattle.bpaf_laws.specs.Laws.{Keeps, Closes, Reads, Lawful, newly}
-use Rattle.bpaf_laws.specs.RefusalNames.{NamesAnswer}
-use Rattle.bpaf_laws.proofs.NamesAnswer.{names_absence}
 use Rattle.bpaf_laws.proofs.Keeping.{keeps_same, keeps_unset, reads_unset, closes_take_both}
 use Rattle.bpaf_laws.proofs.Keeping.{newly_none, newly_take_both}
-use Rattle.bpaf_laws.proofs.KeysTaken.{key_open, pair_key, value_open, value_keeps}
-use Rattle.bpaf_laws.proofs.KeysTaken.{took_keys, took_last}
-use Rattle.bpaf_laws.specs.Argument.{TakesKeyWithText, TakesOwnText, IsOwnText}
-use Rattle.bpaf_laws.specs.Argument.{TakesBefore, ArgumentReads}
-use Rattle.bpaf_laws.specs.Argument.{ArgumentOutcome, ArgumentFails, GetsText, ReadsVariable}
+use Rattle.bpaf_laws.proofs.KeysTaken.{key_open, pair_key, value_open, value_keeps, took_keys}
+use Rattle.bpaf_laws.proofs.{NamesAnswer.names_absence, KeysTaken.took_last}
+use Rattle.bpaf_laws.specs.Argument.{TakesKeyWithText, TakesOwnText, IsOwnText, TakesBefore}
+use Rattle.bpaf_laws.specs.Argument.{ArgumentReads, ArgumentOutcome, ArgumentFails, GetsText}
+use Rattle.bpaf_laws.specs.{Reading.Readings, RefusalNames.NamesAnswer, Argument.ReadsVariable}
 
 -- a text of the line was got: what that keeps, and the places that it stands on
 record GotText (last : Bool) (argument : KeyWithValue) (s : Situation) (text : List ℕ)

@@ -1,13 +1,9 @@
 -- Repeats answer at most one value more than items are present at the start.
 use Rattle.std.proofs.Common.{Bool, List, Result, Ok, Err, IfOk}
-use Rattle.std.specs.Prelude.{ℕ}
-use Rattle.std.specs.Global.{Vec}
-use Rattle.bpaf_line.specs.Situation.{Situation}
-use Rattle.bpaf_line.specs.declared.error.Error.{Error}
-use Rattle.bpaf_laws.specs.Reading.{Readings, Outcome}
-use Rattle.bpaf_laws.specs.Laws.{Lawful}
+use Rattle.std.specs.{Prelude.ℕ, Global.Vec}
+use Rattle.bpaf_line.specs.{Situation.Situation, declared.error.Error.Error}
 use Rattle.bpaf_laws.specs.Repeat.{ManyOutcome, SomeOutcome, CollectOutcome, CollectIsBounded}
-use Rattle.bpaf_laws.specs.Repeat.{IsBounded}
+use Rattle.bpaf_laws.specs.{Reading.Readings, Reading.Outcome, Laws.Lawful, Repeat.IsBounded}
 use Rattle.bpaf_laws.proofs.RepeatLaws.{list_bounded}
 
 module _ {T : Type 0} {inner : Outcome T} {reads : Readings T} (law : Lawful T inner reads)

@@ -1,17 +1,14 @@
 -- Choices keep to the laws where both branches do.
 use Rattle.std.specs.Prelude.{◌≡◌, ℕ, Bool, true, false, Result, Ok, Err, Option, Some, None}
 use Rattle.std.proofs.Common.{sym, subst, ⊎_elim, inl, inr}
-use Rattle.bpaf_line.specs.Situation.{Situation}
-use Rattle.bpaf_line.specs.Conflicts.{ConflictsSaved}
 use Rattle.bpaf_line.specs.declared.error.Error.{Error}
-use Rattle.bpaf_laws.specs.Reading.{Readings, Outcome}
-use Rattle.bpaf_laws.specs.Laws.{Keeps, Reads, Lawful}
-use Rattle.bpaf_laws.specs.RefusalNames.{NamesAnswer}
+use Rattle.bpaf_line.specs.{Situation.Situation, Conflicts.ConflictsSaved}
 use Rattle.bpaf_laws.proofs.NamesAnswer.{names_combined, names_want}
 use Rattle.bpaf_laws.proofs.Keeping.{keeps_of, keeps_same, keeps_conflicts, closes_conflicts}
 use Rattle.bpaf_laws.proofs.Keeping.{newly_conflicts}
 use Rattle.bpaf_laws.specs.Choice.{AnsweredBranch, branch_of, Winner, EqualDepths, Chosen}
-use Rattle.bpaf_laws.specs.Choice.{ChoiceOutcome, ChoiceReads}
+use Rattle.bpaf_laws.specs.{Reading.Readings, Reading.Outcome, Laws.Keeps, Laws.Reads, Laws.Lawful}
+use Rattle.bpaf_laws.specs.{RefusalNames.NamesAnswer, Choice.ChoiceOutcome, Choice.ChoiceReads}
 
 -- an error is no value
 pub no_value : {T : Type 0} (v : T) (e : Error) → ◌≡◌ {A = Result T Error} (Ok v) (Err e) → ⊥

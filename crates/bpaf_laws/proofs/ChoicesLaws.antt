@@ -1,11 +1,9 @@
 -- Choices of any number of parsers keep to the laws where each parser does.
 use Rattle.std.specs.Prelude.{List, [], ◌∷◌}
-use Rattle.bpaf_laws.specs.Reading.{Readings, Outcome}
-use Rattle.bpaf_laws.specs.Laws.{Lawful}
 use Rattle.bpaf_laws.specs.Choice.{ChoiceOutcome, ChoiceReads}
-use Rattle.bpaf_laws.proofs.ChoiceLaws.{choice_lawful}
-use Rattle.bpaf_laws.proofs.PureLaws.{refusal_lawful}
+use Rattle.bpaf_laws.proofs.{ChoiceLaws.choice_lawful, PureLaws.refusal_lawful}
 use Rattle.bpaf_laws.specs.Choices.{Nested, ChoicesOutcome, ChoicesReads, no_choice}
+use Rattle.bpaf_laws.specs.{Reading.Readings, Reading.Outcome, Laws.Lawful}
 
 -- a choice of a lawful outcome and of lawful parsers is lawful
 pub from_lawful : {T P : Type 0} (outcome : P → Outcome T) (reads : P → Readings T)

@@ -1,16 +1,13 @@
 -- Choices of any number of parsers: one parser after another.
-use Rattle.std.proofs.Common.{◌≡◌, true, false, List, [], ◌∷◌, ◌++◌, Result, Ok, Err}
-use Rattle.std.proofs.Common.{length, ◌==◌, ◌⊎◌, refl, sym, subst, inl, inr, ⊎_elim, true≢false}
+use Rattle.std.proofs.Common.{◌≡◌, true, false, List, [], ◌∷◌, ◌++◌, Result, Ok, Err, length, ◌==◌}
+use Rattle.std.proofs.Common.{◌⊎◌, refl, sym, subst, inl, inr, ⊎_elim, true≢false}
 use Rattle.bpaf_doc.specs.Shape.{Shape}
-use Rattle.bpaf_line.specs.Messages.{is_memory}
-use Rattle.bpaf_line.specs.Situation.{Situation}
-use Rattle.bpaf_line.specs.declared.error.Error.{Error}
-use Rattle.bpaf_laws.specs.Reading.{Outcome}
+use Rattle.bpaf_line.specs.{Messages.is_memory, Situation.Situation, declared.error.Error.Error}
 use Rattle.bpaf_laws.specs.Spared.{IsNotMemory, WithoutMemory}
 use Rattle.bpaf_laws.specs.Choice.{is_want, IsWant, Chosen, BranchesEval, ChoiceOutcome}
 use Rattle.bpaf_laws.specs.Choice.{ChoiceDescribes, either_shape}
 use Rattle.bpaf_laws.proofs.Choosing.{ran_outcome, choice_spared}
-use Rattle.bpaf_laws.specs.Choices.{Nested, ChoicesOutcome}
+use Rattle.bpaf_laws.specs.{Reading.Outcome, Choices.Nested, Choices.ChoicesOutcome}
 
 -- one more parser at the end
 nested_more : {A : Type 1} {P : Type 0} (choice : A → A → A) (meaning : P → A) (before : A)

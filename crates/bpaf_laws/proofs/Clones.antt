@@ -2,13 +2,10 @@
 use Rattle.std.specs.Prelude.{◌≡◌, Result, Ok, Err, Option, Some, None}
 use Rattle.std.proofs.Common.{⊎_elim, inl, inr}
 use Rattle.bpaf_text.specs.Named.{Named}
-use Rattle.bpaf_line.specs.Situation.{Situation}
-use Rattle.bpaf_line.specs.declared.error.Error.{Error}
+use Rattle.bpaf_line.specs.{Situation.Situation, declared.error.Error.Error}
 use Rattle.bpaf_laws.specs.Default.{FallbackOutcome, GivesClone}
-use Rattle.bpaf_laws.specs.Kept.{IsKept}
 use Rattle.std.specs.Option.{IsSomeRelated}
-use Rattle.bpaf_laws.specs.Flag.{FlagOutcome}
-use Rattle.bpaf_laws.specs.Reading.{Outcome}
+use Rattle.bpaf_laws.specs.{Kept.IsKept, Flag.FlagOutcome, Reading.Outcome}
 
 module _ {T : Type 0} {clones : T → T → Type 0}
     (equal : (kept v : T) → clones kept v → v ≡ kept) where

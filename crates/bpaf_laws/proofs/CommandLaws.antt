@@ -1,20 +1,17 @@
 -- Behind the word of a command: what opening its scope keeps, and what is read there.
 use Rattle.std.proofs.Common.{◌≡◌, ℕ, ◌<◌, Bool, true, false, not, ◌&&◌, List, length, ⊎_elim, refl}
 use Rattle.std.proofs.Common.{sym, ◌∙◌, arith, true≢false}
-use Rattle.std.proofs.lemmas.Bool.{cases_Bool}
-use Rattle.std.proofs.lemmas.Bool.Decides.{nat_tests}
+use Rattle.std.proofs.{lemmas.Bool.cases_Bool, lemmas.Bool.Decides.nat_tests}
 use Rattle.bpaf_base.specs.Items.{any_item}
 use Rattle.bpaf_line.specs.Situation.{Situation, in_scope, is_open, is_taken, open_count}
 use Rattle.bpaf_line.specs.Situation.{take_place}
 use Rattle.bpaf_line.proofs.Places.{open_in_line, open_in_scope, taken_stays}
 use Rattle.bpaf_line.proofs.Matches.{match_is_open, open_has_item}
-use Rattle.bpaf_laws.specs.Reading.{Readings}
 use Rattle.bpaf_laws.specs.Laws.{Keeps, Closes, Reads, newly}
 use Rattle.bpaf_laws.specs.Command.{Called, CommandReads, IsOpenedAt, LeavesNothing, inside, opened}
-use Rattle.bpaf_laws.specs.Command.{opening_words}
-use Rattle.bpaf_laws.proofs.CountingLaws.{none_below}
+use Rattle.bpaf_laws.specs.{Reading.Readings, Command.opening_words}
 use Rattle.bpaf_laws.proofs.Keeping.{closes_trans, keeps_path, keeps_scope, keeps_take, keeps_trans}
-use Rattle.bpaf_laws.proofs.Keeping.{newly_joins, newly_take}
+use Rattle.bpaf_laws.proofs.{CountingLaws.none_below, Keeping.newly_joins, Keeping.newly_take}
 
 -- what is in scope and isn't taken is open
 open_unless_taken : (within taken : Bool) → within ≡ true → taken ≡ false

@@ -2,18 +2,13 @@
 -- one does.
 use Rattle.std.specs.Prelude.{ℕ, Bool, true, List, Result, Ok, Err, Option, Some, None}
 use Rattle.std.proofs.Common.{⊎_elim, inl, inr, true≢false}
-use Rattle.bpaf_line.specs.Situation.{Situation}
-use Rattle.bpaf_line.specs.declared.error.Error.{Error}
 use Rattle.bpaf_line.specs.declared.error.Message.TheVariants.{PureFailed}
-use Rattle.bpaf_laws.specs.Reading.{Readings, Outcome}
+use Rattle.bpaf_line.specs.{Situation.Situation, declared.error.Error.Error}
 use Rattle.bpaf_laws.specs.Laws.{Keeps, Reads, Lawful}
 use Rattle.bpaf_laws.proofs.Keeping.{keeps_same, reads_same, newly_none}
-use Rattle.bpaf_laws.specs.Turn.{TurnOutcome}
-use Rattle.bpaf_laws.specs.Choice.{ChoiceReads}
-use Rattle.bpaf_laws.specs.Pure.{PureReads}
-use Rattle.bpaf_laws.specs.Default.{Gives, NamesGiven, OptionalReads}
-use Rattle.bpaf_laws.specs.Default.{FallbackOutcome, GivesAnswer}
-use Rattle.bpaf_laws.specs.RefusalNames.{NamesAnswer}
+use Rattle.bpaf_laws.specs.Default.{Gives, NamesGiven, OptionalReads, FallbackOutcome, GivesAnswer}
+use Rattle.bpaf_laws.specs.{Reading.Readings, Reading.Outcome, Turn.TurnOutcome, Choice.ChoiceReads}
+use Rattle.bpaf_laws.specs.{Pure.PureReads, RefusalNames.NamesAnswer}
 use Rattle.bpaf_laws.proofs.NamesAnswer.{names_fault, names_want}
 
 -- a refusal by a closure is the answer of no run inside

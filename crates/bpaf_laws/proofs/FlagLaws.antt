@@ -6,20 +6,15 @@ use Rattle.bpaf_doc.specs.Names.{Names}
 use Rattle.bpaf_text.specs.Named.{Named, flag_part}
 use Rattle.bpaf_line.specs.Situation.{Situation, is_open}
 use Rattle.bpaf_base.specs.Items.{is_key_of}
-use Rattle.bpaf_line.specs.Taking.{TakesFlag}
 use Rattle.bpaf_line.proofs.Matches.{match_is_open, match_has_item}
-use Rattle.bpaf_line.specs.declared.error.Message.{Message}
 use Rattle.bpaf_line.specs.declared.error.Message.TheVariants.{Memory, ParseFailure}
-use Rattle.bpaf_laws.specs.Environment.{first_set}
-use Rattle.bpaf_laws.specs.Reading.{Readings}
+use Rattle.bpaf_line.specs.{Taking.TakesFlag, declared.error.Message.Message}
 use Rattle.bpaf_laws.specs.Laws.{Keeps, Reads, Lawful}
-use Rattle.bpaf_laws.specs.RefusalNames.{NamesAnswer}
-use Rattle.bpaf_laws.proofs.NamesAnswer.{names_absence}
 use Rattle.bpaf_laws.proofs.Keeping.{keeps_same, reads_same, closes_take, newly_none, keeps_take}
-use Rattle.bpaf_laws.proofs.Keeping.{newly_take}
+use Rattle.bpaf_laws.proofs.{NamesAnswer.names_absence, Keeping.newly_take}
 use Rattle.bpaf_laws.specs.Flag.{FlagReads, at_key, nowhere, value_without_key, FlagOutcome}
-use Rattle.bpaf_laws.specs.Flag.{FlagFails}
-use Rattle.bpaf_laws.specs.Flag.{IsFlagPresent, IsFlagAbsent, IsPresent}
+use Rattle.bpaf_laws.specs.Flag.{FlagFails, IsFlagPresent, IsFlagAbsent, IsPresent}
+use Rattle.bpaf_laws.specs.{Environment.first_set, Reading.Readings, RefusalNames.NamesAnswer}
 
 -- what looking for a flag keeps
 pub flag_keeps : (names : Names) (s : Situation) (found : Bool) (t : Situation)

@@ -1,20 +1,16 @@
 -- A hidden parser keeps to the laws where the inner one does; what a section shows.
 use Rattle.std.proofs.Common.{◌≡◌, List, Box, ap, ◌∙◌}
 use Rattle.std.specs.declared.alloc.Global.{Global}
-use Rattle.bpaf_doc.specs.declared.doc.Piece.{Piece}
-use Rattle.bpaf_doc.specs.declared.item.Item.TheOpen.{Meta-F}
 use Rattle.bpaf_doc.specs.declared.item.Item.TheFolds.{fold-roll-Meta}
-use Rattle.bpaf_doc.specs.declared.meta.Meta.{Meta}
-use Rattle.bpaf_doc.specs.declared.meta.Meta as meta
-use Rattle.bpaf_doc.specs.declared.meta.MetaInfo.{MetaInfo}
 use Rattle.bpaf_line.specs.declared.error.Message.{Message}
 use Rattle.bpaf_line.specs.declared.error.Message.TheVariants.{Missing}
 use Rattle.bpaf_doc.specs.Shape.{Shape, Part, Subsection, shape_of, part_layer, shape_layer}
+use Rattle.bpaf_doc.specs.{declared.doc.Piece.Piece, declared.item.Item.TheOpen.Meta-F}
+use Rattle.bpaf_doc.specs.{declared.meta.Meta.Meta, declared.meta.MetaInfo.MetaInfo}
 use Rattle.bpaf_laws.specs.Reading.{Readings, Outcome}
-use Rattle.bpaf_laws.specs.Laws.{Lawful}
-use Rattle.bpaf_laws.specs.Hide.{HideOutcome, hidden}
-use Rattle.bpaf_laws.specs.RefusalNames.{NamesAnswer}
+use Rattle.bpaf_laws.specs.{Laws.Lawful, Hide.HideOutcome, Hide.hidden, RefusalNames.NamesAnswer}
 use Rattle.bpaf_laws.proofs.NamesAnswer.{names_same}
+use Rattle.bpaf_doc.specs.declared.meta.Meta as meta
 
 -- a refusal that names no missing item names its answer where it did
 names_hidden : (m : Message) → NamesAnswer m → NamesAnswer (hidden m)

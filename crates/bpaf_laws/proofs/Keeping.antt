@@ -4,16 +4,13 @@
 use Rattle.std.specs.Prelude.{◌≡◌, ◌≢◌, ℕ, ◌+◌, ◌==◌, Bool, true, false, not, ◌&&◌, ◌||◌, List, []}
 use Rattle.std.specs.Prelude.{◌∷◌, ◌++◌, Result, Ok, Err, Option, None, refl}
 use Rattle.std.proofs.Common.{sym, ◌∙◌, ap, subst, append_assoc, append-nil, arith, ⊎_elim}
-use Rattle.std.proofs.Common.{true≢false}
-use Rattle.std.proofs.lemmas.Bool.{cases_eq}
-use Rattle.std.proofs.lemmas.Bool.Decides.{nat_tests}
+use Rattle.std.proofs.{Common.true≢false, lemmas.Bool.cases_eq, lemmas.Bool.Decides.nat_tests}
 use Rattle.bpaf_line.specs.Situation.{Situation, is_taken, is_open, in_scope, take_place}
 use Rattle.bpaf_line.specs.Situation.{with_scope, with_path, with_current}
 use Rattle.bpaf_line.proofs.Marks.{keeps_marks_refl, keeps_marks_trans, keeps_marks_take}
 use Rattle.bpaf_line.proofs.Marks.{keeps_marks_scope, keeps_marks_path, keeps_marks_current}
 use Rattle.bpaf_line.proofs.Places.{taken_here, taken_other, open_not_taken}
-use Rattle.bpaf_line.specs.Conflicts.{ConflictsSaved}
-use Rattle.bpaf_line.specs.declared.error.Error.{Error}
+use Rattle.bpaf_line.specs.{Conflicts.ConflictsSaved, declared.error.Error.Error}
 use Rattle.bpaf_laws.specs.Reading.{Readings, Outcome, Joins, IsEmptyShare, IsPlace, IsPair}
 use Rattle.bpaf_laws.specs.Laws.{Keeps, Closes, Reads, Lawful, newly}
 

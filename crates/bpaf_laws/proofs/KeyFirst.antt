@@ -4,19 +4,15 @@ use Rattle.std.proofs.Common.{◌≡◌, ℕ, ◌+◌, ◌<◌, Bool, true, fals
 use Rattle.std.proofs.Common.{Some, None, ⊎_elim, sym, ◌∙◌, ap, subst, true≢false, arith, [], ◌∷◌}
 use Rattle.bpaf_doc.specs.Shape.{Part}
 use Rattle.bpaf_text.specs.Named.{KeyWithValue, argument_part}
-use Rattle.bpaf_laws.specs.Environment.{IsAbsence}
-use Rattle.bpaf_line.specs.Situation.{Situation}
-use Rattle.bpaf_line.specs.declared.error.Error.{Error}
-use Rattle.bpaf_line.specs.declared.error.Message.{Message}
-use Rattle.bpaf_line.specs.declared.error.Message.TheVariants.{Memory, ParseFailed}
-use Rattle.bpaf_line.specs.declared.error.Message.TheVariants.{NoArgument}
-use Rattle.bpaf_line.specs.Taking.{is_match, value_after}
+use Rattle.bpaf_line.specs.declared.error.Message.TheVariants.{Memory, ParseFailed, NoArgument}
+use Rattle.bpaf_line.specs.{Situation.Situation, declared.error.Error.Error}
+use Rattle.bpaf_line.specs.{declared.error.Message.Message, Taking.is_match, Taking.value_after}
 use Rattle.bpaf_laws.specs.Argument.{is_key_with_value, GetsText, TakesOwnText, TakesBefore}
 use Rattle.bpaf_laws.specs.Argument.{RefusesText, LacksText}
 use Rattle.bpaf_laws.proofs.KeysTaken.{TookLast, took_keys, took_last, taken_key, gone_key}
 use Rattle.bpaf_laws.proofs.KeysTaken.{key_before, last_value, bare_before, taken_value}
-use Rattle.bpaf_laws.specs.Value.{ReadsValue, FaultsText}
 use Rattle.bpaf_laws.specs.KeyFirst.{Counts, LacksOwnText, FailsKeyFirst, KeyBeforeEnvironment}
+use Rattle.bpaf_laws.specs.{Environment.IsAbsence, Value.ReadsValue, Value.FaultsText}
 
 -- the key that counts, the text behind it, and the place that is current then
 record Counted (last : Bool) (argument : KeyWithValue) (s : Situation) (text : List ℕ)

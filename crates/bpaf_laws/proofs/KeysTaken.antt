@@ -1,29 +1,25 @@
 -- What taking a key with the text behind it takes, and what taking all of them does.
 use Rattle.std.specs.Prelude.{◌≡◌, ◌≢◌, ℕ, zero, suc, ◌+◌, ◌<◌, ◌≤◌, ◌==◌, Bool, true, false, not}
 use Rattle.std.specs.Prelude.{◌&&◌, ◌||◌, List, [], ◌∷◌, ◌++◌, Option, Some, None, option_and_then}
-use Rattle.std.specs.Prelude.{refl}
-use Rattle.std.specs.Prelude.{if◌then◌else◌}
+use Rattle.std.specs.Prelude.{refl, if◌then◌else◌}
 use Rattle.std.specs.Option.{option_map_or}
 use Rattle.std.proofs.Common.{sym, subst, ap, ◌∙◌, ⊎_elim, arith, true≢false, add-one}
 use Rattle.std.proofs.lemmas.Bool.{cases_eq, cases_lt, or_left, or_right}
 use Rattle.std.proofs.lemmas.Bool.Decides.{nat_tests}
 use Rattle.bpaf_text.specs.Named.{KeyWithValue}
-use Rattle.bpaf_base.specs.declared.arg.Arg.{Arg}
 use Rattle.bpaf_base.specs.declared.arg.Arg.TheVariants.{Short}
-use Rattle.bpaf_base.specs.Items.{value_text}
+use Rattle.bpaf_base.specs.{declared.arg.Arg.Arg, Items.value_text}
 use Rattle.bpaf_line.specs.Situation.{Situation, is_open, is_taken, in_scope, item_at, item_in}
-use Rattle.bpaf_line.specs.Situation.{take_place}
+use Rattle.bpaf_line.specs.Situation.{take_place, open_count}
 use Rattle.bpaf_line.specs.Taking.{is_match, value_after}
 use Rattle.bpaf_line.proofs.Places.{taken_other, open_not_taken}
 use Rattle.bpaf_line.proofs.Matches.{match_is_open, match_has_item, value_is_open}
-use Rattle.bpaf_laws.specs.Reading.{Share, HasItem}
-use Rattle.bpaf_laws.specs.Laws.{Keeps, Closes, newly}
 use Rattle.bpaf_laws.specs.Argument.{is_key_with_value, TakesKeyWithText, TakesKeysWithTexts}
 use Rattle.bpaf_laws.specs.Argument.{behind, IsKeyBefore, TakesLastText}
+use Rattle.bpaf_laws.specs.{Reading.Share, Reading.HasItem, Laws.Keeps, Laws.Closes, Laws.newly}
 use Rattle.bpaf_laws.proofs.Keeping.{keeps_refl, keeps_trans, keeps_take, newly_none, newly_joins}
 use Rattle.bpaf_laws.proofs.Keeping.{newly_take_both, closes_take_both}
 use Rattle.bpaf_laws.proofs.CountingLaws.{same_took_none}
-use Rattle.bpaf_line.specs.Situation.{open_count}
 
 module _ (argument : KeyWithValue) (s : Situation) (text : List ℕ) (t : Situation)
     (takes : TakesKeyWithText argument s text t) where

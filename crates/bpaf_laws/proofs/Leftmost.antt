@@ -1,19 +1,15 @@
 -- The leftmost place that only one of two branches took belongs to the chosen one.
 use Rattle.std.proofs.Common.{◌≡◌, ◌≢◌, ◌⊎◌, ℕ, ◌<◌, ◌≤◌, Bool, true, false, not, ◌&&◌, Result, Ok}
 use Rattle.std.proofs.Common.{Err, Option, Some, None, IsOk, refl, sym, ◌∙◌, subst, arith, inl, inr}
-use Rattle.std.proofs.Common.{⊎_elim, true≢false}
-use Rattle.std.proofs.lemmas.Bool.{cases_lt, cases_eq}
-use Rattle.std.proofs.lemmas.Bool.Decides.{nat_tests}
 use Rattle.bpaf_line.specs.Conflicts.{IsLeftmost, TakeTheSame, IsWinner}
 use Rattle.bpaf_line.specs.Situation.{Situation, is_taken, open_count}
 use Rattle.bpaf_line.specs.declared.error.Error.{Error}
-use Rattle.bpaf_laws.specs.Reading.{Readings, Outcome}
-use Rattle.bpaf_laws.specs.Laws.{Lawful}
-use Rattle.bpaf_laws.specs.Turn.{is_untouched}
 use Rattle.bpaf_laws.specs.Choice.{AnsweredBranch, branch_of, depth, Stands, Winner, EqualDepths}
 use Rattle.bpaf_laws.specs.Choice.{Chosen, IsChosen, TookAndIsChosen, ChoiceOutcome, LeftmostWins}
+use Rattle.bpaf_laws.specs.{Reading.Readings, Reading.Outcome, Laws.Lawful, Turn.is_untouched}
 use Rattle.bpaf_laws.proofs.CountingLaws.{same_took_none}
-use Rattle.std.proofs.Math.Bool.{and-eq-true_iff}
+use Rattle.std.proofs.{Common.⊎_elim, Common.true≢false, lemmas.Bool.cases_lt, lemmas.Bool.cases_eq}
+use Rattle.std.proofs.{lemmas.Bool.Decides.nat_tests, Math.Bool.and-eq-true_iff}
 
 -- what stays taken and isn't newly taken is as it was
 no_more : (x y : Bool) → (x ≡ true → y ≡ true) → (y && not x) ≡ false → y ≡ x

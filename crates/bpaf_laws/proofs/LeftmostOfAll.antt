@@ -1,14 +1,11 @@
 -- In a choice of any number of parsers the leftmost wins.
 use Rattle.std.proofs.Common.{List, [], ◌∷◌, Result, Ok, Err}
-use Rattle.bpaf_line.specs.Situation.{Situation}
-use Rattle.bpaf_line.specs.declared.error.Error.{Error}
-use Rattle.bpaf_laws.specs.Reading.{Readings, Outcome}
-use Rattle.bpaf_laws.specs.Laws.{Lawful}
+use Rattle.bpaf_line.specs.{Situation.Situation, declared.error.Error.Error}
 use Rattle.bpaf_laws.specs.Choice.{ChoiceOutcome, ChoiceReads, LeftmostWins}
-use Rattle.bpaf_laws.proofs.ChoiceLaws.{choice_lawful}
-use Rattle.bpaf_laws.proofs.Leftmost.{leftmost_is_chosen}
 use Rattle.bpaf_laws.specs.Choices.{Nested, ChoicesOutcome, LeftmostOfAll}
+use Rattle.bpaf_laws.specs.{Reading.Readings, Reading.Outcome, Laws.Lawful}
 use Rattle.bpaf_laws.proofs.ChoosingAll.{ran_fewer, choice_fewer}
+use Rattle.bpaf_laws.proofs.{ChoiceLaws.choice_lawful, Leftmost.leftmost_is_chosen}
 
 -- one choice more in which the leftmost wins
 choice_leftmost : {T : Type 0} {before second : Outcome T} {before_reads second_reads : Readings T}

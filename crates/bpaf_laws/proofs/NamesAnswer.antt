@@ -2,27 +2,22 @@
 use Rattle.std.specs.Prelude.{◌≡◌, ℕ, Bool, true, false, List, [], ◌∷◌, Option, Some, None}
 use Rattle.std.specs.Prelude.{if◌then◌else◌, refl}
 use Rattle.std.proofs.Common.{sym, subst, ⊎_elim, true≢false}
-use Rattle.bpaf_doc.specs.declared.doc.Piece.{Piece}
-use Rattle.bpaf_doc.specs.Shape.{Part}
-use Rattle.bpaf_line.specs.Situation.{Situation}
-use Rattle.bpaf_line.specs.declared.error.Message.{Message}
-use Rattle.bpaf_line.specs.declared.error.Message.TheVariants.{Memory}
-use Rattle.bpaf_line.specs.declared.error.Message.TheVariants.{Missing, ParseFailure}
+use Rattle.bpaf_doc.specs.{declared.doc.Piece.Piece, Shape.Part}
+use Rattle.bpaf_line.specs.declared.error.Message.TheVariants.{Memory, Missing, ParseFailure}
 use Rattle.bpaf_line.specs.declared.error.Message.TheVariants.{StrictPos, NonStrictPos, NoArgument}
 use Rattle.bpaf_line.specs.declared.error.Message.TheVariants.{ParseFailed, GuardFailed, Conflict}
 use Rattle.bpaf_line.specs.declared.error.Message.TheVariants.{Unconsumed, Ambiguity, Expected}
 use Rattle.bpaf_line.specs.declared.error.Message.TheVariants.{OnlyOnce}
-use Rattle.bpaf_line.specs.declared.failure.ParseFailure.{ParseFailure as Failure}
-use Rattle.bpaf_line.specs.declared.failure.ParseFailure.TheVariants as failure
 use Rattle.bpaf_line.specs.Combining.{Combines, CombinesSpared}
 use Rattle.bpaf_line.specs.Messages.{can_catch, is_answer, is_memory}
-use Rattle.bpaf_line.specs.Rendering.{Renders}
+use Rattle.bpaf_line.specs.{Situation.Situation, declared.error.Message.Message, Rendering.Renders}
 use Rattle.bpaf_laws.specs.RefusalNames.{HasSomeName, NamesAnswer, Refusal, refusal_of, told}
 use Rattle.bpaf_laws.specs.RefusalNames.{no_memory, ambiguous_word, missing_item, missing_value}
 use Rattle.bpaf_laws.specs.RefusalNames.{wrong_side, unreadable_text, refused_value, no_value}
 use Rattle.bpaf_laws.specs.RefusalNames.{conflict, repeated_key, unexpected_item, wanting}
-use Rattle.bpaf_laws.specs.Environment.{IsAbsence}
-use Rattle.bpaf_laws.specs.Transform.{TellsFault}
+use Rattle.bpaf_laws.specs.{Environment.IsAbsence, Transform.TellsFault}
+use Rattle.bpaf_line.specs.declared.failure.ParseFailure.{ParseFailure as Failure}
+use Rattle.bpaf_line.specs.declared.failure.ParseFailure.TheVariants as failure
 
 -- a message is one that names its answer
 pub names_same : (m n : Message) → NamesAnswer n → m ≡ n → NamesAnswer m

@@ -1,14 +1,12 @@
 -- What a parser takes that reads a stretch of present places, and leaves none of them.
-use Rattle.std.proofs.Common.{◌≡◌, ℕ, ◌<◌, ◌≤◌, Bool, true, false, not, ◌&&◌, nat_le, nat_lt}
-use Rattle.std.proofs.Common.{refl, sym, arith}
-use Rattle.std.proofs.lemmas.Bool.{and_parts}
+use Rattle.std.proofs.Common.{◌≡◌, ℕ, ◌<◌, ◌≤◌, Bool, true, false, not, ◌&&◌, nat_le, nat_lt, refl}
 use Rattle.std.proofs.lemmas.Bool.Decides.{nat_tests}
+use Rattle.std.proofs.{Common.sym, Common.arith, lemmas.Bool.and_parts}
 use Rattle.bpaf_line.specs.Situation.{Situation, in_scope, is_open, is_taken, open_count}
 use Rattle.bpaf_line.specs.Situation.{with_scope}
 use Rattle.bpaf_line.proofs.Places.{open_not_taken}
 use Rattle.bpaf_laws.specs.Laws.{Keeps, Closes, newly}
-use Rattle.bpaf_laws.proofs.CommandLaws.{leaves_nothing}
-use Rattle.bpaf_laws.proofs.Keeping.{keeps_refl, keeps_scope}
+use Rattle.bpaf_laws.proofs.{CommandLaws.leaves_nothing, Keeping.keeps_refl, Keeping.keeps_scope}
 
 -- at one place: what is newly taken is what lies in the stretch
 pub new_in_stretch : (taken before inside : Bool)

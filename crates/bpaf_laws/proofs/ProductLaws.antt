@@ -1,16 +1,12 @@
 -- Products keep to the laws where their fields do.
 use Rattle.std.specs.Prelude.{◌≡◌, true, false, Result, Ok, Err, None, if◌then◌else◌}
 use Rattle.std.proofs.Common.{sym, subst, inl, inr, refl, ⊎_elim}
-use Rattle.bpaf_line.specs.Situation.{Situation}
-use Rattle.bpaf_line.specs.Messages.{is_memory}
-use Rattle.bpaf_line.specs.declared.error.Error.{Error}
-use Rattle.bpaf_laws.specs.Reading.{Readings, Outcome}
-use Rattle.bpaf_laws.specs.Laws.{Keeps, Reads, Lawful, newly}
-use Rattle.bpaf_laws.specs.RefusalNames.{NamesAnswer}
+use Rattle.bpaf_line.specs.{Situation.Situation, Messages.is_memory, declared.error.Error.Error}
 use Rattle.bpaf_laws.proofs.Keeping.{keeps_of, keeps_trans, keeps_current, closes_trans}
 use Rattle.bpaf_laws.proofs.Keeping.{newly_joins}
 use Rattle.bpaf_laws.specs.Product.{BothReads, BothOutcome, FailFastOutcome, joined, ProductOutcome}
-use Rattle.bpaf_laws.specs.Transform.{MapReads}
+use Rattle.bpaf_laws.specs.{Reading.Readings, Reading.Outcome, Laws.Keeps, Laws.Reads, Laws.Lawful}
+use Rattle.bpaf_laws.specs.{Laws.newly, RefusalNames.NamesAnswer, Transform.MapReads}
 
 -- the values of fields that were evaluated one after the other are a reading of both
 both_ok : (A B : Type 0) (first : Outcome A) (rest : Outcome B) (rf : Readings A) (rr : Readings B)

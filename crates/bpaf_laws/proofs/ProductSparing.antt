@@ -1,8 +1,7 @@
 -- Products catch no field's want of memory.
 use Rattle.std.specs.Prelude.{◌≡◌, true, false, Result, Ok, Err, if◌then◌else◌}
 use Rattle.std.proofs.Common.{subst, inl, inr, refl}
-use Rattle.bpaf_line.specs.Messages.{is_memory}
-use Rattle.bpaf_line.specs.declared.error.Error.{Error}
+use Rattle.bpaf_line.specs.{Messages.is_memory, declared.error.Error.Error}
 use Rattle.bpaf_laws.specs.Reading.{Outcome}
 use Rattle.bpaf_laws.specs.Spared.{IsNotMemory, Spares, WithoutMemory}
 use Rattle.bpaf_laws.specs.Product.{BothOutcome, FailFastOutcome, joined, ProductOutcome}

@@ -2,11 +2,10 @@
 use Rattle.std.specs.Prelude.{ℕ, List, Ok}
 use Rattle.std.proofs.Common.{⊎_elim}
 use Rattle.bpaf_line.specs.declared.error.Message.TheVariants.{Memory, ParseFail}
-use Rattle.bpaf_laws.specs.Laws.{Lawful}
 use Rattle.bpaf_laws.proofs.NamesAnswer.{names_same}
 use Rattle.bpaf_laws.proofs.Keeping.{keeps_same, keeps_unset, newly_none, reads_same, reads_unset}
-use Rattle.bpaf_laws.specs.Default.{Gives, NamesGiven}
 use Rattle.bpaf_laws.specs.Pure.{GivesRefusal, PureOutcome, PureReads, PureWithOutcome}
+use Rattle.bpaf_laws.specs.{Laws.Lawful, Default.Gives, Default.NamesGiven}
 
 -- leaves that look at no item keep to the laws
 pub pure_lawful : {T : Type 0} (gives : Gives T) → NamesGiven gives

@@ -1,10 +1,9 @@
 -- What reading a text is for a parser.
 use Rattle.std.proofs.Common.{ℕ, List, Result, Ok, Err, Option, refl, sym, subst}
-use Rattle.bpaf_text.specs.Meaning.{ReadsText}
-use Rattle.bpaf_text.specs.declared.fault.TextFault.{TextFault}
-use Rattle.bpaf_text.specs.declared.fault.TextFault.TheVariants as fault
+use Rattle.bpaf_text.specs.{Meaning.ReadsText, declared.fault.TextFault.TextFault}
 use Rattle.bpaf_line.specs.declared.error.Error.{Error}
 use Rattle.bpaf_laws.specs.Value.{ReadsValue, FaultsText, TellsReading}
+use Rattle.bpaf_text.specs.declared.fault.TextFault.TheVariants as fault
 
 module _ {T : Type 0} (means : List ℕ → T → Type 0) (text : List ℕ) (current : Option ℕ) where
   -- what is told of a reading of a text is an answer for that text

@@ -3,23 +3,20 @@ use Rattle.std.specs.Prelude.{◌≡◌, ℕ, ◌+◌, ◌<◌, ◌≤◌, Bool,
 use Rattle.std.specs.Prelude.{[], ◌∷◌, ◌++◌, length, Ok, Some, None, refl}
 use Rattle.std.specs.Global.{Vec}
 use Rattle.std.proofs.Common.{sym, ◌∙◌, ap, subst, ⊎_elim, inl, arith, true≢false}
-use Rattle.bpaf_line.specs.Situation.{Situation, open_count}
-use Rattle.bpaf_line.specs.declared.error.Error.{Error}
 use Rattle.bpaf_laws.specs.Reading.{Readings, Outcome, IsEmptyShare}
 use Rattle.bpaf_laws.specs.Laws.{Keeps, Closes, Reads, Lawful, newly}
 use Rattle.bpaf_laws.proofs.Keeping.{keeps_refl, keeps_trans, closes_refl, closes_trans}
 use Rattle.bpaf_laws.proofs.Keeping.{newly_joins, newly_none}
 use Rattle.bpaf_laws.proofs.CountingLaws.{open_count-falls, fewer_took, same_took_none}
-use Rattle.bpaf_laws.specs.Turn.{TurnOutcome}
 use Rattle.bpaf_laws.proofs.DefaultLaws.{step_named, step_refused}
 use Rattle.bpaf_laws.proofs.NamesAnswer.{names_same, names_want}
-use Rattle.bpaf_laws.specs.RefusalNames.{NamesAnswer}
 use Rattle.bpaf_line.specs.declared.error.Message.TheVariants.{Memory, ParseSome}
+use Rattle.bpaf_line.specs.{Situation.Situation, Situation.open_count, declared.error.Error.Error}
 use Rattle.bpaf_laws.specs.Repeat.{is_nil, Turns, UntilStop, UntilError, UntilRest, UntilFault}
 use Rattle.bpaf_laws.specs.Repeat.{stops, rests, ListOutcome, EachReads, ListReads, ManyOutcome}
 use Rattle.bpaf_laws.specs.Repeat.{SomeOutcome, CollectOutcome, CountOutcome, LastOutcome}
 use Rattle.bpaf_laws.specs.Repeat.{EachTakes, LaterTake, IsBounded}
-use Rattle.bpaf_laws.specs.Transform.{MapReads}
+use Rattle.bpaf_laws.specs.{Turn.TurnOutcome, RefusalNames.NamesAnswer, Transform.MapReads}
 
 -- what a stop leaves as it was: it takes nothing
 record TakesNothing (s t : Situation) : Type 0 where

@@ -1,14 +1,10 @@
 -- Repeats catch no want of memory.
 use Rattle.std.proofs.Common.{◌≡◌, ℕ, Bool, true, false, List, [], Ok, Err, None, inl, inr, ⊎_elim}
 use Rattle.std.specs.Prelude.{◌∷◌}
-use Rattle.bpaf_line.specs.Messages.{is_memory}
-use Rattle.bpaf_line.specs.Situation.{Situation}
-use Rattle.bpaf_line.specs.declared.error.Error.{Error}
-use Rattle.bpaf_laws.specs.Reading.{Outcome}
+use Rattle.bpaf_line.specs.{Messages.is_memory, Situation.Situation, declared.error.Error.Error}
 use Rattle.bpaf_laws.specs.Repeat.{is_nil, Turns, UntilRest, UntilFault, stops, rests, ListOutcome}
 use Rattle.bpaf_laws.specs.Repeat.{ManyOutcome, SomeOutcome, CollectOutcome, CountOutcome}
-use Rattle.bpaf_laws.specs.Repeat.{LastOutcome}
-use Rattle.bpaf_laws.specs.Spared.{WithoutMemory}
+use Rattle.bpaf_laws.specs.{Reading.Outcome, Repeat.LastOutcome, Spared.WithoutMemory}
 use Rattle.bpaf_laws.proofs.Sparing.{CatchesNoMemory, spared_step, not_both}
 
 module _ {T : Type 0} (inner : Outcome T) where

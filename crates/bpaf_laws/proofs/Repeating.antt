@@ -2,19 +2,13 @@
 use Rattle.std.proofs.Common.{◌≡◌, ◌≢◌, ◌⊎◌, ℕ, ◌+◌, ◌<◌, ◌≤◌, ◌==◌, Bool, true, false, not, List}
 use Rattle.std.proofs.Common.{[], ◌∷◌, ◌++◌, length, Option, Some, None, Result, Ok, Err, IsErrAnd}
 use Rattle.std.proofs.Common.{is_some, is_none, if◌then◌else◌, refl, sym, ◌∙◌, ap, subst, inl, inr}
-use Rattle.std.proofs.Common.{arith}
-use Rattle.std.proofs.lemmas.Bool.Decides.{nat_tests}
-use Rattle.std.specs.Prelude.{vec_len}
-use Rattle.std.specs.Global.{Vec}
-use Rattle.bpaf_line.specs.Messages.{is_memory}
-use Rattle.bpaf_line.specs.Situation.{Situation, open_count}
-use Rattle.bpaf_line.specs.declared.error.Error.{Error}
-use Rattle.bpaf_line.specs.declared.error.Message.TheVariants.{Memory}
-use Rattle.bpaf_laws.specs.Reading.{Readings, Outcome}
-use Rattle.bpaf_laws.specs.Laws.{Lawful}
+use Rattle.std.proofs.{Common.arith, lemmas.Bool.Decides.nat_tests}
+use Rattle.std.specs.{Prelude.vec_len, Global.Vec}
+use Rattle.bpaf_line.specs.{Messages.is_memory, Situation.Situation, Situation.open_count}
+use Rattle.bpaf_line.specs.{declared.error.Error.Error, declared.error.Message.TheVariants.Memory}
 use Rattle.bpaf_laws.proofs.CountingLaws.{open_count-falls}
-use Rattle.bpaf_laws.specs.Turn.{TurnOutcome}
 use Rattle.bpaf_laws.specs.Repeat.{is_nil, Turns, UntilRest, stops, rests, ManyOutcome, LastOutcome}
+use Rattle.bpaf_laws.specs.{Reading.Readings, Reading.Outcome, Laws.Lawful, Turn.TurnOutcome}
 use Rattle.bpaf_laws.proofs.RepeatLaws.{took_item, steps_more, values_bounded, step_falls}
 
 -- a number above nothing isn't nothing

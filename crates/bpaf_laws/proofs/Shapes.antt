@@ -1,8 +1,7 @@
 -- What fields show, one after another.
 use Rattle.std.proofs.Common.{◌≡◌, List, [], ◌∷◌, ◌++◌, map, refl, ap, ◌∙◌}
 use Rattle.std.proofs.lemmas.List.{map-append}
-use Rattle.bpaf_doc.specs.declared.meta.Meta.{Meta}
-use Rattle.bpaf_doc.specs.Shape.{Shape, shape_of}
+use Rattle.bpaf_doc.specs.{declared.meta.Meta.Meta, Shape.Shape, Shape.shape_of}
 use Rattle.bpaf_laws.specs.Product.{AppendsShapes, LastDescribes}
 
 -- one more shape, that of the last field

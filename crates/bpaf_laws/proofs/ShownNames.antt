@@ -1,27 +1,24 @@
 -- Which short names each type shows, by those that its inner parsers show.
 use Rattle.std.proofs.Common.{◌≡◌, List, [], ◌∷◌, ◌++◌, ℕ, Option, Some, None, refl, sym, ap, ap₂}
-use Rattle.std.proofs.Common.{Result}
+use Rattle.std.proofs.Common.{Result, ◌∙◌, append_assoc, append-nil, flat_map}
 use Rattle.std.specs.declared.alloc.AllocError.{AllocError}
-use Rattle.std.proofs.Common.{◌∙◌, append_assoc, append-nil, flat_map}
 use Rattle.std.proofs.lemmas.List.Concat.{flat_map-append}
-use Rattle.bpaf_doc.specs.Names.{Names}
-use Rattle.bpaf_doc.specs.declared.meta.MetaInfo.{MetaInfo}
 use Rattle.bpaf_doc.specs.Shape.{Adjacent, Shown, Shape, Shapes, Or, Optional, Required, Many, Part}
 use Rattle.bpaf_doc.specs.Shape.{Suffix, Subsection, CustomUsage, none, ◌then◌, members, shape_of}
-use Rattle.bpaf_doc.specs.{Shape.alternatives, Shape.shapes_of, declared.doc.Piece.Piece}
+use Rattle.bpaf_doc.specs.Shape.{alternatives, shapes_of}
 use Rattle.bpaf_doc.specs.Walks.{parts, parts_of_all, shorts_of_argument, shorts_of_flag}
+use Rattle.bpaf_doc.specs.{Names.Names, declared.meta.MetaInfo.MetaInfo, declared.doc.Piece.Piece}
 use Rattle.bpaf_words.specs.Spelling.{ShortNames}
 use Rattle.bpaf_text.specs.Named.{KeyWithValue, Named}
-use Rattle.bpaf_laws.specs.{Argument.argument_shape, Flag.flag_shape}
-use Rattle.bpaf_laws.specs.{Choice.ChoiceDescribes, Choice.either_shape, Choices.ChoicesDescribes}
-use Rattle.bpaf_laws.specs.{Choices.Nested, Default.DefaultDescribes, Default.OptionalDescribes}
+use Rattle.bpaf_laws.specs.Choice.{ChoiceDescribes, either_shape}
+use Rattle.bpaf_laws.specs.Default.{DefaultDescribes, OptionalDescribes}
 use Rattle.bpaf_laws.specs.Hide.{SectionDescribes, TitledDescribes, UsageDescribes, usage_pieces}
-use Rattle.bpaf_laws.specs.AdjacentGroup.{GroupDescribes}
-use Rattle.bpaf_laws.specs.{Product.BothDescribes, Product.LastDescribes, Product.ProductDescribes}
-use Rattle.bpaf_laws.specs.{Repeat.ManyDescribes, Repeat.SomeDescribes, Command.Called}
-use Rattle.bpaf_laws.specs.{Command.CommandDescribes}
+use Rattle.bpaf_laws.specs.Product.{BothDescribes, LastDescribes, ProductDescribes}
 use Rattle.bpaf_laws.specs.ShownNames.{FieldsShowNames, ShowsNames, all_shorts, joined_shorts}
 use Rattle.bpaf_laws.specs.ShownNames.{of_arguments, of_flags, shorts_of}
+use Rattle.bpaf_laws.specs.{Argument.argument_shape, Flag.flag_shape, Choices.ChoicesDescribes}
+use Rattle.bpaf_laws.specs.{Choices.Nested, AdjacentGroup.GroupDescribes, Repeat.ManyDescribes}
+use Rattle.bpaf_laws.specs.{Repeat.SomeDescribes, Command.Called, Command.CommandDescribes}
 
 -- a parser of one shape, of these names
 pub one_shape : {shape : Shape} {names : ShortNames} → shorts_of (parts shape) ≡ names

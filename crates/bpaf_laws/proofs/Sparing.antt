@@ -2,13 +2,10 @@
 use Rattle.std.proofs.Common.{◌≡◌, Bool, true, false, not, Result, Ok, Err, Option, Some, None, inl}
 use Rattle.std.proofs.Common.{inr, ⊎_elim, true≢false, sym, ◌∙◌}
 use Rattle.std.proofs.lemmas.Bool.{not-true, and_parts}
-use Rattle.bpaf_line.specs.declared.error.Error.{Error}
-use Rattle.bpaf_line.specs.Messages.{is_memory}
-use Rattle.bpaf_line.specs.Situation.{Situation}
 use Rattle.bpaf_line.specs.declared.error.Message.{Message}
-use Rattle.bpaf_laws.specs.Reading.{Outcome}
-use Rattle.bpaf_laws.specs.Turn.{TurnOutcome, stops_step, stops_spared}
+use Rattle.bpaf_line.specs.{declared.error.Error.Error, Messages.is_memory, Situation.Situation}
 use Rattle.bpaf_laws.specs.Spared.{IsNotMemory, WithoutMemory, NoneTakesNothing}
+use Rattle.bpaf_laws.specs.{Reading.Outcome, Turn.TurnOutcome, Turn.stops_step, Turn.stops_spared}
 
 -- what isn't want of memory comes of an inner answer that isn't want of memory either
 abbrev pub CatchesNoMemory : {T R : Type 0} → (Outcome T → Outcome R) → Outcome T → Type 0

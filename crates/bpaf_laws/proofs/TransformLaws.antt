@@ -1,11 +1,10 @@
 -- Parsers that change the value of an inner one keep to the laws where it does.
 use Rattle.std.specs.Prelude.{◌≡◌, ℕ, Bool, true, List, Result, Ok, Option, refl}
 use Rattle.std.proofs.Common.{⊎_elim}
-use Rattle.bpaf_laws.specs.Reading.{Readings, Outcome}
 use Rattle.bpaf_line.specs.declared.error.Message.TheVariants.{Memory, GuardFailed, ParseFailed}
-use Rattle.bpaf_laws.specs.Laws.{Reads, Lawful}
 use Rattle.bpaf_laws.proofs.NamesAnswer.{names_fault, names_same}
 use Rattle.bpaf_laws.specs.Transform.{MapReads, MapOutcome, ParseOutcome, GuardOutcome}
+use Rattle.bpaf_laws.specs.{Reading.Readings, Reading.Outcome, Laws.Reads, Laws.Lawful}
 
 module _ {T : Type 0} {inner : Outcome T} {reads : Readings T} (law : Lawful T inner reads) where
   -- an inner value that was read, with what a closure made of it, is a reading

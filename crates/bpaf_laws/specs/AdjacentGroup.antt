@@ -1,18 +1,13 @@
 -- Adjacent groups: products whose items stand next to one another.
-use Rattle.std.specs.Prelude.{◌≡◌, ℕ, ◌+◌, ◌<◌, ◌≤◌, true, false, List, [], ◌∷◌, Result, Ok}
-use Rattle.std.specs.Prelude.{Err, Option, Some, None, nat_lt, if◌then◌else◌}
+use Rattle.std.specs.Prelude.{◌≡◌, ℕ, ◌+◌, ◌<◌, ◌≤◌, true, false, List, [], ◌∷◌, Result, Ok, Err}
+use Rattle.std.specs.Prelude.{Option, Some, None, nat_lt, if◌then◌else◌}
 use Rattle.bpaf_doc.specs.Shape.{Shape, Part, Argument, Adjacent}
-use Rattle.bpaf_line.specs.declared.error.Error.{Error}
-use Rattle.bpaf_line.specs.declared.error.Message.TheVariants as message
-use Rattle.bpaf_line.specs.declared.missing.MissingItem.{MissingItem}
-use Rattle.bpaf_line.specs.Messages.{is_memory}
-use Rattle.bpaf_line.specs.MissingIn.{IsMissingIn}
-use Rattle.bpaf_line.specs.Stretches.{IsStretchFrom}
 use Rattle.bpaf_line.specs.Situation.{Situation, with_scope, HasNoneOpen, IsNextOpen}
-use Rattle.bpaf_laws.specs.Counting.{taken_count}
-use Rattle.bpaf_laws.specs.Laws.{newly}
+use Rattle.bpaf_line.specs.{declared.error.Error.Error, declared.missing.MissingItem.MissingItem}
+use Rattle.bpaf_line.specs.{Messages.is_memory, MissingIn.IsMissingIn, Stretches.IsStretchFrom}
 use Rattle.bpaf_laws.specs.Reading.{Share, Outcome, IsEmptyShare, HasPlace}
-use Rattle.bpaf_laws.specs.Spared.{IsNotMemory}
+use Rattle.bpaf_laws.specs.{Counting.taken_count, Laws.newly, Spared.IsNotMemory}
+use Rattle.bpaf_line.specs.declared.error.Message.TheVariants as message
 
 -- how many places the first item of a group has: an argument two, each other one
 abbrev pub place_count : Part → ℕ

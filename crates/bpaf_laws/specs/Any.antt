@@ -2,13 +2,11 @@
 use Rattle.std.specs.Prelude.{◌≡◌, ◌≢◌, ◌⊎◌, ℕ, ◌+◌, Bool, true, false, List, ◌∷◌, ◌++◌, take, All}
 use Rattle.std.specs.Prelude.{if◌then◌else◌, Ok, Err, Option, Some, None}
 use Rattle.bpaf_doc.specs.Shape.{Part}
-use Rattle.bpaf_base.specs.declared.arg.Arg.{Arg}
-use Rattle.bpaf_base.specs.Items.{item_text, is_attached}
-use Rattle.bpaf_line.specs.MissingIn.{IsMissingIn}
-use Rattle.bpaf_line.specs.OpenItems.{open_items}
+use Rattle.bpaf_base.specs.{declared.arg.Arg.Arg, Items.item_text, Items.is_attached}
 use Rattle.bpaf_line.specs.Situation.{Situation, Context, item_in, is_open, take_place}
 use Rattle.bpaf_line.specs.declared.error.Message.{Message}
 use Rattle.bpaf_line.specs.declared.error.Message.TheVariants.{Memory, Missing}
+use Rattle.bpaf_line.specs.{MissingIn.IsMissingIn, OpenItems.open_items}
 use Rattle.bpaf_laws.specs.Reading.{Share, Outcome, IsPlace, IsPair}
 
 -- what a look at a text may answer: Some of a value where it matches, None where it doesn't

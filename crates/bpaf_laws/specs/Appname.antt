@@ -1,9 +1,7 @@
 -- The name by which a program is called.
 use Rattle.std.specs.Prelude.{◌≡◌, ℕ, List, [], ◌∷◌, Some, Ok, Err, IfSome, codes, slice_get}
-use Rattle.std.specs.Prelude.{string_bytes, String}
-use Rattle.std.specs.declared.alloc.Global.{Global}
-use Rattle.bpaf_line.specs.Situation.{Situation}
-use Rattle.bpaf_line.specs.declared.error.Message.TheVariants.{Memory}
+use Rattle.std.specs.{Prelude.string_bytes, Prelude.String, declared.alloc.Global.Global}
+use Rattle.bpaf_line.specs.{Situation.Situation, declared.error.Message.TheVariants.Memory}
 use Rattle.bpaf_laws.specs.Reading.{Readings, Outcome, IsEmptyShare}
 
 -- the first entry of a path, else `app`

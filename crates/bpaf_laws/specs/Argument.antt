@@ -1,20 +1,16 @@
 -- Arguments: a key and the text behind it.
 use Rattle.std.specs.Prelude.{◌≡◌, ◌⊎◌, ℕ, zero, suc, ◌+◌, ◌≤◌, Bool, true, false, ◌||◌, List, []}
-use Rattle.std.specs.Prelude.{◌∷◌, ◌++◌, Result, Ok, Err, Some, None}
-use Rattle.std.specs.Prelude.{Option, option_and_then}
+use Rattle.std.specs.Prelude.{◌∷◌, ◌++◌, Result, Ok, Err, Some, None, Option, option_and_then}
 use Rattle.std.specs.Option.{option_map_or, IsSomeRelated}
 use Rattle.bpaf_doc.specs.Shape.{Shape, Shown, Skip}
 use Rattle.bpaf_text.specs.Named.{KeyWithValue, argument_part}
-use Rattle.bpaf_base.specs.declared.arg.Arg.{Arg}
-use Rattle.bpaf_base.specs.Items.{is_argument_key, value_text}
+use Rattle.bpaf_base.specs.{declared.arg.Arg.Arg, Items.is_argument_key, Items.value_text}
 use Rattle.bpaf_line.specs.Situation.{Situation, Context, item_in, with_current}
 use Rattle.bpaf_line.specs.Taking.{TakesValue, RefusesArgument, HasNone}
-use Rattle.bpaf_line.specs.declared.error.Error.{Error}
-use Rattle.bpaf_line.specs.declared.error.Message.{Message}
 use Rattle.bpaf_line.specs.declared.error.Message.TheVariants.{Memory, ParseFailed, NoArgument}
+use Rattle.bpaf_line.specs.{declared.error.Error.Error, declared.error.Message.Message}
 use Rattle.bpaf_laws.specs.Reading.{Share, Outcome, Readings, IsEmptyShare, IsPair, HasItem}
-use Rattle.bpaf_laws.specs.Environment.{first_set, IsAbsence}
-use Rattle.bpaf_laws.specs.Value.{FaultsText}
+use Rattle.bpaf_laws.specs.{Environment.first_set, Environment.IsAbsence, Value.FaultsText}
 
 -- a key of the argument
 abbrev pub is_key_with_value : KeyWithValue → Arg → Bool

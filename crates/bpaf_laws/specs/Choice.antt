@@ -1,16 +1,12 @@
 -- A choice of two parsers, both of which are evaluated from the same situation.
-use Rattle.std.specs.Prelude.{◌≡◌, ◌⊎◌, ◌<◌, ℕ, Bool, true, false, ◌&&◌, ◌++◌}
-use Rattle.std.specs.Prelude.{length, Result, Ok, Err, Option, Some, None}
-use Rattle.std.specs.Result.{IsOk}
+use Rattle.std.specs.Prelude.{◌≡◌, ◌⊎◌, ◌<◌, ℕ, Bool, true, false, ◌&&◌, ◌++◌, length, Result, Ok}
+use Rattle.std.specs.{Prelude.Err, Prelude.Option, Prelude.Some, Prelude.None, Result.IsOk}
 use Rattle.bpaf_doc.specs.Shape.{Shape, Or, alternatives, members}
-use Rattle.bpaf_line.specs.Messages.{is_memory, is_wrong_input}
-use Rattle.bpaf_line.specs.Combining.{Combines}
 use Rattle.bpaf_line.specs.Conflicts.{IsLeftmost, TakeTheSame, IsWinner, ConflictsSaved}
-use Rattle.bpaf_line.specs.Situation.{Situation, is_taken}
-use Rattle.bpaf_line.specs.declared.error.Error.{Error}
+use Rattle.bpaf_line.specs.{Messages.is_memory, Messages.is_wrong_input, Combining.Combines}
+use Rattle.bpaf_line.specs.{Situation.Situation, Situation.is_taken, declared.error.Error.Error}
 use Rattle.bpaf_laws.specs.Reading.{Readings, Outcome}
-use Rattle.bpaf_laws.specs.Spared.{IsNotMemory}
-use Rattle.bpaf_laws.specs.Turn.{is_untouched}
+use Rattle.bpaf_laws.specs.{Spared.IsNotMemory, Turn.is_untouched}
 
 -- how many names the path has
 abbrev pub depth : Situation → ℕ

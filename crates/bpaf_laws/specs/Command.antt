@@ -1,12 +1,10 @@
 -- Commands: a word that opens a run of its own over the items after it.
 use Rattle.std.specs.Prelude.{◌≡◌, ℕ, Bool, true, false, List, [], ◌∷◌, ◌++◌, Option, Some, None}
 use Rattle.std.specs.Prelude.{map, bytes_eq, encode_utf8, slice_get}
-use Rattle.std.specs.List.{list_any}
-use Rattle.std.specs.Option.{option_map_or}
+use Rattle.std.specs.{List.list_any, Option.option_map_or}
 use Rattle.bpaf_doc.specs.declared.doc.Piece.{Piece}
 use Rattle.bpaf_doc.specs.Shape.{Shape, Shown, Part, Command}
-use Rattle.bpaf_base.specs.declared.arg.Arg.{Arg}
-use Rattle.bpaf_base.specs.Items.{any_item, command_word}
+use Rattle.bpaf_base.specs.{declared.arg.Arg.Arg, Items.any_item, Items.command_word}
 use Rattle.bpaf_line.specs.Situation.{Situation, Context, item_at, in_scope, is_taken, take_place}
 use Rattle.bpaf_line.specs.Situation.{with_scope, with_path, with_current}
 use Rattle.bpaf_line.specs.Taking.{IsFirst}

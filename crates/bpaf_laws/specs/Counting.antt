@@ -1,8 +1,7 @@
 -- The count of present places falls by the number of places newly taken.
 use Rattle.std.specs.Prelude.{◌≡◌, ℕ, ◌+◌, length, Ok}
 use Rattle.bpaf_line.specs.Situation.{Situation, count_below, open_count}
-use Rattle.bpaf_laws.specs.Reading.{Outcome}
-use Rattle.bpaf_laws.specs.Laws.{newly}
+use Rattle.bpaf_laws.specs.{Reading.Outcome, Laws.newly}
 
 -- how many places an evaluation newly took
 abbrev pub taken_count : Situation → Situation → ℕ

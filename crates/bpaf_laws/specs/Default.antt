@@ -1,18 +1,14 @@
 -- What stands for a value that isn't there: None, a kept value, or a closure's answer.
 use Rattle.std.specs.Prelude.{◌≡◌, ◌⊎◌, ℕ, false, true, List, ◌++◌, Result, Ok, Err, Option, Some}
 use Rattle.std.specs.Prelude.{None, String, codes, string_bytes}
-use Rattle.std.specs.declared.alloc.Global.{Global}
-use Rattle.std.specs.declared.alloc.AllocError.{AllocError}
-use Rattle.bpaf_doc.specs.declared.doc.Piece.{Piece}
-use Rattle.bpaf_doc.specs.Fold.{TextPieces}
+use Rattle.std.specs.{declared.alloc.Global.Global, declared.alloc.AllocError.AllocError}
 use Rattle.bpaf_doc.specs.Shape.{Shape, Optional, Suffix}
+use Rattle.bpaf_doc.specs.{declared.doc.Piece.Piece, Fold.TextPieces}
 use Rattle.bpaf_line.specs.Messages.{is_memory, can_catch}
-use Rattle.bpaf_line.specs.Situation.{Situation}
-use Rattle.bpaf_line.specs.declared.error.Error.{Error}
 use Rattle.bpaf_line.specs.declared.error.Message.TheVariants.{PureFailed}
+use Rattle.bpaf_line.specs.{Situation.Situation, declared.error.Error.Error}
 use Rattle.bpaf_laws.specs.Reading.{Readings, Outcome, IsEmptyShare}
-use Rattle.bpaf_laws.specs.RefusalNames.{NamesAnswer}
-use Rattle.bpaf_laws.specs.Transform.{TellsFault}
+use Rattle.bpaf_laws.specs.{RefusalNames.NamesAnswer, Transform.TellsFault}
 
 -- what gives a value without a line: the answers that it may give
 abbrev pub Gives : Type 0 → Type 1

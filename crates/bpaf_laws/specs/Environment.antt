@@ -2,11 +2,9 @@
 use Rattle.std.specs.Prelude.{◌≡◌, ℕ, Bool, List, [], ◌∷◌, Option, Some, None}
 use Rattle.std.specs.Option.{option_or, is_some}
 use Rattle.bpaf_doc.specs.Shape.{Part}
-use Rattle.bpaf_line.specs.MissingIn.{IsMissingIn}
-use Rattle.bpaf_line.specs.Situation.{Situation}
-use Rattle.bpaf_line.specs.Taking.{entry_of}
 use Rattle.bpaf_line.specs.declared.error.Message.{Message}
 use Rattle.bpaf_line.specs.declared.error.Message.TheVariants.{Missing, NoEnv}
+use Rattle.bpaf_line.specs.{MissingIn.IsMissingIn, Situation.Situation, Taking.entry_of}
 
 -- the value of the first of the names that is set
 abbrev pub first_set : List (List ℕ × List ℕ) → List (List ℕ) → Option (List ℕ)

@@ -5,9 +5,8 @@ use Rattle.bpaf_doc.specs.Shape.{Shape, Optional, Shown, Skip}
 use Rattle.bpaf_text.specs.Named.{Named, flag_part}
 use Rattle.bpaf_base.specs.Items.{is_key_of}
 use Rattle.bpaf_line.specs.Situation.{Situation, Context}
-use Rattle.bpaf_line.specs.Taking.{TakesFlag}
-use Rattle.bpaf_line.specs.declared.error.Message.{Message}
 use Rattle.bpaf_line.specs.declared.error.Message.TheVariants.{Memory}
+use Rattle.bpaf_line.specs.{Taking.TakesFlag, declared.error.Message.Message}
 use Rattle.bpaf_laws.specs.Reading.{Share, Outcome, IsEmptyShare, IsPlace, HasItem}
 use Rattle.bpaf_laws.specs.Environment.{first_set, is_set, IsAbsence}
 

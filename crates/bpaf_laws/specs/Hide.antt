@@ -1,12 +1,10 @@
 -- Combinators that change what is shown, and of refusals alone which items they name.
 use Rattle.std.specs.Prelude.{◌≡◌, [], List, Result, Ok, Err, Option, Some, None}
 use Rattle.std.specs.declared.alloc.AllocError.{AllocError}
-use Rattle.bpaf_doc.specs.declared.doc.Piece.{Piece}
-use Rattle.bpaf_doc.specs.declared.meta.MetaInfo.{MetaInfo}
 use Rattle.bpaf_doc.specs.Shape.{Shape, CustomUsage, Subsection, shape_of}
-use Rattle.bpaf_line.specs.declared.error.Error.{Error}
-use Rattle.bpaf_line.specs.declared.error.Message.{Message}
+use Rattle.bpaf_doc.specs.{declared.doc.Piece.Piece, declared.meta.MetaInfo.MetaInfo}
 use Rattle.bpaf_line.specs.declared.error.Message.TheVariants.{Missing}
+use Rattle.bpaf_line.specs.{declared.error.Error.Error, declared.error.Message.Message}
 use Rattle.bpaf_laws.specs.Reading.{Outcome}
 
 -- a refusal that names no missing item

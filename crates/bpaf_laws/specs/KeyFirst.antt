@@ -1,17 +1,13 @@
 -- A key comes before the environment.
 use Rattle.std.specs.Prelude.{◌≡◌, ℕ, ◌+◌, ◌<◌, Bool, true, false, List, Ok, Err, Option, Some}
-use Rattle.std.specs.Prelude.{None}
-use Rattle.std.specs.Prelude.{⊤}
+use Rattle.std.specs.Prelude.{None, ⊤}
 use Rattle.bpaf_text.specs.Named.{KeyWithValue}
-use Rattle.bpaf_line.specs.Situation.{Situation}
 use Rattle.bpaf_line.specs.Taking.{is_match, value_after, IsFirst}
-use Rattle.bpaf_line.specs.declared.error.Message.{Message}
 use Rattle.bpaf_line.specs.declared.error.Message.TheVariants.{Memory, ParseFailed, NoArgument}
+use Rattle.bpaf_line.specs.{Situation.Situation, declared.error.Message.Message}
 use Rattle.bpaf_base.specs.declared.arg.Arg.{Arg}
 use Rattle.bpaf_laws.specs.Argument.{is_key_with_value, TakesOwnText, HasNoKey, LacksText}
-use Rattle.bpaf_laws.specs.Argument.{IsNowhere}
-use Rattle.bpaf_laws.specs.Environment.{first_set}
-use Rattle.bpaf_laws.specs.Reading.{Outcome}
+use Rattle.bpaf_laws.specs.{Argument.IsNowhere, Environment.first_set, Reading.Outcome}
 
 -- p is the last place with a match
 pub record IsLast (test : Arg → Bool) (s : Situation) (p : ℕ) : Type 0 where

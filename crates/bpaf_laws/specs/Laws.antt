@@ -1,8 +1,7 @@
 -- What every parser keeps to, whatever it parses.
 use Rattle.std.specs.Prelude.{◌≡◌, ℕ, true, false, not, ◌&&◌, List, ◌++◌, Ok, Err}
-use Rattle.bpaf_line.specs.Marks.{KeepsMarks}
 use Rattle.bpaf_line.specs.Situation.{Situation, is_taken, is_open, in_scope}
-use Rattle.bpaf_line.specs.declared.error.Error.{Error}
+use Rattle.bpaf_line.specs.{Marks.KeepsMarks, declared.error.Error.Error}
 use Rattle.bpaf_laws.specs.Reading.{Share, Readings, Outcome}
 use Rattle.bpaf_laws.specs.RefusalNames.{NamesAnswer}
 

@@ -3,8 +3,7 @@ use Rattle.std.specs.Prelude.{◌≡◌, true, ◌⊎◌, List, [], ◌∷◌, �
 use Rattle.std.specs.Prelude.{if◌then◌else◌}
 use Rattle.bpaf_doc.specs.Shape.{Shape, And, members}
 use Rattle.bpaf_line.specs.Situation.{Situation, Context, with_current}
-use Rattle.bpaf_line.specs.Messages.{is_memory}
-use Rattle.bpaf_line.specs.declared.error.Error.{Error}
+use Rattle.bpaf_line.specs.{Messages.is_memory, declared.error.Error.Error}
 use Rattle.bpaf_laws.specs.Reading.{Share, Readings, Outcome, Joins}
 use Rattle.bpaf_laws.specs.Spared.{IsNotMemory}
 

@@ -2,8 +2,7 @@
 use Rattle.std.specs.Prelude.{◌≡◌, ◌⊎◌, ℕ, List, Ok, Err, None}
 use Rattle.bpaf_line.specs.Situation.{with_current}
 use Rattle.bpaf_line.specs.declared.error.Message.TheVariants.{Memory, ParseFail}
-use Rattle.bpaf_laws.specs.Reading.{Readings, Outcome, IsEmptyShare}
-use Rattle.bpaf_laws.specs.Default.{Gives}
+use Rattle.bpaf_laws.specs.{Reading.Readings, Reading.Outcome, Reading.IsEmptyShare, Default.Gives}
 
 -- a refusal with this message, or want of memory for the message; never a value
 abbrev pub GivesRefusal : {T : Type 0} → List ℕ → Gives T

@@ -1,16 +1,12 @@
 -- The twelve names of refusals, and the failures that have one.
 use Rattle.std.specs.Prelude.{◌≡◌, ℕ, Bool, List, Option, Some, None, ⊤}
-use Rattle.bpaf_doc.specs.declared.doc.Piece.{Piece}
-use Rattle.bpaf_doc.specs.Prints.{Prints}
-use Rattle.bpaf_doc.specs.Shape.{Shape}
-use Rattle.bpaf_line.specs.declared.error.Message.{Message}
-use Rattle.bpaf_line.specs.declared.error.Message.TheVariants as message
+use Rattle.bpaf_doc.specs.{declared.doc.Piece.Piece, Prints.Prints, Shape.Shape}
 use Rattle.bpaf_line.specs.declared.failure.ParseFailure.{ParseFailure}
-use Rattle.bpaf_line.specs.declared.failure.ParseFailure.TheVariants as failure
-use Rattle.bpaf_line.specs.Rendering.{Renders}
-use Rattle.bpaf_line.specs.Situation.{Situation}
+use Rattle.bpaf_line.specs.{declared.error.Message.Message, Rendering.Renders, Situation.Situation}
 use Rattle.bpaf_pages.specs.Help.{PageTexts, help_text}
 use Rattle.bpaf_laws.specs.Version.{version_text}
+use Rattle.bpaf_line.specs.declared.error.Message.TheVariants as message
+use Rattle.bpaf_line.specs.declared.failure.ParseFailure.TheVariants as failure
 
 -- the names
 pub data Refusal : Type 0 where

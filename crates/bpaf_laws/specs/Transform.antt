@@ -1,8 +1,7 @@
 -- Combinators that change the value of one inner parser.
 use Rattle.std.specs.Prelude.{◌≡◌, ◌⊎◌, ℕ, Bool, true, false, List, Result, Ok, Err, Option, IfSome}
-use Rattle.bpaf_line.specs.Situation.{Context}
-use Rattle.bpaf_line.specs.declared.error.Message.{Message}
 use Rattle.bpaf_line.specs.declared.error.Message.TheVariants.{Memory, ParseFailed, GuardFailed}
+use Rattle.bpaf_line.specs.{Situation.Context, declared.error.Message.Message}
 use Rattle.bpaf_laws.specs.Reading.{Share, Readings, Outcome}
 
 -- a refusal with the text of a fault; or want of memory for the text

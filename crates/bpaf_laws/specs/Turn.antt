@@ -3,9 +3,8 @@ use Rattle.std.specs.Prelude.{◌≡◌, ◌⊎◌, ◌==◌, ◌<◌, ◌≤◌
 use Rattle.std.specs.Prelude.{Option, Some, None}
 use Rattle.bpaf_line.specs.Messages.{is_memory, can_catch, is_wrong_input}
 use Rattle.bpaf_line.specs.Situation.{Situation, open_count}
-use Rattle.bpaf_line.specs.declared.error.Error.{Error}
-use Rattle.bpaf_line.specs.declared.error.Message.{Message}
 use Rattle.bpaf_line.specs.declared.error.Message.TheVariants.{Missing}
+use Rattle.bpaf_line.specs.{declared.error.Error.Error, declared.error.Message.Message}
 use Rattle.bpaf_laws.specs.Reading.{Outcome}
 
 -- an error other than want of memory at which a turn stops: with `catches` each that isn't wrong

@@ -1,10 +1,9 @@
 -- What reading a taken text answers.
 use Rattle.std.specs.Prelude.{◌≡◌, ℕ, List, Result, Ok, Err, Option, ⊤}
 use Rattle.bpaf_text.specs.declared.fault.TextFault.{TextFault}
-use Rattle.bpaf_text.specs.declared.fault.TextFault.TheVariants as fault
-use Rattle.bpaf_line.specs.declared.error.Error.{Error}
-use Rattle.bpaf_line.specs.declared.error.Message.{Message}
 use Rattle.bpaf_line.specs.declared.error.Message.TheVariants.{Memory, ParseFailed}
+use Rattle.bpaf_line.specs.{declared.error.Error.Error, declared.error.Message.Message}
+use Rattle.bpaf_text.specs.declared.fault.TextFault.TheVariants as fault
 
 -- a fault where the text means no value, at the current place; or want of memory
 abbrev pub FaultsText : {T : Type 0} → (List ℕ → T → Type 0) → List ℕ → Option ℕ → Message → Type 0

@@ -1,8 +1,6 @@
 -- How a version is shown.
 use Rattle.std.specs.Prelude.{◌≡◌, false, List, ◌++◌, codes, ⊤}
-use Rattle.bpaf_doc.specs.declared.doc.Piece.{Piece}
-use Rattle.bpaf_doc.specs.Print.{printed}
-use Rattle.bpaf_doc.specs.Prints.{Print, Prints}
+use Rattle.bpaf_doc.specs.{declared.doc.Piece.Piece, Print.printed, Prints.Print, Prints.Prints}
 use Rattle.bpaf_line.specs.declared.failure.ParseFailure.{ParseFailure}
 use Rattle.bpaf_line.specs.declared.failure.ParseFailure.TheVariants as failure
 

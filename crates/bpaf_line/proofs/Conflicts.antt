@@ -1,12 +1,9 @@
 -- Conflict notes: what they change, and what they leave.
 use Rattle.std.proofs.Common.{◌≡◌, ◌≢◌, ℕ, ◌==◌, Bool, true, false, not, ◌&&◌, List, [], ◌∷◌, ◌++◌}
 use Rattle.std.proofs.Common.{Option, Some, None, refl, ap, sym, ◌∙◌, if◌then◌else◌, reverse}
-use Rattle.std.proofs.Common.{option_map}
-use Rattle.std.specs.Option.{option_or}
-use Rattle.std.specs.List.{find}
+use Rattle.std.specs.{Option.option_or, List.find}
 use Rattle.std.proofs.lemmas.Bool.{eq-eqb, ne_eqb}
-use Rattle.std.proofs.lemmas.List.{reverse-append}
-use Rattle.std.proofs.lemmas.List.Folds.{find-append}
+use Rattle.std.proofs.{Common.option_map, lemmas.List.reverse-append, lemmas.List.Folds.find-append}
 use Rattle.bpaf_line.specs.Situation.{Situation, is_taken, last_of, with_conflicts}
 use Rattle.bpaf_line.proofs.Marks.{keeps_marks_conflicts}
 use Rattle.bpaf_line.specs.Conflicts.{ConflictsSaved}

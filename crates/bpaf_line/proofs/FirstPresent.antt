@@ -1,11 +1,8 @@
 -- The first present place of some places in a row.
-use Rattle.std.proofs.Common.{◌≡◌, ℕ, zero, suc, ◌+◌, ◌-◌, ◌<◌, ◌≤◌, min, length, Bool, true}
-use Rattle.std.proofs.Common.{false, not, Some, None, find, refl, ap, sym, ◌∙◌, arith, ◌⊎◌, inl}
-use Rattle.std.proofs.Common.{inr}
-use Rattle.std.proofs.lemmas.Bool.{cases_lt, true≢false}
-use Rattle.std.proofs.lemmas.Bool.Decides.{nat_tests}
-use Rattle.std.specs.List.{range_with_len}
-use Rattle.std.specs.Prelude.{cond}
+use Rattle.std.proofs.Common.{◌≡◌, ℕ, zero, suc, ◌+◌, ◌-◌, ◌<◌, ◌≤◌, min, length, Bool, true, false}
+use Rattle.std.proofs.Common.{not, Some, None, find, refl, ap, sym, ◌∙◌, arith, ◌⊎◌, inl, inr}
+use Rattle.std.proofs.{lemmas.Bool.cases_lt, lemmas.Bool.true≢false, lemmas.Bool.Decides.nat_tests}
+use Rattle.std.specs.{List.range_with_len, Prelude.cond}
 use Rattle.bpaf_line.specs.Within.{first_present}
 use Rattle.bpaf_line.specs.Situation.{Situation, is_taken, IsFirstPresentWithin}
 

@@ -2,12 +2,10 @@
 use Rattle.std.proofs.Common.{◌≡◌, ◌≢◌, ℕ, ◌+◌, ◌<◌, Bool, true, false, not, ◌||◌, List, [], Option}
 use Rattle.std.proofs.Common.{Some, None, refl, ap, ◌∙◌, arith, ⊎_elim, if◌then◌else◌}
 use Rattle.std.proofs.Common.{option_and_then, length, slice_get, get_or, nat_lt}
-use Rattle.std.proofs.lemmas.Bool.{cases_eq}
-use Rattle.std.proofs.lemmas.Option.{slice_get-get_or}
+use Rattle.std.proofs.{lemmas.Bool.cases_eq, lemmas.Option.slice_get-get_or}
 use Rattle.std.specs.Option.{option_map_or}
-use Rattle.bpaf_base.specs.declared.arg.Arg.{Arg}
 use Rattle.bpaf_base.specs.declared.arg.Arg.TheVariants.{ArgWord}
-use Rattle.bpaf_base.specs.Items.{value_text, any_item}
+use Rattle.bpaf_base.specs.{declared.arg.Arg.Arg, Items.value_text, Items.any_item}
 use Rattle.bpaf_line.specs.Situation.{Situation, is_open, item_at, is_marker, is_on}
 use Rattle.bpaf_line.proofs.Places.{open_in_line, open_not_taken}
 use Rattle.bpaf_line.specs.Taking.{is_match, open_item, value_after}

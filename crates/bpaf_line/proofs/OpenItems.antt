@@ -4,8 +4,7 @@ use Rattle.std.proofs.Common.{ap, sym, ◌∙◌, arith, None, Some, ⊎_elim, i
 use Rattle.std.proofs.lemmas.Bool.{cases_lt}
 use Rattle.bpaf_base.specs.declared.arg.Arg.{Arg}
 use Rattle.bpaf_line.specs.Situation.{Situation, is_open, item_at, IsNextOpen, HasNoneOpen}
-use Rattle.bpaf_line.specs.Taking.{open_item}
-use Rattle.bpaf_line.specs.OpenItems.{open_items_from}
+use Rattle.bpaf_line.specs.{Taking.open_item, OpenItems.open_items_from}
 use Rattle.bpaf_line.proofs.Places.{open_in_line}
 
 -- a place that is open is the first of those from it on

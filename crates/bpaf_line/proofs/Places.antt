@@ -1,24 +1,20 @@
 -- Places: what a place changes that is put on the trail, or taken off it. The layers above cite the
 -- lemmas on a place that is taken.
-use Rattle.std.proofs.Common.{◌≡◌, ◌≢◌, ℕ, zero, suc, ◌+◌, ◌-◌, ◌<◌, ◌≤◌, Bool, true, false}
-use Rattle.std.proofs.Common.{not, ◌&&◌, ◌||◌, [], ◌∷◌, ◌++◌, length, take, refl, ap}
-use Rattle.std.proofs.Common.{sym, ◌∙◌, subst, arith, if◌then◌else◌, ⊎_elim, nat_lt}
-use Rattle.std.proofs.Common.{slice_index, add-one, min}
+use Rattle.std.proofs.Common.{◌≡◌, ◌≢◌, ℕ, zero, suc, ◌+◌, ◌-◌, ◌<◌, ◌≤◌, Bool, true, false, not}
+use Rattle.std.proofs.Common.{◌&&◌, ◌||◌, [], ◌∷◌, ◌++◌, length, take, refl, ap, sym, ◌∙◌, subst}
+use Rattle.std.proofs.Common.{arith, if◌then◌else◌, ⊎_elim, nat_lt, slice_index, add-one, min}
 use Rattle.std.specs.Int.{from_bool}
-use Rattle.std.proofs.lemmas.Bool.{cases_lt, cases_eq, eq-eqb, or_right, and_left}
-use Rattle.std.proofs.lemmas.Bool.{and_right, and_from, and_parts, not-true, cases_Bool, true≢false}
-use Rattle.std.proofs.lemmas.Bool.{le-leb, lt-ltb}
-use Rattle.std.proofs.lemmas.Bool.Decides.{nat_tests}
+use Rattle.std.proofs.lemmas.Bool.{cases_lt, cases_eq, eq-eqb, or_right, and_left, and_right}
+use Rattle.std.proofs.lemmas.Bool.{and_from, and_parts, not-true, cases_Bool, true≢false, le-leb}
 use Rattle.std.proofs.lemmas.List.{take_at, take-take, take-append-le, get_or_push}
 use Rattle.std.proofs.lemmas.List.{get_or_append_left, get_or-take, length_push, length-take-le}
 use Rattle.std.proofs.lemmas.List.{take_more, take_all}
+use Rattle.std.proofs.{lemmas.Bool.lt-ltb, lemmas.Bool.Decides.nat_tests}
 use Rattle.bpaf_line.specs.Situation.{Situation, is_on, is_taken, is_marker, in_scope, is_open}
-use Rattle.bpaf_line.specs.Situation.{count_below, open_count, take_place, with_trail}
-use Rattle.bpaf_line.specs.Situation.{cut_to, TakenInTurn}
-use Rattle.bpaf_line.specs.Situation.{IsFirstPresent}
-use Rattle.bpaf_index.proofs.Places.{is_on_push, on_others}
+use Rattle.bpaf_line.specs.Situation.{count_below, open_count, take_place, with_trail, cut_to}
+use Rattle.bpaf_line.specs.Situation.{TakenInTurn, IsFirstPresent}
 use Rattle.bpaf_index.proofs.Counts.{count_below-same, count_below-fewer, count_below-some}
-use Rattle.bpaf_index.proofs.Counts.{count_below-most}
+use Rattle.bpaf_index.proofs.{Places.is_on_push, Places.on_others, Counts.count_below-most}
 
 -- a present place of the scope lies in the scope
 pub open_in_scope : (s : Situation) (p : ℕ) → is_open s p ≡ true → (s.start ≤ p) × (p < s.end)

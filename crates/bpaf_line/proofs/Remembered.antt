@@ -1,14 +1,12 @@
 -- What is kept of a scope that a parse has left stays right.
 use Rattle.std.proofs.Common.{◌≡◌, ℕ, zero, suc, ◌+◌, ◌-◌, ◌<◌, ◌≤◌, ◌==◌, ◌&&◌, ◌||◌, Bool, true}
-use Rattle.std.proofs.Common.{false, not, ◌∷◌, [], length, take, drop, slice_index, refl, ap}
-use Rattle.std.proofs.Common.{sym, ◌∙◌, subst, arith, ⊎_elim, if◌then◌else◌, nat_le, nat_lt}
-use Rattle.std.proofs.Common.{length-append}
+use Rattle.std.proofs.Common.{false, not, ◌∷◌, [], length, take, drop, slice_index, refl, ap, sym}
+use Rattle.std.proofs.Common.{◌∙◌, subst, arith, ⊎_elim, if◌then◌else◌, nat_le, nat_lt}
 use Rattle.std.specs.Int.{from_bool}
 use Rattle.std.proofs.lemmas.Bool.{and_left, and_right, or_left, le-ltb, leb-true, cases_lt, lt-leb}
-use Rattle.std.proofs.lemmas.Bool.{le-leb}
 use Rattle.std.proofs.lemmas.List.{take-append-le, take-append-drop, take-take, take_all, take_more}
 use Rattle.std.proofs.lemmas.List.{drop_all, drop_more, length-take-le}
-use Rattle.std.proofs.lemmas.List.Folds.{list_any-append}
+use Rattle.std.proofs.{Common.length-append, lemmas.Bool.le-leb, lemmas.List.Folds.list_any-append}
 use Rattle.bpaf_line.specs.declared.aside.Aside.{Aside}
 use Rattle.bpaf_line.specs.Remembered.{no_aside, count_within, IsSurvey, IsRemembered}
 use Rattle.bpaf_line.specs.Situation.{Situation, cut_to, with_trail, with_scope, is_on, is_open}

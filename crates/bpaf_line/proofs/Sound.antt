@@ -4,27 +4,22 @@ use Rattle.std.proofs.Common.{Bool, true, false, not, List, [], ◌∷◌, ◌++
 use Rattle.std.proofs.Common.{◌∙◌, subst, arith, if◌then◌else◌, ⊎_elim, Vec, String, vec_capacity}
 use Rattle.std.proofs.Common.{vec_len, get_or, Option, Some, nat_lt, nat_le, slice_index, slice_get}
 use Rattle.std.proofs.Common.{take, drop, ◌==◌, min, max, ◌&&◌, ◌||◌, IfSome}
-use Rattle.std.specs.Vec.{with_items}
-use Rattle.std.specs.Int.{from_bool}
-use Rattle.std.specs.declared.alloc.Global.{Global}
-use Rattle.std.proofs.lemmas.Bool.{cases_lt, cases_eq, lt-ltb, le-ltb, lt-leb, le-leb}
-use Rattle.std.proofs.lemmas.Bool.{cond-true, and_left, and_right}
-use Rattle.std.proofs.lemmas.Bool.Decides.{nat_tests}
+use Rattle.std.specs.{Vec.with_items, Int.from_bool, declared.alloc.Global.Global}
+use Rattle.std.proofs.lemmas.Bool.{cases_lt, cases_eq, lt-ltb, le-ltb, lt-leb, le-leb, cond-true}
+use Rattle.std.proofs.lemmas.Bool.{and_left, and_right}
 use Rattle.std.proofs.lemmas.List.{with_items_is, get_or_read}
-use Rattle.std.proofs.lemmas.Option.{slice_get-get_or}
+use Rattle.std.proofs.{lemmas.Bool.Decides.nat_tests, lemmas.Option.slice_get-get_or}
 use Rattle.bpaf_base.specs.declared.arg.Arg.{Arg}
 use Rattle.bpaf_line.specs.declared.state.State.TheInside.{Inside}
-use Rattle.bpaf_line.specs.declared.aside.Aside.{Aside}
 use Rattle.bpaf_line.specs.Remembered.{no_aside, count_within, IsSurvey, IsRemembered}
 use Rattle.bpaf_index.specs.Bits.{has_bit, is_clear_from, count_clear, ChangesBit, IsFirstClear}
-use Rattle.bpaf_index.specs.Chained.{Chained, class_in, head_of, AreBehind}
-use Rattle.bpaf_line.specs.Chaining.{AreChainsOf}
-use Rattle.bpaf_index.specs.Chained.{ReachBack, IfChained, HasNoKeyFrom}
+use Rattle.bpaf_index.specs.Chained.{Chained, class_in, head_of, AreBehind, ReachBack, IfChained}
+use Rattle.bpaf_index.specs.Chained.{HasNoKeyFrom}
 use Rattle.bpaf_line.specs.Inside.{situation_of, BitsOf, IsSound}
 use Rattle.bpaf_line.specs.Situation.{Situation, with_trail, with_scope, cut_to, is_open, is_marker}
-use Rattle.bpaf_line.specs.Situation.{is_taken, is_on, in_scope, open_count, TakenInTurn}
-use Rattle.bpaf_line.specs.Situation.{AreTaken, IsFirstPresent, HasNoneOpen}
-use Rattle.bpaf_line.specs.Taking.{open_item}
+use Rattle.bpaf_line.specs.Situation.{is_taken, is_on, in_scope, open_count, TakenInTurn, AreTaken}
+use Rattle.bpaf_line.specs.Situation.{IsFirstPresent, HasNoneOpen}
+use Rattle.bpaf_line.specs.{declared.aside.Aside.Aside, Chaining.AreChainsOf, Taking.open_item}
 use Rattle.bpaf_line.proofs.Remembered.{survey_since, count_since, remembers_nothing, remembers_put}
 use Rattle.bpaf_line.proofs.Remembered.{remembers_cut}
 use Rattle.bpaf_line.proofs.Places.{put, put_here, put_other, put_stays, open_count-put}

@@ -3,23 +3,20 @@ use Rattle.std.proofs.Common.{◌≡◌, ◌≢◌, ℕ, zero, suc, ◌*◌, ◌
 use Rattle.std.proofs.Common.{◌&&◌, ◌||◌, List, [], ◌∷◌, ◌++◌, Option, Some, None, length, take}
 use Rattle.std.proofs.Common.{drop, refl, ap, sym, ◌∙◌, subst, arith, ⊎_elim, nat_lt, slice_index}
 use Rattle.std.proofs.Common.{add-one, if◌then◌else◌, true≢false, Result, Ok, Err, OnOk}
-use Rattle.std.proofs.lemmas.Bool.{cases_eq, ne_eqb, eq-eqb, not-true, and_parts, or_right}
-use Rattle.std.proofs.lemmas.Bool.{or_from, ltb-true, ltb-false}
+use Rattle.std.proofs.lemmas.Bool.{cases_eq, ne_eqb, eq-eqb, not-true, and_parts, or_right, or_from}
+use Rattle.std.proofs.lemmas.Bool.{ltb-true, ltb-false}
 use Rattle.std.proofs.lemmas.List.{take_more, take_all, take-append-drop}
 use Rattle.std.proofs.lemmas.List.Folds.{list_any-append}
-use Rattle.bpaf_line.specs.declared.mark.Mark.{Mark}
-use Rattle.bpaf_line.specs.declared.state.State.TheInside.{Inside}
 use Rattle.bpaf_index.specs.Bits.{has_bit, is_in_first, AreWithin, IsLeastIn}
-use Rattle.bpaf_line.specs.Changes.{Changes}
-use Rattle.bpaf_line.specs.Conflicts.{IsWinner, leftmost_of}
 use Rattle.bpaf_line.specs.Marks.{HasReached, CanRedo, undone, redone}
 use Rattle.bpaf_line.specs.Situation.{Situation, is_on, is_taken, is_marker, last_of, with_trail}
 use Rattle.bpaf_line.specs.Situation.{TakenInTurn, PresentInTurn}
 use Rattle.bpaf_line.proofs.Conflicts.{excluded_at, last_of_here, last_of_other}
 use Rattle.bpaf_line.specs.Inside.{situation_of, BitsOf, IsSound}
-use Rattle.bpaf_line.proofs.Marks.{can_redo}
+use Rattle.bpaf_line.specs.{declared.mark.Mark.Mark, declared.state.State.TheInside.Inside}
+use Rattle.bpaf_line.specs.{Changes.Changes, Conflicts.IsWinner, Conflicts.leftmost_of}
 use Rattle.bpaf_index.proofs.Places.{is_on_push, on_others}
-use Rattle.bpaf_line.proofs.Places.{present_in_line}
+use Rattle.bpaf_line.proofs.{Marks.can_redo, Places.present_in_line}
 
 -- what is taken with more places on the trail
 taken_with : (s : Situation) (more : List ℕ) (q : ℕ)

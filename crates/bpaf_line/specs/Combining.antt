@@ -1,8 +1,7 @@
 -- The one refusal of two parsers of which either would have served.
 use Rattle.std.specs.Prelude.{◌≡◌, ◌++◌, ◌⊎◌, ◌||◌, true, false, if◌then◌else◌}
-use Rattle.bpaf_line.specs.declared.error.Message.{Message}
 use Rattle.bpaf_line.specs.declared.error.Message.TheVariants.{Memory, Missing, ParseFailure}
-use Rattle.bpaf_line.specs.Messages.{is_memory, can_catch}
+use Rattle.bpaf_line.specs.{declared.error.Message.Message, Messages.is_memory, Messages.can_catch}
 
 -- of two refusals that aren't want of memory: what a whole inner run answered; else all that is
 -- missing, for which memory may be wanted; else the first where it can't be caught, else the second

@@ -3,8 +3,7 @@ use Rattle.std.specs.Prelude.{◌≡◌, ◌<◌, ℕ, Bool, true, false, not, n
 use Rattle.std.specs.Prelude.{Option, Some, None, option_map, if◌then◌else◌}
 use Rattle.bpaf_base.specs.declared.arg.Arg.{Arg}
 use Rattle.bpaf_line.specs.Situation.{Situation, is_taken, conflict_at}
-use Rattle.bpaf_line.specs.Marks.{KeepsMarks}
-use Rattle.bpaf_line.specs.OpenItems.{open_items}
+use Rattle.bpaf_line.specs.{Marks.KeepsMarks, OpenItems.open_items}
 
 -- the leftmost place that is taken in only one of two situations
 pub record IsLeftmost (s other : Situation) (p : ℕ) : Type 0 where

@@ -1,13 +1,11 @@
 -- What making a state answers.
 use Rattle.std.specs.Prelude.{◌≡◌, ℕ, List, Result, Ok, Err, ⊤}
 use Rattle.bpaf_words.specs.declared.line.LineFault.{LineFault}
-use Rattle.bpaf_words.specs.declared.line.LineFault.TheVariants as fault
-use Rattle.bpaf_words.specs.Arguments.{Given}
-use Rattle.bpaf_words.specs.Spelling.{Known}
-use Rattle.bpaf_words.specs.Line.{IsLine, HasNoLine}
+use Rattle.bpaf_words.specs.{Arguments.Given, Spelling.Known, Line.IsLine, Line.HasNoLine}
 use Rattle.bpaf_line.specs.declared.error.Message.{Message}
 use Rattle.bpaf_line.specs.declared.error.Message.TheVariants.{Memory, Ambiguity}
 use Rattle.bpaf_line.specs.Situation.{Situation, Context, beginning}
+use Rattle.bpaf_words.specs.declared.line.LineFault.TheVariants as fault
 
 -- what is told of words without a line
 abbrev pub message_of : LineFault → Message

@@ -1,11 +1,9 @@
 -- The first key and the first word, looked for along the chains of their names and of words.
 use Rattle.std.specs.Prelude.{ℕ, ◌≡◌, ◌<◌, ◌≤◌, Bool, true, false, List, Some, slice_index}
 use Rattle.bpaf_doc.specs.Names.{Names}
-use Rattle.bpaf_base.specs.declared.arg.Arg.{Arg}
-use Rattle.bpaf_base.specs.Items.{is_key_of}
+use Rattle.bpaf_base.specs.{declared.arg.Arg.Arg, Items.is_key_of}
 use Rattle.bpaf_index.specs.Chained.{IsPlaceOf}
-use Rattle.bpaf_line.specs.Situation.{Situation}
-use Rattle.bpaf_line.specs.Taking.{open_item, is_match}
+use Rattle.bpaf_line.specs.{Situation.Situation, Taking.open_item, Taking.is_match}
 
 -- no place before a place has a match
 abbrev pub HasNoneBefore : (Arg → Bool) → Situation → ℕ → Type 0

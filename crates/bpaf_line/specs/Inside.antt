@@ -1,20 +1,14 @@
 -- What a `State` and its `Steps` are kept as, and what they then mean.
 use Rattle.std.specs.Prelude.{◌≡◌, ◌≤◌, ◌<◌, ◌*◌, ℕ, List, length, map, string_bytes, IfSome}
 use Rattle.std.specs.Prelude.{slice_get, Some, vec_capacity, Option, []}
-use Rattle.std.specs.Option.{option_map_or}
 use Rattle.std.specs.declared.alloc.Global.{Global}
-use Rattle.std.specs.declared.rc.RcSlice.{RcSlice}
-use Rattle.std.specs.Rc.{rc_slice_items}
+use Rattle.std.specs.{Option.option_map_or, declared.rc.RcSlice.RcSlice, Rc.rc_slice_items}
 use Rattle.bpaf_line.specs.declared.state.State.TheInside.{Inside}
-use Rattle.bpaf_line.specs.declared.mark.Steps.TheInside.{Inside as InsideSteps}
-use Rattle.bpaf_line.specs.Remembered.{IsRemembered}
-use Rattle.bpaf_index.specs.Bits.{has_bit}
-use Rattle.bpaf_index.specs.Chained.{HasNoKeyFrom}
-use Rattle.bpaf_line.specs.Chaining.{AreChainsOf}
-use Rattle.bpaf_line.specs.Changes.{Changes}
-use Rattle.bpaf_line.specs.TakenPlaces.{places_of}
+use Rattle.bpaf_index.specs.{Bits.has_bit, Chained.HasNoKeyFrom}
 use Rattle.bpaf_line.specs.Situation.{Situation, is_taken, open_count, TakenInTurn, IsFirstPresent}
-use Rattle.bpaf_line.specs.Situation.{AreTaken}
+use Rattle.bpaf_line.specs.{Remembered.IsRemembered, Chaining.AreChainsOf, Changes.Changes}
+use Rattle.bpaf_line.specs.{TakenPlaces.places_of, Situation.AreTaken}
+use Rattle.bpaf_line.specs.declared.mark.Steps.TheInside.{Inside as InsideSteps}
 
 -- the entries of an environment that is kept where there is one
 abbrev pub shared_entries : Option (RcSlice (List ℕ × List ℕ) Global) → List (List ℕ × List ℕ)

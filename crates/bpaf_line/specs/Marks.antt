@@ -1,8 +1,7 @@
 -- Marks: how far a parse was, what it is when it goes back, and what it did since.
 use Rattle.std.specs.Prelude.{◌≡◌, ◌≤◌, ◌++◌, length, take, drop, IfSome}
-use Rattle.bpaf_line.specs.declared.mark.Mark.{Mark}
 use Rattle.bpaf_line.specs.Situation.{Situation, PresentInTurn}
-use Rattle.bpaf_line.specs.Changes.{Changes}
+use Rattle.bpaf_line.specs.{declared.mark.Mark.Mark, Changes.Changes}
 
 -- how far a parse is
 abbrev pub mark_of : Situation → Mark

@@ -2,8 +2,7 @@
 use Rattle.std.specs.Prelude.{◌≡◌, List, map, Option, option_map, option_to_list}
 use Rattle.bpaf_doc.specs.Shape.{Part}
 use Rattle.bpaf_line.specs.declared.missing.MissingItem.{MissingItem}
-use Rattle.bpaf_line.specs.Missing.{Missed, missed_of}
-use Rattle.bpaf_line.specs.Situation.{Situation}
+use Rattle.bpaf_line.specs.{Missing.Missed, Missing.missed_of, Situation.Situation}
 
 -- one item, looked for from the start of the scope on
 abbrev pub missed_in : Situation → Part → Missed

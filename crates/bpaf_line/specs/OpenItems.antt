@@ -2,9 +2,7 @@
 use Rattle.std.specs.Prelude.{ℕ, ◌-◌, List, length, Option, option_map, filter_map}
 use Rattle.std.specs.List.{range_with_len}
 use Rattle.bpaf_base.specs.declared.arg.Arg.{Arg}
-use Rattle.bpaf_line.specs.declared.iter.ArgsIter.{ArgsIter}
-use Rattle.bpaf_line.specs.Situation.{Situation}
-use Rattle.bpaf_line.specs.Taking.{open_item}
+use Rattle.bpaf_line.specs.{declared.iter.ArgsIter.ArgsIter, Situation.Situation, Taking.open_item}
 
 -- a place with its item, where it is present and in scope
 abbrev pub placed_item : Situation → ℕ → Option (ℕ × Arg)

@@ -1,26 +1,20 @@
 -- The texts of messages.
 use Rattle.std.specs.Prelude.{ℕ, ◌≡◌, ◌+◌, max, true, List, [], ◌∷◌, ◌++◌, map, drop, codes, chars}
 use Rattle.std.specs.Prelude.{encode_utf8, encode_utf8_all, slice_get, Option, Some, None}
-use Rattle.std.specs.Prelude.{unwrap_or, option_and_then, ⊤}
-use Rattle.std.specs.Option.{option_map_or}
-use Rattle.bpaf_doc.specs.Fold.{folded_whole}
-use Rattle.bpaf_doc.specs.PartText.{part_text}
+use Rattle.std.specs.{Prelude.unwrap_or, Prelude.option_and_then, Prelude.⊤, Option.option_map_or}
 use Rattle.bpaf_doc.specs.Print.{printed, in_backticks}
-use Rattle.bpaf_doc.specs.Shape.{Part, part_of}
-use Rattle.bpaf_line.specs.declared.error.Message.{Message}
+use Rattle.bpaf_doc.specs.{Fold.folded_whole, PartText.part_text, Shape.Part, Shape.part_of}
 use Rattle.bpaf_line.specs.declared.error.Message.TheVariants.{Memory, NoEnv, ParseSome, ParseFail}
 use Rattle.bpaf_line.specs.declared.error.Message.TheVariants.{PureFailed, Missing, ParseFailure}
 use Rattle.bpaf_line.specs.declared.error.Message.TheVariants.{StrictPos, NonStrictPos, NoArgument}
 use Rattle.bpaf_line.specs.declared.error.Message.TheVariants.{ParseFailed, GuardFailed, Conflict}
 use Rattle.bpaf_line.specs.declared.error.Message.TheVariants.{Unconsumed, Ambiguity, Expected}
-use Rattle.bpaf_line.specs.declared.error.Message.TheVariants.{OnlyOnce}
+use Rattle.bpaf_line.specs.Shown.{shown_item, word_at, quoted_word, key_behind}
+use Rattle.bpaf_line.specs.{declared.error.Message.TheVariants.OnlyOnce, MissingText.furthest}
+use Rattle.bpaf_line.specs.{MissingText.told_parts, declared.error.Message.Message, Missing.Missed}
+use Rattle.bpaf_line.specs.{Missing.missed_of, Within.first_present, Situation.Situation}
 use Rattle.bpaf_line.specs.declared.failure.ParseFailure.{ParseFailure as Failure}
 use Rattle.bpaf_line.specs.declared.failure.ParseFailure.TheVariants as failure
-use Rattle.bpaf_line.specs.Missing.{Missed, missed_of}
-use Rattle.bpaf_line.specs.MissingText.{furthest, told_parts}
-use Rattle.bpaf_line.specs.Within.{first_present}
-use Rattle.bpaf_line.specs.Shown.{shown_item, word_at, quoted_word, key_behind}
-use Rattle.bpaf_line.specs.Situation.{Situation}
 
 -- a word stands on the wrong side of the marker, and should stand on this one
 abbrev pub side_text : List ℕ → List ℕ → List ℕ

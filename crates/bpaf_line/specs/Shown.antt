@@ -2,11 +2,9 @@
 use Rattle.std.specs.Prelude.{ℕ, zero, suc, ◌+◌, Bool, true, false, List, [], ◌∷◌, ◌++◌, codes}
 use Rattle.std.specs.Prelude.{Option, Some, None, option_map, option_and_then}
 use Rattle.std.specs.Option.{option_map_or}
-use Rattle.bpaf_base.specs.declared.arg.Arg.{Arg}
 use Rattle.bpaf_base.specs.declared.arg.Arg.TheVariants.{Short, Long, ArgWord, Word, PosWord}
-use Rattle.bpaf_base.specs.Items.{display}
-use Rattle.bpaf_line.specs.Situation.{Situation, line_item}
-use Rattle.bpaf_line.specs.Taking.{open_item}
+use Rattle.bpaf_base.specs.{declared.arg.Arg.Arg, Items.display}
+use Rattle.bpaf_line.specs.{Situation.Situation, Situation.line_item, Taking.open_item}
 
 -- how the item at a place is printed; past the line nothing is
 abbrev pub shown_item : Situation → ℕ → List ℕ

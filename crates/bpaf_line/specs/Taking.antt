@@ -2,19 +2,14 @@
 use Rattle.std.specs.Prelude.{◌≡◌, ℕ, ◌+◌, ◌<◌, Bool, true, false, List, Option, Some, None, Result}
 use Rattle.std.specs.Prelude.{Ok, Err, bytes_eq, string_bytes, String, if◌then◌else◌}
 use Rattle.std.specs.Prelude.{option_and_then, option_map, find, ⊤}
-use Rattle.std.specs.Borrow.{Bor}
-use Rattle.std.specs.Option.{option_map_or}
-use Rattle.std.specs.declared.alloc.Global.{Global}
-use Rattle.bpaf_doc.specs.Names.{Names}
-use Rattle.bpaf_doc.specs.Shape.{Positional}
-use Rattle.bpaf_base.specs.declared.arg.Arg.{Arg}
-use Rattle.bpaf_line.specs.declared.error.Error.{Error}
+use Rattle.std.specs.{Borrow.Bor, Option.option_map_or, declared.alloc.Global.Global}
+use Rattle.bpaf_doc.specs.{Names.Names, Shape.Positional}
 use Rattle.bpaf_line.specs.declared.error.Message.{Message}
 use Rattle.bpaf_line.specs.declared.error.Message.TheVariants.{Memory, Missing, NoArgument}
 use Rattle.bpaf_base.specs.Items.{is_key_of, is_argument_key, value_text, is_positional, word_text}
-use Rattle.bpaf_base.specs.Items.{any_item, is_command_word}
+use Rattle.bpaf_base.specs.{declared.arg.Arg.Arg, Items.any_item, Items.is_command_word}
 use Rattle.bpaf_line.specs.Situation.{Situation, item_at, is_open, take_place, with_current}
-use Rattle.bpaf_line.specs.MissingIn.{IsMissingIn}
+use Rattle.bpaf_line.specs.{declared.error.Error.Error, MissingIn.IsMissingIn}
 
 -- the item at p, where it is present and in scope
 abbrev pub open_item : Situation → ℕ → Option Arg

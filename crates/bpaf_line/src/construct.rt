@@ -1,7 +1,6 @@
 //! How a state begins, and how it is copied.
 ghost use Rattle.std.specs.Prelude.{ℕ, ◌≡◌, ◌*◌, ◌<◌, ◌≤◌, length, IfOk, OnOk, IfSome, All, IsUtf8};
-ghost use Rattle.std.specs.Prelude.{map, option_map, option_to_list, string_bytes};
-ghost use Rattle.std.specs.Prelude.{[], true};
+ghost use Rattle.std.specs.Prelude.{map, option_map, option_to_list, string_bytes, [], true};
 ghost use Rattle.bpaf_words.specs.Arguments.{words_of, given_of, name_of, env_of, entries_of};
 ghost use Rattle.std.specs.Option.{option_map_or};
 ghost use Rattle.bpaf_words.specs.Spelling.{knowing, known_at};

@@ -3,8 +3,7 @@ ghost use Rattle.std.specs.Prelude.{◌≡◌, ◌+◌, ◌++◌, ◌&&◌, ◌<
 ghost use Rattle.std.specs.Prelude.{if◌then◌else◌, not, nat_lt, nat_le, length, slice_get, true};
 ghost use Rattle.std.specs.Prelude.{false, Bool, MatchOption, option_copied, option_map};
 ghost use Rattle.std.specs.Prelude.{option_and_then, Some, None, IfOk, OnOk, OnErr, IfSome};
-ghost use Rattle.std.specs.Prelude.{string_bytes, map, List, ℕ, ◌*◌};
-ghost use Rattle.std.specs.Prelude.{◌≢◌};
+ghost use Rattle.std.specs.Prelude.{string_bytes, map, List, ℕ, ◌*◌, ◌≢◌};
 ghost use Rattle.bpaf_index.specs.Bits.{has_bit, IsFirstClear};
 ghost use Rattle.std.specs.Borrow.{Bor};
 ghost use Rattle.bpaf_doc.specs.Shape.{part_of};

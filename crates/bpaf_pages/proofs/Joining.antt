@@ -1,9 +1,6 @@
 -- Documents that are joined.
-use Rattle.std.proofs.Common.{◌≡◌, ℕ, suc, ◌<◌, true, false, ◌==◌, List, [], ◌∷◌, ◌++◌, ap, sym}
-use Rattle.std.proofs.Common.{◌∙◌, drop, length, get_or, drop-cons, subst, refl}
-use Rattle.bpaf_doc.specs.declared.doc.Piece.{Piece}
-use Rattle.bpaf_doc.specs.Print.{printed}
-use Rattle.bpaf_doc.specs.Prints.{Print, Prints, prints, is_nil}
+use Rattle.std.proofs.Common.{◌≡◌, ℕ, List, [], ◌∷◌, ap, ◌∙◌, refl}
+use Rattle.bpaf_doc.specs.{Prints.Print, Prints.Prints, Prints.prints, declared.doc.Piece.Piece}
 use Rattle.bpaf_pages.specs.Joined.{glued, joined_behind}
 
 -- what a document prints is the text that it prints

@@ -1,21 +1,15 @@
 -- The lines that a walk gathers.
-use Rattle.std.proofs.Common.{◌≡◌, ℕ, zero, suc, ◌+◌, ◌<◌, Bool, true, false, ◌||◌, if◌then◌else◌}
-use Rattle.std.proofs.Common.{List, [], ◌∷◌, ◌++◌, Option, map, ap, sym, ◌∙◌, append-nil, drop}
-use Rattle.std.proofs.Common.{length, get_or, drop-cons, refl, arith}
+use Rattle.std.proofs.Common.{◌≡◌, ℕ, zero, suc, ◌+◌, ◌<◌, List, [], ◌∷◌, ◌++◌, Option, map, ap}
+use Rattle.std.proofs.Common.{sym, ◌∙◌, drop, length, get_or, arith}
 use Rattle.std.proofs.lemmas.List.{length-map, map-append, get_or-map}
 use denote.Bor.{Bor}
-use Rattle.bpaf_doc.specs.declared.doc.Doc.{Doc}
-use Rattle.bpaf_doc.specs.declared.item.Item.{Item}
 use Rattle.bpaf_pages.specs.declared.lines.ListPlace.{ListPlace}
-use Rattle.bpaf_doc.specs.declared.doc.Piece.{Piece}
+use Rattle.bpaf_pages.specs.InsideLine.{line_of, place_of}
+use Rattle.bpaf_doc.specs.Shape.{Shown, part_of}
+use Rattle.bpaf_doc.specs.{declared.doc.Doc.Doc, declared.item.Item.Item, declared.doc.Piece.Piece}
+use Rattle.bpaf_pages.specs.Lines.{Line, Listed, Below, place_in, lines, below_last}
 use Rattle.bpaf_pages.specs.declared.lines.Line.{Line as LineHere}
 use Rattle.bpaf_pages.specs.declared.lines.Told.TheVariants as told
-use Rattle.bpaf_pages.specs.InsideLine.{line_of, place_of}
-use Rattle.bpaf_doc.specs.declared.meta.Meta.{Meta}
-use Rattle.bpaf_doc.specs.Shape.{Shape, Shapes, And, Or, Optional, Required, Adjacent, Many, Strict}
-use Rattle.bpaf_doc.specs.Shape.{Subsection, Suffix, CustomUsage, Shown, Skip, none, ◌then◌}
-use Rattle.bpaf_doc.specs.Shape.{shape_of, members_of, part_of}
-use Rattle.bpaf_pages.specs.Lines.{Line, Listed, Below, place_in, lines, below_last}
 
 -- a text below the last line
 below_whole :

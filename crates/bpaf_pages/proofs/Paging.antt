@@ -2,12 +2,10 @@
 use Rattle.std.proofs.Common.{◌≡◌, ℕ, suc, ◌+◌, ◌<◌, List, [], ◌∷◌, ◌++◌, ap, sym, ◌∙◌, drop}
 use Rattle.std.proofs.Common.{length, get_or, drop-cons, add-one, append_assoc, subst, refl, codes}
 use Rattle.std.proofs.lemmas.Grind.{fold-append}
-use Rattle.bpaf_doc.specs.declared.doc.Piece.{Piece}
-use Rattle.bpaf_doc.specs.Prints.{Print, Prints, prints}
+use Rattle.bpaf_doc.specs.{declared.doc.Piece.Piece, Prints.Print, Prints.Prints, Prints.prints}
 use Rattle.bpaf_pages.specs.Joined.{nothing, glued, joined, joined_behind}
-use Rattle.bpaf_pages.specs.Lines.{Line}
 use Rattle.bpaf_pages.specs.Help.{PageTexts, section, sections, opening, lists, widest, paragraph}
-use Rattle.bpaf_pages.specs.Help.{paragraphs, page, prints_of}
+use Rattle.bpaf_pages.specs.{Lines.Line, Help.paragraphs, Help.page, Help.prints_of}
 use Rattle.bpaf_pages.proofs.Joining.{shows, glued_behind}
 
 -- one section more

@@ -1,16 +1,13 @@
 -- The help page of what a parser shows.
 use Rattle.std.specs.Prelude.{ℕ, ◌+◌, ◌-◌, max, true, List, [], ◌∷◌, ◌++◌, length, replicate, codes}
-use Rattle.std.specs.Prelude.{Option, Some, None, chars, encode_utf8, flat_map, fold}
-use Rattle.std.specs.Prelude.{if◌then◌else◌}
-use Rattle.bpaf_doc.specs.declared.doc.Piece.{Piece}
+use Rattle.std.specs.Prelude.{Option, Some, None, chars, encode_utf8, flat_map, fold, if◌then◌else◌}
 use Rattle.bpaf_doc.specs.Prints.{Print, prints, is_empty}
-use Rattle.bpaf_doc.specs.Fold.{space}
-use Rattle.bpaf_pages.specs.Joined.{joined, around}
 use Rattle.bpaf_pages.specs.Lines.{Line, Told, Listed, Below, Positionals, Options, Commands}
 use Rattle.bpaf_pages.specs.Lines.{Section, lines, lines_at, titles}
 use Rattle.bpaf_doc.specs.Shape.{Shape, Part, And, none, ◌then◌, Any, Positional, Command, Flag}
 use Rattle.bpaf_doc.specs.Shape.{Argument, Name, Short, Long, Both}
-use Rattle.bpaf_pages.specs.Usage.{usage_text}
+use Rattle.bpaf_doc.specs.{declared.doc.Piece.Piece, Fold.space}
+use Rattle.bpaf_pages.specs.{Joined.joined, Joined.around, Usage.usage_text}
 
 -- the texts that a program gives; each may be missing
 pub record PageTexts : Type 0 where

@@ -1,7 +1,6 @@
 -- What the texts that a program gives are in contracts.
 use Rattle.std.specs.Prelude.{option_copied}
-use Rattle.bpaf_pages.specs.declared.help.HelpTexts.{HelpTexts}
-use Rattle.bpaf_pages.specs.Help.{PageTexts}
+use Rattle.bpaf_pages.specs.{declared.help.HelpTexts.HelpTexts, Help.PageTexts}
 
 -- the texts, each lent where there is one
 abbrev pub given_by : HelpTexts → PageTexts

@@ -1,6 +1,5 @@
 -- Texts that are joined, in the two prints that a document has.
-use Rattle.std.specs.Prelude.{ℕ, ◌||◌, List, [], ◌++◌, fold}
-use Rattle.std.specs.Prelude.{if◌then◌else◌}
+use Rattle.std.specs.Prelude.{ℕ, ◌||◌, List, [], ◌++◌, fold, if◌then◌else◌}
 use Rattle.bpaf_doc.specs.Prints.{Print, is_empty}
 
 -- no text

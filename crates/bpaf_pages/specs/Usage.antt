@@ -1,11 +1,9 @@
 -- The usage text of what a parser shows.
-use Rattle.std.specs.Prelude.{ℕ, not, List, [], ◌∷◌, ◌++◌, codes, count_by, nat_lt}
-use Rattle.std.specs.Prelude.{if◌then◌else◌}
-use Rattle.bpaf_doc.specs.PartText.{part_text}
-use Rattle.bpaf_doc.specs.Prints.{Print, prints, is_empty}
+use Rattle.std.specs.Prelude.{ℕ, not, List, [], ◌∷◌, ◌++◌, codes, count_by, nat_lt, if◌then◌else◌}
 use Rattle.bpaf_pages.specs.Joined.{joined, around}
-use Rattle.bpaf_doc.specs.Shape.{Shape, Shapes, And, Or, Optional, Required, Adjacent, Many}
-use Rattle.bpaf_doc.specs.Shape.{Strict, Subsection, Suffix, CustomUsage, Shown, Skip, none, ◌then◌}
+use Rattle.bpaf_doc.specs.Shape.{Shape, Shapes, And, Or, Optional, Required, Adjacent, Many, Strict}
+use Rattle.bpaf_doc.specs.Shape.{Subsection, Suffix, CustomUsage, Shown, Skip, none, ◌then◌}
+use Rattle.bpaf_doc.specs.{PartText.part_text, Prints.Print, Prints.prints, Prints.is_empty}
 
 -- how many texts aren't empty
 abbrev pub how_many : List Print → ℕ

@@ -1,15 +1,12 @@
 -- Branches of a choice: both begin at its start, and each can go back to it.
 use Rattle.std.proofs.Common.{◌≡◌, ◌⊎◌, Result, ap, sym, subst, ◌∙◌}
-use Rattle.bpaf_line.specs.declared.error.Error.{Error}
 use Rattle.bpaf_line.specs.Marks.{KeepsMarks, undone, redone}
-use Rattle.bpaf_line.specs.Situation.{Situation, open_count}
-use Rattle.bpaf_laws.specs.Choice.{Chosen, IsWant}
-use Rattle.bpaf_laws.specs.Laws.{Lawful}
+use Rattle.bpaf_line.specs.{declared.error.Error.Error, Situation.Situation, Situation.open_count}
 use Rattle.bpaf_laws.specs.Reading.{Outcome, Readings}
+use Rattle.bpaf_laws.specs.{Choice.Chosen, Choice.IsWant, Laws.Lawful}
 use Rattle.bpaf_laws.proofs.Keeping.{keeps_of}
-use Rattle.bpaf_parts.specs.declared.branch.Branch.{Branch}
-use Rattle.bpaf_parts.specs.declared.branch.Start.{Start}
 use Rattle.bpaf_parts.specs.Branches.{IsStart, LedTo, IsBranch, start_of, end_of}
+use Rattle.bpaf_parts.specs.{declared.branch.Branch.Branch, declared.branch.Start.Start}
 
 module _ {s : Situation} {start : Start} (begins : IsStart start s)
     (back : undone start.mark s ≡ s) where

@@ -2,8 +2,7 @@
 use Rattle.std.specs.Prelude.{◌≡◌, length}
 use Rattle.bpaf_line.specs.Situation.{Situation, open_count}
 use Rattle.bpaf_line.specs.Marks.{Fits, CanRedo, undone, redone}
-use Rattle.bpaf_parts.specs.declared.branch.Start.{Start}
-use Rattle.bpaf_parts.specs.declared.branch.Branch.{Branch}
+use Rattle.bpaf_parts.specs.{declared.branch.Start.Start, declared.branch.Branch.Branch}
 
 -- a parse can go back to the start, in which so many items are present
 pub record IsStart (start : Start) (t : Situation) : Type 0 where

@@ -1,11 +1,9 @@
 -- How the end of an inner run is told to those around it.
 use Rattle.std.specs.Prelude.{◌≡◌, ◌⊎◌, Bool, true, false}
-use Rattle.bpaf_line.specs.declared.error.Message.{Message}
-use Rattle.bpaf_line.specs.declared.error.Message.TheVariants as message
 use Rattle.bpaf_line.specs.declared.failure.ParseFailure.{ParseFailure}
+use Rattle.bpaf_line.specs.{declared.error.Message.Message, Messages.is_memory, Situation.Situation}
+use Rattle.bpaf_line.specs.declared.error.Message.TheVariants as message
 use Rattle.bpaf_line.specs.declared.failure.ParseFailure.TheVariants as failure
-use Rattle.bpaf_line.specs.Messages.{is_memory}
-use Rattle.bpaf_line.specs.Situation.{Situation}
 
 -- the end of an inner run as a refusal, which nothing but `catch` catches; want of memory stays
 -- that

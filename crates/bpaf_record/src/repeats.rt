@@ -123,12 +123,11 @@ impl<T: Drop, C: FromList<T> + Drop, P: ProgramField<T>> ProgramField<C> for Par
 impl<T: Drop, C: FromList<T> + Drop, P: FlatField<T>> FlatField<C> for ParseCollect<P, C, T> {}
 
 impl<T: Drop, P: ProgramField<T>> ProgramField<usize> for ParseCount<P, T> {
-    ghost use Rattle.std.specs.Prelude.{◌≡◌, length};
+    ghost use Rattle.std.specs.Prelude.{◌≡◌, length, false};
     ghost use Rattle.bpaf_exact.specs.Wrappers.{map_closure};
     ghost use Rattle.bpaf_exact.specs.ProgramSays.{said_repeat};
     ghost use Rattle.bpaf_exact.proofs.ByTables.{count_law};
     ghost use Rattle.bpaf_exact.proofs.ProgramSays.{program_repeat_says};
-    ghost use Rattle.std.specs.Prelude.{false};
     ghost use Rattle.bpaf_record.specs.Grammar.{repeat};
 
     ghost grammar = { λ p.

@@ -1,7 +1,6 @@
 -- What a set holds that is filled from a list.
 use Rattle.std.specs.Prelude.{List, [], ◌∷◌}
-use Rattle.std.specs.BTreeSet.{insert_key}
-use Rattle.std.specs.declared.cmp.Ordering.{Ordering}
+use Rattle.std.specs.{BTreeSet.insert_key, declared.cmp.Ordering.Ordering}
 
 -- the keys of a set in which these values were inserted, the first one first
 abbrev pub inserted : {T : Type 0} → (T → T → Ordering) → List T → List T → List T

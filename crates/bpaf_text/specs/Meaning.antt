@@ -1,9 +1,8 @@
 -- What a text means as a value, and what reading it may answer.
 use Rattle.std.specs.Prelude.{◌≡◌, ℕ, ◌^◌, ◌<◌, Bool, true, false, List, ℤ, Result, Ok, Err}
-use Rattle.std.specs.Prelude.{encode_utf8}
-use Rattle.std.specs.Char.{IsScalar}
 use Rattle.std.specs.Str.Parse.{IsNumeral, digits_value, without_leading_plus, without_leading_sign}
 use Rattle.std.specs.Str.Parse.{signed_digits_value, true_text, false_text}
+use Rattle.std.specs.{Prelude.encode_utf8, Char.IsScalar}
 use Rattle.bpaf_text.specs.declared.fault.TextFault.{TextFault}
 use Rattle.bpaf_text.specs.declared.fault.TextFault.TheVariants.{Fault, Memory}
 use mir.Syntax.{Width}

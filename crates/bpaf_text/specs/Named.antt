@@ -1,9 +1,8 @@
 -- A key before it becomes a parser, as contracts see it, and the part that it shows.
 use Rattle.std.specs.Prelude.{ℕ, Bool, List, [], ◌∷◌, ◌++◌, Option, Some, None}
 use Rattle.std.specs.Option.{option_map}
-use Rattle.bpaf_doc.specs.declared.doc.Piece.{Piece}
-use Rattle.bpaf_doc.specs.Names.{Names}
 use Rattle.bpaf_doc.specs.Shape.{Part, Flag, Argument, shown_name}
+use Rattle.bpaf_doc.specs.{declared.doc.Piece.Piece, Names.Names}
 
 -- what a key holds: its names, its names in the environment, and the help that is shown with it
 pub record Named : Type 0 where

@@ -4,9 +4,8 @@ ghost use Rattle.std.specs.Option.{option_map};
 ghost use Rattle.bpaf_doc.specs.declared.doc.Piece.{Piece};
 ghost use Rattle.bpaf_doc.specs.Fold.{TextPieces};
 ghost use Rattle.bpaf_doc.specs.Shape.{name_of, part_of, shown_name};
-ghost use Rattle.bpaf_text.specs.Named.{flag_part, argument_part, first_text};
-ghost use Rattle.bpaf_text.specs.Named.{key_named, nothing_named};
-ghost use Rattle.bpaf_text.specs.Named.{with_short, with_long, with_env, with_help};
+ghost use Rattle.bpaf_text.specs.Named.{flag_part, argument_part, first_text, key_named};
+ghost use Rattle.bpaf_text.specs.Named.{nothing_named, with_short, with_long, with_env, with_help};
 
 use crate::few::Few;
 use crate::params::{ParseArgument, ParseFlag, build_argument, build_flag_parser};

@@ -2,17 +2,14 @@
 use Rattle.std.proofs.Common.{◌≡◌, ℕ, ◌+◌, ◌<◌, ◌≤◌, Bool, true, false, List, [], ◌++◌, length}
 use Rattle.std.proofs.Common.{take, drop, map, refl, arith, append-nil, codes, Option, IfSome, IfOk}
 use Rattle.std.proofs.Common.{Result, Ok, Err, length-append, nat_lt}
-use Rattle.std.specs.Bool.{then_some}
-use Rattle.std.proofs.lemmas.Bool.Decides.{nat_tests}
-use Rattle.std.proofs.lemmas.Grind.{common_steps}
-use Rattle.bpaf_base.specs.declared.arg.Arg.{Arg}
-use Rattle.bpaf_base.specs.declared.arg.Arg.TheVariants.{PosWord}
+use Rattle.std.proofs.{lemmas.Bool.Decides.nat_tests, lemmas.Grind.common_steps}
+use Rattle.bpaf_base.specs.{declared.arg.Arg.Arg, declared.arg.Arg.TheVariants.PosWord}
 use Rattle.bpaf_words.specs.Spelling.{Known, known_at}
 use Rattle.bpaf_words.specs.Line.{IsLine, without_marker, with_marker}
 use Rattle.bpaf_words.specs.Splitting.{Begins, BeginsByAny, EndsFront, IsLineByAny}
-use Rattle.bpaf_words.specs.declared.line.Line.{Line as WordsLine}
-use Rattle.std.specs.declared.alloc.AllocError.{AllocError}
+use Rattle.std.specs.{Bool.then_some, declared.alloc.AllocError.AllocError}
 use Rattle.bpaf_words.proofs.Lists.{cut_at, drop_next}
+use Rattle.bpaf_words.specs.declared.line.Line.{Line as WordsLine}
 
 -- a front as long as the list, or longer, is the whole list
 take_whole : {X : Type 0} (xs : List X) (n : ℕ) → length xs ≤ n → take n xs ≡ xs

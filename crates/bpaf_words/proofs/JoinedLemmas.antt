@@ -1,20 +1,16 @@
 -- A walk over joined letters: the flags at the front, and what stands where they end.
 use Rattle.std.proofs.Common.{◌≡◌, ◌≢◌, ℕ, zero, suc, ◌+◌, ◌≤◌, true, false, ◌==◌, List, [], ◌∷◌}
-use Rattle.std.proofs.Common.{◌++◌}
-use Rattle.std.proofs.Common.{length, refl, ap, sym, ◌∙◌, arith, rules, take, if◌then◌else◌}
+use Rattle.std.proofs.Common.{◌++◌, length, refl, ap, sym, ◌∙◌, arith, rules, take, if◌then◌else◌}
 use Rattle.std.proofs.Common.{append_assoc, append-nil, encode_utf8, encode_utf8_all, All}
-use Rattle.std.proofs.Common.{length-append}
 use Rattle.std.proofs.lemmas.Str.{cons_from_encodes, encodes_same, encodes-append}
 use Rattle.std.proofs.lemmas.Str.{length-le-encodes, length-encode, len_utf8_bounds}
 use Rattle.std.proofs.lemmas.List.Elements.{All-push}
 use Rattle.std.proofs.lemmas.Bool.Decides.{nat_tests}
-use Rattle.std.proofs.lemmas.Grind.{common_steps}
 use Rattle.bpaf_base.specs.declared.arg.Arg.{Arg}
 use Rattle.bpaf_base.specs.declared.arg.Arg.TheVariants.{Short, Word}
-use Rattle.bpaf_words.specs.Spelling.{ShortNames, IsKnownAs, flags_of}
-use Rattle.bpaf_words.specs.Spelling.{argument_of, SpellsJoined, Items, Ambiguous, flags, argument}
-use Rattle.bpaf_words.specs.Spelling.{neither, both}
-use Rattle.std.proofs.lemmas.List.{nil_from_length}
+use Rattle.bpaf_words.specs.Spelling.{ShortNames, IsKnownAs, flags_of, argument_of, SpellsJoined}
+use Rattle.bpaf_words.specs.Spelling.{Items, Ambiguous, flags, argument, neither, both}
+use Rattle.std.proofs.{Common.length-append, lemmas.Grind.common_steps, lemmas.List.nil_from_length}
 
 -- the letters are those of the flags fs and the rest, and the items of fs stand at the end of the
 -- old ones

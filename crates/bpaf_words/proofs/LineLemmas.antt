@@ -2,15 +2,11 @@
 use Rattle.std.proofs.Common.{◌≡◌, ◌≢◌, ℕ, zero, suc, Bool, ◌+◌, ◌<◌, List, [], ◌∷◌, ◌++◌, take}
 use Rattle.std.proofs.Common.{drop, map, refl, ap, sym, ◌∙◌, arith, append_assoc, append-nil, codes}
 use Rattle.std.proofs.Common.{Some, slice_get, bytes_eq, true, false, IsUtf8, ⊎_elim, subst, length}
-use Rattle.std.proofs.Common.{All}
-use Rattle.std.proofs.lemmas.Bool.{cases_lt}
 use Rattle.std.proofs.lemmas.Option.{get_or_from_slice_get}
-use Rattle.std.proofs.lemmas.List.Elements.{AllWithin-more}
+use Rattle.std.proofs.lemmas.List.Elements.{AllWithin-more, All-push}
 use Rattle.std.specs.List.{flat_map, AllWithin}
-use Rattle.std.proofs.lemmas.Grind.{flat_map-append}
-use Rattle.std.proofs.lemmas.List.Elements.{All-push}
-use Rattle.bpaf_base.specs.declared.arg.Arg.{Arg}
-use Rattle.bpaf_base.specs.declared.arg.Arg.TheVariants.{PosWord}
+use Rattle.std.proofs.{Common.All, lemmas.Bool.cases_lt, lemmas.Grind.flat_map-append}
+use Rattle.bpaf_base.specs.{declared.arg.Arg.Arg, declared.arg.Arg.TheVariants.PosWord}
 use Rattle.bpaf_words.specs.Spelling.{Known, Items, Ambiguous, Spells, known_at}
 use Rattle.bpaf_words.specs.Line.{HasNoLine}
 use Rattle.bpaf_words.specs.Splitting.{Begins, BeginsByAny, SpellsByAny}

@@ -1,10 +1,8 @@
 -- Whether a word is a number, and a number that is a word.
-use Rattle.std.proofs.Common.{◌≡◌, ◌==◌, ℕ, zero, suc, Bool, true, false, List, [], ◌∷◌}
-use Rattle.std.proofs.Common.{refl, ap, sym, ◌∙◌, subst, arith, ◌⊎◌, inl, inr, ⊎_elim, EachIndex}
-use Rattle.std.proofs.Common.{slice_index}
+use Rattle.std.proofs.Common.{◌≡◌, ◌==◌, ℕ, zero, suc, Bool, true, false, List, [], ◌∷◌, refl, ap}
+use Rattle.std.proofs.Common.{sym, ◌∙◌, subst, arith, ◌⊎◌, inl, inr, ⊎_elim, EachIndex, slice_index}
 use Rattle.std.specs.Char.{IsAsciiDigit}
-use Rattle.std.proofs.lemmas.Bool.{cases_lt}
-use Rattle.std.proofs.lemmas.Bool.Decides.{nat_tests}
+use Rattle.std.proofs.{lemmas.Bool.cases_lt, lemmas.Bool.Decides.nat_tests}
 use Rattle.bpaf_words.specs.Spelling.{IsNumber, IsNumberWord}
 
 -- each byte is a digit

@@ -2,11 +2,9 @@
 use Rattle.std.proofs.Common.{◌≡◌, ◌≢◌, ◌⊎◌, inl, inr, ⊎_elim, ℕ, ◌+◌, List, [], ◌∷◌, ◌++◌, length}
 use Rattle.std.proofs.Common.{map, codes, refl, ap, sym, ◌∙◌, subst, arith, append_assoc, None}
 use Rattle.std.proofs.Common.{Some, Option, All, IsUtf8, length-append, Bool, true, false, bytes_eq}
-use Rattle.std.specs.Option.{option_map}
 use Rattle.std.specs.Cmp.Lexicographic.{bytes_decides}
-use Rattle.std.specs.List.{AllZip, flat_map}
-use Rattle.bpaf_base.specs.declared.arg.Arg.{Arg}
-use Rattle.bpaf_base.specs.declared.arg.Arg.TheVariants.{PosWord}
+use Rattle.std.specs.{Option.option_map, List.AllZip, List.flat_map}
+use Rattle.bpaf_base.specs.{declared.arg.Arg.Arg, declared.arg.Arg.TheVariants.PosWord}
 use Rattle.bpaf_words.specs.Spelling.{Known, Spelling, Items, Ambiguous, Spells}
 use Rattle.bpaf_words.specs.Line.{SpellAll, HasNoMarker, IsLine, HasNoLine, without_marker}
 use Rattle.bpaf_words.specs.Line.{with_marker, LinesAreUnique}

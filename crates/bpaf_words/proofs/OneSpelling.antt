@@ -4,9 +4,8 @@ use Rattle.std.proofs.Common.{List, [], ◌∷◌, ◌++◌, length, refl, ap, s
 use Rattle.std.proofs.Common.{append_assoc, append-nil, None, Some, Option, encode_utf8}
 use Rattle.std.proofs.Common.{encode_utf8_all, All, lit<, IsUtf8, ⊎_elim, codes}
 use Rattle.std.specs.Option.{option_map}
-use Rattle.std.proofs.lemmas.Bool.Decides.{nat_tests}
-use Rattle.std.proofs.lemmas.List.Elements.{All-push}
 use Rattle.std.proofs.lemmas.Str.{encode_ascii, encode_same, cons_from_encodes, encodes_same}
+use Rattle.std.proofs.{lemmas.Bool.Decides.nat_tests, lemmas.List.Elements.All-push}
 use Rattle.bpaf_base.specs.declared.arg.Arg.TheVariants.{Short, Long, ArgWord, Word}
 use Rattle.bpaf_base.specs.Items.{is_among}
 use Rattle.bpaf_words.specs.Spelling.{ShortNames, Known, IsNumberWord, SpellsByDash, number_word}
@@ -18,8 +17,7 @@ use Rattle.bpaf_words.specs.Spelling.{joined, Case, PlainWord, DashAlone, LongAl
 use Rattle.bpaf_words.specs.Spelling.{ShortAlone, ShortWithValue, ShortWithLongValue, JoinedFlags}
 use Rattle.bpaf_words.specs.Spelling.{JoinedWithArgument, JoinedWithNeither, JoinedWithBoth}
 use Rattle.bpaf_words.specs.Spelling.{case_of, joined_case_of, SpellingsAreUnique}
-use Rattle.bpaf_words.proofs.Lists.{All_head, All_tail}
-use Rattle.bpaf_words.proofs.Numbers.{number_or_not}
+use Rattle.bpaf_words.proofs.{Lists.All_head, Lists.All_tail, Numbers.number_or_not}
 
 -- a text around its first `=`
 abbrev split_equals : List ℕ → Option (List ℕ × List ℕ)

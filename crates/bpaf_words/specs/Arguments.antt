@@ -1,11 +1,9 @@
 -- What a run is given, as contracts see it.
 use Rattle.std.specs.Prelude.{◌≡◌, ℕ, List, [], map, Option, None, option_map, string_bytes, String}
 use Rattle.std.specs.declared.collections.BTreeMap.{BTreeMap}
-use Rattle.std.specs.declared.alloc.Global.{Global}
-use Rattle.std.specs.Option.{option_map_or}
-use Rattle.bpaf_words.specs.declared.args.Words.{Words}
+use Rattle.std.specs.{declared.alloc.Global.Global, Option.option_map_or}
 use Rattle.bpaf_words.specs.declared.args.Words.TheVariants.{Strs, Strings}
-use Rattle.bpaf_words.specs.declared.args.Args.{Args}
+use Rattle.bpaf_words.specs.{declared.args.Words.Words, declared.args.Args.Args}
 
 -- given words, by their bytes
 abbrev pub words_in : Words → List (List ℕ)

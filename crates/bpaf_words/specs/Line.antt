@@ -2,8 +2,7 @@
 use Rattle.std.specs.Prelude.{◌≡◌, ◌≢◌, ℕ, List, ◌∷◌, ◌++◌, length, codes, map, flat_map, All}
 use Rattle.std.specs.Prelude.{IsUtf8, Option, Some, None, ◌⊎◌}
 use Rattle.std.specs.List.{AllZip}
-use Rattle.bpaf_base.specs.declared.arg.Arg.{Arg}
-use Rattle.bpaf_base.specs.declared.arg.Arg.TheVariants.{PosWord}
+use Rattle.bpaf_base.specs.{declared.arg.Arg.Arg, declared.arg.Arg.TheVariants.PosWord}
 use Rattle.bpaf_words.specs.Spelling.{Known, Items, Ambiguous, Spells}
 
 -- each word spells its items, and these are all of them in order

@@ -1,11 +1,9 @@
 -- How a word spells items: the ways in which its bytes fall into parts.
 use Rattle.std.specs.Prelude.{◌≡◌, ◌≢◌, ℕ, ◌+◌, Bool, true, false, List, [], ◌∷◌, ◌++◌, length}
 use Rattle.std.specs.Prelude.{codes, encode_utf8, encode_utf8_all, EachIndex, slice_index, All}
-use Rattle.std.specs.Prelude.{IsUtf8}
-use Rattle.std.specs.Char.{IsAsciiDigit}
-use Rattle.bpaf_base.specs.Items.{is_among}
-use Rattle.bpaf_base.specs.declared.arg.Arg.{Arg}
+use Rattle.std.specs.{Prelude.IsUtf8, Char.IsAsciiDigit}
 use Rattle.bpaf_base.specs.declared.arg.Arg.TheVariants.{Short, Long, ArgWord, Word}
+use Rattle.bpaf_base.specs.{Items.is_among, declared.arg.Arg.Arg}
 
 -- the short names that a parser knows, as characters
 pub record ShortNames : Type 0 where

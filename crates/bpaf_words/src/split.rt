@@ -1,8 +1,7 @@
 //! The items of one word.
 ghost use Rattle.std.specs.Prelude.{◌≡◌, ◌≢◌, ◌↔◌, [], ◌∷◌, ◌++◌, false, IsTrue, EachIndex, IfOk};
-ghost use Rattle.std.specs.Prelude.{OnOk};
-ghost use Rattle.std.specs.Prelude.{slice_index, codes, encode_utf8, encode_utf8_all, List, ℕ};
-ghost use Rattle.std.specs.Prelude.{MatchOption};
+ghost use Rattle.std.specs.Prelude.{OnOk, slice_index, codes, encode_utf8, encode_utf8_all, List};
+ghost use Rattle.std.specs.Prelude.{ℕ, MatchOption};
 ghost use Rattle.std.specs.Bool.{MatchBool};
 ghost use Rattle.std.specs.Char.{IsAsciiDigit};
 ghost use Rattle.bpaf_words.specs.Spelling.{IsNumber, argument_of, known_at};

@@ -6,8 +6,7 @@ ghost use Rattle.bpaf_line.specs.Stretches.{IsStretchFrom};
 ghost use Rattle.bpaf_line.specs.Situation.{open_count, with_scope, HasNoneOpen, IsNextOpen};
 ghost use Rattle.bpaf_laws.specs.Spared.{IsNotMemory};
 ghost use Rattle.bpaf_laws.specs.AdjacentGroup.{Tries};
-ghost use Rattle.bpaf.specs.Remembering.{EndsAttempt};
-ghost use Rattle.bpaf.specs.Remembering.{Takes};
+ghost use Rattle.bpaf.specs.Remembering.{EndsAttempt, Takes};
 
 use bpaf_core::Parser;
 use bpaf_line::{Error, State};

@@ -5,8 +5,7 @@ ghost use Rattle.bpaf_doc.specs.Shape.{part_of};
 ghost use Rattle.bpaf_line.specs.Marks.{Fits, undone};
 ghost use Rattle.bpaf_line.specs.Messages.{is_memory};
 ghost use Rattle.bpaf_laws.specs.Laws.{Keeps};
-ghost use Rattle.bpaf.specs.Remembering.{IsEnd, IsMissingFirst, IsRemembered};
-ghost use Rattle.bpaf.specs.Remembering.{TriesFrom};
+ghost use Rattle.bpaf.specs.Remembering.{IsEnd, IsMissingFirst, IsRemembered, TriesFrom};
 
 use super::attempts::count_present;
 use bpaf_doc::Item;

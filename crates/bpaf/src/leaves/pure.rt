@@ -30,9 +30,8 @@ pub fn pure<T>(value: T) -> ParsePure<T>
 
 /// A clone of the kept value, refused only for want of memory. No place is current then.
 impl<T: Clone> Parser<T> for ParsePure<T> {
-    ghost use Rattle.std.specs.Prelude.{◌≡◌, refl};
+    ghost use Rattle.std.specs.Prelude.{◌≡◌, refl, true};
     ghost use Rattle.bpaf_doc.specs.Shape.{Skip};
-    ghost use Rattle.std.specs.Prelude.{true};
     ghost use Rattle.std.specs.Result.{IfErr};
     ghost use Rattle.bpaf_line.specs.Messages.{is_memory};
     ghost use Rattle.bpaf_laws.specs.Default.{GivesClone};

@@ -1,11 +1,9 @@
 use Rattle.std.proofs.Common.{◌≡◌, ◌+◌, ◌++◌, ◌∷◌, [], take, Err, ap, sym, ◌∙◌, subst, refl}
 use Rattle.std.proofs.lemmas.List.{take_more}
 use Rattle.bpaf_line.specs.Messages.{is_memory}
-use Rattle.bpaf_laws.specs.Choice.{ChoiceOutcome}
-use Rattle.bpaf_laws.specs.Choices.{Nested}
-use Rattle.bpaf_laws.proofs.ChoicesLaws.{from_lawful}
+use Rattle.bpaf_laws.specs.{Choice.ChoiceOutcome, Choices.Nested}
 use Rattle.bpaf_laws.proofs.ChoosingAll.{one_more, wants}
-use Rattle.bpaf_laws.proofs.Keeping.{keeps_of}
+use Rattle.bpaf_laws.proofs.{ChoicesLaws.from_lawful, Keeping.keeps_of}
 use Rattle.bpaf_core.specs.Branches.{LedTo}
 use Rattle.bpaf_core.proofs.Branching.{start_back, start_kept, second_keeps, branch_kept}
 use Rattle.bpaf_core.proofs.Branching.{chosen_kept}

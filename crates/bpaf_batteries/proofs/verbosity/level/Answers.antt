@@ -1,5 +1,4 @@
-use Rattle.std.proofs.Common.{arith}
-use Rattle.std.proofs.lemmas.Int.{ints, clamps}
+use Rattle.std.proofs.{Common.arith, lemmas.Int.ints, lemmas.Int.clamps}
 use Rattle.bpaf_batteries.proofs.verbosity.level.Goals as goal
 
 pub returns : goal.returns

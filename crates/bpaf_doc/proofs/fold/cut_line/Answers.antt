@@ -1,5 +1,4 @@
-use Rattle.std.proofs.Common.{arith}
-use Rattle.std.proofs.lemmas.Str.Pattern.{split_parts}
+use Rattle.std.proofs.{Common.arith, lemmas.Str.Pattern.split_parts}
 use Rattle.bpaf_doc.proofs.fold.cut_line.Goals as goal
 
 pub returns : goal.returns

@@ -1,5 +1,4 @@
-use Rattle.std.proofs.Common.{Some}
-use Rattle.std.proofs.lemmas.Str.Pattern.{split_text_parts}
+use Rattle.std.proofs.{Common.Some, lemmas.Str.Pattern.split_text_parts}
 use Rattle.bpaf_doc.specs.Fold.{empty_line}
 use Rattle.bpaf_doc.proofs.Folding.{text_whole, text_cut}
 use Rattle.bpaf_doc.proofs.fold.pieces_of_lines.Goals as goal

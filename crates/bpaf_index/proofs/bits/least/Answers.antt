@@ -1,10 +1,9 @@
 use Rattle.std.proofs.Common.{◌++◌, ◌∷◌, [], Some, ◌∙◌, take, sym, ap, subst, slice_index}
-use Rattle.std.proofs.lemmas.List.{take_more}
-use Rattle.std.proofs.Math.Bool.{beq}
+use Rattle.std.proofs.{lemmas.List.take_more, Math.Bool.beq}
 use Rattle.bpaf_index.specs.Bits.{is_on_as, IsLeastIn}
 use Rattle.bpaf_index.proofs.BitSets.{on_at, least_take, least_skip}
-use Rattle.bpaf_index.proofs.bits.least.Goals as goal
 use Rattle.bpaf_index.proofs.bits.least.Goals.{then-is_set-bit, else-is_set-bit}
+use Rattle.bpaf_index.proofs.bits.least.Goals as goal
 
 pub is_set-requires : goal.is_set-requires
 is_set-requires c = c.requires _

@@ -1,5 +1,4 @@
-use Rattle.std.proofs.Common.{rules}
-use Rattle.std.proofs.lemmas.Str.{chars_from_encodes}
+use Rattle.std.proofs.{Common.rules, lemmas.Str.chars_from_encodes}
 use Rattle.bpaf_messages.proofs.ambiguity.letters_of.Goals as goal
 
 pub returns : goal.returns

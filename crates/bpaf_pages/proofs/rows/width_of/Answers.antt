@@ -1,5 +1,4 @@
-use Rattle.std.proofs.Common.{rules}
-use Rattle.std.proofs.lemmas.Str.{chars_from_encodes}
+use Rattle.std.proofs.{Common.rules, lemmas.Str.chars_from_encodes}
 use Rattle.bpaf_pages.proofs.rows.width_of.Goals as goal
 
 pub returns : goal.returns

@@ -1,9 +1,7 @@
 use Rattle.bpaf_words.specs.Arguments.{words_in}
-use Rattle.std.proofs.Common.{ap, ◌∙◌}
+use Rattle.std.proofs.Common.{ap, ◌∙◌, ◌++◌, [], ◌∷◌}
 use Rattle.bpaf_base.specs.declared.arg.Arg.TheVariants.{PosWord}
 use Rattle.bpaf_words.proofs.LineLemmas.{rest_moved, texts_more}
-use Rattle.std.proofs.Common.{◌++◌, [], ◌∷◌}
-use Rattle.bpaf_words.specs.Arguments.{words_in}
 use Rattle.bpaf_words.proofs.line.push_rest.Goals as goal
 
 -- src/line.rt:43:5

@@ -1,5 +1,4 @@
-use Rattle.bpaf_words.specs.Arguments.{words_in}
-use Rattle.bpaf_words.specs.Splitting.{BeginsByAny}
+use Rattle.bpaf_words.specs.{Arguments.words_in, Splitting.BeginsByAny}
 use Rattle.bpaf_words.proofs.line.split_front.Given as goal
 
 abbrev pub invariant-loop-index : goal.invariant-loop-index

@@ -1,5 +1,4 @@
-use Rattle.std.proofs.Common.{lit<}
-use Rattle.std.proofs.lemmas.Str.Pattern.{strip_prefix_char}
+use Rattle.std.proofs.{Common.lit<, lemmas.Str.Pattern.strip_prefix_char}
 use Rattle.bpaf_words.proofs.split.after_dash.Goals as goal
 
 pub returns-in-Some-eq45 : goal.returns-in-Some-eq45

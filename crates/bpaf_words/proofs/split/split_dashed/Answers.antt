@@ -1,12 +1,11 @@
 use Rattle.std.proofs.Common.{[], ◌∷◌, ◌++◌, ap, ◌∙◌, sym, rules, true, false, refl, encode_utf8}
-use Rattle.std.proofs.Common.{append-nil, length}
-use Rattle.std.proofs.lemmas.List.{nil_from_length}
+use Rattle.std.proofs.{Common.append-nil, Common.length, lemmas.List.nil_from_length}
 use Rattle.bpaf_base.specs.declared.arg.Arg.TheVariants.{Short, Word, ArgWord}
 use Rattle.bpaf_words.specs.Spelling.{dash, short}
-use Rattle.bpaf_words.proofs.SplitLemmas.{other_than_dash, at_equals, no_equals}
-use Rattle.bpaf_words.proofs.SplitLemmas.{with_value, are_joined, not_both, is_zero, first_letter}
-use Rattle.bpaf_words.proofs.split.split_dashed.Goals as goal
+use Rattle.bpaf_words.proofs.SplitLemmas.{other_than_dash, at_equals, no_equals, with_value}
+use Rattle.bpaf_words.proofs.SplitLemmas.{are_joined, not_both, is_zero, first_letter}
 use Rattle.bpaf_words.proofs.split.split_dashed.Goals.{then-is_empty-2, else-is_empty-2}
+use Rattle.bpaf_words.proofs.split.split_dashed.Goals as goal
 
 pub returns-in_default-next : goal.returns-in_default-next
 returns-in_default-next c names =

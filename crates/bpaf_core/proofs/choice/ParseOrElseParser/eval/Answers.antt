@@ -2,8 +2,7 @@ use Rattle.std.proofs.Common.{ap, inr, sym, ◌∙◌, subst}
 use Rattle.bpaf_line.specs.Messages.{is_memory}
 use Rattle.bpaf_laws.specs.Choice.{ChoiceOutcome}
 use Rattle.bpaf_laws.proofs.Choosing.{ran_outcome, choice_spared, want_outcome, want_leftmost}
-use Rattle.bpaf_laws.proofs.Keeping.{keeps_of}
-use Rattle.bpaf_laws.proofs.Leftmost.{leftmost_is_chosen}
+use Rattle.bpaf_laws.proofs.{Keeping.keeps_of, Leftmost.leftmost_is_chosen}
 use Rattle.bpaf_parts.specs.Branches.{LedTo}
 use Rattle.bpaf_parts.proofs.Branching.{start_back, start_kept, second_keeps, branch_kept}
 use Rattle.bpaf_parts.proofs.Branching.{chosen_kept}

@@ -1,5 +1,4 @@
-use Rattle.bpaf_laws.proofs.Bounded.{some_bounded}
-use Rattle.bpaf_laws.proofs.RepeatSparing.{spared_some}
+use Rattle.bpaf_laws.proofs.{Bounded.some_bounded, RepeatSparing.spared_some}
 use Rattle.bpaf_core.proofs.repeat.ParseSomeParserVec.eval.Goals as goal
 
 pub returns-clause-repeat_is_bounded : goal.returns-clause-repeat_is_bounded

@@ -1,7 +1,6 @@
 use Rattle.std.proofs.Common.{sym, ◌∙◌}
 use Rattle.bpaf_line.specs.Marks.{redone, undone}
-use Rattle.bpaf_core.specs.Adjacent.{nothing_left}
-use Rattle.bpaf_core.specs.Ending.{EndsRun}
+use Rattle.bpaf_core.specs.{Adjacent.nothing_left, Ending.EndsRun}
 use Rattle.bpaf_core.proofs.Attempting.{back_again, led_again, memory_end, memory_refused}
 use Rattle.bpaf_core.proofs.Attempting.{memory_wanted, second_answers, second_refuses}
 use Rattle.bpaf_core.proofs.run.Run.retry.Goals as goal

@@ -1,6 +1,5 @@
 use Rattle.std.proofs.Common.{◌-◌, length}
-use Rattle.bpaf_index.specs.Bits.{has_bit}
-use Rattle.bpaf_index.specs.Chained.{HasWalked}
+use Rattle.bpaf_index.specs.{Bits.has_bit, Chained.HasWalked}
 use Rattle.bpaf_index.proofs.chains.Chains.first_clear.Given as goal
 
 abbrev pub invariant-loop-place : goal.invariant-loop-place

@@ -1,6 +1,5 @@
 use Rattle.std.proofs.Common.{ap, sym, subst, arith, length}
-use Rattle.bpaf_index.specs.Bits.{has_bit}
-use Rattle.bpaf_index.specs.Chained.{IsPlaceOf, HasWalked, AreBehind}
+use Rattle.bpaf_index.specs.{Bits.has_bit, Chained.IsPlaceOf, Chained.HasWalked, Chained.AreBehind}
 use Rattle.bpaf_index.proofs.Chained.{linked_passed, behind_passed_read}
 use Rattle.bpaf_index.proofs.chains.Chains.pass.Goals as goal
 

@@ -1,11 +1,9 @@
 use Rattle.std.proofs.Common.{refl, subst, All, IsUtf8}
-use Rattle.bpaf_words.specs.Arguments.{env_of, name_of}
-use Rattle.bpaf_words.specs.Spelling.{known_at}
-use Rattle.bpaf_words.specs.Line.{IsLine}
+use Rattle.bpaf_words.specs.{Arguments.env_of, Arguments.name_of, Spelling.known_at, Line.IsLine}
 use Rattle.bpaf_words.proofs.Fronts.{marker_of_line}
 use Rattle.bpaf_line.specs.Situation.{Context}
-use Rattle.bpaf_line.proofs.state.State.construct_by.Goals as goal
 use Rattle.bpaf_line.proofs.state.State.construct_by.Goals.{In_ok-of_line}
+use Rattle.bpaf_line.proofs.state.State.construct_by.Goals as goal
 
 -- the context of the line that was read
 context_is : In_ok-of_line → Context

@@ -1,7 +1,6 @@
 use Rattle.std.proofs.Common.{◌++◌, ◌∷◌, [], ◌∙◌, ap, sym, subst, take, false, arith, length}
 use Rattle.std.proofs.lemmas.List.{take_more}
-use Rattle.bpaf_base.specs.declared.arg.Arg.TheVariants.{Long}
-use Rattle.bpaf_base.specs.Items.{is_argument_key}
+use Rattle.bpaf_base.specs.{declared.arg.Arg.TheVariants.Long, Items.is_argument_key}
 use Rattle.bpaf_index.specs.Chained.{class_of_long, IsChainStart}
 use Rattle.bpaf_line.specs.Finding.{IsFirstAmong}
 use Rattle.bpaf_line.proofs.Finding.{among_more, first_named}

@@ -1,9 +1,6 @@
 use Rattle.std.proofs.Common.{ap, refl, sym, subst, ◌∙◌, ◌≡◌, ◌+◌, ◌∷◌, [], MatchOption, Some}
-use Rattle.bpaf_line.specs.Situation.{is_open}
-use Rattle.bpaf_line.specs.OpenItems.{open_items_from}
-use Rattle.bpaf_line.specs.Taking.{open_item}
-use Rattle.bpaf_line.proofs.Sound.{open_item_is}
-use Rattle.bpaf_line.proofs.OpenItems.{items_next, items_none}
+use Rattle.bpaf_line.specs.{Situation.is_open, OpenItems.open_items_from, Taking.open_item}
+use Rattle.bpaf_line.proofs.{Sound.open_item_is, OpenItems.items_next, OpenItems.items_none}
 use Rattle.bpaf_line.proofs.state.State.next_open.Goals as goal
 
 pub returns-in_err-place-clause-items : goal.returns-in_err-place-clause-items

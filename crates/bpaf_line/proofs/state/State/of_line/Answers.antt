@@ -3,13 +3,11 @@ use Rattle.std.proofs.Common.{is_some, arith, IfSome, false}
 use Rattle.std.specs.Int.{from_bool}
 use Rattle.bpaf_words.specs.Arguments.{env_of, name_of}
 use Rattle.bpaf_line.specs.Situation.{Context, beginning}
-use Rattle.bpaf_line.specs.declared.state.State.TheInside.{Inside}
-use Rattle.bpaf_index.specs.Bits.{IsFirstClear}
-use Rattle.bpaf_index.specs.Chained.{AreBehind, HasNoKeyFrom}
-use Rattle.bpaf_line.specs.Inside.{situation_of}
+use Rattle.bpaf_index.specs.{Bits.IsFirstClear, Chained.AreBehind, Chained.HasNoKeyFrom}
+use Rattle.bpaf_line.specs.{declared.state.State.TheInside.Inside, Inside.situation_of}
 use Rattle.bpaf_line.proofs.Beginning.{sound_beginning, begins}
-use Rattle.bpaf_line.proofs.state.State.of_line.Goals as goal
 use Rattle.bpaf_line.proofs.state.State.of_line.Goals.{After-nothing}
+use Rattle.bpaf_line.proofs.state.State.of_line.Goals as goal
 
 -- the context of the line
 context_is : After-nothing → Context

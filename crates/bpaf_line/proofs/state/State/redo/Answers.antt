@@ -1,11 +1,8 @@
 use Rattle.std.proofs.Common.{◌≡◌, ◌∙◌, ◌++◌, ap, sym, subst, map, string_bytes, slice_get, IfSome}
-use Rattle.std.proofs.Common.{Some}
-use Rattle.std.proofs.lemmas.List.{map-append}
-use Rattle.bpaf_line.specs.Inside.{situation_of, changes_of}
+use Rattle.std.proofs.{Common.Some, lemmas.List.map-append}
 use Rattle.bpaf_line.specs.Situation.{with_current, with_scope, PresentInTurn}
-use Rattle.bpaf_line.specs.Marks.{redone}
-use Rattle.bpaf_line.proofs.Marks.{redone_parts}
-use Rattle.bpaf_line.proofs.Sound.{sound_path, path_longer}
+use Rattle.bpaf_line.specs.{Inside.situation_of, Inside.changes_of, Marks.redone}
+use Rattle.bpaf_line.proofs.{Marks.redone_parts, Sound.sound_path, Sound.path_longer}
 use Rattle.bpaf_line.proofs.state.State.redo.Goals as goal
 
 pub invariant_of-self-2 : goal.invariant_of-self-2

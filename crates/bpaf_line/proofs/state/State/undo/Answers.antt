@@ -1,9 +1,6 @@
 use Rattle.std.proofs.Common.{◌≡◌, ◌∙◌, ◌≤◌, ap, sym, subst, take, slice_get, IfSome, Some, map}
-use Rattle.std.proofs.Common.{string_bytes, length, arith}
-use Rattle.std.proofs.lemmas.List.{take-map}
-use Rattle.bpaf_line.specs.Marks.{Fits, undone}
-use Rattle.bpaf_line.specs.Situation.{with_current}
-use Rattle.bpaf_line.specs.Inside.{situation_of}
+use Rattle.std.proofs.{Common.string_bytes, Common.length, Common.arith, lemmas.List.take-map}
+use Rattle.bpaf_line.specs.{Marks.Fits, Marks.undone, Situation.with_current, Inside.situation_of}
 use Rattle.bpaf_line.proofs.Sound.{sound_path, path_cut}
 use Rattle.bpaf_line.proofs.Marks.{undone_cut, fits_undone, undone_twice}
 use Rattle.bpaf_line.proofs.state.State.undo.Goals as goal

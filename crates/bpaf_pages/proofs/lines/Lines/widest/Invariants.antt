@@ -1,7 +1,6 @@
 use Rattle.std.proofs.Common.{◌≡◌, drop, map}
 use Rattle.std.specs.List.{fold}
-use Rattle.bpaf_pages.specs.Help.{wider, widest}
-use Rattle.bpaf_pages.specs.InsideLine.{line_of}
+use Rattle.bpaf_pages.specs.{Help.wider, Help.widest, InsideLine.line_of}
 use Rattle.bpaf_pages.proofs.lines.Lines.widest.Given as goal
 
 -- the greatest width so far and of the other names is that of all
