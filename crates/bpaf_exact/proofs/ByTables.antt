@@ -26,35 +26,33 @@ use Rattle.bpaf_exact.proofs.Classes.{memory_class, caught_class, kept_class, st
 use Rattle.bpaf_exact.proofs.ProgramForm.{listed_law, narrower_form, never_refuses}
 use Rattle.bpaf_exact.proofs.ProgramForm.{program_closed_law, program_dressed_law}
 use Rattle.bpaf_exact.proofs.ProgramForm.{program_fallback_law, program_optional_law, some_agrees}
-use Rattle.bpaf_exact.proofs.Narrow.{AllowsNoMore, no_more}
+use Rattle.bpaf_exact.proofs.Narrow.{no_more}
 
--- map
-map_within : (A B : Type 0) (inner : Outcome A) (answers : A → B → Type 0)
-    → AllowsNoMore B (ClosedEval A B inner (map_closure answers) Refused) (MapOutcome inner answers)
-map_within A B inner answers = no_more by_answer
+-- Each keeps to the laws of its form: map
+pub map_law : (env : Variables) (A B : Type 0) (inner : Outcome A) (answers : A → B → Type 0)
+    (names : List Names) (words : List (List ℕ)) (s : ProgramForm A)
+    → FormLaw env inner names words s
+    → FormLaw env (MapOutcome inner answers) names words (program_closed (map_closure answers) s)
+map_law env A B inner answers names words s l =
+    narrower_form env B _ _ (no_more by_answer) names words _
+    (program_closed_law env A B inner (map_closure answers) names words s
+    (never_refuses A B (map_closure answers) (λ x n. n) s) l)
   where
     by_answer : (s t : Situation) (r : Result B Error) → MapOutcome inner answers s r t
         → ClosedEval A B inner (map_closure answers) Refused s r t
     by_answer s t (Ok v) o = closed_yes o.1 o.2
     by_answer s t (Err e) o = closed_err o
 
--- keeps to the laws of its form
-pub map_law : (env : Variables) (A B : Type 0) (inner : Outcome A) (answers : A → B → Type 0)
-    (names : List Names)
-    (words : List (List ℕ)) (s : ProgramForm A) → FormLaw env inner names words s
-    → FormLaw env (MapOutcome inner answers) names words
-    (program_closed (map_closure answers) s)
-map_law env A B inner answers names words s l =
-    narrower_form env B _ _ (map_within A B inner answers) names words _
-    (program_closed_law env A B inner (map_closure answers) names words s
-    (never_refuses A B (map_closure answers) (λ x n. n) s) l)
-
 -- parse
-parse_within : (A B E : Type 0) (inner : Outcome A) (answers : A → Result B E → Type 0)
-    (shown : E → Option (List ℕ))
-    → AllowsNoMore B (ClosedEval A B inner (parse_closure answers) Refused)
-    (ParseOutcome inner answers shown)
-parse_within A B E inner answers shown = no_more by_answer
+pub parse_law : (env : Variables) (A B E : Type 0) (inner : Outcome A)
+    (answers : A → Result B E → Type 0) (shown : E → Option (List ℕ)) (names : List Names)
+    (words : List (List ℕ)) (s : ProgramForm A) → Agrees (parse_closure answers) s
+    → FormLaw env inner names words s
+    → FormLaw env (ParseOutcome inner answers shown) names words
+    (program_closed (parse_closure answers) s)
+parse_law env A B E inner answers shown names words s g l =
+    narrower_form env B _ _ (no_more by_answer) names words _
+    (program_closed_law env A B inner (parse_closure answers) names words s g l)
   where
     by_answer : (s t : Situation) (r : Result B Error) → ParseOutcome inner answers shown s r t
         → ClosedEval A B inner (parse_closure answers) Refused s r t
@@ -64,23 +62,15 @@ parse_within A B E inner answers shown = no_more by_answer
         (λ memory. closed_memory o.1 (ap class_of memory))
         (λ told. closed_no o.1 (o.2, o.3) (ap class_of told.1)) o.4
 
--- keeps to the laws of its form
-pub parse_law : (env : Variables) (A B E : Type 0) (inner : Outcome A)
-    (answers : A → Result B E → Type 0)
-    (shown : E → Option (List ℕ)) (names : List Names) (words : List (List ℕ))
-    (s : ProgramForm A) → Agrees (parse_closure answers) s
-    → FormLaw env inner names words s
-    → FormLaw env (ParseOutcome inner answers shown) names words
-    (program_closed (parse_closure answers) s)
-parse_law env A B E inner answers shown names words s g l =
-    narrower_form env B _ _ (parse_within A B E inner answers shown) names words _
-    (program_closed_law env A B inner (parse_closure answers) names words s g l)
-
 -- guard
-guard_within : (A : Type 0) (inner : Outcome A) (checks : A → Bool → Type 0) (message : List ℕ)
-    → AllowsNoMore A (ClosedEval A A inner (guard_closure checks) Refused)
-    (GuardOutcome inner checks message)
-guard_within A inner checks message = no_more by_answer
+pub guard_law : (env : Variables) (A : Type 0) (inner : Outcome A) (checks : A → Bool → Type 0)
+    (message : List ℕ) (names : List Names) (words : List (List ℕ)) (s : ProgramForm A)
+    → Agrees (guard_closure checks) s → FormLaw env inner names words s
+    → FormLaw env (GuardOutcome inner checks message) names words
+    (program_closed (guard_closure checks) s)
+guard_law env A inner checks message names words s g l =
+    narrower_form env A _ _ (no_more by_answer) names words _
+    (program_closed_law env A A inner (guard_closure checks) names words s g l)
   where
     by_answer : (s t : Situation) (r : Result A Error) → GuardOutcome inner checks message s r t
         → ClosedEval A A inner (guard_closure checks) Refused s r t
@@ -90,20 +80,15 @@ guard_within A inner checks message = no_more by_answer
         (λ told. closed_no o.1 o.2 (ap class_of told))
         (λ memory. closed_memory o.1 (ap class_of memory)) o.3
 
--- keeps to the laws of its form
-pub guard_law : (env : Variables) (A : Type 0) (inner : Outcome A) (checks : A → Bool → Type 0)
-    (message : List ℕ) (names : List Names) (words : List (List ℕ)) (s : ProgramForm A)
-    → Agrees (guard_closure checks) s → FormLaw env inner names words s
-    → FormLaw env (GuardOutcome inner checks message) names words
-    (program_closed (guard_closure checks) s)
-guard_law env A inner checks message names words s g l =
-    narrower_form env A _ _ (guard_within A inner checks message) names words _
-    (program_closed_law env A A inner (guard_closure checks) names words s g l)
-
 -- optional
-optional_within : (T : Type 0) (inner : Outcome T)
-    → AllowsNoMore (Option T) (OptionalEval T inner) (TurnOutcome inner false true)
-optional_within T inner = no_more by_answer
+pub optional_law : (env : Variables) (T : Type 0) (inner : Outcome T) (catch : Bool)
+    (names : List Names) (words : List (List ℕ)) (s : ProgramForm T)
+    → FormLaw env inner names words s
+    → FormLaw env (TurnOutcome inner catch true) names [] (program_if (not catch) (program_optional s))
+optional_law env T inner true names words s l = tt
+optional_law env T inner false names words s l =
+    narrower_form env (Option T) _ _ (no_more by_answer) names [] (program_optional s)
+    (program_optional_law env T inner names words s l)
   where
     by_answer : (s t : Situation) (r : Result (Option T) Error) → TurnOutcome inner false true s r t
         → OptionalEval T inner s r t
@@ -114,16 +99,6 @@ optional_within T inner = no_more by_answer
         (optional_none o.0.2 (stops_at o.0.0 s o.0.1 o.0.3))
     by_answer s t (Err e) (inl o) = optional_err o.0 (goes_on e s t o.1)
     by_answer s t (Err e) (inr o) = optional_memory (memory_class e.0 o.0)
-
--- keeps to the laws of its form
-pub optional_law : (env : Variables) (T : Type 0) (inner : Outcome T) (catch : Bool)
-    (names : List Names)
-    (words : List (List ℕ)) (s : ProgramForm T) → FormLaw env inner names words s
-    → FormLaw env (TurnOutcome inner catch true) names [] (program_if (not catch) (program_optional s))
-optional_law env T inner true names words s l = tt
-optional_law env T inner false names words s l =
-    narrower_form env (Option T) _ _ (optional_within T inner) names [] (program_optional s)
-    (program_optional_law env T inner names words s l)
 
 -- Repeats.
 
@@ -136,70 +111,59 @@ repeated_form {T = T} catch f s =
 -- what answers no more than a closure on the list of a repeat, where it has no `catch`, keeps to
 -- the laws of its form
 repeated_form_law : (env : Variables) {T B : Type 0} (inner : Outcome T) (idle catch : Bool)
-    (f : Closure (List T) B) (c : ErrorClass) (outcome : Bool → Outcome B)
-    → AllowsNoMore B (ClosedEval (List T) B (RepeatOutcome inner idle) f c) (outcome false)
+    {f : Closure (List T) B} {c : ErrorClass} (outcome : Bool → Outcome B)
+    → ((s t : Situation) (r : Result B Error) → outcome false s r t
+    → ClosedEval (List T) B (RepeatOutcome inner idle) f c s r t)
     → (names : List Names) (words : List (List ℕ)) (s : ProgramForm T)
     → Agrees f (completed repeated (OwnList T) s) → FormLaw env inner names words s
     → FormLaw env (outcome catch) names [] (repeated_form catch f s)
-repeated_form_law env inner idle true f c outcome within names words s agrees l = tt
-repeated_form_law env {T} {B} inner idle false f c outcome within names words s agrees l =
-    narrower_form env B _ _ within names [] _
+repeated_form_law env inner idle true outcome within names words s agrees l = tt
+repeated_form_law env {T} {B} inner idle false {f} {c} outcome within names words s agrees l =
+    narrower_form env B _ _ (no_more within) names [] _
     (listed_law env T B inner idle f c names words s agrees l)
 
 -- many
-many_within : (T : Type 0) (inner : Outcome T) → AllowsNoMore (Vec T)
-    (ClosedEval (List T) (Vec T) (RepeatOutcome inner false) (list_closure T) Refused)
-    (ManyOutcome inner false)
-many_within T inner = no_more by_answer
+pub many_law : (env : Variables) (T : Type 0) (inner : Outcome T) (catch : Bool)
+    (names : List Names) (words : List (List ℕ)) (s : ProgramForm T)
+    → FormLaw env inner names words s
+    → FormLaw env (ManyOutcome inner catch) names [] (repeated_form catch (list_closure T) s)
+many_law env T inner catch names words s =
+    repeated_form_law env inner false catch (ManyOutcome inner) by_answer names words s
+    (never_refuses (List T) (Vec T) (list_closure T) (λ x n. n) _)
   where
     by_answer : (s t : Situation) (r : Result (Vec T) Error) → ManyOutcome inner false s r t
         → ClosedEval (List T) (Vec T) (RepeatOutcome inner false) (list_closure T) Refused s r t
     by_answer s t (Ok v) o = closed_yes o refl
     by_answer s t (Err e) o = closed_err o
 
--- keeps to the laws of its form
-pub many_law : (env : Variables) (T : Type 0) (inner : Outcome T) (catch : Bool)
-    (names : List Names) (words : List (List ℕ)) (s : ProgramForm T)
-    → FormLaw env inner names words s → FormLaw env (ManyOutcome inner catch) names []
-    (repeated_form catch (list_closure T) s)
-many_law env T inner catch names words s =
-    repeated_form_law env inner false catch (list_closure T) Refused (ManyOutcome inner)
-    (many_within T inner) names words s
-    (never_refuses (List T) (Vec T) (list_closure T) (λ x n. n) _)
-
 -- some
-not_nil : (T : Type 0) (values : List T) → is_nil values ≡ false → values ≡ [] → ⊥
-not_nil T values e f = true≢false (sym (ap is_nil f) ∙ e)
-
--- its answers, as those of a closure on the list
-some_within : (T : Type 0) (inner : Outcome T) (message : List ℕ) → AllowsNoMore (Vec T)
-    (ClosedEval (List T) (Vec T) (RepeatOutcome inner false) (some_closure T) Caught)
-    (SomeOutcome inner false message)
-some_within T inner message = no_more by_answer
-  where
-    by_answer : (s t : Situation) (r : Result (Vec T) Error) → SomeOutcome inner false message s r t
-        → ClosedEval (List T) (Vec T) (RepeatOutcome inner false) (some_closure T) Caught s r t
-    by_answer s t (Ok v) o = closed_yes o.0 (refl, not_nil T v.items o.1)
-    by_answer s t (Err e) (inl o) = closed_err o
-    by_answer s t (Err e) (inr o) =
-        ⊎_elim (λ told. closed_no o.0 refl (ap class_of told))
-        (λ memory. closed_memory o.0 (ap class_of memory)) o.1
-
--- keeps to the laws of its form
 pub some_law : (env : Variables) (T : Type 0) (inner : Outcome T) (catch : Bool)
     (message : List ℕ) (names : List Names) (words : List (List ℕ)) (s : ProgramForm T)
     → FormLaw env inner names words s
     → FormLaw env (SomeOutcome inner catch message) names []
     (repeated_form catch (some_closure T) s)
 some_law env T inner catch message names words s l =
-    repeated_form_law env inner false catch (some_closure T) Caught (λ c. SomeOutcome inner c message)
-    (some_within T inner message) names words s (some_agrees env T inner names words s l) l
+    repeated_form_law env inner false catch (λ c. SomeOutcome inner c message) by_answer
+    names words s (some_agrees env T inner names words s l) l
+  where
+    by_answer : (s t : Situation) (r : Result (Vec T) Error) → SomeOutcome inner false message s r t
+        → ClosedEval (List T) (Vec T) (RepeatOutcome inner false) (some_closure T) Caught s r t
+    by_answer s t (Ok v) o =
+        closed_yes o.0 (refl, λ none. true≢false (sym (ap is_nil none) ∙ o.1))
+    by_answer s t (Err e) (inl o) = closed_err o
+    by_answer s t (Err e) (inr o) =
+        ⊎_elim (λ told. closed_no o.0 refl (ap class_of told))
+        (λ memory. closed_memory o.0 (ap class_of memory)) o.1
 
 -- collect
-collect_within : (T C : Type 0) (inner : Outcome T) (fills : List T → C → Type 0) → AllowsNoMore C
-    (ClosedEval (List T) C (RepeatOutcome inner false) (map_closure fills) Refused)
-    (CollectOutcome inner false fills)
-collect_within T C inner fills = no_more by_answer
+pub collect_law : (env : Variables) (T C : Type 0) (inner : Outcome T) (catch : Bool)
+    (fills : List T → C → Type 0) (names : List Names) (words : List (List ℕ))
+    (s : ProgramForm T) → FormLaw env inner names words s
+    → FormLaw env (CollectOutcome inner catch fills) names []
+    (repeated_form catch (map_closure fills) s)
+collect_law env T C inner catch fills names words s =
+    repeated_form_law env inner false catch (λ c. CollectOutcome inner c fills) by_answer
+    names words s (never_refuses (List T) C (map_closure fills) (λ x n. n) _)
   where
     by_answer : (s t : Situation) (r : Result C Error) → CollectOutcome inner false fills s r t
         → ClosedEval (List T) C (RepeatOutcome inner false) (map_closure fills) Refused s r t
@@ -207,39 +171,20 @@ collect_within T C inner fills = no_more by_answer
     by_answer s t (Err e) (inl o) = closed_err o
     by_answer s t (Err e) (inr o) = closed_memory o.1 (memory_class e.0 o.2)
 
--- keeps to the laws of its form
-pub collect_law : (env : Variables) (T C : Type 0) (inner : Outcome T) (catch : Bool)
-    (fills : List T → C → Type 0) (names : List Names) (words : List (List ℕ))
-    (s : ProgramForm T) → FormLaw env inner names words s
-    → FormLaw env (CollectOutcome inner catch fills) names []
-    (repeated_form catch (map_closure fills) s)
-collect_law env T C inner catch fills names words s =
-    repeated_form_law env inner false catch (map_closure fills) Refused
-    (λ c. CollectOutcome inner c fills) (collect_within T C inner fills) names words s
-    (never_refuses (List T) C (map_closure fills) (λ x n. n) _)
-
 -- count
-count_within : (T : Type 0) (inner : Outcome T)
-    → AllowsNoMore ℕ (ClosedEval (List T) ℕ (RepeatOutcome inner true)
-    (map_closure (λ vs n. n ≡ length vs)) Refused)
-    (CountOutcome inner)
-count_within T inner = no_more by_answer
+pub count_law : (env : Variables) (T : Type 0) (inner : Outcome T) (names : List Names)
+    (words : List (List ℕ)) (s : ProgramForm T) → FormLaw env inner names words s
+    → FormLaw env (CountOutcome inner) names []
+    (repeated_form false (map_closure (λ vs n. n ≡ length vs)) s)
+count_law env T inner names words s =
+    repeated_form_law env inner true false (λ c. CountOutcome inner) by_answer names words s
+    (never_refuses (List T) ℕ (map_closure (λ vs n. n ≡ length vs)) (λ x n. n) _)
   where
     by_answer : (s t : Situation) (r : Result ℕ Error) → CountOutcome inner s r t
         → ClosedEval (List T) ℕ (RepeatOutcome inner true)
         (map_closure (λ vs n. n ≡ length vs)) Refused s r t
     by_answer s t (Ok n) o = closed_yes o.1 o.2
     by_answer s t (Err e) o = closed_err o
-
--- keeps to the laws of its form
-pub count_law : (env : Variables) (T : Type 0) (inner : Outcome T) (names : List Names)
-    (words : List (List ℕ)) (s : ProgramForm T) → FormLaw env inner names words s
-    → FormLaw env (CountOutcome inner) names []
-    (repeated_form false (map_closure (λ vs n. n ≡ length vs)) s)
-count_law env T inner names words s =
-    repeated_form_law env inner true false (map_closure (λ vs n. n ≡ length vs)) Refused
-    (λ c. CountOutcome inner) (count_within T inner) names words s
-    (never_refuses (List T) ℕ (map_closure (λ vs n. n ≡ length vs)) (λ x n. n) _)
 
 -- Defaults.
 
@@ -253,28 +198,30 @@ not_catch_of : (e : Error) → can_catch e.0 ≡ false → CanCatch e → ⊥
 not_catch_of e h (catch_missing c) = kept_class e.0 h (inl c)
 not_catch_of e h (catch_other c) = kept_class e.0 h (inr c)
 
--- what gives a value in place of an inner one does as a closure does
-record GivesAs (T : Type 0) (gives : Gives T) (f : Closure (Unit {0}) T) : Type 0 where
-  yes : (v : T) → gives (Ok v) → f.yes tt v
-  no : (e : Error) → gives (Err e) → (class e ≡ OfMemory) ⊎ (f.no tt × (class e ≡ Caught))
-
--- its answers, as those of a closure on nothing
-fallback_within : (T : Type 0) (inner : Outcome T) (gives : Gives T) (f : Closure (Unit {0}) T)
-    → GivesAs T gives f → AllowsNoMore T (FallbackEval T inner f) (FallbackOutcome inner gives)
-fallback_within T inner gives f given = no_more by_answer
+-- what gives a value in place of an inner one, as a closure on nothing does, keeps to the laws of
+-- its form
+fallback_form_law : (env : Variables) (T : Type 0) (inner : Outcome T) (gives : Gives T)
+    (f : Closure (Unit {0}) T) → Decides f → ((v : T) → gives (Ok v) → f.yes tt v)
+    → ((e : Error) → gives (Err e) → (class e ≡ OfMemory) ⊎ (f.no tt × (class e ≡ Caught)))
+    → (names : List Names) (words : List (List ℕ)) (s : ProgramForm T)
+    → FormLaw env inner names words s → FormLaw env (FallbackOutcome inner gives) names []
+    (completed (λ k. k) (λ group gap. FallbackValue T group gap f) s)
+fallback_form_law env T inner gives f decides gave refused names words s l =
+    narrower_form env T _ _ (no_more by_answer) names [] _
+    (program_fallback_law env T inner names words s l f decides)
   where
     by_answer : (s t : Situation) (r : Result T Error) → FallbackOutcome inner gives s r t
         → FallbackEval T inner f s r t
     by_answer s t (Ok v) (inl o) = fallback_ok o
     by_answer s t (Ok v) (inr o) =
         subst (FallbackEval T inner f s (Ok v)) (sym o.0.1)
-        (fallback_given o.0.0.2 (can_catch_of o.0.0.0 o.0.0.3) (given.yes v o.1))
+        (fallback_given o.0.0.2 (can_catch_of o.0.0.0 o.0.0.3) (gave v o.1))
     by_answer s t (Err e) (inl o) = subst (FallbackEval T inner f s (Err e)) (sym o.1)
         (⊎_elim (λ kept. fallback_err kept.1 (not_catch_of e kept.2))
         (λ memory. fallback_memory (memory_class e.0 memory)) o.0)
     by_answer s t (Err e) (inr o) = subst (FallbackEval T inner f s (Err e)) (sym o.0.1)
         (⊎_elim (λ memory. fallback_memory memory)
-        (λ told. fallback_no o.0.0.2 (can_catch_of o.0.0.0 o.0.0.3) told.0 told.1) (given.no e o.1))
+        (λ told. fallback_no o.0.0.2 (can_catch_of o.0.0.0 o.0.0.3) told.0 told.1) (refused e o.1))
 
 -- a kept value
 pub fallback_law : (env : Variables) (T : Type 0) (inner : Outcome T) (clones : T → T → Type 0)
@@ -282,12 +229,9 @@ pub fallback_law : (env : Variables) (T : Type 0) (inner : Outcome T) (clones : 
     → FormLaw env inner names words s
     → FormLaw env (FallbackOutcome inner (GivesClone clones kept)) names []
     (completed (λ k. k) (λ group gap. FallbackValue T group gap (map_closure (λ u. clones kept))) s)
-fallback_law env T inner clones kept names words s l =
-    narrower_form env T _ _
-    (fallback_within T inner (GivesClone clones kept) (map_closure (λ u. clones kept))
-    (record { yes = λ v g. g; no = λ e g. inl (memory_class e.0 g) })) names [] _
-    (program_fallback_law env T inner names words s l (map_closure (λ u. clones kept))
-    (λ u v y n. n))
+fallback_law env T inner clones kept =
+    fallback_form_law env T inner (GivesClone clones kept) (map_closure (λ u. clones kept))
+    (λ u v y n. n) (λ v g. g) (λ e g. inl (memory_class e.0 g))
 
 -- a closure's value
 pub fallback_with_law : (env : Variables) (T E : Type 0) (inner : Outcome T)
@@ -296,14 +240,10 @@ pub fallback_with_law : (env : Variables) (T E : Type 0) (inner : Outcome T)
     → FormLaw env inner names words s
     → FormLaw env (FallbackOutcome inner (GivesAnswer answers shown)) names []
     (completed (λ k. k) (λ group gap. FallbackValue T group gap (answer_closure answers)) s)
-fallback_with_law env T E inner answers shown names words s decides l =
-    narrower_form env T _ _
-    (fallback_within T inner (GivesAnswer answers shown) (answer_closure answers) (record {
-      yes = λ v g. g;
-      no = λ e g. ⊎_elim (λ memory. inl (ap class_of memory))
-          (λ told. inr ((g.0, g.1), ap class_of told.1)) g.2;
-    })) names [] _
-    (program_fallback_law env T inner names words s l (answer_closure answers) decides)
+fallback_with_law env T E inner answers shown names words s decides =
+    fallback_form_law env T inner (GivesAnswer answers shown) (answer_closure answers) decides
+    (λ v g. g) (λ e g. ⊎_elim (λ memory. inl (ap class_of memory))
+    (λ told. inr ((g.0, g.1), ap class_of told.1)) g.2) names words s
 
 -- a hidden refusal is one of the same class
 hidden_class : (m : Message) → class_of m ≡ class_of (hidden m)

@@ -1,12 +1,15 @@
 -- Pieces that are shared out by roles are shared out by names.
 use Rattle.std.proofs.Common.{◌≡◌, Bool, true, false, List, [], ◌∷◌, refl, sym, ap, ◌∙◌}
-use Rattle.std.proofs.Common.{if◌then◌else◌, not, ◌++◌, ◌||◌, ◌⊎◌, ⊎_elim, inl, inr}
-use Rattle.std.proofs.lemmas.List.Folds.{list_any-append}
+use Rattle.std.proofs.Common.{if◌then◌else◌, not, ◌++◌, ◌||◌, ◌&&◌, ◌⊎◌, ⊎_elim, inl, inr, ap₂}
+use Rattle.std.proofs.Common.{append-nil}
+use Rattle.std.specs.Prelude.{filter}
+use Rattle.std.proofs.lemmas.Bool.{and_right, not-true}
+use Rattle.std.proofs.lemmas.List.{Folds.list_any-append, Elements.filter-append}
 use Rattle.bpaf_base.specs.declared.arg.Arg.TheVariants.{Word, PosWord}
 use Rattle.bpaf_base.specs.{Items.is_key_of, Items.is_positional, declared.arg.Arg.Arg}
 use Rattle.bpaf_exact.specs.Pieces.{Cells, Cut, argument, at_end, flag, passed, word, Takes}
 use Rattle.bpaf_exact.specs.Pieces.{no_cells, empty_stays, other_stays, takes_flag, takes_argument}
-use Rattle.bpaf_exact.specs.Pieces.{Role, Foreign, Alone, WithNext, Roles, LinePiece, One, Two}
+use Rattle.bpaf_exact.specs.Pieces.{Role, Foreign, Roles, LinePiece, One, Two}
 use Rattle.bpaf_exact.specs.Pieces.{is_own_role, is_own, mine, others, either, either_role}
 use Rattle.bpaf_exact.specs.Names.{are_all_apart, Owns, is_key_of_any}
 use Rattle.bpaf_exact.specs.Says.{EachOwn, Fits, first_item, keyed, unkeyed}
@@ -24,6 +27,46 @@ same_truth : (a b : Bool) → (a ≡ true → b ≡ true) → (b ≡ true → a 
 same_truth true b f g = sym (f refl)
 same_truth false true f g = g refl
 same_truth false false f g = refl
+
+-- Filters.
+
+-- of what a test keeps, a second keeps what a third does that holds where both do
+kept_twice : (p q both : LinePiece → Bool) → ((o : LinePiece) → both o ≡ (q o && p o))
+    → (os : List LinePiece) → filter p (filter q os) ≡ filter both os
+kept_twice p q both same [] = refl
+kept_twice p q both same (o ∷ os) = by_test (q o) (same o) (kept_twice p q both same os)
+  where
+    by_test : (b : Bool) → both o ≡ (b && p o) → filter p (filter q os) ≡ filter both os
+        → filter p (if b then (o ∷ filter q os) else filter q os) ≡ filter both (o ∷ os)
+    by_test true e h = ap₂ (λ c z. if c then (o ∷ z) else z) (sym e) h
+    by_test false e h = h ∙ sym (ap (λ c. if c then (o ∷ filter both os) else filter both os) e)
+
+-- what both keep is what one does that never holds without the other
+kept_within : (p q : LinePiece → Bool) → ((o : LinePiece) → p o ≡ true → q o ≡ true)
+    → (os : List LinePiece) → filter p (filter q os) ≡ filter p os
+kept_within p q part = kept_twice p q p (λ o. by_tests (p o) (q o) (part o))
+  where
+    by_tests : (a b : Bool) → (a ≡ true → b ≡ true) → a ≡ (b && a)
+    by_tests true b f = sym (ap (λ c. c && true) (f refl))
+    by_tests false b f = sym (and_right b false refl)
+
+-- where a test never holds nothing is kept
+kept_none : (p : LinePiece → Bool) → ((o : LinePiece) → p o ≡ false) → (os : List LinePiece)
+    → filter p os ≡ []
+kept_none p none [] = refl
+kept_none p none (o ∷ os) =
+    ap (λ c. if c then (o ∷ filter p os) else filter p os) (none o) ∙ kept_none p none os
+
+-- so it is where it never holds of what another kept
+kept_neither : (p q : LinePiece → Bool) → ((o : LinePiece) → q o ≡ true → p o ≡ false)
+    → (os : List LinePiece) → filter p (filter q os) ≡ []
+kept_neither p q apart os =
+    kept_twice p q (λ o. false) (λ o. by_tests (q o) (p o) (apart o)) os
+    ∙ kept_none (λ o. false) (λ o. refl) os
+  where
+    by_tests : (a b : Bool) → (a ≡ true → b ≡ false) → false ≡ (a && b)
+    by_tests true b f = sym (f refl)
+    by_tests false b f = refl
 
 -- a word is no key
 no_key : (names : List Names) (w : Arg) → is_positional w ≡ true → is_key_of_any names w ≡ false
@@ -146,19 +189,8 @@ taken_own (takes_argument e v t) = (ap is_own_role e, taken_own t)
 -- where each own item of the one is one of the other, its pieces are among the other's
 pub mine_within : (q r : Roles) → ((k : Arg) → is_own_role (q k) ≡ true → is_own_role (r k) ≡ true)
     → (os : List LinePiece) → mine q (mine r os) ≡ mine q os
-mine_within q r part [] = refl
-mine_within q r part (o ∷ os) = by_own (is_own r o) refl (mine_within q r part os)
-  where
-    foreign : (is_own r o ≡ false) → is_own q o ≡ true → true ≡ false
-    foreign none e =
-        sym (part (first_item o) (sym (own_first q o) ∙ e)) ∙ (sym (own_first r o) ∙ none)
-
-    by_own : (b : Bool) → is_own r o ≡ b → mine q (mine r os) ≡ mine q os
-        → mine q (if b then (o ∷ mine r os) else mine r os) ≡ mine q (o ∷ os)
-    by_own true e h = ap (λ z. if is_own q o then (o ∷ z) else z) h
-    by_own false e h =
-        h ∙ sym (ap (λ c. if c then (o ∷ mine q os) else mine q os)
-        (fails (is_own q o) (foreign e)))
+mine_within q r part = kept_within (is_own q) (is_own r)
+    (λ o e. own_first r o ∙ part (first_item o) (sym (own_first q o) ∙ e))
 
 -- an own item of the first is one of either, and so is one of the second
 pub first_within : (q r : Roles) (k : Arg) → is_own_role (q k) ≡ true
@@ -181,27 +213,13 @@ second_within q r k = by_role (q k)
 -- what is another's own isn't among one's own
 pub mine_of_others : (p q : Roles) → ((k : Arg) → is_own_role (q k) ≡ true → p k ≡ Foreign)
     → (os : List LinePiece) → mine q (others p os) ≡ mine q os
-mine_of_others p q apart [] = refl
-mine_of_others p q apart (o ∷ os) = by_own (mine_of_others p q apart os) (is_own p o) refl
-  where
-    foreign : is_own p o ≡ true → is_own q o ≡ true → true ≡ false
-    foreign own e =
-        sym own ∙ (own_first p o ∙ ap is_own_role (apart (first_item o) (sym (own_first q o) ∙ e)))
-
-    by_own : mine q (others p os) ≡ mine q os → (b : Bool) → is_own p o ≡ b
-        → mine q (if not b then (o ∷ others p os) else others p os) ≡ mine q (o ∷ os)
-    by_own h true e =
-        h ∙ sym (ap (λ c. if c then (o ∷ mine q os) else mine q os)
-        (fails (is_own q o) (foreign e)))
-    by_own h false e = ap (λ z. if is_own q o then (o ∷ z) else z) h
+mine_of_others p q apart = kept_within (is_own q) (λ o. not (is_own p o))
+    (λ o e. ap not (own_first p o ∙ ap is_own_role (apart (first_item o) (sym (own_first q o) ∙ e))))
 
 module _ (q : Roles) (none : (k : Arg) → is_own_role (q k) ≡ false) where
   -- where no item is one's own, no piece is,
   pub mine_none : (os : List LinePiece) → mine q os ≡ []
-  mine_none [] = refl
-  mine_none (o ∷ os) =
-      ap (λ c. if c then (o ∷ mine q os) else mine q os) (own_first q o ∙ none (first_item o))
-      ∙ mine_none os
+  mine_none = kept_none (is_own q) (λ o. own_first q o ∙ none (first_item o))
 
   -- and each is another's
   pub others_none : (os : List LinePiece) → others q os ≡ os
@@ -224,30 +242,18 @@ all_mine q (o ∷ os) e = by_own (is_own q o) e (all_mine q os)
 -- what is neither's is no piece of both
 pub others_both : (q r : Roles) (os : List LinePiece)
     → others r (others q os) ≡ others (either q r) os
-others_both q r [] = refl
-others_both q r (o ∷ os) =
-    by_role (q (first_item o)) (own_first q o) (own_first (either q r) o) (others_both q r os)
+others_both q r = kept_twice (λ o. not (is_own r o)) (λ o. not (is_own q o))
+    (λ o. not (is_own (either q r) o)) by_piece
   where
-    by_role : (x : Role) → is_own q o ≡ is_own_role x
-        → is_own (either q r) o ≡ is_own_role (either_role x (r (first_item o)))
-        → others r (others q os) ≡ others (either q r) os
-        → others r (others q (o ∷ os)) ≡ others (either q r) (o ∷ os)
-    by_role x first both h = (
-        ap (λ c. others r (if not c then (o ∷ others q os) else others q os)) first ∙ by_own x h
-        ∙ sym (ap (λ c. if not c then (o ∷ others (either q r) os) else others (either q r) os)
-        both)
-        )
-      where
-        by_own : (x : Role) → others r (others q os) ≡ others (either q r) os
-            → others r (if not (is_own_role x) then (o ∷ others q os) else others q os)
-            ≡ (if not (is_own_role (either_role x (r (first_item o))))
-            then (o ∷ others (either q r) os) else others (either q r) os)
-        by_own Alone h = h
-        by_own WithNext h = h
-        by_own Foreign h =
-            ap (λ c. if not c then (o ∷ others r (others q os)) else others r (others q os))
-            (own_first r o)
-            ∙ ap (λ z. if not (is_own_role (r (first_item o))) then (o ∷ z) else z) h
+    by_roles : (x y : Role)
+        → not (is_own_role (either_role x y)) ≡ (not (is_own_role x) && not (is_own_role y))
+    by_roles Foreign y = refl
+    by_roles _ y = refl
+
+    by_piece : (o : LinePiece)
+        → not (is_own (either q r) o) ≡ (not (is_own q o) && not (is_own r o))
+    by_piece (One k) = by_roles (q k) (r k)
+    by_piece (Two k w) = by_roles (q k) (r k)
 
 -- behind a positional field no item is another field's own
 pub none_behind : (r : Roles) (own behind : List Names) → Owns r behind
@@ -292,54 +298,20 @@ rest_fit r names (o ∷ whole) os fits fit =
       | false ↦ rest_fit r names whole os fits.1 fit
     ]
 
--- of what is left none is its own
-no_own_left : (r : Roles) (os : List LinePiece) → mine r (others r os) ≡ []
-no_own_left r [] = refl
-no_own_left r (o ∷ os) = by_own (is_own r o) refl (no_own_left r os)
-  where
-    by_own : (b : Bool) → is_own r o ≡ b → mine r (others r os) ≡ []
-        → mine r (if not b then (o ∷ others r os) else others r os) ≡ []
-    by_own true e h = h
-    by_own false e h =
-        ap (λ z. if z then (o ∷ mine r (others r os)) else mine r (others r os)) e ∙ h
-
--- and all of it stays left
-left_again : (r : Roles) (os : List LinePiece) → others r (others r os) ≡ others r os
-left_again r [] = refl
-left_again r (o ∷ os) = by_own (is_own r o) refl (left_again r os)
-  where
-    by_own : (b : Bool) → is_own r o ≡ b → others r (others r os) ≡ others r os
-        → others r (if not b then (o ∷ others r os) else others r os)
-        ≡ (if not b then (o ∷ others r os) else others r os)
-    by_own true e h = h
-    by_own false e h =
-        ap (λ z. if not z then (o ∷ others r (others r os)) else others r (others r os)) e
-        ∙ ap (λ z. o ∷ z) h
-
 -- its own are those of the whole line
 pub mine_rest : (r : Roles) (names : List Names) (whole os : List LinePiece) → Fits names r whole
     → mine r (keyed names whole ++ others r os) ≡ mine r whole
-mine_rest r names [] os fits = no_own_left r os
-mine_rest r names (o ∷ whole) os fits =
-    by_key (is_key_of_any names (first_item o)) fits.0 (mine_rest r names whole os fits.1)
-  where
-    by_key : (b : Bool) → is_own r o ≡ b → mine r (keyed names whole ++ others r os) ≡ mine r whole
-        → mine r ((if b then (o ∷ keyed names whole) else keyed names whole) ++ others r os)
-        ≡ (if is_own r o then (o ∷ mine r whole) else mine r whole)
-    by_key true e h = ap (λ z. if is_own r o then (o ∷ z) else z) h
-    by_key false e h = h ∙ sym (ap (λ z. if z then (o ∷ mine r whole) else mine r whole) e)
+mine_rest r names whole os fits =
+    filter-append (is_own r) (keyed names whole) (others r os)
+    ∙ ap₂ ◌++◌ (ap (mine r) (sym (mine_keyed r names whole fits)) ∙ mine_within r r (λ k e. e) whole)
+    (kept_neither (is_own r) (λ o. not (is_own r o)) (λ o. not-true (is_own r o)) os)
+    ∙ append-nil (mine r whole)
 
 -- and those of others are the words that are left
 pub others_rest : (r : Roles) (names : List Names) (whole os : List LinePiece) → Fits names r whole
     → others r (keyed names whole ++ others r os) ≡ others r os
-others_rest r names [] os fits = left_again r os
-others_rest r names (o ∷ whole) os fits =
-    by_key (is_key_of_any names (first_item o)) fits.0 (others_rest r names whole os fits.1)
-  where
-    by_key : (b : Bool) → is_own r o ≡ b → others r (keyed names whole ++ others r os) ≡ others r os
-        → others r ((if b then (o ∷ keyed names whole) else keyed names whole) ++ others r os)
-        ≡ others r os
-    by_key true e h =
-        let more = keyed names whole ++ others r os in
-        ap (λ z. if not z then (o ∷ others r more) else others r more) e ∙ h
-    by_key false e h = h
+others_rest r names whole os fits =
+    filter-append (λ o. not (is_own r o)) (keyed names whole) (others r os)
+    ∙ ap₂ ◌++◌ (ap (others r) (sym (mine_keyed r names whole fits))
+    ∙ kept_neither (λ o. not (is_own r o)) (is_own r) (λ o. ap not) whole)
+    (kept_within (λ o. not (is_own r o)) (λ o. not (is_own r o)) (λ o e. e) os)
