@@ -22,11 +22,11 @@ module _ (r : Roles) (n : IsNamed r) where
       ∙ ap (λ z. others r earlier ++ z) (others_own r (Two k w) later (ap is_own_role e))
 
   -- an argument's key with its value on a line that is cut on either side of them
-  has_its_value : {before after : Cells} {os : List LinePiece} (k value : Arg) (behind : Cells)
-      (earlier later : List LinePiece) → r k ≡ WithNext → is_value value ≡ true
+  has_its_value : {before after : Cells} {os : List LinePiece} {k : Arg} (value : Arg)
+      {behind : Cells} {earlier later : List LinePiece} → r k ≡ WithNext → is_value value ≡ true
       → after ≡ Some value ∷ behind → Cut r before earlier → Cut r behind later
       → os ≡ earlier ++ (Two k value ∷ later) → HasItsValue r before k after os
-  has_its_value k value behind earlier later e v next cut_before cut_behind is = record {
+  has_its_value {k} value {behind} {earlier} {later} e v next cut_before cut_behind is = record {
     value = value;
     may_be_one = v;
     behind = behind;
@@ -53,7 +53,7 @@ module _ (r : Roles) (n : IsNamed r) where
       → Item (front ++ before) k after (ps ++ os)
   further front ps c (flag_key e) = flag_key e
   further front ps c {before = before} {k = k} (argument_key e h) =
-      argument_key e (has_its_value k h.value h.behind (ps ++ h.earlier) h.later e h.may_be_one
+      argument_key e (has_its_value h.value e h.may_be_one
       h.next (c before h.earlier h.cut_before) h.cut_behind
       (ap (λ z. ps ++ z) h.one_piece ∙ sym (append_assoc ps h.earlier (Two k h.value ∷ h.later))))
   further front ps c (value_of_key v i) =
@@ -66,55 +66,52 @@ module _ (r : Roles) (n : IsNamed r) where
   further front ps c (positional h) = positional h
 
   -- each item of a cut line is one of these
-  item_of : (before : Cells) (k : Arg) (after : Cells) {os : List LinePiece}
+  item_of : (before : Cells) {k : Arg} {after : Cells} {os : List LinePiece}
       → Cut r (before ++ (Some k ∷ after)) os → Item before k after os
-  item_of [] k after (flag e c) = flag_key e
-  item_of [] k after (argument {w = w} {cs = cs} {os = os} e v c) =
-      argument_key e (has_its_value k w cs [] os e v refl at_end c refl)
-  item_of [] k after (word h c) = positional h
-  item_of (None ∷ b) k after (passed c) =
-      further (None ∷ []) [] (λ cs ps d. passed d) (item_of b k after c)
-  item_of (Some j ∷ []) k after (flag e c) =
-      further (Some j ∷ []) (One j ∷ []) (λ cs ps d. flag e d) (item_of [] k after c)
-  item_of (Some j ∷ []) k after (argument e v c) =
+  item_of [] (flag e c) = flag_key e
+  item_of [] (argument {w = w} e v c) = argument_key e (has_its_value w e v refl at_end c refl)
+  item_of [] (word h c) = positional h
+  item_of (None ∷ b) (passed c) = further (None ∷ []) [] (λ cs ps d. passed d) (item_of b c)
+  item_of (Some j ∷ []) (flag e c) =
+      further (Some j ∷ []) (One j ∷ []) (λ cs ps d. flag e d) (item_of [] c)
+  item_of (Some j ∷ []) (argument e v c) =
       value_of_key v (record { before = []; key = j; is = refl; wants_value = e })
-  item_of (Some j ∷ []) k after (word h c) =
-      further (Some j ∷ []) (One j ∷ []) (λ cs ps d. word h d) (item_of [] k after c)
-  item_of (Some j ∷ (None ∷ b)) k after (flag e c) =
-      further (Some j ∷ []) (One j ∷ []) (λ cs ps d. flag e d) (item_of (None ∷ b) k after c)
-  item_of (Some j ∷ (None ∷ b)) k after (word h c) =
-      further (Some j ∷ []) (One j ∷ []) (λ cs ps d. word h d) (item_of (None ∷ b) k after c)
-  item_of (Some j ∷ (Some w ∷ b)) k after (flag e c) =
-      further (Some j ∷ []) (One j ∷ []) (λ cs ps d. flag e d) (item_of (Some w ∷ b) k after c)
-  item_of (Some j ∷ (Some w ∷ b)) k after (argument e v c) =
-      further (Some j ∷ (Some w ∷ [])) (Two j w ∷ []) (λ cs ps d. argument e v d)
-      (item_of b k after c)
-  item_of (Some j ∷ (Some w ∷ b)) k after (word h c) =
-      further (Some j ∷ []) (One j ∷ []) (λ cs ps d. word h d) (item_of (Some w ∷ b) k after c)
+  item_of (Some j ∷ []) (word h c) =
+      further (Some j ∷ []) (One j ∷ []) (λ cs ps d. word h d) (item_of [] c)
+  item_of (Some j ∷ (None ∷ b)) (flag e c) =
+      further (Some j ∷ []) (One j ∷ []) (λ cs ps d. flag e d) (item_of (None ∷ b) c)
+  item_of (Some j ∷ (None ∷ b)) (word h c) =
+      further (Some j ∷ []) (One j ∷ []) (λ cs ps d. word h d) (item_of (None ∷ b) c)
+  item_of (Some j ∷ (Some w ∷ b)) (flag e c) =
+      further (Some j ∷ []) (One j ∷ []) (λ cs ps d. flag e d) (item_of (Some w ∷ b) c)
+  item_of (Some j ∷ (Some w ∷ b)) (argument e v c) =
+      further (Some j ∷ (Some w ∷ [])) (Two j w ∷ []) (λ cs ps d. argument e v d) (item_of b c)
+  item_of (Some j ∷ (Some w ∷ b)) (word h c) =
+      further (Some j ∷ []) (One j ∷ []) (λ cs ps d. word h d) (item_of (Some w ∷ b) c)
 
   -- a key is one of the record's
-  own_key : {before after : Cells} {os : List LinePiece} (k : Arg) → Item before k after os
+  own_key : {before after : Cells} {os : List LinePiece} {k : Arg} → Item before k after os
       → is_key k ≡ true → is_own_role (r k) ≡ true
-  own_key k (flag_key e) h = ap is_own_role e
-  own_key k (argument_key e i) h = ap is_own_role e
-  own_key k (value_of_key v i) h = let f = value_not_key k v in cc
-  own_key k (positional p) h = let f = word_not_key k p in cc
+  own_key (flag_key e) h = ap is_own_role e
+  own_key (argument_key e i) h = ap is_own_role e
+  own_key {k} (value_of_key v i) h = let f = value_not_key k v in cc
+  own_key {k} (positional p) h = let f = word_not_key k p in cc
 
   -- an argument's key has its value
-  own_value : {before after : Cells} {os : List LinePiece} (k : Arg) → Item before k after os
+  own_value : {before after : Cells} {os : List LinePiece} {k : Arg} → Item before k after os
       → r k ≡ WithNext → HasItsValue r before k after os
-  own_value k (flag_key e) h = cc
-  own_value k (argument_key e i) h = i
-  own_value k (value_of_key v i) h = let f = value_foreign r k n v in cc
-  own_value k (positional p) h = let f = word_foreign r k n p in cc
+  own_value (flag_key e) h = cc
+  own_value (argument_key e i) h = i
+  own_value (value_of_key v i) h = let f = value_foreign n v in cc
+  own_value (positional p) h = let f = word_foreign n p in cc
 
   -- an attached value stands behind such a key
-  behind_key : {before after : Cells} {os : List LinePiece} (text : List ℕ)
+  behind_key : {before after : Cells} {os : List LinePiece} {text : List ℕ}
       → Item before (ArgWord text) after os → EndsInKey r before
-  behind_key text (flag_key e) = let f = n.only_keys (ArgWord text) refl in cc
-  behind_key text (argument_key e i) = let f = n.only_keys (ArgWord text) refl in cc
-  behind_key text (value_of_key v i) = i
-  behind_key text (positional p) = cc
+  behind_key {text} (flag_key e) = let f = n.only_keys (ArgWord text) refl in cc
+  behind_key {text} (argument_key e i) = let f = n.only_keys (ArgWord text) refl in cc
+  behind_key (value_of_key v i) = i
+  behind_key (positional p) = cc
 
   -- what begins with none of the keys are words
   words_alone : {cs : Cells} {os : List LinePiece} → Cut r cs os
@@ -128,22 +125,21 @@ module _ (r : Roles) (n : IsNamed r) where
       subst (AllPass is_word_alone) (sym (others_own r (Two k w) os (ap is_own_role e)))
       (words_alone c)
   words_alone (word {w = w} {os = os} h c) =
-      subst (AllPass is_word_alone)
-      (sym (others_foreign r (One w) os (ap is_own_role (word_foreign r w n h))))
+      subst (AllPass is_word_alone) (sym (others_foreign r os (ap is_own_role (word_foreign n h))))
       (All-cons (λ o. is_word_alone o ≡ true) (One w) (others r os) h (words_alone c))
 
   -- a cut line holds together
   pub cut_holds_together : (cs : Cells) (os : List LinePiece) → Cut r cs os → HoldsTogether r cs os
   cut_holds_together cs os c = record {
-    keys = λ before after k e. own_key k (at before after k e);
-    values = λ before after k e. own_value k (at before after k e);
-    attached = λ before after text e. behind_key text (at before after (ArgWord text) e);
+    keys = λ before after k e. own_key (at e);
+    values = λ before after k e. own_value (at e);
+    attached = λ before after text e. behind_key (at e);
     words = words_alone c;
   }
     where
-      at : (before after : Cells) (k : Arg) → cs ≡ before ++ (Some k ∷ after)
+      at : {before after : Cells} {k : Arg} → cs ≡ before ++ (Some k ∷ after)
           → Item before k after os
-      at before after k e = item_of before k after (subst (λ z. Cut r z os) e c)
+      at {before} e = item_of before (subst (λ z. Cut r z os) e c)
 
 -- What is left to positional fields.
 

@@ -8,7 +8,7 @@ use Rattle.bpaf_exact.specs.{Wrappers.AgreesOn, Wrappers.Closure, Wrappers.Decid
 use Rattle.bpaf_exact.proofs.OneView.{argument_view, closed_view}
 
 -- a closure that accepts both or refuses both of what looks alike
-module _ {A B X : Type 0} (see : A → X) (f : Closure A B)
+module _ {A B X : Type 0} {see : A → X} {f : Closure A B}
     (apart : (x y : A) (v : B) → see x ≡ see y → f.yes x v → f.no y → ⊥) where
   -- agrees on values that look alike
   alike_agrees : (value : A → Type 0) → Alike see value → AgreesOn value f
@@ -29,7 +29,7 @@ module _ {A B X : Type 0} (see : A → X) (f : Closure A B)
 module _ {A B : Type 0} (f : Closure A B) (decides : Decides f) where
   -- So does one that decides, where the values are one.
   pub closure_agrees : (s : ProgramForm A) → HasOneView (λ v. v) s → Agrees f s
-  closure_agrees = view_agrees (λ v. v) f (λ x y v e a n. decides x v a (subst f.no (sym e) n))
+  closure_agrees = view_agrees (λ x y v e a n. decides x v a (subst f.no (sym e) n))
 
   -- Where it has one answer to each input, what it makes of one value is one.
   pub closed_one : ((x : A) (v w : B) → f.yes x v → f.yes x w → v ≡ w) → (s : ProgramForm A)

@@ -44,28 +44,28 @@ module _ (argument : KeyWithValue) where
 
   -- with its names
   pub owns : Owns q (argument.named.names ∷ [])
-  owns = test_owns (is_key_with_value argument) argument.named.names WithNext named_item
+  owns = test_owns WithNext named_item
 
   -- a key that was taken with its text
   pub took_pair : (s t : Situation) (text : List ℕ) → TakesKeyWithText argument s text t
       → TookPair q s t text
   took_pair s t text takes =
       let m = match_of (is_key_with_value argument) s takes.key takes.first.matches in
-      let b = behind_of s takes.key text takes.value in
+      let b = behind_of s takes.value in
       subst (λ z. TookPair q s z text) (sym (takes.taken ∙ pair_is s takes.key)) (record {
         key = m.item;
         word = b.item;
         text_is = b.text_is;
-        takes = two_taken (is_key_with_value argument) q s takes.key text test takes.first m b;
+        takes = two_taken s test takes.first m b;
         steady = two_steady s takes.key;
       })
 
   -- no key: there is no piece
   pub no_key : (s : Situation) → HasNoKey argument s → pieces q (cells s) ≡ []
-  no_key s none = no_pieces (is_key_with_value argument) q WithNext s test none
+  no_key s none = no_pieces s test none
 
 -- What an argument with these pieces answers where no key is there, by its variable.
-module _ (T : Type 0) (means : List ℕ → T → Type 0) (argument : KeyWithValue) (group : Groups T)
+module _ {T : Type 0} (means : List ℕ → T → Type 0) (argument : KeyWithValue) (group : Groups T)
     (variables : Variables) where
   abbrev roles : Roles
   roles = argument_roles argument.adjacent argument.named.names
@@ -75,10 +75,10 @@ module _ (T : Type 0) (means : List ℕ → T → Type 0) (argument : KeyWithVal
   set = first_set variables argument.named.envs
 
   -- the text of a variable stands for no piece
-  pub variable_read : (s t : Situation) (text : List ℕ) (v : T) → s.context.env ≡ variables
+  pub variable_read : {s t : Situation} {text : List ℕ} {v : T} → s.context.env ≡ variables
       → ReadsVariable argument s text t → means text v
       → SingleOk T ByName roles group (gap_of means set) s v t
-  variable_read s t text v same read m =
+  variable_read {s} {text} {v} same read m =
       let here = subst (λ z. first_set z argument.named.envs ≡ Some text) same read.set in
       subst (SingleOk T ByName roles group (gap_of means set) s v) (sym read.left)
       (subst (λ gap. SingleOk T ByName roles group gap s v (with_current s None))
@@ -87,20 +87,20 @@ module _ (T : Type 0) (means : List ℕ → T → Type 0) (argument : KeyWithVal
       (same_steady (steady_refl s))))
 
   -- one that means no value is refused
-  pub variable_fault : (s t : Situation) (e : Error) (text : List ℕ) → s.context.env ≡ variables
+  pub variable_fault : {s t : Situation} {e : Error} {text : List ℕ} → s.context.env ≡ variables
       → ReadsVariable argument s text t → class e ≡ Refused → ((v : T) → means text v → ⊥)
       → SingleErr T ByName roles group (gap_of means set) s e t
-  variable_fault s t e text same read c none =
+  variable_fault {s} {t} {e} {text} same read c none =
       let here = subst (λ z. first_set z argument.named.envs ≡ Some text) same read.set in
       subst (λ gap. SingleErr T ByName roles group gap s e t) (ap (gap_of means) (sym here))
       (of_absent c refl (no_key argument s read.no_key) none)
 
   -- without one there is no value
-  pub nowhere : (s t : Situation) (e : Error) (m : Message) → class e ≡ class_of m
+  pub nowhere : {s t : Situation} {e : Error} (m : Message) → class e ≡ class_of m
       → s.context.env ≡ variables → HasNoKey argument s → IsNowhere argument s m → t ≡ s
       → SingleErr T ByName roles group (gap_of means set) s e t
-  nowhere s t e m c same none unset left =
+  nowhere {s} {e} m c same none unset left =
       let here = subst (λ z. first_set z argument.named.envs ≡ None) same unset.0 in
       subst (SingleErr T ByName roles group (gap_of means set) s e) (sym left)
-      (of_missing (absence_caught s (argument_part argument) argument.named.envs e m c unset.1)
+      (of_missing (absence_caught s (argument_part argument) argument.named.envs m c unset.1)
       (ap (λ z. (gap_of means z).has) here) (no_key argument s none) (λ c. refl))

@@ -24,14 +24,14 @@ use Rattle.bpaf_exact.proofs.Alternative.{gap_empty, took_front}
 use Rattle.bpaf_exact.proofs.{Classes.missing_class, LastArguments.last_argument_law}
 
 -- the text of an argument behind its key
-takes_pair : (argument : KeyWithValue) → argument.last ≡ false → (s t : Situation) (text : List ℕ)
+takes_pair : (argument : KeyWithValue) → argument.last ≡ false → {s t : Situation} {text : List ℕ}
     → TakesOwnText argument.last argument s text t
     → TookPair (argument_roles argument.adjacent argument.named.names) s t text
-takes_pair argument once s t text takes =
+takes_pair argument once {s} {t} {text} takes =
     took_pair argument s t text (subst (λ b. TakesOwnText b argument s text t) once takes)
 
 -- an argument without a name in the environment
-module _ (T : Type 0) (means : List ℕ → T → Type 0) (argument : KeyWithValue)
+module _ {T : Type 0} (means : List ℕ → T → Type 0) (argument : KeyWithValue)
     (no_envs : argument.named.envs ≡ []) (once : argument.last ≡ false) where
   -- the items of the argument
   abbrev q : Roles
@@ -42,44 +42,41 @@ module _ (T : Type 0) (means : List ℕ → T → Type 0) (argument : KeyWithVal
   value = ArgumentValue means
 
   -- no name is set in the environment
-  never_set : (s : Situation) (text : List ℕ)
+  never_set : (s : Situation) {text : List ℕ}
       → first_set s.context.env argument.named.envs ≡ Some text → ⊥
-  never_set s text e =
+  never_set s e =
       let h : first_set s.context.env argument.named.envs ≡ None =
       ap (first_set s.context.env) no_envs in
       cc
 
   -- the text stands behind its key
-  gets_pair : (s t : Situation) (text : List ℕ) → GetsText argument s text t → TookPair q s t text
-  gets_pair s t text gets = ⊎_elim (takes_pair argument once s t text)
-      (λ variable. absurd (never_set s text variable.set)) gets
+  gets_pair : {s t : Situation} {text : List ℕ} → GetsText argument s text t → TookPair q s t text
+  gets_pair {s} gets =
+      ⊎_elim (takes_pair argument once) (λ variable. absurd (never_set s variable.set)) gets
 
   -- a value is that of the first piece
   argument_ok : {env : Variables} (s t : Situation) (v : T) → IsWholeIn env s
       → ArgumentOutcome means argument s (Ok v) t → AlternativeOk T q value s v t
   argument_ok s t v w o =
-      let m = gets_pair s t o.0 o.1 in
-      first_alternative T q value s t v (Two m.key m.word) m.steady
-      (subst (λ z. means z v) (sym m.text_is) o.2) m.takes
+      let m = gets_pair o.1 in
+      first_alternative value m.steady (subst (λ z. means z v) (sym m.text_is) o.2) m.takes
 
   -- a refusal: no piece, or a first one that can't be read
-  argument_err : (s t : Situation) (e : Error) (m : Message) → class e ≡ class_of m
+  argument_err : {s t : Situation} {e : Error} (m : Message) → class e ≡ class_of m
       → ArgumentFails means argument s m t → AlternativeErr T q value s e t
-  argument_err s t e Memory c o = alternative_memory c
-  argument_err s t e (ParseFailed place fault) c o =
-      let m = gets_pair s t o.0 o.1 in
-      first_refused T q value s t e (Two m.key m.word) (pieces q (cells t)) c m.steady.path
-      (first_pieces q (named argument) m.takes)
+  argument_err Memory c o = alternative_memory c
+  argument_err (ParseFailed place fault) c o =
+      let m = gets_pair o.1 in
+      first_refused value c m.steady.path (first_pieces q (named argument) m.takes)
       (λ v y. o.2.0 v (subst (λ z. means z v) m.text_is y))
-  argument_err s t e (NoArgument key metavar) c o =
+  argument_err {s} {t} (NoArgument key metavar) c o =
       let same = subst (λ b. TakesBefore b argument s t) once o.1 in
       let lacks = subst (λ z. LacksText argument z (NoArgument key metavar)) same o.0 in
       let m = match_of (is_key_with_value argument) s key lacks.0.matches in
-      let b = bare_taken (is_key_with_value argument) q s key (test argument) lacks.0 m lacks.1 in
-      first_refused T q value s t e (One m.item) b.tail c (ap (λ z. z.path) same) b.is (λ v y. y)
-  argument_err s t e other c o =
-      missing_same T q value s t e
-      (c ∙ missing_class other
+      let b = bare_taken (test argument) lacks.0 m lacks.1 in
+      first_refused value c (ap (λ z. z.path) same) b.is (λ v y. y)
+  argument_err {s} other c o =
+      missing_same value (c ∙ missing_class other
       (absence_missing s (argument_part argument) argument.named.envs no_envs other o.1.1))
       (no_key argument s o.0) o.2
 
@@ -88,11 +85,11 @@ module _ (T : Type 0) (means : List ℕ → T → Type 0) (argument : KeyWithVal
   argument_law = record {
     named = named argument;
     ok = argument_ok;
-    err = λ s t e w o. argument_err s t e e.0 refl o;
+    err = λ s t e w o. argument_err e.0 refl o;
   }
 
 -- an argument with names there, where the environment has these variables
-module _ (T : Type 0) (means : List ℕ → T → Type 0) (argument : KeyWithValue)
+module _ {T : Type 0} (means : List ℕ → T → Type 0) (argument : KeyWithValue)
     (once : argument.last ≡ false) (variables : Variables) where
   abbrev roles : Roles
   roles = argument_roles argument.adjacent argument.named.names
@@ -106,37 +103,34 @@ module _ (T : Type 0) (means : List ℕ → T → Type 0) (argument : KeyWithVal
   -- a value is that of the first piece, or of the variable
   variable_ok : (s t : Situation) (v : T) → IsWholeIn variables s
       → ArgumentOutcome means argument s (Ok v) t → SingleOk T ByName roles group gap s v t
-  variable_ok s t v w o = ⊎_elim
-      (λ takes. let m = takes_pair argument once s t o.0 takes in
-      took (took_front T (ArgumentValue means) ByName roles s t v (Two m.key m.word) m.steady
+  variable_ok s t v w o = ⊎_elim (λ takes. let m = takes_pair argument once takes in
+      took (took_front (ArgumentValue means) m.steady
       m.takes (first_pieces roles (named argument) m.takes)
       (subst (λ z. means z v) (sym m.text_is) o.2) (λ none. absurd cc)))
-      (λ read. variable_read T means argument group variables s t o.0 v w.environment read o.2) o.1
+      (λ read. variable_read means argument group variables w.environment read o.2) o.1
 
   -- a refusal: neither, or what can't be read
-  variable_err : (s t : Situation) (e : Error) (m : Message) → class e ≡ class_of m
+  variable_err : {s t : Situation} {e : Error} (m : Message) → class e ≡ class_of m
       → s.context.env ≡ variables → ArgumentFails means argument s m t
       → SingleErr T ByName roles group gap s e t
-  variable_err s t e Memory c same o = of_memory c
-  variable_err s t e (ParseFailed place fault) c same o = ⊎_elim
-      (λ takes. let m = takes_pair argument once s t o.0 takes in
-      of_piece c (takes_nonempty roles (first_takes roles m.takes))
+  variable_err Memory c same o = of_memory c
+  variable_err {t} (ParseFailed place fault) c same o = ⊎_elim
+      (λ takes. let m = takes_pair argument once takes in
+      of_piece c (takes_nonempty (first_takes m.takes))
       (λ v rest g. let d : Two m.key m.word ∷ pieces roles (cells t) ≡ g.0 ∷ rest =
       sym (first_pieces roles (named argument) m.takes) ∙ g.1 in
       let j : g.0 ≡ Two m.key m.word = cc in
       o.2.0 v (subst (λ z. means z v) m.text_is (subst (λ z. ArgumentValue means z v) j g.2))))
-      (λ read. variable_fault T means argument group variables s t e o.0 same read c o.2.0) o.1
-  variable_err s t e (NoArgument key metavar) c same o =
+      (λ read. variable_fault means argument group variables same read c o.2.0) o.1
+  variable_err {s} {t} (NoArgument key metavar) c same o =
       let left = subst (λ b. TakesBefore b argument s t) once o.1 in
       let lacks = subst (λ z. LacksText argument z (NoArgument key metavar)) left o.0 in
       let m = match_of (is_key_with_value argument) s key lacks.0.matches in
-      let b = bare_taken (is_key_with_value argument) roles s key (test argument) lacks.0 m
-      lacks.1 in
+      let b = bare_taken (test argument) lacks.0 m lacks.1 in
       of_piece c (λ none. let d : One m.item ∷ b.tail ≡ [] = sym b.is ∙ none in cc)
       (λ v rest g. let d : One m.item ∷ b.tail ≡ g.0 ∷ rest = sym b.is ∙ g.1 in
       let j : g.0 ≡ One m.item = cc in subst (λ z. ArgumentValue means z v) j g.2)
-  variable_err s t e other c same o =
-      nowhere T means argument group variables s t e other c same o.0 o.1 o.2
+  variable_err other c same o = nowhere means argument group variables other c same o.0 o.1 o.2
 
   variable_law : SingleLaw variables T (ArgumentOutcome means argument) ByName
       roles group gap
@@ -146,7 +140,7 @@ module _ (T : Type 0) (means : List ℕ → T → Type 0) (argument : KeyWithVal
     starts = λ v rest g. let e = g.1 in cc;
     no_absent = gap_empty means _;
     ok = variable_ok;
-    err = λ s t e w o. variable_err s t e e.0 refl w.environment o;
+    err = λ s t e w o. variable_err e.0 refl w.environment o;
   }
 
 -- an argument keeps to the laws of its form
@@ -161,14 +155,15 @@ argument_field_law variables T means argument =
         → SingleLaw variables T (ArgumentOutcome means argument) ByName
         (argument_roles argument.adjacent argument.named.names) (argument_group means last)
         (gap_of means (first_set variables argument.named.envs))
-    by_last false g = variable_law T means argument g variables
-    by_last true g = last_argument_law T means argument g variables
+    by_last false g = variable_law means argument g variables
+    by_last true g = last_argument_law means argument g variables
 
-    single_law : (envs : List (List ℕ)) (last : Bool) → argument.named.envs ≡ envs
-        → argument.last ≡ last → SingleLaw variables T (ArgumentOutcome means argument) ByName
+    single_law : {envs : List (List ℕ)} (last : Bool) → argument.named.envs ≡ envs
+        → argument.last ≡ last
+        → SingleLaw variables T (ArgumentOutcome means argument) ByName
         (argument_roles argument.adjacent argument.named.names) (argument_group means last)
         (gap_of means (first_set variables envs))
-    single_law envs last e g = subst (λ z. SingleLaw variables T (ArgumentOutcome means argument)
+    single_law last e g = subst (λ z. SingleLaw variables T (ArgumentOutcome means argument)
         ByName (argument_roles argument.adjacent argument.named.names) (argument_group means last)
         (gap_of means (first_set variables z))) e (by_last last g)
 
@@ -178,6 +173,6 @@ argument_field_law variables T means argument =
         (key_field (argument.adjacent || not (is_nil envs)) (is_nil envs && not last)
         (argument_roles argument.adjacent argument.named.names) (ArgumentValue means)
         (argument_group means last) (gap_of means (first_set variables envs)))
-    by_envs [] false e g = (argument_law T means argument e g, owns argument)
-    by_envs [] true e g = (single_law [] true e g, owns argument)
-    by_envs (env ∷ envs) last e g = (single_law (env ∷ envs) last e g, owns argument)
+    by_envs [] false e g = (argument_law means argument e g, owns argument)
+    by_envs [] true e g = (single_law true e g, owns argument)
+    by_envs (env ∷ envs) last e g = (single_law last e g, owns argument)

@@ -41,63 +41,59 @@ one_take (takes_argument e v t) (other_stays f u) = absurd cc
 one_take (takes_argument e v t) (takes_flag f u) = absurd cc
 
 -- those taken are all own pieces
-taken_pieces : (q : Roles) {cs ds : Cells} {os : List LinePiece} → IsNamed q → Takes q cs os ds
+taken_pieces : {q : Roles} {cs ds : Cells} {os : List LinePiece} → IsNamed q → Takes q cs os ds
     → os ≡ pieces q cs
-taken_pieces q n no_cells = refl
-taken_pieces q n (empty_stays t) = taken_pieces q n t
-taken_pieces q n (other_stays {k = k} {cs = cs} e t) =
-    taken_pieces q n t ∙ sym (begin_at k cs (pieces q cs) e)
-taken_pieces q n (takes_flag {k = k} {cs = cs} e t) =
-    ap (λ z. One k ∷ z) (taken_pieces q n t) ∙ sym (begin_at k cs (pieces q cs) e)
-taken_pieces q n (takes_argument {k = k} {w = w} {cs = cs} e v t) =
-    ap (λ z. Two k w ∷ z) (taken_pieces q n t)
+taken_pieces n no_cells = refl
+taken_pieces n (empty_stays t) = taken_pieces n t
+taken_pieces {q} n (other_stays {k = k} {cs = cs} e t) =
+    taken_pieces n t ∙ sym (begin_at k cs (pieces q cs) e)
+taken_pieces {q} n (takes_flag {k = k} {cs = cs} e t) =
+    ap (λ z. One k ∷ z) (taken_pieces n t) ∙ sym (begin_at k cs (pieces q cs) e)
+taken_pieces {q} n (takes_argument {k = k} {w = w} {cs = cs} e v t) =
+    ap (λ z. Two k w ∷ z) (taken_pieces n t)
     ∙ sym (begin_at k (Some w ∷ cs) (pieces q (Some w ∷ cs)) e
     ∙ ap (λ b. (if b then Two k w else One k) ∷ pieces q (Some w ∷ cs)) v
-    ∙ ap (λ z. Two k w ∷ z) (begin_at w cs (pieces q cs) (value_foreign q w n v)))
+    ∙ ap (λ z. Two k w ∷ z) (begin_at w cs (pieces q cs) (value_foreign n v)))
 
 -- where there is no own piece none is taken
-take_none : (q : Roles) (cs : Cells) → pieces q cs ≡ [] → Takes q cs [] cs
-take_none q [] e = no_cells
-take_none q (None ∷ cs) e = empty_stays (take_none q cs e)
-take_none q (Some k ∷ cs) e =
-    other_stays (nil_foreign (q k) k cs (pieces q cs) e)
-    (take_none q cs (nil_rest (q k) k cs (pieces q cs) e))
+take_none : {q : Roles} (cs : Cells) → pieces q cs ≡ [] → Takes q cs [] cs
+take_none [] e = no_cells
+take_none (None ∷ cs) e = empty_stays (take_none cs e)
+take_none {q} (Some k ∷ cs) e =
+    other_stays (nil_foreign (q k) k cs (pieces q cs) e) (take_none cs (nil_rest (q k) k cs e))
 
 -- with one piece more that was taken
-take_more : (q : Roles) {cs ds es : Cells} {o : LinePiece} {os : List LinePiece}
+take_more : {q : Roles} {cs ds es : Cells} {o : LinePiece} {os : List LinePiece}
     → TakesPiece q cs o ds → Takes q ds os es → (ps : List LinePiece) × Takes q cs ps es
-take_more q (takes_one {k = k} e) (empty_stays {os = os} t) = (One k ∷ os, takes_flag e t)
-take_more q (takes_two {k = k} {w = w} e v) (empty_stays (empty_stays {os = os} t)) =
+take_more (takes_one {k = k} e) (empty_stays {os = os} t) = (One k ∷ os, takes_flag e t)
+take_more (takes_two {k = k} {w = w} e v) (empty_stays (empty_stays {os = os} t)) =
     (Two k w ∷ os, takes_argument e v t)
-take_more q (takes_later t) (empty_stays u) =
-    let i = take_more q t u in (i.0, empty_stays i.1)
-take_more q (takes_later t) (other_stays e u) =
-    let i = take_more q t u in (i.0, other_stays e i.1)
-take_more q (takes_later t) (takes_flag {k = k} e u) =
-    let i = take_more q t u in (One k ∷ i.0, takes_flag e i.1)
-take_more q (takes_later (takes_later t)) (takes_argument {k = k} {w = w} e v u) =
-    let i = take_more q t u in (Two k w ∷ i.0, takes_argument e v i.1)
+take_more (takes_later t) (empty_stays u) = let i = take_more t u in (i.0, empty_stays i.1)
+take_more (takes_later t) (other_stays e u) = let i = take_more t u in (i.0, other_stays e i.1)
+take_more (takes_later t) (takes_flag {k = k} e u) =
+    let i = take_more t u in (One k ∷ i.0, takes_flag e i.1)
+take_more (takes_later (takes_later t)) (takes_argument {k = k} {w = w} e v u) =
+    let i = take_more t u in (Two k w ∷ i.0, takes_argument e v i.1)
 
 -- where some were taken, and no own piece is left, all were
-all_taken : (q : Roles) {cs ds : Cells} → TakesPieces q cs ds → pieces q ds ≡ []
+all_taken : {q : Roles} {cs ds : Cells} → TakesPieces q cs ds → pieces q ds ≡ []
     → (os : List LinePiece) × Takes q cs os ds
-all_taken q {ds = ds} takes_none e = ([], take_none q ds e)
-all_taken q (takes_more t more) e = take_more q t (all_taken q more e).1
+all_taken {ds = ds} takes_none e = ([], take_none ds e)
+all_taken (takes_more t more) e = take_more t (all_taken more e).1
 
 -- where another field has none of its own on what is left, it has none at all
-foreign_before : (p q : Roles) {cs ds : Cells} {os : List LinePiece} → IsNamed p → Apart p q
+foreign_before : {p q : Roles} {cs ds : Cells} {os : List LinePiece} → IsNamed p → Apart p q
     → Takes q cs os ds → pieces p ds ≡ [] → pieces p cs ≡ []
-foreign_before p q n a no_cells e = e
-foreign_before p q n a (empty_stays t) e = foreign_before p q n a t e
-foreign_before p q n a (other_stays {k = k} {cs = cs} {ds = ds} f t) e =
+foreign_before n a no_cells e = e
+foreign_before n a (empty_stays t) e = foreign_before n a t e
+foreign_before {p} n a (other_stays {k = k} {cs = cs} {ds = ds} f t) e =
     begin_at k cs (pieces p cs) (nil_foreign (p k) k ds (pieces p ds) e)
-    ∙ foreign_before p q n a t (nil_rest (p k) k ds (pieces p ds) e)
-foreign_before p q n a (takes_flag {k = k} {cs = cs} f t) e =
-    begin_at k cs (pieces p cs) (a.right k (ap is_own_role f)) ∙ foreign_before p q n a t e
-foreign_before p q n a (takes_argument {k = k} {w = w} {cs = cs} f v t) e =
+    ∙ foreign_before n a t (nil_rest (p k) k ds e)
+foreign_before {p} n a (takes_flag {k = k} {cs = cs} f t) e =
+    begin_at k cs (pieces p cs) (a.right k (ap is_own_role f)) ∙ foreign_before n a t e
+foreign_before {p} n a (takes_argument {k = k} {w = w} {cs = cs} f v t) e =
     begin_at k (Some w ∷ cs) (pieces p (Some w ∷ cs)) (a.right k (ap is_own_role f))
-    ∙ begin_at w cs (pieces p cs) (value_foreign p w n v)
-    ∙ foreign_before p q n a t e
+    ∙ begin_at w cs (pieces p cs) (value_foreign n v) ∙ foreign_before n a t e
 
 -- what is left is spelled
 left_spelled : {q : Roles} {cs ds : Cells} {os : List LinePiece} → Takes q cs os ds
@@ -110,8 +106,8 @@ left_spelled (takes_argument e v t) (spelled_cell s (spelled_cell r a)) =
     empty_cell (empty_cell (left_spelled t a))
 
 -- what is apart from two is apart from each
-pub apart_first : (p q r : Roles) → Apart p (either q r) → Apart p q
-apart_first p q r a = record {
+pub apart_first : {p q : Roles} (r : Roles) → Apart p (either q r) → Apart p q
+apart_first {q} r a = record {
   left = λ k own. by_role (q k) (r k) (a.left k own);
   right = λ k own. a.right k (by_own (q k) (r k) own);
 }
@@ -125,22 +121,22 @@ apart_first p q r a = record {
     by_own _ y e = refl
 
 -- and from the other
-pub apart_second : (p q r : Roles) → Apart p (either q r) → Apart p r
-apart_second p q r a = record {
-  left = λ k own. by_role (q k) (r k) (a.left k own);
+pub apart_second : {p : Roles} (q : Roles) {r : Roles} → Apart p (either q r) → Apart p r
+apart_second q {r} a = record {
+  left = λ k own. by_role (q k) (a.left k own);
   right = λ k own. a.right k (by_own (q k) (r k) own);
 }
   where
-    by_role : (x y : Role) → either_role x y ≡ Foreign → y ≡ Foreign
-    by_role Foreign y e = e
-    by_role _ y e = cc
+    by_role : (x : Role) {y : Role} → either_role x y ≡ Foreign → y ≡ Foreign
+    by_role Foreign e = e
+    by_role _ e = cc
 
     by_own : (x y : Role) → is_own_role y ≡ true → is_own_role (either_role x y) ≡ true
     by_own Foreign y e = e
     by_own _ y e = refl
 
-module _ {env : Variables} (A B : Type 0) (first : Outcome A) (rest : Outcome B) (q r : Roles)
-    (fv : List LinePiece → A → Type 0) (rv : CellsValue B) (lf : FieldLaw env A first ByName q fv)
+module _ {env : Variables} {A B : Type 0} {first : Outcome A} {rest : Outcome B} {q r : Roles}
+    {fv : List LinePiece → A → Type 0} {rv : CellsValue B} (lf : FieldLaw env A first ByName q fv)
     (lr : ProgramLaw env B rest r rv) (apart : Apart q r) where
   -- the values of both
   abbrev value : CellsValue (A × B)
@@ -149,55 +145,53 @@ module _ {env : Variables} (A B : Type 0) (first : Outcome A) (rest : Outcome B)
   -- neither has an item of another field
   both_others : LeavesToOthers (either q r) value
   both_others p n a cs v s h =
-      foreign_before p q n (apart_first p q r a) h.taken
-      (lr.others p n (apart_second p q r a) h.left_cells v.1 (left_spelled h.taken s) h.left)
+      foreign_before n (apart_first r a) h.taken
+      (lr.others p n (apart_second q a) h.left_cells v.1 (left_spelled h.taken s) h.left)
 
   -- the path gets no shorter
   both_deep : (s t : Situation) (v : A × B) → IsWholeIn env s → BothOutcome first rest s (Ok v) t
       → depth s ≤ depth t
   both_deep s t v w o =
-      let h = values_of_both A B first rest s t v o in
+      let h = values_of_both first rest o in
       let i = (lf.ok s h.middle v.0 w h.first_ran).steady in
       let e = ap length i.path in
-      let l = lr.deep h.middle t v.1 (none_outside_after s h.middle w i) h.rest_ran in
+      let l = lr.deep h.middle t v.1 (none_outside_after w i) h.rest_ran in
       omega arith
 
   -- the field has its value on its own pieces, and the others on what is left without these
   both_ok : (s t : Situation) (v : A × B) → IsWholeIn env s → IsSpelledLine s.context
       → BothOutcome first rest s (Ok v) t → NonePresent (cells t) → value (cells s) v
   both_ok s t v w spelled o e =
-      let h = values_of_both A B first rest s t v o in
+      let h = values_of_both first rest o in
       let i = lf.ok s h.middle v.0 w h.first_ran in
       let still : IsSpelledLine h.middle.context =
       subst IsSpelledLine (sym i.steady.context) spelled in
-      let after = lr.ok h.middle t v.1 (none_outside_after s h.middle w i.steady) still h.rest_ran e
-      in
+      let after = lr.ok h.middle t v.1 (none_outside_after w i.steady) still h.rest_ran e in
       let none = lr.others q lf.own apart (cells h.middle) v.1 (cells_spelled h.middle still) after
       in
-      let all = all_taken q i.takes none in
+      let all = all_taken i.takes none in
       record {
         own_pieces = all.0;
         left_cells = cells h.middle;
         taken = all.1;
-        own = subst (λ os. fv os v.0) (sym (taken_pieces q lf.own all.1)) (i.read none);
+        own = subst (λ os. fv os v.0) (sym (taken_pieces lf.own all.1)) (i.read none);
         left = after;
       }
 
   -- where both have a value, the first has it on all its own pieces
-  own_value : (cs : Cells) (u : A × B) → value cs u → fv (pieces q cs) u.0
-  own_value cs u h = subst (λ os. fv os u.0) (taken_pieces q lf.own h.taken) h.own
+  own_value : {cs : Cells} {u : A × B} → value cs u → fv (pieces q cs) u.0
+  own_value {u} h = subst (λ os. fv os u.0) (taken_pieces lf.own h.taken) h.own
 
   -- and the others answer one on what the field left, or want of memory
-  rest_gives : (s m t : Situation) (x : A) (y : Result B Error) (u : A × B) → IsWholeIn env s
+  rest_gives : {s m t : Situation} {x : A} {y : Result B Error} {u : A × B} → IsWholeIn env s
       → first s (Ok x) m → rest m y t → (h : value (cells s) u)
       → fv h.own_pieces x × GivesAll (rv h.left_cells) y t
-  rest_gives s m t x y u w f g h =
+  rest_gives {s} {m} {t} {x} {y} {u} w f g h =
       let i = lf.ok s m x w f in
-      let none = lf.takes_all s m x u.0 w f (own_value (cells s) u h) in
-      let e = (one_take (all_taken q i.takes none).1 h.taken).1 in (
-        subst (λ os. fv os x) (sym (taken_pieces q lf.own h.taken)) (i.read none),
-        subst (λ cs. GivesAll (rv cs) y t) e
-            (lr.answers m t y u.1 (none_outside_after s m w i.steady) g
+      let none = lf.takes_all s m x u.0 w f (own_value h) in
+      let e = (one_take (all_taken i.takes none).1 h.taken).1 in (
+        subst (λ os. fv os x) (sym (taken_pieces lf.own h.taken)) (i.read none),
+        subst (λ cs. GivesAll (rv cs) y t) e (lr.answers m t y u.1 (none_outside_after w i.steady) g
             (subst (λ cs. rv cs u.1) (sym e) h.left)),
       )
 
@@ -205,8 +199,8 @@ module _ {env : Variables} (A B : Type 0) (first : Outcome A) (rest : Outcome B)
   both_answers : (s t : Situation) (a : Result (A × B) Error) (u : A × B) → IsWholeIn env s
       → BothOutcome first rest s a t → value (cells s) u → GivesAll (value (cells s)) a t
   both_answers s t (Ok v) u w o h =
-      let i = values_of_both A B first rest s t v o in
-      let j = rest_gives s i.middle t v.0 (Ok v.1) u w i.first_ran i.rest_ran h in (
+      let i = values_of_both first rest o in
+      let j = rest_gives w i.first_ran i.rest_ran h in (
         record {
           own_pieces = h.own_pieces;
           left_cells = h.left_cells;
@@ -216,13 +210,13 @@ module _ {env : Variables} (A B : Type 0) (first : Outcome A) (rest : Outcome B)
         },
         j.1.1,
       )
-  both_answers s t (Err e) u w o h = by_side (refused_by A B first rest s t e o)
+  both_answers s t (Err e) u w o h = by_side (refused_by first rest o)
     where
-      by_side : RefusedBy A B first rest s e t → class e ≡ OfMemory
+      by_side : RefusedBy first rest s e t → class e ≡ OfMemory
       by_side (for_memory m) = m
       by_side (by_first {d = d} {m = m} f spared) =
-          absurd (spared (lf.refuses s m d u.0 w f (own_value (cells s) u h)))
-      by_side (by_rest {v = v} {m = m} f g) = (rest_gives s m t v (Err e) u w f g h).1
+          absurd (spared (lf.refuses s m d u.0 w f (own_value h)))
+      by_side (by_rest f g) = (rest_gives w f g h).1
 
   -- the laws
   pub before_law : ProgramLaw env (A × B) (BothOutcome first rest) (either q r) value
@@ -234,8 +228,8 @@ module _ {env : Variables} (A B : Type 0) (first : Outcome A) (rest : Outcome B)
   }
 
 -- The constructor of a product.
-module _ {env : Variables} (A B : Type 0) (fields : Outcome A) (makes : A → B → Type 0) (r : Roles)
-    (inner : CellsValue A) (l : ProgramLaw env A fields r inner) where
+module _ {env : Variables} {A B : Type 0} {fields : Outcome A} (makes : A → B → Type 0) {r : Roles}
+    {inner : CellsValue A} (l : ProgramLaw env A fields r inner) where
   -- what it makes of the fields' values
   abbrev made : CellsValue B
   made = ClosedValue inner (map_closure makes)

@@ -35,8 +35,8 @@ pub map_law : (env : Variables) (A B : Type 0) (inner : Outcome A) (answers : A 
     → FormLaw env (MapOutcome inner answers) names words (program_closed (map_closure answers) s)
 map_law env A B inner answers names words s l =
     narrower_form env B _ _ (no_more by_answer) names words _
-    (program_closed_law env A B inner (map_closure answers) names words s
-    (never_refuses A B (map_closure answers) (λ x n. n) s) l)
+    (program_closed_law env inner (map_closure answers) names words s
+    (never_refuses (map_closure answers) (λ x n. n) s) l)
   where
     by_answer : (s t : Situation) (r : Result B Error) → MapOutcome inner answers s r t
         → ClosedEval A B inner (map_closure answers) Refused s r t
@@ -52,7 +52,7 @@ pub parse_law : (env : Variables) (A B E : Type 0) (inner : Outcome A)
     (program_closed (parse_closure answers) s)
 parse_law env A B E inner answers shown names words s g l =
     narrower_form env B _ _ (no_more by_answer) names words _
-    (program_closed_law env A B inner (parse_closure answers) names words s g l)
+    (program_closed_law env inner (parse_closure answers) names words s g l)
   where
     by_answer : (s t : Situation) (r : Result B Error) → ParseOutcome inner answers shown s r t
         → ClosedEval A B inner (parse_closure answers) Refused s r t
@@ -70,7 +70,7 @@ pub guard_law : (env : Variables) (A : Type 0) (inner : Outcome A) (checks : A �
     (program_closed (guard_closure checks) s)
 guard_law env A inner checks message names words s g l =
     narrower_form env A _ _ (no_more by_answer) names words _
-    (program_closed_law env A A inner (guard_closure checks) names words s g l)
+    (program_closed_law env inner (guard_closure checks) names words s g l)
   where
     by_answer : (s t : Situation) (r : Result A Error) → GuardOutcome inner checks message s r t
         → ClosedEval A A inner (guard_closure checks) Refused s r t
@@ -88,16 +88,15 @@ pub optional_law : (env : Variables) (T : Type 0) (inner : Outcome T) (catch : B
 optional_law env T inner true names words s l = tt
 optional_law env T inner false names words s l =
     narrower_form env (Option T) _ _ (no_more by_answer) names [] (program_optional s)
-    (program_optional_law env T inner names words s l)
+    (program_optional_law env inner names words s l)
   where
     by_answer : (s t : Situation) (r : Result (Option T) Error) → TurnOutcome inner false true s r t
         → OptionalEval T inner s r t
     by_answer s t (Ok (Some v)) o = optional_some o.0
     by_answer s t (Ok None) (inl o) = absurd (true≢false o.2)
     by_answer s t (Ok None) (inr o) =
-        subst (OptionalEval T inner s (Ok None)) (sym o.1)
-        (optional_none o.0.2 (stops_at o.0.0 s o.0.1 o.0.3))
-    by_answer s t (Err e) (inl o) = optional_err o.0 (goes_on e s t o.1)
+        subst (OptionalEval T inner s (Ok None)) (sym o.1) (optional_none o.0.2 (stops_at o.0.3))
+    by_answer s t (Err e) (inl o) = optional_err o.0 (goes_on e o.1)
     by_answer s t (Err e) (inr o) = optional_memory (memory_class e.0 o.0)
 
 -- Repeats.
@@ -118,9 +117,9 @@ repeated_form_law : (env : Variables) {T B : Type 0} (inner : Outcome T) (idle c
     → Agrees f (completed repeated (OwnList T) s) → FormLaw env inner names words s
     → FormLaw env (outcome catch) names [] (repeated_form catch f s)
 repeated_form_law env inner idle true outcome within names words s agrees l = tt
-repeated_form_law env {T} {B} inner idle false {f} {c} outcome within names words s agrees l =
+repeated_form_law env {B} inner idle false {f} {c} outcome within names words s agrees l =
     narrower_form env B _ _ (no_more within) names [] _
-    (listed_law env T B inner idle f c names words s agrees l)
+    (listed_law env inner idle f c names words s agrees l)
 
 -- many
 pub many_law : (env : Variables) (T : Type 0) (inner : Outcome T) (catch : Bool)
@@ -129,7 +128,7 @@ pub many_law : (env : Variables) (T : Type 0) (inner : Outcome T) (catch : Bool)
     → FormLaw env (ManyOutcome inner catch) names [] (repeated_form catch (list_closure T) s)
 many_law env T inner catch names words s =
     repeated_form_law env inner false catch (ManyOutcome inner) by_answer names words s
-    (never_refuses (List T) (Vec T) (list_closure T) (λ x n. n) _)
+    (never_refuses (list_closure T) (λ x n. n) _)
   where
     by_answer : (s t : Situation) (r : Result (Vec T) Error) → ManyOutcome inner false s r t
         → ClosedEval (List T) (Vec T) (RepeatOutcome inner false) (list_closure T) Refused s r t
@@ -144,7 +143,7 @@ pub some_law : (env : Variables) (T : Type 0) (inner : Outcome T) (catch : Bool)
     (repeated_form catch (some_closure T) s)
 some_law env T inner catch message names words s l =
     repeated_form_law env inner false catch (λ c. SomeOutcome inner c message) by_answer
-    names words s (some_agrees env T inner names words s l) l
+    names words s (some_agrees env inner names words s l) l
   where
     by_answer : (s t : Situation) (r : Result (Vec T) Error) → SomeOutcome inner false message s r t
         → ClosedEval (List T) (Vec T) (RepeatOutcome inner false) (some_closure T) Caught s r t
@@ -163,7 +162,7 @@ pub collect_law : (env : Variables) (T C : Type 0) (inner : Outcome T) (catch : 
     (repeated_form catch (map_closure fills) s)
 collect_law env T C inner catch fills names words s =
     repeated_form_law env inner false catch (λ c. CollectOutcome inner c fills) by_answer
-    names words s (never_refuses (List T) C (map_closure fills) (λ x n. n) _)
+    names words s (never_refuses (map_closure fills) (λ x n. n) _)
   where
     by_answer : (s t : Situation) (r : Result C Error) → CollectOutcome inner false fills s r t
         → ClosedEval (List T) C (RepeatOutcome inner false) (map_closure fills) Refused s r t
@@ -178,7 +177,7 @@ pub count_law : (env : Variables) (T : Type 0) (inner : Outcome T) (names : List
     (repeated_form false (map_closure (λ vs n. n ≡ length vs)) s)
 count_law env T inner names words s =
     repeated_form_law env inner true false (λ c. CountOutcome inner) by_answer names words s
-    (never_refuses (List T) ℕ (map_closure (λ vs n. n ≡ length vs)) (λ x n. n) _)
+    (never_refuses (map_closure (λ vs n. n ≡ length vs)) (λ x n. n) _)
   where
     by_answer : (s t : Situation) (r : Result ℕ Error) → CountOutcome inner s r t
         → ClosedEval (List T) ℕ (RepeatOutcome inner true)
@@ -189,8 +188,8 @@ count_law env T inner names words s =
 -- Defaults.
 
 -- what can be caught
-can_catch_of : (e : Error) → can_catch e.0 ≡ true → CanCatch e
-can_catch_of e h =
+can_catch_of : {e : Error} → can_catch e.0 ≡ true → CanCatch e
+can_catch_of {e} h =
     ⊎_elim (λ missing. catch_missing missing) (λ other. catch_other other) (caught_class e.0 h)
 
 -- what can't be caught
@@ -200,13 +199,14 @@ not_catch_of e h (catch_other c) = kept_class e.0 h (inr c)
 
 -- what gives a value in place of an inner one, as a closure on nothing does, keeps to the laws of
 -- its form
-fallback_form_law : (env : Variables) (T : Type 0) (inner : Outcome T) (gives : Gives T)
+fallback_form_law : (env : Variables) {T : Type 0} (inner : Outcome T) (gives : Gives T)
     (f : Closure (Unit {0}) T) → Decides f → ((v : T) → gives (Ok v) → f.yes tt v)
     → ((e : Error) → gives (Err e) → (class e ≡ OfMemory) ⊎ (f.no tt × (class e ≡ Caught)))
     → (names : List Names) (words : List (List ℕ)) (s : ProgramForm T)
-    → FormLaw env inner names words s → FormLaw env (FallbackOutcome inner gives) names []
+    → FormLaw env inner names words s
+    → FormLaw env (FallbackOutcome inner gives) names []
     (completed (λ k. k) (λ group gap. FallbackValue T group gap f) s)
-fallback_form_law env T inner gives f decides gave refused names words s l =
+fallback_form_law env {T} inner gives f decides gave refused names words s l =
     narrower_form env T _ _ (no_more by_answer) names [] _
     (program_fallback_law env T inner names words s l f decides)
   where
@@ -215,13 +215,13 @@ fallback_form_law env T inner gives f decides gave refused names words s l =
     by_answer s t (Ok v) (inl o) = fallback_ok o
     by_answer s t (Ok v) (inr o) =
         subst (FallbackEval T inner f s (Ok v)) (sym o.0.1)
-        (fallback_given o.0.0.2 (can_catch_of o.0.0.0 o.0.0.3) (gave v o.1))
+        (fallback_given o.0.0.2 (can_catch_of o.0.0.3) (gave v o.1))
     by_answer s t (Err e) (inl o) = subst (FallbackEval T inner f s (Err e)) (sym o.1)
         (⊎_elim (λ kept. fallback_err kept.1 (not_catch_of e kept.2))
         (λ memory. fallback_memory (memory_class e.0 memory)) o.0)
     by_answer s t (Err e) (inr o) = subst (FallbackEval T inner f s (Err e)) (sym o.0.1)
         (⊎_elim (λ memory. fallback_memory memory)
-        (λ told. fallback_no o.0.0.2 (can_catch_of o.0.0.0 o.0.0.3) told.0 told.1) (refused e o.1))
+        (λ told. fallback_no o.0.0.2 (can_catch_of o.0.0.3) told.0 told.1) (refused e o.1))
 
 -- a kept value
 pub fallback_law : (env : Variables) (T : Type 0) (inner : Outcome T) (clones : T → T → Type 0)
@@ -230,7 +230,7 @@ pub fallback_law : (env : Variables) (T : Type 0) (inner : Outcome T) (clones : 
     → FormLaw env (FallbackOutcome inner (GivesClone clones kept)) names []
     (completed (λ k. k) (λ group gap. FallbackValue T group gap (map_closure (λ u. clones kept))) s)
 fallback_law env T inner clones kept =
-    fallback_form_law env T inner (GivesClone clones kept) (map_closure (λ u. clones kept))
+    fallback_form_law env inner (GivesClone clones kept) (map_closure (λ u. clones kept))
     (λ u v y n. n) (λ v g. g) (λ e g. inl (memory_class e.0 g))
 
 -- a closure's value
@@ -241,7 +241,7 @@ pub fallback_with_law : (env : Variables) (T E : Type 0) (inner : Outcome T)
     → FormLaw env (FallbackOutcome inner (GivesAnswer answers shown)) names []
     (completed (λ k. k) (λ group gap. FallbackValue T group gap (answer_closure answers)) s)
 fallback_with_law env T E inner answers shown names words s decides =
-    fallback_form_law env T inner (GivesAnswer answers shown) (answer_closure answers) decides
+    fallback_form_law env inner (GivesAnswer answers shown) (answer_closure answers) decides
     (λ v g. g) (λ e g. ⊎_elim (λ memory. inl (ap class_of memory))
     (λ told. inr ((g.0, g.1), ap class_of told.1)) g.2) names words s
 

@@ -23,21 +23,21 @@ word_not_key (Long c a t) h = cc
 word_not_key _ h = refl
 
 -- an item of a named field is no value
-pub own_not_value : (q : Roles) (k : Arg) → IsNamed q → is_own_role (q k) ≡ true
+pub own_not_value : {q : Roles} (k : Arg) → IsNamed q → is_own_role (q k) ≡ true
     → is_value k ≡ false
-own_not_value q (ArgWord t) n h = let e : is_own_role (q (ArgWord t))
+own_not_value {q} (ArgWord t) n h = let e : is_own_role (q (ArgWord t))
     ≡ false = ap is_own_role (n.only_keys (ArgWord t) refl) in cc
-own_not_value q (Word t) n h = let e : is_own_role (q (Word t))
-    ≡ false = ap is_own_role (n.only_keys (Word t) refl) in cc
-own_not_value q _ n h = refl
+own_not_value {q} (Word t) n h =
+    let e : is_own_role (q (Word t)) ≡ false = ap is_own_role (n.only_keys (Word t) refl) in cc
+own_not_value _ n h = refl
 
 -- a value belongs to no named field
-pub value_foreign : (q : Roles) (w : Arg) → IsNamed q → is_value w ≡ true → q w ≡ Foreign
-value_foreign q w n h = n.only_keys w (value_not_key w h)
+pub value_foreign : {q : Roles} {w : Arg} → IsNamed q → is_value w ≡ true → q w ≡ Foreign
+value_foreign {w} n h = n.only_keys w (value_not_key w h)
 
 -- nor does a word
-pub word_foreign : (q : Roles) (w : Arg) → IsNamed q → is_positional w ≡ true → q w ≡ Foreign
-word_foreign q w n h = n.only_keys w (word_not_key w h)
+pub word_foreign : {q : Roles} {w : Arg} → IsNamed q → is_positional w ≡ true → q w ≡ Foreign
+word_foreign {w} n h = n.only_keys w (word_not_key w h)
 
 -- alike pieces behind an item, and alike items next to it, make alike pieces
 begin_cong : (x : Role) (k : Arg) (cs ds : Cells) {os ps : List LinePiece}
@@ -52,10 +52,10 @@ pub begin_at : {x y : Role} (k : Arg) (cs : Cells) (os : List LinePiece) → x �
 begin_at k cs os e = ap (λ z. begin_piece z k cs os) e
 
 -- where no piece begins there is none behind
-pub nil_rest : (x : Role) (k : Arg) (cs : Cells) (os : List LinePiece) → begin_piece x k cs os ≡ []
+pub nil_rest : (x : Role) (k : Arg) (cs : Cells) {os : List LinePiece} → begin_piece x k cs os ≡ []
     → os ≡ []
-nil_rest Foreign k cs os e = e
-nil_rest _ k cs os e = cc
+nil_rest Foreign k cs e = e
+nil_rest _ k cs e = cc
 
 -- and the item isn't the field's own
 pub nil_foreign : (x : Role) (k : Arg) (cs : Cells) (os : List LinePiece)
@@ -68,72 +68,70 @@ no_value_next : (k w : Arg) (cs : Cells) → is_value w ≡ false → with_next 
 no_value_next k w cs h = ap (λ b. if b then Two k w else One k) h
 
 -- taking a piece leaves what a key before it has next to it
-pub same_next : (q : Roles) (k : Arg) {cs ds : Cells} {o : LinePiece} → IsNamed q
+pub same_next : {q : Roles} (k : Arg) {cs ds : Cells} {o : LinePiece} → IsNamed q
     → TakesPiece q cs o ds → with_next k ds ≡ with_next k cs
-same_next q k n (takes_one {k = j} {cs = cs} e) =
-    sym (no_value_next k j cs (own_not_value q j n (ap is_own_role e)))
-same_next q k n (takes_two {k = j} {w = w} {cs = cs} e v) =
-    sym (no_value_next k j (Some w ∷ cs) (own_not_value q j n (ap is_own_role e)))
-same_next q k n (takes_later {c = None} t) = refl
-same_next q k n (takes_later {c = Some j} t) = refl
+same_next k n (takes_one {k = j} {cs = cs} e) =
+    sym (no_value_next k j cs (own_not_value j n (ap is_own_role e)))
+same_next k n (takes_two {k = j} {w = w} {cs = cs} e v) =
+    sym (no_value_next k j (Some w ∷ cs) (own_not_value j n (ap is_own_role e)))
+same_next k n (takes_later {c = None} t) = refl
+same_next k n (takes_later {c = Some j} t) = refl
 
 -- What one takes of its own leaves the pieces of another as they are.
-pub keeps_other : (q r : Roles) {cs ds : Cells} {o : LinePiece} → IsNamed q → IsNamed r → Apart q r
+pub keeps_other : {q r : Roles} {cs ds : Cells} {o : LinePiece} → IsNamed q → IsNamed r → Apart q r
     → TakesPiece q cs o ds → pieces r ds ≡ pieces r cs
-keeps_other q r nq nr a (takes_one {k = k} {cs = cs} e) =
+keeps_other {r} nq nr a (takes_one {k = k} {cs = cs} e) =
     sym (begin_at k cs (pieces r cs) (a.left k (ap is_own_role e)))
-keeps_other q r nq nr a (takes_two {k = k} {w = w} {cs = cs} e v) =
+keeps_other {r} nq nr a (takes_two {k = k} {w = w} {cs = cs} e v) =
     sym (begin_at k (Some w ∷ cs) (pieces r (Some w ∷ cs)) (a.left k (ap is_own_role e))
-    ∙ begin_at w cs (pieces r cs) (value_foreign r w nr v))
-keeps_other q r nq nr a (takes_later {c = None} t) = keeps_other q r nq nr a t
-keeps_other q r nq nr a (takes_later {c = Some k} {cs = cs} {ds = ds} t) =
-    begin_cong (r k) k cs ds (same_next q k nq t) (keeps_other q r nq nr a t)
+    ∙ begin_at w cs (pieces r cs) (value_foreign nr v))
+keeps_other nq nr a (takes_later {c = None} t) = keeps_other nq nr a t
+keeps_other {r} nq nr a (takes_later {c = Some k} {cs = cs} {ds = ds} t) =
+    begin_cong (r k) k cs ds (same_next k nq t) (keeps_other nq nr a t)
 
 -- so do some pieces
-pub keeps_other_some : (q r : Roles) {cs ds : Cells} → IsNamed q → IsNamed r → Apart q r
+pub keeps_other_some : {q r : Roles} {cs ds : Cells} → IsNamed q → IsNamed r → Apart q r
     → TakesPieces q cs ds → pieces r ds ≡ pieces r cs
-keeps_other_some q r nq nr a takes_none = refl
-keeps_other_some q r nq nr a (takes_more t more) = keeps_other_some q r nq nr a more
-    ∙ keeps_other q r nq nr a t
+keeps_other_some nq nr a takes_none = refl
+keeps_other_some nq nr a (takes_more t more) = keeps_other_some nq nr a more ∙ keeps_other nq nr a t
 
 -- The pieces of a field's own are those of the cut that begin with one of its keys.
 
 -- the key of a flag, as a piece of the field's own or of others
-flag_mine : (q : Roles) (x y : Role) (k : Arg) (cs : Cells) (os ps : List LinePiece)
+flag_mine : (q : Roles) (x y : Role) (k : Arg) (cs : Cells) {os ps : List LinePiece}
     → either_role x y ≡ Alone → os ≡ ps
     → begin_piece x k cs os ≡ (if is_own_role x then (One k ∷ ps) else ps)
-flag_mine q Foreign y k cs os ps e h = h
-flag_mine q Alone y k cs os ps e h = ap (λ z. One k ∷ z) h
-flag_mine q WithNext y k cs os ps e h = cc
+flag_mine q Foreign y k cs e h = h
+flag_mine q Alone y k cs e h = ap (λ z. One k ∷ z) h
+flag_mine q WithNext y k cs e h = cc
 
 -- the key of an argument, in the same way
-argument_mine : (x y : Role) (k w : Arg) (cs : Cells) (os ps : List LinePiece)
+argument_mine : (x y : Role) (k w : Arg) (cs : Cells) {os ps : List LinePiece}
     → either_role x y ≡ WithNext → is_value w ≡ true → os ≡ ps
     → begin_piece x k (Some w ∷ cs) os ≡ (if is_own_role x then (Two k w ∷ ps) else ps)
-argument_mine Foreign y k w cs os ps e v h = h
-argument_mine Alone y k w cs os ps e v h = cc
-argument_mine WithNext y k w cs os ps e v h = let n : with_next k (Some w ∷ cs)
-    ≡ Two k w = ap (λ b. if b then Two k w else One k) v in cc
+argument_mine Foreign y k w cs e v h = h
+argument_mine Alone y k w cs e v h = cc
+argument_mine WithNext y k w cs e v h =
+    let n : with_next k (Some w ∷ cs) ≡ Two k w = ap (λ b. if b then Two k w else One k) v in cc
 
 -- a word, in the same way
-foreign_mine : (x : Role) (w : Arg) (cs : Cells) (o : LinePiece) (os ps : List LinePiece)
+foreign_mine : (x : Role) (w : Arg) (cs : Cells) (o : LinePiece) {os ps : List LinePiece}
     → x ≡ Foreign → os ≡ ps → begin_piece x w cs os ≡ (if is_own_role x then (o ∷ ps) else ps)
-foreign_mine Foreign w cs o os ps e h = h
-foreign_mine _ w cs o os ps e h = cc
+foreign_mine Foreign w cs o e h = h
+foreign_mine _ w cs o e h = cc
 
 -- the pieces of a field's own are those of the cut that begin with its keys
-pub pieces_of_cut : (q r : Roles) {cs : Cells} {os : List LinePiece} → IsNamed q
+pub pieces_of_cut : {q : Roles} (r : Roles) {cs : Cells} {os : List LinePiece} → IsNamed q
     → Cut (either q r) cs os → pieces q cs ≡ mine q os
-pieces_of_cut q r n at_end = refl
-pieces_of_cut q r n (passed c) = pieces_of_cut q r n c
-pieces_of_cut q r n (flag {k = k} {cs = cs} {os = os} e c) =
-    flag_mine q (q k) (r k) k cs (pieces q cs) (mine q os) e (pieces_of_cut q r n c)
-pieces_of_cut q r n (argument {k = k} {w = w} {cs = cs} {os = os} e v c) =
-    argument_mine (q k) (r k) k w cs (pieces q (Some w ∷ cs)) (mine q os) e v
-    (begin_at w cs (pieces q cs) (value_foreign q w n v) ∙ pieces_of_cut q r n c)
-pieces_of_cut q r n (word {w = w} {cs = cs} {os = os} h c) =
-    foreign_mine (q w) w cs (One w) (pieces q cs) (mine q os) (word_foreign q w n h)
-    (pieces_of_cut q r n c)
+pieces_of_cut r n at_end = refl
+pieces_of_cut r n (passed c) = pieces_of_cut r n c
+pieces_of_cut {q} r n (flag {k = k} {cs = cs} e c) =
+    flag_mine q (q k) (r k) k cs e (pieces_of_cut r n c)
+pieces_of_cut {q} r n (argument {k = k} {w = w} {cs = cs} e v c) =
+    argument_mine (q k) (r k) k w cs e v
+    (begin_at w cs (pieces q cs) (value_foreign n v) ∙ pieces_of_cut r n c)
+pieces_of_cut {q} r n (word {w = w} {cs = cs} h c) =
+    foreign_mine (q w) w cs (One w) (word_foreign n h) (pieces_of_cut r n c)
 
 -- The other way: a piece given back to its place.
 
@@ -149,9 +147,9 @@ pub others_own : (q : Roles) (o : LinePiece) (os : List LinePiece) → is_own q 
 others_own q o os h = ap (λ b. if not b then (o ∷ others q os) else others q os) h
 
 -- a piece of others is
-pub others_foreign : (q : Roles) (o : LinePiece) (os : List LinePiece) → is_own q o ≡ false
+pub others_foreign : (q : Roles) {o : LinePiece} (os : List LinePiece) → is_own q o ≡ false
     → others q (o ∷ os) ≡ o ∷ others q os
-others_foreign q o os h = ap (λ b. if not b then (o ∷ others q os) else others q os) h
+others_foreign q {o} os h = ap (λ b. if not b then (o ∷ others q os) else others q os) h
 
 -- with one piece more the others are alike where they were
 others_cong : (q : Roles) (o : LinePiece) (os ps : List LinePiece) → others q os ≡ others q ps
@@ -165,90 +163,90 @@ pub record CutAlike (q r : Roles) (cs : Cells) (os : List LinePiece) : Type 0 wh
   pub alike : others q now ≡ others q os
 
 -- a piece given back to its place is cut off there again
-pub put_back : (q r : Roles) {cs ds : Cells} {o : LinePiece} {os : List LinePiece}
+pub put_back : {q : Roles} (r : Roles) {cs ds : Cells} {o : LinePiece} {os : List LinePiece}
     → TakesPiece q cs o ds → Cut (either q r) ds os → CutAlike q (either q r) cs os
-put_back q r (takes_one {k = k} {cs = cs} e) (passed {os = os} c) = record {
+put_back {q} r (takes_one {k = k} e) (passed {os = os} c) = record {
   now = One k ∷ os;
   cut = flag (either_own (q k) (r k) Alone e refl) c;
   alike = others_own q (One k) os (ap is_own_role e);
 }
-put_back q r (takes_two {k = k} {w = w} {cs = cs} e v) (passed (passed {os = os} c)) = record {
+put_back {q} r (takes_two {k = k} {w = w} e v) (passed (passed {os = os} c)) = record {
   now = Two k w ∷ os;
   cut = argument (either_own (q k) (r k) WithNext e refl) v c;
   alike = others_own q (Two k w) os (ap is_own_role e);
 }
-put_back q r (takes_later {c = None} t) (passed c) = let i = put_back q r t c in
+put_back r (takes_later {c = None} t) (passed c) = let i = put_back r t c in
     record { now = i.now; cut = passed i.cut; alike = i.alike }
-put_back q r (takes_later {c = Some k} t) (flag e c) =
-    let i = put_back q r t c in
+put_back {q} r (takes_later {c = Some k} t) (flag e c) =
+    let i = put_back r t c in
     record { now = One k ∷ i.now; cut = flag e i.cut; alike = others_cong q (One k) _ _ i.alike }
-put_back q r (takes_later {c = Some k} (takes_later {c = Some w} t)) (argument e v c) =
-    let i = put_back q r t c in
+put_back {q} r (takes_later {c = Some k} (takes_later {c = Some w} t)) (argument e v c) =
+    let i = put_back r t c in
     record {
       now = Two k w ∷ i.now;
       cut = argument e v i.cut;
       alike = others_cong q (Two k w) _ _ i.alike;
     }
-put_back q r (takes_later {c = Some k} t) (word h c) =
-    let i = put_back q r t c in
+put_back {q} r (takes_later {c = Some k} t) (word h c) =
+    let i = put_back r t c in
     record { now = One k ∷ i.now; cut = word h i.cut; alike = others_cong q (One k) _ _ i.alike }
 
 -- so are some pieces
-pub put_back_some : (q r : Roles) {cs ds : Cells} {os : List LinePiece} → TakesPieces q cs ds
-    → Cut (either q r) ds os → CutAlike q (either q r) cs os
-put_back_some q r {os = os} takes_none c = record { now = os; cut = c; alike = refl }
-put_back_some q r (takes_more t more) c =
-    let i = put_back_some q r more c in
-    let j = put_back q r t i.cut in
+pub put_back_some : {q : Roles} (r : Roles) {cs ds : Cells} {os : List LinePiece}
+    → TakesPieces q cs ds → Cut (either q r) ds os → CutAlike q (either q r) cs os
+put_back_some r {os = os} takes_none c = record { now = os; cut = c; alike = refl }
+put_back_some r (takes_more t more) c =
+    let i = put_back_some r more c in
+    let j = put_back r t i.cut in
     record { now = j.now; cut = j.cut; alike = j.alike ∙ i.alike }
 
 -- What is left of a cut when a piece is taken.
 
 -- the role of an item to both is that to the one
-either_not : (x y z u : Role) → x ≡ z → is_own_role z ≡ true → either_role x y ≡ u → z ≡ u
-either_not x y z u e h g = sym (either_own x y z e h) ∙ g
+either_not : {x : Role} (y : Role) {z u : Role} → x ≡ z → is_own_role z ≡ true → either_role x y ≡ u
+    → z ≡ u
+either_not {x} y {z} e h g = sym (either_own x y z e h) ∙ g
 
 -- what is left of a cut when a piece is taken
-pub take_from : (q r : Roles) {cs ds : Cells} {o : LinePiece} {os : List LinePiece} → IsNamed q
-    → TakesPiece q cs o ds → Cut (either q r) cs os → CutAlike q (either q r) ds os
-take_from q r n (takes_one {k = k} e) (flag {os = os} g c) =
+pub take_from : {q : Roles} (r : Roles) {cs ds : Cells} {o : LinePiece} {os : List LinePiece}
+    → IsNamed q → TakesPiece q cs o ds → Cut (either q r) cs os → CutAlike q (either q r) ds os
+take_from {q} r n (takes_one {k = k} e) (flag {os = os} g c) =
     record { now = os; cut = passed c; alike = sym (others_own q (One k) os (ap is_own_role e)) }
-take_from q r n (takes_one {k = k} e) (argument g v c) = let h =
-    either_not (q k) (r k) Alone WithNext e refl g in absurd cc
-take_from q r n (takes_one {k = k} e) (word h c) = let g = word_foreign q k n h in absurd cc
-take_from q r n (takes_two {k = k} e v) (flag g c) = let h =
-    either_not (q k) (r k) WithNext Alone e refl g in absurd cc
-take_from q r n (takes_two {k = k} {w = w} e v) (argument {os = os} g u c) = record {
+take_from r n (takes_one {k = k} e) (argument g v c) =
+    let h = either_not (r k) e refl g in absurd cc
+take_from r n (takes_one e) (word h c) = let g = word_foreign n h in absurd cc
+take_from r n (takes_two {k = k} e v) (flag g c) = let h = either_not (r k) e refl g in absurd cc
+take_from {q} r n (takes_two {k = k} {w = w} e v) (argument {os = os} g u c) = record {
   now = os;
   cut = passed (passed c);
   alike = sym (others_own q (Two k w) os (ap is_own_role e));
 }
-take_from q r n (takes_two {k = k} e v) (word h c) = let g = word_foreign q k n h in absurd cc
-take_from q r n (takes_later {c = None} t) (passed c) = let i = take_from q r n t c in
+take_from r n (takes_two e v) (word h c) = let g = word_foreign n h in absurd cc
+take_from r n (takes_later {c = None} t) (passed c) = let i = take_from r n t c in
     record { now = i.now; cut = passed i.cut; alike = i.alike }
-take_from q r n (takes_later {c = Some k} t) (flag e c) =
-    let i = take_from q r n t c in
+take_from {q} r n (takes_later {c = Some k} t) (flag e c) =
+    let i = take_from r n t c in
     record { now = One k ∷ i.now; cut = flag e i.cut; alike = others_cong q (One k) _ _ i.alike }
-take_from q r n (takes_later {c = Some k} (takes_later {c = Some w} t)) (argument e v c) =
-    let i = take_from q r n t c in
+take_from {q} r n (takes_later {c = Some k} (takes_later {c = Some w} t)) (argument e v c) =
+    let i = take_from r n t c in
     record {
       now = Two k w ∷ i.now;
       cut = argument e v i.cut;
       alike = others_cong q (Two k w) _ _ i.alike;
     }
-take_from q r n (takes_later {c = Some k} (takes_one {k = w} e')) (argument e v c) = let g =
-    value_foreign q w n v in absurd cc
-take_from q r n (takes_later {c = Some k} (takes_two {k = w} e' v')) (argument e v c) = let g =
-    value_foreign q w n v in absurd cc
-take_from q r n (takes_later {c = Some k} t) (word h c) =
-    let i = take_from q r n t c in
+take_from r n (takes_later {c = Some k} (takes_one e')) (argument e v c) =
+    let g = value_foreign n v in absurd cc
+take_from r n (takes_later {c = Some k} (takes_two e' v')) (argument e v c) =
+    let g = value_foreign n v in absurd cc
+take_from {q} r n (takes_later {c = Some k} t) (word h c) =
+    let i = take_from r n t c in
     record { now = One k ∷ i.now; cut = word h i.cut; alike = others_cong q (One k) _ _ i.alike }
 
 -- when some pieces are
-pub take_some_from : (q r : Roles) {cs ds : Cells} {os : List LinePiece} → IsNamed q
+pub take_some_from : {q : Roles} (r : Roles) {cs ds : Cells} {os : List LinePiece} → IsNamed q
     → TakesPieces q cs ds → Cut (either q r) cs os → CutAlike q (either q r) ds os
-take_some_from q r {os = os} n takes_none c = record { now = os; cut = c; alike = refl }
-take_some_from q r n (takes_more t more) c =
-    let j = take_from q r n t c in
-    let i = take_some_from q r n more j.cut in
+take_some_from r {os = os} n takes_none c = record { now = os; cut = c; alike = refl }
+take_some_from r n (takes_more t more) c =
+    let j = take_from r n t c in
+    let i = take_some_from r n more j.cut in
     record { now = i.now; cut = i.cut; alike = i.alike ∙ j.alike }

@@ -49,37 +49,35 @@ steady_both a b = record {
 }
 
 -- a place where as much is taken has the item that it had
-steady_item : (m n : Situation) → SameScope m n → (p : ℕ) → is_taken n p ≡ is_taken m p
+steady_item : {m n : Situation} → SameScope m n → (p : ℕ) → is_taken n p ≡ is_taken m p
     → open_item n p ≡ open_item m p
-steady_item m n st p e =
+steady_item {m} {n} st p e =
     same_item m n p (ap₂ (λ a b. nat_le a p && nat_lt p b) st.start st.end)
     (ap (λ c. item_in c p) st.context) e
 
 -- where as much is taken the cells are the same
-pub cells_same : (m n : Situation) → SameScope m n → ((p : ℕ) → is_taken n p ≡ is_taken m p)
+pub cells_same : {m n : Situation} → SameScope m n → ((p : ℕ) → is_taken n p ≡ is_taken m p)
     → cells n ≡ cells m
 unfolding cells
-cells_same m n st f =
+cells_same {m} {n} st f =
     ap (λ c. first_cells (open_item n) (length c.line)) st.context
-    ∙ same_cells (open_item n) (open_item m) (length m.context.line)
-    (λ p l. steady_item m n st p (f p))
+    ∙ same_cells (open_item m) (length m.context.line) (λ p l. steady_item st p (f p))
 
 -- two lists of cells of which the first took the first item
-left_head : (c d : Option Arg) (x : Arg) (cs ds : Cells) → c ≡ None → d ≡ Some x
+left_head : {c d : Option Arg} {x : Arg} (cs ds : Cells) → c ≡ None → d ≡ Some x
     → TookLeft (c ∷ cs) (d ∷ ds)
-left_head c d x cs ds e f =
+left_head {d} cs ds e f =
     subst (λ z. TookLeft (z ∷ cs) (d ∷ ds)) (sym e)
     (subst (λ z. TookLeft (None ∷ cs) (z ∷ ds)) (sym f) left_here)
 
 -- the leftmost place at which two differ
-left_cells : (at other : ℕ → Option Arg) (n p : ℕ) (x : Arg) → p < n → at p ≡ None
-    → other p ≡ Some x → ((q : ℕ) → q < p → at q ≡ other q)
+left_cells : {at : ℕ → Option Arg} (other : ℕ → Option Arg) (n p : ℕ) {x : Arg} → p < n
+    → at p ≡ None → other p ≡ Some x → ((q : ℕ) → q < p → at q ≡ other q)
     → TookLeft (first_cells at n) (first_cells other n)
-left_cells at other zero p x l e f same = absurd (omega arith)
-left_cells at other (suc n) zero x l e f same = left_head (at zero) (other zero) x _ _ e f
-left_cells at other (suc n) (suc p) x l e f same =
-    left_later (same zero (omega arith))
-    (left_cells (λ q. at (suc q)) (λ q. other (suc q)) n p x (omega arith) e f
+left_cells other zero p l e f same = absurd (omega arith)
+left_cells other (suc n) zero l e f same = left_head _ _ e f
+left_cells other (suc n) (suc p) l e f same =
+    left_later (same zero (omega arith)) (left_cells (λ q. other (suc q)) n p (omega arith) e f
     (λ q i. same (suc q) (omega arith)))
 
 -- an item is there
@@ -88,16 +86,15 @@ pub record HasItem (s : Situation) (p : ℕ) : Type 0 where
   pub is : open_item s p ≡ Some item
 
 -- what isn't taken is open
-pub has_item : {env : Variables} (s : Situation) (p : ℕ) → IsWholeIn env s → is_taken s p ≡ false
+pub has_item : {env : Variables} {s : Situation} {p : ℕ} → IsWholeIn env s → is_taken s p ≡ false
     → HasItem s p
-has_item s p w free =
+has_item {s} {p} w free =
     let l = present_in_line s p free in
     let a : s.start ≤ p = ⊎_elim
     (λ (ahead : p < s.start). absurd (true≢false (sym (w.front p ahead) ∙ free)))
     (λ (within : s.start ≤ p). within) (cases_lt p s.start) in
     let b = w.end in
-    by_item (open_item s p) refl
-    (open_has_item s p
+    by_item (open_item s p) refl (open_has_item s p
     (open_if (nat_le s.start p) (nat_lt p s.end) (is_taken s p) (le-leb s.start p (omega arith))
     (lt-ltb p s.end (omega arith)) free))
   where
@@ -113,31 +110,32 @@ has_item s p w free =
     by_item (Some k) f h = record { item = k; is = f }
 
 -- the one that took the leftmost place that only one took, by their cells
-left_of : {env : Variables} (s m n : Situation) (p : ℕ) → IsWholeIn env s → Steady s m → Steady s n
+left_of : {env : Variables} {s m n : Situation} {p : ℕ} → IsWholeIn env s → Steady s m → Steady s n
     → is_taken m p ≡ true → is_taken n p ≡ false → ((q : ℕ) → q < p → is_taken m q ≡ is_taken n q)
     → TookLeft (cells m) (cells n)
 unfolding cells
-left_of s m n p w a b took free same =
-    let i = has_item n p (none_outside_after s n w b) free in
+left_of {m} {n} {p} w a b took free same =
+    let i = has_item (none_outside_after w b) free in
     let st = steady_both a b in
     subst (λ c. TookLeft (first_cells (open_item m) (length c.line))
     (first_cells (open_item n) (length n.context.line))) (sym st.context)
-    (left_cells (open_item m) (open_item n) (length n.context.line) p i.item
-    (present_in_line n p free) (closed_item m p took) i.is (λ q l. steady_item n m st q (same q l)))
+    (left_cells (open_item n) (length n.context.line) p
+    (present_in_line n p free) (closed_item m p took) i.is (λ q l. steady_item st q (same q l)))
 
 -- of two tests that differ the second fails where the first holds
-differ : (a b : Bool) → a ≡ not b → a ≡ true → b ≡ false
-differ a true e f = absurd (true≢false (sym f ∙ e))
-differ a false e f = refl
+differ : {a : Bool} (b : Bool) → a ≡ not b → a ≡ true → b ≡ false
+differ true e f = absurd (true≢false (sym f ∙ e))
+differ false e f = refl
 
 -- and holds where the first fails
-differ_not : (a b : Bool) → a ≡ not b → a ≡ false → b ≡ true
-differ_not a true e f = refl
-differ_not a false e f = absurd (true≢false (sym e ∙ f))
+differ_not : {a : Bool} (b : Bool) → a ≡ not b → a ≡ false → b ≡ true
+differ_not true e f = refl
+differ_not false e f = absurd (true≢false (sym e ∙ f))
 
 -- conflict notes change nothing that is taken
-pub saved_steady : (s other t : Situation) (place : ℕ) → ConflictsSaved s other place t → Steady s t
-saved_steady s other t place c = record {
+pub saved_steady : {s : Situation} (other : Situation) {t : Situation} {place : ℕ}
+    → ConflictsSaved s other place t → Steady s t
+saved_steady other c = record {
   context = c.context;
   start = c.start;
   end = c.end;
@@ -146,11 +144,11 @@ saved_steady s other t place c = record {
 }
 
 -- a piece that was taken is one of the field's own
-pub takes_own : (q : Roles) {cs ds : Cells} {o : LinePiece} → TakesPiece q cs o ds
+pub takes_own : {q : Roles} {cs ds : Cells} {o : LinePiece} → TakesPiece q cs o ds
     → is_own q o ≡ true
-takes_own q (takes_one e) = ap is_own_role e
-takes_own q (takes_two e v) = ap is_own_role e
-takes_own q (takes_later t) = takes_own q t
+takes_own (takes_one e) = ap is_own_role e
+takes_own (takes_two e v) = ap is_own_role e
+takes_own (takes_later t) = takes_own t
 
 -- what the other branch did
 data Other (T : Type 0) (qb : Roles) (vb : LinePiece → T → Type 0) (cs cm : Cells) : Type 0 where
@@ -170,35 +168,33 @@ module _ (T : Type 0) (qa qb r : Roles) (u : Union qa qb r) (va vb vr : LinePiec
   -- a piece of the other branch that can't be read stays one
   kept_bad : {cs cm : Cells} {oa : LinePiece} → TakesPiece qa cs oa cm → HasBad T vb (pieces qb cs)
       → HasBad T vr (pieces r cm)
-  kept_bad {cs = cs} {cm = cm} t h =
+  kept_bad {cm = cm} t h =
       bad_left T vb vr qb qa r (swap_union qa qb r u) from_b cm
-      (subst (HasBad T vb) (sym (keeps_other qa qb u.named_left u.named_right u.apart t)) h)
+      (subst (HasBad T vb) (sym (keeps_other u.named_left u.named_right u.apart t)) h)
 
   -- the winner took the first piece of both, or one that can't be read stays
   won_first : {cs cm : Cells} {oa : LinePiece} → TakesPiece qa cs oa cm → Other T qb vb cs cm
       → TakesFirst qa cs oa cm ⊎ HasBad T va (pieces qa cm)
       → TakesFirst r cs oa cm ⊎ HasBad T vr (pieces r cm)
   won_first {cm = cm} t o (inr h) = inr (bad_left T va vr qa qb r u from_a cm h)
-  won_first t (other_took tb l (inl f) rb) (inl h) = inl (first_both qa qb r u h f l)
+  won_first t (other_took tb l (inl f) rb) (inl h) = inl (first_both u h f l)
   won_first t (other_took tb l (inr f) rb) (inl h) =
-      inr (kept_bad t (bad_given_back T vb qb u.named_right tb f))
-  won_first t (other_missing e) (inl h) = inl (first_alone qa qb r u e h)
+      inr (kept_bad t (bad_given_back vb u.named_right tb f))
+  won_first t (other_missing e) (inl h) = inl (first_alone u e h)
   won_first t (other_refused b n) (inl h) = inr (kept_bad t b)
 
   -- where the first piece of both can be read, the winner took it
   won_readable : {cs cm : Cells} {oa : LinePiece} → TakesPiece qa cs oa cm → Other T qb vb cs cm
-      → ((o : LinePiece) (os : List LinePiece) (w : T) → pieces qa cs ≡ o ∷ os → va o w
-      → TakesFirst qa cs oa cm)
-      → (o : LinePiece) (os : List LinePiece) (w : T) → pieces r cs ≡ o ∷ os → vr o w
+      → ((o : LinePiece) (os : List LinePiece) (w : T) → pieces qa cs ≡ o ∷ os → va o w → TakesFirst
+      qa cs oa cm) → (o : LinePiece) {os : List LinePiece} (w : T) → pieces r cs ≡ o ∷ os → vr o w
       → TakesFirst r cs oa cm
-  won_readable {cs = cs} {cm = cm} {oa = oa} t other ra o os w e v =
-      by_owner (owner qa qb r cs o os u e) other
+  won_readable {cs = cs} {cm = cm} {oa = oa} t other ra o w e v = by_owner (owner cs u e) other
     where
       by_owner : HeadOf qa cs o × (is_own qa o ≡ true) ⊎ HeadOf qb cs o × (is_own qb o ≡ true)
           → Other T qb vb cs cm → TakesFirst r cs oa cm
-      by_owner (inl h) x = first_mine qa qb r u e h.1 (ra o h.0.tail w h.0.is (from_a o w h.1 v))
+      by_owner (inl h) x = first_mine u e h.1 (ra o h.0.tail w h.0.is (from_a o w h.1 v))
       by_owner (inr h) (other_took tb l f rb) =
-          absurd (not_left qa qb r u e h.1 t (rb o h.0.tail w h.0.is (from_b o w h.1 v)) l)
+          absurd (not_left u e h.1 t (rb o h.0.tail w h.0.is (from_b o w h.1 v)) l)
       by_owner (inr h) (other_missing n) = let i = h.0.is in absurd cc
       by_owner (inr h) (other_refused b n) = absurd (n o h.0.tail w h.0.is (from_b o w h.1 v))
 
@@ -209,12 +205,12 @@ module _ (T : Type 0) (qa qb r : Roles) (u : Union qa qb r) (va vb vr : LinePiec
   won s m t x a o st e = record {
     steady = steady_trans a.steady st;
     piece = a.piece;
-    takes = subst (TakesPiece r (cells s) a.piece) (sym e) (takes_left qa qb r u a.takes);
-    means = gives a.piece x (takes_own qa a.takes) a.means;
+    takes = subst (TakesPiece r (cells s) a.piece) (sym e) (takes_left u a.takes);
+    means = gives a.piece x (takes_own a.takes) a.means;
     first = subst (λ ct. TakesFirst r (cells s) a.piece ct ⊎ HasBad T vr (pieces r ct)) (sym e)
         (won_first a.takes o a.first);
     readable = λ p ps w h v. subst (TakesFirst r (cells s) a.piece) (sym e)
-        (won_readable a.takes o a.readable p ps w h v);
+        (won_readable a.takes o a.readable p w h v);
   }
 
 module _ {env : Variables} (T : Type 0) (a b : Outcome T) (qa qb : Roles)
@@ -222,7 +218,7 @@ module _ {env : Variables} (T : Type 0) (a b : Outcome T) (qa qb : Roles)
     (lb : AlternativeLaw env T b qb vb) (apart : Apart qa qb) where
   -- the items of both
   u : Union qa qb (either qa qb)
-  u = either_union qa qb la.named lb.named apart
+  u = either_union la.named lb.named apart
 
   -- what the pieces of both mean
   abbrev vr : LinePiece → T → Type 0
@@ -234,70 +230,70 @@ module _ {env : Variables} (T : Type 0) (a b : Outcome T) (qa qb : Roles)
   own_role (Two k w) h = ap is_own_role (apart.right k h)
 
   -- a piece of the first means what it means to the first
-  pick_first : (o : LinePiece) (v : T) → is_own qa o ≡ true → vr o v ≡ va o v
-  pick_first o v h = ap (λ z. MatchBool z (va o v) (vb o v)) h
+  pick_first : {o : LinePiece} (v : T) → is_own qa o ≡ true → vr o v ≡ va o v
+  pick_first {o} v h = ap (λ z. MatchBool z (va o v) (vb o v)) h
 
   -- one of the second what it means to the second
-  pick_second : (o : LinePiece) (v : T) → is_own qb o ≡ true → vr o v ≡ vb o v
-  pick_second o v h = ap (λ z. MatchBool z (va o v) (vb o v)) (own_role o h)
+  pick_second : {o : LinePiece} (v : T) → is_own qb o ≡ true → vr o v ≡ vb o v
+  pick_second {o} v h = ap (λ z. MatchBool z (va o v) (vb o v)) (own_role o h)
 
   -- from the first to the choice
   give_first : (o : LinePiece) (v : T) → is_own qa o ≡ true → va o v → vr o v
-  give_first o v h g = subst (λ X. X) (sym (pick_first o v h)) g
+  give_first o v h g = subst (λ X. X) (sym (pick_first v h)) g
 
   -- and back
   from_first : (o : LinePiece) (v : T) → is_own qa o ≡ true → vr o v → va o v
-  from_first o v h g = subst (λ X. X) (pick_first o v h) g
+  from_first o v h g = subst (λ X. X) (pick_first v h) g
 
   -- from the second to the choice
   give_second : (o : LinePiece) (v : T) → is_own qb o ≡ true → vb o v → vr o v
-  give_second o v h g = subst (λ X. X) (sym (pick_second o v h)) g
+  give_second o v h g = subst (λ X. X) (sym (pick_second v h)) g
 
   -- and back
   from_second : (o : LinePiece) (v : T) → is_own qb o ≡ true → vr o v → vb o v
-  from_second o v h g = subst (λ X. X) (pick_second o v h) g
+  from_second o v h g = subst (λ X. X) (pick_second v h) g
 
   -- the first branch won
-  first_won : (s m t : Situation) (x : T) → AlternativeOk T qa va s x m
+  first_won : {s m t : Situation} {x : T} → AlternativeOk T qa va s x m
       → Other T qb vb (cells s) (cells m) → Steady m t → cells t ≡ cells m
       → AlternativeOk T (either qa qb) vr s x t
-  first_won s m t x o h st e =
+  first_won {s} {m} {t} {x} o h st e =
       won T qa qb (either qa qb) u va vb vr give_first from_first from_second s m t x o h st e
 
   -- the second branch won
-  second_won : (s n t : Situation) (y : T) → AlternativeOk T qb vb s y n
+  second_won : {s n t : Situation} {y : T} → AlternativeOk T qb vb s y n
       → Other T qa va (cells s) (cells n) → Steady n t → cells t ≡ cells n
       → AlternativeOk T (either qa qb) vr s y t
-  second_won s n t y o h st e =
-      won T qb qa (either qa qb)
-      (swap_union qa qb
+  second_won {s} {n} {t} {y} o h st e =
+      won T qb qa (either qa qb) (swap_union qa qb
       (either qa qb) u) vb va vr give_second from_second from_first s n t y o h st e
 
   -- the other branch took something further right
-  took_other : (q : Roles) (v : LinePiece → T → Type 0) (s m n : Situation) (y : T)
-      → AlternativeOk T q v s y n → TookLeft (cells m) (cells n) → Other T q v (cells s) (cells m)
-  took_other q v s m n y o l = other_took o.takes l o.first o.readable
+  took_other : {q : Roles} {v : LinePiece → T → Type 0} {s : Situation} (m : Situation)
+      {n : Situation} {y : T} → AlternativeOk T q v s y n → TookLeft (cells m) (cells n)
+      → Other T q v (cells s) (cells m)
+  took_other m o l = other_took o.takes l o.first o.readable
 
   -- the other branch refused
-  err_other : (q : Roles) (v : LinePiece → T → Type 0) (s n : Situation) (cm : Cells) (e : Error)
+  err_other : {q : Roles} {v : LinePiece → T → Type 0} {s n : Situation} (cm : Cells) {e : Error}
       → is_memory e.0 ≡ false → AlternativeErr T q v s e n → Other T q v (cells s) cm
-  err_other q v s n cm e h (alternative_memory c) = absurd (not_memory e.0 h c)
-  err_other q v s n cm e h (alternative_missing c p same st) = other_missing p
-  err_other q v s n cm e h (alternative_refused c p b g) = other_refused b g
+  err_other cm {e} h (alternative_memory c) = absurd (not_memory e.0 h c)
+  err_other cm h (alternative_missing c p same st) = other_missing p
+  err_other cm h (alternative_refused c p b g) = other_refused b g
 
   -- both branches leave the path as it was
-  err_path : (q : Roles) (v : LinePiece → T → Type 0) (s n : Situation) (e : Error)
+  err_path : {q : Roles} {v : LinePiece → T → Type 0} {s n : Situation} {e : Error}
       → is_memory e.0 ≡ false → AlternativeErr T q v s e n → n.path ≡ s.path
-  err_path q v s n e h (alternative_memory c) = absurd (not_memory e.0 h c)
-  err_path q v s n e h (alternative_missing c p same st) = st.path
-  err_path q v s n e h (alternative_refused c p b g) = p
+  err_path {e} h (alternative_memory c) = absurd (not_memory e.0 h c)
+  err_path h (alternative_missing c p same st) = st.path
+  err_path h (alternative_refused c p b g) = p
 
   -- an alternative leaves the path as it was
-  law_path : (z : Outcome T) (q : Roles) (v : LinePiece → T → Type 0) → AlternativeLaw env T z q v
-      → (s n : Situation) (r : Result T Error) → IsWholeIn env s → z s r n → IsNotMemory r
-      → n.path ≡ s.path
-  law_path z q v l s n (Ok x) w o h = (l.ok s n x w o).steady.path
-  law_path z q v l s n (Err e) w o h = err_path q v s n e h (l.err s n e w o)
+  law_path : {z : Outcome T} {q : Roles} {v : LinePiece → T → Type 0} → AlternativeLaw env T z q v
+      → (s : Situation) {n : Situation} (r : Result T Error) → IsWholeIn env s → z s r n
+      → IsNotMemory r → n.path ≡ s.path
+  law_path l s {n} (Ok x) w o h = (l.ok s n x w o).steady.path
+  law_path l s {n} (Err e) w o h = err_path h (l.err s n e w o)
 
   -- so no branch is deeper than the other
   never_deeper : (s m n : Situation) → m.path ≡ s.path → n.path ≡ s.path
@@ -305,84 +301,79 @@ module _ {env : Variables} (T : Type 0) (a b : Outcome T) (qa qb : Roles)
   never_deeper s m n e f h = let c = ap length (e ∙ sym f) in omega arith
 
   -- and both are equally deep
-  equally_deep : (s t : Situation) (r : Result T Error) → IsWholeIn env s
+  equally_deep : {s t : Situation} {r : Result T Error} → IsWholeIn env s
       → (o : BranchesEval a b s r t) → EqualDepths s o.a o.sa o.b o.sb r t
-  equally_deep s t r w o =
-      let pa = law_path a qa va la s o.sa o.a w o.first_ran o.first_spared in
-      let pb = law_path b qb vb lb s o.sb o.b w o.second_ran o.second_spared in
+  equally_deep {s} w o =
+      let pa = law_path la s o.a w o.first_ran o.first_spared in
+      let pb = law_path lb s o.b w o.second_ran o.second_spared in
       ⊎_elim (λ deeper. absurd (never_deeper s o.sa o.sb pa pb deeper.0))
       (λ other. ⊎_elim (λ deeper. absurd (never_deeper s o.sb o.sa pb pa deeper.0))
       (λ equal. equal.1) other) o.chosen
 
   -- an alternative that answered took something
-  never_untouched : (q : Roles) (v : LinePiece → T → Type 0) (s m : Situation) (x : T)
+  never_untouched : {q : Roles} {v : LinePiece → T → Type 0} {s m : Situation} {x : T}
       → AlternativeOk T q v s x m → is_untouched s m ≡ true → ⊥
-  never_untouched q v s m x o e =
+  never_untouched {s} {m} o e =
       let same : open_count m ≡ open_count s = eqb-true (open_count m) (open_count s) e in
-      let fewer = takes_fewer q o.takes in
+      let fewer = takes_fewer o.takes in
       let before = open_present s in
       let after = open_present m in
       absurd (omega arith)
 
   -- the winner's value, where both answered
-  winner_ok : (s sa sb t : Situation) (x y v : T) (winner : Bool × Option ℕ) → IsWholeIn env s
-      → AlternativeOk T qa va s x sa → AlternativeOk T qb vb s y sb
-      → IsWinner sa sb winner → Winner (branch_of x sa) (branch_of y sb) winner (Ok v) t
+  winner_ok : (s : Situation) {sa sb : Situation} (t : Situation) {x y : T} (v : T)
+      (winner : Bool × Option ℕ) → IsWholeIn env s → AlternativeOk T qa va s x sa
+      → AlternativeOk T qb vb s y sb → IsWinner sa sb winner
+      → Winner (branch_of x sa) (branch_of y sb) winner (Ok v) t
       → AlternativeOk T (either qa qb) vr s v t
-  winner_ok s sa sb t x y v (first, None) w i j win k =
-      absurd (never_same qa qb (either qa qb) u i.takes j.takes
-      (cells_same sb sa (steady_both i.steady j.steady) win.0))
-  winner_ok s sa sb t x y v (true, Some p) w i j win k =
+  winner_ok s t v (first, None) w i j win k =
+      absurd (never_same u i.takes j.takes (cells_same (steady_both i.steady j.steady) win.0))
+  winner_ok s {sa} {sb} t {x} v (true, Some p) w i j win k =
       let d : x ≡ v = cc in
-      let free = differ (is_taken sa p) (is_taken sb p) win.0.differs win.1 in
-      subst (λ z. AlternativeOk T (either qa qb) vr s z t) d
-      (first_won s sa t x i
-      (took_other qb vb s sa sb y j (left_of s sa sb p w i.steady j.steady win.1 free win.0.first))
-      (saved_steady sa sb t p k.1)
-      (cells_same sa t (same_scope (saved_steady sa sb t p k.1)) k.1.taken))
-  winner_ok s sa sb t x y v (false, Some p) w i j win k =
+      let free = differ (is_taken sb p) win.0.differs win.1 in
+      subst (λ z. AlternativeOk T (either qa qb) vr s z t) d (first_won i
+      (took_other sa j (left_of w i.steady j.steady win.1 free win.0.first)) (saved_steady sb k.1)
+      (cells_same (same_scope (saved_steady sb k.1)) k.1.taken))
+  winner_ok s {sa} {sb} t {y} v (false, Some p) w i j win k =
       let d : y ≡ v = cc in
-      let here = differ_not (is_taken sa p) (is_taken sb p) win.0.differs win.1 in
-      subst (λ z. AlternativeOk T (either qa qb) vr s z t) d
-      (second_won s sb t y j
-      (took_other qa va s sb sa x i
-      (left_of s sb sa p w j.steady i.steady here win.1 (λ q l. sym (win.0.first q l))))
-      (saved_steady sb sa t p k.1)
-      (cells_same sb t (same_scope (saved_steady sb sa t p k.1)) k.1.taken))
+      let here = differ_not (is_taken sb p) win.0.differs win.1 in
+      subst (λ z. AlternativeOk T (either qa qb) vr s z t) d (second_won j (took_other sb i
+      (left_of w j.steady i.steady here win.1 (λ q l. sym (win.0.first q l)))) (saved_steady sa k.1)
+      (cells_same (same_scope (saved_steady sa k.1)) k.1.taken))
 
   -- the value of one, where the other refused
-  alone_ok : (s m t : Situation) (x v : T) (e : Error) → AlternativeOk T (either qa qb) vr s x m
+  alone_ok : {s m t : Situation} {x v : T} {e : Error} → AlternativeOk T (either qa qb) vr s x m
       → OneOk s (branch_of x m) e (Ok v) t → AlternativeOk T (either qa qb) vr s v t
-  alone_ok s m t x v e i (inl o) = let h = o.1 in absurd cc
-  alone_ok s m t x v e i (inr o) =
+  alone_ok i (inl o) = let h = o.1 in absurd cc
+  alone_ok {s} {m} {x} {v} i (inr o) =
       let given = o.1.0 in
       let d : x ≡ v = cc in
       subst (λ z. AlternativeOk T (either qa qb) vr s v z) (sym o.1.1)
       (subst (λ z. AlternativeOk T (either qa qb) vr s z m) d i)
 
   -- the value where both paths are equally deep
-  equal_ok : (s sa sb t : Situation) (v : T) (x y : Result T Error) → IsWholeIn env s → a s x sa
-      → b s y sb → IsNotMemory x → IsNotMemory y → EqualDepths s x sa y sb (Ok v) t
+  equal_ok : (s sa sb : Situation) {t : Situation} {v : T} (x y : Result T Error) → IsWholeIn env s
+      → a s x sa → b s y sb → IsNotMemory x → IsNotMemory y → EqualDepths s x sa y sb (Ok v) t
       → AlternativeOk T (either qa qb) vr s v t
-  equal_ok s sa sb t v (Ok x) (Ok y) w f g hf hg (inl o) =
-      absurd (never_untouched qa va s sa x (la.ok s sa x w f)
+  equal_ok s sa sb (Ok x) (Ok y) w f g hf hg (inl o) =
+      absurd (never_untouched (la.ok s sa x w f)
       (and_parts (is_untouched s sa) (is_untouched s sb) o.0).0)
-  equal_ok s sa sb t v (Ok x) (Ok y) w f g hf hg (inr o) =
-      winner_ok s sa sb t x y v o.1.0 w (la.ok s sa x w f) (lb.ok s sb y w g) o.1.1 o.1.2
-  equal_ok s sa sb t v (Ok x) (Err e) w f g hf hg o =
-      alone_ok s sa t x v e (first_won s sa sa x (la.ok s sa x w f)
-      (err_other qb vb s sb (cells sa) e hg (lb.err s sb e w g)) (steady_refl sa) refl) o
-  equal_ok s sa sb t v (Err e) (Ok y) w f g hf hg o =
-      alone_ok s sb t y v e (second_won s sb sb y (lb.ok s sb y w g)
-      (err_other qa va s sa (cells sb) e hf (la.err s sa e w f)) (steady_refl sb) refl) o
-  equal_ok s sa sb t v (Err e) (Err d) w f g hf hg o = let i = o.0.2 in absurd cc
+  equal_ok s sa sb {t} {v} (Ok x) (Ok y) w f g hf hg (inr o) =
+      winner_ok s t v o.1.0 w (la.ok s sa x w f) (lb.ok s sb y w g) o.1.1 o.1.2
+  equal_ok s sa sb (Ok x) (Err e) w f g hf hg o =
+      alone_ok (first_won (la.ok s sa x w f)
+      (err_other (cells sa) hg (lb.err s sb e w g)) (steady_refl sa) refl) o
+  equal_ok s sa sb (Err e) (Ok y) w f g hf hg o =
+      alone_ok (second_won (lb.ok s sb y w g)
+      (err_other (cells sb) hf (la.err s sa e w f)) (steady_refl sb) refl) o
+  equal_ok s sa sb (Err e) (Err d) w f g hf hg o = let i = o.0.2 in absurd cc
 
   -- a value of the choice is that of an alternative
   choice_ok : (s t : Situation) (v : T) → IsWholeIn env s → ChoiceOutcome a b s (Ok v) t
       → AlternativeOk T (either qa qb) vr s v t
   choice_ok s t v w o =
-      equal_ok s o.sa o.sb t v o.a o.b w o.first_ran o.second_ran o.first_spared o.second_spared
-      (equally_deep s t (Ok v) w o)
+      equal_ok s o.sa o.sb o.a o.b w o.first_ran o.second_ran o.first_spared o.second_spared
+      (equally_deep w o)
 
   -- both fail
   first_bad : (cs : Cells) → HasBad T va (pieces qa cs) → HasBad T vr (pieces (either qa qb) cs)
@@ -407,7 +398,7 @@ module _ {env : Variables} (T : Type 0) (a b : Outcome T) (qa qb : Roles)
   -- where neither first piece can be read, that of both can't
   both_unread : (s : Situation) → Unread qa va s → Unread qb vb s → Unread (either qa qb) vr s
   unfolding Unread
-  both_unread s f g o os w h x = by_owner (owner qa qb (either qa qb) (cells s) o os u h)
+  both_unread s f g o os w h x = by_owner (owner (cells s) u h)
     where
       by_owner : HeadOf qa (cells s) o × (is_own qa o ≡ true) ⊎ HeadOf qb (cells s) o
           × (is_own qb o ≡ true) → ⊥
@@ -415,84 +406,75 @@ module _ {env : Variables} (T : Type 0) (a b : Outcome T) (qa qb : Roles)
       by_owner (inr i) = g o i.0.tail w i.0.is (from_second o w i.1 x)
 
   -- then the choice refuses
-  refused_either : (s : Situation) (g : Error) → class g ≡ Refused
+  refused_either : {s : Situation} {g : Error} → class g ≡ Refused
       → HasBad T vr (pieces (either qa qb) (cells s)) → Unread (either qa qb) vr s
       → AlternativeErr T (either qa qb) vr s g s
   unfolding Unread
-  refused_either s g c h n = alternative_refused c refl h n
+  refused_either c h n = alternative_refused c refl h n
 
   -- with a refusal of either class
-  by_class : (s : Situation) (g : Error) → (class g ≡ OfMemory) ⊎ (class g ≡ Refused)
+  by_class : {s : Situation} {g : Error} → (class g ≡ OfMemory) ⊎ (class g ≡ Refused)
       → HasBad T vr (pieces (either qa qb) (cells s)) → Unread (either qa qb) vr s
       → AlternativeErr T (either qa qb) vr s g s
-  by_class s g (inl c) h n = alternative_memory c
-  by_class s g (inr c) h n = refused_either s g c h n
+  by_class (inl c) h n = alternative_memory c
+  by_class (inr c) h n = refused_either c h n
 
   -- where neither has a piece, the choice has none
-  both_missing : (s : Situation) (g : Error) → (class g ≡ OfMissing) ⊎ (class g ≡ OfMemory)
+  both_missing : {s : Situation} {g : Error} → (class g ≡ OfMissing) ⊎ (class g ≡ OfMemory)
       → pieces (either qa qb) (cells s) ≡ [] → AlternativeErr T (either qa qb) vr s g s
-  both_missing s g (inl c) h = alternative_missing c h refl (steady_refl s)
-  both_missing s g (inr c) h = alternative_memory c
+  both_missing {s} (inl c) h = alternative_missing c h refl (steady_refl s)
+  both_missing (inr c) h = alternative_memory c
 
   -- both branches refused
-  both_failed : (s m n : Situation) (e f g : Error) → is_memory e.0 ≡ false → is_memory f.0 ≡ false
-      → Combines e.0 f.0 g.0 → AlternativeErr T qa va s e m → AlternativeErr T qb vb s f n
-      → AlternativeErr T (either qa qb) vr s g s
+  both_failed : (s : Situation) {m n : Situation} (e f : Error) {g : Error} → is_memory e.0 ≡ false
+      → is_memory f.0 ≡ false → Combines e.0 f.0 g.0 → AlternativeErr T qa va s e m
+      → AlternativeErr T qb vb s f n → AlternativeErr T (either qa qb) vr s g s
   unfolding Unread
-  both_failed s m n e f g x y c (alternative_memory p) j = absurd (not_memory e.0 x p)
-  both_failed s m n e f g x y c i (alternative_memory q) = absurd (not_memory f.0 y q)
-  both_failed s m n e f g x y c (alternative_missing p i same st)
-      (alternative_missing q j alike steady) =
-      both_missing s g (combined_missing e.0 f.0 g.0 p q c)
-      (both_nil qa qb (either qa qb) (cells s) u i j)
-  both_failed s m n e f g x y c (alternative_missing p i same st) (alternative_refused q path h k) =
-      by_class s g (combined_refused e.0 f.0 g.0 (inr q) (inl p) (inr q) c) (second_bad (cells s) h)
+  both_failed s e f x y c (alternative_memory p) j = absurd (not_memory e.0 x p)
+  both_failed s e f x y c i (alternative_memory q) = absurd (not_memory f.0 y q)
+  both_failed s e f x y c (alternative_missing p i same st) (alternative_missing q j alike steady) =
+      both_missing (combined_missing e.0 f.0 p q c) (both_nil (cells s) u i j)
+  both_failed s e f x y c (alternative_missing p i same st) (alternative_refused q path h k) =
+      by_class (combined_refused e.0 f.0 (inr q) (inl p) (inr q) c) (second_bad (cells s) h)
       (both_unread s (none_unread qa va s i) k)
-  both_failed s m n e f g x y c (alternative_refused p path h k) (alternative_missing q j same st) =
-      by_class s g (combined_refused e.0 f.0 g.0 (inl p) (inr p) (inl q) c) (first_bad (cells s) h)
+  both_failed s e f x y c (alternative_refused p path h k) (alternative_missing q j same st) =
+      by_class (combined_refused e.0 f.0 (inl p) (inr p) (inl q) c) (first_bad (cells s) h)
       (both_unread s k (none_unread qb vb s j))
-  both_failed s m n e f g x y c (alternative_refused p path h k)
-      (alternative_refused q other bad none) =
-      by_class s g (combined_refused e.0 f.0 g.0 (inl p) (inr p) (inr q) c) (first_bad (cells s) h)
+  both_failed s e f x y c (alternative_refused p path h k) (alternative_refused q other bad none) =
+      by_class (combined_refused e.0 f.0 (inl p) (inr p) (inr q) c) (first_bad (cells s) h)
       (both_unread s k none)
 
   -- the value of one, where the other refused, is no refusal
-  one_no_refusal : (q : Roles) (v : LinePiece → T → Type 0) (s m t : Situation) (x : T)
-      (e g : Error) → AlternativeOk T q v s x m → OneOk s (branch_of x m) e (Err g) t → ⊥
-  one_no_refusal q v s m t x e g i (inl o) =
-      never_untouched q v s m x i (and_parts (is_untouched s m) (is_wrong_input e.0) o.0).0
-  one_no_refusal q v s m t x e g i (inr o) = let h = o.1.0 in cc
+  one_no_refusal : {q : Roles} {v : LinePiece → T → Type 0} {s m t : Situation} {x : T}
+      {e g : Error} → AlternativeOk T q v s x m → OneOk s (branch_of x m) e (Err g) t → ⊥
+  one_no_refusal {s} {m} {e} i (inl o) =
+      never_untouched i (and_parts (is_untouched s m) (is_wrong_input e.0) o.0).0
+  one_no_refusal i (inr o) = let h = o.1.0 in cc
 
   -- the refusal where both paths are equally deep
-  equal_err : (s sa sb t : Situation) (g : Error) (x y : Result T Error) → IsWholeIn env s
-      → a s x sa → b s y sb → IsNotMemory x → IsNotMemory y → EqualDepths s x sa y sb (Err g) t
-      → AlternativeErr T (either qa qb) vr s g t
-  equal_err s sa sb t g (Ok x) (Ok y) w f h hf hg (inl o) = let i = o.1.0 in absurd cc
-  equal_err s sa sb t g (Ok x) (Ok y) w f h hf hg (inr o) =
+  equal_err : (s : Situation) {sa sb t : Situation} {g : Error} (x y : Result T Error)
+      → IsWholeIn env s → a s x sa → b s y sb → IsNotMemory x → IsNotMemory y
+      → EqualDepths s x sa y sb (Err g) t → AlternativeErr T (either qa qb) vr s g t
+  equal_err s (Ok x) (Ok y) w f h hf hg (inl o) = let i = o.1.0 in absurd cc
+  equal_err s {sa} {sb} {t} {g} (Ok x) (Ok y) w f h hf hg (inr o) =
       absurd (not_winner (branch_of x sa) (branch_of y sb) o.1.0 g t o.1.2)
-  equal_err s sa sb t g (Ok x) (Err e) w f h hf hg o =
-      absurd (one_no_refusal qa va s sa t x e g (la.ok s sa x w f) o)
-  equal_err s sa sb t g (Err e) (Ok y) w f h hf hg o =
-      absurd (one_no_refusal qb vb s sb t y e g (lb.ok s sb y w h) o)
-  equal_err s sa sb t g (Err e) (Err d) w f h hf hg o =
+  equal_err s {sa} (Ok x) (Err e) w f h hf hg o = absurd (one_no_refusal (la.ok s sa x w f) o)
+  equal_err s {sb} (Err e) (Ok y) w f h hf hg o = absurd (one_no_refusal (lb.ok s sb y w h) o)
+  equal_err s {sa} {sb} {g} (Err e) (Err d) w f h hf hg o =
       let given = o.0.2 in
       let same : o.0.0 ≡ g = cc in
       subst (λ z. AlternativeErr T (either qa qb) vr s g z) (sym o.1)
       (subst (λ z. AlternativeErr T (either qa qb) vr s z s) same
-      (both_failed s sa sb e d o.0.0 hf hg o.0.1 (la.err s sa e w f) (lb.err s sb d w h)))
+      (both_failed s e d hf hg o.0.1 (la.err s sa e w f) (lb.err s sb d w h)))
 
   -- a refusal of the choice is that of an alternative
   choice_err : (s t : Situation) (e : Error) → IsWholeIn env s → ChoiceOutcome a b s (Err e) t
       → AlternativeErr T (either qa qb) vr s e t
   choice_err s t e w (inl o) =
-      equal_err s o.sa o.sb t e o.a o.b w o.first_ran o.second_ran o.first_spared o.second_spared
-      (equally_deep s t (Err e) w o)
+      equal_err s o.a o.b w o.first_ran o.second_ran o.first_spared o.second_spared
+      (equally_deep w o)
   choice_err s t e w (inr o) = alternative_memory (memory_class e.0 o.0)
 
   -- a choice of two alternatives whose keys are apart is an alternative
   pub choice_law : AlternativeLaw env T (ChoiceOutcome a b) (either qa qb) (either_value qa va vb)
-  choice_law = record {
-    named = union_named qa qb (either qa qb) u;
-    ok = choice_ok;
-    err = choice_err;
-  }
+  choice_law = record { named = union_named u; ok = choice_ok; err = choice_err }

@@ -78,9 +78,9 @@ stop_test (Missing items) untouched = refl
 stop_test other untouched = refl
 
 -- a turn stops at a missing item where nothing was taken, and at what can be caught otherwise
-pub stop_class : (m : Message) (untouched : Bool) → stops_step false m untouched ≡ true
+pub stop_class : (m : Message) {untouched : Bool} → stops_step false m untouched ≡ true
     → ((class_of m ≡ OfMissing) × (untouched ≡ true)) ⊎ (class_of m ≡ Caught)
-stop_class m untouched e =
+stop_class m {untouched} e =
     by_tests (is_memory m) (is_missing m) (can_catch m)
     (sym (ap (λ b. not (is_memory m) && b) (stop_test m untouched)) ∙ e)
   where
@@ -93,9 +93,9 @@ stop_class m untouched e =
     by_tests false false false h = absurd cc
 
 -- and at nothing else
-pub no_stop_class : (m : Message) (untouched : Bool) → stops_step false m untouched ≡ false
+pub no_stop_class : (m : Message) {untouched : Bool} → stops_step false m untouched ≡ false
     → ((class_of m ≡ OfMissing) × (untouched ≡ true)) ⊎ (class_of m ≡ Caught) → ⊥
-no_stop_class m untouched e c =
+no_stop_class m {untouched} e c =
     by_tests (is_memory m) (is_missing m) (can_catch m)
     (sym (ap (λ b. not (is_memory m) && b) (stop_test m untouched)) ∙ e) c
   where
@@ -111,15 +111,15 @@ no_stop_class m untouched e c =
     by_tests false false false h (inr k) = cc
 
 -- an error at which a turn stops
-pub stops_at : (e : Error) (s m : Situation) → stops_step false e.0 (is_untouched s m) ≡ true
+pub stops_at : {e : Error} {s m : Situation} → stops_step false e.0 (is_untouched s m) ≡ true
     → Stops e s m
-stops_at e s m h = ⊎_elim
+stops_at {e} {s} {m} h = ⊎_elim
     (λ missing. nothing_found missing.0 (eqb-true (open_count m) (open_count s) missing.1))
-    (λ other. caught other) (stop_class e.0 (is_untouched s m) h)
+    (λ other. caught other) (stop_class e.0 h)
 
 -- an error at which it doesn't
-pub goes_on : (e : Error) (s m : Situation) → stops_step false e.0 (is_untouched s m) ≡ false
+pub goes_on : (e : Error) {s m : Situation} → stops_step false e.0 (is_untouched s m) ≡ false
     → Stops e s m → ⊥
-goes_on e s m h (nothing_found c same) =
-    no_stop_class e.0 (is_untouched s m) h (inl (c, eq-eqb (open_count m) (open_count s) same))
-goes_on e s m h (caught c) = no_stop_class e.0 (is_untouched s m) h (inr c)
+goes_on e {s} {m} h (nothing_found c same) =
+    no_stop_class e.0 h (inl (c, eq-eqb (open_count m) (open_count s) same))
+goes_on e h (caught c) = no_stop_class e.0 h (inr c)

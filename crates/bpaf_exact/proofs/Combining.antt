@@ -18,18 +18,18 @@ data Stands (m n g : Message) : Type 0 where
       → Stands m n g
 
 -- the first where it can't be caught, else the second
-by_catch : (m n g : Message) (b : Bool) → can_catch m ≡ b
+by_catch : {m n g : Message} (b : Bool) → can_catch m ≡ b
     → (is_missing m ≡ true → is_missing n ≡ true → ⊥) → g ≡ (if b then n else m) → Stands m n g
-by_catch m n g true e f c = second_alone f e c
-by_catch m n g false e f c = first e c
+by_catch true e f c = second_alone f e c
+by_catch false e f c = first e c
 
 -- by the kinds of the two
-stands_of : (m n g : Message) → CombinesSpared m n g → Stands m n g
-stands_of (ParseFailure failure) n g c = first refl c
-stands_of (Missing items) (Missing others) g c =
+stands_of : (m n : Message) {g : Message} → CombinesSpared m n g → Stands m n g
+stands_of (ParseFailure failure) n c = first refl c
+stands_of (Missing items) (Missing others) c =
     joined refl refl (⊎_elim (λ e. inl (ap class_of e)) (λ e. inr (ap class_of e)) c)
-stands_of m (ParseFailure failure) g c = second refl c
-stands_of m n g c = by_catch m n g (can_catch m) refl (λ e f. cc) c
+stands_of m (ParseFailure failure) c = second refl c
+stands_of m n c = by_catch (can_catch m) refl (λ e f. cc) c
 
 -- a missing item can be caught, and the others of an alternative's refusals can't
 class_tests : (a b c : Bool)
@@ -52,15 +52,15 @@ caught_of : (m : Message) → class_of m ≡ OfMissing → can_catch m ≡ true
 caught_of m e = (missing_caught m (is_missing_of m e)).1
 
 -- want of memory, or a refusal that stands for both
-stands_or_memory : (m n g : Message) → Combines m n g → (class_of g ≡ OfMemory) ⊎ Stands m n g
-stands_or_memory m n g c =
-    ⊎_elim (λ memory. inl (ap class_of memory.1)) (λ spared. inr (stands_of m n g spared.1)) c
+stands_or_memory : {m n g : Message} → Combines m n g → (class_of g ≡ OfMemory) ⊎ Stands m n g
+stands_or_memory {m} {n} c =
+    ⊎_elim (λ memory. inl (ap class_of memory.1)) (λ spared. inr (stands_of m n spared.1)) c
 
 -- two missing items are missing together
-pub combined_missing : (m n g : Message) → class_of m ≡ OfMissing → class_of n ≡ OfMissing
-    → Combines m n g → (class_of g ≡ OfMissing) ⊎ (class_of g ≡ OfMemory)
-combined_missing m n g e f c =
-    ⊎_elim (λ memory. inr memory) (λ stands. by_stands stands) (stands_or_memory m n g c)
+pub combined_missing : (m n : Message) {g : Message} → class_of m ≡ OfMissing
+    → class_of n ≡ OfMissing → Combines m n g → (class_of g ≡ OfMissing) ⊎ (class_of g ≡ OfMemory)
+combined_missing m n {g} e f c =
+    ⊎_elim (λ memory. inr memory) (λ stands. by_stands stands) (stands_or_memory c)
   where
     by_stands : Stands m n g → (class_of g ≡ OfMissing) ⊎ (class_of g ≡ OfMemory)
     by_stands (joined h i k) = k
@@ -69,13 +69,13 @@ combined_missing m n g e f c =
     by_stands (second_alone h i k) = absurd (h (is_missing_of m e) (is_missing_of n f))
 
 -- where one of two can't be caught and the other is such or a missing item, both together are such
-pub combined_refused : (m n g : Message) → (class_of m ≡ Refused) ⊎ (class_of n ≡ Refused)
+pub combined_refused : (m n : Message) {g : Message}
+    → (class_of m ≡ Refused) ⊎ (class_of n ≡ Refused)
     → (class_of m ≡ OfMissing) ⊎ (class_of m ≡ Refused)
-    → (class_of n ≡ OfMissing) ⊎ (class_of n ≡ Refused)
-    → Combines m n g → (class_of g ≡ OfMemory) ⊎ (class_of g ≡ Refused)
-combined_refused m n g one e f c =
-    ⊎_elim (λ memory. inl memory) (λ stands. inr (by_stands stands one e f))
-    (stands_or_memory m n g c)
+    → (class_of n ≡ OfMissing) ⊎ (class_of n ≡ Refused) → Combines m n g
+    → (class_of g ≡ OfMemory) ⊎ (class_of g ≡ Refused)
+combined_refused m n {g} one e f c =
+    ⊎_elim (λ memory. inl memory) (λ stands. inr (by_stands stands one e f)) (stands_or_memory c)
   where
     by_stands : Stands m n g → (class_of m ≡ Refused) ⊎ (class_of n ≡ Refused)
         → (class_of m ≡ OfMissing) ⊎ (class_of m ≡ Refused)

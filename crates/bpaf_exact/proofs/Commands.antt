@@ -31,7 +31,7 @@ use Rattle.bpaf_exact.proofs.Records.{none_counted, count_none}
 use Rattle.bpaf_exact.proofs.{Classes.memory_class, Classes.not_memory, Counts.open_present}
 
 -- Closures.
-module _ (A B : Type 0) (inner : Outcome A) (r : Roles) (value : CellsValue A) (f : Closure A B)
+module _ {A B : Type 0} (inner : Outcome A) (r : Roles) {value : CellsValue A} {f : Closure A B}
     (agrees : (cs : Cells) → AgreesOn (value cs) f) (c : ErrorClass) where
   -- what the closure makes of the values
   abbrev closed : CellsValue B
@@ -70,10 +70,10 @@ module _ (A B : Type 0) (inner : Outcome A) (r : Roles) (value : CellsValue A) (
       closed_answers l s t a u w (closed_err {e = e} i) h = l.answers s t (Err e) h.from w i h.read
 
   -- round commands
-  pub closed_commands : {env : Variables} (words : List (List ℕ))
+  pub closed_commands : {env : Variables} {words : List (List ℕ)}
       → CommandsLaw env A inner r words value
       → CommandsLaw env B (ClosedEval A B inner f c) r words closed
-  closed_commands {env} words l = record {
+  closed_commands {env} {words} l = record {
     program = closed_program l.program;
     opened = λ cs v h. l.opened cs h.from h.read;
     none = closed_none l;
@@ -99,8 +99,8 @@ pub none_opens : (words : List (List ℕ)) {cs : Cells} → NonePresent cs → O
 none_opens words no_place ds o = elim o [ ]
 none_opens words (none_here n) ds (opens_later {ds = es} o) = none_opens words n es o
 
-module _ {env : Variables} (T : Type 0) (inner : Outcome T) (r : Roles) (words : List (List ℕ))
-    (value : CellsValue T) (l : CommandsLaw env T inner r words value) where
+module _ {env : Variables} {T : Type 0} {inner : Outcome T} {r : Roles} {words : List (List ℕ)}
+    {value : CellsValue T} (l : CommandsLaw env T inner r words value) where
   -- its values
   abbrev optional : CellsValue (Option T)
   optional = OptionalCommands T value
@@ -119,45 +119,44 @@ module _ {env : Variables} (T : Type 0) (inner : Outcome T) (r : Roles) (words :
   optional_ok s t v w spelled (optional_none i stops) n = n
 
   -- want of memory stops nothing
-  memory_goes_on : (e : Error) (s m : Situation) → class e ≡ OfMemory → Stops e s m → ⊥
-  memory_goes_on e s m h (nothing_found g same) = cc
-  memory_goes_on e s m h (caught g) = cc
+  memory_goes_on : {e : Error} {s m : Situation} → class e ≡ OfMemory → Stops e s m → ⊥
+  memory_goes_on h (nothing_found g same) = cc
+  memory_goes_on h (caught g) = cc
 
   -- where a command has a value each answer is such
-  some_answers : (s t : Situation) (a : Result (Option T) Error) (x : T) → IsWholeIn env s
-      → OptionalEval T inner s a t → value (cells s) x → GivesAll (optional (cells s)) a t
-  some_answers s t a x w (optional_some {v = v} i) h =
-      l.program.answers s t (Ok v) x w i h
-  some_answers s t a x w (optional_none {e = e} {m = m} i stops) h =
-      absurd (memory_goes_on e s m (l.program.answers s m (Err e) x w i h) stops)
-  some_answers s t a x w (optional_err {e = e} i goes) h = l.program.answers s t (Err e) x w i h
-  some_answers s t a x w (optional_memory e) h = e
+  some_answers : (s : Situation) {t : Situation} {a : Result (Option T) Error} (x : T)
+      → IsWholeIn env s → OptionalEval T inner s a t → value (cells s) x
+      → GivesAll (optional (cells s)) a t
+  some_answers s {t} x w (optional_some {v = v} i) h = l.program.answers s t (Ok v) x w i h
+  some_answers s x w (optional_none {e = e} {m = m} i stops) h =
+      absurd (memory_goes_on (l.program.answers s m (Err e) x w i h) stops)
+  some_answers s {t} x w (optional_err {e = e} i goes) h = l.program.answers s t (Err e) x w i h
+  some_answers s x w (optional_memory e) h = e
 
   -- where none is found nothing stops but want of memory
-  none_stops : (s t : Situation) (e : Error) → FindsNoCommand {T = T} s (Err e) t
-      → (Stops e s t → ⊥)
-      → class e ≡ OfMemory
-  none_stops s t e (inl memory) goes = memory
-  none_stops s t e (inr found) goes =
+  none_stops : {s t : Situation} {e : Error} → FindsNoCommand {T = T} s (Err e) t
+      → (Stops e s t → ⊥) → class e ≡ OfMemory
+  none_stops (inl memory) goes = memory
+  none_stops {s} {t} (inr found) goes =
       absurd (goes (nothing_found found.0
       (open_present t ∙ ap present_count found.1 ∙ sym (open_present s))))
 
   -- where nothing is present it is None
-  none_answers : (s t : Situation) (a : Result (Option T) Error) → IsWholeIn env s
+  none_answers : {s t : Situation} {a : Result (Option T) Error} → IsWholeIn env s
       → OptionalEval T inner s a t → NonePresent (cells s) → GivesAll (optional (cells s)) a t
-  none_answers s t a w (optional_some {v = v} i) n =
+  none_answers {s} {t} w (optional_some {v = v} i) n =
       absurd (l.none s t (Ok v) w i (none_opens words n))
-  none_answers s t a w (optional_none i stops) n = (n, n)
-  none_answers s t a w (optional_err {e = e} i goes) n =
-      none_stops s t e (l.none s t (Err e) w i (none_opens words n)) goes
-  none_answers s t a w (optional_memory e) n = e
+  none_answers w (optional_none i stops) n = (n, n)
+  none_answers {s} {t} w (optional_err {e = e} i goes) n =
+      none_stops (l.none s t (Err e) w i (none_opens words n)) goes
+  none_answers w (optional_memory e) n = e
 
   -- each answer
   optional_answers : (s t : Situation) (a : Result (Option T) Error) (u : Option T)
       → IsWholeIn env s
       → OptionalEval T inner s a t → optional (cells s) u → GivesAll (optional (cells s)) a t
-  optional_answers s t a (Some x) w o h = some_answers s t a x w o h
-  optional_answers s t a None w o n = none_answers s t a w o n
+  optional_answers s t a (Some x) w o h = some_answers s x w o h
+  optional_answers s t a None w o n = none_answers w o n
 
   -- the laws
   pub optional_commands : ProgramLaw env (Option T) (OptionalEval T inner) r optional
@@ -188,11 +187,11 @@ pub opens_right : (words others : List (List ℕ)) {cs ds : Cells} → Opens oth
     → Opens (words ++ others) cs ds
 opens_right words others (opens_here {k = k} h) =
     opens_here (list_any-append (λ word. is_command_word word k) words others
-    ∙ by_test (is_one_of words k) (is_one_of others k) h)
+    ∙ by_test (is_one_of words k) h)
   where
-    by_test : (a b : Bool) → b ≡ true → (a || b) ≡ true
-    by_test true b e = refl
-    by_test false b e = e
+    by_test : (a : Bool) {b : Bool} → b ≡ true → (a || b) ≡ true
+    by_test true e = refl
+    by_test false e = e
 opens_right words others (opens_later o) = opens_later (opens_right words others o)
 
 -- words that are apart don't open the same cells
@@ -216,9 +215,10 @@ alike_same : {m t : Situation} → t ≡ m → Alike m t
 alike_same e = record { cells_alike = ap cells e; depth_alike = ap depth e }
 
 -- and where conflicts are saved
-alike_saved : (m other t : Situation) (place : ℕ) → ConflictsSaved m other place t → Alike m t
-alike_saved m other t place c = record {
-  cells_alike = cells_same m t (same_scope (saved_steady m other t place c)) c.taken;
+alike_saved : {m : Situation} (other : Situation) {t : Situation} {place : ℕ}
+    → ConflictsSaved m other place t → Alike m t
+alike_saved other c = record {
+  cells_alike = cells_same (same_scope (saved_steady other c)) c.taken;
   depth_alike = ap length c.path;
 }
 
@@ -235,55 +235,55 @@ module _ {env : Variables} (T : Type 0) (a b : Outcome T) (ra rb : Roles) (wa wb
     of_second : {m : Situation} → b s (Ok v) m → Alike m t → BranchOk s v t
 
   -- the winner's
-  of_winner : (s sa sb t : Situation) (x y v : T) (winner : Bool × Option ℕ) → a s (Ok x) sa
-      → b s (Ok y) sb → Winner (branch_of x sa) (branch_of y sb) winner (Ok v) t → BranchOk s v t
-  of_winner s sa sb t x y v (first, None) f g k =
+  of_winner : (s sa : Situation) {sb t : Situation} (x : T) {y : T} (v : T)
+      (winner : Bool × Option ℕ) → a s (Ok x) sa → b s (Ok y) sb
+      → Winner (branch_of x sa) (branch_of y sb) winner (Ok v) t → BranchOk s v t
+  of_winner s sa x v (first, None) f g k =
       let given = k.0 in
       let d : x ≡ v = cc in
       of_first (subst (λ z. a s (Ok z) sa) d f) (alike_same k.1)
-  of_winner s sa sb t x y v (true, Some p) f g k =
+  of_winner s sa {sb} x v (true, Some p) f g k =
       let given = k.0 in
       let d : x ≡ v = cc in
-      of_first (subst (λ z. a s (Ok z) sa) d f) (alike_saved sa sb t p k.1)
-  of_winner s sa sb t x y v (false, Some p) f g k =
+      of_first (subst (λ z. a s (Ok z) sa) d f) (alike_saved sb k.1)
+  of_winner s sa {sb} x {y} v (false, Some p) f g k =
       let given = k.0 in
       let d : y ≡ v = cc in
-      of_second (subst (λ z. b s (Ok z) sb) d g) (alike_saved sb sa t p k.1)
+      of_second (subst (λ z. b s (Ok z) sb) d g) (alike_saved sa k.1)
 
   -- where both are equally deep
-  of_equal : (s sa sb t : Situation) (x y : Result T Error) (v : T) → a s x sa → b s y sb
-      → EqualDepths s x sa y sb (Ok v) t → BranchOk s v t
-  of_equal s sa sb t (Ok x) (Ok y) v f g (inl o) =
+  of_equal : (s : Situation) {sa sb t : Situation} (x y : Result T Error) (v : T) → a s x sa
+      → b s y sb → EqualDepths s x sa y sb (Ok v) t → BranchOk s v t
+  of_equal s {sa} (Ok x) (Ok y) v f g (inl o) =
       let given = o.1.0 in
       let d : x ≡ v = cc in
       of_first (subst (λ z. a s (Ok z) sa) d f) (alike_same o.1.1)
-  of_equal s sa sb t (Ok x) (Ok y) v f g (inr o) = of_winner s sa sb t x y v o.1.0 f g o.1.2
-  of_equal s sa sb t (Ok x) (Err e) v f g (inl o) = let i = o.1 in absurd cc
-  of_equal s sa sb t (Ok x) (Err e) v f g (inr o) =
+  of_equal s {sa} (Ok x) (Ok y) v f g (inr o) = of_winner s sa x v o.1.0 f g o.1.2
+  of_equal s (Ok x) (Err e) v f g (inl o) = let i = o.1 in absurd cc
+  of_equal s {sa} (Ok x) (Err e) v f g (inr o) =
       let given = o.1.0 in
       let d : x ≡ v = cc in
       of_first (subst (λ z. a s (Ok z) sa) d f) (alike_same o.1.1)
-  of_equal s sa sb t (Err e) (Ok y) v f g (inl o) = let i = o.1 in absurd cc
-  of_equal s sa sb t (Err e) (Ok y) v f g (inr o) =
+  of_equal s (Err e) (Ok y) v f g (inl o) = let i = o.1 in absurd cc
+  of_equal s {sb} (Err e) (Ok y) v f g (inr o) =
       let given = o.1.0 in
       let d : y ≡ v = cc in
       of_second (subst (λ z. b s (Ok z) sb) d g) (alike_same o.1.1)
-  of_equal s sa sb t (Err e) (Err d) v f g o = let i = o.0.2 in absurd cc
+  of_equal s (Err e) (Err d) v f g o = let i = o.0.2 in absurd cc
 
   -- each
-  branch_ok : (s t : Situation) (v : T) → ChoiceOutcome a b s (Ok v) t → BranchOk s v t
-  branch_ok s t v o =
+  branch_ok : {s t : Situation} {v : T} → ChoiceOutcome a b s (Ok v) t → BranchOk s v t
+  branch_ok {s} {v} o =
       ⊎_elim (λ deeper. of_first (subst (λ z. a s z o.sa) (sym deeper.1) o.first_ran)
-      (alike_same deeper.2))
-      (λ other. ⊎_elim
+      (alike_same deeper.2)) (λ other. ⊎_elim
       (λ deeper. of_second (subst (λ z. b s z o.sb) (sym deeper.1) o.second_ran)
       (alike_same deeper.2))
-      (λ equal. of_equal s o.sa o.sb t o.a o.b v o.first_ran o.second_ran equal.1) other) o.chosen
+      (λ equal. of_equal s o.a o.b v o.first_ran o.second_ran equal.1) other) o.chosen
 
   -- the path gets no shorter
   choice_deep : (s t : Situation) (v : T) → IsWholeIn env s → ChoiceOutcome a b s (Ok v) t
       → depth s ≤ depth t
-  choice_deep s t v w o = by_branch (branch_ok s t v o)
+  choice_deep s t v w o = by_branch (branch_ok o)
     where
       by_branch : BranchOk s v t → depth s ≤ depth t
       by_branch (of_first {m = m} i e) =
@@ -294,7 +294,7 @@ module _ {env : Variables} (T : Type 0) (a b : Outcome T) (ra rb : Roles) (wa wb
   -- a value of the choice is one of the branch that was opened
   choice_ok : (s t : Situation) (v : T) → IsWholeIn env s → IsSpelledLine s.context
       → ChoiceOutcome a b s (Ok v) t → NonePresent (cells t) → value (cells s) v
-  choice_ok s t v w spelled o n = by_branch (branch_ok s t v o)
+  choice_ok s t v w spelled o n = by_branch (branch_ok o)
     where
       by_branch : BranchOk s v t → value (cells s) v
       by_branch (of_first {m = m} i e) =
@@ -303,24 +303,24 @@ module _ {env : Variables} (T : Type 0) (a b : Outcome T) (ra rb : Roles) (wa wb
           inr (lb.program.ok s m v w spelled i (subst NonePresent e.cells_alike n))
 
   -- what opens the first doesn't open the second
-  second_closed : (cs : Cells) (u : T) → va cs u → OpensNone wb cs
-  second_closed cs u h ds o = let i = la.opened cs u h in opens_apart wa wb apart i.1 o
+  second_closed : {cs : Cells} {u : T} → va cs u → OpensNone wb cs
+  second_closed {cs} {u} h ds o = let i = la.opened cs u h in opens_apart wa wb apart i.1 o
 
   -- nor the other way
-  first_closed : (cs : Cells) (u : T) → vb cs u → OpensNone wa cs
-  first_closed cs u h ds o = let i = lb.opened cs u h in opens_apart wa wb apart o i.1
+  first_closed : {cs : Cells} {u : T} → vb cs u → OpensNone wa cs
+  first_closed {cs} {u} h ds o = let i = lb.opened cs u h in opens_apart wa wb apart o i.1
 
   -- where either has a value each value of the choice is one of its
-  choice_gives : (s t : Situation) (v u : T) → IsWholeIn env s → BranchOk s v t
+  choice_gives : (s : Situation) {t : Situation} (v : T) {u : T} → IsWholeIn env s → BranchOk s v t
       → value (cells s) u → GivesAll (value (cells s)) (Ok v) t
-  choice_gives s t v u w (of_first {m = m} i e) (inl h) =
+  choice_gives s v {u} w (of_first {m = m} i e) (inl h) =
       let g = la.program.answers s m (Ok v) u w i h in
       (inl g.0, subst NonePresent (sym e.cells_alike) g.1)
-  choice_gives s t v u w (of_second {m = m} i e) (inl h) =
-      absurd (lb.none s m (Ok v) w i (second_closed (cells s) u h))
-  choice_gives s t v u w (of_first {m = m} i e) (inr h) =
-      absurd (la.none s m (Ok v) w i (first_closed (cells s) u h))
-  choice_gives s t v u w (of_second {m = m} i e) (inr h) =
+  choice_gives s v w (of_second {m = m} i e) (inl h) =
+      absurd (lb.none s m (Ok v) w i (second_closed h))
+  choice_gives s v w (of_first {m = m} i e) (inr h) =
+      absurd (la.none s m (Ok v) w i (first_closed h))
+  choice_gives s v {u} w (of_second {m = m} i e) (inr h) =
       let g = lb.program.answers s m (Ok v) u w i h in
       (inr g.0, subst NonePresent (sym e.cells_alike) g.1)
 
@@ -335,73 +335,69 @@ module _ {env : Variables} (T : Type 0) (a b : Outcome T) (ra rb : Roles) (wa wb
   passed s m e h (inr found) = found
 
   -- a missing command is no wrong input beside a value
-  no_fault : (s m t : Situation) (x : T) (e g : Error) → class e ≡ OfMissing
+  no_fault : {s m t : Situation} {x : T} {e g : Error} → class e ≡ OfMissing
       → OneOk s (branch_of x m) e (Err g) t → ⊥
-  no_fault s m t x e g c (inl o) =
+  no_fault {s} {m} {e} c (inl o) =
       true≢false (sym (and_parts (is_untouched s m) (is_wrong_input e.0) o.0).1
       ∙ missing_input e.0 (is_missing_of e.0 c))
-  no_fault s m t x e g c (inr o) = let h = o.1.0 in cc
+  no_fault c (inr o) = let h = o.1.0 in cc
 
   -- where the first has a value no refusal is chosen
-  first_fails : (s sa sb t : Situation) (x y : Result T Error) (g : Error) (u : T) → IsWholeIn env s
-      → a s x sa → b s y sb → IsNotMemory x → IsNotMemory y
+  first_fails : (s : Situation) {sa sb t : Situation} (x y : Result T Error) {g : Error} {u : T}
+      → IsWholeIn env s → a s x sa → b s y sb → IsNotMemory x → IsNotMemory y
       → Chosen s x sa y sb (Err g) t → va (cells s) u → ⊥
-  first_fails s sa sb t (Err d) y g u w i j hx hy chosen h =
+  first_fails s {sa} (Err d) y {u} w i j hx hy chosen h =
       not_memory d.0 hx (la.program.answers s sa (Err d) u w i h)
-  first_fails s sa sb t (Ok x) (Ok y) g u w i j hx hy chosen h =
-      lb.none s sb (Ok y) w j (second_closed (cells s) u h)
-  first_fails s sa sb t (Ok x) (Err e) g u w i j hx hy (inl deeper) h =
-      let k = deeper.1 in absurd cc
-  first_fails s sa sb t (Ok x) (Err e) g u w i j hx hy (inr (inl deeper)) h =
-      let k = passed s sb e hy (lb.none s sb (Err e) w j (second_closed (cells s) u h)) in
+  first_fails s {sb} (Ok x) (Ok y) w i j hx hy chosen h = lb.none s sb (Ok y) w j (second_closed h)
+  first_fails s (Ok x) (Err e) w i j hx hy (inl deeper) h = let k = deeper.1 in absurd cc
+  first_fails s {sa} {sb} (Ok x) (Err e) w i j hx hy (inr (inl deeper)) h =
+      let k = passed s sb e hy (lb.none s sb (Err e) w j (second_closed h)) in
       let same = ap length k.2 in
       let less = la.program.deep s sa x w i in
       let more = deeper.0 in
       absurd (omega arith)
-  first_fails s sa sb t (Ok x) (Err e) g u w i j hx hy (inr (inr equal)) h =
-      let k = passed s sb e hy (lb.none s sb (Err e) w j (second_closed (cells s) u h)) in
-      no_fault s sa t x e g k.0 equal.1
+  first_fails s {sb} (Ok x) (Err e) w i j hx hy (inr (inr equal)) h =
+      let k = passed s sb e hy (lb.none s sb (Err e) w j (second_closed h)) in
+      no_fault k.0 equal.1
 
   -- nor where the second has
-  second_fails : (s sa sb t : Situation) (x y : Result T Error) (g : Error) (u : T)
+  second_fails : (s : Situation) {sa sb t : Situation} (x y : Result T Error) {g : Error} {u : T}
       → IsWholeIn env s → a s x sa → b s y sb → IsNotMemory x → IsNotMemory y
       → Chosen s x sa y sb (Err g) t → vb (cells s) u → ⊥
-  second_fails s sa sb t x (Err d) g u w i j hx hy chosen h =
+  second_fails s {sb} x (Err d) {u} w i j hx hy chosen h =
       not_memory d.0 hy (lb.program.answers s sb (Err d) u w j h)
-  second_fails s sa sb t (Ok x) (Ok y) g u w i j hx hy chosen h =
-      la.none s sa (Ok x) w i (first_closed (cells s) u h)
-  second_fails s sa sb t (Err e) (Ok y) g u w i j hx hy (inl deeper) h =
-      let k = passed s sa e hx (la.none s sa (Err e) w i (first_closed (cells s) u h)) in
+  second_fails s {sa} (Ok x) (Ok y) w i j hx hy chosen h = la.none s sa (Ok x) w i (first_closed h)
+  second_fails s {sa} {sb} (Err e) (Ok y) w i j hx hy (inl deeper) h =
+      let k = passed s sa e hx (la.none s sa (Err e) w i (first_closed h)) in
       let same = ap length k.2 in
       let less = lb.program.deep s sb y w j in
       let more = deeper.0 in
       absurd (omega arith)
-  second_fails s sa sb t (Err e) (Ok y) g u w i j hx hy (inr (inl deeper)) h =
-      let k = deeper.1 in absurd cc
-  second_fails s sa sb t (Err e) (Ok y) g u w i j hx hy (inr (inr equal)) h =
-      let k = passed s sa e hx (la.none s sa (Err e) w i (first_closed (cells s) u h)) in
-      no_fault s sb t y e g k.0 equal.1
+  second_fails s (Err e) (Ok y) w i j hx hy (inr (inl deeper)) h = let k = deeper.1 in absurd cc
+  second_fails s {sa} (Err e) (Ok y) w i j hx hy (inr (inr equal)) h =
+      let k = passed s sa e hx (la.none s sa (Err e) w i (first_closed h)) in
+      no_fault k.0 equal.1
 
   -- each answer
   choice_answers : (s t : Situation) (r : Result T Error) (u : T) → IsWholeIn env s
       → ChoiceOutcome a b s r t → value (cells s) u → GivesAll (value (cells s)) r t
-  choice_answers s t (Ok v) u w o h = choice_gives s t v u w (branch_ok s t v o) h
+  choice_answers s t (Ok v) u w o h = choice_gives s v w (branch_ok o) h
   choice_answers s t (Err e) u w (inr o) h = memory_class e.0 o.0
   choice_answers s t (Err e) u w (inl o) (inl h) =
-      absurd (first_fails s o.sa o.sb t o.a o.b e u w o.first_ran o.second_ran o.first_spared
+      absurd (first_fails s o.a o.b w o.first_ran o.second_ran o.first_spared
       o.second_spared o.chosen h)
   choice_answers s t (Err e) u w (inl o) (inr h) =
-      absurd (second_fails s o.sa o.sb t o.a o.b e u w o.first_ran o.second_ran o.first_spared
+      absurd (second_fails s o.a o.b w o.first_ran o.second_ran o.first_spared
       o.second_spared o.chosen h)
 
   -- where no word opens anything
-  none_chosen : (s sa sb t : Situation) (x y : Result T Error) (g : Error) → IsWholeIn env s
-      → a s x sa → b s y sb → IsNotMemory x → IsNotMemory y → OpensNone wa (cells s)
-      → OpensNone wb (cells s) → Chosen s x sa y sb (Err g) t → FindsNoCommand {T = T} s (Err g) t
-  none_chosen s sa sb t (Ok x) y g w i j hx hy na nb chosen = absurd (la.none s sa (Ok x) w i na)
-  none_chosen s sa sb t (Err d) (Ok y) g w i j hx hy na nb chosen =
-      absurd (lb.none s sb (Ok y) w j nb)
-  none_chosen s sa sb t (Err d) (Err e) g w i j hx hy na nb chosen =
+  none_chosen : (s : Situation) {sa sb t : Situation} (x y : Result T Error) {g : Error}
+      → IsWholeIn env s → a s x sa → b s y sb → IsNotMemory x → IsNotMemory y
+      → OpensNone wa (cells s) → OpensNone wb (cells s) → Chosen s x sa y sb (Err g) t
+      → FindsNoCommand {T = T} s (Err g) t
+  none_chosen s {sa} (Ok x) y w i j hx hy na nb chosen = absurd (la.none s sa (Ok x) w i na)
+  none_chosen s {sb} (Err d) (Ok y) w i j hx hy na nb chosen = absurd (lb.none s sb (Ok y) w j nb)
+  none_chosen s {sa} {sb} {t} (Err d) (Err e) {g} w i j hx hy na nb chosen =
       let k = passed s sa d hx (la.none s sa (Err d) w i na) in
       let l = passed s sb e hy (lb.none s sb (Err e) w j nb) in
       by_depth k l chosen
@@ -424,13 +420,12 @@ module _ {env : Variables} (T : Type 0) (a b : Outcome T) (ra rb : Roles) (wa wb
           let same : o.0.0 ≡ g = cc in
           ⊎_elim
           (λ missing. inr (ap class (sym same) ∙ missing, ap cells o.1, ap (λ z. z.path) o.1))
-          (λ memory. inl (ap class (sym same) ∙ memory))
-          (combined_missing d.0 e.0 o.0.0.0 k.0 l.0 o.0.1)
+          (λ memory. inl (ap class (sym same) ∙ memory)) (combined_missing d.0 e.0 k.0 l.0 o.0.1)
 
   -- it is missing
   choice_none : (s t : Situation) (r : Result T Error) → IsWholeIn env s → ChoiceOutcome a b s r t
       → OpensNone (wa ++ wb) (cells s) → FindsNoCommand s r t
-  choice_none s t (Ok v) w o n = by_branch (branch_ok s t v o)
+  choice_none s t (Ok v) w o n = by_branch (branch_ok o)
     where
       by_branch : BranchOk s v t → ⊥
       by_branch (of_first {m = m} i e) = la.none s m (Ok v) w i (λ ds p. n ds (opens_left wa wb p))
@@ -438,7 +433,7 @@ module _ {env : Variables} (T : Type 0) (a b : Outcome T) (ra rb : Roles) (wa wb
           lb.none s m (Ok v) w i (λ ds p. n ds (opens_right wa wb p))
   choice_none s t (Err e) w (inr o) n = inl (memory_class e.0 o.0)
   choice_none s t (Err e) w (inl o) n =
-      none_chosen s o.sa o.sb t o.a o.b e w o.first_ran o.second_ran o.first_spared o.second_spared
+      none_chosen s o.a o.b w o.first_ran o.second_ran o.first_spared o.second_spared
       (λ ds p. n ds (opens_left wa wb p)) (λ ds p. n ds (opens_right wa wb p)) o.chosen
 
   -- the laws
@@ -446,8 +441,8 @@ module _ {env : Variables} (T : Type 0) (a b : Outcome T) (ra rb : Roles) (wa wb
   choice_commands = record {
     program = record {
       others = λ q n p cs v s h. by_others q
-          (λ u g. la.program.others q n (apart_first q ra rb p) cs u s g)
-          (λ u g. lb.program.others q n (apart_second q ra rb p) cs u s g) h;
+          (λ u g. la.program.others q n (apart_first rb p) cs u s g)
+          (λ u g. lb.program.others q n (apart_second ra p) cs u s g) h;
       deep = choice_deep;
       ok = choice_ok;
       answers = choice_answers;
@@ -475,29 +470,28 @@ module _ (V : Type 0) (outcome : Outcome V) (r : Roles) (value : CellsValue V)
   s = beginning context
 
   -- a value comes only where it is one of the program's
-  pub program_sound : IsSpelledLine context → (a : RunAnswer V) → RunRan V outcome s a → (v : V)
+  pub program_sound : IsSpelledLine context → {a : RunAnswer V} → RunRan V outcome s a → (v : V)
       → a ≡ Accepted v → value (line_cells context) v
-  program_sound spelled a (run_value {v = x} {t = t} o e) v h =
+  program_sound spelled (run_value {v = x} {t = t} o e) v h =
       let d : x ≡ v = cc in
-      subst (λ cs. value cs v) (first_cells_are context)
-      (subst (value (cells s)) d
+      subst (λ cs. value cs v) (first_cells_are context) (subst (value (cells s)) d
       (l.ok s t x (all_whole context) spelled o
       (none_counted (cells t) (sym (open_present t) ∙ e))))
-  program_sound spelled a (run_leftover o e n) v h = absurd (no_value a v n h)
-  program_sound spelled a (run_memory o e) v h = absurd cc
-  program_sound spelled a (run_refusal o e n) v h = absurd (no_value a v n h)
+  program_sound spelled {a} (run_leftover o e n) v h = absurd (no_value a n h)
+  program_sound spelled (run_memory o e) v h = absurd cc
+  program_sound spelled {a} (run_refusal o e n) v h = absurd (no_value a n h)
 
   -- where it has a value, each answer is one, or want of memory
-  pub program_complete : (a : RunAnswer V) → RunRan V outcome s a → (u : V)
+  pub program_complete : {a : RunAnswer V} → RunRan V outcome s a → (u : V)
       → value (line_cells context) u → IsAcceptedOrWant (value (line_cells context)) a
-  program_complete a (run_value {v = x} {t = t} o e) u h =
+  program_complete (run_value {v = x} {t = t} o e) u h =
       subst (λ cs. value cs x) (first_cells_are context)
       (l.answers s t (Ok x) u (all_whole context) o
       (subst (λ cs. value cs u) (sym (first_cells_are context)) h)).0
-  program_complete a (run_leftover {v = x} {t = t} o e n) u h =
+  program_complete (run_leftover {v = x} {t = t} o e n) u h =
       absurd (e (open_present t ∙ count_none (l.answers s t (Ok x) u (all_whole context) o
       (subst (λ cs. value cs u) (sym (first_cells_are context)) h)).1))
-  program_complete a (run_memory o e) u h = tt
-  program_complete a (run_refusal {e = x} {t = t} o e n) u h =
+  program_complete (run_memory o e) u h = tt
+  program_complete (run_refusal {e = x} {t = t} o e n) u h =
       absurd (e (l.answers s t (Err x) u (all_whole context) o
       (subst (λ cs. value cs u) (sym (first_cells_are context)) h)))

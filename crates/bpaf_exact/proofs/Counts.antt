@@ -12,24 +12,24 @@ use Rattle.bpaf_exact.specs.Pieces.{takes_later, TakesPieces, takes_none, takes_
 use Rattle.bpaf_exact.specs.{Flat.cells, Flat.first_cells, Single.present_count, Single.TakesAny}
 
 -- a piece taken leaves fewer items
-pub takes_fewer : (q : Roles) {cs ds : Cells} {o : LinePiece} → TakesPiece q cs o ds
+pub takes_fewer : {q : Roles} {cs ds : Cells} {o : LinePiece} → TakesPiece q cs o ds
     → present_count ds < present_count cs
-takes_fewer q (takes_one e) = omega arith
-takes_fewer q (takes_two e v) = omega arith
-takes_fewer q (takes_later {c = None} t) = takes_fewer q t
-takes_fewer q (takes_later {c = Some x} t) = let i = takes_fewer q t in omega arith
+takes_fewer (takes_one e) = omega arith
+takes_fewer (takes_two e v) = omega arith
+takes_fewer (takes_later {c = None} t) = takes_fewer t
+takes_fewer (takes_later {c = Some x} t) = let i = takes_fewer t in omega arith
 
 -- some pieces taken leave no more
-pub takes_some_fewer : (q : Roles) {cs ds : Cells} → TakesPieces q cs ds
+pub takes_some_fewer : {q : Roles} {cs ds : Cells} → TakesPieces q cs ds
     → present_count ds ≤ present_count cs
-takes_some_fewer q takes_none = omega arith
-takes_some_fewer q (takes_more t more) = let i = takes_fewer q t in let j =
-    takes_some_fewer q more in omega arith
+takes_some_fewer takes_none = omega arith
+takes_some_fewer (takes_more t more) =
+    let i = takes_fewer t in let j = takes_some_fewer more in omega arith
 
 -- at least one piece taken leaves fewer
-pub takes_any_fewer : (q : Roles) {cs ds : Cells} → TakesAny q cs ds
+pub takes_any_fewer : {q : Roles} {cs ds : Cells} → TakesAny q cs ds
     → present_count ds < present_count cs
-takes_any_fewer q t = let i = takes_fewer q t.one in let j = takes_some_fewer q t.more in
+takes_any_fewer t = let i = takes_fewer t.one in let j = takes_some_fewer t.more in
     omega arith
 
 -- the count of a set of places, with the first place set apart
@@ -38,16 +38,15 @@ count_first : (set : ℕ → Bool) (n : ℕ) → count_below set (suc n)
     (λ p. set (suc p)) n)
 count_first set zero = refl
 count_first set (suc n) =
-    by_test (set (suc n)) (set zero) (count_below set (suc n)) (count_below (λ p. set (suc p)) n)
-    (count_first set n)
+    by_test (set (suc n)) (set zero) (count_below (λ p. set (suc p)) n) (count_first set n)
   where
-    by_test : (last first : Bool) (a b : ℕ) → a ≡ (if first then (b + 1) else b)
-        → (if last then (a + 1) else a)
-        ≡ (if first then ((if last then (b + 1) else b) + 1) else (if last then (b + 1) else b))
-    by_test true true a b e = omega arith
-    by_test true false a b e = omega arith
-    by_test false true a b e = e
-    by_test false false a b e = e
+    by_test : (last first : Bool) {a : ℕ} (b : ℕ) → a ≡ (if first then (b + 1) else b)
+        → (if last then (a + 1) else a) ≡ (if first then ((if last then (b + 1) else b) + 1) else
+        (if last then (b + 1) else b))
+    by_test true true b e = omega arith
+    by_test true false b e = omega arith
+    by_test false true b e = e
+    by_test false false b e = e
 
 -- the places at which something stands are as many as the items there
 count_cells : (at : ℕ → Option Arg) (n : ℕ)

@@ -10,29 +10,28 @@ use Rattle.bpaf_exact.specs.Pieces.{other_stays, takes_flag, takes_argument}
 use Rattle.bpaf_exact.proofs.Cells.{word_foreign}
 
 -- two cuts of the same cells are one
-pub one_cut : (r : Roles) (cs : Cells) (os ps : List LinePiece) → IsNamed r → Cut r cs os
+pub one_cut : {r : Roles} {cs : Cells} {os ps : List LinePiece} → IsNamed r → Cut r cs os
     → Cut r cs ps → os ≡ ps
-one_cut r cs os ps n at_end at_end = refl
-one_cut r cs os ps n (passed c) (passed d) = one_cut r _ _ _ n c d
-one_cut r cs os ps n (flag {k = k} e c) (flag f d) = ap (λ z. One k ∷ z) (one_cut r _ _ _ n c d)
-one_cut r cs os ps n (flag e c) (argument f v d) = cc
-one_cut r cs os ps n (flag {k = k} e c) (word h d) = let f = word_foreign r k n h in cc
-one_cut r cs os ps n (argument e v c) (flag f d) = cc
-one_cut r cs os ps n (argument {k = k} {w = w} e v c) (argument f u d) =
-    ap (λ z. Two k w ∷ z) (one_cut r _ _ _ n c d)
-one_cut r cs os ps n (argument {k = k} e v c) (word h d) = let f = word_foreign r k n h in cc
-one_cut r cs os ps n (word {w = k} h c) (flag e d) = let f = word_foreign r k n h in cc
-one_cut r cs os ps n (word {w = k} h c) (argument e v d) = let f = word_foreign r k n h in cc
-one_cut r cs os ps n (word {w = w} h c) (word g d) = ap (λ z. One w ∷ z) (one_cut r _ _ _ n c d)
+one_cut n at_end at_end = refl
+one_cut n (passed c) (passed d) = one_cut n c d
+one_cut n (flag {k = k} e c) (flag f d) = ap (λ z. One k ∷ z) (one_cut n c d)
+one_cut n (flag e c) (argument f v d) = cc
+one_cut n (flag e c) (word h d) = let f = word_foreign n h in cc
+one_cut n (argument e v c) (flag f d) = cc
+one_cut n (argument {k = k} {w = w} e v c) (argument f u d) = ap (λ z. Two k w ∷ z) (one_cut n c d)
+one_cut n (argument e v c) (word h d) = let f = word_foreign n h in cc
+one_cut n (word h c) (flag e d) = let f = word_foreign n h in cc
+one_cut n (word h c) (argument e v d) = let f = word_foreign n h in cc
+one_cut n (word {w = w} h c) (word g d) = ap (λ z. One w ∷ z) (one_cut n c d)
 
 -- where nothing is left, the pieces taken are those of a cut
-cut_of : (r : Roles) {cs ds : Cells} {os : List LinePiece} → Takes (either r word_roles) cs os ds
+cut_of : {r : Roles} {cs ds : Cells} {os : List LinePiece} → Takes (either r word_roles) cs os ds
     → NonePresent ds → Cut r cs os
-cut_of r no_cells no_place = at_end
-cut_of r (empty_stays t) (none_here n) = passed (cut_of r t n)
-cut_of r (other_stays e t) none = elim none [ ]
-cut_of r (takes_flag {k = k} {cs = cs} {os = os} e t) (none_here n) =
-    by_role (r k) (is_positional k) refl refl e (cut_of r t n)
+cut_of no_cells no_place = at_end
+cut_of (empty_stays t) (none_here n) = passed (cut_of t n)
+cut_of (other_stays e t) none = elim none [ ]
+cut_of {r} (takes_flag {k = k} {cs = cs} {os = os} e t) (none_here n) =
+    by_role (r k) (is_positional k) refl refl e (cut_of t n)
   where
     by_role : (x : Role) (b : Bool) → r k ≡ x → is_positional k ≡ b
         → (if is_own_role x then x else if b then Alone else Foreign) ≡ Alone → Cut r cs os
@@ -41,8 +40,8 @@ cut_of r (takes_flag {k = k} {cs = cs} {os = os} e t) (none_here n) =
     by_role Foreign false f h e c = absurd cc
     by_role Alone b f h e c = flag f c
     by_role WithNext b f h e c = absurd cc
-cut_of r (takes_argument {k = k} {w = w} e v t) (none_here (none_here n)) =
-    argument (by_role (r k) (is_positional k) e) v (cut_of r t n)
+cut_of {r} (takes_argument {k = k} e v t) (none_here (none_here n)) =
+    argument (by_role (r k) (is_positional k) e) v (cut_of t n)
   where
     by_role : (x : Role) (b : Bool)
         → (if is_own_role x then x else if b then Alone else Foreign) ≡ WithNext → x ≡ WithNext
@@ -54,38 +53,37 @@ cut_of r (takes_argument {k = k} {w = w} e v t) (none_here (none_here n)) =
 -- a value is read off a cut
 pub read_cut : {V : Type 0} {r : Roles} {value : List LinePiece → V → Type 0} {cs : Cells} {v : V}
     → (h : ReadOff V r value cs v) → Cut r cs h.cut_into
-read_cut {r = r} h = cut_of r h.cut h.none_left
+read_cut h = cut_of h.cut h.none_left
 
 -- the pieces of a cut are taken, and nothing is left
-taken_of : (r : Roles) → IsNamed r → {cs : Cells} {os : List LinePiece} → Cut r cs os
+taken_of : {r : Roles} → IsNamed r → {cs : Cells} {os : List LinePiece} → Cut r cs os
     → (ds : Cells) × Takes (either r word_roles) cs os ds × NonePresent ds
-taken_of r n at_end = ([], no_cells, no_place)
-taken_of r n (passed c) =
-    let i = taken_of r n c in (None ∷ i.0, empty_stays i.1, none_here i.2)
-taken_of r n (flag {k = k} e c) =
-    let i = taken_of r n c in (
+taken_of n at_end = ([], no_cells, no_place)
+taken_of n (passed c) = let i = taken_of n c in (None ∷ i.0, empty_stays i.1, none_here i.2)
+taken_of n (flag {k = k} e c) =
+    let i = taken_of n c in (
       None ∷ i.0,
       takes_flag (ap (λ x. if is_own_role x then x else word_roles k) e) i.1,
       none_here i.2,
     )
-taken_of r n (argument {k = k} e v c) =
-    let i = taken_of r n c in (
+taken_of n (argument {k = k} e v c) =
+    let i = taken_of n c in (
       None ∷ (None ∷ i.0),
       takes_argument (ap (λ x. if is_own_role x then x else word_roles k) e) v i.1,
       none_here (none_here i.2),
     )
-taken_of r n (word {w = w} h c) =
-    let i = taken_of r n c in (
+taken_of n (word {w = w} h c) =
+    let i = taken_of n c in (
       None ∷ i.0,
-      takes_flag (ap (λ x. if is_own_role x then x else word_roles w) (word_foreign r w n h)
+      takes_flag (ap (λ x. if is_own_role x then x else word_roles w) (word_foreign n h)
           ∙ ap (λ b. if b then Alone else Foreign) h) i.1,
       none_here i.2,
     )
 
 -- what is meant by the pieces of a cut is read off
-pub read_off : {V : Type 0} (r : Roles) (value : List LinePiece → V → Type 0) {cs : Cells}
+pub read_off : {V : Type 0} {r : Roles} (value : List LinePiece → V → Type 0) {cs : Cells}
     {os : List LinePiece} {v : V} → IsNamed r → Cut r cs os → value os v → ReadOff V r value cs v
-read_off r value {os = os} n c read = let i = taken_of r n c in record {
+read_off value {os = os} n c read = let i = taken_of n c in record {
   cut_into = os;
   left_cells = i.0;
   cut = i.1;

@@ -33,75 +33,72 @@ open_at_first context p l =
 -- the cells with which parsing begins are those of the line
 pub first_cells_are : (context : Context) → cells (beginning context) ≡ line_cells context
 unfolding cells
-first_cells_are context =
-    same_cells (open_item (beginning context)) (item_in context) (length context.line)
-    (open_at_first context)
+first_cells_are context = same_cells (item_in context) (length context.line) (open_at_first context)
 
 -- at the beginning the scope is the whole line
 pub all_whole : (context : Context) → IsWholeIn context.env (beginning context)
 all_whole context = record { end = refl; front = λ p l. absurd (omega arith); environment = refl }
 
 -- no value is none
-pub no_value : {V : Type 0} (a : RunAnswer V) (v : V) → IsNoValue a → a ≡ Accepted v → ⊥
-no_value (Accepted x) v n h = n
-no_value _ v n h = cc
+pub no_value : {V : Type 0} (a : RunAnswer V) {v : V} → IsNoValue a → a ≡ Accepted v → ⊥
+no_value (Accepted x) n h = n
+no_value _ n h = cc
 
-module _ (V : Type 0) (outcome : Outcome V) (r : Roles) (reading : FieldsReading V)
+module _ {V : Type 0} {outcome : Outcome V} {r : Roles} {reading : FieldsReading V}
     (context : Context) (l : FieldsLaw context.env V outcome r reading) where
   -- the situation at the beginning
   abbrev s : Situation
   s = beginning context
 
   -- where no item is counted none is present
-  nothing_left : (t : Situation) (v : V) → outcome s (Ok v) t → open_count t ≡ 0
+  nothing_left : {t : Situation} {v : V} → outcome s (Ok v) t → open_count t ≡ 0
       → NonePresent (cells t)
-  nothing_left t v o e = none_counted (cells t) (sym (open_present t) ∙ e)
+  nothing_left {t} o e = none_counted (cells t) (sym (open_present t) ∙ e)
 
   -- and the other way
-  counts_none : (t : Situation) (v : V) → outcome s (Ok v) t → NonePresent (cells t)
+  counts_none : (t : Situation) {v : V} → outcome s (Ok v) t → NonePresent (cells t)
       → open_count t ≡ 0
-  counts_none t v o n = open_present t ∙ count_none n
+  counts_none t o n = open_present t ∙ count_none n
 
   -- what is read off the first cells is read off the line
-  to_line : (v : V) → ReadOff V r reading.value (cells s) v → RecordValue r reading.value context v
-  to_line v h = subst (λ cs. ReadOff V r reading.value cs v) (first_cells_are context) h
+  to_line : {v : V} → ReadOff V r reading.value (cells s) v → RecordValue r reading.value context v
+  to_line {v} h = subst (λ cs. ReadOff V r reading.value cs v) (first_cells_are context) h
 
   -- a cut of the line is one of the first cells
-  from_line : (os : List LinePiece) → Cut r (line_cells context) os → Cut r (cells s) os
-  from_line os c = subst (λ cs. Cut r cs os) (sym (first_cells_are context)) c
+  from_line : {os : List LinePiece} → Cut r (line_cells context) os → Cut r (cells s) os
+  from_line {os} c = subst (λ cs. Cut r cs os) (sym (first_cells_are context)) c
 
   -- a value comes only where it is one of the record's
-  sound : (a : RunAnswer V) → RunRan V outcome s a → (v : V) → a ≡ Accepted v
+  sound : {a : RunAnswer V} → RunRan V outcome s a → (v : V) → a ≡ Accepted v
       → RecordValue r reading.value context v
-  sound a (run_value {v = x} {t = t} o e) v h =
+  sound (run_value {v = x} {t = t} o e) v h =
       let d : x ≡ v = cc in
-      let i = l.ok s t x (all_whole context) o (nothing_left t x o e) in
-      subst (λ z. RecordValue r reading.value context z) d (to_line x i)
-  sound a (run_leftover o e n) v h = absurd (no_value a v n h)
-  sound a (run_memory o e) v h = absurd cc
-  sound a (run_refusal o e n) v h = absurd (no_value a v n h)
+      let i = l.ok s t x (all_whole context) o (nothing_left o e) in
+      subst (λ z. RecordValue r reading.value context z) d (to_line i)
+  sound {a} (run_leftover o e n) v h = absurd (no_value a n h)
+  sound (run_memory o e) v h = absurd cc
+  sound {a} (run_refusal o e n) v h = absurd (no_value a n h)
 
   -- where each field has a value, each answer is one of the record's, or want of memory
-  complete : (a : RunAnswer V) → RunRan V outcome s a → (os : List LinePiece)
+  complete : {a : RunAnswer V} → RunRan V outcome s a → (os : List LinePiece)
       → Cut r (line_cells context) os → reading.each os
       → IsAcceptedOrWant (λ w. RecordValue r reading.value context w) a
-  complete a (run_value {v = x} {t = t} o e) os c h =
-      to_line x (l.ok s t x (all_whole context) o (nothing_left t x o e))
-  complete a (run_leftover {v = x} {t = t} o e n) os c h =
-      absurd (e (counts_none t x o (l.takes_all s t x os (all_whole context) o (from_line os c) h)))
-  complete a (run_memory o e) os c h = tt
-  complete a (run_refusal {e = x} {t = t} o e n) os c h =
-      absurd (e (l.refuses s t x os (all_whole context) o (from_line os c) h))
+  complete (run_value {v = x} {t = t} o e) os c h =
+      to_line (l.ok s t x (all_whole context) o (nothing_left o e))
+  complete (run_leftover {v = x} {t = t} o e n) os c h =
+      absurd (e (counts_none t o (l.takes_all s t x os (all_whole context) o (from_line c) h)))
+  complete (run_memory o e) os c h = tt
+  complete (run_refusal {e = x} {t = t} o e n) os c h =
+      absurd (e (l.refuses s t x os (all_whole context) o (from_line c) h))
 
   -- where one has none, no answer is a value: the line has one cut
-  refused : (a : RunAnswer V) → RunRan V outcome s a → (os : List LinePiece)
+  refused : {a : RunAnswer V} → RunRan V outcome s a → (os : List LinePiece)
       → Cut r (line_cells context) os → ¬ (reading.each os) → (v : V) → ¬ (a ≡ Accepted v)
-  refused a ran os c none v h =
-      let i = sound a ran v h in
-      none (subst reading.each (one_cut r _ i.cut_into os l.named (read_cut i) c)
-      (l.has_each i.cut_into v i.read))
+  refused ran os c none v h =
+      let i = sound ran v h in
+      none (subst reading.each (one_cut l.named (read_cut i) c) (l.has_each i.cut_into v i.read))
 
   -- THE THEOREM: on every line each answer of a run is a value of the record, want of memory, or a
   -- refusal where the record has no value.
-  pub exact : (a : RunAnswer V) → RunRan V outcome s a → IsExact V r reading context a
-  exact a ran = record { sound = sound a ran; complete = complete a ran; refused = refused a ran }
+  pub exact : {a : RunAnswer V} → RunRan V outcome s a → IsExact V r reading context a
+  exact ran = record { sound = sound ran; complete = complete ran; refused = refused ran }

@@ -12,22 +12,22 @@ use Rattle.bpaf_exact.proofs.Cells.{value_foreign, nil_rest, nil_foreign, keeps_
 use Rattle.bpaf_exact.proofs.Cells.{begin_at}
 
 -- taking the first piece is taking one
-pub first_takes : (q : Roles) {cs ds : Cells} {o : LinePiece} → TakesFirst q cs o ds
+pub first_takes : {q : Roles} {cs ds : Cells} {o : LinePiece} → TakesFirst q cs o ds
     → TakesPiece q cs o ds
-first_takes q (first_one e) = takes_one e
-first_takes q (first_two e v) = takes_two e v
-first_takes q (first_later n t) = takes_later (first_takes q t)
+first_takes (first_one e) = takes_one e
+first_takes (first_two e v) = takes_two e v
+first_takes (first_later n t) = takes_later (first_takes t)
 
 -- a key with a value next to it
 two_next : (k w : Arg) (cs : Cells) → is_value w ≡ true → with_next k (Some w ∷ cs) ≡ Two k w
 two_next k w cs v = ap (λ b. if b then Two k w else One k) v
 
 -- a key and its value are one piece
-pub pair_pieces : (q : Roles) (k w : Arg) (cs : Cells) → IsNamed q → q k ≡ WithNext
+pub pair_pieces : {q : Roles} {k w : Arg} (cs : Cells) → IsNamed q → q k ≡ WithNext
     → is_value w ≡ true → pieces q (Some k ∷ (Some w ∷ cs)) ≡ Two k w ∷ pieces q cs
-pair_pieces q k w cs n e v =
+pair_pieces {q} {k} {w} cs n e v =
     let a = begin_at k (Some w ∷ cs) (pieces q (Some w ∷ cs)) e in
-    let b = begin_at w cs (pieces q cs) (value_foreign q w n v) in
+    let b = begin_at w cs (pieces q cs) (value_foreign n v) in
     let c = two_next k w cs v in
     cc
 
@@ -35,7 +35,7 @@ pair_pieces q k w cs n e v =
 pub first_pieces : (q : Roles) {cs ds : Cells} {o : LinePiece} → IsNamed q → TakesFirst q cs o ds
     → pieces q cs ≡ o ∷ pieces q ds
 first_pieces q n (first_one {k = k} {cs = cs} e) = begin_at k cs (pieces q cs) e
-first_pieces q n (first_two {k = k} {w = w} {cs = cs} e v) = pair_pieces q k w cs n e v
+first_pieces q n (first_two {cs = cs} e v) = pair_pieces cs n e v
 first_pieces q n (first_later {c = None} h t) = first_pieces q n t
 first_pieces q n (first_later {c = Some k} {cs = cs} {ds = ds} h t) =
     let a = begin_at k cs (pieces q cs) h in
@@ -44,48 +44,47 @@ first_pieces q n (first_later {c = Some k} {cs = cs} {ds = ds} h t) =
     cc
 
 -- what was taken was there
-pub takes_nonempty : (q : Roles) {cs ds : Cells} {o : LinePiece} → TakesPiece q cs o ds
+pub takes_nonempty : {q : Roles} {cs ds : Cells} {o : LinePiece} → TakesPiece q cs o ds
     → pieces q cs ≡ [] → ⊥
-takes_nonempty q (takes_one {k = k} {cs = cs} e) h = let f =
-    nil_foreign (q k) k cs (pieces q cs) h in cc
-takes_nonempty q (takes_two {k = k} {w = w} {cs = cs} e v) h = let f =
-    nil_foreign (q k) k (Some w ∷ cs) (pieces q (Some w ∷ cs)) h in cc
-takes_nonempty q (takes_later {c = None} t) h = takes_nonempty q t h
-takes_nonempty q (takes_later {c = Some k} {cs = cs} t) h =
-    takes_nonempty q t (nil_rest (q k) k cs (pieces q cs) h)
+takes_nonempty {q} (takes_one {k = k} {cs = cs} e) h =
+    let f = nil_foreign (q k) k cs (pieces q cs) h in cc
+takes_nonempty {q} (takes_two {k = k} {w = w} {cs = cs} e v) h =
+    let f = nil_foreign (q k) k (Some w ∷ cs) (pieces q (Some w ∷ cs)) h in cc
+takes_nonempty (takes_later {c = None} t) h = takes_nonempty t h
+takes_nonempty {q} (takes_later {c = Some k} {cs = cs} t) h =
+    takes_nonempty t (nil_rest (q k) k cs h)
 
 -- A piece that can't be read stays one when others are given back.
 
-module _ (T : Type 0) (value : LinePiece → T → Type 0) where
+module _ {T : Type 0} (value : LinePiece → T → Type 0) where
   -- a piece that can't be read is one
-  pub bad_nonempty : (os : List LinePiece) → HasBad T value os → os ≡ [] → ⊥
-  bad_nonempty os (bad_here h) e = cc
-  bad_nonempty os (bad_later h) e = cc
+  pub bad_nonempty : {os : List LinePiece} → HasBad T value os → os ≡ [] → ⊥
+  bad_nonempty (bad_here h) e = cc
+  bad_nonempty (bad_later h) e = cc
 
   -- with an item before them pieces that can't be read stay
-  bad_begin : (x : Role) (k : Arg) (cs ds : Cells) (os ps : List LinePiece)
+  bad_begin : (x : Role) (k : Arg) (cs ds : Cells) {os ps : List LinePiece}
       → with_next k ds ≡ with_next k cs → (HasBad T value os → HasBad T value ps)
       → HasBad T value (begin_piece x k ds os) → HasBad T value (begin_piece x k cs ps)
-  bad_begin Foreign k cs ds os ps e f h = f h
-  bad_begin Alone k cs ds os ps e f (bad_here h) = bad_here h
-  bad_begin Alone k cs ds os ps e f (bad_later h) = bad_later (f h)
-  bad_begin WithNext k cs ds os ps e f h = by_next (with_next k ds) (with_next k cs) e h
+  bad_begin Foreign k cs ds e f h = f h
+  bad_begin Alone k cs ds e f (bad_here h) = bad_here h
+  bad_begin Alone k cs ds e f (bad_later h) = bad_later (f h)
+  bad_begin WithNext k cs ds {os} {ps} e f h = by_next e h
     where
-      by_next : (x y : LinePiece) → x ≡ y → HasBad T value (x ∷ os) → HasBad T value (y ∷ ps)
-      by_next x y e (bad_here h) = bad_here (λ v g. h v (subst (λ z. value z v) (sym e) g))
-      by_next x y e (bad_later h) = bad_later (f h)
+      by_next : {x y : LinePiece} → x ≡ y → HasBad T value (x ∷ os) → HasBad T value (y ∷ ps)
+      by_next e (bad_here h) = bad_here (λ v g. h v (subst (λ z. value z v) (sym e) g))
+      by_next e (bad_later h) = bad_later (f h)
 
   -- A piece that can't be read stays one when others are given back.
-  pub bad_given_back : (q : Roles) {cs ds : Cells} {o : LinePiece} → IsNamed q
+  pub bad_given_back : {q : Roles} {cs ds : Cells} {o : LinePiece} → IsNamed q
       → TakesPiece q cs o ds → HasBad T value (pieces q ds) → HasBad T value (pieces q cs)
-  bad_given_back q n (takes_one {k = k} {cs = cs} e) h =
+  bad_given_back {q} n (takes_one {k = k} {cs = cs} e) h =
       subst (HasBad T value) (sym (begin_at k cs (pieces q cs) e)) (bad_later h)
-  bad_given_back q n (takes_two {k = k} {w = w} {cs = cs} e v) h =
-      subst (HasBad T value) (sym (pair_pieces q k w cs n e v)) (bad_later h)
-  bad_given_back q n (takes_later {c = None} t) h = bad_given_back q n t h
-  bad_given_back q n (takes_later {c = Some k} {cs = cs} {ds = ds} t) h =
-      bad_begin (q k) k cs ds (pieces q ds) (pieces q cs) (same_next q k n t)
-      (bad_given_back q n t) h
+  bad_given_back n (takes_two {cs = cs} e v) h =
+      subst (HasBad T value) (sym (pair_pieces cs n e v)) (bad_later h)
+  bad_given_back n (takes_later {c = None} t) h = bad_given_back n t h
+  bad_given_back {q} n (takes_later {c = Some k} {cs = cs} {ds = ds} t) h =
+      bad_begin (q k) k cs ds (same_next k n t) (bad_given_back n t) h
 
 -- the items of two fields together
 pub record Union (qa qb r : Roles) : Type 0 where
@@ -118,9 +117,9 @@ either_right Foreign y e = refl
 either_right _ y e = absurd cc
 
 -- the items of two fields that share none
-pub either_union : (qa qb : Roles) → IsNamed qa → IsNamed qb → Apart qa qb
+pub either_union : {qa qb : Roles} → IsNamed qa → IsNamed qb → Apart qa qb
     → Union qa qb (either qa qb)
-either_union qa qb na nb a = record {
+either_union {qa} {qb} na nb a = record {
   apart = a;
   named_left = na;
   named_right = nb;
@@ -130,22 +129,22 @@ either_union qa qb na nb a = record {
 }
 
 -- they are keys
-pub union_named : (qa qb r : Roles) → Union qa qb r → IsNamed r
-union_named qa qb r u = record {
+pub union_named : {qa qb r : Roles} → Union qa qb r → IsNamed r
+union_named u = record {
   only_keys = λ k h. u.none k (u.named_left.only_keys k h) (u.named_right.only_keys k h);
 }
 
 -- an item of the first keeps its role
-left_role : (qa qb r : Roles) (k : Arg) (x : Role) → Union qa qb r → is_own_role x ≡ true → qa k ≡ x
+left_role : {qa qb r : Roles} {k : Arg} {x : Role} → Union qa qb r → is_own_role x ≡ true → qa k ≡ x
     → r k ≡ x
-left_role qa qb r k x u h e = u.left k (ap is_own_role e ∙ h) ∙ e
+left_role {k} u h e = u.left k (ap is_own_role e ∙ h) ∙ e
 
 -- what the first takes both take
-pub takes_left : (qa qb r : Roles) {cs ds : Cells} {o : LinePiece} → Union qa qb r
+pub takes_left : {qa qb r : Roles} {cs ds : Cells} {o : LinePiece} → Union qa qb r
     → TakesPiece qa cs o ds → TakesPiece r cs o ds
-takes_left qa qb r u (takes_one {k = k} e) = takes_one (left_role qa qb r k Alone u refl e)
-takes_left qa qb r u (takes_two {k = k} e v) = takes_two (left_role qa qb r k WithNext u refl e) v
-takes_left qa qb r u (takes_later t) = takes_later (takes_left qa qb r u t)
+takes_left u (takes_one e) = takes_one (left_role u refl e)
+takes_left u (takes_two e v) = takes_two (left_role u refl e) v
+takes_left u (takes_later t) = takes_later (takes_left u t)
 
 -- a piece is its key's
 pub own_next : (q : Roles) (k : Arg) (cs : Cells) → is_own q (with_next k cs) ≡ is_own_role (q k)
@@ -159,12 +158,12 @@ own_next q k (Some w ∷ cs) = by_value (is_value w)
 
 -- the key of the piece that an item begins
 head_key : (q : Roles) (x : Role) (k : Arg) (cs : Cells) (os : List LinePiece) (o : LinePiece)
-    (ps : List LinePiece) → is_own_role x ≡ true → begin_piece x k cs os ≡ o ∷ ps
+    {ps : List LinePiece} → is_own_role x ≡ true → begin_piece x k cs os ≡ o ∷ ps
     → is_own q o ≡ is_own_role (q k)
-head_key q Foreign k cs os o ps h e = absurd cc
-head_key q Alone k cs os o ps h e = let d : One k ≡ o = cc in ap (is_own q) (sym d)
-head_key q WithNext k cs os o ps h e = let d : with_next k cs ≡ o = cc in ap (is_own q) (sym d)
-    ∙ own_next q k cs
+head_key q Foreign k cs os o h e = absurd cc
+head_key q Alone k cs os o h e = let d : One k ≡ o = cc in ap (is_own q) (sym d)
+head_key q WithNext k cs os o h e =
+    let d : with_next k cs ≡ o = cc in ap (is_own q) (sym d) ∙ own_next q k cs
 
 -- what an item is to each of two fields
 pub data Belongs (qa qb r : Roles) (k : Arg) : Type 0 where
@@ -173,8 +172,8 @@ pub data Belongs (qa qb r : Roles) (k : Arg) : Type 0 where
   to_none : qa k ≡ Foreign → qb k ≡ Foreign → r k ≡ Foreign → Belongs qa qb r k
 
 -- an item belongs to one of both, or to neither
-pub belongs : (qa qb r : Roles) (k : Arg) → Union qa qb r → Belongs qa qb r k
-belongs qa qb r k u = by_role (qa k) (qb k) refl refl
+pub belongs : {qa qb r : Roles} (k : Arg) → Union qa qb r → Belongs qa qb r k
+belongs {qa} {qb} {r} k u = by_role (qa k) (qb k) refl refl
   where
     by_role : (x y : Role) → qa k ≡ x → qb k ≡ y → Belongs qa qb r k
     by_role Foreign Foreign e f = to_none e f (u.none k e f)
@@ -192,109 +191,105 @@ pub record HeadOf (q : Roles) (cs : Cells) (o : LinePiece) : Type 0 where
   pub is : pieces q cs ≡ o ∷ tail
 
 -- the first piece of both is that of one of them
-pub owner : (qa qb r : Roles) (cs : Cells) (o : LinePiece) (os : List LinePiece) → Union qa qb r
+pub owner : {qa qb r : Roles} (cs : Cells) {o : LinePiece} {os : List LinePiece} → Union qa qb r
     → pieces r cs ≡ o ∷ os
     → HeadOf qa cs o × (is_own qa o ≡ true) ⊎ HeadOf qb cs o × (is_own qb o ≡ true)
-owner qa qb r [] o os u e = absurd cc
-owner qa qb r (None ∷ cs) o os u e = passed_by (owner qa qb r cs o os u e)
+owner [] u e = absurd cc
+owner {qa} {qb} (None ∷ cs) {o} u e = passed_by (owner cs u e)
   where
-    same_head : (q : Roles) → HeadOf q cs o → HeadOf q (None ∷ cs) o
-    same_head q h = record { tail = h.tail; is = h.is }
+    same_head : {q : Roles} → HeadOf q cs o → HeadOf q (None ∷ cs) o
+    same_head h = record { tail = h.tail; is = h.is }
 
     passed_by : HeadOf qa cs o × (is_own qa o ≡ true) ⊎ HeadOf qb cs o × (is_own qb o ≡ true)
         → HeadOf qa (None ∷ cs) o × (is_own qa o ≡ true) ⊎ HeadOf qb (None ∷ cs) o
         × (is_own qb o ≡ true)
-    passed_by (inl h) = inl (same_head qa h.0, h.1)
-    passed_by (inr h) = inr (same_head qb h.0, h.1)
-owner qa qb r (Some k ∷ cs) o os u e =
-    by_owner (belongs qa qb r k u) (λ h. owner qa qb r cs o os u (skipped h))
+    passed_by (inl h) = inl (same_head h.0, h.1)
+    passed_by (inr h) = inr (same_head h.0, h.1)
+owner {qa} {qb} {r} (Some k ∷ cs) {o} {os} u e =
+    by_owner (belongs k u) (λ h. owner cs u (skipped h))
   where
     skipped : r k ≡ Foreign → pieces r cs ≡ o ∷ os
     skipped f = sym (begin_at k cs (pieces r cs) f) ∙ e
 
-    other_head : (q : Roles) → q k ≡ Foreign → HeadOf q cs o → HeadOf q (Some k ∷ cs) o
-    other_head q f h = record { tail = h.tail; is = begin_at k cs (pieces q cs) f ∙ h.is }
+    other_head : {q : Roles} → q k ≡ Foreign → HeadOf q cs o → HeadOf q (Some k ∷ cs) o
+    other_head {q} f h = record { tail = h.tail; is = begin_at k cs (pieces q cs) f ∙ h.is }
 
-    own_head : (q : Roles) (x : Role) → q k ≡ x → r k ≡ x → is_own_role x ≡ true
+    own_head : {q : Roles} (x : Role) → q k ≡ x → r k ≡ x → is_own_role x ≡ true
         → HeadOf q (Some k ∷ cs) o × (is_own q o ≡ true)
-    own_head q Foreign f g h = absurd cc
-    own_head q Alone f g h =
+    own_head Foreign f g h = absurd cc
+    own_head {q} Alone f g h =
         let a = begin_at k cs (pieces r cs) g in
         let b = begin_at k cs (pieces q cs) f in
         let d : One k ≡ o = cc in
         (record { tail = pieces q cs; is = cc }, ap (is_own q) (sym d) ∙ ap is_own_role f)
-    own_head q WithNext f g h =
+    own_head {q} WithNext f g h =
         let a = begin_at k cs (pieces r cs) g in
         let b = begin_at k cs (pieces q cs) f in
         let d : with_next k cs ≡ o = cc in (
           record { tail = pieces q cs; is = cc },
-          ap (is_own q) (sym d)
-              ∙ (own_next q k cs ∙ ap is_own_role f),
+          ap (is_own q) (sym d) ∙ (own_next q k cs ∙ ap is_own_role f),
         )
 
     rest_owner : qa k ≡ Foreign → qb k ≡ Foreign
         → HeadOf qa cs o × (is_own qa o ≡ true) ⊎ HeadOf qb cs o × (is_own qb o ≡ true)
         → HeadOf qa (Some k ∷ cs) o × (is_own qa o ≡ true) ⊎ HeadOf qb (Some k ∷ cs) o
         × (is_own qb o ≡ true)
-    rest_owner f g (inl h) = inl (other_head qa f h.0, h.1)
-    rest_owner f g (inr h) = inr (other_head qb g h.0, h.1)
+    rest_owner f g (inl h) = inl (other_head f h.0, h.1)
+    rest_owner f g (inr h) = inr (other_head g h.0, h.1)
 
     by_owner : Belongs qa qb r k → (r k ≡ Foreign
         → HeadOf qa cs o × (is_own qa o ≡ true) ⊎ HeadOf qb cs o × (is_own qb o ≡ true))
         → HeadOf qa (Some k ∷ cs) o × (is_own qa o ≡ true) ⊎ HeadOf qb (Some k ∷ cs) o
         × (is_own qb o ≡ true)
-    by_owner (to_first h g f) i = inl (own_head qa (qa k) refl g h)
-    by_owner (to_second h g f) i = inr (own_head qb (qb k) refl g h)
+    by_owner (to_first h g f) i = inl (own_head (qa k) refl g h)
+    by_owner (to_second h g f) i = inr (own_head (qb k) refl g h)
     by_owner (to_none f g h) i = rest_owner f g (i h)
 
 -- An item that isn't the first field's own goes before the first piece only where it isn't the
 -- other's either.
-not_either : (qa qb r : Roles) (k : Arg) (cs : Cells) (o : LinePiece) (os : List LinePiece)
+not_either : {qa qb r : Roles} {k : Arg} (cs : Cells) {o : LinePiece} {os : List LinePiece}
     → Union qa qb r → qa k ≡ Foreign → is_own qa o ≡ true → pieces r (Some k ∷ cs) ≡ o ∷ os
     → (r k ≡ Foreign) × (pieces r cs ≡ o ∷ os)
-not_either qa qb r k cs o os u f h e = by_owner (belongs qa qb r k u)
+not_either {qa} {qb} {r} {k} cs {o} {os} u f h e = by_owner (belongs k u)
   where
     by_owner : Belongs qa qb r k → (r k ≡ Foreign) × (pieces r cs ≡ o ∷ os)
     by_owner (to_first g x y) = absurd (own_or_not (qa k) g f)
     by_owner (to_second g x y) =
-        let d = head_key qa (r k) k cs (pieces r cs) o os (ap is_own_role x ∙ g) e in
+        let d = head_key qa (r k) k cs (pieces r cs) o (ap is_own_role x ∙ g) e in
         let z : is_own_role (qa k) ≡ false = ap is_own_role f in
         absurd cc
     by_owner (to_none x y z) = (z, sym (begin_at k cs (pieces r cs) z) ∙ e)
 
 -- Where the first piece of both is the first field's, the first field's first is the first of both.
-pub first_mine : (qa qb r : Roles) {cs ds : Cells} {oa o : LinePiece} {os : List LinePiece}
-    → Union qa qb r
-    → pieces r cs ≡ o ∷ os → is_own qa o ≡ true → TakesFirst qa cs oa ds → TakesFirst r cs oa ds
-first_mine qa qb r u e h (first_one {k = k} x) = first_one (left_role qa qb r k Alone u refl x)
-first_mine qa qb r u e h (first_two {k = k} x v) =
-    first_two (left_role qa qb r k WithNext u refl x) v
-first_mine qa qb r u e h (first_later {c = None} n t) = first_later tt (first_mine qa qb r u e h t)
-first_mine qa qb r {o = o} {os = os} u e h (first_later {c = Some k} {cs = cs} n t) =
-    let d = not_either qa qb r k cs o os u n h e in
-    first_later d.0 (first_mine qa qb r u d.1 h t)
+pub first_mine : {qa qb r : Roles} {cs ds : Cells} {oa o : LinePiece} {os : List LinePiece}
+    → Union qa qb r → pieces r cs ≡ o ∷ os → is_own qa o ≡ true → TakesFirst qa cs oa ds
+    → TakesFirst r cs oa ds
+first_mine u e h (first_one x) = first_one (left_role u refl x)
+first_mine u e h (first_two x v) = first_two (left_role u refl x) v
+first_mine u e h (first_later {c = None} n t) = first_later tt (first_mine u e h t)
+first_mine u e h (first_later {c = Some k} {cs = cs} n t) =
+    let d = not_either cs u n h e in
+    first_later d.0 (first_mine u d.1 h t)
 
 -- The same where the other field has no piece.
-pub first_alone : (qa qb r : Roles) {cs ds : Cells} {oa : LinePiece} → Union qa qb r
+pub first_alone : {qa qb r : Roles} {cs ds : Cells} {oa : LinePiece} → Union qa qb r
     → pieces qb cs ≡ [] → TakesFirst qa cs oa ds → TakesFirst r cs oa ds
-first_alone qa qb r u e (first_one {k = k} x) = first_one (left_role qa qb r k Alone u refl x)
-first_alone qa qb r u e (first_two {k = k} x v) =
-    first_two (left_role qa qb r k WithNext u refl x) v
-first_alone qa qb r u e (first_later {c = None} n t) = first_later tt (first_alone qa qb r u e t)
-first_alone qa qb r u e (first_later {c = Some k} {cs = cs} n t) =
+first_alone u e (first_one x) = first_one (left_role u refl x)
+first_alone u e (first_two x v) = first_two (left_role u refl x) v
+first_alone u e (first_later {c = None} n t) = first_later tt (first_alone u e t)
+first_alone {qb} u e (first_later {c = Some k} {cs = cs} n t) =
     first_later (u.none k n (nil_foreign (qb k) k cs (pieces qb cs) e))
-    (first_alone qa qb r u (nil_rest (qb k) k cs (pieces qb cs) e) t)
+    (first_alone u (nil_rest (qb k) k cs e) t)
 
 -- where neither has a piece both have none
-pub both_nil : (qa qb r : Roles) (cs : Cells) → Union qa qb r → pieces qa cs ≡ []
+pub both_nil : {qa qb r : Roles} (cs : Cells) → Union qa qb r → pieces qa cs ≡ []
     → pieces qb cs ≡ [] → pieces r cs ≡ []
-both_nil qa qb r [] u e f = refl
-both_nil qa qb r (None ∷ cs) u e f = both_nil qa qb r cs u e f
-both_nil qa qb r (Some k ∷ cs) u e f =
+both_nil [] u e f = refl
+both_nil (None ∷ cs) u e f = both_nil cs u e f
+both_nil {qa} {qb} {r} (Some k ∷ cs) u e f =
     begin_at k cs (pieces r cs)
     (u.none k (nil_foreign (qa k) k cs (pieces qa cs) e) (nil_foreign (qb k) k cs (pieces qb cs) f))
-    ∙ both_nil qa qb r cs u (nil_rest (qa k) k cs (pieces qa cs) e)
-    (nil_rest (qb k) k cs (pieces qb cs) f)
+    ∙ both_nil cs u (nil_rest (qa k) k cs e) (nil_rest (qb k) k cs f)
 
 -- the left one took the leftmost place that only one of the two took
 pub data TookLeft : Cells → Cells → Type 0 where
@@ -303,47 +298,45 @@ pub data TookLeft : Cells → Cells → Type 0 where
       → TookLeft (c ∷ cs) (d ∷ ds)
 
 -- Of two first pieces the one further left is the first of both.
-pub first_both : (qa qb r : Roles) {cs ca cb : Cells} {oa ob : LinePiece} → Union qa qb r
+pub first_both : {qa qb r : Roles} {cs ca cb : Cells} {oa ob : LinePiece} → Union qa qb r
     → TakesFirst qa cs oa ca → TakesFirst qb cs ob cb → TookLeft ca cb → TakesFirst r cs oa ca
-first_both qa qb r u (first_one {k = k} x) t h = first_one (left_role qa qb r k Alone u refl x)
-first_both qa qb r u (first_two {k = k} x v) t h =
-    first_two (left_role qa qb r k WithNext u refl x) v
-first_both qa qb r u (first_later {c = None} n s) (first_later m t) (left_later same h) =
-    first_later tt (first_both qa qb r u s t h)
-first_both qa qb r u (first_later {c = Some k} n s) (first_later m t) (left_later same h) =
-    first_later (u.none k n m) (first_both qa qb r u s t h)
-first_both qa qb r u (first_later {c = Some k} n s) (first_one e) (left_later same h) = absurd cc
-first_both qa qb r u (first_later {c = Some k} n s) (first_two e v) (left_later same h) = absurd cc
+first_both u (first_one x) t h = first_one (left_role u refl x)
+first_both u (first_two x v) t h = first_two (left_role u refl x) v
+first_both u (first_later {c = None} n s) (first_later m t) (left_later same h) =
+    first_later tt (first_both u s t h)
+first_both u (first_later {c = Some k} n s) (first_later m t) (left_later same h) =
+    first_later (u.none k n m) (first_both u s t h)
+first_both u (first_later {c = Some k} n s) (first_one e) (left_later same h) = absurd cc
+first_both u (first_later {c = Some k} n s) (first_two e v) (left_later same h) = absurd cc
 
 -- If the first piece of both is the second field's and it took that, the first field took nothing
 -- further left.
-pub not_left : (qa qb r : Roles) {cs ca cb : Cells} {oa ob o : LinePiece} {os : List LinePiece}
-    → Union qa qb r → pieces r cs ≡ o ∷ os → is_own qb o ≡ true
-    → TakesPiece qa cs oa ca → TakesFirst qb cs ob cb → TookLeft ca cb → ⊥
-not_left qa qb r u e h (takes_later t) (first_one x) (left_later same l) = cc
-not_left qa qb r u e h (takes_later t) (first_two x v) (left_later same l) = cc
-not_left qa qb r u e h (takes_later {c = None} t) (first_later n s) (left_later same l) =
-    not_left qa qb r u e h t s l
-not_left qa qb r {o = o} {os = os} u e h (takes_later {c = Some k} {cs = cs} t) (first_later n s)
+pub not_left : {qa qb r : Roles} {cs ca cb : Cells} {oa ob o : LinePiece} {os : List LinePiece}
+    → Union qa qb r → pieces r cs ≡ o ∷ os → is_own qb o ≡ true → TakesPiece qa cs oa ca
+    → TakesFirst qb cs ob cb → TookLeft ca cb → ⊥
+not_left u e h (takes_later t) (first_one x) (left_later same l) = cc
+not_left u e h (takes_later t) (first_two x v) (left_later same l) = cc
+not_left u e h (takes_later {c = None} t) (first_later n s) (left_later same l) =
+    not_left u e h t s l
+not_left {qa} {qb} {r} u e h (takes_later {c = Some k} {cs = cs} t) (first_later n s)
     (left_later same l) =
-    let d = not_either qb qa r k cs o os (swap_union qa qb r u) n h e in
-    not_left qa qb r u d.1 h t s l
-not_left qa qb r {o = o} {os = os} u e h (takes_one {k = k} {cs = cs} x) (first_one y) l = let z =
-    u.apart.left k (ap is_own_role x) in cc
-not_left qa qb r {o = o} {os = os} u e h (takes_one {k = k} {cs = cs} x) (first_two y v) l = let z =
-    u.apart.left k (ap is_own_role x) in cc
-not_left qa qb r {o = o} {os = os} u e h (takes_one {k = k} {cs = cs} x) (first_later n s) l =
-    let d = not_either qb qa r k cs o os (swap_union qa qb r u) n h e in
+    let d = not_either cs (swap_union qa qb r u) n h e in
+    not_left u d.1 h t s l
+not_left u e h (takes_one {k = k} x) (first_one y) l =
+    let z = u.apart.left k (ap is_own_role x) in cc
+not_left u e h (takes_one {k = k} x) (first_two y v) l =
+    let z = u.apart.left k (ap is_own_role x) in cc
+not_left {qa} {qb} {r} u e h (takes_one {k = k} {cs = cs} x) (first_later n s) l =
+    let d = not_either cs (swap_union qa qb r u) n h e in
     let f = u.left k (ap is_own_role x) in
     let g = d.0 in
     cc
-not_left qa qb r {o = o} {os = os} u e h (takes_two {k = k} {cs = cs} x w) (first_one y) l = let z =
-    u.apart.left k (ap is_own_role x) in cc
-not_left qa qb r {o = o} {os = os} u e h (takes_two {k = k} {cs = cs} x w) (first_two y v) l =
+not_left u e h (takes_two {k = k} x w) (first_one y) l =
     let z = u.apart.left k (ap is_own_role x) in cc
-not_left qa qb r {o = o} {os = os} u e h (takes_two {k = k} {w = j} {cs = cs} x w)
-    (first_later n s) l =
-    let d = not_either qb qa r k (Some j ∷ cs) o os (swap_union qa qb r u) n h e in
+not_left u e h (takes_two {k = k} x w) (first_two y v) l =
+    let z = u.apart.left k (ap is_own_role x) in cc
+not_left {qa} {qb} {r} u e h (takes_two {k = k} {w = j} {cs = cs} x w) (first_later n s) l =
+    let d = not_either (Some j ∷ cs) (swap_union qa qb r u) n h e in
     let f = u.left k (ap is_own_role x) in
     let g = d.0 in
     cc
@@ -355,23 +348,21 @@ begin_length Foreign k cs ds os ps h = h
 begin_length _ k cs ds os ps h = omega arith
 
 -- taking a piece leaves fewer
-takes_shorter : (q : Roles) {cs ds : Cells} {o : LinePiece} → IsNamed q → TakesPiece q cs o ds
+takes_shorter : {q : Roles} {cs ds : Cells} {o : LinePiece} → IsNamed q → TakesPiece q cs o ds
     → length (pieces q ds) < length (pieces q cs)
-takes_shorter q n (takes_one {k = k} {cs = cs} e) = let d =
-    ap length (begin_at k cs (pieces q cs) e) in omega arith
-takes_shorter q n (takes_two {k = k} {w = w} {cs = cs} e v) = let d =
-    ap length (pair_pieces q k w cs n e v) in omega arith
-takes_shorter q n (takes_later {c = None} t) = takes_shorter q n t
-takes_shorter q n (takes_later {c = Some k} {cs = cs} {ds = ds} t) =
-    begin_length (q k) k ds cs (pieces q ds) (pieces q cs) (takes_shorter q n t)
+takes_shorter {q} n (takes_one {k = k} {cs = cs} e) =
+    let d = ap length (begin_at k cs (pieces q cs) e) in omega arith
+takes_shorter n (takes_two {cs = cs} e v) = let d = ap length (pair_pieces cs n e v) in omega arith
+takes_shorter n (takes_later {c = None} t) = takes_shorter n t
+takes_shorter {q} n (takes_later {c = Some k} {cs = cs} {ds = ds} t) =
+    begin_length (q k) k ds cs (pieces q ds) (pieces q cs) (takes_shorter n t)
 
 -- two that share no item never leave the same cells
-pub never_same : (qa qb r : Roles) {cs ca cb : Cells} {oa ob : LinePiece} → Union qa qb r
+pub never_same : {qa qb r : Roles} {cs ca cb : Cells} {oa ob : LinePiece} → Union qa qb r
     → TakesPiece qa cs oa ca → TakesPiece qb cs ob cb → ca ≡ cb → ⊥
-never_same qa qb r {ca = ca} {cb = cb} u s t e =
-    let a = takes_shorter qa u.named_left s in
-    let b = ap length
-    (keeps_other qb qa u.named_right u.named_left
+never_same {qa} u s t e =
+    let a = takes_shorter u.named_left s in
+    let b = ap length (keeps_other u.named_right u.named_left
     (record { left = u.apart.right; right = u.apart.left }) t) in
     let c = ap (λ z. length (pieces qa z)) e in
     omega arith
@@ -380,30 +371,29 @@ never_same qa qb r {ca = ca} {cb = cb} u s t e =
 module _ (T : Type 0) (va vr : LinePiece → T → Type 0) (qa qb r : Roles) (u : Union qa qb r)
     (back : (o : LinePiece) (v : T) → is_own qa o ≡ true → vr o v → va o v) where
   -- pieces that can't be read stay behind an item
-  bad_any : (x : Role) (k : Arg) (cs : Cells) (os : List LinePiece) → HasBad T vr os
+  bad_any : (x : Role) (k : Arg) (cs : Cells) {os : List LinePiece} → HasBad T vr os
       → HasBad T vr (begin_piece x k cs os)
-  bad_any Foreign k cs os h = h
-  bad_any _ k cs os h = bad_later h
+  bad_any Foreign k cs h = h
+  bad_any _ k cs h = bad_later h
 
   -- a piece of the first that can't be read, behind an item
-  bad_at : (x y : Role) (k : Arg) (cs : Cells) (os ps : List LinePiece)
+  bad_at : (x : Role) {y : Role} (k : Arg) (cs : Cells) {os ps : List LinePiece}
       → (is_own_role x ≡ true → y ≡ x)
       → ((o : LinePiece) → is_own qa o ≡ is_own_role (qa k) → is_own qa o ≡ is_own_role x)
       → (HasBad T va os → HasBad T vr ps) → HasBad T va (begin_piece x k cs os)
       → HasBad T vr (begin_piece y k cs ps)
-  bad_at Foreign y k cs os ps e g f h = bad_any y k cs ps (f h)
-  bad_at Alone y k cs os ps e g f (bad_here h) =
+  bad_at Foreign {y} k cs e g f h = bad_any y k cs (f h)
+  bad_at Alone k cs {ps} e g f (bad_here h) =
       subst (λ z. HasBad T vr (begin_piece z k cs ps)) (sym (e refl))
       (bad_here (λ v x. h v (back (One k) v (g (One k) refl) x)))
-  bad_at WithNext y k cs os ps e g f (bad_here h) =
+  bad_at WithNext k cs {ps} e g f (bad_here h) =
       subst (λ z. HasBad T vr (begin_piece z k cs ps)) (sym (e refl))
       (bad_here (λ v x. h v (back (with_next k cs) v (g (with_next k cs) (own_next qa k cs)) x)))
-  bad_at _ y k cs os ps e g f (bad_later h) =
+  bad_at _ k cs {ps} e g f (bad_later h) =
       subst (λ z. HasBad T vr (begin_piece z k cs ps)) (sym (e refl)) (bad_later (f h))
 
   -- a piece of the first that can't be read is one of both
   pub bad_left : (cs : Cells) → HasBad T va (pieces qa cs) → HasBad T vr (pieces r cs)
   bad_left [] h = elim h [ ]
   bad_left (None ∷ cs) h = bad_left cs h
-  bad_left (Some k ∷ cs) h =
-      bad_at (qa k) (r k) k cs (pieces qa cs) (pieces r cs) (u.left k) (λ o e. e) (bad_left cs) h
+  bad_left (Some k ∷ cs) h = bad_at (qa k) k cs (u.left k) (λ o e. e) (bad_left cs) h

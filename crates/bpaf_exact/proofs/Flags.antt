@@ -23,7 +23,7 @@ use Rattle.bpaf_exact.proofs.{First.first_pieces, Places.take_steady}
 use Rattle.bpaf_text.specs.Named.{Named as Key, flag_part}
 
 -- a flag
-module _ (T : Type 0) (clones : T → T → Type 0) (key : Key) (present : T) where
+module _ {T : Type 0} (clones : T → T → Type 0) (key : Key) (present : T) where
   -- the items of the flag
   abbrev q : Roles
   q = flag_roles key.names
@@ -42,19 +42,18 @@ module _ (T : Type 0) (clones : T → T → Type 0) (key : Key) (present : T) wh
 
   -- with its names
   owned : Owns q (key.names ∷ [])
-  owned = test_owns (is_key_of key.names) key.names Alone (λ k e. e)
+  owned = test_owns Alone (λ k e. e)
 
   -- a taken key is an answer
-  flag_found : (s t : Situation) (v : T) → TakesFlag key.names s true t → clones present v
-      → AlternativeOk T q value s v t
-  flag_found s t v takes y =
+  flag_found : (s : Situation) {t : Situation} (v : T) → TakesFlag key.names s true t
+      → clones present v → AlternativeOk T q value s v t
+  flag_found s v takes y =
       let m = match_of (is_key_of key.names) s takes.0 takes.1.matches in
       subst (AlternativeOk T q value s v) (sym takes.2)
-      (first_alternative T q value s (take_place s takes.0) v (One m.item) (take_steady s takes.0) y
-      (one_taken (is_key_of key.names) q s takes.0 test takes.1 m))
+      (first_alternative value (take_steady s takes.0) y (one_taken test takes.1 m))
 
 -- a flag that must be there
-module _ (T : Type 0) (clones : T → T → Type 0) (key : Key) (present : T)
+module _ {T : Type 0} (clones : T → T → Type 0) (key : Key) (present : T)
     (no_envs : key.envs ≡ []) where
   -- no name is set in the environment
   never_set : (s : Situation) → is_set s.context.env key.envs ≡ true → ⊥
@@ -65,32 +64,31 @@ module _ (T : Type 0) (clones : T → T → Type 0) (key : Key) (present : T)
       → FlagOutcome clones key present None s (Ok v) t
       → AlternativeOk T (flag_roles key.names) (FlagValue (clones present)) s v t
   flag_ok s t v w o = ⊎_elim
-      (λ here. ⊎_elim (λ takes. flag_found T clones key present s t v takes here.1)
+      (λ here. ⊎_elim (λ takes. flag_found clones key present s v takes here.1)
       (λ set. absurd (never_set s set.1)) here.0) (λ none. absurd none.1) o
 
   -- a refusal: there is no piece
-  flag_err : (s t : Situation) (e : Error) (m : Message) → class e ≡ class_of m
+  flag_err : {s t : Situation} {e : Error} (m : Message) → class e ≡ class_of m
       → FlagFails {T = T} key None s m t
       → AlternativeErr T (flag_roles key.names) (FlagValue (clones present)) s e t
-  flag_err s t e Memory c o = alternative_memory c
-  flag_err s t e other c o =
-      missing_same T (flag_roles key.names) (FlagValue (clones present)) s t e
+  flag_err Memory c o = alternative_memory c
+  flag_err {s} other c o =
+      missing_same (FlagValue (clones present))
       (c ∙ missing_class other (absence_missing s (flag_part key) key.envs no_envs other o.2))
-      (no_pieces (is_key_of key.names) (flag_roles key.names) Alone s (test T clones key present)
-      o.0.0.0) o.0.0.1
+      (no_pieces s (test clones key present) o.0.0.0) o.0.0.1
 
   -- a flag that must be there
   flag_law : {env : Variables} → AlternativeLaw env T (FlagOutcome clones key present None)
       (flag_roles key.names)
       (FlagValue (clones present))
   flag_law = record {
-    named = named T clones key present;
+    named = named clones key present;
     ok = flag_ok;
-    err = λ s t e w o. flag_err s t e e.0 refl o;
+    err = λ s t e w o. flag_err e.0 refl o;
   }
 
 -- where no key of a flag is there
-module _ (T : Type 0) (clones : T → T → Type 0) (present : T) where
+module _ {T : Type 0} (clones : T → T → Type 0) (present : T) where
   -- a value stands for that
   abbrev StandsForNone : Option T → Option (List ℕ) → T → Type 0
   StandsForNone absent set v =
@@ -98,10 +96,10 @@ module _ (T : Type 0) (clones : T → T → Type 0) (present : T) where
       (gap.has ≡ true) × gap.absent v
 
   -- where its variable is set, the present one
-  gap_set : (absent : Option T) (set : Option (List ℕ)) (v : T) → is_some set ≡ true
+  gap_set : (absent : Option T) (set : Option (List ℕ)) {v : T} → is_some set ≡ true
       → clones present v → StandsForNone absent set v
-  gap_set absent None v e y = absurd cc
-  gap_set absent (Some text) v e y = (refl, y)
+  gap_set absent None e y = absurd cc
+  gap_set absent (Some text) e y = (refl, y)
 
   -- else the absent one
   gap_unset : (absent : Option T) (set : Option (List ℕ)) (v : T) → is_some set ≡ false
@@ -118,7 +116,7 @@ module _ (T : Type 0) (clones : T → T → Type 0) (present : T) where
   gap_none absent (Some text) e f = absurd cc
 
 -- a flag that may be absent, where the environment has these variables
-module _ (T : Type 0) (clones : T → T → Type 0) (key : Key) (present : T) (absent : Option T)
+module _ {T : Type 0} (clones : T → T → Type 0) (key : Key) (present : T) (absent : Option T)
     (variables : Variables) where
   abbrev roles : Roles
   roles = flag_roles key.names
@@ -129,59 +127,55 @@ module _ (T : Type 0) (clones : T → T → Type 0) (key : Key) (present : T) (a
   abbrev gap : Gap T
   gap = gap_of clones (value_without_key present absent (first_set variables key.envs))
 
-  switch_found : (s t : Situation) (v : T) → TakesFlag key.names s true t → clones present v
-      → SingleOk T ByName roles group gap s v t
-  switch_found s t v takes y =
-      let own = test T clones key present in
+  switch_found : (s : Situation) {t : Situation} (v : T) → TakesFlag key.names s true t
+      → clones present v → SingleOk T ByName roles group gap s v t
+  switch_found s v takes y =
+      let own = test clones key present in
       let m = match_of (is_key_of key.names) s takes.0 takes.1.matches in
-      let h = one_taken (is_key_of key.names) roles s takes.0 own takes.1 m in
-      let e = first_pieces roles (named T clones key present) h in
+      let h = one_taken own takes.1 m in
+      let e = first_pieces roles (named clones key present) h in
       subst (SingleOk T ByName roles group gap s v) (sym takes.2)
-      (took (took_front T (FlagValue (clones present)) ByName roles s (take_place s takes.0) v
-      (One m.item) (take_steady s takes.0) h e y (λ none. absurd cc)))
+      (took (took_front (FlagValue (clones present)) (take_steady s takes.0) h e y
+      (λ none. absurd cc)))
 
-  switch_none : (s t : Situation) (v : T) → HasNone (is_key_of key.names) s → t ≡ s
+  switch_none : {s t : Situation} {v : T} → HasNone (is_key_of key.names) s → t ≡ s
       → (gap.has ≡ true) × gap.absent v → SingleOk T ByName roles group gap s v t
-  switch_none s t v none same g =
-      subst (SingleOk T ByName roles group gap s v) (sym same)
-      (gave_absent g.0
-      (no_pieces (is_key_of key.names) roles Alone s (test T clones key present) none) g.1 refl
-      (steady_refl s))
+  switch_none {s} {v} none same g =
+      subst (SingleOk T ByName roles group gap s v) (sym same) (gave_absent g.0
+      (no_pieces s (test clones key present) none) g.1 refl (steady_refl s))
 
   -- a name that is set here is set in these variables
-  set_here : (s : Situation) (b : Bool) → s.context.env ≡ variables
+  set_here : (s : Situation) {b : Bool} → s.context.env ≡ variables
       → is_set s.context.env key.envs ≡ b → is_some (first_set variables key.envs) ≡ b
-  set_here s b e f = subst (λ z. is_set z key.envs ≡ b) e f
+  set_here s {b} e f = subst (λ z. is_set z key.envs ≡ b) e f
 
   switch_ok : (s t : Situation) (v : T) → IsWholeIn variables s
       → FlagOutcome clones key present absent s (Ok v) t → SingleOk T ByName roles group gap s v t
-  switch_ok s t v w o = ⊎_elim
-      (λ here. ⊎_elim (λ takes. switch_found s t v takes here.1)
-      (λ set. switch_none s t v set.0.0 set.0.1
-      (gap_set T clones present absent _ v (set_here s true w.environment set.1) here.1)) here.0)
-      (λ none. switch_none s t v none.0.0.0 none.0.0.1
-      (gap_unset T clones present absent _ v (set_here s false w.environment none.0.1) none.1)) o
+  switch_ok s t v w o = ⊎_elim (λ here. ⊎_elim (λ takes. switch_found s v takes here.1)
+      (λ set. switch_none set.0.0 set.0.1
+      (gap_set clones present absent _ (set_here s w.environment set.1) here.1)) here.0)
+      (λ none. switch_none none.0.0.0 none.0.0.1
+      (gap_unset clones present absent _ v (set_here s w.environment none.0.1) none.1)) o
 
-  switch_err : (s t : Situation) (e : Error) (m : Message) → class e ≡ class_of m
+  switch_err : {s t : Situation} {e : Error} (m : Message) → class e ≡ class_of m
       → s.context.env ≡ variables → FlagFails {T = T} key absent s m t
       → SingleErr T ByName roles group gap s e t
-  switch_err s t e Memory c same o = of_memory c
-  switch_err s t e other c same o =
+  switch_err Memory c same o = of_memory c
+  switch_err {s} {e} other c same o =
       subst (λ z. SingleErr T ByName roles group gap s e z) (sym o.0.0.1)
-      (of_missing (absence_caught s (flag_part key) key.envs e other c o.2)
-      (gap_none T clones present absent _ (set_here s false same o.0.1) o.1)
-      (no_pieces (is_key_of key.names) roles Alone s (test T clones key present) o.0.0.0)
-      (λ c. refl))
+      (of_missing (absence_caught s (flag_part key) key.envs other c o.2)
+      (gap_none clones present absent _ (set_here s same o.0.1) o.1)
+      (no_pieces s (test clones key present) o.0.0.0) (λ c. refl))
 
   pub switch_law : SingleLaw variables T (FlagOutcome clones key present absent)
       ByName roles group gap
   switch_law = record {
-    own = named T clones key present;
+    own = named clones key present;
     words = tt;
     starts = λ v rest g. let e = g.1 in cc;
     no_absent = gap_empty clones _;
     ok = switch_ok;
-    err = λ s t e w o. switch_err s t e e.0 refl w.environment o;
+    err = λ s t e w o. switch_err e.0 refl w.environment o;
   }
 
 -- a flag keeps to the laws of its form
@@ -191,21 +185,21 @@ pub flag_field_law : (variables : Variables) (T : Type 0) (clones : T → T → 
     (flag_field clones key present absent variables)
 flag_field_law variables T clones key present absent = by_envs key.envs absent refl
   where
-    single_law : (envs : List (List ℕ)) (absent : Option T) → key.envs ≡ envs
+    single_law : {envs : List (List ℕ)} (absent : Option T) → key.envs ≡ envs
         → SingleLaw variables T (FlagOutcome clones key present absent) ByName
         (flag_roles key.names) (FrontOf T (FlagValue (clones present)))
         (gap_of clones (value_without_key present absent (first_set variables envs)))
-    single_law envs absent e = subst (λ z. SingleLaw variables T
+    single_law absent e = subst (λ z. SingleLaw variables T
         (FlagOutcome clones key present absent) ByName (flag_roles key.names)
         (FrontOf T (FlagValue (clones present)))
         (gap_of clones (value_without_key present absent (first_set variables z)))) e
-        (switch_law T clones key present absent variables)
+        (switch_law clones key present absent variables)
 
     by_envs : (envs : List (List ℕ)) (absent : Option T) → key.envs ≡ envs
         → FormLaw variables (FlagOutcome clones key present absent) (key.names ∷ []) []
         (key_field (not (is_nil envs)) (is_nil envs && is_none absent) (flag_roles key.names)
         (FlagValue (clones present)) (FrontOf T (FlagValue (clones present)))
         (gap_of clones (value_without_key present absent (first_set variables envs))))
-    by_envs [] None e = (flag_law T clones key present e, owned T clones key present)
-    by_envs [] (Some kept) e = (single_law [] (Some kept) e, owned T clones key present)
-    by_envs (env ∷ envs) absent e = (single_law (env ∷ envs) absent e, owned T clones key present)
+    by_envs [] None e = (flag_law clones key present e, owned clones key present)
+    by_envs [] (Some kept) e = (single_law (Some kept) e, owned clones key present)
+    by_envs (env ∷ envs) absent e = (single_law absent e, owned clones key present)

@@ -15,19 +15,19 @@ never_nil [] x behind e = cc
 never_nil (y ∷ before) x behind e = cc
 
 -- what stands behind the first pieces
-behind_first : (os first behind : List LinePiece) → first ++ behind ≡ os
+behind_first : {os : List LinePiece} (first behind : List LinePiece) → first ++ behind ≡ os
     → first ++ drop (length first) os ≡ os
-behind_first os first behind e =
+behind_first first behind e =
     subst (λ z. first ++ drop (length first) z ≡ z) e
     (ap (λ z. first ++ z) (drop-append_seam first behind))
 
 -- what a repeat takes and what it leaves are all
 each_back : (b : Bool) (os : List LinePiece)
     → front (EachWord b) os ++ back (EachWord b) os ≡ os
-each_back false os = behind_first os os [] (append-nil os)
+each_back false os = behind_first os [] (append-nil os)
 each_back true os =
     let n = position_or_len is_behind os in
-    behind_first os (take n os) (drop n os) (take-append-drop n os)
+    behind_first (take n os) (drop n os) (take-append-drop n os)
 
 -- so it is with any field
 front_back : (k : FieldKind) (os : List LinePiece) → front k os ++ back k os ≡ os
@@ -36,7 +36,7 @@ front_back (EachWord b) os = each_back b os
 front_back (OneWord b) os =
     let words = front (EachWord b) os in
     let rest = back (EachWord b) os in
-    behind_first os (take 1 words) (drop 1 words ++ rest)
+    behind_first (take 1 words) (drop 1 words ++ rest)
     (sym (append_assoc (take 1 words) (drop 1 words) rest)
     ∙ (ap (λ z. z ++ rest) (take-append-drop 1 words) ∙ each_back b os))
 
@@ -49,13 +49,13 @@ front_nil (EachWord false) = refl
 front_nil (EachWord true) = refl
 
 -- where a field takes none it leaves all
-pub back_all : (k : FieldKind) (os : List LinePiece) → front k os ≡ [] → back k os ≡ os
-back_all ByName os none = sym none
-back_all _ os none = ap (λ z. drop (length z) os) none
+pub back_all : (k : FieldKind) {os : List LinePiece} → front k os ≡ [] → back k os ≡ os
+back_all ByName none = sym none
+back_all _ {os} none = ap (λ z. drop (length z) os) none
 
 -- where a field leaves none it takes all
-pub all_front : (k : FieldKind) (os : List LinePiece) → back k os ≡ [] → front k os ≡ os
-all_front k os none =
+pub all_front : (k : FieldKind) {os : List LinePiece} → back k os ≡ [] → front k os ≡ os
+all_front k {os} none =
     sym (append-nil (front k os)) ∙ (ap (λ z. front k os ++ z) (sym none) ∙ front_back k os)
 
 -- where a field takes none, nor does a repeat of it
@@ -88,9 +88,9 @@ each_front true o os = take_while-cons (λ o. not (is_behind o)) o os
 -- A first piece that a field may take: any, where it doesn't stop before one behind `--`.
 
 -- a repeat takes it, and what it takes of the others
-pub front_more : (b : Bool) (o : LinePiece) (os : List LinePiece) → (b ≡ true → is_behind o ≡ false)
+pub front_more : {b : Bool} {o : LinePiece} (os : List LinePiece) → (b ≡ true → is_behind o ≡ false)
     → front (EachWord b) (o ∷ os) ≡ o ∷ front (EachWord b) os
-front_more b o os clear =
+front_more {b} {o} os clear =
     each_front b o os
     ∙ ap (λ z. if not z then (o ∷ front (EachWord b) os) else []) (goes_on b clear)
   where
@@ -99,14 +99,14 @@ front_more b o os clear =
     goes_on false clear = refl
 
 -- and leaves what it leaves of those
-pub back_more : (b : Bool) (o : LinePiece) (os : List LinePiece) → (b ≡ true → is_behind o ≡ false)
+pub back_more : {b : Bool} (o : LinePiece) (os : List LinePiece) → (b ≡ true → is_behind o ≡ false)
     → back (EachWord b) (o ∷ os) ≡ back (EachWord b) os
-back_more b o os clear = ap (λ z. drop (length z) (o ∷ os)) (front_more b o os clear)
+back_more o os clear = ap (λ z. drop (length z) (o ∷ os)) (front_more os clear)
 
 -- a field without one takes it
 pub front_one : (b : Bool) (o : LinePiece) (os : List LinePiece) → (b ≡ true → is_behind o ≡ false)
     → front (OneWord b) (o ∷ os) ≡ o ∷ []
-front_one b o os clear = ap (take 1) (front_more b o os clear)
+front_one b o os clear = ap (take 1) (front_more os clear)
 
 -- and leaves the others
 pub back_one : (b : Bool) (o : LinePiece) (os : List LinePiece) → (b ≡ true → is_behind o ≡ false)
@@ -120,13 +120,12 @@ of_front_one b os o e =
     sym (front_back (OneWord b) os) ∙ ap (λ z. z ++ back (OneWord b) os) e
 
 -- what a repeat takes begins with the first piece, and goes on with what it takes of the others
-pub of_front_more : (b : Bool) (os : List LinePiece) (o : LinePiece) (rest : List LinePiece)
+pub of_front_more : (b : Bool) (os : List LinePiece) (o : LinePiece) {rest : List LinePiece}
     → front (EachWord b) os ≡ o ∷ rest
     → (more : List LinePiece) × (os ≡ o ∷ more) × (rest ≡ front (EachWord b) more)
-of_front_more b [] o rest e =
+of_front_more b [] o {rest} e =
     let none : [] ≡ o ∷ rest = sym (front_nil (EachWord b)) ∙ e in absurd cc
-of_front_more b (x ∷ os) o rest e =
-    elim (b && is_behind x)
-    as (λ z. (if not z then (x ∷ front (EachWord b) os) else []) ≡ o ∷ rest
+of_front_more b (x ∷ os) o {rest} e =
+    elim (b && is_behind x) as (λ z. (if not z then (x ∷ front (EachWord b) os) else []) ≡ o ∷ rest
     → (more : List LinePiece) × (x ∷ os ≡ o ∷ more) × (rest ≡ front (EachWord b) more))
     [ true ↦ λ e. absurd cc | false ↦ λ e. (os, cc, cc) ] (sym (each_front b x os) ∙ e)

@@ -20,7 +20,7 @@ pub keep_last : {env : Variables} {P R A : Type 0} (last : R → P) (r : R) (out
 keep_last {env} {A = A} last r outcome kind names words s said law says = record {
   law = program_alone_law env A outcome (names (last r)) words (program_field s)
       (program_field_law env A outcome (names (last r)) words s law);
-  says = program_alone_says env last r outcome kind names words law says;
+  says = program_alone_says env last outcome kind names words law says;
 }
 
 -- fields that stand inside of others
@@ -28,7 +28,7 @@ pub keep_inside : {env : Variables} {P R V : Type 0} (inside : R → P) (r : R) 
     {names : List Names} {s : ProgramForm V} {said : ProgramFieldsSaid P V}
     → FieldsKeep env outcome names s said (inside r)
     → FieldsKeep env outcome names s (fields_said_inside inside said) r
-keep_inside inside r kept = record { law = kept.law; says = inside_say inside r kept.says }
+keep_inside inside r kept = record { law = kept.law; says = inside_say inside kept.says }
 
 -- a field before such fields
 pub keep_before : {env : Variables} {P Q R A B : Type 0} (first : R → P) (rest : R → Q) (r : R)
@@ -41,8 +41,8 @@ pub keep_before : {env : Variables} {P Q R A B : Type 0} (first : R → P) (rest
     → FieldsKeep env (BothOutcome outcome behind) (names (first r) ++ others)
     (program_both (names (first r)) others (program_field s) t)
     (said_both first rest kind names said more) r
-keep_before {env} {P} {Q} {R} {A} {B} first rest r outcome kind names words s said law says
-    {behind} {others} {t} {more} kept = record {
+keep_before {env} {A} {B} first rest r outcome kind names words s said law says {behind} {others}
+    {t} kept = record {
       law = program_both_law env A B outcome behind (names (first r)) others words
           (program_field s) t
           (program_field_law env A outcome (names (first r)) words s law) kept.law;

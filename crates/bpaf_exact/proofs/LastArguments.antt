@@ -21,13 +21,13 @@ use Rattle.bpaf_exact.proofs.Matching.{match_of, bare_taken}
 use Rattle.bpaf_exact.proofs.{Product.steady_trans, Fronts.never_nil, Alternative.gap_empty}
 
 -- the last element of a list is one
-pub last_same : (T : Type 0) (xs ys : List T) (v w : T) → xs ++ (v ∷ []) ≡ ys ++ (w ∷ []) → v ≡ w
-last_same T [] [] v w e = cc
-last_same T [] (y ∷ []) v w e = absurd cc
-last_same T [] (y ∷ (z ∷ ys)) v w e = absurd cc
-last_same T (x ∷ []) [] v w e = absurd cc
-last_same T (x ∷ (z ∷ xs)) [] v w e = absurd cc
-last_same T (x ∷ xs) (y ∷ ys) v w e = last_same T xs ys v w cc
+pub last_same : {T : Type 0} (xs ys : List T) {v w : T} → xs ++ (v ∷ []) ≡ ys ++ (w ∷ []) → v ≡ w
+last_same [] [] e = cc
+last_same [] (y ∷ []) e = absurd cc
+last_same [] (y ∷ (z ∷ ys)) e = absurd cc
+last_same (x ∷ []) [] e = absurd cc
+last_same (x ∷ (z ∷ xs)) [] e = absurd cc
+last_same (x ∷ xs) (y ∷ ys) e = last_same xs ys cc
 
 -- keys, each with its value
 abbrev pairs : List (Arg × Arg) → List LinePiece
@@ -41,7 +41,7 @@ bare_spoils [] tail (pair ∷ before) k j w e = cc
 bare_spoils (o ∷ some) tail [] k j w e = absurd (never_nil some (One k) tail cc)
 bare_spoils (o ∷ some) tail (pair ∷ before) k j w e = bare_spoils some tail before k j w cc
 
-module _ (T : Type 0) (means : List ℕ → T → Type 0) (argument : KeyWithValue)
+module _ {T : Type 0} (means : List ℕ → T → Type 0) (argument : KeyWithValue)
     (all : argument.last ≡ true) (variables : Variables) where
   -- the items of the argument
   abbrev q : Roles
@@ -75,8 +75,8 @@ module _ (T : Type 0) (means : List ℕ → T → Type 0) (argument : KeyWithVal
     steady : Steady s t
 
   -- one key with its text
-  all_one : (s t : Situation) (text : List ℕ) → TookPair q s t text → TookAll s t text
-  all_one s t text m = record {
+  all_one : {s t : Situation} {text : List ℕ} → TookPair q s t text → TookAll s t text
+  all_one {t} m = record {
     before = [];
     key = m.key;
     word = m.word;
@@ -85,7 +85,7 @@ module _ (T : Type 0) (means : List ℕ → T → Type 0) (argument : KeyWithVal
     any = record {
       piece = Two m.key m.word;
       middle = cells t;
-      one = first_takes q m.takes;
+      one = first_takes m.takes;
       more = takes_none;
     };
     steady = m.steady;
@@ -99,13 +99,12 @@ module _ (T : Type 0) (means : List ℕ → T → Type 0) (argument : KeyWithVal
     key = rest.key;
     word = rest.word;
     text_is = rest.text_is;
-    is =
-        first_pieces q (named argument) first.takes
+    is = first_pieces q (named argument) first.takes
         ∙ ap (λ z. Two first.key first.word ∷ z) rest.is;
     any = record {
       piece = Two first.key first.word;
       middle = cells m;
-      one = first_takes q first.takes;
+      one = first_takes first.takes;
       more = takes_more rest.any.one rest.any.more;
     };
     steady = steady_trans first.steady rest.steady;
@@ -115,8 +114,7 @@ module _ (T : Type 0) (means : List ℕ → T → Type 0) (argument : KeyWithVal
   took_texts : (s t : Situation) (text : List ℕ) (before : List (List ℕ))
       → TakesKeysWithTexts argument s (before ++ text ∷ []) t → TookAll s t text
   took_texts s t text [] o =
-      subst (λ z. TookAll s z text) (sym o.2)
-      (all_one s o.0 text (took_pair argument s o.0 text o.1))
+      subst (λ z. TookAll s z text) (sym o.2) (all_one (took_pair argument s o.0 text o.1))
   took_texts s t text (x ∷ before) o =
       all_more s o.0 t x text (took_pair argument s o.0 x o.1) (took_texts o.0 t text before o.2)
 
@@ -126,9 +124,9 @@ module _ (T : Type 0) (means : List ℕ → T → Type 0) (argument : KeyWithVal
     none : pieces q (cells t) ≡ []
 
   -- all its keys were taken
-  takes_all : (s t : Situation) (text : List ℕ) → TakesOwnText argument.last argument s text t
+  takes_all : {s t : Situation} {text : List ℕ} → TakesOwnText argument.last argument s text t
       → GotAll s t text
-  takes_all s t text takes =
+  takes_all {s} {t} {text} takes =
       let last = subst (λ b. TakesOwnText b argument s text t) all takes in
       record {
         pieces_are = took_texts s t text last.before last.taken;
@@ -136,10 +134,10 @@ module _ (T : Type 0) (means : List ℕ → T → Type 0) (argument : KeyWithVal
       }
 
   -- the pieces of a text, up to the last one
-  whole : (s t : Situation) (text : List ℕ) (got : GotAll s t text)
-      → pieces q (cells s) ≡ pairs got.pieces_are.before
-      ++ Two got.pieces_are.key got.pieces_are.word ∷ []
-  whole s t text got =
+  whole : {s t : Situation} {text : List ℕ} (got : GotAll s t text)
+      → pieces q (cells s) ≡ pairs got.pieces_are.before ++ Two got.pieces_are.key
+      got.pieces_are.word ∷ []
+  whole got =
       let a = got.pieces_are in
       a.is ∙ ap (λ z. pairs a.before ++ Two a.key a.word ∷ z) got.none
 
@@ -148,22 +146,22 @@ module _ (T : Type 0) (means : List ℕ → T → Type 0) (argument : KeyWithVal
   gap = gap_of means (first_set variables argument.named.envs)
 
   -- a value is that of the last piece
-  last_read : (s t : Situation) (text : List ℕ) (v : T) → GotAll s t text → means text v
+  last_read : (s t : Situation) {text : List ℕ} (v : T) → GotAll s t text → means text v
       → SingleOk T ByName q (LastGroup T means) gap s v t
-  last_read s t text v got m =
+  last_read s t v got m =
       let a = got.pieces_are in
       let group : (rest : List LinePiece) → rest ≡ []
       → LastGroup T means (pieces q (cells s)) v rest = (λ rest none. (
         a.before,
         (a.key, a.word),
-        whole s t text got,
+        whole got,
         subst (λ z. means z v) (sym a.text_is) m,
         none,
       )) in
       took (record {
         steady = a.steady;
         takes = a.any;
-        found = takes_nonempty q a.any.one;
+        found = takes_nonempty a.any.one;
         read = λ r. group (pieces q (cells t)) got.none;
         readable = λ x rest g. (group rest g.4, got.none ∙ sym g.4);
       })
@@ -172,50 +170,45 @@ module _ (T : Type 0) (means : List ℕ → T → Type 0) (argument : KeyWithVal
   last_ok : (s t : Situation) (v : T) → IsWholeIn variables s
       → ArgumentOutcome means argument s (Ok v) t
       → SingleOk T ByName q (LastGroup T means) gap s v t
-  last_ok s t v w o = ⊎_elim
-      (λ takes. last_read s t o.0 v (takes_all s t o.0 takes) o.2)
-      (λ read. variable_read T means argument (LastGroup T means) variables s t o.0 v w.environment
+  last_ok s t v w o = ⊎_elim (λ takes. last_read s t v (takes_all takes) o.2)
+      (λ read. variable_read means argument (LastGroup T means) variables w.environment
       read o.2) o.1
 
   -- where a last text means no value, the pieces have none
-  fault_group : (s t : Situation) (text : List ℕ) → GotAll s t text → ((v : T) → means text v → ⊥) →
-      (v : T) (rest : List LinePiece) → LastGroup T means (pieces q (cells s)) v rest → ⊥
-  fault_group s t text got nothing v rest g =
+  fault_group : {s t : Situation} {text : List ℕ} → GotAll s t text → ((v : T) → means text v → ⊥)
+      → (v : T) (rest : List LinePiece) → LastGroup T means (pieces q (cells s)) v rest → ⊥
+  fault_group got nothing v rest g =
       let a = got.pieces_are in
-      let same : Two g.1.0 g.1.1 ≡ Two a.key a.word =
-      last_same LinePiece (pairs g.0) (pairs a.before) (Two g.1.0 g.1.1) (Two a.key a.word)
-      (sym g.2 ∙ whole s t text got) in
+      let same : Two g.1.0 g.1.1 ≡ Two a.key a.word = last_same (pairs g.0) (pairs a.before)
+      (sym g.2 ∙ whole got) in
       let word : g.1.1 ≡ a.word = cc in
       nothing v (subst (λ z. means z v) (ap item_text word ∙ a.text_is) g.3)
 
   -- where a key has no value, the pieces have none
-  bare_refused : (s t : Situation) (e : Error) (k : Arg) (tail : List LinePiece) → class e ≡ Refused
-      → TookSome s t → pieces q (cells t) ≡ One k ∷ tail
+  bare_refused : (s : Situation) {t : Situation} {e : Error} {k : Arg} {tail : List LinePiece}
+      → class e ≡ Refused → TookSome s t → pieces q (cells t) ≡ One k ∷ tail
       → SingleErr T ByName q (LastGroup T means) gap s e t
-  bare_refused s t e k tail c some is =
+  bare_refused s {k} {tail} c some is =
       let there : pieces q (cells s) ≡ some.pairs ++ One k ∷ tail =
       some.is ∙ ap (λ z. some.pairs ++ z) is in
       of_piece c (λ none. never_nil some.pairs (One k) tail (sym there ∙ none))
-      (λ v rest g. bare_spoils some.pairs tail g.0 k g.1.0 g.1.1
-      (sym there ∙ g.2))
+      (λ v rest g. bare_spoils some.pairs tail g.0 k g.1.0 g.1.1 (sym there ∙ g.2))
 
   -- a refusal: no piece, one without a value, or a last one that means none
-  last_err : (s t : Situation) (e : Error) (m : Message) → class e ≡ class_of m
+  last_err : {s t : Situation} {e : Error} (m : Message) → class e ≡ class_of m
       → s.context.env ≡ variables → ArgumentFails means argument s m t
       → SingleErr T ByName q (LastGroup T means) gap s e t
-  last_err s t e Memory c same o = of_memory c
-  last_err s t e (ParseFailed place fault) c same o = ⊎_elim
-      (λ takes. let got = takes_all s t o.0 takes in
-      of_piece c (takes_nonempty q got.pieces_are.any.one) (fault_group s t o.0 got o.2.0))
-      (λ read. variable_fault T means argument (LastGroup T means) variables s t e o.0 same read c
-      o.2.0) o.1
-  last_err s t e (NoArgument key metavar) c same o =
+  last_err Memory c same o = of_memory c
+  last_err (ParseFailed place fault) c same o = ⊎_elim (λ takes. let got = takes_all takes in
+      of_piece c (takes_nonempty got.pieces_are.any.one) (fault_group got o.2.0))
+      (λ read. variable_fault means argument (LastGroup T means) variables same read c o.2.0) o.1
+  last_err {s} {t} (NoArgument key metavar) c same o =
       let before = subst (λ b. TakesBefore b argument s t) all o.1 in
       let m = match_of (is_key_with_value argument) t key o.0.0.matches in
-      let b = bare_taken (is_key_with_value argument) q t key (test argument) o.0.0 m o.0.1 in
-      bare_refused s t e m.item b.tail c (took_some s t before.0 before.1) b.is
-  last_err s t e other c same o =
-      nowhere T means argument (LastGroup T means) variables s t e other c same o.0 o.1 o.2
+      let b = bare_taken (test argument) o.0.0 m o.0.1 in
+      bare_refused s c (took_some s t before.0 before.1) b.is
+  last_err other c same o =
+      nowhere means argument (LastGroup T means) variables other c same o.0 o.1 o.2
 
   -- such an argument keeps to the laws of a field
   pub last_argument_law : SingleLaw variables T (ArgumentOutcome means argument)
@@ -226,5 +219,5 @@ module _ (T : Type 0) (means : List ℕ → T → Type 0) (argument : KeyWithVal
     starts = λ v rest g. never_nil (pairs g.0) (Two g.1.0 g.1.1) [] (sym g.2);
     no_absent = gap_empty means _;
     ok = last_ok;
-    err = λ s t e w o. last_err s t e e.0 refl w.environment o;
+    err = λ s t e w o. last_err e.0 refl w.environment o;
   }

@@ -72,35 +72,34 @@ test_named test names own asks =
     by_key k false h f = refl
 
 -- where a place has no match, nothing of the field's own is there
-not_own : (test : Arg → Bool) (r : Roles) (own : Role) (s : Situation) (p : ℕ) → ByTest test r own
+not_own : {test : Arg → Bool} {r : Roles} {own : Role} (s : Situation) (p : ℕ) → ByTest test r own
     → is_match test s p ≡ false → NotOwn r (open_item s p)
-not_own test r own s p t e = by_item (open_item s p) e
+not_own {test} {r} s p t e = by_item (open_item s p) e
   where
     by_item : (c : Option Arg) → option_map_or test c false ≡ false → NotOwn r c
     by_item None h = tt
     by_item (Some k) h = t.no k h
 
 -- nothing of the field's own stands before the first match
-none_before : (test : Arg → Bool) (r : Roles) (own : Role) (s : Situation) (p : ℕ)
+none_before : {test : Arg → Bool} {r : Roles} {own : Role} {s : Situation} {p : ℕ}
     → ByTest test r own → IsFirst test s p → NoneBefore r (open_item s) p
-none_before test r own s p t f = record { before = λ q l. not_own test r own s q t (f.first q l) }
+none_before {s} t f = record { before = λ q l. not_own s q t (f.first q l) }
 
 -- without a match there is no piece
-pub no_pieces : (test : Arg → Bool) (r : Roles) (own : Role) (s : Situation) → ByTest test r own
+pub no_pieces : {test : Arg → Bool} {r : Roles} {own : Role} (s : Situation) → ByTest test r own
     → HasNone test s → pieces r (cells s) ≡ []
 unfolding cells
-no_pieces test r own s t none =
-    none_present r (open_item s) (length s.context.line) (λ p. not_own test r own s p t (none p))
+no_pieces {r} s t none =
+    none_present r (open_item s) (length s.context.line) (λ p. not_own s p t (none p))
 
 -- the first match, taken by itself
-pub one_taken : (test : Arg → Bool) (r : Roles) (s : Situation) (p : ℕ) → ByTest test r Alone
+pub one_taken : {test : Arg → Bool} {r : Roles} {s : Situation} {p : ℕ} → ByTest test r Alone
     → IsFirst test s p → (m : Match test s p)
     → TakesFirst r (cells s) (One m.item) (cells (take_place s p))
 unfolding cells
-one_taken test r s p t f m =
-    take_one r (open_item s) (open_item (take_place s p))
-    (length s.context.line) p m.item m.in_line m.is (t.yes m.item m.passes)
-    (none_before test r Alone s p t f) (open_one s p)
+one_taken {s} {p} t f m =
+    take_one (length s.context.line) p m.in_line m.is (t.yes m.item m.passes)
+    (none_before t f) (open_one s p)
 
 -- the value behind a key
 pub record Behind (s : Situation) (p : ℕ) (text : List ℕ) : Type 0 where
@@ -111,16 +110,16 @@ pub record Behind (s : Situation) (p : ℕ) (text : List ℕ) : Type 0 where
   pub in_line : suc p < length s.context.line
 
 -- the text of a value is that of its item
-value_is : (w : Arg) (text : List ℕ) → value_text w ≡ Some text
+value_is : (w : Arg) {text : List ℕ} → value_text w ≡ Some text
     → (is_some (value_text w) ≡ true) × (item_text w ≡ text)
-value_is (ArgWord own) text e = (refl, cc)
-value_is (Word own) text e = (refl, cc)
-value_is _ text e = absurd cc
+value_is (ArgWord own) e = (refl, cc)
+value_is (Word own) e = (refl, cc)
+value_is _ e = absurd cc
 
 -- a text behind a key is that of an item there
-pub behind_of : (s : Situation) (p : ℕ) (text : List ℕ) → value_after s p ≡ Some text
+pub behind_of : (s : Situation) {p : ℕ} {text : List ℕ} → value_after s p ≡ Some text
     → Behind s p text
-behind_of s p text e =
+behind_of s {p} {text} e =
     by_item (open_item s (suc p)) refl
     (ap (λ q. option_and_then value_text (open_item s q)) (sym (add-one p)) ∙ e)
   where
@@ -128,7 +127,7 @@ behind_of s p text e =
         → Behind s p text
     by_item None f h = absurd cc
     by_item (Some w) f h =
-        let v = value_is w text h in
+        let v = value_is w h in
         record {
           item = w;
           is = f;
@@ -155,53 +154,52 @@ pub pair_is : (s : Situation) (p : ℕ) → take_place (take_place s p) (p + 1) 
 pair_is s p = ap (λ q. take_place (take_place s p) q) (add-one p)
 
 -- the first match, taken with the value behind it
-pub two_taken : (test : Arg → Bool) (r : Roles) (s : Situation) (p : ℕ) (text : List ℕ)
+pub two_taken : {test : Arg → Bool} {r : Roles} (s : Situation) {p : ℕ} {text : List ℕ}
     → ByTest test r WithNext → IsFirst test s p → (m : Match test s p) (b : Behind s p text)
     → TakesFirst r (cells s) (Two m.item b.item) (cells (taken_pair s p))
 unfolding cells
-two_taken test r s p text t f m b =
-    take_two r (open_item s) (open_item (taken_pair s p))
-    (length s.context.line) p m.item b.item b.in_line m.is b.is (t.yes m.item m.passes) b.value
-    (none_before test r WithNext s p t f) (open_two s p)
+two_taken s {p} t f m b =
+    take_two (length s.context.line) p b.in_line m.is b.is (t.yes m.item m.passes) b.value
+    (none_before t f) (open_two s p)
 
 -- taking both changes what is taken and the current place alone
 pub two_steady : (s : Situation) (p : ℕ) → Steady s (taken_pair s p)
 two_steady s p = steady_trans (take_steady s p) (take_steady (take_place s p) (suc p))
 
 -- the first match heads the pieces as it stands, where no value is behind it
-pub bare_taken : (test : Arg → Bool) (r : Roles) (s : Situation) (p : ℕ) → ByTest test r WithNext
+pub bare_taken : {test : Arg → Bool} {r : Roles} {s : Situation} {p : ℕ} → ByTest test r WithNext
     → IsFirst test s p → (m : Match test s p) → value_after s p ≡ None → BareHead r (cells s) m.item
 unfolding cells
-bare_taken test r s p t f m e =
-    bare_first r (open_item s) (length s.context.line) p m.item m.in_line m.is
-    (t.yes m.item m.passes) (none_before test r WithNext s p t f) (none_behind s p e)
+bare_taken {s} {p} t f m e =
+    bare_first (length s.context.line) p m.in_line m.is
+    (t.yes m.item m.passes) (none_before t f) (none_behind s p e)
 
 -- the first piece taken is an alternative's answer
-pub first_alternative : (T : Type 0) (q : Roles) (value : LinePiece → T → Type 0) (s t : Situation)
-    (v : T) (o : LinePiece) → Steady s t → value o v → TakesFirst q (cells s) o (cells t)
+pub first_alternative : {T : Type 0} {q : Roles} (value : LinePiece → T → Type 0) {s t : Situation}
+    {v : T} {o : LinePiece} → Steady s t → value o v → TakesFirst q (cells s) o (cells t)
     → AlternativeOk T q value s v t
-first_alternative T q value s t v o st m f = record {
+first_alternative value {o} st m f = record {
   steady = st;
   piece = o;
-  takes = first_takes q f;
+  takes = first_takes f;
   means = m;
   first = inl f;
   readable = λ p os w e g. f;
 }
 
 -- the first piece can't be read
-pub first_refused : (T : Type 0) (q : Roles) (value : LinePiece → T → Type 0) (s t : Situation)
-    (e : Error) (o : LinePiece) (os : List LinePiece) → class e ≡ Refused → t.path ≡ s.path
+pub first_refused : {T : Type 0} {q : Roles} (value : LinePiece → T → Type 0) {s t : Situation}
+    {e : Error} {o : LinePiece} {os : List LinePiece} → class e ≡ Refused → t.path ≡ s.path
     → pieces q (cells s) ≡ o ∷ os → ((v : T) → value o v → ⊥) → AlternativeErr T q value s e t
-first_refused T q value s t e o os c p h n =
+first_refused {T} value {o} c p h n =
     alternative_refused c p (subst (HasBad T value) (sym h) (bad_here n))
     (λ x xs w g m. let d : x ≡ o = (let k = sym h ∙ g in cc) in n w (subst (λ z. value z w) d m))
 
 -- no piece, nothing taken
-pub missing_same : (T : Type 0) (q : Roles) (value : LinePiece → T → Type 0) (s t : Situation)
-    (e : Error) → class e ≡ OfMissing → pieces q (cells s) ≡ [] → t ≡ s
+pub missing_same : {T : Type 0} {q : Roles} (value : LinePiece → T → Type 0) {s t : Situation}
+    {e : Error} → class e ≡ OfMissing → pieces q (cells s) ≡ [] → t ≡ s
     → AlternativeErr T q value s e t
-missing_same T q value s t e c p same =
+missing_same {T} {q} value {s} {e} c p same =
     subst (λ z. AlternativeErr T q value s e z) (sym same)
     (alternative_missing c p refl (steady_refl s))
 
@@ -219,13 +217,13 @@ absence_missing s None [] e m o = misses s None m o
 absence_missing s None (env ∷ envs) e m o = absurd cc
 
 -- that of any key can be caught
-pub absence_caught : (s : Situation) (part : Option Part) (envs : List (List ℕ)) (e : Error)
+pub absence_caught : (s : Situation) (part : Option Part) (envs : List (List ℕ)) {e : Error}
     (m : Message) → class e ≡ class_of m → IsAbsence s part envs m → CanCatch e
-absence_caught s (Some part) envs e m c o =
+absence_caught s (Some part) envs m c o =
     catch_missing (c ∙ missing_class m (misses s (Some part) m o))
-absence_caught s None [] e m c o = catch_missing (c ∙ missing_class m (misses s None m o))
-absence_caught s None (env ∷ envs) e (NoEnv name) c o = catch_other c
-absence_caught s None (env ∷ envs) e m c o = absurd o
+absence_caught s None [] m c o = catch_missing (c ∙ missing_class m (misses s None m o))
+absence_caught s None (env ∷ envs) (NoEnv name) c o = catch_other c
+absence_caught s None (env ∷ envs) m c o = absurd o
 
 -- a role that a test gives is one of the field's own where the test holds
 own_test : (b : Bool) (x : Role) → is_own_role (if b then x else Foreign) ≡ true → b ≡ true
@@ -233,9 +231,8 @@ own_test true x e = refl
 own_test false x e = absurd cc
 
 -- and each of these has one of the names
-pub test_owns : (test : Arg → Bool) (names : Names) (own : Role)
+pub test_owns : {test : Arg → Bool} {names : Names} (own : Role)
     → ((k : Arg) → test k ≡ true → is_key_of names k ≡ true)
     → Owns (λ k. if test k then own else Foreign) (names ∷ [])
-test_owns test names own asks = record {
-  own = λ k e. ap (λ b. b || false) (asks k (own_test (test k) own e));
-}
+test_owns {test} own asks =
+    record { own = λ k e. ap (λ b. b || false) (asks k (own_test (test k) own e)) }

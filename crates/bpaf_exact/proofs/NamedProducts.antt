@@ -52,12 +52,12 @@ module _ (q : Roles) (k : Arg) (cs : Cells) (os : List LinePiece) where
   others_begin WithNext h =
       ap (λ b. if not b then (with_next k cs ∷ others q os) else others q os) (own_next q k cs ∙ h)
 
-module _ (p q r : Roles) (u : Union p q r) where
+module _ {p q r : Roles} (u : Union p q r) where
   -- of the pieces of both the first one's are its own,
   pub mine_of_both : (cs : Cells) → mine p (pieces r cs) ≡ pieces p cs
   mine_of_both [] = refl
   mine_of_both (None ∷ cs) = mine_of_both cs
-  mine_of_both (Some k ∷ cs) = by_owner (belongs p q r k u) (mine_of_both cs)
+  mine_of_both (Some k ∷ cs) = by_owner (belongs k u) (mine_of_both cs)
     where
       by_owner : Belongs p q r k → mine p (pieces r cs) ≡ pieces p cs
           → mine p (pieces r (Some k ∷ cs)) ≡ pieces p (Some k ∷ cs)
@@ -74,7 +74,7 @@ module _ (p q r : Roles) (u : Union p q r) where
   pub others_of_both : (cs : Cells) → others p (pieces r cs) ≡ pieces q cs
   others_of_both [] = refl
   others_of_both (None ∷ cs) = others_of_both cs
-  others_of_both (Some k ∷ cs) = by_owner (belongs p q r k u) (others_of_both cs)
+  others_of_both (Some k ∷ cs) = by_owner (belongs k u) (others_of_both cs)
     where
       by_owner : Belongs p q r k → others p (pieces r cs) ≡ pieces q cs
           → others p (pieces r (Some k ∷ cs)) ≡ pieces q (Some k ∷ cs)
@@ -90,7 +90,7 @@ module _ (p q r : Roles) (u : Union p q r) where
   -- what the first takes both take
   takes_some_left : {cs ds : Cells} → TakesPieces p cs ds → TakesPieces r cs ds
   takes_some_left takes_none = takes_none
-  takes_some_left (takes_more t more) = takes_more (takes_left p q r u t) (takes_some_left more)
+  takes_some_left (takes_more t more) = takes_more (takes_left u t) (takes_some_left more)
 
 -- A named field before other named fields.
 module _ {env : Variables} (A B : Type 0) (first : Outcome A) (rest : Outcome B) (q r : Roles)
@@ -106,88 +106,84 @@ module _ {env : Variables} (A B : Type 0) (first : Outcome A) (rest : Outcome B)
   both = either q r
 
   together : Union q r both
-  together = either_union q r lf.own lr.own apart
+  together = either_union lf.own lr.own apart
 
   -- both have a value on their own pieces where each has one on its own
   both_value : (cs : Cells) (v : A × B) → fv (pieces q cs) v.0 → read.value (pieces r cs) v.1
       → value (pieces both cs) v
   both_value cs v a b = (
-    subst (λ os. fv os v.0) (sym (mine_of_both q r both together cs)) a,
-    subst (λ os. read.value os v.1) (sym (others_of_both q r both together cs)) b,
+    subst (λ os. fv os v.0) (sym (mine_of_both together cs)) a,
+    subst (λ os. read.value os v.1) (sym (others_of_both together cs)) b,
   )
 
   -- and the other way
-  each_value : (cs : Cells) (v : A × B) → value (pieces both cs) v
+  each_value : (cs : Cells) {v : A × B} → value (pieces both cs) v
       → fv (pieces q cs) v.0 × read.value (pieces r cs) v.1
-  each_value cs v h = (
-    subst (λ os. fv os v.0) (mine_of_both q r both together cs) h.0,
-    subst (λ os. read.value os v.1) (others_of_both q r both together cs) h.1,
+  each_value cs {v} h = (
+    subst (λ os. fv os v.0) (mine_of_both together cs) h.0,
+    subst (λ os. read.value os v.1) (others_of_both together cs) h.1,
   )
 
   -- what the first takes leaves the pieces of the rest,
   rest_kept : {cs ds : Cells} → TakesPieces q cs ds → pieces r ds ≡ pieces r cs
-  rest_kept t = keeps_other_some q r lf.own lr.own apart t
+  rest_kept t = keeps_other_some lf.own lr.own apart t
 
   -- and what they take leaves its own
   first_kept : {cs ds : Cells} → TakesPieces r cs ds → pieces q ds ≡ pieces q cs
   first_kept t =
-      keeps_other_some r q lr.own lf.own (record { left = apart.right; right = apart.left }) t
+      keeps_other_some lr.own lf.own (record { left = apart.right; right = apart.left }) t
 
   -- a value, where nothing of either's own is left
   both_took : (s t : Situation) (v : A × B) → IsWholeIn env s → BothOutcome first rest s (Ok v) t
       → FieldTook (A × B) ByName both value s v t
   both_took s t v w o =
-      let h = values_of_both A B first rest s t v o in
+      let h = values_of_both first rest o in
       let i = lf.ok s h.middle v.0 w h.first_ran in
-      let j = lr.ok h.middle t v.1 (none_outside_after s h.middle w i.steady) h.rest_ran in
+      let j = lr.ok h.middle t v.1 (none_outside_after w i.steady) h.rest_ran in
       record {
         steady = steady_trans i.steady j.steady;
-        takes = some_trans both (takes_some_left q r both together i.takes)
-            (takes_some_left r q both (swap_union q r both together) j.takes);
-        read = λ none. both_value (cells s) v
-            (i.read (sym (first_kept j.takes)
-            ∙ (sym (mine_of_both q r both together (cells t)) ∙ ap (mine q) none)))
+        takes = some_trans (takes_some_left together i.takes)
+            (takes_some_left (swap_union q r both together) j.takes);
+        read = λ none. both_value (cells s) v (i.read (sym (first_kept j.takes)
+            ∙ (sym (mine_of_both together (cells t)) ∙ ap (mine q) none)))
             (subst (λ os. read.value os v.1) (rest_kept i.takes)
-            (j.read (sym (others_of_both q r both together (cells t)) ∙ ap (others q) none)));
+            (j.read (sym (others_of_both together (cells t)) ∙ ap (others q) none)));
         rest = λ none. none;
       }
 
   -- where both have a value, so have the others after the first
-  rest_value : (s m : Situation) (x : A) (u : A × B) → IsWholeIn env s → first s (Ok x) m
+  rest_value : {s m : Situation} {x : A} {u : A × B} → IsWholeIn env s → first s (Ok x) m
       → value (pieces both (cells s)) u → read.value (pieces r (cells m)) u.1
-  rest_value s m x u w f h =
+  rest_value {s} {m} {x} {u} w f h =
       subst (λ os. read.value os u.1) (sym (rest_kept (lf.ok s m x w f).takes))
-      (each_value (cells s) u h).1
+      (each_value (cells s) h).1
 
   -- so nothing of either's own is left
   both_take : (s t : Situation) (v u : A × B) → IsWholeIn env s → BothOutcome first rest s (Ok v) t
       → value (pieces both (cells s)) u → pieces both (cells t) ≡ []
   both_take s t v u w o h =
-      let i = values_of_both A B first rest s t v o in
-      let after = none_outside_after s i.middle w (lf.ok s i.middle v.0 w i.first_ran).steady in
-      both_nil q r both (cells t) together
-      (first_kept (lr.ok i.middle t v.1 after i.rest_ran).takes
-      ∙ lf.takes_all s i.middle v.0 u.0 w i.first_ran (each_value (cells s) u h).0)
-      (lr.takes_all i.middle t v.1 u.1 after i.rest_ran
-      (rest_value s i.middle v.0 u w i.first_ran h))
+      let i = values_of_both first rest o in
+      let after = none_outside_after w (lf.ok s i.middle v.0 w i.first_ran).steady in
+      both_nil (cells t) together (first_kept (lr.ok i.middle t v.1 after i.rest_ran).takes
+      ∙ lf.takes_all s i.middle v.0 u.0 w i.first_ran (each_value (cells s) h).0)
+      (lr.takes_all i.middle t v.1 u.1 after i.rest_ran (rest_value w i.first_ran h))
 
   -- and a refusal is want of memory
   both_refuse : (s t : Situation) (e : Error) (u : A × B) → IsWholeIn env s
       → BothOutcome first rest s (Err e) t → value (pieces both (cells s)) u → class e ≡ OfMemory
-  both_refuse s t e u w o h = by_side (refused_by A B first rest s t e o)
+  both_refuse s t e u w o h = by_side (refused_by first rest o)
     where
-      by_side : RefusedBy A B first rest s e t → class e ≡ OfMemory
+      by_side : RefusedBy first rest s e t → class e ≡ OfMemory
       by_side (for_memory m) = m
       by_side (by_first {d = d} {m = m} f spared) =
-          absurd (spared (lf.refuses s m d u.0 w f (each_value (cells s) u h).0))
+          absurd (spared (lf.refuses s m d u.0 w f (each_value (cells s) h).0))
       by_side (by_rest {v = v} {m = m} f g) =
-          lr.refuses m t e u.1 (none_outside_after s m w (lf.ok s m v w f).steady) g
-          (rest_value s m v u w f h)
+          lr.refuses m t e u.1 (none_outside_after w (lf.ok s m v w f).steady) g (rest_value w f h)
 
   -- together they keep to the laws of a named field
   pub named_both_law : FieldLaw env (A × B) (BothOutcome first rest) ByName both value
   named_both_law = record {
-    own = union_named q r both together;
+    own = union_named together;
     ok = both_took;
     takes_all = both_take;
     refuses = both_refuse;
@@ -200,48 +196,47 @@ none_of_nobody (None ∷ cs) = none_of_nobody cs
 none_of_nobody (Some k ∷ cs) = none_of_nobody cs
 
 -- The last of named fields.
-module _ {env : Variables} (T : Type 0) (outcome : Outcome T) (q : Roles)
-    (value : List LinePiece → T → Type 0) (l : FieldLaw env T outcome ByName q value) where
+module _ {env : Variables} {T : Type 0} {outcome : Outcome T} {q : Roles}
+    {value : List LinePiece → T → Type 0} (l : FieldLaw env T outcome ByName q value) where
   -- its items
   abbrev alone : Roles
   alone = either q no_roles
 
   by_itself : Union q no_roles alone
-  by_itself = either_union q no_roles l.own (record { only_keys = λ k h. refl })
-      (before_none T outcome ByName q value l)
+  by_itself = either_union l.own (record { only_keys = λ k h. refl }) (before_none l)
 
   -- its value is that of a last field
   last_value : (cs : Cells) (v : T) → value (pieces q cs) v
       → (last_reading ByName q value).value (pieces alone cs) v
   last_value cs v h = (
-    subst (λ os. value os v) (sym (mine_of_both q no_roles alone by_itself cs)) h,
-    others_of_both q no_roles alone by_itself cs ∙ none_of_nobody cs,
+    subst (λ os. value os v) (sym (mine_of_both by_itself cs)) h,
+    others_of_both by_itself cs ∙ none_of_nobody cs,
   )
 
   -- and the other way
-  own_read : (cs : Cells) (v : T) → (last_reading ByName q value).value (pieces alone cs) v
+  own_read : (cs : Cells) {v : T} → (last_reading ByName q value).value (pieces alone cs) v
       → value (pieces q cs) v
-  own_read cs v h = subst (λ os. value os v) (mine_of_both q no_roles alone by_itself cs) h.0
+  own_read cs {v} h = subst (λ os. value os v) (mine_of_both by_itself cs) h.0
 
   -- a last field keeps to the laws of a named one
   pub named_last_law : FieldLaw env T outcome ByName alone (last_reading ByName q value).value
   named_last_law = record {
-    own = union_named q no_roles alone by_itself;
+    own = union_named by_itself;
     ok = λ s t v w o. let i = l.ok s t v w o in record {
       steady = i.steady;
-      takes = takes_some_left q no_roles alone by_itself i.takes;
+      takes = takes_some_left by_itself i.takes;
       read = λ none. last_value (cells s) v
-          (i.read (sym (mine_of_both q no_roles alone by_itself (cells t)) ∙ ap (mine q) none));
+          (i.read (sym (mine_of_both by_itself (cells t)) ∙ ap (mine q) none));
       rest = λ none. none;
     };
-    takes_all = λ s t v u w o h. both_nil q no_roles alone (cells t) by_itself
-        (l.takes_all s t v u w o (own_read (cells s) u h)) (none_of_nobody (cells t));
-    refuses = λ s t e u w o h. l.refuses s t e u w o (own_read (cells s) u h);
+    takes_all = λ s t v u w o h. both_nil (cells t) by_itself
+        (l.takes_all s t v u w o (own_read (cells s) h)) (none_of_nobody (cells t));
+    refuses = λ s t e u w o h. l.refuses s t e u w o (own_read (cells s) h);
   }
 
 -- The constructor of named fields.
-module _ {env : Variables} (A B : Type 0) (fields : Outcome A) (makes : A → B → Type 0) (q : Roles)
-    (value : List LinePiece → A → Type 0) (l : FieldLaw env A fields ByName q value) where
+module _ {env : Variables} {A B : Type 0} {fields : Outcome A} (makes : A → B → Type 0) {q : Roles}
+    {value : List LinePiece → A → Type 0} (l : FieldLaw env A fields ByName q value) where
   -- what it makes of their values
   abbrev made : List LinePiece → B → Type 0
   made = ClosedValue value (map_closure makes)

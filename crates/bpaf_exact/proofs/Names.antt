@@ -13,13 +13,14 @@ use Rattle.bpaf_exact.specs.Pieces.{either_role}
 use Rattle.bpaf_exact.specs.Names.{is_key_of_any, are_apart, are_all_apart, Owns}
 
 -- a test that holds of each element of a list holds of one that a second test picks
-picked : {X : Type 0} (test pick : X → Bool) (x : X) → ((y : X) → pick y ≡ true → y ≡ x)
-    → (ys : List X) → list_all test ys ≡ true → list_any pick ys ≡ true → test x ≡ true
-picked test pick x same [] all any = absurd cc
-picked test pick x same (y ∷ ys) all any = ⊎_elim
+picked : {X : Type 0} (test : X → Bool) {pick : X → Bool} {x : X}
+    → ((y : X) → pick y ≡ true → y ≡ x) → (ys : List X) → list_all test ys ≡ true
+    → list_any pick ys ≡ true → test x ≡ true
+picked test same [] all any = absurd cc
+picked test {pick} same (y ∷ ys) all any = ⊎_elim
     (λ (e : pick y ≡ true). subst (λ z. test z ≡ true) (same y e)
     (and_parts (test y) (list_all test ys) all).0)
-    (λ e. picked test pick x same ys (and_parts (test y) (list_all test ys) all).1 e)
+    (λ e. picked test same ys (and_parts (test y) (list_all test ys) all).1 e)
     (or_cases (pick y) (list_any pick ys) any)
 
 -- a test and its opposite don't both hold
@@ -31,12 +32,11 @@ never_both false e f = cc
 one_owner : (own others : Names) (k : Arg) → are_apart own others ≡ true → is_key_of own k ≡ true
     → is_key_of others k ≡ true → ⊥
 one_owner own others (Short c attached word) apart e f =
-    never_both (is_among others.shorts c)
-    (picked (λ name. not (is_among others.shorts name)) (λ d. d == c) c
+    never_both (is_among others.shorts c) (picked (λ name. not (is_among others.shorts name))
     (λ d h. eqb-true d c h) own.shorts (and_parts _ _ apart).0 e) f
 one_owner own others (Long name attached word) apart e f =
     never_both (is_text_among others.longs name)
-    (picked (λ other. not (is_text_among others.longs other)) (λ other. bytes_eq other name) name
+    (picked (λ other. not (is_text_among others.longs other))
     (λ other h. (bytes_eq-Decides other name).0 h) own.longs (and_parts _ _ apart).1 e) f
 one_owner own others _ apart e f = cc
 
@@ -69,9 +69,9 @@ foreign_of Foreign e = refl
 foreign_of _ e = cc
 
 -- keys that are apart keep the fields apart
-pub apart_of_names : (q r : Roles) (keys others : List Names) → Owns q keys → Owns r others
+pub apart_of_names : {q r : Roles} {keys others : List Names} → Owns q keys → Owns r others
     → are_all_apart keys others ≡ true → Apart q r
-apart_of_names q r keys others a b h = record {
+apart_of_names {q} {r} {keys} {others} a b h = record {
   left = λ k e. foreign_of (r k) (false_from_ne_true (is_own_role (r k))
       (λ f. one_list keys others k h (a.own k e) (b.own k f)));
   right = λ k e. foreign_of (q k) (false_from_ne_true (is_own_role (q k))
@@ -89,11 +89,10 @@ or_true true = refl
 or_true false = refl
 
 -- the keys of two fields together
-pub either_owns : (q r : Roles) (keys others : List Names) → Owns q keys → Owns r others
+pub either_owns : {q r : Roles} {keys others : List Names} → Owns q keys → Owns r others
     → Owns (either q r) (keys ++ others)
-either_owns q r keys others a b = record {
-  own = λ k e.
-      list_any-append (λ names. is_key_of names k) keys others ∙ ⊎_elim
+either_owns {q} {r} {keys} {others} a b = record {
+  own = λ k e. list_any-append (λ names. is_key_of names k) keys others ∙ ⊎_elim
       (λ (one : is_own_role (q k) ≡ true). ap (λ z. z || is_key_of_any others k) (a.own k one))
       (λ (other : is_own_role (r k) ≡ true).
       ap (λ z. is_key_of_any keys k || z) (b.own k other) ∙ or_true (is_key_of_any keys k))

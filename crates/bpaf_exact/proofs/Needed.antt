@@ -49,13 +49,13 @@ made_needs needs = record { some = λ v made. needs.some made.from made.told }
 -- a repeat that has values where each of them does,
 pub repeat_needs : {T : Type 0} {said : Said T} → NeedsPiece said → (vs : List T) → vs ≢ []
     → ¬ (RepeatSays said [] vs)
-repeat_needs {T} {said} needs vs some (says_alone a none e told) = needs.some a told
-repeat_needs {T} {said} needs vs some (says_in_turn turns) = in_turn [] vs refl some turns
+repeat_needs needs vs some (says_alone a none e told) = needs.some a told
+repeat_needs {T} {said} needs vs some (says_in_turn turns) = in_turn vs refl some turns
   where
-    in_turn : (os : List LinePiece) (xs : List T) → os ≡ [] → xs ≢ []
+    in_turn : {os : List LinePiece} (xs : List T) → os ≡ [] → xs ≢ []
         → ¬ (Own T (FrontSays said) os xs)
-    in_turn os [] none some turns = some refl
-    in_turn os (x ∷ xs) none some (own_more {rest = rest} front more) =
+    in_turn [] none some turns = some refl
+    in_turn (x ∷ xs) none some (own_more {rest = rest} front more) =
         front.some (no_part front.part rest (sym none ∙ front.is))
 
 -- and a last value then.

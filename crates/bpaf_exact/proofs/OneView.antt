@@ -61,133 +61,125 @@ module _ (A B X Y : Type 0) (see : A → X) (look : B → Y) (f : Closure A B)
 -- Leaves.
 
 -- the values of the first piece look alike
-front_view : (T X : Type 0) (see : T → X) (value : LinePiece → T → Type 0)
+front_view : {T X : Type 0} {see : T → X} (value : LinePiece → T → Type 0)
     → ((o : LinePiece) → Alike see (value o)) → OneGroup see (FrontOf T value)
-front_view T X see value u os rest others v w a b =
+front_view value u os rest others v w a b =
     let c : a.0 ∷ rest ≡ b.0 ∷ others = sym a.1 ∙ b.1 in
     let d : a.0 ≡ b.0 = cc in
     (u b.0 v w (subst (λ z. value z v) d a.2) b.2, cc)
 
 -- a present value
-flag_piece : (T X : Type 0) (see : T → X) (present : T → Type 0) → Alike see present
+flag_piece : {T X : Type 0} {see : T → X} {present : T → Type 0} → Alike see present
     → (o : LinePiece) → Alike see (FlagValue present o)
-flag_piece T X see present u (One k) v w a b = u v w a b
-flag_piece T X see present u (Two k x) v w a b = absurd a
+flag_piece u (One k) v w a b = u v w a b
+flag_piece u (Two k x) v w a b = absurd a
 
 -- a key, where its pieces, its groups and what stands for none look alike
-key_view : (T X : Type 0) (see : T → X) (wide may_choose : Bool) (q : Roles)
-    (each : LinePiece → T → Type 0) (group : Groups T) (gap : Gap T)
+key_view : {T X : Type 0} {see : T → X} (wide may_choose : Bool) (q : Roles)
+    {each : LinePiece → T → Type 0} {group : Groups T} (gap : Gap T)
     → ((o : LinePiece) → Alike see (each o)) → OneGroup see group → Alike see gap.absent
     → HasOneView see (key_field wide may_choose q each group gap)
-key_view T X see wide true q each group gap piece groups none = piece
-key_view T X see wide false q each group gap piece groups none = (groups, none)
+key_view wide true q gap piece groups none = piece
+key_view wide false q gap piece groups none = (groups, none)
 
 -- what something means, where it is there
-meant_view : {Y T X : Type 0} (see : T → X) (means : Y → T → Type 0)
+meant_view : {Y T X : Type 0} {see : T → X} {means : Y → T → Type 0}
     → ((y : Y) → Alike see (means y)) → (kept : Option Y) → Alike see (IsSomeRelated means kept)
-meant_view see means u None v w a b = absurd a
-meant_view see means u (Some y) v w a b = u y v w a b
+meant_view u None v w a b = absurd a
+meant_view u (Some y) v w a b = u y v w a b
 
 -- a flag, whose clones look alike
 pub flag_view : (T X : Type 0) (see : T → X) (clones : T → T → Type 0)
     → ((kept : T) → Alike see (clones kept)) → (key : Key) (present : T) (absent : Option T)
     (variables : Variables) → HasOneView see (flag_field clones key present absent variables)
 flag_view T X see clones u key present absent variables =
-    key_view T X see (not (is_nil key.envs)) (is_nil key.envs && is_none absent)
-    (flag_roles key.names) _ _ _
-    (flag_piece T X see (clones present) (u present))
-    (front_view T X see _ (flag_piece T X see (clones present) (u present)))
-    (meant_view see clones u _)
+    key_view (not (is_nil key.envs)) (is_nil key.envs && is_none absent) (flag_roles key.names) _
+    (flag_piece (u present)) (front_view _ (flag_piece (u present))) (meant_view u _)
 
 -- a key and its value
-argument_piece : (T X : Type 0) (see : T → X) (means : List ℕ → T → Type 0)
+argument_piece : {T X : Type 0} {see : T → X} {means : List ℕ → T → Type 0}
     → ((text : List ℕ) → Alike see (means text)) → (o : LinePiece)
     → Alike see (ArgumentValue means o)
-argument_piece T X see means u (One k) v w a b = absurd a
-argument_piece T X see means u (Two k x) v w a b = u (item_text x) v w a b
+argument_piece u (One k) v w a b = absurd a
+argument_piece u (Two k x) v w a b = u (item_text x) v w a b
 
 -- all keys with their values, of which the last one counts
-last_group : (T X : Type 0) (see : T → X) (means : List ℕ → T → Type 0)
+last_group : {T X : Type 0} {see : T → X} {means : List ℕ → T → Type 0}
     → ((text : List ℕ) → Alike see (means text)) → OneGroup see (LastGroup T means)
-last_group T X see means u os rest others v w a b =
-    let same : Two a.1.0 a.1.1 ≡ Two b.1.0 b.1.1 =
-    last_same LinePiece _ _ (Two a.1.0 a.1.1) (Two b.1.0 b.1.1) (sym a.2 ∙ b.2) in
+last_group {means} u os rest others v w a b =
+    let same : Two a.1.0 a.1.1 ≡ Two b.1.0 b.1.1 = last_same _ _ (sym a.2 ∙ b.2) in
     let word : a.1.1 ≡ b.1.1 = cc in (
       u (item_text b.1.1) v w (subst (λ x. means (item_text x) v) word a.3) b.3,
       a.4 ∙ sym b.4,
     )
 
 -- the pieces of one evaluation
-argument_group_view : (T X : Type 0) (see : T → X) (means : List ℕ → T → Type 0)
+argument_group_view : {T X : Type 0} {see : T → X} {means : List ℕ → T → Type 0}
     → ((text : List ℕ) → Alike see (means text)) → (last : Bool)
     → OneGroup see (argument_group means last)
-argument_group_view T X see means u false = front_view T X see _ (argument_piece T X see means u)
-argument_group_view T X see means u true = last_group T X see means u
+argument_group_view u false = front_view _ (argument_piece u)
+argument_group_view u true = last_group u
 
 -- an argument, where what a text means looks alike
 pub argument_view : (T X : Type 0) (see : T → X) (means : List ℕ → T → Type 0)
     → ((text : List ℕ) → Alike see (means text)) → (argument : KeyWithValue)
     (variables : Variables) → HasOneView see (argument_field means argument variables)
 argument_view T X see means u argument variables =
-    key_view T X see (argument.adjacent || not (is_nil argument.named.envs))
+    key_view (argument.adjacent || not (is_nil argument.named.envs))
     (is_nil argument.named.envs && not argument.last)
-    (argument_roles argument.adjacent argument.named.names) _ _ _ (argument_piece T X see means u)
-    (argument_group_view T X see means u argument.last)
-    (meant_view see means u (first_set variables argument.named.envs))
+    (argument_roles argument.adjacent argument.named.names) _ (argument_piece u)
+    (argument_group_view u argument.last) (meant_view u (first_set variables argument.named.envs))
 
 -- a word
-word_piece : (T X : Type 0) (see : T → X) (accepts : Bool → Bool) (means : List ℕ → T → Type 0)
+word_piece : {T X : Type 0} {see : T → X} (accepts : Bool → Bool) {means : List ℕ → T → Type 0}
     → ((text : List ℕ) → Alike see (means text)) → (o : LinePiece)
     → Alike see (WordValue accepts means o)
-word_piece T X see accepts means u (One k) v w a b = u (item_text k) v w a.1 b.1
-word_piece T X see accepts means u (Two k x) v w a b = absurd a
+word_piece accepts u (One k) v w a b = u (item_text k) v w a.1 b.1
+word_piece accepts u (Two k x) v w a b = absurd a
 
 -- a positional, where what a text means looks alike
 pub word_view : (T X : Type 0) (see : T → X) (accepts : Bool → Bool) (means : List ℕ → T → Type 0)
     → ((text : List ℕ) → Alike see (means text)) → HasOneView see (word_by accepts means)
-word_view T X see accepts means u =
-    (front_view T X see _ (word_piece T X see accepts means u), λ v w a b. absurd a)
+word_view T X see accepts means u = (front_view _ (word_piece accepts u), λ v w a b. absurd a)
 
 -- where a test holds
-if_view : (T X : Type 0) (see : T → X) (s : ProgramForm T) (b : Bool) → HasOneView see s
+if_view : {T X : Type 0} (see : T → X) (s : ProgramForm T) (b : Bool) → HasOneView see s
     → HasOneView see (program_if b s)
-if_view T X see s true u = u
-if_view T X see s false u = tt
+if_view see s true u = u
+if_view see s false u = tt
 
 -- Fields without a repeat or default, and what is made of them.
 
-module _ {env : Variables} (T X : Type 0) (see : T → X) (inner : Outcome T) (k : FieldKind)
+module _ {env : Variables} {T X : Type 0} {see : T → X} {inner : Outcome T} (k : FieldKind)
     (q : Roles) (group : Groups T) (gap : Gap T) (l : SingleLaw env T inner k q group gap)
     (one : OneGroup see group) (absent : Alike see gap.absent) where
   -- own lists of the same pieces look alike
-  own_view : (os : List LinePiece) (vs ws : List T) → Own T group os vs → Own T group os ws
+  own_view : {os : List LinePiece} {vs ws : List T} → Own T group os vs → Own T group os ws
       → map see vs ≡ map see ws
-  own_view os vs ws own_none own_none = refl
-  own_view os vs ws own_none (own_more {rest = rest} {v = v} g o) = absurd (l.starts v rest g)
-  own_view os vs ws (own_more {rest = rest} {v = v} g o) own_none = absurd (l.starts v rest g)
-  own_view os vs ws (own_more {rest = rest} {v = v} {vs = us} g o)
-      (own_more {rest = others} {v = w} {vs = xs} h p) =
+  own_view own_none own_none = refl
+  own_view own_none (own_more {rest = rest} {v = v} g o) = absurd (l.starts v rest g)
+  own_view (own_more {rest = rest} {v = v} g o) own_none = absurd (l.starts v rest g)
+  own_view {os} (own_more {rest = rest} {v = v} g o) (own_more {rest = others} {v = w} {vs = xs} h
+      p) =
       let d = one os rest others v w g h in
-      let i = own_view rest us xs o (subst (λ z. Own T group z xs) (sym d.1) p) in
+      let i = own_view o (subst (λ z. Own T group z xs) (sym d.1) p) in
       let e = d.0 in
       cc
 
   -- no piece has no own list but the empty one
-  own_never : (v : T) (vs : List T) → Own T group [] (v ∷ vs) → ⊥
-  own_never v vs o = let e = own_nil T inner k q group gap l [] (v ∷ vs) refl o in cc
+  own_never : {v : T} {vs : List T} → Own T group [] (v ∷ vs) → ⊥
+  own_never o = let e = own_nil l refl o in cc
 
   -- so do they under a repeat
   pub list_view : (os : List LinePiece) → Alike (map see) (OwnList T group gap os)
-  list_view os vs ws (listed h o) (listed i p) = own_view os vs ws o p
+  list_view os vs ws (listed h o) (listed i p) = own_view o p
   list_view os vs ws (listed h o) (listed_and_absent i a p) = absurd cc
   list_view os vs ws (listed h o) (only_absent i a) = absurd cc
   list_view os vs ws (listed_and_absent h a o) (listed i p) = absurd cc
-  list_view os vs ws (listed_and_absent h a o) (listed_and_absent i b p) = own_view os _ _ o p
-  list_view os vs ws (listed_and_absent {v = v} {vs = us} h a o) (only_absent i b) =
-      absurd (own_never v us o)
+  list_view os vs ws (listed_and_absent h a o) (listed_and_absent i b p) = own_view o p
+  list_view os vs ws (listed_and_absent h a o) (only_absent i b) = absurd (own_never o)
   list_view os vs ws (only_absent h a) (listed i p) = absurd cc
-  list_view os vs ws (only_absent h a) (listed_and_absent {v = v} {vs = us} i b p) =
-      absurd (own_never v us p)
+  list_view os vs ws (only_absent h a) (listed_and_absent i b p) = absurd (own_never p)
   list_view os vs ws (only_absent {a = x} h a) (only_absent {a = y} i b) =
       ap (λ z. z ∷ []) (absent x y a b)
 
@@ -201,51 +193,47 @@ module _ {env : Variables} (T X : Type 0) (see : T → X) (inner : Outcome T) (k
   value_view os v w (inr e) (inr f) = absent v w e.1 f.1
 
   -- where there is no piece there is none
-  none_single : (os : List LinePiece) (v : T) → os ≡ [] → gap.has ≡ false
+  none_single : {os : List LinePiece} {v : T} → os ≡ [] → gap.has ≡ false
       → SingleValue T group gap os v → ⊥
-  none_single os v e h (inl g) = l.starts v [] (subst (λ z. group z v []) e g)
-  none_single os v e h (inr f) = l.no_absent v h f.1
+  none_single {v} e h (inl g) = l.starts v [] (subst (λ z. group z v []) e g)
+  none_single {v} e h (inr f) = l.no_absent v h f.1
 
   -- what may be left out
   pub optional_value_view : (os : List LinePiece)
       → Alike (option_map see) (OptionalValue T group gap os)
   optional_value_view os (Some x) (Some y) g h = ap Some (value_view os x y g h)
-  optional_value_view os (Some x) None g n = absurd (none_single os x n.0 n.1 g)
-  optional_value_view os None (Some y) n g = absurd (none_single os y n.0 n.1 g)
+  optional_value_view os (Some x) None g n = absurd (none_single n.0 n.1 g)
+  optional_value_view os None (Some y) n g = absurd (none_single n.0 n.1 g)
   optional_value_view os None None n m = refl
 
   -- what has a default
   pub fallback_value_view : (f : Closure (Unit {0}) T) → Alike see (λ v. f.yes tt v)
       → (os : List LinePiece) → Alike see (FallbackValue T group gap f os)
   fallback_value_view f given os v w (inl g) (inl h) = value_view os v w g h
-  fallback_value_view f given os v w (inl g) (inr e) =
-      absurd (none_single os v e.0 e.1 g)
-  fallback_value_view f given os v w (inr e) (inl g) =
-      absurd (none_single os w e.0 e.1 g)
+  fallback_value_view f given os v w (inl g) (inr e) = absurd (none_single e.0 e.1 g)
+  fallback_value_view f given os v w (inr e) (inl g) = absurd (none_single e.0 e.1 g)
   fallback_value_view f given os v w (inr e) (inr d) = given v w e.2 d.2
 
 module _ (env : Variables) (T X : Type 0) (see : T → X) (inner : Outcome T) where
   -- a repeat or default round a field, all values of which look alike
-  whole_view : {B Y : Type 0} (look : B → Y) (kind : FieldKind → FieldKind)
+  whole_view : {B Y : Type 0} {look : B → Y} (kind : FieldKind → FieldKind)
       (value : Groups T → Gap T → List LinePiece → B → Type 0)
-      → ((k : FieldKind) (q : Roles) (group : Groups T) (gap : Gap T)
-      → SingleLaw env T inner k q group gap → OneGroup see group → Alike see gap.absent
-      → (os : List LinePiece) → Alike look (value group gap os))
-      → (names : List Names) (words : List (List ℕ)) (s : ProgramForm T)
-      → FormLaw env inner names words s → HasOneView see s
+      → ((k : FieldKind) (q : Roles) (group : Groups T) (gap : Gap T) → SingleLaw env T inner k q
+      group gap → OneGroup see group → Alike see gap.absent → (os : List LinePiece)
+      → Alike look (value group gap os)) → (names : List Names) (words : List (List ℕ))
+      (s : ProgramForm T) → FormLaw env inner names words s → HasOneView see s
       → HasOneView look (completed kind value s)
-  whole_view look kind value each names words (alternative wide q one) l u =
-      each ByName q _ _ (alternative_single T inner q one l.0) (front_view T X see one u)
-      (λ v w a b. absurd a)
-  whole_view look kind value each names words (single wide k q group gap) l u =
+  whole_view kind value each names words (alternative wide q one) l u =
+      each ByName q _ _ (alternative_single l.0) (front_view one u) (λ v w a b. absurd a)
+  whole_view kind value each names words (single wide k q group gap) l u =
       each k q group gap l.0 u.0 u.1
-  whole_view look kind value each names words _ l u = tt
+  whole_view kind value each names words _ l u = tt
 
   -- the list of a repeat
   pub repeat_view : (names : List Names) (words : List (List ℕ)) (s : ProgramForm T)
       → FormLaw env inner names words s → HasOneView see s
       → HasOneView (map see) (completed repeated (OwnList T) s)
-  repeat_view = whole_view (map see) repeated (OwnList T) (list_view T X see inner)
+  repeat_view = whole_view repeated (OwnList T) (list_view)
 
   -- what may be left out
   pub optional_field_view : (names : List Names) (words : List (List ℕ)) (s : ProgramForm T)
@@ -261,8 +249,7 @@ module _ (env : Variables) (T X : Type 0) (see : T → X) (inner : Outcome T) wh
       by_value cs None (Some y) none b =
           absurd (none_opens words none _ (l.commands.opened cs y b).1)
   optional_field_view names words s l u =
-      whole_view (option_map see) (λ k. k) (OptionalValue T) (optional_value_view T X see inner)
-      names words s l u
+      whole_view (λ k. k) (OptionalValue T) (optional_value_view) names words s l u
 
   -- a field with a default
   pub fallback_view : (f : Closure (Unit {0}) T) → Alike see (λ v. f.yes tt v)
@@ -270,9 +257,8 @@ module _ (env : Variables) (T X : Type 0) (see : T → X) (inner : Outcome T) wh
       → FormLaw env inner names words s → HasOneView see s
       → HasOneView see (completed (λ k. k) (λ group gap. FallbackValue T group gap f) s)
   fallback_view f given =
-      whole_view see (λ k. k) (λ group gap. FallbackValue T group gap f)
-      (λ k q group gap l one absent. fallback_value_view T X see inner k q group gap l one absent f
-      given)
+      whole_view (λ k. k) (λ group gap. FallbackValue T group gap f)
+      (λ k q group gap l one absent. fallback_value_view k q group gap l one absent f given)
 
   -- any field of a record
   pub field_view : (names : List Names) (words : List (List ℕ)) (s : ProgramForm T)
@@ -282,8 +268,7 @@ module _ (env : Variables) (T X : Type 0) (see : T → X) (inner : Outcome T) wh
   field_view names words (product wide false q fields) l u = u
   field_view names words (commands optional value) l u = u
   field_view names words (before_commands value) l u = u
-  field_view names words s l u =
-      whole_view see (λ k. k) (SingleValue T) (value_view T X see inner) names words s l u
+  field_view names words s l u = whole_view (λ k. k) (SingleValue T) (value_view) names words s l u
 
 -- The list of a repeat, as the program keeps it.
 
@@ -309,11 +294,11 @@ pub both_view : (A B X Y : Type 0) (see : A → X) (look : B → Y) (own others 
     (s : ProgramForm A) (t : ProgramForm B) → HasOneView see s → HasOneView look t
     → HasOneView (pair_view see look) (program_both own others s t)
 both_view A B X Y see look own others (complete wide k q fv) (product other named r rv) u n =
-    if_view (A × B) (X × Y) (pair_view see look) _ (may_follow k own others)
+    if_view (pair_view see look) _ (may_follow k own others)
     (λ os v w a b. let d = u _ v.0 w.0 a.0 b.0 in let e = n _ v.1 w.1 a.1 b.1 in
     λ i. (d i, e i))
 both_view A B X Y see look own others (complete wide ByName q fv) (before_commands rv) u n =
-    if_view (A × B) (X × Y) (pair_view see look) _ (are_all_apart own others)
+    if_view (pair_view see look) _ (are_all_apart own others)
     (λ cs v w a b. let same = one_take a.taken b.taken in
     let d = u _ v.0 w.0 (subst (λ os. fv os v.0) same.0 a.own) b.own in
     let e = n _ v.1 w.1 (subst (λ ds. rv ds v.1) same.1 a.left) b.left in λ i. (d i, e i))
@@ -343,13 +328,13 @@ module _ (T X : Type 0) (see : T → X) where
   product_view _ u os v w a b = absurd a
 
   -- an exact answer looks like each value of the record
-  like_this : {env : Variables} (inner : Outcome T) (r : Roles) (reading : FieldsReading T)
-      (context : Context) → FieldsLaw env T inner r reading
+  like_this : {env : Variables} {inner : Outcome T} {r : Roles} {reading : FieldsReading T}
+      {context : Context} → FieldsLaw env T inner r reading
       → Alike see (λ v. RecordValue r reading.value context v) → (a : RunAnswer T) (v : T)
       → IsExact T r reading context a → RecordValue r reading.value context v → LooksLike see v a
-  like_this inner r reading context l one (Accepted w) v e h = one w v (e.sound w refl) h
-  like_this inner r reading context l one NoMemory v e h = tt
-  like_this inner r reading context l one Refusal v e h =
+  like_this l one (Accepted w) v e h = one w v (e.sound w refl) h
+  like_this l one NoMemory v e h = tt
+  like_this l one Refusal v e h =
       e.complete h.cut_into (read_cut h) (l.has_each h.cut_into v h.read)
 
   -- all that is read off the same cells looks alike
@@ -359,8 +344,7 @@ module _ (T X : Type 0) (see : T → X) where
       → Alike see (ReadOff T (product_roles (whole_program s))
       (product_reading (whole_program s)).value cs)
   reads_one env outcome names words s named l u cs v w a b =
-      let c = one_cut (product_roles (whole_program s)) cs a.cut_into b.cut_into named (read_cut a)
-      (read_cut b) in
+      let c = one_cut named (read_cut a) (read_cut b) in
       product_view (whole_program s) (record_view env outcome names words s l u) b.cut_into v w
       (subst (λ os. (product_reading (whole_program s)).value os v) c a.read) b.read
 
@@ -390,7 +374,7 @@ module _ (T X : Type 0) (see : T → X) where
       → FormLaw context.env outcome names words s → HasOneView see s
       → RunsToOne see outcome s context
   runs_to_one outcome names words s h context l u a v ran r =
-      like_this outcome _ _ context (record_law context.env T outcome names words s h l)
+      like_this (record_law context.env T outcome names words s h l)
       (reads_one context.env outcome names words s
       (record_law context.env T outcome names words s h l).named l u (line_cells context)) a v
       (runs_exactly T outcome names words s h context l a ran) r

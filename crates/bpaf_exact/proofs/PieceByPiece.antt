@@ -27,43 +27,43 @@ module _ {T : Type 0} (said : Said T) (one : LinePiece → T → Type 0)
       subst (λ z. AllZip one z (v ∷ vs)) (sym (front.is ∙ ap (λ part. part ++ rest) first.is))
       (first.said, in_turn rest vs more)
 
-  one_by_one : (os : List LinePiece) (vs : List T) → RepeatSays said os vs → AllZip one os vs
-  one_by_one os vs (says_in_turn turns) = in_turn os vs turns
-  one_by_one os vs (says_alone a none is told) = let first = of_one [] a told in absurd cc
+  one_by_one : {os : List LinePiece} {vs : List T} → RepeatSays said os vs → AllZip one os vs
+  one_by_one {os} {vs} (says_in_turn turns) = in_turn os vs turns
+  one_by_one (says_alone a none is told) = let first = of_one [] a told in absurd cc
 
 -- Of a repeated argument none of whose variables is set: what the texts behind its keys mean, in
 -- line order, one for each key.
 pub argument_values : {T : Type 0} {means : List ℕ → T → Type 0} {last : Bool}
     {set : Option (List ℕ)} {os : List LinePiece} {vs : List T} → last ≡ false → set ≡ None
     → RepeatSays (ArgumentSays means last set) os vs → AllZip (ArgumentValue means) os vs
-argument_values {T} {means} {last} {set} {os} {vs} once unset told =
-    one_by_one (ArgumentSays means last set) (ArgumentValue means) of_one os vs told
+argument_values {T} {means} {last} {set} {os} once unset told =
+    one_by_one (ArgumentSays means last set) (ArgumentValue means) of_one told
   where
-    of_one : (os : List LinePiece) (v : T) → ArgumentSays means last set os v
+    of_one : (os : List LinePiece) {v : T} → ArgumentSays means last set os v
         → OfOnePiece (ArgumentValue means) os v
-    of_one os v (says_text k w e m) = record { piece = Two k w; is = e; said = m }
-    of_one os v (says_variable_text text none is m) = absurd cc
-    of_one os v (says_last_text before k w all e m) = absurd (true≢false (sym all ∙ once))
+    of_one os (says_text k w e m) = record { piece = Two k w; is = e; said = m }
+    of_one os (says_variable_text text none is m) = absurd cc
+    of_one os (says_last_text before k w all e m) = absurd (true≢false (sym all ∙ once))
 
 -- Of a repeated required flag of that kind: its present value, once for each key.
 pub flag_values : {T : Type 0} {clones : T → T → Type 0} {present : T} {absent : Option T}
     {set : Option (List ℕ)} {os : List LinePiece} {vs : List T} → absent ≡ None → set ≡ None
     → RepeatSays (FlagSays clones present absent set) os vs
     → AllZip (FlagValue (clones present)) os vs
-flag_values {T} {clones} {present} {absent} {set} {os} {vs} required unset told =
-    one_by_one (FlagSays clones present absent set) (FlagValue (clones present)) of_one os vs told
+flag_values {T} {clones} {present} {absent} {set} {os} required unset told =
+    one_by_one (FlagSays clones present absent set) (FlagValue (clones present)) of_one told
   where
-    of_one : (os : List LinePiece) (v : T) → FlagSays clones present absent set os v
+    of_one : (os : List LinePiece) {v : T} → FlagSays clones present absent set os v
         → OfOnePiece (FlagValue (clones present)) os v
-    of_one os v (says_present k e m) = record { piece = One k; is = e; said = m }
-    of_one os v (says_variable text none is m) = absurd cc
-    of_one os v (says_absent a e is some m) = absurd cc
+    of_one os (says_present k e m) = record { piece = One k; is = e; said = m }
+    of_one os (says_variable text none is m) = absurd cc
+    of_one os (says_absent a e is some m) = absurd cc
 
 -- Of repeated words: what their texts mean, in line order.
 pub word_values : {T : Type 0} {means : List ℕ → T → Type 0} {os : List LinePiece} {vs : List T}
     {accepts : Bool → Bool} → RepeatSays (WordSays accepts means) os vs
     → AllZip (WordValue accepts means) os vs
-word_values {T} {means} {os} {vs} {accepts} told =
+word_values {means} {os} {accepts} told =
     one_by_one (WordSays accepts means) (WordValue accepts means)
-    (λ os v said. record { piece = One said.word; is = said.is; said = (said.side, said.meant) }) os
-    vs told
+    (λ os v said. record { piece = One said.word; is = said.is; said = (said.side, said.meant) })
+    told

@@ -17,12 +17,12 @@ take_steady s p =
     record { context = refl; start = refl; end = refl; path = refl; keeps = taken_stays s p }
 
 -- what is at the first places decides their cells
-pub same_cells : (at other : ℕ → Option Arg) (n : ℕ) → ((p : ℕ) → p < n → at p ≡ other p)
-    → first_cells at n ≡ first_cells other n
-same_cells at other zero same = refl
-same_cells at other (suc n) same =
+pub same_cells : {at : ℕ → Option Arg} (other : ℕ → Option Arg) (n : ℕ)
+    → ((p : ℕ) → p < n → at p ≡ other p) → first_cells at n ≡ first_cells other n
+same_cells other zero same = refl
+same_cells other (suc n) same =
     ap₂ ◌∷◌ (same zero (omega arith))
-    (same_cells (λ p. at (suc p)) (λ p. other (suc p)) n (λ p l. same (suc p) (omega arith)))
+    (same_cells (λ p. other (suc p)) n (λ p l. same (suc p) (omega arith)))
 
 -- no own item stands before a place
 pub record NoneBefore (r : Roles) (at : ℕ → Option Arg) (p : ℕ) : Type 0 where
@@ -40,22 +40,22 @@ pub record TakenTwo (at left : ℕ → Option Arg) (p : ℕ) : Type 0 where
   pub others : (q : ℕ) → q ≢ p → q ≢ suc p → left q ≡ at q
 
 -- the same from the second place on
-tail_before : (r : Roles) (at : ℕ → Option Arg) (p : ℕ) → NoneBefore r at (suc p)
+tail_before : {r : Roles} {at : ℕ → Option Arg} {p : ℕ} → NoneBefore r at (suc p)
     → NoneBefore r (λ q. at (suc q)) p
-tail_before r at p none = record { before = λ q l. none.before (suc q) (omega arith) }
+tail_before none = record { before = λ q l. none.before (suc q) (omega arith) }
 
 -- so is what was taken
-tail_one : (at left : ℕ → Option Arg) (p : ℕ) → TakenOne at left (suc p)
+tail_one : {at left : ℕ → Option Arg} {p : ℕ} → TakenOne at left (suc p)
     → TakenOne (λ q. at (suc q)) (λ q. left (suc q)) p
-tail_one at left p taken = record {
+tail_one taken = record {
   gone = taken.gone;
   others = λ q other. taken.others (suc q) (λ e. other (omega arith));
 }
 
 -- and what was taken with the next
-tail_two : (at left : ℕ → Option Arg) (p : ℕ) → TakenTwo at left (suc p)
+tail_two : {at left : ℕ → Option Arg} {p : ℕ} → TakenTwo at left (suc p)
     → TakenTwo (λ q. at (suc q)) (λ q. left (suc q)) p
-tail_two at left p taken = record {
+tail_two taken = record {
   gone = taken.gone;
   next_gone = taken.next_gone;
   others = λ q other next. taken.others (suc q) (λ e. other (omega arith))
@@ -63,18 +63,18 @@ tail_two at left p taken = record {
 }
 
 -- the first cell is taken
-head_one : (r : Roles) (c d : Option Arg) (cs ds : Cells) (k : Arg) → c ≡ Some k → d ≡ None
+head_one : (r : Roles) {c d : Option Arg} (cs ds : Cells) (k : Arg) → c ≡ Some k → d ≡ None
     → ds ≡ cs → r k ≡ Alone → TakesFirst r (c ∷ cs) (One k) (d ∷ ds)
-head_one r c d cs ds k e f g h =
+head_one r {d} cs ds k e f g h =
     subst (λ z. TakesFirst r (z ∷ cs) (One k) (d ∷ ds)) (sym e)
     (subst (λ z. TakesFirst r (Some k ∷ cs) (One k) (z ∷ ds)) (sym f)
     (subst (λ z. TakesFirst r (Some k ∷ cs) (One k) (None ∷ z)) (sym g) (first_one h)))
 
 -- the first two are taken
-head_two : (r : Roles) (c d a b : Option Arg) (cs ds : Cells) (k w : Arg) → c ≡ Some k → d ≡ Some w
+head_two : (r : Roles) {c d a b : Option Arg} (cs ds : Cells) (k w : Arg) → c ≡ Some k → d ≡ Some w
     → a ≡ None → b ≡ None → ds ≡ cs → r k ≡ WithNext → is_value w ≡ true
     → TakesFirst r (c ∷ d ∷ cs) (Two k w) (a ∷ b ∷ ds)
-head_two r c d a b cs ds k w e f g i j h v =
+head_two r {d} {a} {b} cs ds k w e f g i j h v =
     subst (λ z. TakesFirst r (z ∷ d ∷ cs) (Two k w) (a ∷ b ∷ ds)) (sym e)
     (subst (λ z. TakesFirst r (Some k ∷ z ∷ cs) (Two k w) (a ∷ b ∷ ds)) (sym f)
     (subst (λ z. TakesFirst r (Some k ∷ Some w ∷ cs) (Two k w) (z ∷ b ∷ ds)) (sym g)
@@ -83,43 +83,36 @@ head_two r c d a b cs ds k w e f g i j h v =
     (first_two h v)))))
 
 -- a later one is
-later : (r : Roles) (c d : Option Arg) {cs ds : Cells} {o : LinePiece} → d ≡ c → NotOwn r c
+later : {r : Roles} {c d : Option Arg} {cs ds : Cells} {o : LinePiece} → d ≡ c → NotOwn r c
     → TakesFirst r cs o ds → TakesFirst r (c ∷ cs) o (d ∷ ds)
-later r c d {cs = cs} {ds = ds} {o = o} e n t =
+later {r} {c} {cs = cs} {ds = ds} {o = o} e n t =
     subst (λ z. TakesFirst r (c ∷ cs) o (z ∷ ds)) (sym e) (first_later n t)
 
 -- the first item that is wanted, taken by itself
-pub take_one : (r : Roles) (at left : ℕ → Option Arg) (n p : ℕ) (k : Arg) → p < n → at p ≡ Some k
+pub take_one : {r : Roles} {at left : ℕ → Option Arg} (n p : ℕ) {k : Arg} → p < n → at p ≡ Some k
     → r k ≡ Alone → NoneBefore r at p → TakenOne at left p
     → TakesFirst r (first_cells at n) (One k) (first_cells left n)
-take_one r at left zero p k l e h none taken = absurd (omega arith)
-take_one r at left (suc n) zero k l e h none taken =
-    head_one r (at zero) (left zero) _ _ k e taken.gone
-    (same_cells (λ q. left (suc q)) (λ q. at (suc q)) n
+take_one zero p l e h none taken = absurd (omega arith)
+take_one {r} {at} (suc n) zero {k} l e h none taken =
+    head_one r _ _ k e taken.gone (same_cells (λ q. at (suc q)) n
     (λ q i. taken.others (suc q) (λ f. absurd (omega arith)))) h
-take_one r at left (suc n) (suc p) k l e h none taken =
-    later r (at zero) (left zero) (taken.others zero (λ f. absurd (omega arith)))
-    (none.before zero (omega arith))
-    (take_one r (λ q. at (suc q)) (λ q. left (suc q)) n p k (omega arith) e h
-    (tail_before r at p none) (tail_one at left p taken))
+take_one (suc n) (suc p) l e h none taken =
+    later (taken.others zero (λ f. absurd (omega arith))) (none.before zero (omega arith))
+    (take_one n p (omega arith) e h (tail_before none) (tail_one taken))
 
 -- with the value after it
-pub take_two : (r : Roles) (at left : ℕ → Option Arg) (n p : ℕ) (k w : Arg) → suc p < n
+pub take_two : {r : Roles} {at left : ℕ → Option Arg} (n p : ℕ) {k w : Arg} → suc p < n
     → at p ≡ Some k → at (suc p) ≡ Some w → r k ≡ WithNext → is_value w ≡ true → NoneBefore r at p
     → TakenTwo at left p → TakesFirst r (first_cells at n) (Two k w) (first_cells left n)
-take_two r at left zero p k w l e f h v none taken = absurd (omega arith)
-take_two r at left (suc zero) zero k w l e f h v none taken = absurd (omega arith)
-take_two r at left (suc (suc n)) zero k w l e f h v none taken =
-    head_two r (at zero) (at (suc zero)) (left zero)
-    (left (suc zero)) _ _ k w e f taken.gone taken.next_gone
-    (same_cells (λ q. left (suc (suc q))) (λ q. at (suc (suc q))) n
+take_two zero p l e f h v none taken = absurd (omega arith)
+take_two (suc zero) zero l e f h v none taken = absurd (omega arith)
+take_two {r} {at} (suc (suc n)) zero {k} {w} l e f h v none taken =
+    head_two r _ _ k w e f taken.gone taken.next_gone (same_cells (λ q. at (suc (suc q))) n
     (λ q i. taken.others (suc (suc q)) (λ g. absurd (omega arith)) (λ g. absurd (omega arith)))) h v
-take_two r at left (suc n) (suc p) k w l e f h v none taken =
-    later r (at zero) (left zero)
-    (taken.others zero (λ g. absurd (omega arith)) (λ g. absurd (omega arith)))
-    (none.before zero (omega arith))
-    (take_two r (λ q. at (suc q)) (λ q. left (suc q)) n p k w (omega arith) e f h v
-    (tail_before r at p none) (tail_two at left p taken))
+take_two (suc n) (suc p) l e f h v none taken =
+    later (taken.others zero (λ g. absurd (omega arith)) (λ g. absurd (omega arith)))
+    (none.before zero (omega arith)) (take_two n p (omega arith) e f h v
+    (tail_before none) (tail_two taken))
 
 -- an item that isn't the field's own heads no piece
 pub pass_head : (r : Roles) (c : Option Arg) (cs : Cells) → NotOwn r c
@@ -156,23 +149,23 @@ bare_next k at (suc n) none = by_cell (at zero) none
     by_cell (Some w) f = by_value w (is_value w) (f w refl)
 
 -- a key at the front
-bare_key : (r : Roles) (c : Option Arg) (k : Arg) (cs : Cells) → c ≡ Some k → r k ≡ WithNext
+bare_key : (r : Roles) {c : Option Arg} (k : Arg) (cs : Cells) → c ≡ Some k → r k ≡ WithNext
     → with_next k cs ≡ One k → BareHead r (c ∷ cs) k
-bare_key r c k cs e h n = record {
+bare_key r k cs e h n = record {
   tail = pieces r cs;
   is = ap (λ z. pieces r (z ∷ cs)) e
       ∙ (begin_at k cs (pieces r cs) h ∙ ap (λ z. z ∷ pieces r cs) n);
 }
 
 -- the first key that is wanted, without a value behind it
-pub bare_first : (r : Roles) (at : ℕ → Option Arg) (n p : ℕ) (k : Arg) → p < n → at p ≡ Some k
-    → r k ≡ WithNext → NoneBefore r at p
-    → ((w : Arg) → at (suc p) ≡ Some w → is_value w ≡ true → ⊥) → BareHead r (first_cells at n) k
-bare_first r at zero p k l e h none bare = absurd (omega arith)
-bare_first r at (suc n) zero k l e h none bare =
-    bare_key r (at zero) k _ e h (bare_next k (λ q. at (suc q)) n bare)
-bare_first r at (suc n) (suc p) k l e h none bare =
-    let i = bare_first r (λ q. at (suc q)) n p k (omega arith) e h (tail_before r at p none) bare in
+pub bare_first : {r : Roles} {at : ℕ → Option Arg} (n p : ℕ) {k : Arg} → p < n → at p ≡ Some k
+    → r k ≡ WithNext → NoneBefore r at p → ((w : Arg) → at (suc p) ≡ Some w → is_value w ≡ true → ⊥)
+    → BareHead r (first_cells at n) k
+bare_first zero p l e h none bare = absurd (omega arith)
+bare_first {r} {at} (suc n) zero {k} l e h none bare =
+    bare_key r k _ e h (bare_next k (λ q. at (suc q)) n bare)
+bare_first {r} {at} (suc n) (suc p) l e h none bare =
+    let i = bare_first n p (omega arith) e h (tail_before none) bare in
     record { tail = i.tail; is = pass_head r (at zero) _ (none.before zero (omega arith)) ∙ i.is }
 
 -- What is open after a place is taken.

@@ -45,7 +45,7 @@ passed_by true h o os behind =
 passed_by false h o os behind = absurd cc
 
 -- a positional
-module _ (T : Type 0) (b : Bool) (value : LinePiece → T → Type 0)
+module _ {T : Type 0} {b : Bool} {value : LinePiece → T → Type 0}
     (clear : b ≡ true → (o : LinePiece) (v : T) → value o v → is_behind o ≡ false) where
   -- the first word and its value
   abbrev group : Groups T
@@ -59,9 +59,7 @@ module _ (T : Type 0) (b : Bool) (value : LinePiece → T → Type 0)
   word_pieces : {cs ds : Cells} {o : LinePiece} → TakesFirst word_roles cs o ds
       → pieces word_roles cs ≡ o ∷ pieces word_roles ds
   word_pieces (first_one {k = k} {cs = cs} e) = begin_at k cs (pieces word_roles cs) e
-  word_pieces (first_two {k = k} e v) = absurd (never_two word_roles k (record {
-    words = λ k. refl;
-  }) e)
+  word_pieces (first_two {k = k} e v) = absurd (never_two (record { words = λ k. refl }) e)
   word_pieces (first_later {c = None} h t) = word_pieces t
   word_pieces (first_later {c = Some k} {cs = cs} {ds = ds} h t) =
       let a = begin_at k cs (pieces word_roles cs) h in
@@ -77,15 +75,15 @@ module _ (T : Type 0) (b : Bool) (value : LinePiece → T → Type 0)
     steady : Steady s t
 
   -- a word that was taken
-  took_word : (s t : Situation) (p : ℕ) (strict : Bool) (text : List ℕ)
+  took_word : {s t : Situation} {p : ℕ} {strict : Bool} {text : List ℕ}
       → TakesText s p strict text t → TookWord s t strict text
-  took_word s t p strict text takes =
+  took_word {s} {p} {strict} {text} takes =
       let m = match_of is_positional s p takes.first.matches in
       let at = (open_item_there s p m.item m.is).1 in
       subst (λ z. TookWord s z strict text) (sym takes.taken) (record {
         word = m.item;
         text_is = sym (ap (option_and_then word_text) at) ∙ takes.is;
-        takes = one_taken is_positional word_roles s p test takes.first m;
+        takes = one_taken test takes.first m;
         steady = take_steady s p;
       })
 
@@ -98,35 +96,31 @@ module _ (T : Type 0) (b : Bool) (value : LinePiece → T → Type 0)
   word_ok : {env : Variables} (s t : Situation) (v : T) → IsWholeIn env s
       → WordEval T b value s (Ok v) t
       → SingleOk T (OneWord b) word_roles group (gap_of value None) s v t
-  word_ok s t v w (word_read {p = p} {strict = strict} {text = text} takes y) =
-      let m = took_word s t p strict text takes in
+  word_ok s t v w (word_read takes y) =
+      let m = took_word takes in
       let e = word_pieces m.takes in
-      took
-      (took_front T value (OneWord b) word_roles s t v (One m.word) m.steady m.takes e
+      took (took_front value m.steady m.takes e
       (y m.word m.text_is) (some_front m.word _ (λ h. clear h (One m.word) v (y m.word m.text_is))))
 
   -- a refusal: there is no word, or the first can't be read
   word_err : {env : Variables} (s t : Situation) (e : Error) → IsWholeIn env s
       → WordEval T b value s (Err e) t
       → SingleErr T (OneWord b) word_roles group (gap_of value None) s e t
-  word_err s t e w (word_fault {p = p} {strict = strict} {text = text} takes before n c) =
-      let m = took_word s t p strict text takes in
+  word_err s t e w (word_fault {strict = strict} {text = text} takes before n c) =
+      let m = took_word takes in
       let i = word_pieces m.takes in
       of_piece c
       (λ none. some_front m.word _ (λ h. (word_is m.word strict text m.text_is).1 ∙ before h)
-      (sym (ap (front (OneWord b)) i) ∙ none))
-      (λ x rest y.
+      (sym (ap (front (OneWord b)) i) ∙ none)) (λ x rest y.
       let d : One m.word ∷ pieces word_roles (cells t) ≡ y.0 ∷ rest = sym i ∙ y.1 in
       let j : y.0 ≡ One m.word = cc in
       n m.word x m.text_is (subst (λ z. value z x) j y.2))
   word_err s t e w (word_missing none c) =
-      of_missing (catch_missing c) refl
-      (ap (front (OneWord b)) (no_pieces is_positional word_roles Alone s test none)
+      of_missing (catch_missing c) refl (ap (front (OneWord b)) (no_pieces s test none)
       ∙ front_nil (OneWord b)) (λ c. refl)
-  word_err s t e w (word_passed {p = p} {text = text} h takes c) =
-      let m = took_word s t p true text takes in
-      of_missing (catch_other c) refl
-      (ap (front (OneWord b)) (word_pieces m.takes)
+  word_err s t e w (word_passed {text = text} h takes c) =
+      let m = took_word takes in
+      of_missing (catch_other c) refl (ap (front (OneWord b)) (word_pieces m.takes)
       ∙ passed_by b h (One m.word) (pieces word_roles (cells t)) (word_is m.word true text
       m.text_is).1) (λ missing. absurd cc)
   word_err s t e w (word_memory c) = of_memory c
@@ -142,10 +136,10 @@ module _ (T : Type 0) (b : Bool) (value : LinePiece → T → Type 0)
     of_front = λ os v g. (g.0, of_front_one b os g.0 g.1, g.2);
     by_each = λ os v rest g. let may : b ≡ true → is_behind g.0 ≡ false = λ h. clear h g.0
         v g.2 in (
-          (g.0, ap (front (EachWord b)) g.1 ∙ front_more b g.0 rest may, g.2),
-          sym (ap (back (EachWord b)) g.1 ∙ back_more b g.0 rest may),
+          (g.0, ap (front (EachWord b)) g.1 ∙ front_more rest may, g.2),
+          sym (ap (back (EachWord b)) g.1 ∙ back_more g.0 rest may),
         );
-    of_each = λ os v rest g. let more = of_front_more b os g.0 rest g.1 in
+    of_each = λ os v rest g. let more = of_front_more b os g.0 g.1 in
         (more.0, (g.0, more.1, g.2), more.2);
   }
 
@@ -172,10 +166,7 @@ pub word_by_law : (env : Variables) (T : Type 0) (accepts : Bool → Bool)
     (means : List ℕ → T → Type 0)
     → FormLaw env (WordEval T (not (accepts true)) (WordValue accepts means)) [] []
     (word_by accepts means)
-word_by_law env T accepts means = (
-  word_law T (not (accepts true)) (WordValue accepts means) clear,
-  record { own = λ k e. absurd cc },
-)
+word_by_law env T accepts means = (word_law clear, record { own = λ k e. absurd cc })
   where
     clear : not (accepts true) ≡ true → (o : LinePiece) (v : T) → WordValue accepts means o v
         → is_behind o ≡ false

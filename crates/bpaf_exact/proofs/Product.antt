@@ -19,9 +19,9 @@ use Rattle.bpaf_exact.proofs.{Cells.begin_at, Classes.memory_class, Classes.not_
 use Rattle.bpaf_exact.proofs.Cuts.{read_cut, read_off}
 
 -- what isn't taken stays in the scope
-pub none_outside_after : {env : Variables} (s t : Situation) → IsWholeIn env s → Steady s t
+pub none_outside_after : {env : Variables} {s t : Situation} → IsWholeIn env s → Steady s t
     → IsWholeIn env t
-none_outside_after s t w k = record {
+none_outside_after w k = record {
   end = k.end ∙ (w.end ∙ ap (λ c. length c.line) (sym k.context));
   front = λ p l. k.keeps p (w.front p (subst (λ n. p < n) k.start l));
   environment = ap (λ c. c.env) k.context ∙ w.environment;
@@ -43,27 +43,27 @@ steady_trans a b = record {
 }
 
 -- A cut by the keys of others holds no key of one's own.
-pub no_own_in_cut : (q r : Roles) {cs : Cells} {os : List LinePiece} → IsNamed q → Apart q r
+pub no_own_in_cut : {q r : Roles} {cs : Cells} {os : List LinePiece} → IsNamed q → Apart q r
     → Cut r cs os → pieces q cs ≡ []
-no_own_in_cut q r n a at_end = refl
-no_own_in_cut q r n a (passed c) = no_own_in_cut q r n a c
-no_own_in_cut q r n a (flag {k = k} {cs = cs} e c) =
-    begin_at k cs (pieces q cs) (a.right k (ap is_own_role e)) ∙ no_own_in_cut q r n a c
-no_own_in_cut q r n a (argument {k = k} {w = w} {cs = cs} e v c) =
+no_own_in_cut n a at_end = refl
+no_own_in_cut n a (passed c) = no_own_in_cut n a c
+no_own_in_cut {q} n a (flag {k = k} {cs = cs} e c) =
+    begin_at k cs (pieces q cs) (a.right k (ap is_own_role e)) ∙ no_own_in_cut n a c
+no_own_in_cut {q} n a (argument {k = k} {w = w} {cs = cs} e v c) =
     begin_at k (Some w ∷ cs) (pieces q (Some w ∷ cs)) (a.right k (ap is_own_role e))
-    ∙ (begin_at w cs (pieces q cs) (value_foreign q w n v) ∙ no_own_in_cut q r n a c)
-no_own_in_cut q r n a (word {w = w} {cs = cs} h c) =
-    begin_at w cs (pieces q cs) (word_foreign q w n h) ∙ no_own_in_cut q r n a c
+    ∙ (begin_at w cs (pieces q cs) (value_foreign n v) ∙ no_own_in_cut n a c)
+no_own_in_cut {q} n a (word {w = w} {cs = cs} h c) =
+    begin_at w cs (pieces q cs) (word_foreign n h) ∙ no_own_in_cut n a c
 
 -- an item that isn't the first's has the role that it has to the second
-either_foreign : (x y z : Role) → x ≡ Foreign → y ≡ z → either_role x y ≡ z
-either_foreign Foreign y z e h = h
-either_foreign _ y z e h = cc
+either_foreign : (x : Role) {y z : Role} → x ≡ Foreign → y ≡ z → either_role x y ≡ z
+either_foreign Foreign e h = h
+either_foreign _ e h = cc
 
 -- with a piece of others more all are of others
-others_all : (q : Roles) (o : LinePiece) (os : List LinePiece) → is_own q o ≡ false
+others_all : (q : Roles) {o : LinePiece} {os : List LinePiece} → is_own q o ≡ false
     → others q os ≡ os → others q (o ∷ os) ≡ o ∷ os
-others_all q o os h e = others_foreign q o os h ∙ ap (λ z. o ∷ z) e
+others_all q {o} {os} h e = others_foreign q os h ∙ ap (λ z. o ∷ z) e
 
 -- a cut whose pieces are all of others
 record Widened (q r : Roles) (cs : Cells) (os : List LinePiece) : Type 0 where
@@ -71,30 +71,27 @@ record Widened (q r : Roles) (cs : Cells) (os : List LinePiece) : Type 0 where
   all : others q os ≡ os
 
 -- a cut by the others' keys is one by all
-widen : (q r : Roles) {cs : Cells} {os : List LinePiece} → IsNamed q → Apart q r → Cut r cs os
+widen : {q r : Roles} {cs : Cells} {os : List LinePiece} → IsNamed q → Apart q r → Cut r cs os
     → Widened q r cs os
-widen q r n a at_end = record { cut = at_end; all = refl }
-widen q r n a (passed c) = let i = widen q r n a c in record { cut = passed i.cut; all = i.all }
-widen q r n a (flag {k = k} {os = os} e c) =
-    let i = widen q r n a c in
+widen n a at_end = record { cut = at_end; all = refl }
+widen n a (passed c) = let i = widen n a c in record { cut = passed i.cut; all = i.all }
+widen {q} n a (flag {k = k} e c) =
+    let i = widen n a c in
     let f = a.right k (ap is_own_role e) in
     record {
-      cut = flag (either_foreign (q k) (r k) Alone f e) i.cut;
-      all = others_all q (One k) os (ap is_own_role f) i.all;
+      cut = flag (either_foreign (q k) f e) i.cut;
+      all = others_all q (ap is_own_role f) i.all;
     }
-widen q r n a (argument {k = k} {w = w} {os = os} e v c) =
-    let i = widen q r n a c in
+widen {q} n a (argument {k = k} e v c) =
+    let i = widen n a c in
     let f = a.right k (ap is_own_role e) in
     record {
-      cut = argument (either_foreign (q k) (r k) WithNext f e) v i.cut;
-      all = others_all q (Two k w) os (ap is_own_role f) i.all;
+      cut = argument (either_foreign (q k) f e) v i.cut;
+      all = others_all q (ap is_own_role f) i.all;
     }
-widen q r n a (word {w = w} {os = os} h c) =
-    let i = widen q r n a c in
-    record {
-      cut = word h i.cut;
-      all = others_all q (One w) os (ap is_own_role (word_foreign q w n h)) i.all;
-    }
+widen {q} n a (word h c) =
+    let i = widen n a c in
+    record { cut = word h i.cut; all = others_all q (ap is_own_role (word_foreign n h)) i.all }
 
 -- a cut by the others' keys alone
 record Narrowed (q r : Roles) (cs : Cells) (os : List LinePiece) : Type 0 where
@@ -102,37 +99,29 @@ record Narrowed (q r : Roles) (cs : Cells) (os : List LinePiece) : Type 0 where
   all : others q os ≡ os
 
 -- an item that isn't the first's has its role to the others
-other_role : (x y z : Role) → x ≡ Foreign → either_role x y ≡ z → y ≡ z
-other_role Foreign y z e h = h
-other_role _ y z e h = cc
+other_role : (x : Role) {y z : Role} → x ≡ Foreign → either_role x y ≡ z → y ≡ z
+other_role Foreign e h = h
+other_role _ e h = cc
 
 -- where the field has no piece left the cut is one by the others' keys
-narrow : (q r : Roles) {cs : Cells} {os : List LinePiece} → IsNamed q → pieces q cs ≡ []
+narrow : {q r : Roles} {cs : Cells} {os : List LinePiece} → IsNamed q → pieces q cs ≡ []
     → Cut (either q r) cs os → Narrowed q r cs os
-narrow q r n p at_end = record { cut = at_end; all = refl }
-narrow q r n p (passed c) = let i = narrow q r n p c in record { cut = passed i.cut; all = i.all }
-narrow q r n p (flag {k = k} {cs = cs} {os = os} e c) =
+narrow n p at_end = record { cut = at_end; all = refl }
+narrow n p (passed c) = let i = narrow n p c in record { cut = passed i.cut; all = i.all }
+narrow {q} n p (flag {k = k} {cs = cs} e c) =
     let f = nil_foreign (q k) k cs (pieces q cs) p in
-    let i = narrow q r n (nil_rest (q k) k cs (pieces q cs) p) c in
-    record {
-      cut = flag (other_role (q k) (r k) Alone f e) i.cut;
-      all = others_all q (One k) os (ap is_own_role f) i.all;
-    }
-narrow q r n p (argument {k = k} {w = w} {cs = cs} {os = os} e v c) =
+    let i = narrow n (nil_rest (q k) k cs p) c in
+    record { cut = flag (other_role (q k) f e) i.cut; all = others_all q (ap is_own_role f) i.all }
+narrow {q} n p (argument {k = k} {w = w} {cs = cs} e v c) =
     let f = nil_foreign (q k) k (Some w ∷ cs) (pieces q (Some w ∷ cs)) p in
-    let i = narrow q r n
-    (nil_rest (q w) w cs (pieces q cs)
-    (nil_rest (q k) k (Some w ∷ cs) (pieces q (Some w ∷ cs)) p)) c in
+    let i = narrow n (nil_rest (q w) w cs (nil_rest (q k) k (Some w ∷ cs) p)) c in
     record {
-      cut = argument (other_role (q k) (r k) WithNext f e) v i.cut;
-      all = others_all q (Two k w) os (ap is_own_role f) i.all;
+      cut = argument (other_role (q k) f e) v i.cut;
+      all = others_all q (ap is_own_role f) i.all;
     }
-narrow q r n p (word {w = w} {cs = cs} {os = os} h c) =
-    let i = narrow q r n (nil_rest (q w) w cs (pieces q cs) p) c in
-    record {
-      cut = word h i.cut;
-      all = others_all q (One w) os (ap is_own_role (word_foreign q w n h)) i.all;
-    }
+narrow {q} n p (word {w = w} {cs = cs} h c) =
+    let i = narrow n (nil_rest (q w) w cs p) c in
+    record { cut = word h i.cut; all = others_all q (ap is_own_role (word_foreign n h)) i.all }
 
 -- What is read off the pieces, seen from before a field was evaluated.
 
@@ -145,91 +134,80 @@ pub record StepBack (k : FieldKind) (q r : Roles) (cs : Cells)
   pub own : front k (pieces q cs) ≡ portion k q before
 
 -- that of a named field
-named_back : (q r : Roles) {cs ds : Cells} {os : List LinePiece} → IsNamed q → Apart q r
+named_back : {q : Roles} (r : Roles) {cs ds : Cells} {os : List LinePiece} → IsNamed q → Apart q r
     → TakesPieces q cs ds → Cut r ds os → StepBack ByName q r cs os
-named_back q r n a t c =
-    let w = widen q r n a c in
-    let p = put_back_some q r t w.cut in
-    record {
-      before = p.now;
-      cut = p.cut;
-      leaves = p.alike
-          ∙ w.all;
-      own = pieces_of_cut q r n p.cut;
-    }
+named_back r n a t c =
+    let w = widen n a c in
+    let p = put_back_some r t w.cut in
+    record { before = p.now; cut = p.cut; leaves = p.alike ∙ w.all; own = pieces_of_cut r n p.cut }
 
 -- of a positional one
-word_back : (k : FieldKind) (q r : Roles) {cs ds : Cells} {os : List LinePiece}
+word_back : {k : FieldKind} {q r : Roles} {cs ds : Cells} {os : List LinePiece}
     → keys k q ≡ no_roles → ((ps : List LinePiece) → portion k q ps ≡ front k ps)
-    → ((ps : List LinePiece) → left k q ps ≡ back k ps) → IsWords q → NoKeys r
-    → TakesPieces q cs ds → pieces q ds ≡ back k (pieces q cs) → Cut r ds os → StepBack k q r cs os
-word_back k q r {cs = cs} no_keys shares leaves n f t e c =
-    let p = put_words_back q r n f t c in
-    let all = words_of_cut q r n f p.cut in
+    → ((ps : List LinePiece) → left k q ps ≡ back k ps) → IsWords q → NoKeys r → TakesPieces q cs ds
+    → pieces q ds ≡ back k (pieces q cs) → Cut r ds os → StepBack k q r cs os
+word_back {k} {r} {cs = cs} no_keys shares leaves n f t e c =
+    let p = put_words_back n f t c in
+    let all = words_of_cut n f p.cut in
     record {
       before = p.words;
       cut = subst (λ own. Cut (either own r) cs p.words) (sym no_keys) p.cut;
-      leaves = leaves p.words ∙ (ap (back k) (sym all) ∙ (sym e ∙ words_of_cut q r n f c));
+      leaves = leaves p.words ∙ (ap (back k) (sym all) ∙ (sym e ∙ words_of_cut n f c));
       own = ap (front k) all ∙ sym (shares p.words);
     }
 
 -- of any field
-pub step_back : (k : FieldKind) (q r : Roles) (T : Type 0) (value : List LinePiece → T → Type 0)
+pub step_back : (k : FieldKind) {q r : Roles} {T : Type 0} (value : List LinePiece → T → Type 0)
     {s m : Situation} {v : T} {os : List LinePiece} → OwnItems k q → Before k q r
     → FieldTook T k q value s v m → Cut r (cells m) os → StepBack k q r (cells s) os
-step_back ByName q r T value n b f c = named_back q r n b f.takes c
-step_back (OneWord z) q r T value n b f c =
-    word_back (OneWord z) q r refl (λ ps. refl) (λ ps. refl) n (record { none = b }) f.takes
-    (f.rest tt) c
-step_back (EachWord z) q r T value n b f c =
-    word_back (EachWord z) q r refl (λ ps. refl) (λ ps. refl) n (record { none = b }) f.takes
-    (f.rest tt) c
+step_back ByName {r} value n b f c = named_back r n b f.takes c
+step_back (OneWord z) value n b f c =
+    word_back refl (λ ps. refl) (λ ps. refl) n (record { none = b }) f.takes (f.rest tt) c
+step_back (EachWord z) value n b f c =
+    word_back refl (λ ps. refl) (λ ps. refl) n (record { none = b }) f.takes (f.rest tt) c
 
 -- a field that left nothing of its own
-pub none_left : (k : FieldKind) (q r : Roles) {cs : Cells} {os : List LinePiece} → OwnItems k q
-    → Before k q r → Cut r cs os → NoKeysLeft k q cs
-none_left ByName q r n b c = no_own_in_cut q r n b c
-none_left _ q r n b c = tt
+pub none_left : (k : FieldKind) (q : Roles) {r : Roles} {cs : Cells} {os : List LinePiece}
+    → OwnItems k q → Before k q r → Cut r cs os → NoKeysLeft k q cs
+none_left ByName q n b c = no_own_in_cut n b c
+none_left _ q n b c = tt
 
 -- The cut after a field was evaluated.
 
 -- a field's own pieces are its portion of the cut
 pub own_portion : (k : FieldKind) (q r : Roles) {cs : Cells} {os : List LinePiece} → OwnItems k q
     → Before k q r → Cut (either (keys k q) r) cs os → front k (pieces q cs) ≡ portion k q os
-own_portion ByName q r n b c = pieces_of_cut q r n c
-own_portion (OneWord z) q r n b c = ap (front (OneWord z)) (words_of_cut q r n (record { none = b })
-    c)
+own_portion ByName q r n b c = pieces_of_cut r n c
+own_portion (OneWord z) q r n b c = ap (front (OneWord z)) (words_of_cut n (record { none = b }) c)
 own_portion (EachWord z) q r n b c =
-    ap (front (EachWord z)) (words_of_cut q r n (record { none = b }) c)
+    ap (front (EachWord z)) (words_of_cut n (record { none = b }) c)
 
 -- the cut after a positional field was evaluated
-word_on : (k : FieldKind) (q r : Roles) {cs ds : Cells} {os : List LinePiece} → IsWords q → NoKeys r
+word_on : (k : FieldKind) {q r : Roles} {cs ds : Cells} {os : List LinePiece} → IsWords q → NoKeys r
     → TakesPieces q cs ds → pieces q ds ≡ back k (pieces q cs) → Cut r cs os → Cut r ds (back k os)
-word_on k q r n f t e c =
-    let p = take_words_from q r n f t c in
-    subst (Cut r _) (sym (words_of_cut q r n f p.cut) ∙ (e ∙ ap (back k) (words_of_cut q r n f c)))
-    p.cut
+word_on k {r} n f t e c =
+    let p = take_words_from n f t c in
+    subst (Cut r _) (sym (words_of_cut n f p.cut) ∙ (e ∙ ap (back k) (words_of_cut n f c))) p.cut
 
 -- the cut after a field was evaluated
-pub step_on : (k : FieldKind) (q r : Roles) {cs ds : Cells} {os : List LinePiece} → OwnItems k q
+pub step_on : (k : FieldKind) {q r : Roles} {cs ds : Cells} {os : List LinePiece} → OwnItems k q
     → Before k q r → TakesPieces q cs ds → pieces q ds ≡ back k (pieces q cs)
     → Cut (either (keys k q) r) cs os → Cut r ds (left k q os)
-step_on ByName q r n b t e c =
-    let p = take_some_from q r n t c in
-    let i = narrow q r n e p.cut in
+step_on ByName {r} n b t e c =
+    let p = take_some_from r n t c in
+    let i = narrow n e p.cut in
     subst (Cut r _) (sym i.all ∙ p.alike) i.cut
-step_on (OneWord z) q r n b t e c = word_on (OneWord z) q r n (record { none = b }) t e c
-step_on (EachWord z) q r n b t e c = word_on (EachWord z) q r n (record { none = b }) t e c
+step_on (OneWord z) n b t e c = word_on (OneWord z) n (record { none = b }) t e c
+step_on (EachWord z) n b t e c = word_on (EachWord z) n (record { none = b }) t e c
 
 -- Fields before others keep to the laws.
 
 -- the keys of all are keys
-both_named : (k : FieldKind) (q r : Roles) → OwnItems k q → IsNamed r
+both_named : (k : FieldKind) (q : Roles) {r : Roles} → OwnItems k q → IsNamed r
     → IsNamed (either (keys k q) r)
-both_named ByName q r n m = record {
-  only_keys = λ a h. either_foreign (q a) (r a) Foreign (n.only_keys a h) (m.only_keys a h);
-}
-both_named _ q r n m = m
+both_named ByName q n m =
+    record { only_keys = λ a h. either_foreign (q a) (n.only_keys a h) (m.only_keys a h) }
+both_named _ q n m = m
 
 -- two values of fields that were all evaluated
 pub record ValuesOfBoth (A B : Type 0) (first : Outcome A) (rest : Outcome B) (s : Situation)
@@ -238,29 +216,29 @@ pub record ValuesOfBoth (A B : Type 0) (first : Outcome A) (rest : Outcome B) (s
   pub first_ran : first s (Ok v.0) middle
   pub rest_ran : rest middle (Ok v.1) t
 
-module _ (A B : Type 0) (first : Outcome A) (rest : Outcome B) where
+module _ {A B : Type 0} (first : Outcome A) (rest : Outcome B) where
   -- joined answers are a value where both are
-  joined_values : (s m t : Situation) (a : Result A Error) (b : Result B Error) (v : A × B)
+  joined_values : {s m t : Situation} (a : Result A Error) (b : Result B Error) {v : A × B}
       → first s a m → rest m b t → Ok v ≡ joined a b → ValuesOfBoth A B first rest s v t
-  joined_values s m t (Ok a) (Ok b) v f g e =
+  joined_values {s} {m} {t} (Ok a) (Ok b) {v} f g e =
       let d : v ≡ (a, b) = cc in
       record {
         middle = m;
         first_ran = subst (λ z. first s (Ok z.0) m) (sym d) f;
         rest_ran = subst (λ z. rest m (Ok z.1) t) (sym d) g;
       }
-  joined_values s m t (Ok a) (Err f) v h g e = absurd cc
-  joined_values s m t (Err e) (Ok b) v h g i = absurd cc
-  joined_values s m t (Err e) (Err f) v h g i = by_test (is_memory f.0) i
+  joined_values (Ok a) (Err f) h g e = absurd cc
+  joined_values (Err e) (Ok b) h g i = absurd cc
+  joined_values {s} {t} (Err e) (Err f) {v} h g i = by_test (is_memory f.0) i
     where
       by_test : (x : Bool) → Ok v ≡ (if x then Err f else Err e) → ValuesOfBoth A B first rest s v t
       by_test true j = absurd cc
       by_test false j = absurd cc
 
   -- the values of a product are those of its fields
-  pub values_of_both : (s t : Situation) (v : A × B) → BothOutcome first rest s (Ok v) t
+  pub values_of_both : {s t : Situation} {v : A × B} → BothOutcome first rest s (Ok v) t
       → ValuesOfBoth A B first rest s v t
-  values_of_both s t v o = joined_values s o.middle t o.a o.b v o.first_ran o.rest_ran o.answer
+  values_of_both o = joined_values o.a o.b o.first_ran o.rest_ran o.answer
 
   -- a refusal is of the first, not for want of memory; of the others, after its value; or want of
   -- memory
@@ -271,22 +249,21 @@ module _ (A B : Type 0) (first : Outcome A) (rest : Outcome B) where
     by_rest : {v : A} {m : Situation} → first s (Ok v) m → rest m (Err e) t → RefusedBy s e t
 
   -- of joined answers
-  joined_refused : (s m t : Situation) (a : Result A Error) (b : Result B Error) (e : Error)
+  joined_refused : {s m t : Situation} (a : Result A Error) (b : Result B Error) {e : Error}
       → first s a m → rest m b t → IsNotMemory a → Err e ≡ joined a b → RefusedBy s e t
-  joined_refused s m t (Ok a) (Ok b) e f g spared i = absurd cc
-  joined_refused s m t (Ok a) (Err b) e f g spared i =
+  joined_refused (Ok a) (Ok b) f g spared i = absurd cc
+  joined_refused {m} {t} (Ok a) (Err b) {e} f g spared i =
       let d : b ≡ e = cc in by_rest f (subst (λ z. rest m (Err z) t) d g)
-  joined_refused s m t (Err a) b e f g spared i = by_first f (not_memory a.0 spared)
+  joined_refused (Err a) b f g spared i = by_first f (not_memory a.0 spared)
 
   -- and so each
-  pub refused_by : (s t : Situation) (e : Error) → BothOutcome first rest s (Err e) t
+  pub refused_by : {s t : Situation} {e : Error} → BothOutcome first rest s (Err e) t
       → RefusedBy s e t
-  refused_by s t e (inl o) =
-      joined_refused s o.middle t o.a o.b e o.first_ran o.rest_ran o.spared o.answer
-  refused_by s t e (inr o) = for_memory (memory_class e.0 o.1)
+  refused_by (inl o) = joined_refused o.a o.b o.first_ran o.rest_ran o.spared o.answer
+  refused_by {e} (inr o) = for_memory (memory_class e.0 o.1)
 
-module _ {env : Variables} (A B : Type 0) (first : Outcome A) (rest : Outcome B) (k : FieldKind)
-    (q r : Roles) (fv : List LinePiece → A → Type 0) (others_read : FieldsReading B)
+module _ {env : Variables} {A B : Type 0} {first : Outcome A} {rest : Outcome B} {k : FieldKind}
+    {q r : Roles} {fv : List LinePiece → A → Type 0} {others_read : FieldsReading B}
     (lf : FieldLaw env A first k q fv) (lr : FieldsLaw env B rest r others_read)
     (b : Before k q r) where
   -- how both read the pieces
@@ -297,65 +274,64 @@ module _ {env : Variables} (A B : Type 0) (first : Outcome A) (rest : Outcome B)
   both_steady : (s t : Situation) (v : A × B) → IsWholeIn env s → BothOutcome first rest s (Ok v) t
       → Steady s t
   both_steady s t v w o =
-      let h = values_of_both A B first rest s t v o in
+      let h = values_of_both first rest o in
       let i = lf.ok s h.middle v.0 w h.first_ran in
-      steady_trans i.steady
-      (lr.steady h.middle t v.1 (none_outside_after s h.middle w i.steady) h.rest_ran)
+      steady_trans i.steady (lr.steady h.middle t v.1 (none_outside_after w i.steady) h.rest_ran)
 
   -- its values are read off a cut
   both_reads : (s t : Situation) (v : A × B) → IsWholeIn env s → BothOutcome first rest s (Ok v) t
       → NonePresent (cells t) → ReadOff (A × B) (either (keys k q) r) reading.value (cells s) v
   both_reads s t v w o e =
-      let h = values_of_both A B first rest s t v o in
+      let h = values_of_both first rest o in
       let i = lf.ok s h.middle v.0 w h.first_ran in
-      let after = lr.ok h.middle t v.1 (none_outside_after s h.middle w i.steady) h.rest_ran e in
-      let p = step_back k q r A fv lf.own b i (read_cut after) in
-      read_off (either (keys k q) r) reading.value (both_named k q r lf.own lr.named) p.cut (
-        subst (λ os. fv os v.0) p.own (i.read (none_left k q r lf.own b (read_cut after))),
+      let after = lr.ok h.middle t v.1 (none_outside_after w i.steady) h.rest_ran e in
+      let p = step_back k fv lf.own b i (read_cut after) in
+      read_off reading.value (both_named k q lf.own lr.named) p.cut (
+        subst (λ os. fv os v.0) p.own (i.read (none_left k q lf.own b (read_cut after))),
         subst (λ os. others_read.value os v.1) (sym p.leaves) after.read,
       )
 
   -- where each field has a value, so has the first on its own pieces
-  own_value : (s : Situation) (os : List LinePiece) → Cut (either (keys k q) r) (cells s) os
+  own_value : (s : Situation) {os : List LinePiece} → Cut (either (keys k q) r) (cells s) os
       → (h : HasValue fv (portion k q os)) → fv (front k (pieces q (cells s))) h.0
-  own_value s os c h = subst (λ z. fv z h.0) (sym (own_portion k q r lf.own b c)) h.1
+  own_value s c h = subst (λ z. fv z h.0) (sym (own_portion k q r lf.own b c)) h.1
 
   -- what the first leaves is cut into what it leaves of the pieces
-  rest_cut : (s m : Situation) (x : A) (os : List LinePiece) → IsWholeIn env s → first s (Ok x) m
+  rest_cut : {s m : Situation} {x : A} {os : List LinePiece} → IsWholeIn env s → first s (Ok x) m
       → Cut (either (keys k q) r) (cells s) os → HasValue fv (portion k q os)
       → Cut r (cells m) (left k q os)
-  rest_cut s m x os w f c h =
+  rest_cut {s} {m} {x} w f c h =
       let i = lf.ok s m x w f in
-      step_on k q r lf.own b i.takes (i.rest (lf.takes_all s m x h.0 w f (own_value s os c h))) c
+      step_on k lf.own b i.takes (i.rest (lf.takes_all s m x h.0 w f (own_value s c h))) c
 
   -- so the others leave nothing
   both_take : (s t : Situation) (u : A × B) (os : List LinePiece) → IsWholeIn env s
       → BothOutcome first rest s (Ok u) t → Cut (either (keys k q) r) (cells s) os
       → reading.each os → NonePresent (cells t)
   both_take s t u os w o c h =
-      let i = values_of_both A B first rest s t u o in
+      let i = values_of_both first rest o in
       lr.takes_all i.middle t u.1 (left k q os)
-      (none_outside_after s i.middle w (lf.ok s i.middle u.0 w i.first_ran).steady) i.rest_ran
-      (rest_cut s i.middle u.0 os w i.first_ran c h.0) h.1
+      (none_outside_after w (lf.ok s i.middle u.0 w i.first_ran).steady) i.rest_ran
+      (rest_cut w i.first_ran c h.0) h.1
 
   -- and a refusal is want of memory
   both_refuse : (s t : Situation) (e : Error) (os : List LinePiece) → IsWholeIn env s
       → BothOutcome first rest s (Err e) t → Cut (either (keys k q) r) (cells s) os
       → reading.each os → class e ≡ OfMemory
-  both_refuse s t e os w o c h = by_side (refused_by A B first rest s t e o)
+  both_refuse s t e os w o c h = by_side (refused_by first rest o)
     where
-      by_side : RefusedBy A B first rest s e t → class e ≡ OfMemory
+      by_side : RefusedBy first rest s e t → class e ≡ OfMemory
       by_side (for_memory m) = m
       by_side (by_first {d = d} {m = m} f spared) =
-          absurd (spared (lf.refuses s m d h.0.0 w f (own_value s os c h.0)))
+          absurd (spared (lf.refuses s m d h.0.0 w f (own_value s c h.0)))
       by_side (by_rest {v = v} {m = m} f g) =
-          lr.refuses m t e (left k q os) (none_outside_after s m w (lf.ok s m v w f).steady) g
-          (rest_cut s m v os w f c h.0) h.1
+          lr.refuses m t e (left k q os) (none_outside_after w (lf.ok s m v w f).steady) g
+          (rest_cut w f c h.0) h.1
 
   -- a flat field before flat fields: together they keep to the laws
   pub both_law : FieldsLaw env (A × B) (BothOutcome first rest) (either (keys k q) r) reading
   both_law = record {
-    named = both_named k q r lf.own lr.named;
+    named = both_named k q lf.own lr.named;
     steady = both_steady;
     ok = both_reads;
     has_each = λ os v h. ((v.0, h.0), lr.has_each (left k q os) v.1 h.1);

@@ -46,128 +46,116 @@ use Rattle.bpaf_exact.proofs.{Records.last_law, Narrow.narrower_alternative, Nar
 use Rattle.bpaf_exact.proofs.{Programs.command_law, Programs.record_program, Exact.exact}
 
 -- where a test holds
-if_law : (env : Variables) (T : Type 0) (outcome : Outcome T) (names : List Names)
+if_law : (env : Variables) {T : Type 0} (outcome : Outcome T) (names : List Names)
     (words : List (List ℕ)) (s : ProgramForm T) (b : Bool)
     → (b ≡ true → FormLaw env outcome names words s)
     → FormLaw env outcome names words (program_if b s)
-if_law env T outcome names words s true f = f refl
-if_law env T outcome names words s false f = tt
+if_law env outcome names words s true f = f refl
+if_law env outcome names words s false f = tt
 
 -- a closure
-pub program_closed_law : (env : Variables) (A B : Type 0) (inner : Outcome A) (f : Closure A B)
+pub program_closed_law : (env : Variables) {A B : Type 0} (inner : Outcome A) (f : Closure A B)
     (names : List Names) (words : List (List ℕ)) (s : ProgramForm A) → Agrees f s
     → FormLaw env inner names words s
     → FormLaw env (ClosedEval A B inner f Refused) names words (program_closed f s)
-program_closed_law env A B inner f names words (alternative wide q value) g l =
-    (closed_alternative A B inner q value l.0 f g, l.1)
-program_closed_law env A B inner f names words (single wide k q group gap) g l =
-    (closed_single A B inner k q group gap l.0 f g.0 g.1, l.1)
-program_closed_law env A B inner f names words (complete wide k q value) g l =
-    (closed_law A B inner k q value l.0 f g Refused, l.1)
-program_closed_law env A B inner f names words (commands false value) g l = record {
+program_closed_law env inner f names words (alternative wide q value) g l =
+    (closed_alternative l.0 g, l.1)
+program_closed_law env inner f names words (single wide k q group gap) g l =
+    (closed_single l.0 g.0 g.1, l.1)
+program_closed_law env inner f names words (complete wide k q value) g l =
+    (closed_law l.0 g Refused, l.1)
+program_closed_law env inner f names words (commands false value) g l = record {
   roles = l.roles;
-  commands = closed_commands A B inner l.roles value f g Refused words l.commands;
+  commands = closed_commands inner l.roles g Refused l.commands;
   owns = l.owns;
 }
-program_closed_law env A B inner f names words (commands true value) g l = record {
+program_closed_law env inner f names words (commands true value) g l = record {
   roles = l.roles;
-  program = closed_program A B inner l.roles value f g Refused l.program;
+  program = closed_program inner l.roles g Refused l.program;
   owns = l.owns;
 }
-program_closed_law env A B inner f names words _ g l = tt
+program_closed_law env inner f names words _ g l = tt
 
 -- A closure that never refuses agrees with every form: map, count, collect, a constructor.
-pub never_refuses : (A B : Type 0) (f : Closure A B) → ((x : A) → f.no x → ⊥)
-    → (s : ProgramForm A) → Agrees f s
-never_refuses A B f n (alternative wide q value) = λ o x y v a b g h. n y h
-never_refuses A B f n (single wide k q group gap) =
+pub never_refuses : {A B : Type 0} (f : Closure A B) → ((x : A) → f.no x → ⊥) → (s : ProgramForm A)
+    → Agrees f s
+never_refuses f n (alternative wide q value) = λ o x y v a b g h. n y h
+never_refuses f n (single wide k q group gap) =
     (λ os rest x y v a b g h. n y h, λ x y v a b g h. n y h)
-never_refuses A B f n (complete wide k q value) = λ os x y v a b g h. n y h
-never_refuses A B f n (product wide named q fields) = λ os x y v a b g h. n y h
-never_refuses A B f n (commands optional value) = λ cs x y v a b g h. n y h
-never_refuses A B f n _ = tt
+never_refuses f n (complete wide k q value) = λ os x y v a b g h. n y h
+never_refuses f n (product wide named q fields) = λ os x y v a b g h. n y h
+never_refuses f n (commands optional value) = λ cs x y v a b g h. n y h
+never_refuses f n _ = tt
 
 -- a repeat has the keys of the field
-repeated_keys : (k : FieldKind) (q : Roles) (names : List Names) → Owns (keys k q) names
+repeated_keys : (k : FieldKind) (q : Roles) {names : List Names} → Owns (keys k q) names
     → Owns (keys (repeated k) q) names
-repeated_keys ByName q names o = o
-repeated_keys _ q names o = o
+repeated_keys ByName q o = o
+repeated_keys _ q o = o
 
 -- a repeat or default round a field
-pub completed_law : (env : Variables) {T B : Type 0} (inner : Outcome T) (outer : Outcome B)
-    (kind : FieldKind → FieldKind) (value : Groups T → Gap T → List LinePiece → B → Type 0)
-    (names : List Names)
+pub completed_law : {env : Variables} {T B : Type 0} {inner : Outcome T} {outer : Outcome B}
+    {kind : FieldKind → FieldKind} (value : Groups T → Gap T → List LinePiece → B → Type 0)
+    {names : List Names}
     → ((k : FieldKind) (q : Roles) → Owns (keys k q) names → Owns (keys (kind k) q) names)
-    → ((k : FieldKind) (q : Roles) (group : Groups T) (gap : Gap T)
-    → SingleLaw env T inner k q group gap → FieldLaw env B outer (kind k) q (value group gap))
-    → (words more : List (List ℕ)) (s : ProgramForm T) → FormLaw env inner names words s
+    → ((k : FieldKind) (q : Roles) (group : Groups T) (gap : Gap T) → SingleLaw env T inner k q
+    group gap
+    → FieldLaw env B outer (kind k) q (value group gap)) → (words more : List (List ℕ))
+    (s : ProgramForm T) → FormLaw env inner names words s
     → FormLaw env outer names more (completed kind value s)
-completed_law env {T} inner outer kind value names owns law words more (alternative wide q each)
-    l = (law ByName q _ _ (alternative_single T inner q each l.0), owns ByName q l.1)
-completed_law env inner outer kind value names owns law words more (single wide k q group gap) l =
+completed_law value owns law words more (alternative wide q each) l =
+    (law ByName q _ _ (alternative_single l.0), owns ByName q l.1)
+completed_law value owns law words more (single wide k q group gap) l =
     (law k q group gap l.0, owns k q l.1)
-completed_law env inner outer kind value names owns law words more _ l = tt
+completed_law value owns law words more _ l = tt
 
 -- what some, collect and count make of the list; a refusal of theirs may be of any class
-pub listed_law : (env : Variables) (T B : Type 0) (inner : Outcome T) (idle : Bool)
+pub listed_law : (env : Variables) {T B : Type 0} (inner : Outcome T) (idle : Bool)
     (f : Closure (List T) B) (c : ErrorClass) (names : List Names) (words : List (List ℕ))
     (s : ProgramForm T) → Agrees f (completed repeated (OwnList T) s)
     → FormLaw env inner names words s
     → FormLaw env (ClosedEval (List T) B (RepeatOutcome inner idle) f c) names []
     (program_closed f (completed repeated (OwnList T) s))
-listed_law env T B inner idle f c names words (alternative wide q value) g l = (
-  closed_law (List T) B _ ByName q _
-      (repeat_law T inner ByName q _ _ (alternative_single T inner q value l.0) idle) f g c,
-  l.1,
-)
-listed_law env T B inner idle f c names words (single wide k q group gap) g l = (
-  closed_law (List T) B _ (repeated k) q _ (repeat_law T inner k q group gap l.0 idle) f g c,
-  repeated_keys k q names l.1,
-)
-listed_law env T B inner idle f c names words _ g l = tt
+listed_law env inner idle f c names words (alternative wide q value) g l =
+    (closed_law (repeat_law (alternative_single l.0) idle) g c, l.1)
+listed_law env inner idle f c names words (single wide k q group gap) g l =
+    (closed_law (repeat_law l.0 idle) g c, repeated_keys k q l.1)
+listed_law env inner idle f c names words _ g l = tt
 
 -- some needs no premise: of the lists that the same pieces give, all are empty or none is
-pub some_agrees : (env : Variables) (T : Type 0) (inner : Outcome T) (names : List Names)
+pub some_agrees : (env : Variables) {T : Type 0} (inner : Outcome T) (names : List Names)
     (words : List (List ℕ)) (s : ProgramForm T) → FormLaw env inner names words s
     → Agrees (some_closure T) (completed repeated (OwnList T) s)
-some_agrees env T inner names words (alternative wide q value) l =
-    some_agrees_on T inner ByName q _ _ (alternative_single T inner q value l.0)
-some_agrees env T inner names words (single wide k q group gap) l =
-    some_agrees_on T inner k q group gap l.0
-some_agrees env T inner names words _ l = tt
+some_agrees env inner names words (alternative wide q value) l =
+    some_agrees_on ByName q _ _ (alternative_single l.0)
+some_agrees env inner names words (single wide k q group gap) l = some_agrees_on k q group gap l.0
+some_agrees env inner names words _ l = tt
 
 module _ (env : Variables) (T : Type 0) (inner : Outcome T) (names : List Names)
     (words : List (List ℕ)) (s : ProgramForm T) (l : FormLaw env inner names words s) where
   -- the last value
   pub program_last_law : FormLaw env (LastOutcome inner) names []
       (completed repeated (LastOf T) s)
-  program_last_law =
-      completed_law env inner (LastOutcome inner) repeated (LastOf T) names
-      (λ k q. repeated_keys k q names) (last_of_law T inner) words [] s l
+  program_last_law = completed_law (LastOf T) (λ k q. repeated_keys k q) (last_of_law) words [] s l
 
   -- what has a value that stands for it
   pub program_fallback_law : (f : Closure (Unit {0}) T) → Decides f
       → FormLaw env (FallbackEval T inner f) names []
       (completed (λ k. k) (λ group gap. FallbackValue T group gap f) s)
   program_fallback_law f decides =
-      completed_law env inner (FallbackEval T inner f) (λ k. k)
-      (λ group gap. FallbackValue T group gap f) names (λ k q o. o)
-      (λ k q group gap l. fallback_law T inner k q group gap l f decides) words [] s l
+      completed_law (λ group gap. FallbackValue T group gap f) (λ k q o. o)
+      (λ k q group gap l. fallback_law l decides) words [] s l
 
 -- what may be left out
-pub program_optional_law : (env : Variables) (T : Type 0) (inner : Outcome T) (names : List Names)
+pub program_optional_law : (env : Variables) {T : Type 0} (inner : Outcome T) (names : List Names)
     (words : List (List ℕ)) (s : ProgramForm T) → FormLaw env inner names words s
     → FormLaw env (OptionalEval T inner) names [] (program_optional s)
-program_optional_law env T inner names words (commands false value) l = record {
-  roles = l.roles;
-  program = optional_commands T inner l.roles words value l.commands;
-  owns = l.owns;
-}
-program_optional_law env T inner names words (alternative wide q value) l =
-    (optional_law T inner ByName q _ _ (alternative_single T inner q value l.0), l.1)
-program_optional_law env T inner names words (single wide k q group gap) l =
-    (optional_law T inner k q group gap l.0, l.1)
-program_optional_law env T inner names words _ l = tt
+program_optional_law env inner names words (commands false value) l =
+    record { roles = l.roles; program = optional_commands l.commands; owns = l.owns }
+program_optional_law env inner names words (alternative wide q value) l =
+    (optional_law (alternative_single l.0), l.1)
+program_optional_law env inner names words (single wide k q group gap) l = (optional_law l.0, l.1)
+program_optional_law env inner names words _ l = tt
 
 -- a word that an item is, is one of the words of which it is one
 among : (words : List (List ℕ)) (k : Arg) → is_one_of words k ≡ true
@@ -232,21 +220,17 @@ pub program_choice_law : (env : Variables) (T : Type 0) (a b : Outcome T) (own o
     → FormLaw env b others more t
     → FormLaw env (ChoiceOutcome a b) (own ++ others) (words ++ more)
     (program_choice own others words more s t)
-program_choice_law env T a b own others words more (alternative wide q x) (alternative other r y)
-    la lb =
-    if_law env T (ChoiceOutcome a b) (own ++ others) (words ++ more) _ (are_all_apart own others)
-    (λ h. (
-      choice_law T a b q r x y la.0 lb.0 (apart_of_names q r own others la.1 lb.1 h),
-      either_owns q r own others la.1 lb.1,
-    ))
+program_choice_law env T a b own others words more (alternative wide q x) (alternative other r y) la
+    lb =
+    if_law env (ChoiceOutcome a b) (own ++ others) (words ++ more) _ (are_all_apart own others)
+    (λ h. (choice_law T a b q r x y la.0 lb.0 (apart_of_names la.1 lb.1 h), either_owns la.1 lb.1))
 program_choice_law env T a b own others words more (commands false x) (commands false y) la lb =
-    if_law env T (ChoiceOutcome a b) (own ++ others) (words ++ more) _
-    (are_words_apart words more)
+    if_law env (ChoiceOutcome a b) (own ++ others) (words ++ more) _ (are_words_apart words more)
     (λ h. record {
       roles = either la.roles lb.roles;
       commands = choice_commands T a b la.roles lb.roles words more x y la.commands lb.commands
           (words_apart words more h);
-      owns = either_owns la.roles lb.roles own others la.owns lb.owns;
+      owns = either_owns la.owns lb.owns;
     })
 program_choice_law env T a b own others words more _ _ la lb = tt
 
@@ -276,9 +260,8 @@ module _ (env : Variables) (T : Type 0) (outcome : Outcome T) (names : List Name
   pub program_field_law : (s : ProgramForm T) → Law s → Law (program_field s)
   program_field_law (product wide true q fields) l = (l.2, l.1)
   program_field_law (product wide false q fields) l = l
-  program_field_law (alternative wide q value) l =
-      (single_law T outcome ByName q _ _ (alternative_single T outcome q value l.0), l.1)
-  program_field_law (single wide k q group gap) l = (single_law T outcome k q group gap l.0, l.1)
+  program_field_law (alternative wide q value) l = (single_law (alternative_single l.0), l.1)
+  program_field_law (single wide k q group gap) l = (single_law l.0, l.1)
   program_field_law no_program l = tt
   program_field_law s l = l
 
@@ -286,16 +269,15 @@ module _ (env : Variables) (T : Type 0) (outcome : Outcome T) (names : List Name
   pub program_alone_law : (s : ProgramForm T) → Law s
       → FormLaw env outcome names [] (program_alone s)
   program_alone_law (complete wide k q value) l = (
-    last_law T outcome k q value l.0,
-    subst (Owns (either (keys k q) no_roles)) (append-nil names)
-        (either_owns (keys k q) no_roles names [] l.1 no_names),
+    last_law l.0,
+    subst (Owns (either (keys k q) no_roles)) (append-nil names) (either_owns l.1 no_names),
     by_name k l.0,
   )
     where
       by_name : (j : FieldKind) → FieldLaw env T outcome j q value
           → NamedLaw env (is_named j) outcome (either (keys j q) no_roles)
           (last_reading j q value).value
-      by_name ByName l = named_last_law T outcome q value l
+      by_name ByName l = named_last_law l
       by_name (OneWord z) l = tt
       by_name (EachWord z) l = tt
   program_alone_law (product wide false q fields) l = l
@@ -326,9 +308,9 @@ module _ (env : Variables) (T : Type 0) (outcome : Outcome T) (names : List Name
       → FormLaw env outcome names [] (program_alone s)
       → EndLaw env T outcome names (whole_value (program_alone s))
   end_law (complete wide k q value) h l =
-      record { roles = _; program = record_program T outcome _ _ l.0; owns = l.1 }
+      record { roles = _; program = record_program l.0; owns = l.1 }
   end_law (product wide false q fields) h l =
-      record { roles = _; program = record_program T outcome _ _ l.0; owns = l.1 }
+      record { roles = _; program = record_program l.0; owns = l.1 }
   end_law (commands optional value) h l = l
   end_law (before_commands value) h l = l
   end_law _ h l = absurd cc
@@ -337,7 +319,7 @@ module _ (env : Variables) (T : Type 0) (outcome : Outcome T) (names : List Name
   pub program_law : (s : ProgramForm T) → is_program s ≡ true → Law s
       → EndLaw env T outcome names (program_value s)
   program_law (product wide named q fields) h l =
-      record { roles = q; program = record_program T outcome q fields l.0; owns = l.1 }
+      record { roles = q; program = record_program l.0; owns = l.1 }
   program_law no_program h l = absurd cc
   program_law s h l = end_law (program_field s) refl (whole_law s l)
 
@@ -348,7 +330,7 @@ pub program_command_law : (env : Variables) (T : Type 0) (inner : Outcome T) (ap
     → FormLaw env (CommandEval T inner called) names (opening_words called)
     (program_command false apart called s)
 program_command_law env T inner apart called names words s l =
-    if_law env T (CommandEval T inner called) names (opening_words called) _
+    if_law env (CommandEval T inner called) names (opening_words called) _
     ((apart && are_plain (opening_words called)) && is_program s)
     (λ h. let tests = and_parts (apart && are_plain (opening_words called)) (is_program s) h in
     let plain = (and_parts apart (are_plain (opening_words called)) tests.0).1 in
@@ -363,12 +345,12 @@ nobody : false ≡ true → ⊥
 nobody e = cc
 
 -- fields that may follow keep apart
-follows : (k : FieldKind) (q r : Roles) (own others : List Names) → Owns (keys k q) own
-    → Owns r others → may_follow k own others ≡ true → Before k q r
-follows ByName q r own others a b h = apart_of_names q r own others a b h
-follows (OneWord z) q r own (names ∷ others) a b h = absurd cc
-follows (EachWord z) q r own (names ∷ others) a b h = absurd cc
-follows _ q r own [] a b h = λ i. foreign_of (r i) (false_from_ne_true _ (λ e. nobody (b.own i e)))
+follows : (k : FieldKind) (q : Roles) {r : Roles} {own : List Names} (others : List Names)
+    → Owns (keys k q) own → Owns r others → may_follow k own others ≡ true → Before k q r
+follows ByName q others a b h = apart_of_names a b h
+follows (OneWord z) q (names ∷ others) a b h = absurd cc
+follows (EachWord z) q (names ∷ others) a b h = absurd cc
+follows _ q {r} [] a b h = λ i. foreign_of (r i) (false_from_ne_true _ (λ e. nobody (b.own i e)))
 
 -- a field before others
 pub program_both_law : (env : Variables) (A B : Type 0) (first : Outcome A) (rest : Outcome B)
@@ -377,11 +359,10 @@ pub program_both_law : (env : Variables) (A B : Type 0) (first : Outcome A) (res
     → FormLaw env (BothOutcome first rest) (own ++ others) [] (program_both own others s t)
 program_both_law env A B first rest own others words (complete wide k q fv)
     (product other named r fields) la lb =
-    if_law env (A × B) (BothOutcome first rest) (own ++ others) [] _ (may_follow k own others)
-    (λ h. (
-      both_law A B first rest k q r fv fields la.0 lb.0 (follows k q r own others la.1 lb.1 h),
-      either_owns (keys k q) r own others la.1 lb.1,
-      by_names k named la.0 lb.2 (follows k q r own others la.1 lb.1 h),
+    if_law env (BothOutcome first rest) (own ++ others) [] _ (may_follow k own others) (λ h. (
+      both_law la.0 lb.0 (follows k q others la.1 lb.1 h),
+      either_owns la.1 lb.1,
+      by_names k named la.0 lb.2 (follows k q others la.1 lb.1 h),
     ))
   where
     by_names : (j : FieldKind) (all : Bool) → FieldLaw env A first j q fv
@@ -394,12 +375,11 @@ program_both_law env A B first rest own others words (complete wide k q fv)
     by_names (EachWord z) all l m apart = tt
 program_both_law env A B first rest own others words (complete wide ByName q fv)
     (before_commands rv) la lb =
-    if_law env (A × B) (BothOutcome first rest) (own ++ others) [] _ (are_all_apart own others)
+    if_law env (BothOutcome first rest) (own ++ others) [] _ (are_all_apart own others)
     (λ h. record {
       roles = either q lb.roles;
-      program = before_law A B first rest q lb.roles fv rv la.0 lb.program
-          (apart_of_names q lb.roles own others la.1 lb.owns h);
-      owns = either_owns q lb.roles own others la.1 lb.owns;
+      program = before_law la.0 lb.program (apart_of_names la.1 lb.owns h);
+      owns = either_owns la.1 lb.owns;
     })
 program_both_law env A B first rest own others words _ _ la lb = tt
 
@@ -408,18 +388,15 @@ pub program_con_law : (env : Variables) (A B : Type 0) (inner : Outcome A) (make
     (names : List Names) (s : ProgramForm A) → FormLaw env inner names [] s
     → FormLaw env (ProductOutcome inner makes) names [] (program_con (map_closure makes) s)
 program_con_law env A B inner makes names (product wide named q fields) l =
-    (con_law A B inner makes q fields l.0, l.1, by_name named l.2)
+    (con_law makes l.0, l.1, by_name named l.2)
   where
     by_name : (all : Bool) → NamedLaw env all inner q fields.value
         → NamedLaw env all (ProductOutcome inner makes) q
         (ClosedValue fields.value (map_closure makes))
-    by_name true l = named_con_law A B inner makes q fields.value l
+    by_name true l = named_con_law makes l
     by_name false l = tt
-program_con_law env A B inner makes names (before_commands value) l = record {
-  roles = l.roles;
-  program = con_program A B inner makes l.roles value l.program;
-  owns = l.owns;
-}
+program_con_law env A B inner makes names (before_commands value) l =
+    record { roles = l.roles; program = con_program makes l.program; owns = l.owns }
 program_con_law env A B inner makes names _ l = tt
 
 -- THE THEOREM: on every line, spelled by words, an answer of a run of a program is a value only
@@ -433,8 +410,8 @@ pub runs_as_program : (V : Type 0) (outcome : Outcome V) (names : List Names)
     → IsAcceptedOrWant (program_value s (line_cells context)) a)
 runs_as_program V outcome names words s h context l spelled a ran =
     let law = program_law context.env V outcome names words s h l in (
-      program_sound V outcome law.roles (program_value s) context law.program spelled a ran,
-      program_complete V outcome law.roles (program_value s) context law.program a ran,
+      program_sound V outcome law.roles (program_value s) context law.program spelled ran,
+      program_complete V outcome law.roles (program_value s) context law.program ran,
     )
 
 -- each answer of a run of a flat record is exact
@@ -442,17 +419,16 @@ pub runs_exactly : (V : Type 0) (outcome : Outcome V) (names : List Names)
     (words : List (List ℕ)) (s : ProgramForm V) → is_record s ≡ true → (context : Context)
     → FormLaw context.env outcome names words s → RunsExactly outcome s context
 runs_exactly V outcome names words s h context l a r =
-    exact V outcome (product_roles (whole_program s)) (product_reading (whole_program s)) context
-    (record_law context.env V outcome names words s h l) a r
+    exact context (record_law context.env V outcome names words s h l) r
 
 -- an outcome that allows no more keeps to the same laws
-narrower_program : {env : Variables} (V : Type 0) (a b : Outcome V) → AllowsNoMore V a b
-    → (r : Roles) (value : CellsValue V) → ProgramLaw env V a r value → ProgramLaw env V b r value
-narrower_program {env} V a b n r value l = record {
+narrower_program : {env : Variables} {V : Type 0} {a b : Outcome V} → AllowsNoMore V a b
+    → {r : Roles} (value : CellsValue V) → ProgramLaw env V a r value → ProgramLaw env V b r value
+narrower_program {env} n value l = record {
   others = l.others;
   deep = λ s t v w o. l.deep s t v w (n.value s t v o);
   ok = λ s t v w spelled o e. l.ok s t v w spelled (n.value s t v o) e;
-  answers = λ s t x u w o h. narrower_gives env V a b n (GivesAll (value (cells s)))
+  answers = λ s t x u w o h. narrower_gives env n
       (λ d e t same m. sym same ∙ m) s (λ y v g. l.answers s v y u w g h) x t o;
 }
 
@@ -462,35 +438,29 @@ pub narrower_form : (env : Variables) (T : Type 0) (a b : Outcome T) → AllowsN
     → FormLaw env a names words s → FormLaw env b names words s
 narrower_form env T a b n names words no_program l = tt
 narrower_form env T a b n names words (alternative wide q value) l =
-    (narrower_alternative env T a b n q value l.0, l.1)
+    (narrower_alternative env n value l.0, l.1)
 narrower_form env T a b n names words (single wide k q group gap) l =
-    (narrower_single env T a b n k q group gap l.0, l.1)
+    (narrower_single env n l.0, l.1)
 narrower_form env T a b n names words (complete wide k q value) l =
-    (narrower_field env T a b n k q value l.0, l.1)
+    (narrower_field env n value l.0, l.1)
 narrower_form env T a b n names words (product wide named q fields) l =
-    (narrower_fields env T a b n q fields l.0, l.1, by_name named l.2)
+    (narrower_fields env n l.0, l.1, by_name named l.2)
   where
     by_name : (all : Bool) → NamedLaw env all a q fields.value → NamedLaw env all b q fields.value
-    by_name true l = narrower_field env T a b n ByName q fields.value l
+    by_name true l = narrower_field env n fields.value l
     by_name false l = tt
 narrower_form env T a b n names words (commands false value) l = record {
   roles = l.roles;
   commands = record {
-    program = narrower_program T a b n l.roles value l.commands.program;
+    program = narrower_program n value l.commands.program;
     opened = l.commands.opened;
-    none = λ s t x w o c. narrower_gives env T a b n (λ y u. FindsNoCommand s y u)
+    none = λ s t x w o c. narrower_gives env n
         (λ d e u same. ⊎_elim (λ m. inl (sym same ∙ m)) (λ m. inr (sym same ∙ m.0, m.1, m.2))) s
         (λ y u g. l.commands.none s u y w g c) x t o;
   };
   owns = l.owns;
 }
-narrower_form env T a b n names words (commands true value) l = record {
-  roles = l.roles;
-  program = narrower_program T a b n l.roles value l.program;
-  owns = l.owns;
-}
-narrower_form env T a b n names words (before_commands value) l = record {
-  roles = l.roles;
-  program = narrower_program T a b n l.roles value l.program;
-  owns = l.owns;
-}
+narrower_form env T a b n names words (commands true value) l =
+    record { roles = l.roles; program = narrower_program n value l.program; owns = l.owns }
+narrower_form env T a b n names words (before_commands value) l =
+    record { roles = l.roles; program = narrower_program n value l.program; owns = l.owns }

@@ -73,7 +73,7 @@ module _ {P Q T : Type 0} (inside : Q → P) (q : Q) {s : ProgramForm T} {said :
   pub program_repeat_says : {B : Type 0} (catch : Bool) (f : Closure (List T) B)
       → ProgramSays names (program_if (not catch) (program_closed f (completed repeated (OwnList T)
       s))) (repeated_kind kind) (said_repeat inside f said) q
-  program_repeat_says {B} catch f = by_said said h
+  program_repeat_says catch f = by_said said h
     where
       by_said : (said : ProgramSaid P T) → ProgramSays names s kind said (inside q)
           → ProgramSays names (program_if (not catch) (program_closed f (completed repeated
@@ -181,36 +181,35 @@ program_says env {P} {T} outcome words s {kind} {names} {said} {p} law h is = by
     by_cells (complete wide k q value) said h = absurd h
     by_cells (product wide named q fields) said h = absurd h
 
-    read_so : (s : ProgramForm T) → Owns (product_roles (whole_program s)) names
-        → (said : Said T) → FormSays names s kind said
+    read_so : (s : ProgramForm T) → Owns (product_roles (whole_program s)) names → {said : Said T}
+        → FormSays names s kind said
         → IsSaid (ReadOff T (product_roles (whole_program s))
         (product_reading (whole_program s)).value) (CutSays (product_roles (whole_program s)) said)
-    read_so s owns said h cs v read = record {
+    read_so s owns h cs v read = record {
       cut_into = read.cut_into;
       cut = read_cut read;
       told = record_says s (record { by = h }) read.cut_into v
           (cut_fit (product_roles (whole_program s)) names owns (read_cut read)) read.read;
     }
 
-    by_pieces : (s : ProgramForm T) → FormLaw env outcome names words s → (said : Said T)
+    by_pieces : (s : ProgramForm T) → FormLaw env outcome names words s → {said : Said T}
         → FormSays names s kind said
         → IsSaid (program_value s) (CutSays (product_roles (whole_program s)) said)
-    by_pieces (alternative wide q value) law said h = read_so (alternative wide q value)
-        (whole_law env T outcome names words (alternative wide q value) law).1 said h
-    by_pieces (single wide k q group gap) law said h = read_so (single wide k q group gap)
-        (whole_law env T outcome names words (single wide k q group gap) law).1 said h
-    by_pieces (complete wide k q value) law said h = read_so (complete wide k q value)
-        (whole_law env T outcome names words (complete wide k q value) law).1 said h
-    by_pieces (product wide named q fields) law said h =
-        read_so (product wide named q fields) law.1 said h
-    by_pieces no_program law said h = λ cs v c. absurd c
-    by_pieces (commands optional value) law said h = absurd h
-    by_pieces (before_commands value) law said h = absurd h
+    by_pieces (alternative wide q value) law h = read_so (alternative wide q value)
+        (whole_law env T outcome names words (alternative wide q value) law).1 h
+    by_pieces (single wide k q group gap) law h = read_so (single wide k q group gap)
+        (whole_law env T outcome names words (single wide k q group gap) law).1 h
+    by_pieces (complete wide k q value) law h = read_so (complete wide k q value)
+        (whole_law env T outcome names words (complete wide k q value) law).1 h
+    by_pieces (product wide named q fields) law h = read_so (product wide named q fields) law.1 h
+    by_pieces no_program law h = λ cs v c. absurd c
+    by_pieces (commands optional value) law h = absurd h
+    by_pieces (before_commands value) law h = absurd h
 
     by_said : (said : ProgramSaid P T) → ProgramSays names s kind said p
         → IsSaid (program_value s) (cells_said s said p)
     by_said (of_cells said) h = by_cells s (said p) h.by
-    by_said (of_pieces said) h = by_pieces s law (said p) h.by.by
+    by_said (of_pieces said) h = by_pieces s law h.by.by
 
 -- a command
 pub program_command_says : (env : Variables) {P Q T : Type 0} (inside : Q → P) (q : Q)
@@ -220,12 +219,11 @@ pub program_command_says : (env : Variables) {P Q T : Type 0} (inside : Q → P)
     → ProgramSays names (form (inside q)) kind said (inside q)
     → ProgramSays names (program_command adjacent apart (called q) (form (inside q)))
     (of_kind ByName) (said_command inside called form said) q
-program_command_says env {P} {Q} {T} inside q outcome words form {said} {kind} {names} adjacent
-    apart called law h = record {
-      by = cells_if (((not adjacent && apart) && are_plain opening) && is_program s) _ _
-          (λ on. opened (program_says env outcome words s law h
-          (and_parts ((not adjacent && apart) && are_plain opening) (is_program s) on).1));
-    }
+program_command_says env {T} inside q outcome words form adjacent apart called law h = record {
+  by = cells_if (((not adjacent && apart) && are_plain opening) && is_program s) _ _
+      (λ on. opened (program_says env outcome words s law h
+      (and_parts ((not adjacent && apart) && are_plain opening) (is_program s) on).1));
+}
   where
     s : ProgramForm T
     s = form (inside q)
@@ -288,8 +286,8 @@ module _ {P Q T : Type 0} (q : Q) where
           → FormSays others s kind (says p)
           → FormSays names (program_choice own others words more before s) (of_kind ByName) (said q)
       by_form (alternative wide r a) (alternative other u b) h g =
-          choice_into names others names own others words more (of_kind ByName) kind (said q)
-          (said q) (says p) (λ os v m. m) into (alternative wide r a) (alternative other u b) h g
+          choice_into names others names own others words more (of_kind ByName) kind (λ os v m. m)
+          into (alternative wide r a) (alternative other u b) h g
       by_form (commands false a) (commands optional b) h g = absurd g
       by_form _ _ h g = tt
   more_says (of_cells says) (of_cells said) p kind names own others words more before s h g into =
@@ -380,18 +378,17 @@ program_choice_says {P = P} {Q = Q} {T = T} this that r own others words more {s
 -- Products.
 
 -- the last field
-pub program_alone_says : (env : Variables) {P Q T : Type 0} (last : Q → P) (q : Q)
-    (outcome : Outcome T)
-    (kind : P → SaidKind) (names : P → List Names) (words : List (List ℕ)) {s : ProgramForm T}
-    {said : ProgramSaid P T} → FormLaw env outcome (names (last q)) words s
+pub program_alone_says : (env : Variables) {P Q T : Type 0} (last : Q → P) {q : Q}
+    (outcome : Outcome T) (kind : P → SaidKind) (names : P → List Names) (words : List (List ℕ))
+    {s : ProgramForm T} {said : ProgramSaid P T} → FormLaw env outcome (names (last q)) words s
     → ProgramSays (names (last q)) s (kind (last q)) said (last q)
     → ProgramFieldsSay (names (last q)) (program_alone (program_field s))
     (said_alone last kind names said) q
-program_alone_says env last q outcome kind names words {s} {said = of_pieces said} law h = record {
-  by = alone_says (field_owned env outcome (names (last q)) words s law)
-      (field_says (owned env outcome (names (last q)) words s law) h.by);
+program_alone_says env last outcome kind names words {s} {said = of_pieces said} law h = record {
+  by = alone_says (field_owned env outcome words s law)
+      (field_says (owned env outcome words s law) h.by);
 }
-program_alone_says env {T = T} last q outcome kind names words {s} {said = of_cells said} law h =
+program_alone_says env {T = T} last {q} outcome kind names words {s} {said = of_cells said} law h =
     record { by = by_form s h.by }
   where
     by_form : (s : ProgramForm T) → CellsSay s (said (last q))
@@ -409,11 +406,12 @@ module _ {P Q R A B : Type 0} (first : R → P) (rest : R → Q) (r : R) (outcom
     (behind : Outcome B) (kind : P → SaidKind) (names : P → List Names) (words : List (List ℕ))
     (others : List Names) where
   -- a named one before what ends in commands
-  before_says : (said : Said A) (more : CellsValue B) (s : ProgramForm A) (t : ProgramForm B)
+  before_says : {said : Said A} (more : CellsValue B) (s : ProgramForm A) (t : ProgramForm B)
       → OwnsKeys (names (first r)) s → Says (names (first r)) s (kind (first r)) said
-      → CellsSay t more → CellsSay (program_both (names (first r)) others s t)
-      (FieldThenSays (names (first r)) said more)
-  before_says said more (complete wide ByName q reads) (before_commands value) own h g =
+      → CellsSay t more
+      → CellsSay (program_both (names (first r)) others s t) (FieldThenSays (names (first r)) said
+      more)
+  before_says more (complete wide ByName q reads) (before_commands value) own h g =
       cells_if (are_all_apart (names (first r)) others) _ _ (λ on cs v read. record {
         roles = q;
         owns = own.by;
@@ -425,8 +423,8 @@ module _ {P Q R A B : Type 0} (first : R → P) (rest : R → Q) (r : R) (outcom
           left = g read.left_cells v.1 read.left;
         };
       })
-  before_says said more (complete wide k q reads) (product other named u fields) own h g = absurd g
-  before_says said more _ _ own h g = tt
+  before_says more (complete wide k q reads) (product other named u fields) own h g = absurd g
+  before_says more _ _ own h g = tt
 
   -- commands before others
   cells_before : (said : CellsValue A) (s : ProgramForm A) (t : ProgramForm B) → CellsSay s said
@@ -447,25 +445,23 @@ module _ {P Q R A B : Type 0} (first : R → P) (rest : R → Q) (r : R) (outcom
       (said_both first rest kind names said more) r
   program_both_say env {s} {t} {said = of_pieces said} {more = of_all_pieces more} law laws h g =
       record {
-        by = both_say (field_owned env outcome (names (first r)) words s law)
-            (owned env behind others [] t laws)
-            (field_says (owned env outcome (names (first r)) words s law) h.by) g.by;
+        by = both_say (field_owned env outcome words s law) (owned env behind [] t laws)
+            (field_says (owned env outcome words s law) h.by) g.by;
       }
   program_both_say env {s} {t} {said = of_pieces said} {more = of_all_cells more} law laws h g =
       record {
-        by = before_says (said (first r)) (more (rest r)) (program_field s) t
-            (field_owned env outcome (names (first r)) words s law)
-            (field_says (owned env outcome (names (first r)) words s law) h.by) g.by;
+        by = before_says (more (rest r)) (program_field s) t (field_owned env outcome words s law)
+            (field_says (owned env outcome words s law) h.by) g.by;
       }
   program_both_say env {s} {t} {said = of_cells said} law laws h g =
       record { by = cells_before (said (first r)) s t h.by }
 
 -- fields that stand inside
-pub inside_say : {P Q V : Type 0} (inside : Q → P) (q : Q) {names : List Names}
-    {s : ProgramForm V} {said : ProgramFieldsSaid P V} → ProgramFieldsSay names s said (inside q)
+pub inside_say : {P Q V : Type 0} (inside : Q → P) {q : Q} {names : List Names} {s : ProgramForm V}
+    {said : ProgramFieldsSaid P V} → ProgramFieldsSay names s said (inside q)
     → ProgramFieldsSay names s (fields_said_inside inside said) q
-inside_say inside q {said = of_all_pieces said} h = record { by = h.by }
-inside_say inside q {said = of_all_cells said} h = record { by = h.by }
+inside_say inside {said = of_all_pieces said} h = record { by = h.by }
+inside_say inside {said = of_all_cells said} h = record { by = h.by }
 
 -- a constructor
 pub program_con_says : (env : Variables) {P Q A B : Type 0} (fields : Q → P) (q : Q)
@@ -475,9 +471,9 @@ pub program_con_says : (env : Variables) {P Q A B : Type 0} (fields : Q → P) (
     → ProgramSays (names (fields q)) (program_con (makes q) s) (form_kind s)
     (said_con fields names makes said) q
 program_con_says env fields q outcome names makes {s} {said = of_all_pieces said} law g =
-    record { by = con_says (makes q) (owned env outcome (names (fields q)) [] s law) g.by }
-program_con_says env {A = A} {B = B} fields q outcome names makes {s} {said = of_all_cells said} law
-    g = record { by = by_form s g.by }
+    record { by = con_says (makes q) (owned env outcome [] s law) g.by }
+program_con_says env {A = A} fields q outcome names makes {s} {said = of_all_cells said} law g =
+    record { by = by_form s g.by }
   where
     by_form : (s : ProgramForm A) → CellsSay s (said (fields q))
         → CellsSay (program_con (makes q) s) (ClosedValue (said (fields q)) (makes q))

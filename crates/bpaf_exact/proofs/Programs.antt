@@ -32,17 +32,17 @@ use Rattle.bpaf_exact.proofs.{Records.count_none, Cells.begin_at, Cuts.read_cut}
 -- A command's word on cells.
 
 -- the first cell is the word
-opens_head : (words : List (List ℕ)) (c d : Option Arg) (cs ds : Cells) (k : Arg) → c ≡ Some k
+opens_head : {words : List (List ℕ)} {c d : Option Arg} (cs ds : Cells) (k : Arg) → c ≡ Some k
     → d ≡ None → ds ≡ cs → is_one_of words k ≡ true → Opens words (c ∷ cs) (d ∷ ds)
-opens_head words c d cs ds k e f g h =
+opens_head {words} {d} cs ds k e f g h =
     subst (λ z. Opens words (z ∷ cs) (d ∷ ds)) (sym e)
     (subst (λ z. Opens words (Some k ∷ cs) (z ∷ ds)) (sym f)
     (subst (λ z. Opens words (Some k ∷ cs) (None ∷ z)) (sym g) (opens_here h)))
 
 -- nothing stands in the first cell
-opens_tail : (words : List (List ℕ)) (c d : Option Arg) (cs ds : Cells) → c ≡ None → d ≡ None
+opens_tail : {words : List (List ℕ)} {c d : Option Arg} (cs ds : Cells) → c ≡ None → d ≡ None
     → Opens words cs ds → Opens words (c ∷ cs) (d ∷ ds)
-opens_tail words c d cs ds e f o =
+opens_tail {words} {d} cs ds e f o =
     subst (λ z. Opens words (z ∷ cs) (d ∷ ds)) (sym e)
     (subst (λ z. Opens words (None ∷ cs) (z ∷ ds)) (sym f) (opens_later o))
 
@@ -52,15 +52,13 @@ opens_at : (words : List (List ℕ)) (at left : ℕ → Option Arg) (n p : ℕ) 
     → TakenOne at left p → Opens words (first_cells at n) (first_cells left n)
 opens_at words at left zero p k l e h none taken = absurd (omega arith)
 opens_at words at left (suc n) zero k l e h none taken =
-    opens_head words (at zero) (left zero) _ _ k e taken.gone
-    (same_cells (λ q. left (suc q)) (λ q. at (suc q)) n
+    opens_head _ _ k e taken.gone (same_cells (λ q. at (suc q)) n
     (λ q i. taken.others (suc q) (λ f. absurd (omega arith)))) h
 opens_at words at left (suc n) (suc p) k l e h none taken =
-    opens_tail words (at zero) (left zero) _ _ (none zero (omega arith))
+    opens_tail _ _ (none zero (omega arith))
     (taken.others zero (λ f. absurd (omega arith)) ∙ none zero (omega arith))
     (opens_at words (λ q. at (suc q)) (λ q. left (suc q)) n p k (omega arith) e h
-    (λ q i. none (suc q) (omega arith))
-    (record {
+    (λ q i. none (suc q) (omega arith)) (record {
       gone = taken.gone;
       others = λ q other. taken.others (suc q) (λ f. other (omega arith));
     }))
@@ -81,17 +79,16 @@ record FirstWord (words : List (List ℕ)) (at : ℕ → Option Arg) (n : ℕ) :
   before : (q : ℕ) → q < place → at q ≡ None
 
 -- cells that a word opens have it as their first thing
-word_of : (words : List (List ℕ)) (at : ℕ → Option Arg) (n : ℕ) (ds : Cells)
+word_of : {words : List (List ℕ)} {at : ℕ → Option Arg} (n : ℕ) {ds : Cells}
     → Opens words (first_cells at n) ds → FirstWord words at n
-word_of words at zero ds o = elim o [ ]
-word_of words at (suc n) ds o =
-    by_head (at zero) refl ds o (λ fs. word_of words (λ q. at (suc q)) n fs)
+word_of zero o = elim o [ ]
+word_of {words} {at} (suc n) o = by_head (at zero) refl o (λ fs. word_of n)
   where
-    by_head : (c : Option Arg) → at zero ≡ c → (es : Cells)
+    by_head : (c : Option Arg) → at zero ≡ c → {es : Cells}
         → Opens words (c ∷ first_cells (λ q. at (suc q)) n) es
-        → ((fs : Cells) → Opens words (first_cells (λ q. at (suc q)) n) fs
-        → FirstWord words (λ q. at (suc q)) n) → FirstWord words at (suc n)
-    by_head (Some k) e es (opens_here h) behind = record {
+        → ((fs : Cells) → Opens words (first_cells (λ q. at (suc q)) n) fs → FirstWord words
+        (λ q. at (suc q)) n) → FirstWord words at (suc n)
+    by_head (Some k) e (opens_here h) behind = record {
       place = zero;
       item = k;
       within = omega arith;
@@ -99,7 +96,7 @@ word_of words at (suc n) ds o =
       named = h;
       before = λ q l. absurd (omega arith);
     }
-    by_head None e es (opens_later {ds = fs} o) behind =
+    by_head None e (opens_later {ds = fs} o) behind =
         let w = behind fs o in
         record {
           place = suc w.place;
@@ -107,12 +104,12 @@ word_of words at (suc n) ds o =
           within = let l = w.within in omega arith;
           is = w.is;
           named = w.named;
-          before = later w.place w.before;
+          before = later w.before;
         }
       where
-        later : (p : ℕ) → ((q : ℕ) → q < p → at (suc q) ≡ None) → (q : ℕ) → q < suc p → at q ≡ None
-        later p before zero l = e
-        later p before (suc q) l = before q (omega arith)
+        later : {p : ℕ} → ((q : ℕ) → q < p → at (suc q) ≡ None) → (q : ℕ) → q < suc p → at q ≡ None
+        later before zero l = e
+        later before (suc q) l = before q (omega arith)
 
 -- What a command's word is.
 
@@ -145,26 +142,25 @@ no_key words plain (Long name false word) s h =
 no_key words plain _ s h = refl
 
 -- a word isn't a named field's own, and so the field has the same pieces behind it
-opens_pieces : (words : List (List ℕ)) (q : Roles) → are_plain words ≡ true → IsNamed q
+opens_pieces : {words : List (List ℕ)} {q : Roles} → are_plain words ≡ true → IsNamed q
     → {cs ds : Cells} → AllSpelled cs → Opens words cs ds → pieces q cs ≡ pieces q ds
-opens_pieces words q plain n no_cell o = elim o [ ]
-opens_pieces words q plain n (spelled_cell s a) (opens_here {k = k} {cs = cs} h) =
+opens_pieces plain n no_cell o = elim o [ ]
+opens_pieces {words} {q} plain n (spelled_cell s a) (opens_here {k = k} {cs = cs} h) =
     begin_at k cs (pieces q cs) (n.only_keys k (no_key words plain k s h))
-opens_pieces words q plain n (empty_cell a) (opens_later o) = opens_pieces words q plain n a o
+opens_pieces plain n (empty_cell a) (opens_later o) = opens_pieces plain n a o
 
 -- what is behind it is spelled
-opens_spelled : (words : List (List ℕ)) {cs ds : Cells} → AllSpelled cs → Opens words cs ds
+opens_spelled : {words : List (List ℕ)} {cs ds : Cells} → AllSpelled cs → Opens words cs ds
     → AllSpelled ds
-opens_spelled words no_cell o = elim o [ ]
-opens_spelled words (spelled_cell s a) (opens_here h) = empty_cell a
-opens_spelled words (empty_cell a) (opens_later o) = empty_cell (opens_spelled words a o)
+opens_spelled no_cell o = elim o [ ]
+opens_spelled (spelled_cell s a) (opens_here h) = empty_cell a
+opens_spelled (empty_cell a) (opens_later o) = empty_cell (opens_spelled a o)
 
 -- the first items are spelled
-first_spelled : (at : ℕ → Option Arg) (n : ℕ)
+first_spelled : {at : ℕ → Option Arg} (n : ℕ)
     → ((p : ℕ) (k : Arg) → at p ≡ Some k → is_spelled k ≡ true) → AllSpelled (first_cells at n)
-first_spelled at zero all = no_cell
-first_spelled at (suc n) all =
-    by_cell (at zero) (all zero) (first_spelled (λ p. at (suc p)) n (λ p. all (suc p)))
+first_spelled zero all = no_cell
+first_spelled {at} (suc n) all = by_cell (at zero) (all zero) (first_spelled n (λ p. all (suc p)))
   where
     by_cell : (c : Option Arg) → ((k : Arg) → c ≡ Some k → is_spelled k ≡ true) → {cs : Cells}
         → AllSpelled cs → AllSpelled (c ∷ cs)
@@ -175,8 +171,7 @@ first_spelled at (suc n) all =
 pub cells_spelled : (s : Situation) → IsSpelledLine s.context → AllSpelled (cells s)
 unfolding cells
 cells_spelled s all =
-    first_spelled (open_item s) (length s.context.line)
-    (λ p k e. all p k (open_item_there s p k e).1)
+    first_spelled (length s.context.line) (λ p k e. all p k (open_item_there s p k e).1)
 
 -- A command's word in a situation.
 
@@ -212,18 +207,17 @@ module _ (called : Called) (s : Situation) (p : ℕ)
   behind_one : TakenOne (open_item s) (open_item behind) p
   behind_one = record {
     gone = closed_item behind p (taken_here s p);
-    others = λ q other. ⊎_elim
-        (λ (before : q < p). closed_outside behind q (outside q before)
+    others = λ q other. ⊎_elim (λ (before : q < p). closed_outside behind q (outside before)
         ∙ sym (none_before q before))
-        (λ (after : p ≤ q). same_item s behind q (same_scope q after) refl
+        (λ (after : p ≤ q). same_item s behind q (same_scope after) refl
         (taken_other s p q other)) (cases_lt q p);
   }
     where
-      outside : (q : ℕ) → q < p → in_scope behind q ≡ false
-      outside q before = grind (arith, nat_tests)
+      outside : {q : ℕ} → q < p → in_scope behind q ≡ false
+      outside before = grind (arith, nat_tests)
 
-      same_scope : (q : ℕ) → p ≤ q → in_scope behind q ≡ in_scope s q
-      same_scope q after = let within = word_in_scope in grind (arith, nat_tests)
+      same_scope : {q : ℕ} → p ≤ q → in_scope behind q ≡ in_scope s q
+      same_scope after = let within = word_in_scope in grind (arith, nat_tests)
 
   -- it opens the cells, and leaves those behind it
   pub opens_cells : Opens (opening_words called) (cells s) (cells behind)
@@ -240,9 +234,8 @@ module _ (called : Called) (s : Situation) (p : ℕ)
   whole_behind w = record {
     end = w.end;
     environment = w.environment;
-    front = λ q before. taken_stays s p q (⊎_elim
-        (λ (taken : is_taken s q ≡ true). taken)
-        (λ (free : is_taken s q ≡ false). absurd (never q before (has_item s q w free)))
+    front = λ q before. taken_stays s p q (⊎_elim (λ (taken : is_taken s q ≡ true). taken)
+        (λ (free : is_taken s q ≡ false). absurd (never q before (has_item w free)))
         (cases_Bool (is_taken s q)));
   }
     where
@@ -254,11 +247,11 @@ module _ (called : Called) (s : Situation) (p : ℕ)
   deeper_behind = let e = length_push s.path called.name in omega arith
 
 -- where no word opens a situation none opens its cells
-pub opens_none : (words : List (List ℕ)) (s : Situation) → IsNotOpened words s
+pub opens_none : {words : List (List ℕ)} (s : Situation) → IsNotOpened words s
     → OpensNone words (cells s)
 unfolding cells
-opens_none words s none ds o =
-    let w = word_of words (open_item s) (length s.context.line) ds o in
+opens_none {words} s none ds o =
+    let w = word_of (length s.context.line) o in
     let there = open_item_there s w.place w.item w.is in
     true≢false (sym (ap (λ z. option_map_or (is_one_of words) z false) there.1 ∙ w.named)
     ∙ none w.place (record {
@@ -281,14 +274,12 @@ module _ {env : Variables} (T : Type 0) (inner : Outcome T) (r : Roles) (value :
   -- it leaves nothing of another's own
   command_others : LeavesToOthers r opened_value
   command_others q n a cs v s h =
-      opens_pieces words q plain n s h.1
-      ∙ l.others q n a h.0 v (opens_spelled words s h.1) h.2
+      opens_pieces plain n s h.1 ∙ l.others q n a h.0 v (opens_spelled s h.1) h.2
 
   -- the value is that of what is behind the word
-  from_behind : (s : Situation) (p : ℕ) (v : T) → IsOpenedAt words s p
+  from_behind : {s : Situation} {p : ℕ} {v : T} → IsOpenedAt words s p
       → value (cells (inside called s p)) v → opened_value (cells s) v
-  from_behind s p v at h =
-      (cells (inside called s p), opens_cells called s p at, h)
+  from_behind {s} {p} at h = (cells (inside called s p), opens_cells called s p at, h)
 
   -- and the other way
   to_behind : (s : Situation) (p : ℕ) (v : T) → IsOpenedAt words s p → opened_value (cells s) v
@@ -308,29 +299,28 @@ module _ {env : Variables} (T : Type 0) (inner : Outcome T) (r : Roles) (value :
   command_ok : (s t : Situation) (v : T) → IsWholeIn env s → IsSpelledLine s.context
       → CommandEval T inner called s (Ok v) t → NonePresent (cells t) → opened_value (cells s) v
   command_ok s t v w spelled (command_value {p = p} at i e) n =
-      from_behind s p v at (l.ok (inside called s p) t v (whole_behind called s p at w) spelled i n)
+      from_behind at (l.ok (inside called s p) t v (whole_behind called s p at w) spelled i n)
 
   -- what its program answers behind the word where there is a value
-  answer_behind : (s m : Situation) (p : ℕ) (a : Result T Error) (u : T) → IsWholeIn env s
+  answer_behind : {s m : Situation} {p : ℕ} {a : Result T Error} {u : T} → IsWholeIn env s
       → IsOpenedAt words s p → inner (inside called s p) a m → opened_value (cells s) u
       → GivesAll (value (cells (inside called s p))) a m
-  answer_behind s m p a u w at i h =
+  answer_behind {s} {m} {p} {a} {u} w at i h =
       l.answers (inside called s p) m a u (whole_behind called s p at w) i (to_behind s p u at h)
 
   -- where it has a value each answer is one, or want of memory
   command_answers : (s t : Situation) (a : Result T Error) (u : T) → IsWholeIn env s
       → CommandEval T inner called s a t → opened_value (cells s) u
       → GivesAll (opened_value (cells s)) a t
-  command_answers s t a u w (command_value {v = v} {p = p} at i e) h =
-      let g = answer_behind s t p (Ok v) u w at i h in
-      (from_behind s p v at g.0, g.1)
-  command_answers s t a u w (command_leftover {v = v} {p = p} {m = m} at i left) h =
-      let g = answer_behind s m p (Ok v) u w at i h in
+  command_answers s t a u w (command_value at i e) h =
+      let g = answer_behind w at i h in
+      (from_behind at g.0, g.1)
+  command_answers s t a u w (command_leftover {m = m} at i left) h =
+      let g = answer_behind w at i h in
       absurd (left (open_present m ∙ count_none g.1))
-  command_answers s t a u w (command_refused {d = d} {p = p} {m = m} at i spared) h =
-      absurd (spared (answer_behind s m p (Err d) u w at i h))
-  command_answers s t a u w (command_missing none e) h =
-      absurd (opens_none words s none h.0 h.1)
+  command_answers s t a u w (command_refused at i spared) h =
+      absurd (spared (answer_behind w at i h))
+  command_answers s t a u w (command_missing none e) h = absurd (opens_none s none h.0 h.1)
   command_answers s t a u w (command_memory e) h = e
 
   -- where no word is the first thing present it is missing
@@ -359,8 +349,8 @@ module _ {env : Variables} (T : Type 0) (inner : Outcome T) (r : Roles) (value :
   }
 
 -- A flat record is a program.
-module _ {env : Variables} (V : Type 0) (outcome : Outcome V) (r : Roles)
-    (reading : FieldsReading V) (l : FieldsLaw env V outcome r reading) where
+module _ {env : Variables} {V : Type 0} {outcome : Outcome V} {r : Roles}
+    {reading : FieldsReading V} (l : FieldsLaw env V outcome r reading) where
   -- its values, read off a cut
   abbrev record_value : CellsValue V
   record_value cs v = ReadOff V r reading.value cs v
@@ -377,7 +367,7 @@ module _ {env : Variables} (V : Type 0) (outcome : Outcome V) (r : Roles)
   -- the laws
   pub record_program : ProgramLaw env V outcome r record_value
   record_program = record {
-    others = λ q n a cs v s h. no_own_in_cut q r n a (read_cut h);
+    others = λ q n a cs v s h. no_own_in_cut n a (read_cut h);
     deep = λ s t v w o. let e = ap length (l.steady s t v w o).path in omega arith;
     ok = λ s t v w spelled o. l.ok s t v w o;
     answers = record_answers;

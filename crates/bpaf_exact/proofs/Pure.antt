@@ -33,9 +33,9 @@ module _ (T : Type 0) (clones : T → T → Type 0) (kept : T) where
       })
 
   -- a refusal is want of memory
-  pure_refuses : (s t : Situation) (e : Error) → PureOutcome (GivesClone clones kept) s (Err e) t
-      → class e ≡ OfMemory
-  pure_refuses s t e o = memory_class e.0 o.0
+  pure_refuses : (s : Situation) {t : Situation} (e : Error)
+      → PureOutcome (GivesClone clones kept) s (Err e) t → class e ≡ OfMemory
+  pure_refuses s e o = memory_class e.0 o.0
 
   -- the laws
   pub pure_field_law : {env : Variables}
@@ -45,7 +45,7 @@ module _ (T : Type 0) (clones : T → T → Type 0) (kept : T) where
       own = record { only_keys = λ k h. refl };
       ok = pure_ok;
       takes_all = λ s t v u w o h. none_of_nobody (cells t);
-      refuses = λ s t e v w o h. pure_refuses s t e o;
+      refuses = λ s t e v w o h. pure_refuses s e o;
     },
     no_names,
   )

@@ -24,8 +24,8 @@ count_none no_place = refl
 count_none (none_here n) = count_none n
 
 -- The last field of a product, or a record of one field alone.
-module _ {env : Variables} (T : Type 0) (outcome : Outcome T) (k : FieldKind) (q : Roles)
-    (value : List LinePiece → T → Type 0) (l : FieldLaw env T outcome k q value) where
+module _ {env : Variables} {T : Type 0} {outcome : Outcome T} {k : FieldKind} {q : Roles}
+    {value : List LinePiece → T → Type 0} (l : FieldLaw env T outcome k q value) where
   -- a field may stand before none
   pub before_none : Before k q no_roles
   before_none = by_kind k
@@ -53,17 +53,17 @@ module _ {env : Variables} (T : Type 0) (outcome : Outcome T) (k : FieldKind) (q
   last_reads s t v w o n =
       let i = l.ok s t v w o in
       let c = empty_cut no_roles n in
-      let p = step_back k q no_roles T value l.own before_none i c in
-      read_off (either (keys k q) no_roles) (last_reading k q value).value keys_named p.cut (
-        subst (λ os. value os v) p.own (i.read (none_left k q no_roles l.own before_none c)),
+      let p = step_back k value l.own before_none i c in
+      read_off (last_reading k q value).value keys_named p.cut (
+        subst (λ os. value os v) p.own (i.read (none_left k q l.own before_none c)),
         p.leaves,
       )
 
   -- where the field has a value on its pieces, it has one on those of the cells
-  own_value : (s : Situation) (os : List LinePiece) → Cut (either (keys k q) no_roles) (cells s) os
+  own_value : (s : Situation) {os : List LinePiece} → Cut (either (keys k q) no_roles) (cells s) os
       → (h : HasValue value (portion k q os)) → value (front k (pieces q (cells s))) h.0
-  own_value s os c h = subst (λ z. value z h.0)
-      (sym (own_portion k q no_roles l.own before_none c)) h.1
+  own_value s c h =
+      subst (λ z. value z h.0) (sym (own_portion k q no_roles l.own before_none c)) h.1
 
   -- so nothing is left
   last_takes : (s t : Situation) (v : T) (os : List LinePiece) → IsWholeIn env s
@@ -71,8 +71,8 @@ module _ {env : Variables} (T : Type 0) (outcome : Outcome T) (k : FieldKind) (q
       → (last_reading k q value).each os → NonePresent (cells t)
   last_takes s t v os w o c h =
       let i = l.ok s t v w o in
-      let all = l.takes_all s t v h.0.0 w o (own_value s os c h.0) in
-      cut_empty no_roles (step_on k q no_roles l.own before_none i.takes (i.rest all) c) h.1
+      let all = l.takes_all s t v h.0.0 w o (own_value s c h.0) in
+      cut_empty (step_on k l.own before_none i.takes (i.rest all) c) h.1
 
   -- a last field keeps to the laws of a list of fields
   pub last_law : FieldsLaw env T outcome (either (keys k q) no_roles) (last_reading k q value)
@@ -82,7 +82,7 @@ module _ {env : Variables} (T : Type 0) (outcome : Outcome T) (k : FieldKind) (q
     ok = last_reads;
     has_each = λ os v h. ((v, h.0), h.1);
     takes_all = last_takes;
-    refuses = λ s t e os w o c h. l.refuses s t e h.0.0 w o (own_value s os c h.0);
+    refuses = λ s t e os w o c h. l.refuses s t e h.0.0 w o (own_value s c h.0);
   }
 
 -- The constructor of a product.
@@ -102,8 +102,8 @@ same_steady a = record {
   keeps = a.keeps;
 }
 
-module _ {env : Variables} (A B : Type 0) (fields : Outcome A) (makes : A → B → Type 0) (r : Roles)
-    (reading : FieldsReading A) (l : FieldsLaw env A fields r reading) where
+module _ {env : Variables} {A B : Type 0} {fields : Outcome A} (makes : A → B → Type 0) {r : Roles}
+    {reading : FieldsReading A} (l : FieldsLaw env A fields r reading) where
   -- what the constructor makes of the fields' values
   abbrev made : FieldsReading B
   made = record { value = ClosedValue reading.value (map_closure makes); each = reading.each }

@@ -20,34 +20,34 @@ use Rattle.bpaf_exact.proofs.Product.{none_outside_after, steady_refl, steady_tr
 use Rattle.bpaf_exact.proofs.Counts.{open_present, takes_any_fewer}
 
 -- one piece at least is some
-pub any_some : (q : Roles) {cs ds : Cells} → TakesAny q cs ds → TakesPieces q cs ds
-any_some q t = takes_more t.one t.more
+pub any_some : {q : Roles} {cs ds : Cells} → TakesAny q cs ds → TakesPieces q cs ds
+any_some t = takes_more t.one t.more
 
 -- some pieces, and some more
-pub some_trans : (q : Roles) {cs ds es : Cells} → TakesPieces q cs ds → TakesPieces q ds es
+pub some_trans : {q : Roles} {cs ds es : Cells} → TakesPieces q cs ds → TakesPieces q ds es
     → TakesPieces q cs es
-some_trans q takes_none b = b
-some_trans q (takes_more t more) b = takes_more t (some_trans q more b)
+some_trans takes_none b = b
+some_trans (takes_more t more) b = takes_more t (some_trans more b)
 
 -- where the cells are the same none was taken
 pub same_takes : (q : Roles) {cs ds : Cells} → ds ≡ cs → TakesPieces q cs ds
 same_takes q {cs = cs} e = subst (TakesPieces q cs) (sym e) takes_none
 
 -- what has an own list can be read
-readable : {T : Type 0} (k : FieldKind) (group : Groups T) (os : List LinePiece) (vs : List T)
+readable : {T : Type 0} (k : FieldKind) {group : Groups T} (os : List LinePiece) {vs : List T}
     → Own T group (front (repeated k) os) vs → Readable k group os
-readable ByName group os vs o = (vs, o)
-readable _ group os vs o = tt
+readable ByName os {vs} o = (vs, o)
+readable _ os o = tt
 
 -- where the cells are the same as many items are present
 pub same_count : (s m : Situation) → cells m ≡ cells s → open_count m ≡ open_count s
 same_count s m e = open_present m ∙ (ap present_count e ∙ sym (open_present s))
 
 -- a turn that took nothing stops at what can be caught
-pub stops_by : (s m : Situation) (e : Error) → CanCatch e
+pub stops_by : {s m : Situation} {e : Error} → CanCatch e
     → (class e ≡ OfMissing → cells m ≡ cells s) → Stops e s m
-stops_by s m e (catch_missing c) same = nothing_found c (same_count s m (same c))
-stops_by s m e (catch_other c) same = caught c
+stops_by {s} {m} (catch_missing c) same = nothing_found c (same_count s m (same c))
+stops_by (catch_other c) same = caught c
 
 -- a turn stops at what can be caught
 pub stopped_by : {s m : Situation} {e : Error} → Stops e s m → CanCatch e
@@ -56,18 +56,18 @@ stopped_by (caught c) = catch_other c
 
 -- where it can be caught there is no piece, and no absent value
 pub catch_none : {T : Type 0} {k : FieldKind} {q : Roles} {group : Groups T} {gap : Gap T}
-    (s m : Situation) (e : Error) → CanCatch e → SingleErr T k q group gap s e m
+    {s m : Situation} {e : Error} → CanCatch e → SingleErr T k q group gap s e m
     → (gap.has ≡ false) × (front k (pieces q (cells s)) ≡ [])
-catch_none s m e h (of_missing c g p same) = (g, p)
-catch_none s m e (catch_missing h) (of_memory c) = absurd cc
-catch_none s m e (catch_other h) (of_memory c) = absurd cc
-catch_none s m e (catch_missing h) (of_absent c g p n) = absurd cc
-catch_none s m e (catch_other h) (of_absent c g p n) = absurd cc
-catch_none s m e (catch_missing h) (of_piece c p n) = absurd cc
-catch_none s m e (catch_other h) (of_piece c p n) = absurd cc
+catch_none h (of_missing c g p same) = (g, p)
+catch_none (catch_missing h) (of_memory c) = absurd cc
+catch_none (catch_other h) (of_memory c) = absurd cc
+catch_none (catch_missing h) (of_absent c g p n) = absurd cc
+catch_none (catch_other h) (of_absent c g p n) = absurd cc
+catch_none (catch_missing h) (of_piece c p n) = absurd cc
+catch_none (catch_other h) (of_piece c p n) = absurd cc
 
-module _ {env : Variables} (T : Type 0) (inner : Outcome T) (k : FieldKind) (q : Roles)
-    (group : Groups T) (gap : Gap T) (l : SingleLaw env T inner k q group gap) where
+module _ {env : Variables} {T : Type 0} {inner : Outcome T} {k : FieldKind} {q : Roles}
+    {group : Groups T} {gap : Gap T} (l : SingleLaw env T inner k q group gap) where
   -- the pieces that a repeat takes
   abbrev own : Situation → List LinePiece
   own s = front (repeated k) (pieces q (cells s))
@@ -82,13 +82,13 @@ module _ {env : Variables} (T : Type 0) (inner : Outcome T) (k : FieldKind) (q :
 
   -- and leaves all
   all_left : (s : Situation) → front k (pieces q (cells s)) ≡ [] → pieces q (cells s) ≡ left s
-  all_left s none = sym (back_all (repeated k) (pieces q (cells s)) (own_none_left s none))
+  all_left s none = sym (back_all (repeated k) (own_none_left s none))
 
   -- a group at the front of all pieces is one at the front of those
-  by_group : (os : List LinePiece) (v : T) (rest : List LinePiece) → group os v rest
+  by_group : {os : List LinePiece} {v : T} {rest : List LinePiece} → group os v rest
       → group (front (repeated k) os) v (front (repeated k) rest)
       × (back (repeated k) rest ≡ back (repeated k) os)
-  by_group os v rest g = by_kind k l.words
+  by_group {os} {v} {rest} g = by_kind k l.words
     where
       by_kind : (z : FieldKind) → ReadsWords z group
           → group (front (repeated z) os) v (front (repeated z) rest)
@@ -98,10 +98,10 @@ module _ {env : Variables} (T : Type 0) (inner : Outcome T) (k : FieldKind) (q :
       by_kind (EachWord b) u = absurd u
 
   -- and the other way
-  of_group : (os : List LinePiece) (v : T) (rest : List LinePiece)
+  of_group : {os : List LinePiece} {v : T} {rest : List LinePiece}
       → group (front (repeated k) os) v rest
       → (more : List LinePiece) × group os v more × (rest ≡ front (repeated k) more)
-  of_group os v rest = by_kind k l.words
+  of_group {os} {v} {rest} = by_kind k l.words
     where
       by_kind : (z : FieldKind) → ReadsWords z group → group (front (repeated z) os) v rest
           → (more : List LinePiece) × group os v more × (rest ≡ front (repeated z) more)
@@ -124,7 +124,7 @@ module _ {env : Variables} (T : Type 0) (inner : Outcome T) (k : FieldKind) (q :
   -- where a piece was taken fewer are
   fewer_count : (s m : Situation) → TakesAny q (cells s) (cells m) → open_count m < open_count s
   fewer_count s m t =
-      let a = takes_any_fewer q t in
+      let a = takes_any_fewer t in
       let b = open_present m in
       let c = open_present s in
       omega arith
@@ -140,9 +140,9 @@ module _ {env : Variables} (T : Type 0) (inner : Outcome T) (k : FieldKind) (q :
   took_item s m (inr fewer) = fewer
 
   -- a repeat that ends where there is no piece
-  ended : (s t : Situation) → Steady s t → front k (pieces q (cells s)) ≡ [] → cells t ≡ cells s
+  ended : {s t : Situation} → Steady s t → front k (pieces q (cells s)) ≡ [] → cells t ≡ cells s
       → (gap.has ≡ true → (a : T) × gap.absent a) → Took s [] t
-  ended s t st p e ab = record {
+  ended {s} st p e ab = record {
     steady = st;
     takes = same_takes q e;
     none = ap (pieces q) e ∙ all_left s p;
@@ -151,53 +151,53 @@ module _ {env : Variables} (T : Type 0) (inner : Outcome T) (k : FieldKind) (q :
   }
 
   -- a turn that stops after a value
-  stop_after : (s m : Situation) (e : Error) → Stops e s m → SingleErr T k q group gap s e m
-      → Took s [] s
-  stop_after s m e h refused =
-      let a = catch_none s m e (stopped_by h) refused in
+  stop_after : (s : Situation) {m : Situation} {e : Error} → Stops e s m
+      → SingleErr T k q group gap s e m → Took s [] s
+  stop_after s h refused =
+      let a = catch_none (stopped_by h) refused in
       let g = a.0 in
-      ended s s (steady_refl s) a.1 refl (λ i. absurd cc)
+      ended (steady_refl s) a.1 refl (λ i. absurd cc)
 
   -- one value more
-  took_more : (s m t : Situation) (v : T) (vs : List T) → TookGroup T k q group s v m
-      → Took m vs t → Took s (v ∷ vs) t
-  took_more s m t v vs h i = record {
+  took_more : {s m t : Situation} {v : T} {vs : List T} → TookGroup T k q group s v m → Took m vs t
+      → Took s (v ∷ vs) t
+  took_more h i = record {
     steady = steady_trans h.steady i.steady;
-    takes = some_trans q (any_some q h.takes) i.takes;
-    none = i.none ∙ (by_group _ v _ (h.read (readable k group _ vs i.list))).1;
-    list = own_more (by_group _ v _ (h.read (readable k group _ vs i.list))).0 i.list;
+    takes = some_trans (any_some h.takes) i.takes;
+    none = i.none ∙ (by_group (h.read (readable k _ i.list))).1;
+    list = own_more (by_group (h.read (readable k _ i.list))).0 i.list;
     absent = i.absent;
   }
 
   -- a turn after a value took something
-  step_took : (s m t : Situation) (v : T) (vs : List T) → open_count m < open_count s
+  step_took : {s m t : Situation} {v : T} {vs : List T} → open_count m < open_count s
       → SingleOk T k q group gap s v m → (Steady s m → Took m vs t) → Took s (v ∷ vs) t
-  step_took s m t v vs fewer (gave_absent h p ab same st) i =
+  step_took {s} {m} fewer (gave_absent h p ab same st) i =
       absurd (not_fewer s m (not_less s m same) fewer)
-  step_took s m t v vs fewer (took h) i = took_more s m t v vs h (i h.steady)
+  step_took fewer (took h) i = took_more h (i h.steady)
 
   -- a value that took nothing ends it
-  enough_took : (s t : Situation) (v : T) → open_count s ≤ open_count t
+  enough_took : {s t : Situation} {v : T} → open_count s ≤ open_count t
       → SingleOk T k q group gap s v t → Took s [] t
-  enough_took s t v same (gave_absent h p ab e st) = ended s t st p e (λ i. (v, ab))
-  enough_took s t v same (took h) = absurd (not_fewer s t same (fewer_count s t h.takes))
+  enough_took {v} same (gave_absent h p ab e st) = ended st p e (λ i. (v, ab))
+  enough_took {s} {t} same (took h) = absurd (not_fewer s t same (fewer_count s t h.takes))
 
   -- a turn after a value that stops
-  stop_took : (s t : Situation) → IsWholeIn env s → TurnOutcome inner false false s (Ok None) t
-      → Took s [] t
-  stop_took s t w (inl o) = enough_took s t o.0 o.3 (l.ok s t o.0 w o.1)
-  stop_took s t w (inr o) =
+  stop_took : (s : Situation) {t : Situation} → IsWholeIn env s
+      → TurnOutcome inner false false s (Ok None) t → Took s [] t
+  stop_took s {t} w (inl o) = enough_took o.3 (l.ok s t o.0 w o.1)
+  stop_took s w (inr o) =
       subst (λ z. Took s [] z) (sym o.1)
-      (stop_after s o.0.1 o.0.0 (stops_at o.0.0 s o.0.1 o.0.3) (l.err s o.0.1 o.0.0 w o.0.2))
+      (stop_after s (stops_at o.0.3) (l.err s o.0.1 o.0.0 w o.0.2))
 
   -- Once it has the first value, a repeat that answers has read all its pieces.
-  later_took : (vs : List T) (s m t : Situation) → IsWholeIn env s → Turns inner false false s vs m
+  later_took : (vs : List T) {s m t : Situation} → IsWholeIn env s → Turns inner false false s vs m
       → TurnOutcome inner false false m (Ok None) t → Took s vs t
-  later_took [] s m t w turns stop =
-      stop_took s t w (subst (λ z. TurnOutcome inner false false z (Ok None) t) (sym turns) stop)
-  later_took (v ∷ vs) s m t w turns stop =
-      step_took s turns.0 t v vs (took_item s turns.0 turns.1.1) (l.ok s turns.0 v w turns.1.0)
-      (λ st. later_took vs turns.0 m t (none_outside_after s turns.0 w st) turns.2 stop)
+  later_took [] {s} {t} w turns stop =
+      stop_took s w (subst (λ z. TurnOutcome inner false false z (Ok None) t) (sym turns) stop)
+  later_took (v ∷ vs) {s} w turns stop =
+      step_took (took_item s turns.0 turns.1.1) (l.ok s turns.0 v w turns.1.0)
+      (λ st. later_took vs (none_outside_after w st) turns.2 stop)
 
   -- a repeat from its start
   pub record RepeatTook (s : Situation) (vs : List T) (t : Situation) : Type 0 where
@@ -207,22 +207,22 @@ module _ {env : Variables} (T : Type 0) (inner : Outcome T) (k : FieldKind) (q :
     pub list : OwnList T group gap (own s) vs
 
   -- no piece has no own list but the empty one
-  pub own_nil : (os : List LinePiece) (vs : List T) → os ≡ [] → Own T group os vs → vs ≡ []
-  own_nil os vs e own_none = refl
-  own_nil os vs e (own_more {rest = rest} {v = v} g o) =
+  pub own_nil : {os : List LinePiece} {vs : List T} → os ≡ [] → Own T group os vs → vs ≡ []
+  own_nil e own_none = refl
+  own_nil e (own_more {rest = rest} {v = v} g o) =
       absurd (l.starts v rest (subst (λ z. group z v rest) e g))
 
   -- an own list, with the absent value where there is one
-  with_absent : (has : Bool) → gap.has ≡ has → (os : List LinePiece) (v : T) (vs : List T)
+  with_absent : (has : Bool) → gap.has ≡ has → {os : List LinePiece} {v : T} {vs : List T}
       → (gap.has ≡ true → (a : T) × gap.absent a) → Own T group os (v ∷ vs)
       → OwnList T group gap os (v ∷ vs)
-  with_absent true e os v vs ab o = let a = ab e in listed_and_absent e a.1 o
-  with_absent false e os v vs ab o = listed e o
+  with_absent true e ab o = let a = ab e in listed_and_absent e a.1 o
+  with_absent false e ab o = listed e o
 
   -- the absent value alone
-  absent_alone : (s t : Situation) (v : T) (us : List T) → us ≡ [] → gap.has ≡ true
+  absent_alone : (s t : Situation) {v : T} {us : List T} → us ≡ [] → gap.has ≡ true
       → front k (pieces q (cells s)) ≡ [] → gap.absent v → OwnList T group gap (own s) (v ∷ us)
-  absent_alone s t v us e h p ab =
+  absent_alone s t {v} {us} e h p ab =
       subst (λ os. OwnList T group gap os (v ∷ us)) (sym (own_none_left s p))
       (subst (λ z. OwnList T group gap [] (v ∷ z)) (sym e) (only_absent h ab))
 
@@ -235,44 +235,43 @@ module _ {env : Variables} (T : Type 0) (inner : Outcome T) (k : FieldKind) (q :
   same_left s m same = ap (λ cs. back (repeated k) (pieces q cs)) same
 
   -- the first turn
-  first_step : (s m t : Situation) (v : T) (us : List T) → SingleOk T k q group gap s v m
+  first_step : {s m t : Situation} {v : T} {us : List T} → SingleOk T k q group gap s v m
       → (Steady s m → Took m us t) → RepeatTook s (v ∷ us) t
-  first_step s m t v us (gave_absent h p ab same st) more =
+  first_step {s} {m} {us} (gave_absent h p ab same st) more =
       let i = more st in
-      let none : us ≡ [] = own_nil (own m) us (same_own s m same ∙ own_none_left s p) i.list in
+      let none : us ≡ [] = own_nil (same_own s m same ∙ own_none_left s p) i.list in
       record {
         steady = steady_trans st i.steady;
-        takes = some_trans q (same_takes q same) i.takes;
+        takes = some_trans (same_takes q same) i.takes;
         none = i.none ∙ same_left s m same;
-        list = absent_alone s m v us none h p ab;
+        list = absent_alone s m none h p ab;
       }
-  first_step s m t v us (took h) more =
-      let i = took_more s m t v us h (more h.steady) in
+  first_step (took h) more =
+      let i = took_more h (more h.steady) in
       record {
         steady = i.steady;
         takes = i.takes;
         none = i.none;
-        list = with_absent gap.has refl (own s) v us i.absent i.list;
+        list = with_absent gap.has refl i.absent i.list;
       }
 
   -- a first value that took nothing
-  first_idle : (s t : Situation) (v : T) → IsWholeIn env s → open_count s ≤ open_count t
+  first_idle : (s t : Situation) {v : T} → IsWholeIn env s → open_count s ≤ open_count t
       → SingleOk T k q group gap s v t → RepeatTook s (v ∷ []) t
-  first_idle s t v w e (gave_absent h p ab same st) = record {
+  first_idle s t w e (gave_absent h p ab same st) = record {
     steady = st;
     takes = same_takes q same;
-    none = ap (pieces q) same
-        ∙ all_left s p;
-    list = absent_alone s t v [] refl h p ab;
+    none = ap (pieces q) same ∙ all_left s p;
+    list = absent_alone s t refl h p ab;
   }
-  first_idle s t v w e (took h) = let f = fewer_count s t h.takes in
+  first_idle s t w e (took h) = let f = fewer_count s t h.takes in
       absurd (omega arith)
 
   -- a first turn that stops
-  first_stop : (s m : Situation) (e : Error) → Stops e s m → SingleErr T k q group gap s e m
-      → RepeatTook s [] s
-  first_stop s m e h refused =
-      let a = catch_none s m e (stopped_by h) refused in record {
+  first_stop : (s : Situation) {m : Situation} {e : Error} → Stops e s m
+      → SingleErr T k q group gap s e m → RepeatTook s [] s
+  first_stop s h refused =
+      let a = catch_none (stopped_by h) refused in record {
         steady = steady_refl s;
         takes = takes_none;
         none = all_left s a.1;
@@ -280,30 +279,30 @@ module _ {env : Variables} (T : Type 0) (inner : Outcome T) (k : FieldKind) (q :
       }
 
   -- a first turn that stops read all
-  first_stopped : (s t : Situation) → IsWholeIn env s → TurnOutcome inner false true s (Ok None) t
+  first_stopped : {s t : Situation} → IsWholeIn env s → TurnOutcome inner false true s (Ok None) t
       → RepeatTook s [] t
-  first_stopped s t w (inl o) = absurd (true≢false o.2)
-  first_stopped s t w (inr o) =
+  first_stopped w (inl o) = absurd (true≢false o.2)
+  first_stopped {s} w (inr o) =
       subst (λ z. RepeatTook s [] z) (sym o.1)
-      (first_stop s o.0.1 o.0.0 (stops_at o.0.0 s o.0.1 o.0.3) (l.err s o.0.1 o.0.0 w o.0.2))
+      (first_stop s (stops_at o.0.3) (l.err s o.0.1 o.0.0 w o.0.2))
 
   -- so did turns from the first one on, until one stops
-  turns_took : (first : Bool) (vs : List T) (s m t : Situation) → IsWholeIn env s
+  turns_took : (first : Bool) (vs : List T) {s m t : Situation} → IsWholeIn env s
       → Turns inner false first s vs m → TurnOutcome inner false (is_nil vs) m (Ok None) t
       → RepeatTook s vs t
-  turns_took first [] s m t w turns stop =
-      first_stopped s t w (subst (λ z. TurnOutcome inner false true z (Ok None) t) (sym turns) stop)
-  turns_took first (v ∷ vs) s m t w turns stop =
-      first_step s turns.0 t v vs (l.ok s turns.0 v w turns.1.0)
-      (λ st. later_took vs turns.0 m t (none_outside_after s turns.0 w st) turns.2 stop)
+  turns_took first [] {t} w turns stop =
+      first_stopped w (subst (λ z. TurnOutcome inner false true z (Ok None) t) (sym turns) stop)
+  turns_took first (v ∷ vs) {s} w turns stop =
+      first_step (l.ok s turns.0 v w turns.1.0)
+      (λ st. later_took vs (none_outside_after w st) turns.2 stop)
 
   -- A repeat that answers has read all its pieces.
-  pub repeat_took : (idle : Bool) (s t : Situation) (vs : List T) → IsWholeIn env s
+  pub repeat_took : (idle : Bool) {s t : Situation} {vs : List T} → IsWholeIn env s
       → RepeatOutcome inner idle s (Ok vs) t → RepeatTook s vs t
-  repeat_took false s t vs w o = turns_took true vs s o.last t w o.steps o.stop
-  repeat_took true s t vs w (stops m turns stop) = turns_took false vs s m t w turns stop
-  repeat_took true s t vs w (rests v e ran same) =
-      subst (λ z. RepeatTook s z t) (sym e) (first_idle s t v w same (l.ok s t v w ran))
+  repeat_took false {vs} w o = turns_took true vs w o.steps o.stop
+  repeat_took true {vs} w (stops m turns stop) = turns_took false vs w turns stop
+  repeat_took true {s} {t} w (rests v e ran same) =
+      subst (λ z. RepeatTook s z t) (sym e) (first_idle s t w same (l.ok s t v w ran))
 
   -- Where the pieces can be read a refusal comes for want of memory alone.
 
@@ -314,54 +313,54 @@ module _ {env : Variables} (T : Type 0) (inner : Outcome T) (k : FieldKind) (q :
         → Own T group rest ws → OwnView os vs
 
   -- by its constructors
-  own_view : (os : List LinePiece) (vs : List T) → Own T group os vs → OwnView os vs
-  own_view os vs own_none = view_none refl refl
-  own_view os vs (own_more {rest = rest} {v = v} {vs = us} g o) = view_more v rest us refl g o
+  own_view : {os : List LinePiece} {vs : List T} → Own T group os vs → OwnView os vs
+  own_view own_none = view_none refl refl
+  own_view (own_more {rest = rest} {v = v} {vs = us} g o) = view_more v rest us refl g o
 
   -- what is left after a turn that took something can be read
-  on_step : (s m : Situation) (v : T) (ws : List T)
+  on_step : {s m : Situation} {v : T} {ws : List T}
       → (gap.has ≡ true → front k (pieces q (cells s)) ≡ [] → cells m ≡ cells s → ⊥)
       → OwnView (own s) ws → SingleOk T k q group gap s v m
       → Steady s m × (us : List T) × Own T group (own m) us
-  on_step s m v ws n o (gave_absent h p ab same st) = absurd (n h p same)
-  on_step s m v ws n (view_none p e) (took h) = absurd (h.found (nil_each k _ p))
-  on_step s m v ws n (view_more w rest us e g o) (took h) =
-      let f = of_group _ w rest g in
+  on_step n o (gave_absent h p ab same st) = absurd (n h p same)
+  on_step n (view_none p e) (took h) = absurd (h.found (nil_each k _ p))
+  on_step n (view_more w rest us e g o) (took h) =
+      let f = of_group g in
       let d = h.readable w f.0 f.1 in
       (h.steady, us, subst (λ os. Own T group os us) (f.2 ∙ sym (ap (front (repeated k)) d.1)) o)
 
   -- where the pieces can be read a refusal is want of memory
-  failed_gives : (s t : Situation) (e : Error) (ws : List T) → IsWholeIn env s
+  failed_gives : {s t : Situation} {e : Error} {ws : List T} → IsWholeIn env s
       → (gap.has ≡ true → (a : T) × gap.absent a) → OwnView (own s) ws → (Stops e s t → ⊥)
       → SingleErr T k q group gap s e t → class e ≡ OfMemory
-  failed_gives s t e ws w ab o n (of_memory c) = c
-  failed_gives s t e ws w ab o n (of_missing c g p same) = absurd (n (stops_by s t e c same))
-  failed_gives s t e ws w ab o n (of_absent c g p none) = let a = ab g in absurd (none a.0 a.1)
-  failed_gives s t e ws w ab (view_none p x) n (of_piece c ne none) = absurd (ne (nil_each k _ p))
-  failed_gives s t e ws w ab (view_more v rest us x g o) n (of_piece c ne none) =
-      let f = of_group _ v rest g in absurd (none v f.0 f.1)
+  failed_gives w ab o n (of_memory c) = c
+  failed_gives w ab o n (of_missing c g p same) = absurd (n (stops_by c same))
+  failed_gives w ab o n (of_absent c g p none) = let a = ab g in absurd (none a.0 a.1)
+  failed_gives w ab (view_none p x) n (of_piece c ne none) = absurd (ne (nil_each k _ p))
+  failed_gives w ab (view_more v rest us x g o) n (of_piece c ne none) =
+      let f = of_group g in absurd (none v f.0 f.1)
 
   -- where the pieces can be read, a turn fails for want of memory alone
-  turn_fails : (first : Bool) (s t : Situation) (e : Error) (ws : List T) → IsWholeIn env s
+  turn_fails : (first : Bool) {s t : Situation} (e : Error) {ws : List T} → IsWholeIn env s
       → (gap.has ≡ true → (a : T) × gap.absent a) → OwnView (own s) ws
       → TurnOutcome inner false first s (Err e) t → class e ≡ OfMemory
-  turn_fails first s t e ws w ab view (inl o) =
-      failed_gives s t e ws w ab view (goes_on e s t o.1) (l.err s t e w o.0)
-  turn_fails first s t e ws w ab view (inr o) = memory_class e.0 o.0
+  turn_fails first {s} {t} e w ab view (inl o) =
+      failed_gives w ab view (goes_on e o.1) (l.err s t e w o.0)
+  turn_fails first e w ab view (inr o) = memory_class e.0 o.0
 
   -- and so do the turns after a value
-  later_fails : (vs : List T) (s m t : Situation) (e : Error) (ws : List T) → IsWholeIn env s
+  later_fails : (vs : List T) {s m t : Situation} {e : Error} {ws : List T} → IsWholeIn env s
       → (gap.has ≡ true → (a : T) × gap.absent a) → Own T group (own s) ws
       → Turns inner false false s vs m → TurnOutcome inner false false m (Err e) t
       → class e ≡ OfMemory
-  later_fails [] s m t e ws w ab o turns fails =
-      turn_fails false s t e ws w ab (own_view _ ws o)
+  later_fails [] {t} {e} w ab o turns fails =
+      turn_fails false e w ab (own_view o)
       (subst (λ z. TurnOutcome inner false false z (Err e) t) (sym turns) fails)
-  later_fails (v ∷ vs) s m t e ws w ab o turns fails =
-      let on = on_step s turns.0 v ws
+  later_fails (v ∷ vs) {s} w ab o turns fails =
+      let on = on_step
       (λ h p same. not_fewer s turns.0 (not_less s turns.0 same) (took_item s turns.0 turns.1.1))
-      (own_view _ ws o) (l.ok s turns.0 v w turns.1.0) in
-      later_fails vs turns.0 m t e on.1 (none_outside_after s turns.0 w on.0) ab on.2 turns.2 fails
+      (own_view o) (l.ok s turns.0 v w turns.1.0) in
+      later_fails vs (none_outside_after w on.0) ab on.2 turns.2 fails
 
   -- an own list under a repeat: all that is read, or the absent value alone
   data ListView (os : List LinePiece) (vs : List T) : Type 0 where
@@ -370,57 +369,54 @@ module _ {env : Variables} (T : Type 0) (inner : Outcome T) (k : FieldKind) (q :
     gap_read : gap.has ≡ true → (a : T) → gap.absent a → os ≡ [] → ListView os vs
 
   -- by its constructors
-  list_view : (os : List LinePiece) (vs : List T) → OwnList T group gap os vs → ListView os vs
-  list_view os vs (listed h o) = all_read (λ i. absurd cc) o (λ i e. absurd cc)
-  list_view os vs (listed_and_absent {a = a} h ab o) =
-      all_read (λ i. (a, ab)) o (λ i e. let n = own_nil os vs e o in absurd cc)
-  list_view os vs (only_absent {a = a} h ab) = gap_read h a ab refl
+  list_view : {os : List LinePiece} {vs : List T} → OwnList T group gap os vs → ListView os vs
+  list_view (listed h o) = all_read (λ i. absurd cc) o (λ i e. absurd cc)
+  list_view (listed_and_absent {a = a} h ab o) =
+      all_read (λ i. (a, ab)) o (λ i e. let n = own_nil e o in absurd cc)
+  list_view (only_absent {a = a} h ab) = gap_read h a ab refl
 
   -- turns that fail after a first one where there is no piece
-  gap_step_failed : (s m t : Situation) (v : T) (e : Error) → own s ≡ []
-      → (Steady s m → (gap.has ≡ true → (a : T) × gap.absent a)
-      → Own T group (own m) [] → class e ≡ OfMemory)
-      → SingleOk T k q group gap s v m → class e ≡ OfMemory
-  gap_step_failed s m t v e p i (gave_absent h p' ab same st) =
+  gap_step_failed : {s m : Situation} (t : Situation) {v : T} (e : Error) → own s ≡ []
+      → (Steady s m → (gap.has ≡ true → (a : T) × gap.absent a) → Own T group (own m) [] → class e
+      ≡ OfMemory) → SingleOk T k q group gap s v m → class e ≡ OfMemory
+  gap_step_failed {s} {m} t {v} e p i (gave_absent h p' ab same st) =
       i st (λ y. (v, ab)) (subst (λ os. Own T group os []) (sym (same_own s m same ∙ p)) own_none)
-  gap_step_failed s m t v e p i (took h) = absurd (h.found (nil_each k _ p))
+  gap_step_failed t e p i (took h) = absurd (h.found (nil_each k _ p))
 
   -- where there is an absent value a refusal is want of memory
-  gap_failed : (s t : Situation) (a : T) (e : Error) → gap.has ≡ true → gap.absent a
-      → own s ≡ [] → SingleErr T k q group gap s e t → class e ≡ OfMemory
-  gap_failed s t a e h ab p (of_memory c) = c
-  gap_failed s t a e h ab p (of_missing c g p' same) = absurd cc
-  gap_failed s t a e h ab p (of_absent c g p' none) = absurd (none a ab)
-  gap_failed s t a e h ab p (of_piece c ne none) = absurd (ne (nil_each k _ p))
+  gap_failed : {s t : Situation} {a : T} {e : Error} → gap.has ≡ true → gap.absent a → own s ≡ []
+      → SingleErr T k q group gap s e t → class e ≡ OfMemory
+  gap_failed h ab p (of_memory c) = c
+  gap_failed h ab p (of_missing c g p' same) = absurd cc
+  gap_failed {a} h ab p (of_absent c g p' none) = absurd (none a ab)
+  gap_failed h ab p (of_piece c ne none) = absurd (ne (nil_each k _ p))
 
   -- so do turns from the first one on
-  turns_fail : (first : Bool) (vs : List T) (s m t : Situation) (e : Error) (ws : List T)
-      → IsWholeIn env s → ListView (own s) ws → Turns inner false first s vs m
+  turns_fail : (first : Bool) (vs : List T) (s : Situation) {m t : Situation} {e : Error}
+      {ws : List T} → IsWholeIn env s → ListView (own s) ws → Turns inner false first s vs m
       → TurnOutcome inner false (is_nil vs) m (Err e) t → class e ≡ OfMemory
-  turns_fail first [] s m t e ws w view turns fails =
+  turns_fail first [] s {t} {e} {ws} w view turns fails =
       by_view view (subst (λ z. TurnOutcome inner false true z (Err e) t) (sym turns) fails)
     where
       by_view : ListView (own s) ws → TurnOutcome inner false true s (Err e) t → class e ≡ OfMemory
-      by_view (all_read ab o n) one = turn_fails true s t e ws w ab (own_view _ ws o) one
-      by_view (gap_read h a ab p) (inl one) = gap_failed s t a e h ab p (l.err s t e w one.0)
+      by_view (all_read ab o n) one = turn_fails true e w ab (own_view o) one
+      by_view (gap_read h a ab p) (inl one) = gap_failed h ab p (l.err s t e w one.0)
       by_view (gap_read h a ab p) (inr one) = memory_class e.0 one.0
-  turns_fail first (v ∷ vs) s m t e ws w (all_read ab o n) turns fails =
-      let on = on_step s turns.0 v ws (λ h p same. n h (own_none_left s p)) (own_view _ ws o)
+  turns_fail first (v ∷ vs) s w (all_read ab o n) turns fails =
+      let on = on_step (λ h p same. n h (own_none_left s p)) (own_view o)
       (l.ok s turns.0 v w turns.1.0) in
-      later_fails vs turns.0 m t e on.1 (none_outside_after s turns.0 w on.0) ab on.2 turns.2 fails
-  turns_fail first (v ∷ vs) s m t e ws w (gap_read h a ab p) turns fails =
-      gap_step_failed s turns.0 t v e p
-      (λ st abs own.
-      later_fails vs turns.0 m t e [] (none_outside_after s turns.0 w st) abs own turns.2 fails)
-      (l.ok s turns.0 v w turns.1.0)
+      later_fails vs (none_outside_after w on.0) ab on.2 turns.2 fails
+  turns_fail first (v ∷ vs) s {t} {e} w (gap_read h a ab p) turns fails =
+      gap_step_failed t e p (λ st abs own.
+      later_fails vs (none_outside_after w st) abs own turns.2 fails) (l.ok s turns.0 v w turns.1.0)
 
   -- where there is an own list a repeat fails for want of memory alone
-  repeat_fails : (idle : Bool) (s t : Situation) (e : Error) (ws : List T) → IsWholeIn env s
+  repeat_fails : (idle : Bool) (s t : Situation) (e : Error) {ws : List T} → IsWholeIn env s
       → RepeatOutcome inner idle s (Err e) t → OwnList T group gap (own s) ws → class e ≡ OfMemory
-  repeat_fails false s t e ws w o own_list =
-      turns_fail true o.values s o.last t e ws w (list_view _ ws own_list) o.steps o.fails
-  repeat_fails true s t e ws w o own_list =
-      turns_fail false o.values s o.last t e ws w (list_view _ ws own_list) o.steps o.fails
+  repeat_fails false s t e w o own_list =
+      turns_fail true o.values s w (list_view own_list) o.steps o.fails
+  repeat_fails true s t e w o own_list =
+      turns_fail false o.values s w (list_view own_list) o.steps o.fails
 
   -- the items of a repeat are those of the field
   own_repeated : OwnItems (repeated k) q
@@ -435,13 +431,13 @@ module _ {env : Variables} (T : Type 0) (inner : Outcome T) (k : FieldKind) (q :
       (OwnList T group gap)
   repeat_law idle = record {
     own = own_repeated;
-    ok = λ s t vs w f. let i = repeat_took idle s t vs w f in record {
+    ok = λ s t vs w f. let i = repeat_took idle w f in record {
       steady = i.steady;
       takes = i.takes;
       read = λ n. i.list;
       rest = λ n. i.none;
     };
     takes_all = λ s t vs ws w f o.
-        no_keys_left (repeated k) q (cells t) _ (repeat_took idle s t vs w f).none;
-    refuses = λ s t e ws w f o. repeat_fails idle s t e ws w f o;
+        no_keys_left (repeated k) q (cells t) _ (repeat_took idle w f).none;
+    refuses = λ s t e ws w f o. repeat_fails idle s t e w f o;
   }

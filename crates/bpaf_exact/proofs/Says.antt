@@ -40,15 +40,11 @@ use Rattle.bpaf_text.specs.Named.{Named as Key, KeyWithValue}
 -- Leaves.
 
 -- what each piece alone says the front says
-front_says : {T : Type 0} (value : LinePiece → T → Type 0) (said : Said T)
-    → ((o : LinePiece) (v : T) → value o v → said (o ∷ []) v)
-    → (os rest : List LinePiece) (v : T) → FrontOf T value os v rest → FrontSays said os v rest
-front_says value said each os rest v h = record {
-  part = h.0 ∷ [];
-  is = h.1;
-  some = λ e. cc;
-  told = each h.0 v h.2;
-}
+front_says : {T : Type 0} (value : LinePiece → T → Type 0) {said : Said T}
+    → ((o : LinePiece) (v : T) → value o v → said (o ∷ []) v) → (os rest : List LinePiece) (v : T)
+    → FrontOf T value os v rest → FrontSays said os v rest
+front_says value each os rest v h =
+    record { part = h.0 ∷ []; is = h.1; some = λ e. cc; told = each h.0 v h.2 }
 
 -- a flag
 module _ {T : Type 0} (clones : T → T → Type 0) (present : T) where
@@ -75,11 +71,7 @@ module _ {T : Type 0} (clones : T → T → Type 0) (present : T) where
       (of_kind ByName) (FlagSays clones present absent set)
   key_says wide true key absent set = record { by = (refl, present_piece) }
   key_says wide false key absent set = record {
-    by = (
-      refl,
-      front_says (FlagValue (clones present)) (FlagSays clones present absent set) present_piece,
-      flag_gap_says absent set,
-    );
+    by = (refl, front_says (FlagValue (clones present)) present_piece, flag_gap_says absent set);
   }
 
   -- so it is with its field
@@ -101,8 +93,7 @@ module _ {T : Type 0} (means : List ℕ → T → Type 0) where
   -- all its keys
   argument_group_says : {set : Option (List ℕ)} (last : Bool) (os rest : List LinePiece) (v : T)
       → argument_group means last os v rest → FrontSays (ArgumentSays means last set) os v rest
-  argument_group_says {set} false os rest v g =
-      front_says (ArgumentValue means) (ArgumentSays means false set) pair_piece os rest v g
+  argument_group_says false os rest v g = front_says (ArgumentValue means) pair_piece os rest v g
   argument_group_says true os rest v g = record {
     part = os;
     is = sym (ap (λ z. os ++ z) g.4 ∙ append-nil os);
@@ -152,7 +143,7 @@ pub word_by_says : {T : Type 0} {names : List Names} (accepts : Bool → Bool)
 word_by_says accepts means = record {
   by = (
     refl,
-    front_says (WordValue accepts means) (WordSays accepts means) (word_says accepts means),
+    front_says (WordValue accepts means) (word_says accepts means),
     λ v none. absurd none,
   );
 }
@@ -195,14 +186,13 @@ closed_says f h = record { by = tt }
 
 -- of two, into what each says more of
 pub choice_into : {T : Type 0} (m n names own others : List Names) (words more : List (List ℕ))
-    (j k : SaidKind)
-    (said this that : Said T) → ((os : List LinePiece) (v : T) → this os v → said os v)
-    → ((os : List LinePiece) (v : T) → that os v → said os v)
-    → (a b : ProgramForm T) → FormSays m a j this → FormSays n b k that
+    (j k : SaidKind) {said this that : Said T}
+    → ((os : List LinePiece) (v : T) → this os v → said os v)
+    → ((os : List LinePiece) (v : T) → that os v → said os v) → (a b : ProgramForm T)
+    → FormSays m a j this → FormSays n b k that
     → FormSays names (program_choice own others words more a b) (of_kind ByName) said
-choice_into {T} m n names own others words more j k said this that from_this from_that
-    (alternative wide q first) (alternative other r second) g h =
-    by_test (are_all_apart own others)
+choice_into {T} m n names own others words more j k {said} from_this from_that
+    (alternative wide q first) (alternative other r second) g h = by_test (are_all_apart own others)
   where
     piece : (o : LinePiece) (v : T) (b : Bool) → MatchBool b (first o v) (second o v)
         → said (o ∷ []) v
@@ -214,17 +204,17 @@ choice_into {T} m n names own others words more j k said this that from_this fro
         (of_kind ByName) said
     by_test true = (refl, λ o v m. piece o v (is_own q o) m)
     by_test false = tt
-choice_into m n names own others words more j k said this that from_this from_that
-    (commands optional value) b g h = absurd g
-choice_into m n names own others words more j k said this that from_this from_that _ _ g h = tt
+choice_into m n names own others words more j k from_this from_that (commands optional value) b g
+    h = absurd g
+choice_into m n names own others words more j k from_this from_that _ _ g h = tt
 
 -- of two
 pub choice_says : {T : Type 0} {m n names : List Names} (own others : List Names)
     (words more : List (List ℕ))
     {a b : ProgramForm T} {j k : SaidKind} {this that : Said T} → Says m a j this → Says n b k that
     → Says names (program_choice own others words more a b) (of_kind ByName) (EitherSays this that)
-choice_says {T} {m} {n} {names} own others words more {a} {b} {j} {k} {this} {that} g h = record {
-  by = choice_into m n names own others words more j k (EitherSays this that) this that
+choice_says {m} {n} {names} own others words more {a} {b} {j} {k} g h = record {
+  by = choice_into m n names own others words more j k
       (λ os v m. says_this m) (λ os v m. says_that m) a b g.by h.by;
 }
 
@@ -266,22 +256,21 @@ module _ {T : Type 0} (said : Said T) (group : Groups T) (gap : Gap T)
   fallback_by f os v (inr e) = says_kept e.0 e.2
 
 -- a repeat or default round a field, of which each value says so
-whole_form_says : {T B : Type 0} (kind : FieldKind → FieldKind) (lift : SaidKind → SaidKind)
+whole_form_says : {T B : Type 0} {kind : FieldKind → FieldKind} (lift : SaidKind → SaidKind)
     → ((k : FieldKind) → lift (of_kind k) ≡ of_kind (kind k))
-    → (value : Groups T → Gap T → List LinePiece → B → Type 0) (said : Said T) (whole : Said B)
-    → ((group : Groups T) (gap : Gap T)
-    → ((os rest : List LinePiece) (v : T) → group os v rest → FrontSays said os v rest)
-    → ((v : T) → gap.absent v → said [] v)
-    → (os : List LinePiece) (v : B) → value group gap os v → whole os v)
+    → (value : Groups T → Gap T → List LinePiece → B → Type 0) {said : Said T} (whole : Said B)
+    → ((group : Groups T) (gap : Gap T) → ((os rest : List LinePiece) (v : T) → group os v rest
+    → FrontSays said os v rest) → ((v : T) → gap.absent v
+    → said [] v) → (os : List LinePiece) (v : B) → value group gap os v → whole os v)
     → (names : List Names) (j : SaidKind) (s : ProgramForm T) → FormSays names s j said
     → FormSays names (completed kind value s) (lift j) whole
-whole_form_says kind lift lifts value said whole each names j (alternative wide q one) h = (
+whole_form_says lift lifts value whole each names j (alternative wide q one) h = (
   ap lift h.0 ∙ lifts ByName,
-  λ os v all. each _ _ (front_says one said h.1) (λ v none. absurd none) os v,
+  λ os v all. each _ _ (front_says one h.1) (λ v none. absurd none) os v,
 )
-whole_form_says kind lift lifts value said whole each names j (single wide k q group gap) h =
+whole_form_says lift lifts value whole each names j (single wide k q group gap) h =
     (ap lift h.0 ∙ lifts k, λ os v all. each group gap h.1 h.2 os v)
-whole_form_says kind lift lifts value said whole each names j _ h = tt
+whole_form_says lift lifts value whole each names j _ h = tt
 
 -- own items are those with one of these names
 abbrev pub FormOwns : {T : Type 0} → List Names → ProgramForm T → Type 0
@@ -294,12 +283,12 @@ pub record OwnsKeys {T : Type 0} (names : List Names) (s : ProgramForm T) : Type
   pub by : FormOwns names s
 
 -- of what keeps to its law,
-pub owned : (env : Variables) {T : Type 0} (outcome : Outcome T) (names : List Names)
+pub owned : (env : Variables) {T : Type 0} (outcome : Outcome T) {names : List Names}
     (words : List (List ℕ)) (s : ProgramForm T) → FormLaw env outcome names words s
     → OwnsKeys names s
-owned env outcome names words (complete wide k q value) law = record { by = law.1 }
-owned env outcome names words (product wide named q fields) law = record { by = law.1 }
-owned env outcome names words _ law = record { by = tt }
+owned env outcome words (complete wide k q value) law = record { by = law.1 }
+owned env outcome words (product wide named q fields) law = record { by = law.1 }
+owned env outcome words _ law = record { by = tt }
 
 -- as a field
 pub field_says : {T : Type 0} {s : ProgramForm T} {kind : SaidKind} {names : List Names}
@@ -317,7 +306,7 @@ field_says {s = product wide false q fields} own h = record { by = h.by }
 field_says {s = commands optional value} own h = absurd h.by
 field_says {s = before_commands value} own h = absurd h.by
 field_says {T} {s} {kind} {names} {said} own h = record {
-  by = whole_form_says (λ k. k) (λ j. j) (λ k. refl) (SingleValue T) said said (whole_says said)
+  by = whole_form_says (λ j. j) (λ k. refl) (SingleValue T) said (whole_says said)
       names kind s h.by;
 }
 
@@ -327,7 +316,7 @@ pub optional_says : {T : Type 0} {s : ProgramForm T} {kind : SaidKind} {names : 
     (OptionalSays said)
 optional_says {s = commands optional value} h = absurd h.by
 optional_says {T} {s} {kind} {names} {said} h = record {
-  by = whole_form_says (λ k. k) (λ j. j) (λ k. refl) (OptionalValue T) said (OptionalSays said)
+  by = whole_form_says (λ j. j) (λ k. refl) (OptionalValue T) (OptionalSays said)
       (optional_by said) names kind s h.by;
 }
 
@@ -337,7 +326,7 @@ pub fallback_says : {T : Type 0} (f : Closure (Unit {0}) T) {s : ProgramForm T} 
     → Says names (completed (λ k. k) (λ group gap. FallbackValue T group gap f) s) kind
     (FallbackSays said (f.yes tt))
 fallback_says {T} f {s} {said = said} h = record {
-  by = whole_form_says (λ k. k) (λ j. j) (λ k. refl) (λ group gap. FallbackValue T group gap f) said
+  by = whole_form_says (λ j. j) (λ k. refl) (λ group gap. FallbackValue T group gap f)
       (FallbackSays said (f.yes tt))
       (λ group gap fronts absent. fallback_by said group gap fronts absent f) _ _ s h.by;
 }
@@ -347,7 +336,7 @@ repeat_says : {T : Type 0} {s : ProgramForm T} {kind : SaidKind} {names : List N
     → Says names s kind said
     → Says names (completed repeated (OwnList T) s) (repeated_kind kind) (RepeatSays said)
 repeat_says {T} {s} {said = said} h = record {
-  by = whole_form_says repeated repeated_kind (λ k. refl) (OwnList T) said (RepeatSays said)
+  by = whole_form_says repeated_kind (λ k. refl) (OwnList T) (RepeatSays said)
       (list_says said) _ _ s h.by;
 }
 
@@ -363,7 +352,7 @@ pub last_says : {T : Type 0} {s : ProgramForm T} {kind : SaidKind} {names : List
     → Says names s kind said
     → Says names (completed repeated (LastOf T) s) (repeated_kind kind) (LastSays said)
 last_says {T} {s} {said = said} h = record {
-  by = whole_form_says repeated repeated_kind (λ k. refl) (LastOf T) said (LastSays said)
+  by = whole_form_says repeated_kind (λ k. refl) (LastOf T) (LastSays said)
       (λ group gap fronts absent os v m. record {
         values = m.0 ++ v ∷ [];
         told = list_says said group gap fronts absent os (m.0 ++ v ∷ []) m.1;
@@ -381,15 +370,15 @@ unless_says false h = h
 -- Products.
 
 -- also as a field
-pub field_owned : (env : Variables) {T : Type 0} (outcome : Outcome T) (names : List Names)
+pub field_owned : (env : Variables) {T : Type 0} (outcome : Outcome T) {names : List Names}
     (words : List (List ℕ)) (s : ProgramForm T) → FormLaw env outcome names words s
     → OwnsKeys names (program_field s)
-field_owned env outcome names words (alternative wide q value) law = record { by = law.1 }
-field_owned env outcome names words (single wide k q group gap) law = record { by = law.1 }
-field_owned env outcome names words (complete wide k q value) law = record { by = law.1 }
-field_owned env outcome names words (product wide true q fields) law = record { by = law.1 }
-field_owned env outcome names words (product wide false q fields) law = record { by = law.1 }
-field_owned env outcome names words _ law = record { by = tt }
+field_owned env outcome words (alternative wide q value) law = record { by = law.1 }
+field_owned env outcome words (single wide k q group gap) law = record { by = law.1 }
+field_owned env outcome words (complete wide k q value) law = record { by = law.1 }
+field_owned env outcome words (product wide true q fields) law = record { by = law.1 }
+field_owned env outcome words (product wide false q fields) law = record { by = law.1 }
+field_owned env outcome words _ law = record { by = tt }
 
 -- the last field
 pub alone_says : {T : Type 0} {names : List Names} {s : ProgramForm T} {kind : SaidKind}
@@ -404,12 +393,11 @@ alone_says {T} {names} {s} {kind} {said} own_keys h = record { by = by_form s ow
         → mine (either (keys k q) no_roles) whole ≡ mine (either (keys k q) no_roles) os
         → said (its_pieces (of_kind k) names whole (others (either (keys k q) no_roles) os)) v
     own ByName q value owned each whole os v fits m same =
-        subst (λ z. said z v)
-        (sym (mine_within q (either q no_roles) (first_within q no_roles) os)
+        subst (λ z. said z v) (sym (mine_within q (either q no_roles) (first_within q no_roles) os)
         ∙ (ap (mine q) (sym same)
         ∙ (mine_within q (either q no_roles) (first_within q no_roles) whole
         ∙ mine_keyed q names whole
-        (first_fits q no_roles names [] owned (record { own = λ k e. absurd cc }) (apart_none names)
+        (first_fits owned (record { own = λ k e. absurd cc }) (apart_none names)
         whole (subst (λ own. Fits own (either q no_roles) whole) (sym (append-nil names)) fits)))))
         (each (mine q os) v (each_own q os) m.0)
     own (OneWord b) q value owned each whole os v fits m same =
@@ -436,9 +424,9 @@ alone_says {T} {names} {s} {kind} {said} own_keys h = record { by = by_form s ow
     by_form _ law h = tt
 
 -- a field before others, by its kind
-module _ {A B : Type 0} (own behind : List Names) (said : Said A) (rest_said : FieldsSaid B)
-    (q r : Roles) (first : List LinePiece → A → Type 0) (fields : FieldsReading B)
-    (owned_behind : Owns r behind)
+module _ {A B : Type 0} (own : List Names) {behind : List Names} (said : Said A)
+    (rest_said : FieldsSaid B) (q : Roles) {r : Roles} (first : List LinePiece → A → Type 0)
+    (fields : FieldsReading B) (owned_behind : Owns r behind)
     (rest_each : FieldsFormSays behind (product false true r fields) rest_said) where
   -- what a field of a kind says
   abbrev FirstSays : FieldKind → Type 0
@@ -456,27 +444,21 @@ module _ {A B : Type 0} (own behind : List Names) (said : Said A) (rest_said : F
   kind_says : (k : FieldKind) → FirstSays k → Owns (keys k q) own → may_follow k own behind ≡ true
       → KindSays k
   kind_says ByName each owned may whole os v fits fit m same =
-      let apart = apart_of_names q r own behind owned owned_behind may in
+      let apart = apart_of_names owned owned_behind may in
       let both = either q r in (
-        subst (λ z. said z v.0)
-            (sym (mine_within q both (first_within q r) os)
-            ∙ (ap (mine q) (sym same)
-            ∙ (mine_within q both (first_within q r) whole
-            ∙ mine_keyed q own whole
-            (first_fits q r own behind owned owned_behind may whole fits))))
+        subst (λ z. said z v.0) (sym (mine_within q both (first_within q r) os)
+            ∙ (ap (mine q) (sym same) ∙ (mine_within q both (first_within q r) whole
+            ∙ mine_keyed q own whole (first_fits owned owned_behind may whole fits))))
             (each (mine q os) v.0 (each_own q os) m.0),
-        subst (λ z. rest_said whole z v.1) (others_both q r os)
-            (rest_each whole (others q os) v.1
-            (second_fits q r own behind owned owned_behind may whole fits)
-            (others_fit q r behind os (second_fits q r own behind owned owned_behind may os fit))
-            m.1
-            (sym (mine_within r both (second_within q r) whole)
-            ∙ (ap (mine r) same
+        subst (λ z. rest_said whole z v.1) (others_both q r os) (rest_each whole (others q os) v.1
+            (second_fits owned owned_behind may whole fits)
+            (others_fit q r behind os (second_fits owned owned_behind may os fit)) m.1
+            (sym (mine_within r both (second_within q r) whole) ∙ (ap (mine r) same
             ∙ (mine_within r both (second_within q r) os
             ∙ sym (mine_of_others q r (λ k e. apart.right k e) os))))),
       )
   kind_says (OneWord b) each owned may whole os v fits fit m same =
-      let none = none_behind r own behind owned_behind may in
+      let none = none_behind own behind owned_behind may in
       let left_to = others_none r none os in (
         subst (λ z. said (front (OneWord b) z) v.0) (sym left_to) (each (front (OneWord b) os) v.0
             tt m.0),
@@ -487,7 +469,7 @@ module _ {A B : Type 0} (own behind : List Names) (said : Said A) (rest_said : F
             (mine_none r none whole ∙ sym (mine_none r none (back (OneWord b) os)))),
       )
   kind_says (EachWord b) each owned may whole os v fits fit m same =
-      let none = none_behind r own behind owned_behind may in
+      let none = none_behind own behind owned_behind may in
       let left_to = others_none r none os in (
         subst (λ z. said (front (EachWord b) z) v.0) (sym left_to) (each (front (EachWord b) os)
             v.0 tt m.0),
@@ -518,7 +500,7 @@ both_say {own = own} {behind = behind} {a = complete wide k q first}
     by_test true may = λ whole os v fits fit m same. subst
         (λ j. said (its_pieces j own whole (others (either (keys k q) r) os)) v.0
         × rest_said whole (words_after j (others (either (keys k q) r) os)) v.1) (sym h.by.0)
-        (kind_says own behind said rest_said q r first fields behind_keys.by g.by k h.by.1
+        (kind_says own said rest_said q first fields behind_keys.by g.by k h.by.1
         own_keys.by may whole os v fits fit m same)
 both_say {s = before_commands value} own_keys behind_keys h g = absurd g.by
 both_say own_keys behind_keys h g = record { by = tt }
@@ -550,26 +532,23 @@ record_says {T} s {kind} {names} {said} h = by_form s h.by
   where
     all_own : (k : FieldKind) (q : Roles) (value : List LinePiece → T → Type 0)
         → ((os : List LinePiece) (v : T) → AllOwn k q os → value os v → said os v)
-        → (os : List LinePiece) (v : T) → (last_reading k q value).value os v → said os v
-    all_own ByName q value each os v m =
-        subst (λ z. said z v) (all_mine q os m.1)
-        (each (mine q os) v (each_own q os) m.0)
-    all_own (OneWord b) q value each os v m =
-        subst (λ z. said z v) (all_front (OneWord b) os m.1)
-        (each (front (OneWord b) os) v tt m.0)
-    all_own (EachWord b) q value each os v m =
-        subst (λ z. said z v) (all_front (EachWord b) os m.1)
-        (each (front (EachWord b) os) v tt m.0)
+        → {os : List LinePiece} (v : T) → (last_reading k q value).value os v → said os v
+    all_own ByName q value each {os} v m =
+        subst (λ z. said z v) (all_mine q os m.1) (each (mine q os) v (each_own q os) m.0)
+    all_own (OneWord b) q value each {os} v m =
+        subst (λ z. said z v) (all_front (OneWord b) m.1) (each (front (OneWord b) os) v tt m.0)
+    all_own (EachWord b) q value each {os} v m =
+        subst (λ z. said z v) (all_front (EachWord b) m.1) (each (front (EachWord b) os) v tt m.0)
 
     by_form : (s : ProgramForm T) → FormSays names s kind said
         → (os : List LinePiece) (v : T) → Fits names (product_roles (whole_program s)) os
         → (product_reading (whole_program s)).value os v → said os v
     by_form (alternative wide q value) h os v fits m = all_own ByName q _
-        (λ os v all. whole_says said _ (gap_of value None) (front_says value said h.1)
-        (λ v none. absurd none) os v) os v m
+        (λ os v all. whole_says said _ (gap_of value None) (front_says value h.1)
+        (λ v none. absurd none) os v) v m
     by_form (single wide k q group gap) h os v fits m =
-        all_own k q _ (λ os v all. whole_says said group gap h.1 h.2 os v) os v m
-    by_form (complete wide k q value) h os v fits m = all_own k q value h.1 os v m
+        all_own k q _ (λ os v all. whole_says said group gap h.1 h.2 os v) v m
+    by_form (complete wide k q value) h os v fits m = all_own k q value h.1 v m
     by_form (product wide named q fields) h os v fits m = h.1 os os v fits fits m refl refl
     by_form (commands optional value) h os v fits m = absurd h
     by_form (before_commands value) h os v fits m = absurd h

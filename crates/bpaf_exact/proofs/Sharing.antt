@@ -42,31 +42,30 @@ kept_twice p q both same (o ∷ os) = by_test (q o) (same o) (kept_twice p q bot
     by_test false e h = h ∙ sym (ap (λ c. if c then (o ∷ filter both os) else filter both os) e)
 
 -- what both keep is what one does that never holds without the other
-kept_within : (p q : LinePiece → Bool) → ((o : LinePiece) → p o ≡ true → q o ≡ true)
+kept_within : {p q : LinePiece → Bool} → ((o : LinePiece) → p o ≡ true → q o ≡ true)
     → (os : List LinePiece) → filter p (filter q os) ≡ filter p os
-kept_within p q part = kept_twice p q p (λ o. by_tests (p o) (q o) (part o))
+kept_within {p} {q} part = kept_twice p q p (λ o. by_tests (p o) (part o))
   where
-    by_tests : (a b : Bool) → (a ≡ true → b ≡ true) → a ≡ (b && a)
-    by_tests true b f = sym (ap (λ c. c && true) (f refl))
-    by_tests false b f = sym (and_right b false refl)
+    by_tests : (a : Bool) {b : Bool} → (a ≡ true → b ≡ true) → a ≡ (b && a)
+    by_tests true f = sym (ap (λ c. c && true) (f refl))
+    by_tests false {b} f = sym (and_right b false refl)
 
 -- where a test never holds nothing is kept
-kept_none : (p : LinePiece → Bool) → ((o : LinePiece) → p o ≡ false) → (os : List LinePiece)
+kept_none : {p : LinePiece → Bool} → ((o : LinePiece) → p o ≡ false) → (os : List LinePiece)
     → filter p os ≡ []
-kept_none p none [] = refl
-kept_none p none (o ∷ os) =
-    ap (λ c. if c then (o ∷ filter p os) else filter p os) (none o) ∙ kept_none p none os
+kept_none none [] = refl
+kept_none {p} none (o ∷ os) =
+    ap (λ c. if c then (o ∷ filter p os) else filter p os) (none o) ∙ kept_none none os
 
 -- so it is where it never holds of what another kept
-kept_neither : (p q : LinePiece → Bool) → ((o : LinePiece) → q o ≡ true → p o ≡ false)
+kept_neither : {p q : LinePiece → Bool} → ((o : LinePiece) → q o ≡ true → p o ≡ false)
     → (os : List LinePiece) → filter p (filter q os) ≡ []
-kept_neither p q apart os =
-    kept_twice p q (λ o. false) (λ o. by_tests (q o) (p o) (apart o)) os
-    ∙ kept_none (λ o. false) (λ o. refl) os
+kept_neither {p} {q} apart os =
+    kept_twice p q (λ o. false) (λ o. by_tests (q o) (apart o)) os ∙ kept_none (λ o. refl) os
   where
-    by_tests : (a b : Bool) → (a ≡ true → b ≡ false) → false ≡ (a && b)
-    by_tests true b f = sym (f refl)
-    by_tests false b f = refl
+    by_tests : (a : Bool) {b : Bool} → (a ≡ true → b ≡ false) → false ≡ (a && b)
+    by_tests true f = sym (f refl)
+    by_tests false f = refl
 
 -- a word is no key
 no_key : (names : List Names) (w : Arg) → is_positional w ≡ true → is_key_of_any names w ≡ false
@@ -122,7 +121,7 @@ module _ (r : Roles) (names : List Names) where
         )
 
 -- of two whose names are apart, each has the pieces that begin with its own
-module _ (q r : Roles) (own behind : List Names) (owned : Owns q own) (owned_behind : Owns r behind)
+module _ {q r : Roles} {own behind : List Names} (owned : Owns q own) (owned_behind : Owns r behind)
     (apart : are_all_apart own behind ≡ true) where
   -- one of both is one of either
   either_first : (o : LinePiece) → is_own (either q r) o ≡ true
@@ -189,8 +188,8 @@ taken_own (takes_argument e v t) = (ap is_own_role e, taken_own t)
 -- where each own item of the one is one of the other, its pieces are among the other's
 pub mine_within : (q r : Roles) → ((k : Arg) → is_own_role (q k) ≡ true → is_own_role (r k) ≡ true)
     → (os : List LinePiece) → mine q (mine r os) ≡ mine q os
-mine_within q r part = kept_within (is_own q) (is_own r)
-    (λ o e. own_first r o ∙ part (first_item o) (sym (own_first q o) ∙ e))
+mine_within q r part =
+    kept_within (λ o e. own_first r o ∙ part (first_item o) (sym (own_first q o) ∙ e))
 
 -- an own item of the first is one of either, and so is one of the second
 pub first_within : (q r : Roles) (k : Arg) → is_own_role (q k) ≡ true
@@ -213,13 +212,14 @@ second_within q r k = by_role (q k)
 -- what is another's own isn't among one's own
 pub mine_of_others : (p q : Roles) → ((k : Arg) → is_own_role (q k) ≡ true → p k ≡ Foreign)
     → (os : List LinePiece) → mine q (others p os) ≡ mine q os
-mine_of_others p q apart = kept_within (is_own q) (λ o. not (is_own p o))
-    (λ o e. ap not (own_first p o ∙ ap is_own_role (apart (first_item o) (sym (own_first q o) ∙ e))))
+mine_of_others p q apart = kept_within
+    (λ o e. ap not (own_first p o ∙ ap is_own_role
+    (apart (first_item o) (sym (own_first q o) ∙ e))))
 
 module _ (q : Roles) (none : (k : Arg) → is_own_role (q k) ≡ false) where
   -- where no item is one's own, no piece is,
   pub mine_none : (os : List LinePiece) → mine q os ≡ []
-  mine_none = kept_none (is_own q) (λ o. own_first q o ∙ none (first_item o))
+  mine_none = kept_none (λ o. own_first q o ∙ none (first_item o))
 
   -- and each is another's
   pub others_none : (os : List LinePiece) → others q os ≡ os
@@ -256,11 +256,11 @@ others_both q r = kept_twice (λ o. not (is_own r o)) (λ o. not (is_own q o))
     by_piece (Two k w) = by_roles (q k) (r k)
 
 -- behind a positional field no item is another field's own
-pub none_behind : (r : Roles) (own behind : List Names) → Owns r behind
+pub none_behind : {r : Roles} (own behind : List Names) → Owns r behind
     → may_follow (OneWord false) own behind ≡ true → (k : Arg) → is_own_role (r k) ≡ false
-none_behind r own [] owned e k =
+none_behind {r} own [] owned e k =
     fails (is_own_role (r k)) (λ own. let none = owned.own k own in absurd cc)
-none_behind r own (names ∷ behind) owned e k = absurd cc
+none_behind own (names ∷ behind) owned e k = absurd cc
 
 -- behind a positional field nothing begins with another's key
 pub no_fits : (r : Roles) (own behind : List Names) → may_follow (OneWord false) own behind ≡ true
@@ -303,9 +303,9 @@ pub mine_rest : (r : Roles) (names : List Names) (whole os : List LinePiece) →
     → mine r (keyed names whole ++ others r os) ≡ mine r whole
 mine_rest r names whole os fits =
     filter-append (is_own r) (keyed names whole) (others r os)
-    ∙ ap₂ ◌++◌ (ap (mine r) (sym (mine_keyed r names whole fits)) ∙ mine_within r r (λ k e. e) whole)
-    (kept_neither (is_own r) (λ o. not (is_own r o)) (λ o. not-true (is_own r o)) os)
-    ∙ append-nil (mine r whole)
+    ∙ ap₂ ◌++◌ (ap (mine r) (sym (mine_keyed r names whole fits)) ∙ mine_within r r (λ k e. e)
+    whole)
+    (kept_neither (λ o. not-true (is_own r o)) os) ∙ append-nil (mine r whole)
 
 -- and those of others are the words that are left
 pub others_rest : (r : Roles) (names : List Names) (whole os : List LinePiece) → Fits names r whole
@@ -313,5 +313,4 @@ pub others_rest : (r : Roles) (names : List Names) (whole os : List LinePiece) �
 others_rest r names whole os fits =
     filter-append (λ o. not (is_own r o)) (keyed names whole) (others r os)
     ∙ ap₂ ◌++◌ (ap (others r) (sym (mine_keyed r names whole fits))
-    ∙ kept_neither (λ o. not (is_own r o)) (is_own r) (λ o. ap not) whole)
-    (kept_within (λ o. not (is_own r o)) (λ o. not (is_own r o)) (λ o e. e) os)
+    ∙ kept_neither (λ o. ap not) whole) (kept_within (λ o e. e) os)

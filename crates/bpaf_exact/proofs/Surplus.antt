@@ -15,18 +15,18 @@ use Rattle.bpaf_exact.proofs.Alternative.{own_bad}
 -- A surplus occurrence.
 
 -- the first piece alone is one
-pub front_one : (T : Type 0) (value : LinePiece → T → Type 0) → OneByOne (FrontOf T value)
-front_one T value os rest v g = (g.0, g.1)
+pub front_one : {T : Type 0} (value : LinePiece → T → Type 0) → OneByOne (FrontOf T value)
+front_one value os rest v g = (g.0, g.1)
 
 -- where one evaluation reads one piece, two have no value
-group_once : {T : Type 0} (group : Groups T) → OneByOne group
-    → (o p : LinePiece) (os : List LinePiece) (v : T) → group (o ∷ p ∷ os) v [] → ⊥
-group_once group one o p os v g = let i = one (o ∷ p ∷ os) [] v g in let e = i.1 in cc
+group_once : {T : Type 0} {group : Groups T} → OneByOne group → (o p : LinePiece)
+    {os : List LinePiece} (v : T) → group (o ∷ p ∷ os) v [] → ⊥
+group_once one o p {os} v g = let i = one (o ∷ p ∷ os) [] v g in let e = i.1 in cc
 
-module _ (T : Type 0) (group : Groups T) (gap : Gap T) (one : OneByOne group) where
+module _ {T : Type 0} {group : Groups T} (gap : Gap T) (one : OneByOne group) where
   -- nor have two where there is no repeat or default
   single_once : AtMostOne (SingleValue T group gap)
-  single_once o p os v (inl g) = group_once group one o p os v g
+  single_once o p os v (inl g) = group_once one o p v g
   single_once o p os v (inr e) = cc
 
   -- nor where they may be left out
@@ -49,9 +49,8 @@ closed_no_surplus f _ h = tt
 -- a field without a repeat or default has no surplus
 pub field_no_surplus : {T : Type 0} (s : ProgramForm T) → HasNoSurplus s
     → HasNoSurplus (program_field s)
-field_no_surplus {T = T} (alternative wide q value) h =
-    single_once T _ (gap_of value None) (front_one T value)
-field_no_surplus {T = T} (single wide k q group gap) h = single_once T group gap h
+field_no_surplus (alternative wide q value) h = single_once (gap_of value None) (front_one value)
+field_no_surplus (single wide k q group gap) h = single_once gap h
 field_no_surplus (product wide named q fields) h = absurd h
 field_no_surplus (complete wide k q value) h = h
 field_no_surplus _ h = tt
@@ -59,17 +58,16 @@ field_no_surplus _ h = tt
 -- nor has what may be left out
 pub optional_no_surplus : {T : Type 0} (s : ProgramForm T) → HasNoSurplus s
     → HasNoSurplus (completed (λ k. k) (OptionalValue T) s)
-optional_no_surplus {T = T} (alternative wide q value) h = optional_once T _ _ (front_one T value)
-optional_no_surplus {T = T} (single wide k q group gap) h = optional_once T group gap h
+optional_no_surplus (alternative wide q value) h = optional_once _ (front_one value)
+optional_no_surplus (single wide k q group gap) h = optional_once gap h
 optional_no_surplus _ h = tt
 
 -- nor what has a value that stands for it
 pub fallback_no_surplus : {T : Type 0} (f : Closure (Unit {0}) T) (s : ProgramForm T)
     → HasNoSurplus s
     → HasNoSurplus (completed (λ k. k) (λ group gap. FallbackValue T group gap f) s)
-fallback_no_surplus {T = T} f (alternative wide q value) h =
-    fallback_once T _ _ (front_one T value) f
-fallback_no_surplus {T = T} f (single wide k q group gap) h = fallback_once T group gap h f
+fallback_no_surplus f (alternative wide q value) h = fallback_once _ (front_one value) f
+fallback_no_surplus f (single wide k q group gap) h = fallback_once gap h f
 fallback_no_surplus f _ h = tt
 
 -- whether `catch` is set changes nothing there
@@ -83,12 +81,12 @@ pub key_no_surplus : {T : Type 0} (wide may_choose : Bool) (q : Roles)
     (each : LinePiece → T → Type 0) (gap : Gap T)
     → HasNoSurplus (key_field wide may_choose q each (FrontOf T each) gap)
 key_no_surplus wide true q each gap = tt
-key_no_surplus {T = T} wide false q each gap = front_one T each
+key_no_surplus wide false q each gap = front_one each
 
 -- nor a word
 pub word_no_surplus : {T : Type 0} (accepts : Bool → Bool) (means : List ℕ → T → Type 0)
     → HasNoSurplus (word_by accepts means)
-word_no_surplus {T = T} accepts means = front_one T _
+word_no_surplus accepts means = front_one _
 
 -- An occurrence without a value, as the key of a failed alternative.
 module _ (T : Type 0) (value : LinePiece → T → Type 0) (gap : Gap T) where
@@ -98,33 +96,33 @@ module _ (T : Type 0) (value : LinePiece → T → Type 0) (gap : Gap T) where
   none_bad (o ∷ os) e b = cc
 
   -- a repeat has no value then
-  pub repeat_bad : (os : List LinePiece) (vs : List T) → HasBad T value os
+  pub repeat_bad : {os : List LinePiece} {vs : List T} → HasBad T value os
       → OwnList T (FrontOf T value) gap os vs → ⊥
-  repeat_bad os vs b (listed h o) = own_bad T value os vs b o
-  repeat_bad os vs b (listed_and_absent {v = v} {vs = us} h a o) = own_bad T value os (v ∷ us) b o
-  repeat_bad os vs b (only_absent h a) = elim b [ ]
+  repeat_bad b (listed h o) = own_bad value b o
+  repeat_bad b (listed_and_absent h a o) = own_bad value b o
+  repeat_bad b (only_absent h a) = elim b [ ]
 
   -- nor has `last`
   pub last_bad : (os : List LinePiece) (v : T) → HasBad T value os
       → LastOf T (FrontOf T value) gap os v → ⊥
-  last_bad os v b h = repeat_bad os _ b h.1
+  last_bad os v b h = repeat_bad b h.1
 
   -- nor what has no repeat or default
-  pub single_bad : (os : List LinePiece) (v : T) → HasBad T value os
+  pub single_bad : {os : List LinePiece} {v : T} → HasBad T value os
       → SingleValue T (FrontOf T value) gap os v → ⊥
-  single_bad os v b (inl g) = own_bad T value os (v ∷ []) b (own_more g own_none)
-  single_bad os v b (inr e) = none_bad os e.0 b
+  single_bad b (inl g) = own_bad value b (own_more g own_none)
+  single_bad {os} b (inr e) = none_bad os e.0 b
 
   -- nor what may be left out
   pub optional_bad : (os : List LinePiece) (v : Option T) → HasBad T value os
       → OptionalValue T (FrontOf T value) gap os v → ⊥
-  optional_bad os (Some v) b h = single_bad os v b h
+  optional_bad os (Some v) b h = single_bad b h
   optional_bad os None b e = none_bad os e.0 b
 
   -- nor what has a value that stands for it
   pub fallback_bad : (f : Closure (Unit {0}) T) (os : List LinePiece) (v : T) → HasBad T value os
       → FallbackValue T (FrontOf T value) gap f os v → ⊥
-  fallback_bad f os v b (inl h) = single_bad os v b h
+  fallback_bad f os v b (inl h) = single_bad b h
   fallback_bad f os v b (inr e) = none_bad os e.0 b
 
 -- Which parts a record has: each of its fields, and that no piece is left.

@@ -14,24 +14,24 @@ pub record NoKeys (r : Roles) : Type 0 where
   pub none : (k : Arg) → r k ≡ Foreign
 
 -- an item of a positional field is a word
-word_of : (q : Roles) (k : Arg) → IsWords q → q k ≡ Alone → is_positional k ≡ true
-word_of q k n e = by_word (is_positional k) (sym (n.words k) ∙ e)
+word_of : {q : Roles} (k : Arg) → IsWords q → q k ≡ Alone → is_positional k ≡ true
+word_of k n e = by_word (is_positional k) (sym (n.words k) ∙ e)
   where
     by_word : (b : Bool) → (if b then Alone else Foreign) ≡ Alone → b ≡ true
     by_word true h = refl
     by_word false h = cc
 
 -- and a piece by itself
-pub never_two : (q : Roles) (k : Arg) → IsWords q → q k ≡ WithNext → ⊥
-never_two q k n e = by_word (is_positional k) (sym (n.words k) ∙ e)
+pub never_two : {q : Roles} {k : Arg} → IsWords q → q k ≡ WithNext → ⊥
+never_two {k} n e = by_word (is_positional k) (sym (n.words k) ∙ e)
   where
     by_word : (b : Bool) → (if b then Alone else Foreign) ≡ WithNext → ⊥
     by_word true h = cc
     by_word false h = cc
 
 -- a word is a piece by itself
-alone_word : (q : Roles) (k : Arg) → IsWords q → is_positional k ≡ true → q k ≡ Alone
-alone_word q k n h = n.words k ∙ ap (λ b. if b then Alone else Foreign) h
+alone_word : {q : Roles} (k : Arg) → IsWords q → is_positional k ≡ true → q k ≡ Alone
+alone_word k n h = n.words k ∙ ap (λ b. if b then Alone else Foreign) h
 
 -- a cut of words
 pub record WordCut (r : Roles) (cs : Cells) : Type 0 where
@@ -39,55 +39,53 @@ pub record WordCut (r : Roles) (cs : Cells) : Type 0 where
   pub cut : Cut r cs words
 
 -- a word given back to its place
-pub put_word_back : (q r : Roles) {cs ds : Cells} {o : LinePiece} {os : List LinePiece} → IsWords q
+pub put_word_back : {q r : Roles} {cs ds : Cells} {o : LinePiece} {os : List LinePiece} → IsWords q
     → NoKeys r → TakesPiece q cs o ds → Cut r ds os → WordCut r cs
-put_word_back q r n f (takes_one {k = k} {cs = cs} e) (passed {os = os} c) =
-    record { words = One k ∷ os; cut = word (word_of q k n e) c }
-put_word_back q r n f (takes_two {k = k} e v) c = absurd (never_two q k n e)
-put_word_back q r n f (takes_later {c = None} t) (passed c) = let i = put_word_back q r n f t c in
+put_word_back n f (takes_one {k = k} e) (passed {os = os} c) =
+    record { words = One k ∷ os; cut = word (word_of k n e) c }
+put_word_back n f (takes_two e v) c = absurd (never_two n e)
+put_word_back n f (takes_later {c = None} t) (passed c) = let i = put_word_back n f t c in
     record { words = i.words; cut = passed i.cut }
-put_word_back q r n f (takes_later {c = Some k} t) (flag e c) = let g = f.none k in absurd cc
-put_word_back q r n f (takes_later {c = Some k} t) (argument e v c) = let g = f.none k in absurd cc
-put_word_back q r n f (takes_later {c = Some k} t) (word h c) = let i = put_word_back q r n f t c in
+put_word_back n f (takes_later {c = Some k} t) (flag e c) = let g = f.none k in absurd cc
+put_word_back n f (takes_later {c = Some k} t) (argument e v c) = let g = f.none k in absurd cc
+put_word_back n f (takes_later {c = Some k} t) (word h c) = let i = put_word_back n f t c in
     record { words = One k ∷ i.words; cut = word h i.cut }
 
 -- a word taken from a cut
-pub take_word_from : (q r : Roles) {cs ds : Cells} {o : LinePiece} {os : List LinePiece} → IsWords q
+pub take_word_from : {q r : Roles} {cs ds : Cells} {o : LinePiece} {os : List LinePiece} → IsWords q
     → NoKeys r → TakesPiece q cs o ds → Cut r cs os → WordCut r ds
-take_word_from q r n f (takes_one {k = k} e) (flag g c) = record { words = _; cut = passed c }
-take_word_from q r n f (takes_one {k = k} e) (argument g v c) = let h = f.none k in absurd cc
-take_word_from q r n f (takes_one {k = k} e) (word h c) = record { words = _; cut = passed c }
-take_word_from q r n f (takes_two {k = k} e v) c = absurd (never_two q k n e)
-take_word_from q r n f (takes_later {c = None} t) (passed c) = let i = take_word_from q r n f t c in
+take_word_from n f (takes_one e) (flag g c) = record { words = _; cut = passed c }
+take_word_from n f (takes_one {k = k} e) (argument g v c) = let h = f.none k in absurd cc
+take_word_from n f (takes_one e) (word h c) = record { words = _; cut = passed c }
+take_word_from n f (takes_two e v) c = absurd (never_two n e)
+take_word_from n f (takes_later {c = None} t) (passed c) = let i = take_word_from n f t c in
     record { words = i.words; cut = passed i.cut }
-take_word_from q r n f (takes_later {c = Some k} t) (flag e c) = let g = f.none k in absurd cc
-take_word_from q r n f (takes_later {c = Some k} t) (argument e v c) = let g = f.none k in absurd cc
-take_word_from q r n f (takes_later {c = Some k} t) (word h c) = let i =
-    take_word_from q r n f t c in record { words = One k ∷ i.words; cut = word h i.cut }
+take_word_from n f (takes_later {c = Some k} t) (flag e c) = let g = f.none k in absurd cc
+take_word_from n f (takes_later {c = Some k} t) (argument e v c) = let g = f.none k in absurd cc
+take_word_from n f (takes_later {c = Some k} t) (word h c) =
+    let i = take_word_from n f t c in record { words = One k ∷ i.words; cut = word h i.cut }
 
 -- some words given back
-pub put_words_back : (q r : Roles) {cs ds : Cells} {os : List LinePiece} → IsWords q → NoKeys r
+pub put_words_back : {q r : Roles} {cs ds : Cells} {os : List LinePiece} → IsWords q → NoKeys r
     → TakesPieces q cs ds → Cut r ds os → WordCut r cs
-put_words_back q r n f takes_none c = record { words = _; cut = c }
-put_words_back q r n f (takes_more t more) c =
-    put_word_back q r n f t (put_words_back q r n f more c).cut
+put_words_back n f takes_none c = record { words = _; cut = c }
+put_words_back n f (takes_more t more) c = put_word_back n f t (put_words_back n f more c).cut
 
 -- some words taken
-pub take_words_from : (q r : Roles) {cs ds : Cells} {os : List LinePiece} → IsWords q → NoKeys r
+pub take_words_from : {q r : Roles} {cs ds : Cells} {os : List LinePiece} → IsWords q → NoKeys r
     → TakesPieces q cs ds → Cut r cs os → WordCut r ds
-take_words_from q r n f takes_none c = record { words = _; cut = c }
-take_words_from q r n f (takes_more t more) c =
-    take_words_from q r n f more (take_word_from q r n f t c).cut
+take_words_from n f takes_none c = record { words = _; cut = c }
+take_words_from n f (takes_more t more) c = take_words_from n f more (take_word_from n f t c).cut
 
 -- Where no key is cut off, the pieces are the words that are present.
-pub words_of_cut : (q r : Roles) {cs : Cells} {os : List LinePiece} → IsWords q → NoKeys r
+pub words_of_cut : {q r : Roles} {cs : Cells} {os : List LinePiece} → IsWords q → NoKeys r
     → Cut r cs os → pieces q cs ≡ os
-words_of_cut q r n f at_end = refl
-words_of_cut q r n f (passed c) = words_of_cut q r n f c
-words_of_cut q r n f (flag {k = k} e c) = let g = f.none k in cc
-words_of_cut q r n f (argument {k = k} e v c) = let g = f.none k in cc
-words_of_cut q r n f (word {w = w} {cs = cs} {os = os} h c) =
-    begin_at w cs (pieces q cs) (alone_word q w n h) ∙ ap (λ z. One w ∷ z) (words_of_cut q r n f c)
+words_of_cut n f at_end = refl
+words_of_cut n f (passed c) = words_of_cut n f c
+words_of_cut n f (flag {k = k} e c) = let g = f.none k in cc
+words_of_cut n f (argument {k = k} e v c) = let g = f.none k in cc
+words_of_cut {q} n f (word {w = w} {cs = cs} h c) =
+    begin_at w cs (pieces q cs) (alone_word w n h) ∙ ap (λ z. One w ∷ z) (words_of_cut n f c)
 
 -- Where nothing is present the cut is empty, and only there.
 pub empty_cut : (r : Roles) {cs : Cells} → NonePresent cs → Cut r cs []
@@ -95,10 +93,10 @@ empty_cut r no_place = at_end
 empty_cut r (none_here n) = passed (empty_cut r n)
 
 -- an empty cut leaves nothing present
-pub cut_empty : (r : Roles) {cs : Cells} {os : List LinePiece} → Cut r cs os → os ≡ []
+pub cut_empty : {r : Roles} {cs : Cells} {os : List LinePiece} → Cut r cs os → os ≡ []
     → NonePresent cs
-cut_empty r at_end e = no_place
-cut_empty r (passed c) e = none_here (cut_empty r c e)
-cut_empty r (flag h c) e = absurd cc
-cut_empty r (argument h v c) e = absurd cc
-cut_empty r (word h c) e = absurd cc
+cut_empty at_end e = no_place
+cut_empty (passed c) e = none_here (cut_empty c e)
+cut_empty (flag h c) e = absurd cc
+cut_empty (argument h v c) e = absurd cc
+cut_empty (word h c) e = absurd cc
