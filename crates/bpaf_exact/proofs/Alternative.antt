@@ -92,7 +92,7 @@ module _ {env : Variables} {T : Type 0} {outcome : Outcome T} {q : Roles}
   alternative_err (alternative_missing c p same st) =
       of_missing (catch_missing c) refl p (λ c. same)
   alternative_err (alternative_refused c p b n) =
-      of_piece c (bad_nonempty value b) (λ w rest g. n g.0 rest w g.1 g.2)
+      of_piece c (bad_nonempty b) (λ w rest g. n g.0 rest w g.1 g.2)
 
   -- so it keeps to the laws of one evaluation
   pub alternative_single : SingleLaw env T outcome ByName q (FrontOf T value) (gap_of value None)
@@ -148,7 +148,7 @@ module _ {env : Variables} {A B : Type 0} {inner : Outcome A} {q : Roles}
   no_bad a n (inl h) =
       subst (HasBad B (ClosedValue value f)) (sym (first_pieces q l.named h))
       (bad_here (refused_value a.means n))
-  no_bad a n (inr h) = closed_bad (bad_given_back value l.named a.takes h)
+  no_bad a n (inr h) = closed_bad (bad_given_back l.named a.takes h)
 
   -- an inner refusal is passed on
   err_closed : {s t : Situation} {e : Error} → AlternativeErr A q value s e t

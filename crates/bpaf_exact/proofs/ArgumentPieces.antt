@@ -36,7 +36,7 @@ module _ (argument : KeyWithValue) where
 
   -- they are the keys that the argument looks for
   pub test : ByTest (is_key_with_value argument) q WithNext
-  test = by_test (is_key_with_value argument) WithNext
+  test = by_test
 
   -- they are keys
   pub named : IsNamed q
@@ -52,12 +52,12 @@ module _ (argument : KeyWithValue) where
   took_pair s t text takes =
       let m = match_of (is_key_with_value argument) s takes.key takes.first.matches in
       let b = behind_of s takes.value in
-      subst (λ z. TookPair q s z text) (sym (takes.taken ∙ pair_is s takes.key)) (record {
+      subst (λ z. TookPair q s z text) (sym (takes.taken ∙ pair_is s)) (record {
         key = m.item;
         word = b.item;
         text_is = b.text_is;
         takes = two_taken s test takes.first m b;
-        steady = two_steady s takes.key;
+        steady = two_steady;
       })
 
   -- no key: there is no piece
@@ -84,7 +84,7 @@ module _ {T : Type 0} (means : List ℕ → T → Type 0) (argument : KeyWithVal
       (subst (λ gap. SingleOk T ByName roles group gap s v (with_current s None))
       (ap (gap_of means) (sym here))
       (gave_absent refl (no_key argument s read.no_key) m (current_cells s)
-      (same_steady (steady_refl s))))
+      (same_steady (steady_refl))))
 
   -- one that means no value is refused
   pub variable_fault : {s t : Situation} {e : Error} {text : List ℕ} → s.context.env ≡ variables

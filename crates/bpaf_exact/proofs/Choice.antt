@@ -179,7 +179,7 @@ module _ (T : Type 0) (qa qb r : Roles) (u : Union qa qb r) (va vb vr : LinePiec
   won_first {cm = cm} t o (inr h) = inr (bad_left T va vr qa qb r u from_a cm h)
   won_first t (other_took tb l (inl f) rb) (inl h) = inl (first_both u h f l)
   won_first t (other_took tb l (inr f) rb) (inl h) =
-      inr (kept_bad t (bad_given_back vb u.named_right tb f))
+      inr (kept_bad t (bad_given_back u.named_right tb f))
   won_first t (other_missing e) (inl h) = inl (first_alone u e h)
   won_first t (other_refused b n) (inl h) = inr (kept_bad t b)
 
@@ -230,28 +230,28 @@ module _ {env : Variables} (T : Type 0) (a b : Outcome T) (qa qb : Roles)
   own_role (Two k w) h = ap is_own_role (apart.right k h)
 
   -- a piece of the first means what it means to the first
-  pick_first : {o : LinePiece} (v : T) → is_own qa o ≡ true → vr o v ≡ va o v
-  pick_first {o} v h = ap (λ z. MatchBool z (va o v) (vb o v)) h
+  pick_first : {o : LinePiece} {v : T} → is_own qa o ≡ true → vr o v ≡ va o v
+  pick_first {o} {v} h = ap (λ z. MatchBool z (va o v) (vb o v)) h
 
   -- one of the second what it means to the second
-  pick_second : {o : LinePiece} (v : T) → is_own qb o ≡ true → vr o v ≡ vb o v
-  pick_second {o} v h = ap (λ z. MatchBool z (va o v) (vb o v)) (own_role o h)
+  pick_second : {o : LinePiece} {v : T} → is_own qb o ≡ true → vr o v ≡ vb o v
+  pick_second {o} {v} h = ap (λ z. MatchBool z (va o v) (vb o v)) (own_role o h)
 
   -- from the first to the choice
   give_first : (o : LinePiece) (v : T) → is_own qa o ≡ true → va o v → vr o v
-  give_first o v h g = subst (λ X. X) (sym (pick_first v h)) g
+  give_first o v h g = subst (λ X. X) (sym (pick_first h)) g
 
   -- and back
   from_first : (o : LinePiece) (v : T) → is_own qa o ≡ true → vr o v → va o v
-  from_first o v h g = subst (λ X. X) (pick_first v h) g
+  from_first o v h g = subst (λ X. X) (pick_first h) g
 
   -- from the second to the choice
   give_second : (o : LinePiece) (v : T) → is_own qb o ≡ true → vb o v → vr o v
-  give_second o v h g = subst (λ X. X) (sym (pick_second v h)) g
+  give_second o v h g = subst (λ X. X) (sym (pick_second h)) g
 
   -- and back
   from_second : (o : LinePiece) (v : T) → is_own qb o ≡ true → vr o v → vb o v
-  from_second o v h g = subst (λ X. X) (pick_second v h) g
+  from_second o v h g = subst (λ X. X) (pick_second h) g
 
   -- the first branch won
   first_won : {s m t : Situation} {x : T} → AlternativeOk T qa va s x m
@@ -275,11 +275,11 @@ module _ {env : Variables} (T : Type 0) (a b : Outcome T) (qa qb : Roles)
   took_other m o l = other_took o.takes l o.first o.readable
 
   -- the other branch refused
-  err_other : {q : Roles} {v : LinePiece → T → Type 0} {s n : Situation} (cm : Cells) {e : Error}
+  err_other : {q : Roles} {v : LinePiece → T → Type 0} {s n : Situation} {cm : Cells} {e : Error}
       → is_memory e.0 ≡ false → AlternativeErr T q v s e n → Other T q v (cells s) cm
-  err_other cm {e} h (alternative_memory c) = absurd (not_memory e.0 h c)
-  err_other cm h (alternative_missing c p same st) = other_missing p
-  err_other cm h (alternative_refused c p b g) = other_refused b g
+  err_other {e} h (alternative_memory c) = absurd (not_memory e.0 h c)
+  err_other h (alternative_missing c p same st) = other_missing p
+  err_other h (alternative_refused c p b g) = other_refused b g
 
   -- both branches leave the path as it was
   err_path : {q : Roles} {v : LinePiece → T → Type 0} {s n : Situation} {e : Error}
@@ -362,10 +362,10 @@ module _ {env : Variables} (T : Type 0) (a b : Outcome T) (qa qb : Roles)
       winner_ok s t v o.1.0 w (la.ok s sa x w f) (lb.ok s sb y w g) o.1.1 o.1.2
   equal_ok s sa sb (Ok x) (Err e) w f g hf hg o =
       alone_ok (first_won (la.ok s sa x w f)
-      (err_other (cells sa) hg (lb.err s sb e w g)) (steady_refl sa) refl) o
+      (err_other hg (lb.err s sb e w g)) (steady_refl) refl) o
   equal_ok s sa sb (Err e) (Ok y) w f g hf hg o =
       alone_ok (second_won (lb.ok s sb y w g)
-      (err_other (cells sb) hf (la.err s sa e w f)) (steady_refl sb) refl) o
+      (err_other hf (la.err s sa e w f)) (steady_refl) refl) o
   equal_ok s sa sb (Err e) (Err d) w f g hf hg o = let i = o.0.2 in absurd cc
 
   -- a value of the choice is that of an alternative
@@ -422,7 +422,7 @@ module _ {env : Variables} (T : Type 0) (a b : Outcome T) (qa qb : Roles)
   -- where neither has a piece, the choice has none
   both_missing : {s : Situation} {g : Error} → (class g ≡ OfMissing) ⊎ (class g ≡ OfMemory)
       → pieces (either qa qb) (cells s) ≡ [] → AlternativeErr T (either qa qb) vr s g s
-  both_missing {s} (inl c) h = alternative_missing c h refl (steady_refl s)
+  both_missing {s} (inl c) h = alternative_missing c h refl (steady_refl)
   both_missing (inr c) h = alternative_memory c
 
   -- both branches refused

@@ -95,9 +95,9 @@ none_own q no_place = refl
 none_own q (none_here n) = none_own q n
 
 -- nor does anything open a command
-pub none_opens : (words : List (List ℕ)) {cs : Cells} → NonePresent cs → OpensNone words cs
-none_opens words no_place ds o = elim o [ ]
-none_opens words (none_here n) ds (opens_later {ds = es} o) = none_opens words n es o
+pub none_opens : {words : List (List ℕ)} {cs : Cells} → NonePresent cs → OpensNone words cs
+none_opens no_place ds o = elim o [ ]
+none_opens (none_here n) ds (opens_later {ds = es} o) = none_opens n es o
 
 module _ {env : Variables} {T : Type 0} {inner : Outcome T} {r : Roles} {words : List (List ℕ)}
     {value : CellsValue T} (l : CommandsLaw env T inner r words value) where
@@ -144,11 +144,10 @@ module _ {env : Variables} {T : Type 0} {inner : Outcome T} {r : Roles} {words :
   -- where nothing is present it is None
   none_answers : {s t : Situation} {a : Result (Option T) Error} → IsWholeIn env s
       → OptionalEval T inner s a t → NonePresent (cells s) → GivesAll (optional (cells s)) a t
-  none_answers {s} {t} w (optional_some {v = v} i) n =
-      absurd (l.none s t (Ok v) w i (none_opens words n))
+  none_answers {s} {t} w (optional_some {v = v} i) n = absurd (l.none s t (Ok v) w i (none_opens n))
   none_answers w (optional_none i stops) n = (n, n)
   none_answers {s} {t} w (optional_err {e = e} i goes) n =
-      none_stops (l.none s t (Err e) w i (none_opens words n)) goes
+      none_stops (l.none s t (Err e) w i (none_opens n)) goes
   none_answers w (optional_memory e) n = e
 
   -- each answer
@@ -475,8 +474,7 @@ module _ (V : Type 0) (outcome : Outcome V) (r : Roles) (value : CellsValue V)
   program_sound spelled (run_value {v = x} {t = t} o e) v h =
       let d : x ≡ v = cc in
       subst (λ cs. value cs v) (first_cells_are context) (subst (value (cells s)) d
-      (l.ok s t x (all_whole context) spelled o
-      (none_counted (cells t) (sym (open_present t) ∙ e))))
+      (l.ok s t x (all_whole) spelled o (none_counted (cells t) (sym (open_present t) ∙ e))))
   program_sound spelled {a} (run_leftover o e n) v h = absurd (no_value a n h)
   program_sound spelled (run_memory o e) v h = absurd cc
   program_sound spelled {a} (run_refusal o e n) v h = absurd (no_value a n h)
@@ -485,13 +483,12 @@ module _ (V : Type 0) (outcome : Outcome V) (r : Roles) (value : CellsValue V)
   pub program_complete : {a : RunAnswer V} → RunRan V outcome s a → (u : V)
       → value (line_cells context) u → IsAcceptedOrWant (value (line_cells context)) a
   program_complete (run_value {v = x} {t = t} o e) u h =
-      subst (λ cs. value cs x) (first_cells_are context)
-      (l.answers s t (Ok x) u (all_whole context) o
+      subst (λ cs. value cs x) (first_cells_are context) (l.answers s t (Ok x) u (all_whole) o
       (subst (λ cs. value cs u) (sym (first_cells_are context)) h)).0
   program_complete (run_leftover {v = x} {t = t} o e n) u h =
-      absurd (e (open_present t ∙ count_none (l.answers s t (Ok x) u (all_whole context) o
+      absurd (e (open_present t ∙ count_none (l.answers s t (Ok x) u (all_whole) o
       (subst (λ cs. value cs u) (sym (first_cells_are context)) h)).1))
   program_complete (run_memory o e) u h = tt
   program_complete (run_refusal {e = x} {t = t} o e n) u h =
-      absurd (e (l.answers s t (Err x) u (all_whole context) o
+      absurd (e (l.answers s t (Err x) u (all_whole) o
       (subst (λ cs. value cs u) (sym (first_cells_are context)) h)))

@@ -36,8 +36,8 @@ unfolding cells
 first_cells_are context = same_cells (item_in context) (length context.line) (open_at_first context)
 
 -- at the beginning the scope is the whole line
-pub all_whole : (context : Context) → IsWholeIn context.env (beginning context)
-all_whole context = record { end = refl; front = λ p l. absurd (omega arith); environment = refl }
+pub all_whole : {context : Context} → IsWholeIn context.env (beginning context)
+all_whole = record { end = refl; front = λ p l. absurd (omega arith); environment = refl }
 
 -- no value is none
 pub no_value : {V : Type 0} (a : RunAnswer V) {v : V} → IsNoValue a → a ≡ Accepted v → ⊥
@@ -73,7 +73,7 @@ module _ {V : Type 0} {outcome : Outcome V} {r : Roles} {reading : FieldsReading
       → RecordValue r reading.value context v
   sound (run_value {v = x} {t = t} o e) v h =
       let d : x ≡ v = cc in
-      let i = l.ok s t x (all_whole context) o (nothing_left o e) in
+      let i = l.ok s t x (all_whole) o (nothing_left o e) in
       subst (λ z. RecordValue r reading.value context z) d (to_line i)
   sound {a} (run_leftover o e n) v h = absurd (no_value a n h)
   sound (run_memory o e) v h = absurd cc
@@ -84,12 +84,12 @@ module _ {V : Type 0} {outcome : Outcome V} {r : Roles} {reading : FieldsReading
       → Cut r (line_cells context) os → reading.each os
       → IsAcceptedOrWant (λ w. RecordValue r reading.value context w) a
   complete (run_value {v = x} {t = t} o e) os c h =
-      to_line (l.ok s t x (all_whole context) o (nothing_left o e))
+      to_line (l.ok s t x (all_whole) o (nothing_left o e))
   complete (run_leftover {v = x} {t = t} o e n) os c h =
-      absurd (e (counts_none t o (l.takes_all s t x os (all_whole context) o (from_line c) h)))
+      absurd (e (counts_none t o (l.takes_all s t x os (all_whole) o (from_line c) h)))
   complete (run_memory o e) os c h = tt
   complete (run_refusal {e = x} {t = t} o e n) os c h =
-      absurd (e (l.refuses s t x os (all_whole context) o (from_line c) h))
+      absurd (e (l.refuses s t x os (all_whole) o (from_line c) h))
 
   -- where one has none, no answer is a value: the line has one cut
   refused : {a : RunAnswer V} → RunRan V outcome s a → (os : List LinePiece)

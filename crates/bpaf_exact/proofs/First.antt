@@ -56,7 +56,7 @@ takes_nonempty {q} (takes_later {c = Some k} {cs = cs} t) h =
 
 -- A piece that can't be read stays one when others are given back.
 
-module _ {T : Type 0} (value : LinePiece → T → Type 0) where
+module _ {T : Type 0} {value : LinePiece → T → Type 0} where
   -- a piece that can't be read is one
   pub bad_nonempty : {os : List LinePiece} → HasBad T value os → os ≡ [] → ⊥
   bad_nonempty (bad_here h) e = cc
@@ -112,9 +112,9 @@ either_left Foreign y e = absurd cc
 either_left _ y e = refl
 
 -- so is one of the second
-either_right : (x y : Role) → x ≡ Foreign → either_role x y ≡ y
-either_right Foreign y e = refl
-either_right _ y e = absurd cc
+either_right : (x : Role) {y : Role} → x ≡ Foreign → either_role x y ≡ y
+either_right Foreign e = refl
+either_right _ e = absurd cc
 
 -- the items of two fields that share none
 pub either_union : {qa qb : Roles} → IsNamed qa → IsNamed qb → Apart qa qb
@@ -124,8 +124,8 @@ either_union {qa} {qb} na nb a = record {
   named_left = na;
   named_right = nb;
   left = λ k e. either_left (qa k) (qb k) e;
-  right = λ k e. either_right (qa k) (qb k) (a.right k e);
-  none = λ k e f. either_right (qa k) (qb k) e ∙ f;
+  right = λ k e. either_right (qa k) (a.right k e);
+  none = λ k e f. either_right (qa k) e ∙ f;
 }
 
 -- they are keys
@@ -172,8 +172,8 @@ pub data Belongs (qa qb r : Roles) (k : Arg) : Type 0 where
   to_none : qa k ≡ Foreign → qb k ≡ Foreign → r k ≡ Foreign → Belongs qa qb r k
 
 -- an item belongs to one of both, or to neither
-pub belongs : {qa qb r : Roles} (k : Arg) → Union qa qb r → Belongs qa qb r k
-belongs {qa} {qb} {r} k u = by_role (qa k) (qb k) refl refl
+pub belongs : {qa qb r : Roles} {k : Arg} → Union qa qb r → Belongs qa qb r k
+belongs {qa} {qb} {r} {k} u = by_role (qa k) (qb k) refl refl
   where
     by_role : (x y : Role) → qa k ≡ x → qb k ≡ y → Belongs qa qb r k
     by_role Foreign Foreign e f = to_none e f (u.none k e f)
@@ -205,8 +205,7 @@ owner {qa} {qb} (None ∷ cs) {o} u e = passed_by (owner cs u e)
         × (is_own qb o ≡ true)
     passed_by (inl h) = inl (same_head h.0, h.1)
     passed_by (inr h) = inr (same_head h.0, h.1)
-owner {qa} {qb} {r} (Some k ∷ cs) {o} {os} u e =
-    by_owner (belongs k u) (λ h. owner cs u (skipped h))
+owner {qa} {qb} {r} (Some k ∷ cs) {o} {os} u e = by_owner (belongs u) (λ h. owner cs u (skipped h))
   where
     skipped : r k ≡ Foreign → pieces r cs ≡ o ∷ os
     skipped f = sym (begin_at k cs (pieces r cs) f) ∙ e
@@ -250,7 +249,7 @@ owner {qa} {qb} {r} (Some k ∷ cs) {o} {os} u e =
 not_either : {qa qb r : Roles} {k : Arg} (cs : Cells) {o : LinePiece} {os : List LinePiece}
     → Union qa qb r → qa k ≡ Foreign → is_own qa o ≡ true → pieces r (Some k ∷ cs) ≡ o ∷ os
     → (r k ≡ Foreign) × (pieces r cs ≡ o ∷ os)
-not_either {qa} {qb} {r} {k} cs {o} {os} u f h e = by_owner (belongs k u)
+not_either {qa} {qb} {r} {k} cs {o} {os} u f h e = by_owner (belongs u)
   where
     by_owner : Belongs qa qb r k → (r k ≡ Foreign) × (pieces r cs ≡ o ∷ os)
     by_owner (to_first g x y) = absurd (own_or_not (qa k) g f)

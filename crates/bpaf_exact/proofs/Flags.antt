@@ -34,7 +34,7 @@ module _ {T : Type 0} (clones : T → T → Type 0) (key : Key) (present : T) wh
 
   -- they are the keys that the flag looks for
   test : ByTest (is_key_of key.names) q Alone
-  test = by_test (is_key_of key.names) Alone
+  test = by_test
 
   -- they are keys
   named : IsNamed q
@@ -50,7 +50,7 @@ module _ {T : Type 0} (clones : T → T → Type 0) (key : Key) (present : T) wh
   flag_found s v takes y =
       let m = match_of (is_key_of key.names) s takes.0 takes.1.matches in
       subst (AlternativeOk T q value s v) (sym takes.2)
-      (first_alternative value (take_steady s takes.0) y (one_taken test takes.1 m))
+      (first_alternative value (take_steady) y (one_taken test takes.1 m))
 
 -- a flag that must be there
 module _ {T : Type 0} (clones : T → T → Type 0) (key : Key) (present : T)
@@ -135,14 +135,13 @@ module _ {T : Type 0} (clones : T → T → Type 0) (key : Key) (present : T) (a
       let h = one_taken own takes.1 m in
       let e = first_pieces roles (named clones key present) h in
       subst (SingleOk T ByName roles group gap s v) (sym takes.2)
-      (took (took_front (FlagValue (clones present)) (take_steady s takes.0) h e y
-      (λ none. absurd cc)))
+      (took (took_front (FlagValue (clones present)) (take_steady) h e y (λ none. absurd cc)))
 
   switch_none : {s t : Situation} {v : T} → HasNone (is_key_of key.names) s → t ≡ s
       → (gap.has ≡ true) × gap.absent v → SingleOk T ByName roles group gap s v t
   switch_none {s} {v} none same g =
       subst (SingleOk T ByName roles group gap s v) (sym same) (gave_absent g.0
-      (no_pieces s (test clones key present) none) g.1 refl (steady_refl s))
+      (no_pieces s (test clones key present) none) g.1 refl (steady_refl))
 
   -- a name that is set here is set in these variables
   set_here : (s : Situation) {b : Bool} → s.context.env ≡ variables

@@ -22,23 +22,22 @@ behind_first first behind e =
     (ap (λ z. first ++ z) (drop-append_seam first behind))
 
 -- what a repeat takes and what it leaves are all
-each_back : (b : Bool) (os : List LinePiece)
-    → front (EachWord b) os ++ back (EachWord b) os ≡ os
-each_back false os = behind_first os [] (append-nil os)
-each_back true os =
+each_back : (b : Bool) {os : List LinePiece} → front (EachWord b) os ++ back (EachWord b) os ≡ os
+each_back false {os} = behind_first os [] (append-nil os)
+each_back true {os} =
     let n = position_or_len is_behind os in
     behind_first (take n os) (drop n os) (take-append-drop n os)
 
 -- so it is with any field
-front_back : (k : FieldKind) (os : List LinePiece) → front k os ++ back k os ≡ os
-front_back ByName os = append-nil os
-front_back (EachWord b) os = each_back b os
-front_back (OneWord b) os =
+front_back : (k : FieldKind) {os : List LinePiece} → front k os ++ back k os ≡ os
+front_back ByName {os} = append-nil os
+front_back (EachWord b) = each_back b
+front_back (OneWord b) {os} =
     let words = front (EachWord b) os in
     let rest = back (EachWord b) os in
     behind_first (take 1 words) (drop 1 words ++ rest)
     (sym (append_assoc (take 1 words) (drop 1 words) rest)
-    ∙ (ap (λ z. z ++ rest) (take-append-drop 1 words) ∙ each_back b os))
+    ∙ (ap (λ z. z ++ rest) (take-append-drop 1 words) ∙ each_back b))
 
 -- of nothing it takes nothing
 pub front_nil : (k : FieldKind) → front k [] ≡ []
@@ -56,7 +55,7 @@ back_all _ {os} none = ap (λ z. drop (length z) os) none
 -- where a field leaves none it takes all
 pub all_front : (k : FieldKind) {os : List LinePiece} → back k os ≡ [] → front k os ≡ os
 all_front k {os} none =
-    sym (append-nil (front k os)) ∙ (ap (λ z. front k os ++ z) (sym none) ∙ front_back k os)
+    sym (append-nil (front k os)) ∙ (ap (λ z. front k os ++ z) (sym none) ∙ front_back k)
 
 -- where a field takes none, nor does a repeat of it
 pub each_nil : (k : FieldKind) (os : List LinePiece) → front k os ≡ [] → front (repeated k) os ≡ []
@@ -109,15 +108,14 @@ pub front_one : (b : Bool) (o : LinePiece) (os : List LinePiece) → (b ≡ true
 front_one b o os clear = ap (take 1) (front_more os clear)
 
 -- and leaves the others
-pub back_one : (b : Bool) (o : LinePiece) (os : List LinePiece) → (b ≡ true → is_behind o ≡ false)
+pub back_one : (b : Bool) (o : LinePiece) {os : List LinePiece} → (b ≡ true → is_behind o ≡ false)
     → back (OneWord b) (o ∷ os) ≡ os
-back_one b o os clear = ap (λ z. drop (length z) (o ∷ os)) (front_one b o os clear)
+back_one b o {os} clear = ap (λ z. drop (length z) (o ∷ os)) (front_one b o os clear)
 
 -- what a field takes is the first piece
 pub of_front_one : (b : Bool) (os : List LinePiece) (o : LinePiece) → front (OneWord b) os ≡ o ∷ []
     → os ≡ o ∷ back (OneWord b) os
-of_front_one b os o e =
-    sym (front_back (OneWord b) os) ∙ ap (λ z. z ++ back (OneWord b) os) e
+of_front_one b os o e = sym (front_back (OneWord b)) ∙ ap (λ z. z ++ back (OneWord b) os) e
 
 -- what a repeat takes begins with the first piece, and goes on with what it takes of the others
 pub of_front_more : (b : Bool) (os : List LinePiece) (o : LinePiece) {rest : List LinePiece}

@@ -52,9 +52,9 @@ pub record ByTest (test : Arg → Bool) (r : Roles) (own : Role) : Type 0 where
   pub no : (k : Arg) → test k ≡ false → r k ≡ Foreign
 
 -- the roles that a test gives
-pub by_test : (test : Arg → Bool) (own : Role)
+pub by_test : {test : Arg → Bool} {own : Role}
     → ByTest test (λ k. if test k then own else Foreign) own
-by_test test own = record {
+by_test {own} = record {
   yes = λ k e. ap (λ b. if b then own else Foreign) e;
   no = λ k e. ap (λ b. if b then own else Foreign) e;
 }
@@ -150,8 +150,8 @@ abbrev pub taken_pair : Situation → ℕ → Situation
 taken_pair s p = take_place (take_place s p) (suc p)
 
 -- a place and the next, in two spellings
-pub pair_is : (s : Situation) (p : ℕ) → take_place (take_place s p) (p + 1) ≡ taken_pair s p
-pair_is s p = ap (λ q. take_place (take_place s p) q) (add-one p)
+pub pair_is : (s : Situation) {p : ℕ} → take_place (take_place s p) (p + 1) ≡ taken_pair s p
+pair_is s {p} = ap (λ q. take_place (take_place s p) q) (add-one p)
 
 -- the first match, taken with the value behind it
 pub two_taken : {test : Arg → Bool} {r : Roles} (s : Situation) {p : ℕ} {text : List ℕ}
@@ -163,8 +163,8 @@ two_taken s {p} t f m b =
     (none_before t f) (open_two s p)
 
 -- taking both changes what is taken and the current place alone
-pub two_steady : (s : Situation) (p : ℕ) → Steady s (taken_pair s p)
-two_steady s p = steady_trans (take_steady s p) (take_steady (take_place s p) (suc p))
+pub two_steady : {s : Situation} {p : ℕ} → Steady s (taken_pair s p)
+two_steady = steady_trans (take_steady) (take_steady)
 
 -- the first match heads the pieces as it stands, where no value is behind it
 pub bare_taken : {test : Arg → Bool} {r : Roles} {s : Situation} {p : ℕ} → ByTest test r WithNext
@@ -201,7 +201,7 @@ pub missing_same : {T : Type 0} {q : Roles} (value : LinePiece → T → Type 0)
     → AlternativeErr T q value s e t
 missing_same {T} {q} value {s} {e} c p same =
     subst (λ z. AlternativeErr T q value s e z) (sym same)
-    (alternative_missing c p refl (steady_refl s))
+    (alternative_missing c p refl (steady_refl))
 
 -- a refusal that names a missing item says that items are missing
 misses : (s : Situation) (part : Option Part) (m : Message) → MissesItem s part m

@@ -57,7 +57,7 @@ module _ {p q r : Roles} (u : Union p q r) where
   pub mine_of_both : (cs : Cells) → mine p (pieces r cs) ≡ pieces p cs
   mine_of_both [] = refl
   mine_of_both (None ∷ cs) = mine_of_both cs
-  mine_of_both (Some k ∷ cs) = by_owner (belongs k u) (mine_of_both cs)
+  mine_of_both (Some k ∷ cs) = by_owner (belongs u) (mine_of_both cs)
     where
       by_owner : Belongs p q r k → mine p (pieces r cs) ≡ pieces p cs
           → mine p (pieces r (Some k ∷ cs)) ≡ pieces p (Some k ∷ cs)
@@ -74,7 +74,7 @@ module _ {p q r : Roles} (u : Union p q r) where
   pub others_of_both : (cs : Cells) → others p (pieces r cs) ≡ pieces q cs
   others_of_both [] = refl
   others_of_both (None ∷ cs) = others_of_both cs
-  others_of_both (Some k ∷ cs) = by_owner (belongs k u) (others_of_both cs)
+  others_of_both (Some k ∷ cs) = by_owner (belongs u) (others_of_both cs)
     where
       by_owner : Belongs p q r k → others p (pieces r cs) ≡ pieces q cs
           → others p (pieces r (Some k ∷ cs)) ≡ pieces q (Some k ∷ cs)

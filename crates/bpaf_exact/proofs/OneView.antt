@@ -244,10 +244,8 @@ module _ (env : Variables) (T X : Type 0) (see : T → X) (inner : Outcome T) wh
       by_value : (cs : Cells) → Alike (option_map see) (OptionalCommands T value cs)
       by_value cs (Some x) (Some y) a b = ap Some (u cs x y a b)
       by_value cs None None a b = refl
-      by_value cs (Some x) None a none =
-          absurd (none_opens words none _ (l.commands.opened cs x a).1)
-      by_value cs None (Some y) none b =
-          absurd (none_opens words none _ (l.commands.opened cs y b).1)
+      by_value cs (Some x) None a none = absurd (none_opens none _ (l.commands.opened cs x a).1)
+      by_value cs None (Some y) none b = absurd (none_opens none _ (l.commands.opened cs y b).1)
   optional_field_view names words s l u =
       whole_view (λ k. k) (OptionalValue T) (optional_value_view) names words s l u
 
@@ -338,12 +336,12 @@ module _ (T X : Type 0) (see : T → X) where
       e.complete h.cut_into (read_cut h) (l.has_each h.cut_into v h.read)
 
   -- all that is read off the same cells looks alike
-  reads_one : (env : Variables) (outcome : Outcome T) (names : List Names)
-      (words : List (List ℕ)) (s : ProgramForm T) → IsNamed (product_roles (whole_program s))
-      → FormLaw env outcome names words s → HasOneView see s → (cs : Cells)
+  reads_one : (env : Variables) (outcome : Outcome T) (names : List Names) (words : List (List ℕ))
+      (s : ProgramForm T) → IsNamed (product_roles (whole_program s))
+      → FormLaw env outcome names words s → HasOneView see s → {cs : Cells}
       → Alike see (ReadOff T (product_roles (whole_program s))
       (product_reading (whole_program s)).value cs)
-  reads_one env outcome names words s named l u cs v w a b =
+  reads_one env outcome names words s named l u v w a b =
       let c = one_cut named (read_cut a) (read_cut b) in
       product_view (whole_program s) (record_view env outcome names words s l u) b.cut_into v w
       (subst (λ os. (product_reading (whole_program s)).value os v) c a.read) b.read
@@ -354,15 +352,15 @@ module _ (T X : Type 0) (see : T → X) where
       → HasOneView see s → (cs : Cells) → Alike see (program_value s cs)
   values_look_one env outcome names words (alternative wide q value) l u cs v w a b =
       reads_one env outcome names words (alternative wide q value)
-      (whole_law env T outcome names words (alternative wide q value) l).0.named l u cs v w a b
+      (whole_law env T outcome names words (alternative wide q value) l).0.named l u v w a b
   values_look_one env outcome names words (single wide k q group gap) l u cs v w a b =
       reads_one env outcome names words (single wide k q group gap)
-      (whole_law env T outcome names words (single wide k q group gap) l).0.named l u cs v w a b
+      (whole_law env T outcome names words (single wide k q group gap) l).0.named l u v w a b
   values_look_one env outcome names words (complete wide k q value) l u cs v w a b =
       reads_one env outcome names words (complete wide k q value)
-      (whole_law env T outcome names words (complete wide k q value) l).0.named l u cs v w a b
+      (whole_law env T outcome names words (complete wide k q value) l).0.named l u v w a b
   values_look_one env outcome names words (product wide named q fields) l u cs v w a b =
-      reads_one env outcome names words (product wide named q fields) l.0.named l u cs v w a b
+      reads_one env outcome names words (product wide named q fields) l.0.named l u v w a b
   values_look_one env outcome names words (commands optional value) l u cs v w a b = u cs v w a b
   values_look_one env outcome names words (before_commands value) l u cs v w a b = u cs v w a b
   values_look_one env outcome names words no_program l u cs v w a b = absurd a
@@ -376,5 +374,5 @@ module _ (T X : Type 0) (see : T → X) where
   runs_to_one outcome names words s h context l u a v ran r =
       like_this (record_law context.env T outcome names words s h l)
       (reads_one context.env outcome names words s
-      (record_law context.env T outcome names words s h l).named l u (line_cells context)) a v
+      (record_law context.env T outcome names words s h l).named l u) a v
       (runs_exactly T outcome names words s h context l a ran) r

@@ -12,8 +12,8 @@ use Rattle.bpaf_exact.specs.{Pieces.with_next, Pieces.pieces, Flat.first_cells, 
 use Rattle.bpaf_exact.proofs.Cells.{begin_at}
 
 -- taking a place changes what is taken and the current place alone
-pub take_steady : (s : Situation) (p : ℕ) → Steady s (take_place s p)
-take_steady s p =
+pub take_steady : {s : Situation} {p : ℕ} → Steady s (take_place s p)
+take_steady {s} {p} =
     record { context = refl; start = refl; end = refl; path = refl; keeps = taken_stays s p }
 
 -- what is at the first places decides their cells
@@ -133,11 +133,11 @@ pub record BareHead (r : Roles) (cs : Cells) (k : Arg) : Type 0 where
   pub is : pieces r cs ≡ One k ∷ tail
 
 -- a key before no value is a piece by itself
-bare_next : (k : Arg) (at : ℕ → Option Arg) (n : ℕ)
+bare_next : {k : Arg} (at : ℕ → Option Arg) (n : ℕ)
     → ((w : Arg) → at zero ≡ Some w → is_value w ≡ true → ⊥)
     → with_next k (first_cells at n) ≡ One k
-bare_next k at zero none = refl
-bare_next k at (suc n) none = by_cell (at zero) none
+bare_next at zero none = refl
+bare_next {k} at (suc n) none = by_cell (at zero) none
   where
     by_value : (w : Arg) (b : Bool) → (b ≡ true → ⊥) → (if b then Two k w else One k) ≡ One k
     by_value w true f = absurd (f refl)
@@ -163,7 +163,7 @@ pub bare_first : {r : Roles} {at : ℕ → Option Arg} (n p : ℕ) {k : Arg} →
     → BareHead r (first_cells at n) k
 bare_first zero p l e h none bare = absurd (omega arith)
 bare_first {r} {at} (suc n) zero {k} l e h none bare =
-    bare_key r k _ e h (bare_next k (λ q. at (suc q)) n bare)
+    bare_key r k _ e h (bare_next (λ q. at (suc q)) n bare)
 bare_first {r} {at} (suc n) (suc p) l e h none bare =
     let i = bare_first n p (omega arith) e h (tail_before none) bare in
     record { tail = i.tail; is = pass_head r (at zero) _ (none.before zero (omega arith)) ∙ i.is }

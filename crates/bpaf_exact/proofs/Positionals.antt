@@ -53,7 +53,7 @@ module _ {T : Type 0} {b : Bool} {value : LinePiece → T → Type 0}
 
   -- the words are the positional items
   test : ByTest is_positional word_roles Alone
-  test = by_test is_positional Alone
+  test = by_test
 
   -- the first word heads the pieces
   word_pieces : {cs ds : Cells} {o : LinePiece} → TakesFirst word_roles cs o ds
@@ -84,7 +84,7 @@ module _ {T : Type 0} {b : Bool} {value : LinePiece → T → Type 0}
         word = m.item;
         text_is = sym (ap (option_and_then word_text) at) ∙ takes.is;
         takes = one_taken test takes.first m;
-        steady = take_steady s p;
+        steady = take_steady;
       })
 
   -- a word that may be taken is
@@ -131,7 +131,7 @@ module _ {T : Type 0} {b : Bool} {value : LinePiece → T → Type 0}
     by_front = λ os v rest g. let may : b ≡ true → is_behind g.0 ≡ false = λ h. clear h g.0
         v g.2 in (
           (g.0, ap (front (OneWord b)) g.1 ∙ front_one b g.0 rest may, g.2),
-          sym (ap (back (OneWord b)) g.1 ∙ back_one b g.0 rest may),
+          sym (ap (back (OneWord b)) g.1 ∙ back_one b g.0 may),
         );
     of_front = λ os v g. (g.0, of_front_one b os g.0 g.1, g.2);
     by_each = λ os v rest g. let may : b ≡ true → is_behind g.0 ≡ false = λ h. clear h g.0

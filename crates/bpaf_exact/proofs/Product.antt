@@ -28,8 +28,8 @@ none_outside_after w k = record {
 }
 
 -- nothing has changed
-pub steady_refl : (s : Situation) → Steady s s
-steady_refl s = record { context = refl; start = refl; end = refl; path = refl; keeps = λ p h. h }
+pub steady_refl : {s : Situation} → Steady s s
+steady_refl = record { context = refl; start = refl; end = refl; path = refl; keeps = λ p h. h }
 
 -- nor in two steps
 pub steady_trans : {s m t : Situation} → Steady s m → Steady m t → Steady s t

@@ -38,9 +38,9 @@ cells_if true s said h = h refl
 cells_if false s said h = tt
 
 -- what says so with a closure round it
-closed_said : {A B : Type 0} (f : Closure A B) {value said : CellsValue A} → IsSaid value said
+closed_said : {A B : Type 0} {f : Closure A B} {value said : CellsValue A} → IsSaid value said
     → IsSaid (ClosedValue value f) (ClosedValue said f)
-closed_said f h cs v c = record { from = c.from; read = h cs c.from c.read; made = c.made }
+closed_said h cs v c = record { from = c.from; read = h cs c.from c.read; made = c.made }
 
 -- no repeat or default of what says so of cells
 completed_cells : {T B : Type 0} (kind : FieldKind → FieldKind)
@@ -56,7 +56,7 @@ module _ {P Q A B : Type 0} (inside : Q → P) (q : Q) where
   pub program_closed_says : {s : ProgramForm A} {said : ProgramSaid P A} {kind : SaidKind}
       {names : List Names} (f : Q → Closure A B) → ProgramSays names s kind said (inside q)
       → ProgramSays names (program_closed (f q) s) kind (said_closed inside f said) q
-  program_closed_says {said = of_pieces said} f h = record { by = closed_says (f q) h.by }
+  program_closed_says {said = of_pieces said} f h = record { by = closed_says h.by }
   program_closed_says {s} {said = of_cells said} f h = record { by = by_form s h.by }
     where
       by_form : (s : ProgramForm A) → CellsSay s (said (inside q))
@@ -64,7 +64,7 @@ module _ {P Q A B : Type 0} (inside : Q → P) (q : Q) where
       by_form (alternative wide r value) h = absurd h
       by_form (single wide k r group gap) h = absurd h
       by_form (complete wide k r value) h = absurd h
-      by_form (commands optional value) h = closed_said (f q) h
+      by_form (commands optional value) h = closed_said h
       by_form _ h = tt
 
 module _ {P Q T : Type 0} (inside : Q → P) (q : Q) {s : ProgramForm T} {said : ProgramSaid P T}
@@ -471,12 +471,12 @@ pub program_con_says : (env : Variables) {P Q A B : Type 0} (fields : Q → P) (
     → ProgramSays (names (fields q)) (program_con (makes q) s) (form_kind s)
     (said_con fields names makes said) q
 program_con_says env fields q outcome names makes {s} {said = of_all_pieces said} law g =
-    record { by = con_says (makes q) (owned env outcome [] s law) g.by }
+    record { by = con_says (owned env outcome [] s law) g.by }
 program_con_says env {A = A} fields q outcome names makes {s} {said = of_all_cells said} law g =
     record { by = by_form s g.by }
   where
     by_form : (s : ProgramForm A) → CellsSay s (said (fields q))
         → CellsSay (program_con (makes q) s) (ClosedValue (said (fields q)) (makes q))
     by_form (product wide named r fields) h = absurd h
-    by_form (before_commands value) h = closed_said (makes q) h
+    by_form (before_commands value) h = closed_said h
     by_form _ h = tt

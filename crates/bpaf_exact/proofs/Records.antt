@@ -52,7 +52,7 @@ module _ {env : Variables} {T : Type 0} {outcome : Outcome T} {k : FieldKind} {q
       → ReadOff T (either (keys k q) no_roles) (last_reading k q value).value (cells s) v
   last_reads s t v w o n =
       let i = l.ok s t v w o in
-      let c = empty_cut no_roles n in
+      let c = empty_cut n in
       let p = step_back k value l.own before_none i c in
       read_off (last_reading k q value).value keys_named p.cut (
         subst (λ os. value os v) p.own (i.read (none_left k q l.own before_none c)),

@@ -30,8 +30,8 @@ some_trans takes_none b = b
 some_trans (takes_more t more) b = takes_more t (some_trans more b)
 
 -- where the cells are the same none was taken
-pub same_takes : (q : Roles) {cs ds : Cells} → ds ≡ cs → TakesPieces q cs ds
-same_takes q {cs = cs} e = subst (TakesPieces q cs) (sym e) takes_none
+pub same_takes : {q : Roles} {cs ds : Cells} → ds ≡ cs → TakesPieces q cs ds
+same_takes {q} {cs = cs} e = subst (TakesPieces q cs) (sym e) takes_none
 
 -- what has an own list can be read
 readable : {T : Type 0} (k : FieldKind) {group : Groups T} (os : List LinePiece) {vs : List T}
@@ -144,19 +144,19 @@ module _ {env : Variables} {T : Type 0} {inner : Outcome T} {k : FieldKind} {q :
       → (gap.has ≡ true → (a : T) × gap.absent a) → Took s [] t
   ended {s} st p e ab = record {
     steady = st;
-    takes = same_takes q e;
+    takes = same_takes e;
     none = ap (pieces q) e ∙ all_left s p;
     list = subst (λ os. Own T group os []) (sym (own_none_left s p)) own_none;
     absent = ab;
   }
 
   -- a turn that stops after a value
-  stop_after : (s : Situation) {m : Situation} {e : Error} → Stops e s m
-      → SingleErr T k q group gap s e m → Took s [] s
-  stop_after s h refused =
+  stop_after : {s m : Situation} {e : Error} → Stops e s m → SingleErr T k q group gap s e m
+      → Took s [] s
+  stop_after h refused =
       let a = catch_none (stopped_by h) refused in
       let g = a.0 in
-      ended (steady_refl s) a.1 refl (λ i. absurd cc)
+      ended (steady_refl) a.1 refl (λ i. absurd cc)
 
   -- one value more
   took_more : {s m t : Situation} {v : T} {vs : List T} → TookGroup T k q group s v m → Took m vs t
@@ -187,8 +187,7 @@ module _ {env : Variables} {T : Type 0} {inner : Outcome T} {k : FieldKind} {q :
       → TurnOutcome inner false false s (Ok None) t → Took s [] t
   stop_took s {t} w (inl o) = enough_took o.3 (l.ok s t o.0 w o.1)
   stop_took s w (inr o) =
-      subst (λ z. Took s [] z) (sym o.1)
-      (stop_after s (stops_at o.0.3) (l.err s o.0.1 o.0.0 w o.0.2))
+      subst (λ z. Took s [] z) (sym o.1) (stop_after (stops_at o.0.3) (l.err s o.0.1 o.0.0 w o.0.2))
 
   -- Once it has the first value, a repeat that answers has read all its pieces.
   later_took : (vs : List T) {s m t : Situation} → IsWholeIn env s → Turns inner false false s vs m
@@ -242,7 +241,7 @@ module _ {env : Variables} {T : Type 0} {inner : Outcome T} {k : FieldKind} {q :
       let none : us ≡ [] = own_nil (same_own s m same ∙ own_none_left s p) i.list in
       record {
         steady = steady_trans st i.steady;
-        takes = some_trans (same_takes q same) i.takes;
+        takes = some_trans (same_takes same) i.takes;
         none = i.none ∙ same_left s m same;
         list = absent_alone s m none h p ab;
       }
@@ -260,7 +259,7 @@ module _ {env : Variables} {T : Type 0} {inner : Outcome T} {k : FieldKind} {q :
       → SingleOk T k q group gap s v t → RepeatTook s (v ∷ []) t
   first_idle s t w e (gave_absent h p ab same st) = record {
     steady = st;
-    takes = same_takes q same;
+    takes = same_takes same;
     none = ap (pieces q) same ∙ all_left s p;
     list = absent_alone s t refl h p ab;
   }
@@ -272,7 +271,7 @@ module _ {env : Variables} {T : Type 0} {inner : Outcome T} {k : FieldKind} {q :
       → SingleErr T k q group gap s e m → RepeatTook s [] s
   first_stop s h refused =
       let a = catch_none (stopped_by h) refused in record {
-        steady = steady_refl s;
+        steady = steady_refl;
         takes = takes_none;
         none = all_left s a.1;
         list = listed a.0 (subst (λ os. Own T group os []) (sym (own_none_left s a.1)) own_none);

@@ -63,14 +63,14 @@ module _ {T : Type 0} (clones : T → T → Type 0) (present : T) where
   flag_gap_says absent (Some text) v m = says_variable text refl refl m
 
   -- whichever it may be
-  key_says : {names : List Names} (wide may_choose : Bool) (key : Key) (absent : Option T)
-      (set : Option (List ℕ))
+  key_says : {names : List Names} (wide may_choose : Bool) (key : Key) {absent : Option T}
+      {set : Option (List ℕ)}
       → Says names (key_field wide may_choose (flag_roles key.names) (FlagValue (clones present))
       (FrontOf T (FlagValue (clones present)))
-      (gap_of clones (value_without_key present absent set)))
-      (of_kind ByName) (FlagSays clones present absent set)
-  key_says wide true key absent set = record { by = (refl, present_piece) }
-  key_says wide false key absent set = record {
+      (gap_of clones (value_without_key present absent set))) (of_kind ByName)
+      (FlagSays clones present absent set)
+  key_says wide true key = record { by = (refl, present_piece) }
+  key_says wide false key {absent} {set} = record {
     by = (refl, front_says (FlagValue (clones present)) present_piece, flag_gap_says absent set);
   }
 
@@ -79,8 +79,7 @@ module _ {T : Type 0} (clones : T → T → Type 0) (present : T) where
       → Says names (flag_field clones key present absent variables) (of_kind ByName)
       (FlagSays clones present absent (first_set variables key.envs))
   flag_says key absent variables =
-      key_says (not (is_nil key.envs)) (is_nil key.envs && is_none absent) key absent
-      (first_set variables key.envs)
+      key_says (not (is_nil key.envs)) (is_nil key.envs && is_none absent) key
 
 -- an argument
 module _ {T : Type 0} (means : List ℕ → T → Type 0) where
@@ -109,15 +108,13 @@ module _ {T : Type 0} (means : List ℕ → T → Type 0) where
 
   -- whichever it may be
   option_says : {names : List Names} (wide may_choose : Bool) (argument : KeyWithValue)
-      (set : Option (List ℕ))
-      → Says names (key_field wide may_choose
-      (argument_roles argument.adjacent argument.named.names) (ArgumentValue means)
-      (argument_group means argument.last) (gap_of means set))
-      (of_kind ByName) (ArgumentSays means argument.last set)
-  option_says wide true argument set = record { by = (refl, pair_piece) }
-  option_says wide false argument set = record {
-    by = (refl, argument_group_says argument.last, argument_gap_says set);
-  }
+      {set : Option (List ℕ)}
+      → Says names (key_field wide may_choose (argument_roles argument.adjacent
+      argument.named.names) (ArgumentValue means) (argument_group means argument.last)
+      (gap_of means set)) (of_kind ByName) (ArgumentSays means argument.last set)
+  option_says wide true argument = record { by = (refl, pair_piece) }
+  option_says wide false argument {set} =
+      record { by = (refl, argument_group_says argument.last, argument_gap_says set) }
 
   -- so it is with its field
   pub argument_says : {names : List Names} (argument : KeyWithValue) (variables : Variables)
@@ -126,7 +123,6 @@ module _ {T : Type 0} (means : List ℕ → T → Type 0) where
   argument_says argument variables =
       option_says (argument.adjacent || not (is_nil argument.named.envs))
       (is_nil argument.named.envs && not argument.last) argument
-      (first_set variables argument.named.envs)
 
 -- what the value of a word by itself says
 pub word_says : {T : Type 0} (accepts : Bool → Bool) (means : List ℕ → T → Type 0) (o : LinePiece)
@@ -151,17 +147,13 @@ word_by_says accepts means = record {
 -- Closures, and what changes only what is shown.
 
 -- with a closure round it
-pub closed_says : {A B : Type 0} (f : Closure A B) {s : ProgramForm A} {kind : SaidKind}
-    {names : List Names}
-    {said : Said A} → Says names s kind said → Says names (program_closed f s) kind
-    (MadeSays said f)
-closed_says f {s = alternative wide q value} h = record {
-  by = (
-    h.by.0,
-    λ o v m. record { from = m.from; told = h.by.1 o m.from m.read; made = m.made },
-  );
+pub closed_says : {A B : Type 0} {f : Closure A B} {s : ProgramForm A} {kind : SaidKind}
+    {names : List Names} {said : Said A} → Says names s kind said
+    → Says names (program_closed f s) kind (MadeSays said f)
+closed_says {s = alternative wide q value} h = record {
+  by = (h.by.0, λ o v m. record { from = m.from; told = h.by.1 o m.from m.read; made = m.made });
 }
-closed_says f {s = single wide k q group gap} h = record {
+closed_says {s = single wide k q group gap} h = record {
   by = (
     h.by.0,
     λ os rest v g. let there = h.by.1 os rest g.from g.read in record {
@@ -173,14 +165,14 @@ closed_says f {s = single wide k q group gap} h = record {
     λ v m. record { from = m.0; told = h.by.2 m.0 m.1; made = m.2 },
   );
 }
-closed_says f {s = complete wide k q value} h = record {
+closed_says {s = complete wide k q value} h = record {
   by = (
     h.by.0,
     λ os v all m. record { from = m.from; told = h.by.1 os m.from all m.read; made = m.made },
   );
 }
-closed_says f {s = commands optional value} h = absurd h.by
-closed_says f h = record { by = tt }
+closed_says {s = commands optional value} h = absurd h.by
+closed_says h = record { by = tt }
 
 -- Choices.
 
@@ -345,7 +337,7 @@ pub listed_says : {T B : Type 0} (f : Closure (List T) B) {s : ProgramForm T} {k
     {names : List Names} {said : Said T} → Says names s kind said
     → Says names (program_closed f (completed repeated (OwnList T) s)) (repeated_kind kind)
     (MadeSays (RepeatSays said) f)
-listed_says f h = closed_says f (repeat_says h)
+listed_says f h = closed_says (repeat_says h)
 
 -- under `last`
 pub last_says : {T : Type 0} {s : ProgramForm T} {kind : SaidKind} {names : List Names} {said : Said T}
@@ -507,9 +499,9 @@ both_say own_keys behind_keys h g = record { by = tt }
 
 -- what a constructor makes of the values of fields
 pub con_says : {A B : Type 0} {names : List Names} {s : ProgramForm A} {said : FieldsSaid A}
-    (f : Closure A B) → OwnsKeys names s → FieldsSay names s said
+    {f : Closure A B} → OwnsKeys names s → FieldsSay names s said
     → Says names (program_con f s) (form_kind s) (RecordSays said names f)
-con_says {names = names} {s = product wide named q fields} {said = said} f own_keys g = record {
+con_says {names = names} {s = product wide named q fields} {said = said} own_keys g = record {
   by = (
     refl,
     λ whole os v fits fit m same other. record {
@@ -520,8 +512,8 @@ con_says {names = names} {s = product wide named q fields} {said = said} f own_k
     },
   );
 }
-con_says {s = before_commands value} f own_keys g = absurd g.by
-con_says f own_keys g = record { by = tt }
+con_says {s = before_commands value} own_keys g = absurd g.by
+con_says own_keys g = record { by = tt }
 
 -- A value of a flat record says what its parser says of all pieces of the line.
 pub record_says : {T : Type 0} (s : ProgramForm T) {kind : SaidKind} {names : List Names}

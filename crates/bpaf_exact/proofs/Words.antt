@@ -88,9 +88,9 @@ words_of_cut {q} n f (word {w = w} {cs = cs} h c) =
     begin_at w cs (pieces q cs) (alone_word w n h) ∙ ap (λ z. One w ∷ z) (words_of_cut n f c)
 
 -- Where nothing is present the cut is empty, and only there.
-pub empty_cut : (r : Roles) {cs : Cells} → NonePresent cs → Cut r cs []
-empty_cut r no_place = at_end
-empty_cut r (none_here n) = passed (empty_cut r n)
+pub empty_cut : {r : Roles} {cs : Cells} → NonePresent cs → Cut r cs []
+empty_cut no_place = at_end
+empty_cut (none_here n) = passed (empty_cut n)
 
 -- an empty cut leaves nothing present
 pub cut_empty : {r : Roles} {cs : Cells} {os : List LinePiece} → Cut r cs os → os ≡ []

@@ -84,7 +84,7 @@ module _ {env : Variables} {T : Type 0} {inner : Outcome T} {k : FieldKind} {q :
       → FieldTook T k q (SingleValue T group gap) s v t
   single_took (gave_absent h p ab same st) = record {
     steady = st;
-    takes = same_takes q same;
+    takes = same_takes same;
     read = λ n. inr (p, ab);
     rest = λ n. nothing_left p (ap (pieces q) same);
   }
@@ -155,7 +155,7 @@ module _ {env : Variables} {T : Type 0} {inner : Outcome T} {k : FieldKind} {q :
   optional_ok s t v w (optional_none {e = e} {m = m} i h) =
       let a = catch_none (stopped_by h) (l.err s m e w i) in
       record {
-        steady = steady_refl s;
+        steady = steady_refl;
         takes = takes_none;
         read = λ n. (a.1, a.0);
         rest = λ n. nothing_left a.1 refl;
@@ -220,7 +220,7 @@ module _ {env : Variables} {T : Type 0} {inner : Outcome T} {k : FieldKind} {q :
     fallback_took s t v w (fallback_given {e = e} {m = m} i h y) =
         let a = catch_none h (l.err s m e w i) in
         record {
-          steady = steady_refl s;
+          steady = steady_refl;
           takes = takes_none;
           read = λ n. inr (a.1, a.0, y);
           rest = λ n. nothing_left a.1 refl;
