@@ -14,13 +14,6 @@ use Rattle.bpaf_exact.proofs.Cells.{others_own, others_foreign}
 
 -- A cut line holds together.
 module _ (r : Roles) (n : IsNamed r) where
-  -- the words on either side of an argument's key and value
-  words_beside : (k w : Arg) → r k ≡ WithNext → (earlier later : List LinePiece)
-      → others r (earlier ++ (Two k w ∷ later)) ≡ others r earlier ++ others r later
-  words_beside k w e earlier later =
-      filter-append (λ o. not (is_own r o)) earlier (Two k w ∷ later)
-      ∙ ap (λ z. others r earlier ++ z) (others_own r (Two k w) later (ap is_own_role e))
-
   -- an argument's key with its value on a line that is cut on either side of them
   has_its_value : {before after : Cells} {os : List LinePiece} {k : Arg} (value : Arg)
       {behind : Cells} {earlier later : List LinePiece} → r k ≡ WithNext → is_value value ≡ true
@@ -36,7 +29,8 @@ module _ (r : Roles) (n : IsNamed r) where
     cut_before = cut_before;
     cut_behind = cut_behind;
     one_piece = is;
-    words = ap (others r) is ∙ words_beside k value e earlier later;
+    words = ap (others r) is ∙ (filter-append (λ o. not (is_own r o)) earlier (Two k value ∷ later)
+        ∙ ap (λ z. others r earlier ++ z) (others_own r (Two k value) later (ap is_own_role e)));
   }
 
   -- what an item of a cut line is: a flag's key, an argument's key, its value, or a word

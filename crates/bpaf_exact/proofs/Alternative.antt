@@ -70,21 +70,6 @@ module _ {env : Variables} {T : Type 0} {outcome : Outcome T} {q : Roles}
   alternative_reads a (inl f) o = (a.piece, first_pieces q l.named f, a.means)
   alternative_reads a (inr b) o = absurd (own_bad value b o.1)
 
-  -- its value, as that of one evaluation
-  alternative_ok : (s t : Situation) (v : T) → IsWholeIn env s → outcome s (Ok v) t
-      → SingleOk T ByName q (FrontOf T value) (gap_of value None) s v t
-  alternative_ok s t v w o =
-      let a = l.ok s t v w o in
-      took (record {
-        steady = a.steady;
-        takes = record { piece = a.piece; middle = cells t; one = a.takes; more = takes_none };
-        found = takes_nonempty a.takes;
-        read = alternative_reads a a.first;
-        readable = λ x rest g.
-            let e = first_pieces q l.named (a.readable g.0 rest x g.1 g.2) in
-            front_alone value e a.means g;
-      })
-
   -- its refusal, as that of one evaluation
   alternative_err : {s t : Situation} {e : Error} → AlternativeErr T q value s e t
       → SingleErr T ByName q (FrontOf T value) (gap_of value None) s e t
@@ -101,7 +86,17 @@ module _ {env : Variables} {T : Type 0} {outcome : Outcome T} {q : Roles}
     words = tt;
     starts = λ v rest g. let e = g.1 in cc;
     no_absent = λ v h a. a;
-    ok = alternative_ok;
+    ok = λ s t v w o.
+        let a = l.ok s t v w o in
+        took (record {
+          steady = a.steady;
+          takes = record { piece = a.piece; middle = cells t; one = a.takes; more = takes_none };
+          found = takes_nonempty a.takes;
+          read = alternative_reads a a.first;
+          readable = λ x rest g.
+              let e = first_pieces q l.named (a.readable g.0 rest x g.1 g.2) in
+              front_alone value e a.means g;
+        });
     err = λ s t e w o. alternative_err (l.err s t e w o);
   }
 

@@ -1,5 +1,5 @@
 -- Arguments keep to the laws.
-use Rattle.std.proofs.Common.{◌≡◌, ℕ, Bool, true, false, List, [], ◌∷◌, Ok, refl, sym, ap, ◌∙◌}
+use Rattle.std.proofs.Common.{◌≡◌, ℕ, Bool, true, false, List, [], ◌∷◌, refl, sym, ap, ◌∙◌}
 use Rattle.std.proofs.Common.{Some, None, ◌&&◌, ◌||◌, not, subst, ⊎_elim}
 use Rattle.bpaf_text.specs.Named.{KeyWithValue, argument_part}
 use Rattle.bpaf_line.specs.declared.error.Message.TheVariants.{Memory, NoArgument, ParseFailed}
@@ -8,9 +8,9 @@ use Rattle.bpaf_line.specs.{declared.error.Error.Error, Situation.Situation}
 use Rattle.bpaf_laws.specs.Argument.{ArgumentOutcome, ArgumentFails, TakesOwnText, TakesBefore}
 use Rattle.bpaf_laws.specs.Argument.{GetsText, LacksText, is_key_with_value}
 use Rattle.bpaf_laws.specs.{Environment.first_set, Repeat.is_nil}
-use Rattle.bpaf_exact.specs.Flat.{ByName, class, class_of, cells, IsWholeIn, Variables}
-use Rattle.bpaf_exact.specs.Alternative.{AlternativeOk, AlternativeErr, alternative_memory}
-use Rattle.bpaf_exact.specs.Single.{FrontOf, Gap, gap_of, Groups, SingleErr, SingleLaw, SingleOk}
+use Rattle.bpaf_exact.specs.Flat.{ByName, class, class_of, cells, Variables}
+use Rattle.bpaf_exact.specs.Alternative.{AlternativeErr, alternative_memory}
+use Rattle.bpaf_exact.specs.Single.{FrontOf, Gap, gap_of, Groups, SingleErr, SingleLaw}
 use Rattle.bpaf_exact.specs.Single.{took, of_memory, of_piece}
 use Rattle.bpaf_exact.specs.Leaves.{argument_roles, ArgumentValue, argument_field, argument_group}
 use Rattle.bpaf_exact.specs.Pieces.{Roles, LinePiece, One, Two, pieces}
@@ -54,13 +54,6 @@ module _ {T : Type 0} (means : List ℕ → T → Type 0) (argument : KeyWithVal
   gets_pair {s} gets =
       ⊎_elim (takes_pair argument once) (λ variable. absurd (never_set s variable.set)) gets
 
-  -- a value is that of the first piece
-  argument_ok : {env : Variables} (s t : Situation) (v : T) → IsWholeIn env s
-      → ArgumentOutcome means argument s (Ok v) t → AlternativeOk T q value s v t
-  argument_ok s t v w o =
-      let m = gets_pair o.1 in
-      first_alternative value m.steady (subst (λ z. means z v) (sym m.text_is) o.2) m.takes
-
   -- a refusal: no piece, or a first one that can't be read
   argument_err : {s t : Situation} {e : Error} (m : Message) → class e ≡ class_of m
       → ArgumentFails means argument s m t → AlternativeErr T q value s e t
@@ -84,7 +77,9 @@ module _ {T : Type 0} (means : List ℕ → T → Type 0) (argument : KeyWithVal
   argument_law : {env : Variables} → AlternativeLaw env T (ArgumentOutcome means argument) q value
   argument_law = record {
     named = named argument;
-    ok = argument_ok;
+    ok = λ s t v w o.
+        let m = gets_pair o.1 in
+        first_alternative value m.steady (subst (λ z. means z v) (sym m.text_is) o.2) m.takes;
     err = λ s t e w o. argument_err e.0 refl o;
   }
 
@@ -99,15 +94,6 @@ module _ {T : Type 0} (means : List ℕ → T → Type 0) (argument : KeyWithVal
 
   abbrev gap : Gap T
   gap = gap_of means (first_set variables argument.named.envs)
-
-  -- a value is that of the first piece, or of the variable
-  variable_ok : (s t : Situation) (v : T) → IsWholeIn variables s
-      → ArgumentOutcome means argument s (Ok v) t → SingleOk T ByName roles group gap s v t
-  variable_ok s t v w o = ⊎_elim (λ takes. let m = takes_pair argument once takes in
-      took (took_front (ArgumentValue means) m.steady
-      m.takes (first_pieces roles (named argument) m.takes)
-      (subst (λ z. means z v) (sym m.text_is) o.2) (λ none. absurd cc)))
-      (λ read. variable_read means argument group variables w.environment read o.2) o.1
 
   -- a refusal: neither, or what can't be read
   variable_err : {s t : Situation} {e : Error} (m : Message) → class e ≡ class_of m
@@ -139,7 +125,11 @@ module _ {T : Type 0} (means : List ℕ → T → Type 0) (argument : KeyWithVal
     words = tt;
     starts = λ v rest g. let e = g.1 in cc;
     no_absent = gap_empty means _;
-    ok = variable_ok;
+    ok = λ s t v w o. ⊎_elim (λ takes. let m = takes_pair argument once takes in
+        took (took_front (ArgumentValue means) m.steady
+        m.takes (first_pieces roles (named argument) m.takes)
+        (subst (λ z. means z v) (sym m.text_is) o.2) (λ none. absurd cc)))
+        (λ read. variable_read means argument group variables w.environment read o.2) o.1;
     err = λ s t e w o. variable_err e.0 refl w.environment o;
   }
 

@@ -10,7 +10,7 @@ use Rattle.bpaf_exact.specs.Pieces.{is_own_role, IsNamed, TakesPiece, takes_one,
 use Rattle.bpaf_exact.specs.Pieces.{takes_later, TakesPieces, takes_none, takes_more, Takes}
 use Rattle.bpaf_exact.specs.Pieces.{no_cells, empty_stays, other_stays, takes_flag, takes_argument}
 use Rattle.bpaf_exact.specs.Flat.{OfMemory, class, cells, NonePresent, IsWholeIn, ByName, FieldLaw}
-use Rattle.bpaf_exact.specs.Programs.{CellsValue, FieldThen, LeavesToOthers, ProgramLaw}
+use Rattle.bpaf_exact.specs.Programs.{CellsValue, FieldThen, ProgramLaw}
 use Rattle.bpaf_exact.specs.Programs.{IsSpelledLine, AllSpelled, no_cell, empty_cell, spelled_cell}
 use Rattle.bpaf_exact.specs.Wrappers.{ClosedValue, map_closure}
 use Rattle.bpaf_exact.specs.{Pieces.either, Pieces.either_role, Flat.Variables, Programs.GivesAll}
@@ -142,42 +142,6 @@ module _ {env : Variables} {A B : Type 0} {first : Outcome A} {rest : Outcome B}
   abbrev value : CellsValue (A × B)
   value = FieldThen A B q fv rv
 
-  -- neither has an item of another field
-  both_others : LeavesToOthers (either q r) value
-  both_others p n a cs v s h =
-      foreign_before n (apart_first r a) h.taken
-      (lr.others p n (apart_second q a) h.left_cells v.1 (left_spelled h.taken s) h.left)
-
-  -- the path gets no shorter
-  both_deep : (s t : Situation) (v : A × B) → IsWholeIn env s → BothOutcome first rest s (Ok v) t
-      → depth s ≤ depth t
-  both_deep s t v w o =
-      let h = values_of_both first rest o in
-      let i = (lf.ok s h.middle v.0 w h.first_ran).steady in
-      let e = ap length i.path in
-      let l = lr.deep h.middle t v.1 (none_outside_after w i) h.rest_ran in
-      omega arith
-
-  -- the field has its value on its own pieces, and the others on what is left without these
-  both_ok : (s t : Situation) (v : A × B) → IsWholeIn env s → IsSpelledLine s.context
-      → BothOutcome first rest s (Ok v) t → NonePresent (cells t) → value (cells s) v
-  both_ok s t v w spelled o e =
-      let h = values_of_both first rest o in
-      let i = lf.ok s h.middle v.0 w h.first_ran in
-      let still : IsSpelledLine h.middle.context =
-      subst IsSpelledLine (sym i.steady.context) spelled in
-      let after = lr.ok h.middle t v.1 (none_outside_after w i.steady) still h.rest_ran e in
-      let none = lr.others q lf.own apart (cells h.middle) v.1 (cells_spelled h.middle still) after
-      in
-      let all = all_taken i.takes none in
-      record {
-        own_pieces = all.0;
-        left_cells = cells h.middle;
-        taken = all.1;
-        own = subst (λ os. fv os v.0) (sym (taken_pieces lf.own all.1)) (i.read none);
-        left = after;
-      }
-
   -- where both have a value, the first has it on all its own pieces
   own_value : {cs : Cells} {u : A × B} → value cs u → fv (pieces q cs) u.0
   own_value {u} h = subst (λ os. fv os u.0) (taken_pieces lf.own h.taken) h.own
@@ -221,9 +185,32 @@ module _ {env : Variables} {A B : Type 0} {first : Outcome A} {rest : Outcome B}
   -- the laws
   pub before_law : ProgramLaw env (A × B) (BothOutcome first rest) (either q r) value
   before_law = record {
-    others = both_others;
-    deep = both_deep;
-    ok = both_ok;
+    others = λ p n a cs v s h.
+        foreign_before n (apart_first r a) h.taken (lr.others p n (apart_second q a) h.left_cells
+        v.1 (left_spelled h.taken s) h.left);
+    deep = λ s t v w o.
+        let h = values_of_both first rest o in
+        let i = (lf.ok s h.middle v.0 w h.first_ran).steady in
+        let e = ap length i.path in
+        let l = lr.deep h.middle t v.1 (none_outside_after w i) h.rest_ran in
+        omega arith;
+    ok = λ s t v w spelled o e.
+        let h = values_of_both first rest o in
+        let i = lf.ok s h.middle v.0 w h.first_ran in
+        let still : IsSpelledLine h.middle.context =
+        subst IsSpelledLine (sym i.steady.context) spelled in
+        let after = lr.ok h.middle t v.1 (none_outside_after w i.steady) still h.rest_ran e in
+        let none = lr.others q lf.own apart (cells h.middle) v.1 (cells_spelled h.middle still)
+        after
+        in
+        let all = all_taken i.takes none in
+        record {
+          own_pieces = all.0;
+          left_cells = cells h.middle;
+          taken = all.1;
+          own = subst (λ os. fv os v.0) (sym (taken_pieces lf.own all.1)) (i.read none);
+          left = after;
+        };
     answers = both_answers;
   }
 
@@ -233,20 +220,6 @@ module _ {env : Variables} {A B : Type 0} {fields : Outcome A} (makes : A → B 
   -- what it makes of the fields' values
   abbrev made : CellsValue B
   made = ClosedValue inner (map_closure makes)
-
-  -- it changes nothing
-  con_deep : (s t : Situation) (v : B) → IsWholeIn env s → ProductOutcome fields makes s (Ok v) t
-      → depth s ≤ depth t
-  con_deep s t v w o = subst (λ z. depth s ≤ depth z) (sym o.4) (l.deep s o.0 o.1 w o.2)
-
-  -- its value is made of theirs
-  con_ok : (s t : Situation) (v : B) → IsWholeIn env s → IsSpelledLine s.context
-      → ProductOutcome fields makes s (Ok v) t → NonePresent (cells t) → made (cells s) v
-  con_ok s t v w spelled o n = record {
-    from = o.1;
-    read = l.ok s o.0 o.1 w spelled o.2 (subst NonePresent (ap cells o.4 ∙ current_cells o.0) n);
-    made = o.3;
-  }
 
   -- each answer
   con_answers : (s t : Situation) (a : Result B Error) (u : B) → IsWholeIn env s
@@ -262,7 +235,12 @@ module _ {env : Variables} {A B : Type 0} {fields : Outcome A} (makes : A → B 
   pub con_program : ProgramLaw env B (ProductOutcome fields makes) r made
   con_program = record {
     others = λ q n a cs v s h. l.others q n a cs h.from s h.read;
-    deep = con_deep;
-    ok = con_ok;
+    deep = λ s t v w o. subst (λ z. depth s ≤ depth z) (sym o.4) (l.deep s o.0 o.1 w o.2);
+    ok = λ s t v w spelled o n. record {
+      from = o.1;
+      read = l.ok s o.0 o.1 w spelled o.2 (subst NonePresent (ap cells o.4 ∙ current_cells o.0)
+          n);
+      made = o.3;
+    };
     answers = con_answers;
   }

@@ -368,21 +368,9 @@ module _ {env : Variables} (T : Type 0) (a b : Outcome T) (qa qb : Roles)
       (err_other hf (la.err s sa e w f)) (steady_refl) refl) o
   equal_ok s sa sb (Err e) (Err d) w f g hf hg o = let i = o.0.2 in absurd cc
 
-  -- a value of the choice is that of an alternative
-  choice_ok : (s t : Situation) (v : T) → IsWholeIn env s → ChoiceOutcome a b s (Ok v) t
-      → AlternativeOk T (either qa qb) vr s v t
-  choice_ok s t v w o =
-      equal_ok s o.sa o.sb o.a o.b w o.first_ran o.second_ran o.first_spared o.second_spared
-      (equally_deep w o)
-
   -- both fail
   first_bad : (cs : Cells) → HasBad T va (pieces qa cs) → HasBad T vr (pieces (either qa qb) cs)
   first_bad cs h = bad_left T va vr qa qb (either qa qb) u from_first cs h
-
-  -- a piece of the second that can't be read
-  second_bad : (cs : Cells) → HasBad T vb (pieces qb cs) → HasBad T vr (pieces (either qa qb) cs)
-  second_bad cs h =
-      bad_left T vb vr qb qa (either qa qb) (swap_union qa qb (either qa qb) u) from_second cs h
 
   -- the first piece can't be read
   Unread : (q : Roles) (v : LinePiece → T → Type 0) (s : Situation) → Type 0
@@ -435,7 +423,9 @@ module _ {env : Variables} (T : Type 0) (a b : Outcome T) (qa qb : Roles)
   both_failed s e f x y c (alternative_missing p i same st) (alternative_missing q j alike steady) =
       both_missing (combined_missing e.0 f.0 p q c) (both_nil (cells s) u i j)
   both_failed s e f x y c (alternative_missing p i same st) (alternative_refused q path h k) =
-      by_class (combined_refused e.0 f.0 (inr q) (inl p) (inr q) c) (second_bad (cells s) h)
+      by_class (combined_refused e.0 f.0 (inr q) (inl p) (inr q) c)
+      (bad_left T vb vr qb qa (either qa qb) (swap_union qa qb (either qa qb) u) from_second
+      (cells s) h)
       (both_unread s (none_unread qa va s i) k)
   both_failed s e f x y c (alternative_refused p path h k) (alternative_missing q j same st) =
       by_class (combined_refused e.0 f.0 (inl p) (inr p) (inl q) c) (first_bad (cells s) h)
@@ -477,4 +467,10 @@ module _ {env : Variables} (T : Type 0) (a b : Outcome T) (qa qb : Roles)
 
   -- a choice of two alternatives whose keys are apart is an alternative
   pub choice_law : AlternativeLaw env T (ChoiceOutcome a b) (either qa qb) (either_value qa va vb)
-  choice_law = record { named = union_named u; ok = choice_ok; err = choice_err }
+  choice_law = record {
+    named = union_named u;
+    ok = λ s t v w o.
+        equal_ok s o.sa o.sb o.a o.b w o.first_ran o.second_ran o.first_spared o.second_spared
+        (equally_deep w o);
+    err = choice_err;
+  }

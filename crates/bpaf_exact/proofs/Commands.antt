@@ -474,7 +474,7 @@ module _ (V : Type 0) (outcome : Outcome V) (r : Roles) (value : CellsValue V)
   program_sound spelled (run_value {v = x} {t = t} o e) v h =
       let d : x ≡ v = cc in
       subst (λ cs. value cs v) (first_cells_are context) (subst (value (cells s)) d
-      (l.ok s t x (all_whole) spelled o (none_counted (cells t) (sym (open_present t) ∙ e))))
+      (l.ok s t x all_whole spelled o (none_counted (cells t) (sym (open_present t) ∙ e))))
   program_sound spelled {a} (run_leftover o e n) v h = absurd (no_value a n h)
   program_sound spelled (run_memory o e) v h = absurd cc
   program_sound spelled {a} (run_refusal o e n) v h = absurd (no_value a n h)
@@ -483,12 +483,12 @@ module _ (V : Type 0) (outcome : Outcome V) (r : Roles) (value : CellsValue V)
   pub program_complete : {a : RunAnswer V} → RunRan V outcome s a → (u : V)
       → value (line_cells context) u → IsAcceptedOrWant (value (line_cells context)) a
   program_complete (run_value {v = x} {t = t} o e) u h =
-      subst (λ cs. value cs x) (first_cells_are context) (l.answers s t (Ok x) u (all_whole) o
+      subst (λ cs. value cs x) (first_cells_are context) (l.answers s t (Ok x) u all_whole o
       (subst (λ cs. value cs u) (sym (first_cells_are context)) h)).0
   program_complete (run_leftover {v = x} {t = t} o e n) u h =
-      absurd (e (open_present t ∙ count_none (l.answers s t (Ok x) u (all_whole) o
+      absurd (e (open_present t ∙ count_none (l.answers s t (Ok x) u all_whole o
       (subst (λ cs. value cs u) (sym (first_cells_are context)) h)).1))
   program_complete (run_memory o e) u h = tt
   program_complete (run_refusal {e = x} {t = t} o e n) u h =
-      absurd (e (l.answers s t (Err x) u (all_whole) o
+      absurd (e (l.answers s t (Err x) u all_whole o
       (subst (λ cs. value cs u) (sym (first_cells_are context)) h)))

@@ -55,11 +55,6 @@ module _ {V : Type 0} {outcome : Outcome V} {r : Roles} {reading : FieldsReading
       → NonePresent (cells t)
   nothing_left {t} o e = none_counted (cells t) (sym (open_present t) ∙ e)
 
-  -- and the other way
-  counts_none : (t : Situation) {v : V} → outcome s (Ok v) t → NonePresent (cells t)
-      → open_count t ≡ 0
-  counts_none t o n = open_present t ∙ count_none n
-
   -- what is read off the first cells is read off the line
   to_line : {v : V} → ReadOff V r reading.value (cells s) v → RecordValue r reading.value context v
   to_line {v} h = subst (λ cs. ReadOff V r reading.value cs v) (first_cells_are context) h
@@ -73,7 +68,7 @@ module _ {V : Type 0} {outcome : Outcome V} {r : Roles} {reading : FieldsReading
       → RecordValue r reading.value context v
   sound (run_value {v = x} {t = t} o e) v h =
       let d : x ≡ v = cc in
-      let i = l.ok s t x (all_whole) o (nothing_left o e) in
+      let i = l.ok s t x all_whole o (nothing_left o e) in
       subst (λ z. RecordValue r reading.value context z) d (to_line i)
   sound {a} (run_leftover o e n) v h = absurd (no_value a n h)
   sound (run_memory o e) v h = absurd cc
@@ -84,12 +79,12 @@ module _ {V : Type 0} {outcome : Outcome V} {r : Roles} {reading : FieldsReading
       → Cut r (line_cells context) os → reading.each os
       → IsAcceptedOrWant (λ w. RecordValue r reading.value context w) a
   complete (run_value {v = x} {t = t} o e) os c h =
-      to_line (l.ok s t x (all_whole) o (nothing_left o e))
+      to_line (l.ok s t x all_whole o (nothing_left o e))
   complete (run_leftover {v = x} {t = t} o e n) os c h =
-      absurd (e (counts_none t o (l.takes_all s t x os (all_whole) o (from_line c) h)))
+      absurd (e (open_present t ∙ count_none (l.takes_all s t x os all_whole o (from_line c) h)))
   complete (run_memory o e) os c h = tt
   complete (run_refusal {e = x} {t = t} o e n) os c h =
-      absurd (e (l.refuses s t x os (all_whole) o (from_line c) h))
+      absurd (e (l.refuses s t x os all_whole o (from_line c) h))
 
   -- where one has none, no answer is a value: the line has one cut
   refused : {a : RunAnswer V} → RunRan V outcome s a → (os : List LinePiece)

@@ -18,17 +18,13 @@ first_takes (first_one e) = takes_one e
 first_takes (first_two e v) = takes_two e v
 first_takes (first_later n t) = takes_later (first_takes t)
 
--- a key with a value next to it
-two_next : (k w : Arg) (cs : Cells) → is_value w ≡ true → with_next k (Some w ∷ cs) ≡ Two k w
-two_next k w cs v = ap (λ b. if b then Two k w else One k) v
-
 -- a key and its value are one piece
 pub pair_pieces : {q : Roles} {k w : Arg} (cs : Cells) → IsNamed q → q k ≡ WithNext
     → is_value w ≡ true → pieces q (Some k ∷ (Some w ∷ cs)) ≡ Two k w ∷ pieces q cs
 pair_pieces {q} {k} {w} cs n e v =
     let a = begin_at k (Some w ∷ cs) (pieces q (Some w ∷ cs)) e in
     let b = begin_at w cs (pieces q cs) (value_foreign n v) in
-    let c = two_next k w cs v in
+    let c = ap (λ b. if b then Two k w else One k) v in
     cc
 
 -- The first piece heads the list.
@@ -205,11 +201,9 @@ owner {qa} {qb} (None ∷ cs) {o} u e = passed_by (owner cs u e)
         × (is_own qb o ≡ true)
     passed_by (inl h) = inl (same_head h.0, h.1)
     passed_by (inr h) = inr (same_head h.0, h.1)
-owner {qa} {qb} {r} (Some k ∷ cs) {o} {os} u e = by_owner (belongs u) (λ h. owner cs u (skipped h))
+owner {qa} {qb} {r} (Some k ∷ cs) {o} {os} u e =
+    by_owner (belongs u) (λ h. owner cs u (sym (begin_at k cs (pieces r cs) h) ∙ e))
   where
-    skipped : r k ≡ Foreign → pieces r cs ≡ o ∷ os
-    skipped f = sym (begin_at k cs (pieces r cs) f) ∙ e
-
     other_head : {q : Roles} → q k ≡ Foreign → HeadOf q cs o → HeadOf q (Some k ∷ cs) o
     other_head {q} f h = record { tail = h.tail; is = begin_at k cs (pieces q cs) f ∙ h.is }
 

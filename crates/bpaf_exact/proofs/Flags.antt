@@ -1,19 +1,19 @@
 -- Flags keep to the laws.
-use Rattle.std.proofs.Common.{◌≡◌, ℕ, Bool, true, false, List, [], ◌∷◌, Option, Some, None, Ok}
+use Rattle.std.proofs.Common.{◌≡◌, ℕ, Bool, true, false, List, [], ◌∷◌, Option, Some, None}
 use Rattle.std.proofs.Common.{◌&&◌, not, refl, sym, ap, ◌∙◌, subst, ⊎_elim, true≢false}
 use Rattle.std.specs.Option.{is_none, is_some, IsSomeRelated}
 use Rattle.bpaf_base.specs.Items.{is_key_of}
 use Rattle.bpaf_line.specs.{declared.error.Error.Error, declared.error.Message.Message}
 use Rattle.bpaf_line.specs.{declared.error.Message.TheVariants.Memory, Situation.Situation}
-use Rattle.bpaf_line.specs.{Situation.take_place, Taking.HasNone, Taking.TakesFlag}
+use Rattle.bpaf_line.specs.{Taking.HasNone, Taking.TakesFlag}
 use Rattle.bpaf_laws.specs.Flag.{FlagOutcome, FlagFails, value_without_key}
 use Rattle.bpaf_laws.specs.{Environment.first_set, Environment.is_set, Repeat.is_nil}
 use Rattle.bpaf_exact.specs.Single.{Groups, Gap, FrontOf, SingleOk, gave_absent, took, SingleErr}
 use Rattle.bpaf_exact.specs.Single.{gap_of, of_memory, of_missing, SingleLaw}
 use Rattle.bpaf_exact.specs.Alternative.{AlternativeOk, AlternativeErr, alternative_memory}
 use Rattle.bpaf_exact.specs.Leaves.{flag_roles, FlagValue, flag_field, key_field}
-use Rattle.bpaf_exact.specs.Pieces.{Alone, Roles, LinePiece, One, IsNamed}
-use Rattle.bpaf_exact.specs.Flat.{class, class_of, IsWholeIn, ByName, Variables}
+use Rattle.bpaf_exact.specs.Pieces.{Alone, Roles, LinePiece, IsNamed}
+use Rattle.bpaf_exact.specs.Flat.{class, class_of, ByName, Variables}
 use Rattle.bpaf_exact.specs.{Alternative.AlternativeLaw, Names.Owns, ProgramForm.FormLaw}
 use Rattle.bpaf_exact.proofs.Alternative.{gap_empty, took_front}
 use Rattle.bpaf_exact.proofs.Matching.{match_of, ByTest, by_test, test_named, no_pieces, one_taken}
@@ -55,18 +55,6 @@ module _ {T : Type 0} (clones : T → T → Type 0) (key : Key) (present : T) wh
 -- a flag that must be there
 module _ {T : Type 0} (clones : T → T → Type 0) (key : Key) (present : T)
     (no_envs : key.envs ≡ []) where
-  -- no name is set in the environment
-  never_set : (s : Situation) → is_set s.context.env key.envs ≡ true → ⊥
-  never_set s e = true≢false (sym e ∙ ap (is_set s.context.env) no_envs)
-
-  -- a value is that of the first piece
-  flag_ok : {env : Variables} (s t : Situation) (v : T) → IsWholeIn env s
-      → FlagOutcome clones key present None s (Ok v) t
-      → AlternativeOk T (flag_roles key.names) (FlagValue (clones present)) s v t
-  flag_ok s t v w o = ⊎_elim
-      (λ here. ⊎_elim (λ takes. flag_found clones key present s v takes here.1)
-      (λ set. absurd (never_set s set.1)) here.0) (λ none. absurd none.1) o
-
   -- a refusal: there is no piece
   flag_err : {s t : Situation} {e : Error} (m : Message) → class e ≡ class_of m
       → FlagFails {T = T} key None s m t
@@ -83,7 +71,10 @@ module _ {T : Type 0} (clones : T → T → Type 0) (key : Key) (present : T)
       (FlagValue (clones present))
   flag_law = record {
     named = named clones key present;
-    ok = flag_ok;
+    ok = λ s t v w o.
+        ⊎_elim (λ here. ⊎_elim (λ takes. flag_found clones key present s v takes here.1)
+        (λ set. absurd (true≢false (sym set.1 ∙ ap (is_set s.context.env) no_envs))) here.0)
+        (λ none. absurd none.1) o;
     err = λ s t e w o. flag_err e.0 refl o;
   }
 
@@ -148,14 +139,6 @@ module _ {T : Type 0} (clones : T → T → Type 0) (key : Key) (present : T) (a
       → is_set s.context.env key.envs ≡ b → is_some (first_set variables key.envs) ≡ b
   set_here s {b} e f = subst (λ z. is_set z key.envs ≡ b) e f
 
-  switch_ok : (s t : Situation) (v : T) → IsWholeIn variables s
-      → FlagOutcome clones key present absent s (Ok v) t → SingleOk T ByName roles group gap s v t
-  switch_ok s t v w o = ⊎_elim (λ here. ⊎_elim (λ takes. switch_found s v takes here.1)
-      (λ set. switch_none set.0.0 set.0.1
-      (gap_set clones present absent _ (set_here s w.environment set.1) here.1)) here.0)
-      (λ none. switch_none none.0.0.0 none.0.0.1
-      (gap_unset clones present absent _ v (set_here s w.environment none.0.1) none.1)) o
-
   switch_err : {s t : Situation} {e : Error} (m : Message) → class e ≡ class_of m
       → s.context.env ≡ variables → FlagFails {T = T} key absent s m t
       → SingleErr T ByName roles group gap s e t
@@ -173,7 +156,11 @@ module _ {T : Type 0} (clones : T → T → Type 0) (key : Key) (present : T) (a
     words = tt;
     starts = λ v rest g. let e = g.1 in cc;
     no_absent = gap_empty clones _;
-    ok = switch_ok;
+    ok = λ s t v w o.
+        ⊎_elim (λ here. ⊎_elim (λ takes. switch_found s v takes here.1)
+        (λ set. switch_none set.0.0 set.0.1 (gap_set clones present absent _
+        (set_here s w.environment set.1) here.1)) here.0) (λ none. switch_none none.0.0.0 none.0.0.1
+        (gap_unset clones present absent _ v (set_here s w.environment none.0.1) none.1)) o;
     err = λ s t e w o. switch_err e.0 refl w.environment o;
   }
 

@@ -1,5 +1,5 @@
 -- An argument that takes all its keys at once keeps to the laws of a field.
-use Rattle.std.proofs.Common.{◌≡◌, ℕ, true, List, [], ◌∷◌, ◌++◌, Ok, refl, sym, ap, ◌∙◌, subst}
+use Rattle.std.proofs.Common.{◌≡◌, ℕ, true, List, [], ◌∷◌, ◌++◌, refl, sym, ap, ◌∙◌, subst}
 use Rattle.std.proofs.Common.{⊎_elim, map}
 use Rattle.bpaf_text.specs.Named.{KeyWithValue}
 use Rattle.bpaf_base.specs.{declared.arg.Arg.Arg, Items.item_text}
@@ -10,7 +10,7 @@ use Rattle.bpaf_laws.specs.Argument.{ArgumentOutcome, ArgumentFails, TakesKeysWi
 use Rattle.bpaf_laws.specs.Argument.{TakesOwnText, TakesBefore, is_key_with_value}
 use Rattle.bpaf_laws.specs.Environment.{first_set}
 use Rattle.bpaf_exact.specs.Pieces.{Roles, LinePiece, One, Two, pieces, takes_none, takes_more}
-use Rattle.bpaf_exact.specs.Flat.{class, class_of, cells, IsWholeIn, ByName, Steady, Refused}
+use Rattle.bpaf_exact.specs.Flat.{class, class_of, cells, ByName, Steady, Refused}
 use Rattle.bpaf_exact.specs.Single.{Gap, gap_of, TakesAny, SingleOk, took, SingleErr, of_memory}
 use Rattle.bpaf_exact.specs.Leaves.{argument_roles, LastGroup}
 use Rattle.bpaf_exact.specs.{Flat.Variables, Single.of_piece, Single.SingleLaw}
@@ -166,14 +166,6 @@ module _ {T : Type 0} (means : List ℕ → T → Type 0) (argument : KeyWithVal
         readable = λ x rest g. (group rest g.4, got.none ∙ sym g.4);
       })
 
-  -- or that of the variable
-  last_ok : (s t : Situation) (v : T) → IsWholeIn variables s
-      → ArgumentOutcome means argument s (Ok v) t
-      → SingleOk T ByName q (LastGroup T means) gap s v t
-  last_ok s t v w o = ⊎_elim (λ takes. last_read s t v (takes_all takes) o.2)
-      (λ read. variable_read means argument (LastGroup T means) variables w.environment
-      read o.2) o.1
-
   -- where a last text means no value, the pieces have none
   fault_group : {s t : Situation} {text : List ℕ} → GotAll s t text → ((v : T) → means text v → ⊥)
       → (v : T) (rest : List LinePiece) → LastGroup T means (pieces q (cells s)) v rest → ⊥
@@ -218,6 +210,9 @@ module _ {T : Type 0} (means : List ℕ → T → Type 0) (argument : KeyWithVal
     words = tt;
     starts = λ v rest g. never_nil (pairs g.0) (Two g.1.0 g.1.1) [] (sym g.2);
     no_absent = gap_empty means _;
-    ok = last_ok;
+    ok = λ s t v w o.
+        ⊎_elim (λ takes. last_read s t v (takes_all takes) o.2)
+        (λ read. variable_read means argument (LastGroup T means) variables w.environment read o.2)
+        o.1;
     err = λ s t e w o. last_err e.0 refl w.environment o;
   }

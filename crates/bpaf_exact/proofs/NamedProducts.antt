@@ -133,40 +133,12 @@ module _ {env : Variables} (A B : Type 0) (first : Outcome A) (rest : Outcome B)
   first_kept t =
       keeps_other_some lr.own lf.own (record { left = apart.right; right = apart.left }) t
 
-  -- a value, where nothing of either's own is left
-  both_took : (s t : Situation) (v : A × B) → IsWholeIn env s → BothOutcome first rest s (Ok v) t
-      → FieldTook (A × B) ByName both value s v t
-  both_took s t v w o =
-      let h = values_of_both first rest o in
-      let i = lf.ok s h.middle v.0 w h.first_ran in
-      let j = lr.ok h.middle t v.1 (none_outside_after w i.steady) h.rest_ran in
-      record {
-        steady = steady_trans i.steady j.steady;
-        takes = some_trans (takes_some_left together i.takes)
-            (takes_some_left (swap_union q r both together) j.takes);
-        read = λ none. both_value (cells s) v (i.read (sym (first_kept j.takes)
-            ∙ (sym (mine_of_both together (cells t)) ∙ ap (mine q) none)))
-            (subst (λ os. read.value os v.1) (rest_kept i.takes)
-            (j.read (sym (others_of_both together (cells t)) ∙ ap (others q) none)));
-        rest = λ none. none;
-      }
-
   -- where both have a value, so have the others after the first
   rest_value : {s m : Situation} {x : A} {u : A × B} → IsWholeIn env s → first s (Ok x) m
       → value (pieces both (cells s)) u → read.value (pieces r (cells m)) u.1
   rest_value {s} {m} {x} {u} w f h =
       subst (λ os. read.value os u.1) (sym (rest_kept (lf.ok s m x w f).takes))
       (each_value (cells s) h).1
-
-  -- so nothing of either's own is left
-  both_take : (s t : Situation) (v u : A × B) → IsWholeIn env s → BothOutcome first rest s (Ok v) t
-      → value (pieces both (cells s)) u → pieces both (cells t) ≡ []
-  both_take s t v u w o h =
-      let i = values_of_both first rest o in
-      let after = none_outside_after w (lf.ok s i.middle v.0 w i.first_ran).steady in
-      both_nil (cells t) together (first_kept (lr.ok i.middle t v.1 after i.rest_ran).takes
-      ∙ lf.takes_all s i.middle v.0 u.0 w i.first_ran (each_value (cells s) h).0)
-      (lr.takes_all i.middle t v.1 u.1 after i.rest_ran (rest_value w i.first_ran h))
 
   -- and a refusal is want of memory
   both_refuse : (s t : Situation) (e : Error) (u : A × B) → IsWholeIn env s
@@ -184,8 +156,26 @@ module _ {env : Variables} (A B : Type 0) (first : Outcome A) (rest : Outcome B)
   pub named_both_law : FieldLaw env (A × B) (BothOutcome first rest) ByName both value
   named_both_law = record {
     own = union_named together;
-    ok = both_took;
-    takes_all = both_take;
+    ok = λ s t v w o.
+        let h = values_of_both first rest o in
+        let i = lf.ok s h.middle v.0 w h.first_ran in
+        let j = lr.ok h.middle t v.1 (none_outside_after w i.steady) h.rest_ran in
+        record {
+          steady = steady_trans i.steady j.steady;
+          takes = some_trans (takes_some_left together i.takes)
+              (takes_some_left (swap_union q r both together) j.takes);
+          read = λ none. both_value (cells s) v (i.read (sym (first_kept j.takes)
+              ∙ (sym (mine_of_both together (cells t)) ∙ ap (mine q) none)))
+              (subst (λ os. read.value os v.1) (rest_kept i.takes)
+              (j.read (sym (others_of_both together (cells t)) ∙ ap (others q) none)));
+          rest = λ none. none;
+        };
+    takes_all = λ s t v u w o h.
+        let i = values_of_both first rest o in
+        let after = none_outside_after w (lf.ok s i.middle v.0 w i.first_ran).steady in
+        both_nil (cells t) together (first_kept (lr.ok i.middle t v.1 after i.rest_ran).takes
+        ∙ lf.takes_all s i.middle v.0 u.0 w i.first_ran (each_value (cells s) h).0)
+        (lr.takes_all i.middle t v.1 u.1 after i.rest_ran (rest_value w i.first_ran h));
     refuses = both_refuse;
   }
 
@@ -205,14 +195,6 @@ module _ {env : Variables} {T : Type 0} {outcome : Outcome T} {q : Roles}
   by_itself : Union q no_roles alone
   by_itself = either_union l.own (record { only_keys = λ k h. refl }) (before_none l)
 
-  -- its value is that of a last field
-  last_value : (cs : Cells) (v : T) → value (pieces q cs) v
-      → (last_reading ByName q value).value (pieces alone cs) v
-  last_value cs v h = (
-    subst (λ os. value os v) (sym (mine_of_both by_itself cs)) h,
-    others_of_both by_itself cs ∙ none_of_nobody cs,
-  )
-
   -- and the other way
   own_read : (cs : Cells) {v : T} → (last_reading ByName q value).value (pieces alone cs) v
       → value (pieces q cs) v
@@ -225,8 +207,12 @@ module _ {env : Variables} {T : Type 0} {outcome : Outcome T} {q : Roles}
     ok = λ s t v w o. let i = l.ok s t v w o in record {
       steady = i.steady;
       takes = takes_some_left by_itself i.takes;
-      read = λ none. last_value (cells s) v
-          (i.read (sym (mine_of_both by_itself (cells t)) ∙ ap (mine q) none));
+      read = λ none. (
+        subst (λ os. value os v) (sym (mine_of_both by_itself (cells s)))
+            (i.read (sym (mine_of_both by_itself (cells t)) ∙ ap (mine q) none)),
+        others_of_both by_itself
+            (cells s) ∙ none_of_nobody (cells s),
+      );
       rest = λ none. none;
     };
     takes_all = λ s t v u w o h. both_nil (cells t) by_itself
@@ -241,33 +227,24 @@ module _ {env : Variables} {A B : Type 0} {fields : Outcome A} (makes : A → B 
   abbrev made : List LinePiece → B → Type 0
   made = ClosedValue value (map_closure makes)
 
-  -- a value is made of one
-  con_took : (s t : Situation) (v : B) → IsWholeIn env s → ProductOutcome fields makes s (Ok v) t
-      → FieldTook B ByName q made s v t
-  con_took s t v w o =
-      let i = l.ok s o.0 o.1 w o.2 in
-      subst (FieldTook B ByName q made s v) (sym o.4) (record {
-        steady = same_steady i.steady;
-        takes = subst (TakesPieces q (cells s)) (sym (current_cells o.0)) i.takes;
-        read = λ none. record {
-          from = o.1;
-          read = i.read (sym (ap (pieces q) (current_cells o.0)) ∙ none);
-          made = o.3;
-        };
-        rest = λ none. none;
-      })
-
-  -- where they have values, all is taken
-  con_takes : (s t : Situation) (v u : B) → IsWholeIn env s → ProductOutcome fields makes s (Ok v) t
-      → made (pieces q (cells s)) u → pieces q (cells t) ≡ []
-  con_takes s t v u w o h =
-      ap (pieces q) (ap cells o.4 ∙ current_cells o.0) ∙ l.takes_all s o.0 o.1 h.from w o.2 h.read
-
   -- with its constructor a product keeps to the laws of a named field
   pub named_con_law : FieldLaw env B (ProductOutcome fields makes) ByName q made
   named_con_law = record {
     own = l.own;
-    ok = con_took;
-    takes_all = con_takes;
+    ok = λ s t v w o.
+        let i = l.ok s o.0 o.1 w o.2 in
+        subst (FieldTook B ByName q made s v) (sym o.4) (record {
+          steady = same_steady i.steady;
+          takes = subst (TakesPieces q (cells s)) (sym (current_cells o.0)) i.takes;
+          read = λ none. record {
+            from = o.1;
+            read = i.read (sym (ap (pieces q) (current_cells o.0)) ∙ none);
+            made = o.3;
+          };
+          rest = λ none. none;
+        });
+    takes_all = λ s t v u w o h.
+        ap (pieces q) (ap cells o.4 ∙ current_cells o.0) ∙ l.takes_all s o.0 o.1 h.from w o.2
+        h.read;
     refuses = λ s t e u w o h. l.refuses s o.0 e h.from w o.1 h.read;
   }

@@ -23,7 +23,7 @@ use Rattle.bpaf_exact.specs.ProgramForm.{is_record, no_program, product_roles, p
 use Rattle.bpaf_exact.specs.ProgramForm.{program_value, product_reading}
 use Rattle.bpaf_exact.specs.OneView.{Alike, OneGroup, HasOneView, Respects, pair_view, LooksLike}
 use Rattle.bpaf_exact.specs.Pieces.{Cells, Roles, LinePiece, One, Two, IsNamed}
-use Rattle.bpaf_exact.specs.{Single.repeated, Record.line_cells, Programs.OptionalCommands}
+use Rattle.bpaf_exact.specs.{Single.repeated, Programs.OptionalCommands}
 use Rattle.bpaf_exact.specs.{OneView.RunsToOne, Gathered.list_closure, Names.are_all_apart}
 use Rattle.bpaf_exact.proofs.Alternative.{alternative_single}
 use Rattle.bpaf_exact.proofs.ProgramForm.{record_law, whole_law, runs_exactly}

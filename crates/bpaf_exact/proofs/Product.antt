@@ -4,12 +4,12 @@ use Rattle.std.proofs.Common.{inl, inr, Bool, sym, ap, ◌∙◌, subst, if◌th
 use Rattle.bpaf_line.specs.{declared.error.Error.Error, Situation.Situation, Messages.is_memory}
 use Rattle.bpaf_laws.specs.{Product.BothOutcome, Product.joined, Reading.Outcome}
 use Rattle.bpaf_laws.specs.{Spared.IsNotMemory}
-use Rattle.bpaf_exact.specs.Pieces.{no_roles, Cells, Role, Foreign, Alone, WithNext, Roles}
-use Rattle.bpaf_exact.specs.Pieces.{LinePiece, One, Two, is_own_role, is_own, others, either_role}
+use Rattle.bpaf_exact.specs.Pieces.{no_roles, Cells, Role, Foreign, Roles}
+use Rattle.bpaf_exact.specs.Pieces.{LinePiece, is_own_role, is_own, others, either_role}
 use Rattle.bpaf_exact.specs.Pieces.{either, IsNamed, Apart, Cut, at_end, passed, flag, argument}
-use Rattle.bpaf_exact.specs.Flat.{cells, NonePresent, IsWholeIn, Steady, FieldKind, ByName, OneWord}
+use Rattle.bpaf_exact.specs.Flat.{cells, IsWholeIn, Steady, FieldKind, ByName, OneWord}
 use Rattle.bpaf_exact.specs.Flat.{EachWord, front, back, portion, left, keys, IsWords, OwnItems}
-use Rattle.bpaf_exact.specs.Flat.{NoKeysLeft, FieldTook, FieldLaw, ReadOff, FieldsLaw, Before}
+use Rattle.bpaf_exact.specs.Flat.{NoKeysLeft, FieldTook, FieldLaw, FieldsLaw, Before}
 use Rattle.bpaf_exact.specs.Flat.{FieldsReading, both_reading, class, OfMemory, HasValue, Variables}
 use Rattle.bpaf_exact.specs.Pieces.{word, pieces, TakesPieces}
 use Rattle.bpaf_exact.proofs.Cells.{value_foreign, word_foreign, nil_rest, nil_foreign}
@@ -133,14 +133,6 @@ pub record StepBack (k : FieldKind) (q r : Roles) (cs : Cells)
   pub leaves : left k q before ≡ after
   pub own : front k (pieces q cs) ≡ portion k q before
 
--- that of a named field
-named_back : {q : Roles} (r : Roles) {cs ds : Cells} {os : List LinePiece} → IsNamed q → Apart q r
-    → TakesPieces q cs ds → Cut r ds os → StepBack ByName q r cs os
-named_back r n a t c =
-    let w = widen n a c in
-    let p = put_back_some r t w.cut in
-    record { before = p.now; cut = p.cut; leaves = p.alike ∙ w.all; own = pieces_of_cut r n p.cut }
-
 -- of a positional one
 word_back : {k : FieldKind} {q r : Roles} {cs ds : Cells} {os : List LinePiece}
     → keys k q ≡ no_roles → ((ps : List LinePiece) → portion k q ps ≡ front k ps)
@@ -160,7 +152,10 @@ word_back {k} {r} {cs = cs} no_keys shares leaves n f t e c =
 pub step_back : (k : FieldKind) {q r : Roles} {T : Type 0} (value : List LinePiece → T → Type 0)
     {s m : Situation} {v : T} {os : List LinePiece} → OwnItems k q → Before k q r
     → FieldTook T k q value s v m → Cut r (cells m) os → StepBack k q r (cells s) os
-step_back ByName {r} value n b f c = named_back r n b f.takes c
+step_back ByName {r} value n b f c =
+    let w = widen n b c in
+    let p = put_back_some r f.takes w.cut in
+    record { before = p.now; cut = p.cut; leaves = p.alike ∙ w.all; own = pieces_of_cut r n p.cut }
 step_back (OneWord z) value n b f c =
     word_back refl (λ ps. refl) (λ ps. refl) n (record { none = b }) f.takes (f.rest tt) c
 step_back (EachWord z) value n b f c =
@@ -270,27 +265,6 @@ module _ {env : Variables} {A B : Type 0} {first : Outcome A} {rest : Outcome B}
   abbrev reading : FieldsReading (A × B)
   reading = both_reading k q fv others_read
 
-  -- a product changes nothing but what is taken
-  both_steady : (s t : Situation) (v : A × B) → IsWholeIn env s → BothOutcome first rest s (Ok v) t
-      → Steady s t
-  both_steady s t v w o =
-      let h = values_of_both first rest o in
-      let i = lf.ok s h.middle v.0 w h.first_ran in
-      steady_trans i.steady (lr.steady h.middle t v.1 (none_outside_after w i.steady) h.rest_ran)
-
-  -- its values are read off a cut
-  both_reads : (s t : Situation) (v : A × B) → IsWholeIn env s → BothOutcome first rest s (Ok v) t
-      → NonePresent (cells t) → ReadOff (A × B) (either (keys k q) r) reading.value (cells s) v
-  both_reads s t v w o e =
-      let h = values_of_both first rest o in
-      let i = lf.ok s h.middle v.0 w h.first_ran in
-      let after = lr.ok h.middle t v.1 (none_outside_after w i.steady) h.rest_ran e in
-      let p = step_back k fv lf.own b i (read_cut after) in
-      read_off reading.value (both_named k q lf.own lr.named) p.cut (
-        subst (λ os. fv os v.0) p.own (i.read (none_left k q lf.own b (read_cut after))),
-        subst (λ os. others_read.value os v.1) (sym p.leaves) after.read,
-      )
-
   -- where each field has a value, so has the first on its own pieces
   own_value : (s : Situation) {os : List LinePiece} → Cut (either (keys k q) r) (cells s) os
       → (h : HasValue fv (portion k q os)) → fv (front k (pieces q (cells s))) h.0
@@ -303,16 +277,6 @@ module _ {env : Variables} {A B : Type 0} {first : Outcome A} {rest : Outcome B}
   rest_cut {s} {m} {x} w f c h =
       let i = lf.ok s m x w f in
       step_on k lf.own b i.takes (i.rest (lf.takes_all s m x h.0 w f (own_value s c h))) c
-
-  -- so the others leave nothing
-  both_take : (s t : Situation) (u : A × B) (os : List LinePiece) → IsWholeIn env s
-      → BothOutcome first rest s (Ok u) t → Cut (either (keys k q) r) (cells s) os
-      → reading.each os → NonePresent (cells t)
-  both_take s t u os w o c h =
-      let i = values_of_both first rest o in
-      lr.takes_all i.middle t u.1 (left k q os)
-      (none_outside_after w (lf.ok s i.middle u.0 w i.first_ran).steady) i.rest_ran
-      (rest_cut w i.first_ran c h.0) h.1
 
   -- and a refusal is want of memory
   both_refuse : (s t : Situation) (e : Error) (os : List LinePiece) → IsWholeIn env s
@@ -332,9 +296,24 @@ module _ {env : Variables} {A B : Type 0} {first : Outcome A} {rest : Outcome B}
   pub both_law : FieldsLaw env (A × B) (BothOutcome first rest) (either (keys k q) r) reading
   both_law = record {
     named = both_named k q lf.own lr.named;
-    steady = both_steady;
-    ok = both_reads;
+    steady = λ s t v w o.
+        let h = values_of_both first rest o in
+        let i = lf.ok s h.middle v.0 w h.first_ran in
+        steady_trans i.steady (lr.steady h.middle t v.1 (none_outside_after w i.steady) h.rest_ran);
+    ok = λ s t v w o e.
+        let h = values_of_both first rest o in
+        let i = lf.ok s h.middle v.0 w h.first_ran in
+        let after = lr.ok h.middle t v.1 (none_outside_after w i.steady) h.rest_ran e in
+        let p = step_back k fv lf.own b i (read_cut after) in
+        read_off reading.value (both_named k q lf.own lr.named) p.cut (
+          subst (λ os. fv os v.0) p.own (i.read (none_left k q lf.own b (read_cut after))),
+          subst (λ os. others_read.value os v.1) (sym p.leaves) after.read,
+        );
     has_each = λ os v h. ((v.0, h.0), lr.has_each (left k q os) v.1 h.1);
-    takes_all = both_take;
+    takes_all = λ s t u os w o c h.
+        let i = values_of_both first rest o in
+        lr.takes_all i.middle t u.1 (left k q os)
+        (none_outside_after w (lf.ok s i.middle u.0 w i.first_ran).steady) i.rest_ran
+        (rest_cut w i.first_ran c h.0) h.1;
     refuses = both_refuse;
   }

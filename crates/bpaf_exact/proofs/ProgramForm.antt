@@ -13,7 +13,7 @@ use Rattle.bpaf_laws.specs.Product.{BothOutcome, ProductOutcome}
 use Rattle.bpaf_laws.specs.Command.{Called, is_one_of, opening_words}
 use Rattle.bpaf_laws.specs.{Choice.ChoiceOutcome, Reading.Outcome, Repeat.LastOutcome}
 use Rattle.bpaf_exact.specs.Flat.{ErrorClass, Refused, FieldKind, ByName, OneWord, EachWord, Before}
-use Rattle.bpaf_exact.specs.Flat.{FieldLaw, FieldsLaw, both_reading, keys, Variables, cells}
+use Rattle.bpaf_exact.specs.Flat.{FieldLaw, FieldsLaw, both_reading, keys, Variables}
 use Rattle.bpaf_exact.specs.Single.{RepeatOutcome, repeated, Groups, Gap, SingleLaw}
 use Rattle.bpaf_exact.specs.Wrappers.{Closure, Decides, map_closure, ClosedEval, OptionalEval}
 use Rattle.bpaf_exact.specs.Wrappers.{ClosedValue, FallbackEval, FallbackValue}
@@ -27,7 +27,7 @@ use Rattle.bpaf_exact.specs.ProgramForm.{program_alone, program_con, whole_progr
 use Rattle.bpaf_exact.specs.ProgramForm.{is_program, is_record, program_command, product_roles}
 use Rattle.bpaf_exact.specs.ProgramForm.{product_reading, whole_value}
 use Rattle.bpaf_exact.specs.Programs.{CellsValue, ProgramLaw, CommandEval, are_plain, WordsApart}
-use Rattle.bpaf_exact.specs.Programs.{FindsNoCommand, IsSpelledLine, GivesAll}
+use Rattle.bpaf_exact.specs.Programs.{IsSpelledLine}
 use Rattle.bpaf_exact.specs.Record.{line_cells, RunAnswer, Accepted, RunRan, IsAcceptedOrWant}
 use Rattle.bpaf_exact.specs.Pieces.{Roles, no_roles, either, LinePiece}
 use Rattle.bpaf_exact.specs.{Single.OwnList, Record.last_reading, Names.Owns, Names.are_all_apart}

@@ -13,7 +13,7 @@ use Rattle.bpaf_exact.specs.ProgramForm.{program_optional, program_choice, choic
 use Rattle.bpaf_exact.specs.ProgramForm.{program_field, program_both, program_alone, program_con}
 use Rattle.bpaf_exact.specs.ProgramForm.{whole_program, program_value, is_program, program_command}
 use Rattle.bpaf_exact.specs.ProgramForm.{are_words_apart, product_roles, product_reading}
-use Rattle.bpaf_exact.specs.Programs.{CellsValue, CommandValue, ChoiceValue, OptionalCommands}
+use Rattle.bpaf_exact.specs.Programs.{CellsValue, ChoiceValue, OptionalCommands}
 use Rattle.bpaf_exact.specs.ProgramSays.{ProgramSaid, of_pieces, of_cells, ProgramFieldsSaid}
 use Rattle.bpaf_exact.specs.ProgramSays.{of_all_pieces, of_all_cells, IsSaid, CellsSay}
 use Rattle.bpaf_exact.specs.ProgramSays.{ProgramFormSays, ProgramSays, ProgramFieldsSay, cells_said}
@@ -221,8 +221,12 @@ pub program_command_says : (env : Variables) {P Q T : Type 0} (inside : Q → P)
     (of_kind ByName) (said_command inside called form said) q
 program_command_says env {T} inside q outcome words form adjacent apart called law h = record {
   by = cells_if (((not adjacent && apart) && are_plain opening) && is_program s) _ _
-      (λ on. opened (program_says env outcome words s law h
-      (and_parts ((not adjacent && apart) && are_plain opening) (is_program s) on).1));
+      (λ on. (λ cs v c. (
+        c.0,
+        c.1,
+        (program_says env outcome words s law h
+            (and_parts ((not adjacent && apart) && are_plain opening) (is_program s) on).1) c.0 v c.2,
+      )));
 }
   where
     s : ProgramForm T
@@ -230,10 +234,6 @@ program_command_says env {T} inside q outcome words form adjacent apart called l
 
     opening : List (List ℕ)
     opening = opening_words (called q)
-
-    opened : {value told : CellsValue T} → IsSaid value told
-        → IsSaid (CommandValue T opening value) (CommandValue T opening told)
-    opened each cs v c = (c.0, c.1, each c.0 v c.2)
 
 -- Choices.
 

@@ -20,7 +20,7 @@ use Rattle.bpaf_exact.specs.Flat.{FieldsReading, ReadOff, Variables}
 use Rattle.bpaf_exact.specs.Programs.{CellsValue, Opens, opens_here, opens_later, OpensNone}
 use Rattle.bpaf_exact.specs.Programs.{is_dashed, is_spelled, IsSpelledLine, AllSpelled, no_cell}
 use Rattle.bpaf_exact.specs.Programs.{empty_cell, spelled_cell, are_plain, CommandValue}
-use Rattle.bpaf_exact.specs.Programs.{LeavesToOthers, ProgramLaw, FindsNoCommand, CommandsLaw}
+use Rattle.bpaf_exact.specs.Programs.{ProgramLaw, FindsNoCommand, CommandsLaw}
 use Rattle.bpaf_exact.specs.Programs.{CommandEval, command_value, command_leftover, command_refused}
 use Rattle.bpaf_exact.specs.Programs.{command_missing, command_memory, GivesAll}
 use Rattle.bpaf_exact.specs.Pieces.{Cells, Roles, pieces, IsNamed, is_key}
@@ -184,11 +184,6 @@ not_any : (c : Option Arg) → option_map_or any_item c false ≡ false → c �
 not_any None e = refl
 not_any (Some k) e = cc
 
--- the item of a place passes a test that its place passes
-passes_at : (test : Arg → Bool) (c : Option Arg) (k : Arg) → c ≡ Some k
-    → option_map_or test c false ≡ true → test k ≡ true
-passes_at test c k e h = subst (λ z. option_map_or test z false ≡ true) e h
-
 module _ (called : Called) (s : Situation) (p : ℕ)
     (at : IsOpenedAt (opening_words called) s p) where
   -- behind the word
@@ -226,7 +221,7 @@ module _ (called : Called) (s : Situation) (p : ℕ)
       let m = match_of any_item s p at.first.matches in
       opens_at (opening_words called) (open_item s) (open_item behind) (length s.context.line) p
       m.item m.in_line m.is
-      (passes_at (is_one_of (opening_words called)) (item_at s p) m.item
+      (subst (λ z. option_map_or (is_one_of (opening_words called)) z false ≡ true)
       (open_item_there s p m.item m.is).1 at.named) none_before behind_one
 
   -- what isn't taken lies in the scope behind it
@@ -271,21 +266,10 @@ module _ {env : Variables} (T : Type 0) (inner : Outcome T) (r : Roles) (value :
   abbrev opened_value : CellsValue T
   opened_value = CommandValue T words value
 
-  -- it leaves nothing of another's own
-  command_others : LeavesToOthers r opened_value
-  command_others q n a cs v s h =
-      opens_pieces plain n s h.1 ∙ l.others q n a h.0 v (opens_spelled s h.1) h.2
-
   -- the value is that of what is behind the word
   from_behind : {s : Situation} {p : ℕ} {v : T} → IsOpenedAt words s p
       → value (cells (inside called s p)) v → opened_value (cells s) v
   from_behind {s} {p} at h = (cells (inside called s p), opens_cells called s p at, h)
-
-  -- and the other way
-  to_behind : (s : Situation) (p : ℕ) (v : T) → IsOpenedAt words s p → opened_value (cells s) v
-      → value (cells (inside called s p)) v
-  to_behind s p v at h =
-      subst (λ cs. value cs v) (opens_one words h.1 (opens_cells called s p at)) h.2
 
   -- the path gets no shorter
   command_deep : (s t : Situation) (v : T) → IsWholeIn env s → CommandEval T inner called s (Ok v) t
@@ -306,7 +290,8 @@ module _ {env : Variables} (T : Type 0) (inner : Outcome T) (r : Roles) (value :
       → IsOpenedAt words s p → inner (inside called s p) a m → opened_value (cells s) u
       → GivesAll (value (cells (inside called s p))) a m
   answer_behind {s} {m} {p} {a} {u} w at i h =
-      l.answers (inside called s p) m a u (whole_behind called s p at w) i (to_behind s p u at h)
+      l.answers (inside called s p) m a u (whole_behind called s p at w) i
+      (subst (λ cs. value cs u) (opens_one words h.1 (opens_cells called s p at)) h.2)
 
   -- where it has a value each answer is one, or want of memory
   command_answers : (s t : Situation) (a : Result T Error) (u : T) → IsWholeIn env s
@@ -339,7 +324,8 @@ module _ {env : Variables} (T : Type 0) (inner : Outcome T) (r : Roles) (value :
   pub command_law : CommandsLaw env T (CommandEval T inner called) r words opened_value
   command_law = record {
     program = record {
-      others = command_others;
+      others = λ q n a cs v s h.
+          opens_pieces plain n s h.1 ∙ l.others q n a h.0 v (opens_spelled s h.1) h.2;
       deep = command_deep;
       ok = command_ok;
       answers = command_answers;

@@ -1,9 +1,8 @@
 -- A kept value is a field that takes no piece.
-use Rattle.std.proofs.Common.{◌≡◌, List, [], Ok, Err, refl, subst, sym}
-use Rattle.bpaf_line.specs.{Situation.Situation, declared.error.Error.Error}
+use Rattle.std.proofs.Common.{List, [], refl, subst, sym}
 use Rattle.bpaf_laws.specs.{Default.GivesClone, Pure.PureOutcome}
 use Rattle.bpaf_doc.specs.Names.{Names}
-use Rattle.bpaf_exact.specs.Flat.{ByName, FieldTook, IsWholeIn, OfMemory, cells, class, Variables}
+use Rattle.bpaf_exact.specs.Flat.{ByName, FieldTook, cells, Variables}
 use Rattle.bpaf_exact.specs.Pieces.{LinePiece, TakesPieces, no_roles, takes_none}
 use Rattle.bpaf_exact.specs.{ProgramForm.FormLaw, Leaves.pure_field, Says.Says, Says.of_kind}
 use Rattle.bpaf_exact.proofs.NamedProducts.{none_of_nobody}
@@ -14,12 +13,13 @@ module _ (T : Type 0) (clones : T → T → Type 0) (kept : T) where
   abbrev value : List LinePiece → T → Type 0
   value os v = clones kept v
 
-  -- a value takes nothing
-  pure_ok : {env : Variables} (s t : Situation) (v : T) → IsWholeIn env s
-      → PureOutcome (GivesClone clones kept) s (Ok v) t → FieldTook T ByName no_roles value s v t
-  pure_ok s t v w o =
-      subst (FieldTook T ByName no_roles value s v) (sym o.1)
-      (record {
+  -- the laws
+  pub pure_field_law : {env : Variables}
+      → FormLaw env (PureOutcome (GivesClone clones kept)) [] [] (pure_field (clones kept))
+  pure_field_law = (
+    record {
+      own = record { only_keys = λ k h. refl };
+      ok = λ s t v w o. subst (FieldTook T ByName no_roles value s v) (sym o.1) (record {
         steady = record {
           context = refl;
           start = refl;
@@ -30,22 +30,9 @@ module _ (T : Type 0) (clones : T → T → Type 0) (kept : T) where
         takes = subst (TakesPieces no_roles (cells s)) (sym (current_cells s)) takes_none;
         read = λ none. o.0;
         rest = λ none. none;
-      })
-
-  -- a refusal is want of memory
-  pure_refuses : (s : Situation) {t : Situation} (e : Error)
-      → PureOutcome (GivesClone clones kept) s (Err e) t → class e ≡ OfMemory
-  pure_refuses s e o = memory_class e.0 o.0
-
-  -- the laws
-  pub pure_field_law : {env : Variables}
-      → FormLaw env (PureOutcome (GivesClone clones kept)) [] [] (pure_field (clones kept))
-  pure_field_law = (
-    record {
-      own = record { only_keys = λ k h. refl };
-      ok = pure_ok;
+      });
       takes_all = λ s t v u w o h. none_of_nobody (cells t);
-      refuses = λ s t e v w o h. pure_refuses s e o;
+      refuses = λ s t e v w o h. memory_class e.0 o.0;
     },
     no_names,
   )

@@ -1,11 +1,11 @@
 -- The last field of a product, and its constructor.
-use Rattle.std.proofs.Common.{◌≡◌, List, [], ◌∷◌, Some, None, Ok, refl, sym, ap, ◌∙◌, subst, arith}
+use Rattle.std.proofs.Common.{◌≡◌, List, [], ◌∷◌, Some, None, refl, sym, ap, ◌∙◌, subst, arith}
 use Rattle.bpaf_line.specs.Situation.{Situation, with_current}
 use Rattle.bpaf_laws.specs.{Product.ProductOutcome, Reading.Outcome}
 use Rattle.bpaf_exact.specs.Pieces.{Cells, Roles, Role, Foreign, LinePiece, IsNamed, Cut, either}
 use Rattle.bpaf_exact.specs.Pieces.{either_role, no_roles, pieces}
-use Rattle.bpaf_exact.specs.Flat.{cells, NonePresent, no_place, none_here, IsWholeIn, Steady}
-use Rattle.bpaf_exact.specs.Flat.{FieldKind, ByName, keys, OwnItems, FieldLaw, FieldsLaw, ReadOff}
+use Rattle.bpaf_exact.specs.Flat.{cells, NonePresent, no_place, none_here, Steady}
+use Rattle.bpaf_exact.specs.Flat.{FieldKind, ByName, keys, OwnItems, FieldLaw, FieldsLaw}
 use Rattle.bpaf_exact.specs.Flat.{Before, FieldsReading, HasValue, portion, front, Variables}
 use Rattle.bpaf_exact.specs.Wrappers.{map_closure, ClosedValue}
 use Rattle.bpaf_exact.specs.{Single.present_count, Record.last_reading}
@@ -46,42 +46,30 @@ module _ {env : Variables} {T : Type 0} {outcome : Outcome T} {k : FieldKind} {q
       by_kind ByName n = record { only_keys = λ a h. alone (q a) (n.only_keys a h) }
       by_kind _ n = record { only_keys = λ a h. refl }
 
-  -- the value of a last field is read off a cut
-  last_reads : (s t : Situation) (v : T) → IsWholeIn env s → outcome s (Ok v) t
-      → NonePresent (cells t)
-      → ReadOff T (either (keys k q) no_roles) (last_reading k q value).value (cells s) v
-  last_reads s t v w o n =
-      let i = l.ok s t v w o in
-      let c = empty_cut n in
-      let p = step_back k value l.own before_none i c in
-      read_off (last_reading k q value).value keys_named p.cut (
-        subst (λ os. value os v) p.own (i.read (none_left k q l.own before_none c)),
-        p.leaves,
-      )
-
   -- where the field has a value on its pieces, it has one on those of the cells
   own_value : (s : Situation) {os : List LinePiece} → Cut (either (keys k q) no_roles) (cells s) os
       → (h : HasValue value (portion k q os)) → value (front k (pieces q (cells s))) h.0
   own_value s c h =
       subst (λ z. value z h.0) (sym (own_portion k q no_roles l.own before_none c)) h.1
 
-  -- so nothing is left
-  last_takes : (s t : Situation) (v : T) (os : List LinePiece) → IsWholeIn env s
-      → outcome s (Ok v) t → Cut (either (keys k q) no_roles) (cells s) os
-      → (last_reading k q value).each os → NonePresent (cells t)
-  last_takes s t v os w o c h =
-      let i = l.ok s t v w o in
-      let all = l.takes_all s t v h.0.0 w o (own_value s c h.0) in
-      cut_empty (step_on k l.own before_none i.takes (i.rest all) c) h.1
-
   -- a last field keeps to the laws of a list of fields
   pub last_law : FieldsLaw env T outcome (either (keys k q) no_roles) (last_reading k q value)
   last_law = record {
     named = keys_named;
     steady = λ s t v w o. (l.ok s t v w o).steady;
-    ok = last_reads;
+    ok = λ s t v w o n.
+        let i = l.ok s t v w o in
+        let c = empty_cut n in
+        let p = step_back k value l.own before_none i c in
+        read_off (last_reading k q value).value keys_named p.cut (
+          subst (λ os. value os v) p.own (i.read (none_left k q l.own before_none c)),
+          p.leaves,
+        );
     has_each = λ os v h. ((v, h.0), h.1);
-    takes_all = last_takes;
+    takes_all = λ s t v os w o c h.
+        let i = l.ok s t v w o in
+        let all = l.takes_all s t v h.0.0 w o (own_value s c h.0) in
+        cut_empty (step_on k l.own before_none i.takes (i.rest all) c) h.1;
     refuses = λ s t e os w o c h. l.refuses s t e h.0.0 w o (own_value s c h.0);
   }
 
@@ -108,30 +96,20 @@ module _ {env : Variables} {A B : Type 0} {fields : Outcome A} (makes : A → B 
   abbrev made : FieldsReading B
   made = record { value = ClosedValue reading.value (map_closure makes); each = reading.each }
 
-  -- a constructor changes nothing
-  con_steady : (s t : Situation) (v : B) → IsWholeIn env s → ProductOutcome fields makes s (Ok v) t
-      → Steady s t
-  con_steady s t v w o = subst (Steady s) (sym o.4) (same_steady (l.steady s o.0 o.1 w o.2))
-
-  -- its value is made of those that are read off a cut
-  con_reads : (s t : Situation) (v : B) → IsWholeIn env s → ProductOutcome fields makes s (Ok v) t
-      → NonePresent (cells t) → ReadOff B r made.value (cells s) v
-  con_reads s t v w o n =
-      let a = l.ok s o.0 o.1 w o.2 (subst NonePresent (ap cells o.4 ∙ current_cells o.0) n) in
-      record {
-        cut_into = a.cut_into;
-        left_cells = a.left_cells;
-        cut = a.cut;
-        none_left = a.none_left;
-        read = record { from = o.1; read = a.read; made = o.3 };
-      }
-
   -- a product with its constructor keeps to the laws of a list of fields
   pub con_law : FieldsLaw env B (ProductOutcome fields makes) r made
   con_law = record {
     named = l.named;
-    steady = con_steady;
-    ok = con_reads;
+    steady = λ s t v w o. subst (Steady s) (sym o.4) (same_steady (l.steady s o.0 o.1 w o.2));
+    ok = λ s t v w o n.
+        let a = l.ok s o.0 o.1 w o.2 (subst NonePresent (ap cells o.4 ∙ current_cells o.0) n) in
+        record {
+          cut_into = a.cut_into;
+          left_cells = a.left_cells;
+          cut = a.cut;
+          none_left = a.none_left;
+          read = record { from = o.1; read = a.read; made = o.3 };
+        };
     has_each = λ os v h. l.has_each os h.from h.read;
     takes_all = λ s t u os w o c h. subst NonePresent (sym (ap cells o.4 ∙ current_cells o.0))
         (l.takes_all s o.0 o.1 os w o.2 c h);

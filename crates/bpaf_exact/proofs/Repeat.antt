@@ -229,10 +229,6 @@ module _ {env : Variables} {T : Type 0} {inner : Outcome T} {k : FieldKind} {q :
   same_own : (s m : Situation) → cells m ≡ cells s → own m ≡ own s
   same_own s m same = ap (λ cs. front (repeated k) (pieces q cs)) same
 
-  -- and left
-  same_left : (s m : Situation) → cells m ≡ cells s → left m ≡ left s
-  same_left s m same = ap (λ cs. back (repeated k) (pieces q cs)) same
-
   -- the first turn
   first_step : {s m t : Situation} {v : T} {us : List T} → SingleOk T k q group gap s v m
       → (Steady s m → Took m us t) → RepeatTook s (v ∷ us) t
@@ -242,7 +238,7 @@ module _ {env : Variables} {T : Type 0} {inner : Outcome T} {k : FieldKind} {q :
       record {
         steady = steady_trans st i.steady;
         takes = some_trans (same_takes same) i.takes;
-        none = i.none ∙ same_left s m same;
+        none = i.none ∙ (ap (λ cs. back (repeated k) (pieces q cs)) same);
         list = absent_alone s m none h p ab;
       }
   first_step (took h) more =

@@ -133,37 +133,29 @@ module _ {q r : Roles} {own behind : List Names} (owned : Owns q own) (owned_beh
           (either_role x (r (first_item o)))) f) ∙ (sym (own_first (either q r) o) ∙ e)))
       by_role _ f = inl (own_first q o ∙ ap is_own_role f)
 
-  both_names : (o : LinePiece)
-      → is_own (either q r) o ≡ is_key_of_any (own ++ behind) (first_item o)
-      → is_key_of_any own (first_item o) ≡ true → is_own q o ≡ true
-  both_names o e f = ⊎_elim (λ one. one)
-      (λ other. absurd (one_list own behind (first_item o) apart f
-      (own_keyed r behind owned_behind o other)))
-      (either_first o (e ∙ (list_any-append (λ names. is_key_of names (first_item o)) own behind
-      ∙ ap (λ b. b || is_key_of_any behind (first_item o)) f)))
-
   -- the first
   pub first_fits : (os : List LinePiece) → Fits (own ++ behind) (either q r) os → Fits own q os
   first_fits [] fits = tt
-  first_fits (o ∷ os) fits =
-      (same_truth _ _ (own_keyed q own owned o) (both_names o fits.0), first_fits os fits.1)
-
-  other_names : (o : LinePiece)
-      → is_own (either q r) o ≡ is_key_of_any (own ++ behind) (first_item o)
-      → is_key_of_any behind (first_item o) ≡ true → is_own r o ≡ true
-  other_names o e f = ⊎_elim
-      (λ one. absurd (one_list own behind (first_item o) apart (own_keyed q own owned o one) f))
-      (λ other. other)
-      (either_first o (e ∙ (list_any-append (λ names. is_key_of names (first_item o)) own behind
-      ∙ (ap (λ b. is_key_of_any own (first_item o) || b) f
-      ∙ or_true (is_key_of_any own (first_item o))))))
+  first_fits (o ∷ os) fits = (
+    same_truth _ _ (own_keyed q own owned o)
+        ((λ f. ⊎_elim (λ one. one) (λ other. absurd (one_list own behind (first_item o) apart f
+        (own_keyed r behind owned_behind o other)))
+        (either_first o (fits.0 ∙ (list_any-append (λ names. is_key_of names (first_item o)) own
+        behind ∙ ap (λ b. b || is_key_of_any behind (first_item o)) f))))),
+    first_fits os fits.1,
+  )
 
   -- the second
   pub second_fits : (os : List LinePiece) → Fits (own ++ behind) (either q r) os → Fits behind r os
   second_fits [] fits = tt
   second_fits (o ∷ os) fits = (
     same_truth _ _ (own_keyed r behind owned_behind o)
-        (other_names o fits.0),
+        ((λ f. ⊎_elim
+        (λ one. absurd (one_list own behind (first_item o) apart (own_keyed q own owned o one) f))
+        (λ other. other)
+        (either_first o (fits.0 ∙ (list_any-append (λ names. is_key_of names (first_item o)) own
+        behind ∙ (ap (λ b. is_key_of_any own (first_item o) || b) f ∙ or_true
+        (is_key_of_any own (first_item o)))))))),
     second_fits os fits.1,
   )
 

@@ -29,10 +29,6 @@ never_two {k} n e = by_word (is_positional k) (sym (n.words k) ∙ e)
     by_word true h = cc
     by_word false h = cc
 
--- a word is a piece by itself
-alone_word : {q : Roles} (k : Arg) → IsWords q → is_positional k ≡ true → q k ≡ Alone
-alone_word k n h = n.words k ∙ ap (λ b. if b then Alone else Foreign) h
-
 -- a cut of words
 pub record WordCut (r : Roles) (cs : Cells) : Type 0 where
   pub words : List LinePiece
@@ -85,7 +81,8 @@ words_of_cut n f (passed c) = words_of_cut n f c
 words_of_cut n f (flag {k = k} e c) = let g = f.none k in cc
 words_of_cut n f (argument {k = k} e v c) = let g = f.none k in cc
 words_of_cut {q} n f (word {w = w} {cs = cs} h c) =
-    begin_at w cs (pieces q cs) (alone_word w n h) ∙ ap (λ z. One w ∷ z) (words_of_cut n f c)
+    begin_at w cs (pieces q cs) (n.words w ∙ ap (λ b. if b then Alone else Foreign) h) ∙ ap
+    (λ z. One w ∷ z) (words_of_cut n f c)
 
 -- Where nothing is present the cut is empty, and only there.
 pub empty_cut : {r : Roles} {cs : Cells} → NonePresent cs → Cut r cs []
