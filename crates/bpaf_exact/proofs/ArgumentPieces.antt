@@ -84,7 +84,7 @@ module _ {T : Type 0} (means : List ℕ → T → Type 0) (argument : KeyWithVal
       (subst (λ gap. SingleOk T ByName roles group gap s v (with_current s None))
       (ap (gap_of means) (sym here))
       (gave_absent refl (no_key argument s read.no_key) m (current_cells s)
-      (same_steady (steady_refl))))
+      (same_steady steady_refl)))
 
   -- one that means no value is refused
   pub variable_fault : {s t : Situation} {e : Error} {text : List ℕ} → s.context.env ≡ variables

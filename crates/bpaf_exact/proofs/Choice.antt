@@ -362,10 +362,10 @@ module _ {env : Variables} (T : Type 0) (a b : Outcome T) (qa qb : Roles)
       winner_ok s t v o.1.0 w (la.ok s sa x w f) (lb.ok s sb y w g) o.1.1 o.1.2
   equal_ok s sa sb (Ok x) (Err e) w f g hf hg o =
       alone_ok (first_won (la.ok s sa x w f)
-      (err_other hg (lb.err s sb e w g)) (steady_refl) refl) o
+      (err_other hg (lb.err s sb e w g)) steady_refl refl) o
   equal_ok s sa sb (Err e) (Ok y) w f g hf hg o =
       alone_ok (second_won (lb.ok s sb y w g)
-      (err_other hf (la.err s sa e w f)) (steady_refl) refl) o
+      (err_other hf (la.err s sa e w f)) steady_refl refl) o
   equal_ok s sa sb (Err e) (Err d) w f g hf hg o = let i = o.0.2 in absurd cc
 
   -- both fail
@@ -410,7 +410,7 @@ module _ {env : Variables} (T : Type 0) (a b : Outcome T) (qa qb : Roles)
   -- where neither has a piece, the choice has none
   both_missing : {s : Situation} {g : Error} → (class g ≡ OfMissing) ⊎ (class g ≡ OfMemory)
       → pieces (either qa qb) (cells s) ≡ [] → AlternativeErr T (either qa qb) vr s g s
-  both_missing {s} (inl c) h = alternative_missing c h refl (steady_refl)
+  both_missing {s} (inl c) h = alternative_missing c h refl steady_refl
   both_missing (inr c) h = alternative_memory c
 
   -- both branches refused

@@ -14,10 +14,9 @@ use Rattle.bpaf_exact.specs.{Flat.cells, Flat.first_cells, Single.present_count,
 -- a piece taken leaves fewer items
 pub takes_fewer : {q : Roles} {cs ds : Cells} {o : LinePiece} → TakesPiece q cs o ds
     → present_count ds < present_count cs
-takes_fewer (takes_one e) = omega arith
-takes_fewer (takes_two e v) = omega arith
 takes_fewer (takes_later {c = None} t) = takes_fewer t
 takes_fewer (takes_later {c = Some x} t) = let i = takes_fewer t in omega arith
+takes_fewer _ = omega arith
 
 -- some pieces taken leave no more
 pub takes_some_fewer : {q : Roles} {cs ds : Cells} → TakesPieces q cs ds
@@ -67,9 +66,8 @@ open_some s p = by_test (is_open s p) (item_at s p) (λ h. open_has_item s p h)
     by_test : (b : Bool) (at : Option Arg)
         → (b ≡ true → option_map_or any_item (if b then at else None) false ≡ true)
         → b ≡ is_some (if b then at else None)
-    by_test false at h = refl
-    by_test true (Some x) h = refl
     by_test true None h = let e = h refl in absurd cc
+    by_test _ _ h = refl
 
 -- the count of what is open is that of the cells
 pub open_present : (s : Situation) → open_count s ≡ present_count (cells s)

@@ -37,9 +37,8 @@ cut_of {r} (takes_flag {k = k} {cs = cs} {os = os} e t) (none_here n) =
         → (if is_own_role x then x else if b then Alone else Foreign) ≡ Alone → Cut r cs os
         → Cut r (Some k ∷ cs) (One k ∷ os)
     by_role Foreign true f h e c = word h c
-    by_role Foreign false f h e c = absurd cc
     by_role Alone b f h e c = flag f c
-    by_role WithNext b f h e c = absurd cc
+    by_role _ _ f h e c = absurd cc
 cut_of {r} (takes_argument {k = k} e v t) (none_here (none_here n)) =
     argument (by_role (r k) (is_positional k) e) v (cut_of t n)
   where

@@ -299,8 +299,7 @@ first_both u (first_later {c = None} n s) (first_later m t) (left_later same h) 
     first_later tt (first_both u s t h)
 first_both u (first_later {c = Some k} n s) (first_later m t) (left_later same h) =
     first_later (u.none k n m) (first_both u s t h)
-first_both u (first_later {c = Some k} n s) (first_one e) (left_later same h) = absurd cc
-first_both u (first_later {c = Some k} n s) (first_two e v) (left_later same h) = absurd cc
+first_both u (first_later {c = Some k} n s) _ (left_later same h) = absurd cc
 
 -- If the first piece of both is the second field's and it took that, the first field took nothing
 -- further left.

@@ -50,7 +50,7 @@ module _ {T : Type 0} (clones : T → T → Type 0) (key : Key) (present : T) wh
   flag_found s v takes y =
       let m = match_of (is_key_of key.names) s takes.0 takes.1.matches in
       subst (AlternativeOk T q value s v) (sym takes.2)
-      (first_alternative value (take_steady) y (one_taken test takes.1 m))
+      (first_alternative value take_steady y (one_taken test takes.1 m))
 
 -- a flag that must be there
 module _ {T : Type 0} (clones : T → T → Type 0) (key : Key) (present : T)
@@ -103,8 +103,7 @@ module _ {T : Type 0} (clones : T → T → Type 0) (present : T) where
   gap_none : (absent : Option T) (set : Option (List ℕ)) → is_some set ≡ false → absent ≡ None
       → is_some (value_without_key present absent set) ≡ false
   gap_none None None e f = refl
-  gap_none (Some kept) None e f = absurd cc
-  gap_none absent (Some text) e f = absurd cc
+  gap_none _ _ e f = absurd cc
 
 -- a flag that may be absent, where the environment has these variables
 module _ {T : Type 0} (clones : T → T → Type 0) (key : Key) (present : T) (absent : Option T)
@@ -126,13 +125,13 @@ module _ {T : Type 0} (clones : T → T → Type 0) (key : Key) (present : T) (a
       let h = one_taken own takes.1 m in
       let e = first_pieces roles (named clones key present) h in
       subst (SingleOk T ByName roles group gap s v) (sym takes.2)
-      (took (took_front (FlagValue (clones present)) (take_steady) h e y (λ none. absurd cc)))
+      (took (took_front (FlagValue (clones present)) take_steady h e y (λ none. absurd cc)))
 
   switch_none : {s t : Situation} {v : T} → HasNone (is_key_of key.names) s → t ≡ s
       → (gap.has ≡ true) × gap.absent v → SingleOk T ByName roles group gap s v t
   switch_none {s} {v} none same g =
       subst (SingleOk T ByName roles group gap s v) (sym same) (gave_absent g.0
-      (no_pieces s (test clones key present) none) g.1 refl (steady_refl))
+      (no_pieces s (test clones key present) none) g.1 refl steady_refl)
 
   -- a name that is set here is set in these variables
   set_here : (s : Situation) {b : Bool} → s.context.env ≡ variables

@@ -33,8 +33,7 @@ module _ {env : Variables} {T : Type 0} {inner : Outcome T} (k : FieldKind) (q :
   empty_list : {os : List LinePiece} {vs : List T} → vs ≡ [] → OwnList T group gap os vs
       → Nothing os
   empty_list e (listed h o) = nothing h (own_empty e o)
-  empty_list e (listed_and_absent h a o) = absurd cc
-  empty_list e (only_absent h a) = absurd cc
+  empty_list e _ = absurd cc
 
   -- and no piece gives an empty list
   empty_nothing : {os : List LinePiece} {vs : List T} → Nothing os → OwnList T group gap os vs

@@ -164,7 +164,7 @@ two_taken s {p} t f m b =
 
 -- taking both changes what is taken and the current place alone
 pub two_steady : {s : Situation} {p : ℕ} → Steady s (taken_pair s p)
-two_steady = steady_trans (take_steady) (take_steady)
+two_steady = steady_trans take_steady take_steady
 
 -- the first match heads the pieces as it stands, where no value is behind it
 pub bare_taken : {test : Arg → Bool} {r : Roles} {s : Situation} {p : ℕ} → ByTest test r WithNext
@@ -201,7 +201,7 @@ pub missing_same : {T : Type 0} {q : Roles} (value : LinePiece → T → Type 0)
     → AlternativeErr T q value s e t
 missing_same {T} {q} value {s} {e} c p same =
     subst (λ z. AlternativeErr T q value s e z) (sym same)
-    (alternative_missing c p refl (steady_refl))
+    (alternative_missing c p refl steady_refl)
 
 -- a refusal that names a missing item says that items are missing
 misses : (s : Situation) (part : Option Part) (m : Message) → MissesItem s part m

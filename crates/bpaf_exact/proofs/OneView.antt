@@ -233,7 +233,7 @@ module _ (env : Variables) (T X : Type 0) (see : T → X) (inner : Outcome T) wh
   pub repeat_view : (names : List Names) (words : List (List ℕ)) (s : ProgramForm T)
       → FormLaw env inner names words s → HasOneView see s
       → HasOneView (map see) (completed repeated (OwnList T) s)
-  repeat_view = whole_view repeated (OwnList T) (list_view)
+  repeat_view = whole_view repeated (OwnList T) list_view
 
   -- what may be left out
   pub optional_field_view : (names : List Names) (words : List (List ℕ)) (s : ProgramForm T)
@@ -247,7 +247,7 @@ module _ (env : Variables) (T X : Type 0) (see : T → X) (inner : Outcome T) wh
       by_value cs (Some x) None a none = absurd (none_opens none _ (l.commands.opened cs x a).1)
       by_value cs None (Some y) none b = absurd (none_opens none _ (l.commands.opened cs y b).1)
   optional_field_view names words s l u =
-      whole_view (λ k. k) (OptionalValue T) (optional_value_view) names words s l u
+      whole_view (λ k. k) (OptionalValue T) optional_value_view names words s l u
 
   -- a field with a default
   pub fallback_view : (f : Closure (Unit {0}) T) → Alike see (λ v. f.yes tt v)
@@ -266,7 +266,7 @@ module _ (env : Variables) (T X : Type 0) (see : T → X) (inner : Outcome T) wh
   field_view names words (product wide false q fields) l u = u
   field_view names words (commands optional value) l u = u
   field_view names words (before_commands value) l u = u
-  field_view names words s l u = whole_view (λ k. k) (SingleValue T) (value_view) names words s l u
+  field_view names words s l u = whole_view (λ k. k) (SingleValue T) value_view names words s l u
 
 -- The list of a repeat, as the program keeps it.
 
@@ -361,9 +361,8 @@ module _ (T X : Type 0) (see : T → X) where
       (whole_law env T outcome names words (complete wide k q value) l).0.named l u v w a b
   values_look_one env outcome names words (product wide named q fields) l u cs v w a b =
       reads_one env outcome names words (product wide named q fields) l.0.named l u v w a b
-  values_look_one env outcome names words (commands optional value) l u cs v w a b = u cs v w a b
-  values_look_one env outcome names words (before_commands value) l u cs v w a b = u cs v w a b
   values_look_one env outcome names words no_program l u cs v w a b = absurd a
+  values_look_one env outcome names words _ l u cs v w a b = u cs v w a b
 
   -- Where the record has a value, each answer looks like it, or is want of memory; with the value
   -- itself for a view, it is that value.

@@ -247,8 +247,7 @@ module _ (env : Variables) (T : Type 0) (outcome : Outcome T) (names : List Name
   -- another look
   pub program_dressed_law : (s : ProgramForm T) → Law s → Law (program_dressed s)
   program_dressed_law (before_commands value) l = tt
-  program_dressed_law (product wide named q fields) l = l
-  program_dressed_law s l = l
+  program_dressed_law _ l = l
 
   -- one parser of a choice
   pub choice_only_law : (s : ProgramForm T) → Law s → Law (choice_only s)
@@ -259,11 +258,10 @@ module _ (env : Variables) (T : Type 0) (outcome : Outcome T) (names : List Name
   -- a field of a product, which may be a product of named fields
   pub program_field_law : (s : ProgramForm T) → Law s → Law (program_field s)
   program_field_law (product wide true q fields) l = (l.2, l.1)
-  program_field_law (product wide false q fields) l = l
   program_field_law (alternative wide q value) l = (single_law (alternative_single l.0), l.1)
   program_field_law (single wide k q group gap) l = (single_law l.0, l.1)
   program_field_law no_program l = tt
-  program_field_law s l = l
+  program_field_law _ l = l
 
   -- the last field, or one alone
   pub program_alone_law : (s : ProgramForm T) → Law s
@@ -278,8 +276,7 @@ module _ (env : Variables) (T : Type 0) (outcome : Outcome T) (names : List Name
           → NamedLaw env (is_named j) outcome (either (keys j q) no_roles)
           (last_reading j q value).value
       by_name ByName l = named_last_law l
-      by_name (OneWord z) l = tt
-      by_name (EachWord z) l = tt
+      by_name _ l = tt
   program_alone_law (product wide false q fields) l = l
   program_alone_law (commands false value) l =
       record { roles = l.roles; program = l.commands.program; owns = l.owns }
@@ -299,9 +296,7 @@ module _ (env : Variables) (T : Type 0) (outcome : Outcome T) (names : List Name
   record_law (single wide k q group gap) h l = (whole_law (single wide k q group gap) l).0
   record_law (complete wide k q value) h l = (whole_law (complete wide k q value) l).0
   record_law (product wide named q fields) h l = l.0
-  record_law no_program h l = absurd cc
-  record_law (commands optional value) h l = absurd cc
-  record_law (before_commands value) h l = absurd cc
+  record_law _ h l = absurd cc
 
   -- a product of fields, or what ends in commands, keeps to those of a program,
   end_law : (s : ProgramForm T) → is_program (program_alone s) ≡ true
@@ -370,9 +365,7 @@ program_both_law env A B first rest own others words (complete wide k q fv)
         → NamedLaw env (is_named j && all) (BothOutcome first rest) (either (keys j q) r)
         (both_reading j q fv fields).value
     by_names ByName true l m apart = named_both_law A B first rest q r fv fields l m apart
-    by_names ByName false l m apart = tt
-    by_names (OneWord z) all l m apart = tt
-    by_names (EachWord z) all l m apart = tt
+    by_names _ _ l m apart = tt
 program_both_law env A B first rest own others words (complete wide ByName q fv)
     (before_commands rv) la lb =
     if_law env (BothOutcome first rest) (own ++ others) [] _ (are_all_apart own others)

@@ -123,15 +123,13 @@ module _ {P Q T : Type 0} (inside : Q → P) (q : Q) {s : ProgramForm T} {said :
     where
       pieces_of : (s : ProgramForm T) (said : Said T) → FormSays names s kind said
           → FormSays names (program_dressed s) kind said
-      pieces_of (product wide named r fields) said h = h
       pieces_of (before_commands value) said h = tt
-      pieces_of s said h = h
+      pieces_of _ said h = h
 
       cells_of : (s : ProgramForm T) (said : CellsValue T) → CellsSay s said
           → CellsSay (program_dressed s) said
-      cells_of (product wide named r fields) said h = h
       cells_of (before_commands value) said h = tt
-      cells_of s said h = h
+      cells_of _ said h = h
 
       by_said : (said : ProgramSaid P T) → ProgramSays names s kind said (inside q)
           → ProgramSays names (program_dressed s) kind (said_dressed inside said) q
@@ -176,10 +174,7 @@ program_says env {P} {T} outcome words s {kind} {names} {said} {p} law h is = by
     by_cells (commands optional value) said h = h
     by_cells (before_commands value) said h = h
     by_cells no_program said h = λ cs v c. absurd c
-    by_cells (alternative wide q value) said h = absurd h
-    by_cells (single wide k q group gap) said h = absurd h
-    by_cells (complete wide k q value) said h = absurd h
-    by_cells (product wide named q fields) said h = absurd h
+    by_cells _ said h = absurd h
 
     read_so : (s : ProgramForm T) → Owns (product_roles (whole_program s)) names → {said : Said T}
         → FormSays names s kind said
@@ -203,8 +198,7 @@ program_says env {P} {T} outcome words s {kind} {names} {said} {p} law h is = by
         (whole_law env T outcome names words (complete wide k q value) law).1 h
     by_pieces (product wide named q fields) law h = read_so (product wide named q fields) law.1 h
     by_pieces no_program law h = λ cs v c. absurd c
-    by_pieces (commands optional value) law h = absurd h
-    by_pieces (before_commands value) law h = absurd h
+    by_pieces _ law h = absurd h
 
     by_said : (said : ProgramSaid P T) → ProgramSays names s kind said p
         → IsSaid (program_value s) (cells_said s said p)
@@ -396,10 +390,7 @@ program_alone_says env {T = T} last {q} outcome kind names words {s} {said = of_
     by_form (commands optional value) h = h
     by_form (before_commands value) h = h
     by_form no_program h = tt
-    by_form (alternative wide r value) h = absurd h
-    by_form (single wide k r group gap) h = absurd h
-    by_form (complete wide k r value) h = absurd h
-    by_form (product wide named r fields) h = absurd h
+    by_form _ h = absurd h
 
 -- a field before others
 module _ {P Q R A B : Type 0} (first : R → P) (rest : R → Q) (r : R) (outcome : Outcome A)

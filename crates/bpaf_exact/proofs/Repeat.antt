@@ -156,7 +156,7 @@ module _ {env : Variables} {T : Type 0} {inner : Outcome T} {k : FieldKind} {q :
   stop_after h refused =
       let a = catch_none (stopped_by h) refused in
       let g = a.0 in
-      ended (steady_refl) a.1 refl (λ i. absurd cc)
+      ended steady_refl a.1 refl (λ i. absurd cc)
 
   -- one value more
   took_more : {s m t : Situation} {v : T} {vs : List T} → TookGroup T k q group s v m → Took m vs t

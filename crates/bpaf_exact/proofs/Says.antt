@@ -542,6 +542,5 @@ record_says {T} s {kind} {names} {said} h = by_form s h.by
         all_own k q _ (λ os v all. whole_says said group gap h.1 h.2 os v) v m
     by_form (complete wide k q value) h os v fits m = all_own k q value h.1 v m
     by_form (product wide named q fields) h os v fits m = h.1 os os v fits fits m refl refl
-    by_form (commands optional value) h os v fits m = absurd h
-    by_form (before_commands value) h os v fits m = absurd h
     by_form no_program h os v fits m = absurd m
+    by_form _ h os v fits m = absurd h

@@ -94,6 +94,4 @@ pub cut_empty : {r : Roles} {cs : Cells} {os : List LinePiece} → Cut r cs os �
     → NonePresent cs
 cut_empty at_end e = no_place
 cut_empty (passed c) e = none_here (cut_empty c e)
-cut_empty (flag h c) e = absurd cc
-cut_empty (argument h v c) e = absurd cc
-cut_empty (word h c) e = absurd cc
+cut_empty _ e = absurd cc
