@@ -133,21 +133,6 @@ pub record StepBack (k : FieldKind) (q r : Roles) (cs : Cells)
   pub leaves : left k q before ≡ after
   pub own : front k (pieces q cs) ≡ portion k q before
 
--- of a positional one
-word_back : {k : FieldKind} {q r : Roles} {cs ds : Cells} {os : List LinePiece}
-    → keys k q ≡ no_roles → ((ps : List LinePiece) → portion k q ps ≡ front k ps)
-    → ((ps : List LinePiece) → left k q ps ≡ back k ps) → IsWords q → NoKeys r → TakesPieces q cs ds
-    → pieces q ds ≡ back k (pieces q cs) → Cut r ds os → StepBack k q r cs os
-word_back {k} {r} {cs = cs} no_keys shares leaves n f t e c =
-    let p = put_words_back n f t c in
-    let all = words_of_cut n f p.cut in
-    record {
-      before = p.words;
-      cut = subst (λ own. Cut (either own r) cs p.words) (sym no_keys) p.cut;
-      leaves = leaves p.words ∙ (ap (back k) (sym all) ∙ (sym e ∙ words_of_cut n f c));
-      own = ap (front k) all ∙ sym (shares p.words);
-    }
-
 -- of any field
 pub step_back : (k : FieldKind) {q r : Roles} {T : Type 0} (value : List LinePiece → T → Type 0)
     {s m : Situation} {v : T} {os : List LinePiece} → OwnItems k q → Before k q r
@@ -156,10 +141,15 @@ step_back ByName {r} value n b f c =
     let w = widen n b c in
     let p = put_back_some r f.takes w.cut in
     record { before = p.now; cut = p.cut; leaves = p.alike ∙ w.all; own = pieces_of_cut r n p.cut }
-step_back (OneWord z) value n b f c =
-    word_back refl (λ ps. refl) (λ ps. refl) n (record { none = b }) f.takes (f.rest tt) c
-step_back (EachWord z) value n b f c =
-    word_back refl (λ ps. refl) (λ ps. refl) n (record { none = b }) f.takes (f.rest tt) c
+step_back k value n b f c =
+    let p = put_words_back n b f.takes c in
+    let all = words_of_cut n b p.cut in
+    record {
+      before = p.words;
+      cut = p.cut;
+      leaves = ap (back k) (sym all) ∙ (sym (f.rest tt) ∙ words_of_cut n b c);
+      own = ap (front k) all;
+    }
 
 -- a field that left nothing of its own
 pub none_left : (k : FieldKind) (q : Roles) {r : Roles} {cs : Cells} {os : List LinePiece}
@@ -173,16 +163,7 @@ none_left _ q n b c = tt
 pub own_portion : (k : FieldKind) (q r : Roles) {cs : Cells} {os : List LinePiece} → OwnItems k q
     → Before k q r → Cut (either (keys k q) r) cs os → front k (pieces q cs) ≡ portion k q os
 own_portion ByName q r n b c = pieces_of_cut r n c
-own_portion (OneWord z) q r n b c = ap (front (OneWord z)) (words_of_cut n (record { none = b }) c)
-own_portion (EachWord z) q r n b c =
-    ap (front (EachWord z)) (words_of_cut n (record { none = b }) c)
-
--- the cut after a positional field was evaluated
-word_on : (k : FieldKind) {q r : Roles} {cs ds : Cells} {os : List LinePiece} → IsWords q → NoKeys r
-    → TakesPieces q cs ds → pieces q ds ≡ back k (pieces q cs) → Cut r cs os → Cut r ds (back k os)
-word_on k {r} n f t e c =
-    let p = take_words_from n f t c in
-    subst (Cut r _) (sym (words_of_cut n f p.cut) ∙ (e ∙ ap (back k) (words_of_cut n f c))) p.cut
+own_portion k q r n b c = ap (front k) (words_of_cut n b c)
 
 -- the cut after a field was evaluated
 pub step_on : (k : FieldKind) {q r : Roles} {cs ds : Cells} {os : List LinePiece} → OwnItems k q
@@ -192,8 +173,9 @@ step_on ByName {r} n b t e c =
     let p = take_some_from r n t c in
     let i = narrow n e p.cut in
     subst (Cut r _) (sym i.all ∙ p.alike) i.cut
-step_on (OneWord z) n b t e c = word_on (OneWord z) n (record { none = b }) t e c
-step_on (EachWord z) n b t e c = word_on (EachWord z) n (record { none = b }) t e c
+step_on k {r} n b t e c =
+    let p = take_words_from n b t c in
+    subst (Cut r _) (sym (words_of_cut n b p.cut) ∙ (e ∙ ap (back k) (words_of_cut n b c))) p.cut
 
 -- Fields before others keep to the laws.
 

@@ -343,9 +343,8 @@ nobody e = cc
 follows : (k : FieldKind) (q : Roles) {r : Roles} {own : List Names} (others : List Names)
     → Owns (keys k q) own → Owns r others → may_follow k own others ≡ true → Before k q r
 follows ByName q others a b h = apart_of_names a b h
-follows (OneWord z) q (names ∷ others) a b h = absurd cc
-follows (EachWord z) q (names ∷ others) a b h = absurd cc
 follows _ q {r} [] a b h = λ i. foreign_of (r i) (false_from_ne_true _ (λ e. nobody (b.own i e)))
+follows _ q (names ∷ others) a b h = absurd cc
 
 -- a field before others
 pub program_both_law : (env : Variables) (A B : Type 0) (first : Outcome A) (rest : Outcome B)

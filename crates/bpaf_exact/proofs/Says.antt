@@ -392,14 +392,9 @@ alone_says {T} {names} {s} {kind} {said} own_keys h = record { by = by_form s ow
         (first_fits owned (record { own = λ k e. absurd cc }) (apart_none names)
         whole (subst (λ own. Fits own (either q no_roles) whole) (sym (append-nil names)) fits)))))
         (each (mine q os) v (each_own q os) m.0)
-    own (OneWord b) q value owned each whole os v fits m same =
-        subst (λ z. said (front (OneWord b) z) v)
-        (sym (others_none (either no_roles no_roles) (λ k. refl) os))
-        (each (front (OneWord b) os) v tt m.0)
-    own (EachWord b) q value owned each whole os v fits m same =
-        subst (λ z. said (front (EachWord b) z) v)
-        (sym (others_none (either no_roles no_roles) (λ k. refl) os))
-        (each (front (EachWord b) os) v tt m.0)
+    own k q value owned each whole os v fits m same =
+        subst (λ z. said (front k z) v) (sym (others_none (either no_roles no_roles) (λ k. refl) os))
+        (each (front k os) v tt m.0)
 
     by_form : (s : ProgramForm T) → FormOwns names s → FormSays names s kind said
         → FieldsFormSays names (program_alone s)
@@ -449,27 +444,15 @@ module _ {A B : Type 0} (own : List Names) {behind : List Names} (said : Said A)
             ∙ (mine_within r both (second_within q r) os
             ∙ sym (mine_of_others q r (λ k e. apart.right k e) os))))),
       )
-  kind_says (OneWord b) each owned may whole os v fits fit m same =
+  kind_says k each owned may whole os v fits fit m same =
       let none = none_behind own behind owned_behind may in
       let left_to = others_none r none os in (
-        subst (λ z. said (front (OneWord b) z) v.0) (sym left_to) (each (front (OneWord b) os) v.0
-            tt m.0),
+        subst (λ z. said (front k z) v.0) (sym left_to) (each (front k os) v.0 tt m.0),
         subst (λ z. rest_said whole z v.1)
-            (others_none r none (back (OneWord b) os) ∙ ap (back (OneWord b)) (sym left_to))
-            (rest_each whole (back (OneWord b) os) v.1 (no_fits r own behind may none whole)
-            (no_fits r own behind may none (back (OneWord b) os)) m.1
-            (mine_none r none whole ∙ sym (mine_none r none (back (OneWord b) os)))),
-      )
-  kind_says (EachWord b) each owned may whole os v fits fit m same =
-      let none = none_behind own behind owned_behind may in
-      let left_to = others_none r none os in (
-        subst (λ z. said (front (EachWord b) z) v.0) (sym left_to) (each (front (EachWord b) os)
-            v.0 tt m.0),
-        subst (λ z. rest_said whole z v.1)
-            (others_none r none (back (EachWord b) os) ∙ ap (back (EachWord b)) (sym left_to))
-            (rest_each whole (back (EachWord b) os) v.1 (no_fits r own behind may none whole)
-            (no_fits r own behind may none (back (EachWord b) os)) m.1
-            (mine_none r none whole ∙ sym (mine_none r none (back (EachWord b) os)))),
+            (others_none r none (back k os) ∙ ap (back k) (sym left_to))
+            (rest_each whole (back k os) v.1 (no_fits r own behind may none whole)
+            (no_fits r own behind may none (back k os)) m.1
+            (mine_none r none whole ∙ sym (mine_none r none (back k os)))),
       )
 
 -- a field before others
@@ -527,10 +510,8 @@ record_says {T} s {kind} {names} {said} h = by_form s h.by
         → {os : List LinePiece} (v : T) → (last_reading k q value).value os v → said os v
     all_own ByName q value each {os} v m =
         subst (λ z. said z v) (all_mine q os m.1) (each (mine q os) v (each_own q os) m.0)
-    all_own (OneWord b) q value each {os} v m =
-        subst (λ z. said z v) (all_front (OneWord b) m.1) (each (front (OneWord b) os) v tt m.0)
-    all_own (EachWord b) q value each {os} v m =
-        subst (λ z. said z v) (all_front (EachWord b) m.1) (each (front (EachWord b) os) v tt m.0)
+    all_own k q value each {os} v m =
+        subst (λ z. said z v) (all_front k m.1) (each (front k os) v tt m.0)
 
     by_form : (s : ProgramForm T) → FormSays names s kind said
         → (os : List LinePiece) (v : T) → Fits names (product_roles (whole_program s)) os

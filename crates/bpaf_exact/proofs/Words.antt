@@ -10,8 +10,8 @@ use Rattle.bpaf_exact.specs.Flat.{IsWords, NonePresent, no_place, none_here}
 use Rattle.bpaf_exact.proofs.Cells.{begin_at}
 
 -- no item is a key
-pub record NoKeys (r : Roles) : Type 0 where
-  pub none : (k : Arg) → r k ≡ Foreign
+abbrev pub NoKeys : Roles → Type 0
+NoKeys r = (k : Arg) → r k ≡ Foreign
 
 -- an item of a positional field is a word
 word_of : {q : Roles} (k : Arg) → IsWords q → q k ≡ Alone → is_positional k ≡ true
@@ -42,8 +42,8 @@ put_word_back n f (takes_one {k = k} e) (passed {os = os} c) =
 put_word_back n f (takes_two e v) c = absurd (never_two n e)
 put_word_back n f (takes_later {c = None} t) (passed c) = let i = put_word_back n f t c in
     record { words = i.words; cut = passed i.cut }
-put_word_back n f (takes_later {c = Some k} t) (flag e c) = let g = f.none k in absurd cc
-put_word_back n f (takes_later {c = Some k} t) (argument e v c) = let g = f.none k in absurd cc
+put_word_back n f (takes_later {c = Some k} t) (flag e c) = let g = f k in absurd cc
+put_word_back n f (takes_later {c = Some k} t) (argument e v c) = let g = f k in absurd cc
 put_word_back n f (takes_later {c = Some k} t) (word h c) = let i = put_word_back n f t c in
     record { words = One k ∷ i.words; cut = word h i.cut }
 
@@ -51,13 +51,13 @@ put_word_back n f (takes_later {c = Some k} t) (word h c) = let i = put_word_bac
 pub take_word_from : {q r : Roles} {cs ds : Cells} {o : LinePiece} {os : List LinePiece} → IsWords q
     → NoKeys r → TakesPiece q cs o ds → Cut r cs os → WordCut r ds
 take_word_from n f (takes_one e) (flag g c) = record { words = _; cut = passed c }
-take_word_from n f (takes_one {k = k} e) (argument g v c) = let h = f.none k in absurd cc
+take_word_from n f (takes_one {k = k} e) (argument g v c) = let h = f k in absurd cc
 take_word_from n f (takes_one e) (word h c) = record { words = _; cut = passed c }
 take_word_from n f (takes_two e v) c = absurd (never_two n e)
 take_word_from n f (takes_later {c = None} t) (passed c) = let i = take_word_from n f t c in
     record { words = i.words; cut = passed i.cut }
-take_word_from n f (takes_later {c = Some k} t) (flag e c) = let g = f.none k in absurd cc
-take_word_from n f (takes_later {c = Some k} t) (argument e v c) = let g = f.none k in absurd cc
+take_word_from n f (takes_later {c = Some k} t) (flag e c) = let g = f k in absurd cc
+take_word_from n f (takes_later {c = Some k} t) (argument e v c) = let g = f k in absurd cc
 take_word_from n f (takes_later {c = Some k} t) (word h c) =
     let i = take_word_from n f t c in record { words = One k ∷ i.words; cut = word h i.cut }
 
@@ -78,8 +78,8 @@ pub words_of_cut : {q r : Roles} {cs : Cells} {os : List LinePiece} → IsWords 
     → Cut r cs os → pieces q cs ≡ os
 words_of_cut n f at_end = refl
 words_of_cut n f (passed c) = words_of_cut n f c
-words_of_cut n f (flag {k = k} e c) = let g = f.none k in cc
-words_of_cut n f (argument {k = k} e v c) = let g = f.none k in cc
+words_of_cut n f (flag {k = k} e c) = let g = f k in cc
+words_of_cut n f (argument {k = k} e v c) = let g = f k in cc
 words_of_cut {q} n f (word {w = w} {cs = cs} h c) =
     begin_at w cs (pieces q cs) (n.words w ∙ ap (λ b. if b then Alone else Foreign) h) ∙ ap
     (λ z. One w ∷ z) (words_of_cut n f c)
