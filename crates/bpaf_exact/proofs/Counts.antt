@@ -7,7 +7,7 @@ use Rattle.bpaf_line.specs.Situation.{Situation, open_count, count_below, is_ope
 use Rattle.bpaf_line.specs.Taking.{open_item}
 use Rattle.bpaf_index.proofs.Counts.{count_below-same, count_below-some}
 use Rattle.bpaf_line.proofs.{Matches.open_has_item, Places.open_in_line}
-use Rattle.bpaf_exact.specs.Pieces.{Cells, Roles, LinePiece, TakesPiece, takes_one, takes_two}
+use Rattle.bpaf_exact.specs.Pieces.{Cells, Roles, LinePiece, TakesPiece}
 use Rattle.bpaf_exact.specs.Pieces.{takes_later, TakesPieces, takes_none, takes_more}
 use Rattle.bpaf_exact.specs.{Flat.cells, Flat.first_cells, Single.present_count, Single.TakesAny}
 

@@ -14,13 +14,13 @@ use Rattle.bpaf_exact.specs.Wrappers.{Closure, OptionalValue, FallbackValue}
 use Rattle.bpaf_exact.specs.Leaves.{FlagValue, ArgumentValue, WordValue, flag_field, LastGroup}
 use Rattle.bpaf_exact.specs.Leaves.{argument_field, argument_group, argument_roles, flag_roles}
 use Rattle.bpaf_exact.specs.Leaves.{key_field, word_by}
-use Rattle.bpaf_exact.specs.Record.{RunAnswer, Accepted, NoMemory, Refusal, RecordValue, IsExact}
+use Rattle.bpaf_exact.specs.Record.{RunAnswer, Accepted, NoMemory, Refusal, RecordValue, IsExact, line_cells}
 use Rattle.bpaf_exact.specs.ProgramForm.{ProgramForm, alternative, single, complete, product}
 use Rattle.bpaf_exact.specs.ProgramForm.{commands, before_commands, FormLaw, program_if}
 use Rattle.bpaf_exact.specs.ProgramForm.{program_closed, completed, program_field, may_follow}
 use Rattle.bpaf_exact.specs.ProgramForm.{program_both, program_alone, program_con, whole_program}
-use Rattle.bpaf_exact.specs.ProgramForm.{is_record, no_program, product_roles, program_optional}
-use Rattle.bpaf_exact.specs.ProgramForm.{program_value, product_reading}
+use Rattle.bpaf_exact.specs.ProgramForm.{is_record, program_optional}
+use Rattle.bpaf_exact.specs.ProgramForm.{program_value, product_reading, whole_value}
 use Rattle.bpaf_exact.specs.OneView.{Alike, OneGroup, HasOneView, Respects, pair_view, LooksLike}
 use Rattle.bpaf_exact.specs.Pieces.{Cells, Roles, LinePiece, One, Two, IsNamed}
 use Rattle.bpaf_exact.specs.{Single.repeated, Programs.OptionalCommands}
@@ -229,12 +229,6 @@ module _ (env : Variables) (T X : Type 0) (see : T → X) (inner : Outcome T) wh
       each k q group gap l.0 u.0 u.1
   whole_view kind value each names words _ l u = tt
 
-  -- the list of a repeat
-  pub repeat_view : (names : List Names) (words : List (List ℕ)) (s : ProgramForm T)
-      → FormLaw env inner names words s → HasOneView see s
-      → HasOneView (map see) (completed repeated (OwnList T) s)
-  repeat_view = whole_view repeated (OwnList T) list_view
-
   -- what may be left out
   pub optional_field_view : (names : List Names) (words : List (List ℕ)) (s : ProgramForm T)
       → FormLaw env inner names words s → HasOneView see s
@@ -280,10 +274,10 @@ many_view env T X see inner names words s l u =
     closed_view (List T) (Vec T) (List X) (List X) (map see) (λ values. map see values.items)
     (list_closure T)
     (record {
-      same = λ x y v w e f g. ap (map see) f
-          ∙ (e ∙ sym (ap (map see) g));
+      same = λ x y v w e f g. ap (map see) f ∙ (e ∙ sym (ap (map see) g));
       apart = λ x y v e f n. n;
-    }) (completed repeated (OwnList T) s) (repeat_view env T X see inner names words s l u)
+    }) (completed repeated (OwnList T) s)
+    (whole_view env T X see inner repeated (OwnList T) list_view names words s l u)
 
 -- Products.
 
@@ -336,33 +330,26 @@ module _ (T X : Type 0) (see : T → X) where
       e.complete h.cut_into (read_cut h) (l.has_each h.cut_into v h.read)
 
   -- all that is read off the same cells looks alike
-  reads_one : (env : Variables) (outcome : Outcome T) (names : List Names) (words : List (List ℕ))
-      (s : ProgramForm T) → IsNamed (product_roles (whole_program s))
-      → FormLaw env outcome names words s → HasOneView see s → {cs : Cells}
-      → Alike see (ReadOff T (product_roles (whole_program s))
-      (product_reading (whole_program s)).value cs)
-  reads_one env outcome names words s named l u v w a b =
-      let c = one_cut named (read_cut a) (read_cut b) in
-      product_view (whole_program s) (record_view env outcome names words s l u) b.cut_into v w
-      (subst (λ os. (product_reading (whole_program s)).value os v) c a.read) b.read
+  reads_one : {r : Roles} {value : List LinePiece → T → Type 0} → IsNamed r
+      → ((os : List LinePiece) → Alike see (value os)) → (cs : Cells)
+      → Alike see (ReadOff T r value cs)
+  reads_one {value} named one cs v w a b =
+      one b.cut_into v w
+      (subst (λ os. value os v) (one_cut named (read_cut a) (read_cut b)) a.read) b.read
 
   -- All values of a program on the same cells look alike.
   pub values_look_one : (env : Variables) (outcome : Outcome T) (names : List Names)
       (words : List (List ℕ)) (s : ProgramForm T) → FormLaw env outcome names words s
       → HasOneView see s → (cs : Cells) → Alike see (program_value s cs)
-  values_look_one env outcome names words (alternative wide q value) l u cs v w a b =
-      reads_one env outcome names words (alternative wide q value)
-      (whole_law env T outcome names words (alternative wide q value) l).0.named l u v w a b
-  values_look_one env outcome names words (single wide k q group gap) l u cs v w a b =
-      reads_one env outcome names words (single wide k q group gap)
-      (whole_law env T outcome names words (single wide k q group gap) l).0.named l u v w a b
-  values_look_one env outcome names words (complete wide k q value) l u cs v w a b =
-      reads_one env outcome names words (complete wide k q value)
-      (whole_law env T outcome names words (complete wide k q value) l).0.named l u v w a b
-  values_look_one env outcome names words (product wide named q fields) l u cs v w a b =
-      reads_one env outcome names words (product wide named q fields) l.0.named l u v w a b
-  values_look_one env outcome names words no_program l u cs v w a b = absurd a
-  values_look_one env outcome names words _ l u cs v w a b = u cs v w a b
+  values_look_one env outcome names words s l u =
+      by_whole (whole_program s) (whole_law env T outcome names words s l)
+      (record_view env outcome names words s l u)
+    where
+      by_whole : (w : ProgramForm T) → FormLaw env outcome names [] w → HasOneView see w
+          → (cs : Cells) → Alike see (whole_value w cs)
+      by_whole (product wide named q fields) l u = reads_one l.0.named u
+      by_whole (before_commands value) l u = u
+      by_whole _ l u = λ cs v w a b. absurd a
 
   -- Where the record has a value, each answer looks like it, or is want of memory; with the value
   -- itself for a view, it is that value.
@@ -371,7 +358,7 @@ module _ (T X : Type 0) (see : T → X) where
       → FormLaw context.env outcome names words s → HasOneView see s
       → RunsToOne see outcome s context
   runs_to_one outcome names words s h context l u a v ran r =
-      like_this (record_law context.env T outcome names words s h l)
-      (reads_one context.env outcome names words s
-      (record_law context.env T outcome names words s h l).named l u) a v
-      (runs_exactly T outcome names words s h context l a ran) r
+      let law = record_law context.env T outcome names words s h l in
+      let one = record_view context.env outcome names words s l u in
+      like_this law (reads_one law.named (product_view (whole_program s) one) (line_cells context))
+      a v (runs_exactly T outcome names words s h context l a ran) r

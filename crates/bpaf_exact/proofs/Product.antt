@@ -4,17 +4,17 @@ use Rattle.std.proofs.Common.{inl, inr, Bool, sym, ap, ◌∙◌, subst, if◌th
 use Rattle.bpaf_line.specs.{declared.error.Error.Error, Situation.Situation, Messages.is_memory}
 use Rattle.bpaf_laws.specs.{Product.BothOutcome, Product.joined, Reading.Outcome}
 use Rattle.bpaf_laws.specs.{Spared.IsNotMemory}
-use Rattle.bpaf_exact.specs.Pieces.{no_roles, Cells, Role, Foreign, Roles}
+use Rattle.bpaf_exact.specs.Pieces.{Cells, Role, Foreign, Roles}
 use Rattle.bpaf_exact.specs.Pieces.{LinePiece, is_own_role, is_own, others, either_role}
 use Rattle.bpaf_exact.specs.Pieces.{either, IsNamed, Apart, Cut, at_end, passed, flag, argument}
-use Rattle.bpaf_exact.specs.Flat.{cells, IsWholeIn, Steady, FieldKind, ByName, OneWord}
-use Rattle.bpaf_exact.specs.Flat.{EachWord, front, back, portion, left, keys, IsWords, OwnItems}
+use Rattle.bpaf_exact.specs.Flat.{cells, IsWholeIn, Steady, FieldKind, ByName}
+use Rattle.bpaf_exact.specs.Flat.{front, back, portion, left, keys, OwnItems}
 use Rattle.bpaf_exact.specs.Flat.{NoKeysLeft, FieldTook, FieldLaw, FieldsLaw, Before}
 use Rattle.bpaf_exact.specs.Flat.{FieldsReading, both_reading, class, OfMemory, HasValue, Variables}
 use Rattle.bpaf_exact.specs.Pieces.{word, pieces, TakesPieces}
 use Rattle.bpaf_exact.proofs.Cells.{value_foreign, word_foreign, nil_rest, nil_foreign}
 use Rattle.bpaf_exact.proofs.Cells.{pieces_of_cut, others_foreign, put_back_some, take_some_from}
-use Rattle.bpaf_exact.proofs.Words.{NoKeys, put_words_back, take_words_from, words_of_cut}
+use Rattle.bpaf_exact.proofs.Words.{put_words_back, take_words_from, words_of_cut}
 use Rattle.bpaf_exact.proofs.{Cells.begin_at, Classes.memory_class, Classes.not_memory}
 use Rattle.bpaf_exact.proofs.Cuts.{read_cut, read_off}
 

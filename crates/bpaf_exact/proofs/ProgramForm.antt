@@ -12,7 +12,7 @@ use Rattle.bpaf_line.specs.Situation.{Context, beginning}
 use Rattle.bpaf_laws.specs.Product.{BothOutcome, ProductOutcome}
 use Rattle.bpaf_laws.specs.Command.{Called, is_one_of, opening_words}
 use Rattle.bpaf_laws.specs.{Choice.ChoiceOutcome, Reading.Outcome, Repeat.LastOutcome}
-use Rattle.bpaf_exact.specs.Flat.{ErrorClass, Refused, FieldKind, ByName, OneWord, EachWord, Before}
+use Rattle.bpaf_exact.specs.Flat.{ErrorClass, Refused, FieldKind, ByName, Before}
 use Rattle.bpaf_exact.specs.Flat.{FieldLaw, FieldsLaw, both_reading, keys, Variables}
 use Rattle.bpaf_exact.specs.Single.{RepeatOutcome, repeated, Groups, Gap, SingleLaw}
 use Rattle.bpaf_exact.specs.Wrappers.{Closure, Decides, map_closure, ClosedEval, OptionalEval}

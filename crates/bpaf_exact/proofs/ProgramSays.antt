@@ -8,11 +8,11 @@ use Rattle.bpaf_laws.specs.{Command.Called, Command.opening_words, Reading.Outco
 use Rattle.bpaf_exact.specs.Says.{SaidKind, form_kind, of_kind, repeated_kind, Said, Says, FormSays}
 use Rattle.bpaf_exact.specs.ProgramForm.{ProgramForm, no_program, alternative, single, complete}
 use Rattle.bpaf_exact.specs.ProgramForm.{product, commands, before_commands, FormLaw, program_if}
-use Rattle.bpaf_exact.specs.ProgramForm.{program_closed, program_dressed, completed}
+use Rattle.bpaf_exact.specs.ProgramForm.{program_closed, program_dressed, completed, whole_value}
 use Rattle.bpaf_exact.specs.ProgramForm.{program_optional, program_choice, choice_only}
 use Rattle.bpaf_exact.specs.ProgramForm.{program_field, program_both, program_alone, program_con}
 use Rattle.bpaf_exact.specs.ProgramForm.{whole_program, program_value, is_program, program_command}
-use Rattle.bpaf_exact.specs.ProgramForm.{are_words_apart, product_roles, product_reading}
+use Rattle.bpaf_exact.specs.ProgramForm.{are_words_apart, product_roles}
 use Rattle.bpaf_exact.specs.Programs.{CellsValue, ChoiceValue, OptionalCommands}
 use Rattle.bpaf_exact.specs.ProgramSays.{ProgramSaid, of_pieces, of_cells, ProgramFieldsSaid}
 use Rattle.bpaf_exact.specs.ProgramSays.{of_all_pieces, of_all_cells, IsSaid, CellsSay}
@@ -22,14 +22,15 @@ use Rattle.bpaf_exact.specs.ProgramSays.{said_command, said_dressed, said_option
 use Rattle.bpaf_exact.specs.ProgramSays.{said_last, said_repeat, fields_said_inside, CutSays}
 use Rattle.bpaf_exact.specs.Wrappers.{ClosedValue, FallbackValue, OptionalValue, Closure}
 use Rattle.bpaf_exact.specs.Single.{OwnList, repeated, Groups, Gap}
-use Rattle.bpaf_exact.specs.Flat.{ByName, Variables, FieldKind, ReadOff}
+use Rattle.bpaf_exact.specs.Flat.{ByName, Variables, FieldKind}
 use Rattle.bpaf_exact.specs.{Programs.are_plain, ProgramSays.FieldThenSays, Names.are_all_apart}
-use Rattle.bpaf_exact.specs.{Names.Owns, Gathered.LastOf, Pieces.LinePiece}
+use Rattle.bpaf_exact.specs.{Gathered.LastOf, Pieces.LinePiece}
 use Rattle.bpaf_exact.proofs.Says.{alone_says, both_say, choice_into, choice_says, closed_says}
 use Rattle.bpaf_exact.proofs.Says.{con_says, field_owned, field_says, optional_says, owned}
 use Rattle.bpaf_exact.proofs.Says.{record_says, unless_says, fallback_says, OwnsKeys, last_says}
 use Rattle.bpaf_exact.proofs.Sharing.{cut_fit, taken_own}
 use Rattle.bpaf_exact.proofs.{Says.listed_says, ProgramForm.whole_law, Cuts.read_cut}
+use Rattle.bpaf_exact.proofs.Says.{WholeSays}
 
 -- where a test holds
 cells_if : {T : Type 0} (b : Bool) (s : ProgramForm T) (said : CellsValue T)
@@ -176,34 +177,21 @@ program_says env {P} {T} outcome words s {kind} {names} {said} {p} law h is = by
     by_cells no_program said h = λ cs v c. absurd c
     by_cells _ said h = absurd h
 
-    read_so : (s : ProgramForm T) → Owns (product_roles (whole_program s)) names → {said : Said T}
-        → FormSays names s kind said
-        → IsSaid (ReadOff T (product_roles (whole_program s))
-        (product_reading (whole_program s)).value) (CutSays (product_roles (whole_program s)) said)
-    read_so s owns h cs v read = record {
+    by_whole : (w : ProgramForm T) → FormLaw env outcome names [] w → {said : Said T}
+        → WholeSays names w said → IsSaid (whole_value w) (CutSays (product_roles w) said)
+    by_whole (product wide named q fields) law says = λ cs v read. record {
       cut_into = read.cut_into;
       cut = read_cut read;
-      told = record_says s (record { by = h }) read.cut_into v
-          (cut_fit (product_roles (whole_program s)) names owns (read_cut read)) read.read;
+      told = says read.cut_into v (cut_fit q names law.1 (read_cut read)) read.read;
     }
-
-    by_pieces : (s : ProgramForm T) → FormLaw env outcome names words s → {said : Said T}
-        → FormSays names s kind said
-        → IsSaid (program_value s) (CutSays (product_roles (whole_program s)) said)
-    by_pieces (alternative wide q value) law h = read_so (alternative wide q value)
-        (whole_law env T outcome names words (alternative wide q value) law).1 h
-    by_pieces (single wide k q group gap) law h = read_so (single wide k q group gap)
-        (whole_law env T outcome names words (single wide k q group gap) law).1 h
-    by_pieces (complete wide k q value) law h = read_so (complete wide k q value)
-        (whole_law env T outcome names words (complete wide k q value) law).1 h
-    by_pieces (product wide named q fields) law h = read_so (product wide named q fields) law.1 h
-    by_pieces no_program law h = λ cs v c. absurd c
-    by_pieces _ law h = absurd h
+    by_whole no_program law says = λ cs v c. absurd c
+    by_whole _ law says = absurd says
 
     by_said : (said : ProgramSaid P T) → ProgramSays names s kind said p
         → IsSaid (program_value s) (cells_said s said p)
     by_said (of_cells said) h = by_cells s (said p) h.by
-    by_said (of_pieces said) h = by_pieces s law h.by.by
+    by_said (of_pieces said) h =
+        by_whole (whole_program s) (whole_law env T outcome names words s law) (record_says s h.by)
 
 -- a command
 pub program_command_says : (env : Variables) {P Q T : Type 0} (inside : Q → P) (q : Q)

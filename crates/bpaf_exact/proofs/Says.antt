@@ -3,7 +3,7 @@ use Rattle.std.proofs.Common.{◌≡◌, ℕ, Bool, true, false, List, [], ◌�
 use Rattle.std.proofs.Common.{◌&&◌, ◌||◌, not, refl, sym, ap, ◌∙◌, subst, append-nil, inl, inr}
 use Rattle.bpaf_doc.specs.Names.{Names}
 use Rattle.bpaf_exact.specs.Pieces.{Roles, LinePiece, One, Two, is_own, mine, others, either}
-use Rattle.bpaf_exact.specs.Flat.{FieldKind, ByName, OneWord, EachWord, FieldsReading, keys, front}
+use Rattle.bpaf_exact.specs.Flat.{FieldKind, ByName, OneWord, FieldsReading, keys, front}
 use Rattle.bpaf_exact.specs.Single.{Groups, Gap, FrontOf, Own, own_none, own_more, OwnList, listed}
 use Rattle.bpaf_exact.specs.Single.{listed_and_absent, only_absent, SingleValue, gap_of, repeated}
 use Rattle.bpaf_exact.specs.Wrappers.{Closure, OptionalValue, FallbackValue}
@@ -15,8 +15,8 @@ use Rattle.bpaf_exact.specs.ProgramForm.{ProgramForm, FormLaw, no_program, alter
 use Rattle.bpaf_exact.specs.ProgramForm.{complete, product, commands, before_commands, program_if}
 use Rattle.bpaf_exact.specs.ProgramForm.{program_closed, program_choice, completed}
 use Rattle.bpaf_exact.specs.ProgramForm.{program_optional, program_field, is_named, may_follow}
-use Rattle.bpaf_exact.specs.ProgramForm.{product_roles, program_both, program_alone, program_con}
-use Rattle.bpaf_exact.specs.ProgramForm.{whole_program, product_reading}
+use Rattle.bpaf_exact.specs.ProgramForm.{program_both, program_alone, program_con}
+use Rattle.bpaf_exact.specs.ProgramForm.{whole_program}
 use Rattle.bpaf_exact.specs.Says.{SaidKind, form_kind, of_kind, keyed, repeated_kind, AllOwn, Fits}
 use Rattle.bpaf_exact.specs.Says.{Said, FlagSays, says_present, says_absent, says_variable}
 use Rattle.bpaf_exact.specs.Says.{ArgumentSays, says_variable_text, says_text, says_last_text}
@@ -498,11 +498,17 @@ con_says {names = names} {s = product wide named q fields} {said = said} own_key
 con_says {s = before_commands value} own_keys g = absurd g.by
 con_says own_keys g = record { by = tt }
 
+-- each value of a whole program of this form says so of all pieces of a line; one of commands,
+-- which is read off none, says nothing
+abbrev pub WholeSays : {T : Type 0} → List Names → ProgramForm T → Said T → Type 0
+WholeSays {T = T} names (product wide named r fields) said =
+    (os : List LinePiece) (v : T) → Fits names r os → fields.value os v → said os v
+WholeSays names no_program said = Unit {0}
+WholeSays names _ said = ⊥
+
 -- A value of a flat record says what its parser says of all pieces of the line.
 pub record_says : {T : Type 0} (s : ProgramForm T) {kind : SaidKind} {names : List Names}
-    {said : Said T} → Says names s kind said
-    → (os : List LinePiece) (v : T) → Fits names (product_roles (whole_program s)) os
-    → (product_reading (whole_program s)).value os v → said os v
+    {said : Said T} → Says names s kind said → WholeSays names (whole_program s) said
 record_says {T} s {kind} {names} {said} h = by_form s h.by
   where
     all_own : (k : FieldKind) (q : Roles) (value : List LinePiece → T → Type 0)
@@ -514,14 +520,13 @@ record_says {T} s {kind} {names} {said} h = by_form s h.by
         subst (λ z. said z v) (all_front k m.1) (each (front k os) v tt m.0)
 
     by_form : (s : ProgramForm T) → FormSays names s kind said
-        → (os : List LinePiece) (v : T) → Fits names (product_roles (whole_program s)) os
-        → (product_reading (whole_program s)).value os v → said os v
-    by_form (alternative wide q value) h os v fits m = all_own ByName q _
+        → WholeSays names (whole_program s) said
+    by_form (alternative wide q value) h = λ os v fits m. all_own ByName q _
         (λ os v all. whole_says said _ (gap_of value None) (front_says value h.1)
         (λ v none. absurd none) os v) v m
-    by_form (single wide k q group gap) h os v fits m =
+    by_form (single wide k q group gap) h = λ os v fits m.
         all_own k q _ (λ os v all. whole_says said group gap h.1 h.2 os v) v m
-    by_form (complete wide k q value) h os v fits m = all_own k q value h.1 v m
-    by_form (product wide named q fields) h os v fits m = h.1 os os v fits fits m refl refl
-    by_form no_program h os v fits m = absurd m
-    by_form _ h os v fits m = absurd h
+    by_form (complete wide k q value) h = λ os v fits m. all_own k q value h.1 v m
+    by_form (product wide named q fields) h = λ os v fits m. h.1 os os v fits fits m refl refl
+    by_form no_program h = tt
+    by_form _ h = absurd h
