@@ -162,21 +162,20 @@ data Other (T : Type 0) (qb : Roles) (vb : LinePiece → T → Type 0) (cs cm : 
       → Other T qb vb cs cm
 
 module _ (T : Type 0) (qa qb r : Roles) (u : Union qa qb r) (va vb vr : LinePiece → T → Type 0)
-    (gives : (o : LinePiece) (v : T) → is_own qa o ≡ true → va o v → vr o v)
-    (from_a : (o : LinePiece) (v : T) → is_own qa o ≡ true → vr o v → va o v)
-    (from_b : (o : LinePiece) (v : T) → is_own qb o ≡ true → vr o v → vb o v) where
+    (same_a : (o : LinePiece) (v : T) → is_own qa o ≡ true → vr o v ≡ va o v)
+    (same_b : (o : LinePiece) (v : T) → is_own qb o ≡ true → vr o v ≡ vb o v) where
   -- a piece of the other branch that can't be read stays one
   kept_bad : {cs cm : Cells} {oa : LinePiece} → TakesPiece qa cs oa cm → HasBad T vb (pieces qb cs)
       → HasBad T vr (pieces r cm)
   kept_bad {cm = cm} t h =
-      bad_left T vb vr qb qa r (swap_union qa qb r u) from_b cm
+      bad_left T vb vr qb qa r (swap_union qa qb r u) same_b cm
       (subst (HasBad T vb) (sym (keeps_other u.named_left u.named_right u.apart t)) h)
 
   -- the winner took the first piece of both, or one that can't be read stays
   won_first : {cs cm : Cells} {oa : LinePiece} → TakesPiece qa cs oa cm → Other T qb vb cs cm
       → TakesFirst qa cs oa cm ⊎ HasBad T va (pieces qa cm)
       → TakesFirst r cs oa cm ⊎ HasBad T vr (pieces r cm)
-  won_first {cm = cm} t o (inr h) = inr (bad_left T va vr qa qb r u from_a cm h)
+  won_first {cm = cm} t o (inr h) = inr (bad_left T va vr qa qb r u same_a cm h)
   won_first t (other_took tb l (inl f) rb) (inl h) = inl (first_both u h f l)
   won_first t (other_took tb l (inr f) rb) (inl h) =
       inr (kept_bad t (bad_given_back u.named_right tb f))
@@ -190,13 +189,14 @@ module _ (T : Type 0) (qa qb r : Roles) (u : Union qa qb r) (va vb vr : LinePiec
       → TakesFirst r cs oa cm
   won_readable {cs = cs} {cm = cm} {oa = oa} t other ra o w e v = by_owner (owner cs u e) other
     where
-      by_owner : HeadOf qa cs o × (is_own qa o ≡ true) ⊎ HeadOf qb cs o × (is_own qb o ≡ true)
-          → Other T qb vb cs cm → TakesFirst r cs oa cm
-      by_owner (inl h) x = first_mine u e h.1 (ra o h.0.tail w h.0.is (from_a o w h.1 v))
+      by_owner : HeadOf qa cs o ⊎ HeadOf qb cs o → Other T qb vb cs cm → TakesFirst r cs oa cm
+      by_owner (inl h) x =
+          first_mine u e h.2 (ra o h.0 w h.1 (subst (λ X. X) (same_a o w h.2) v))
       by_owner (inr h) (other_took tb l f rb) =
-          absurd (not_left u e h.1 t (rb o h.0.tail w h.0.is (from_b o w h.1 v)) l)
-      by_owner (inr h) (other_missing n) = let i = h.0.is in absurd cc
-      by_owner (inr h) (other_refused b n) = absurd (n o h.0.tail w h.0.is (from_b o w h.1 v))
+          absurd (not_left u e h.2 t (rb o h.0 w h.1 (subst (λ X. X) (same_b o w h.2) v)) l)
+      by_owner (inr h) (other_missing n) = let i = h.1 in absurd cc
+      by_owner (inr h) (other_refused b n) =
+          absurd (n o h.0 w h.1 (subst (λ X. X) (same_b o w h.2) v))
 
   -- the winner's value is one of the choice
   won : (s m t : Situation) (x : T) → AlternativeOk T qa va s x m
@@ -206,7 +206,7 @@ module _ (T : Type 0) (qa qb r : Roles) (u : Union qa qb r) (va vb vr : LinePiec
     steady = steady_trans a.steady st;
     piece = a.piece;
     takes = subst (TakesPiece r (cells s) a.piece) (sym e) (takes_left u a.takes);
-    means = gives a.piece x (takes_own a.takes) a.means;
+    means = subst (λ X. X) (sym (same_a a.piece x (takes_own a.takes))) a.means;
     first = subst (λ ct. TakesFirst r (cells s) a.piece ct ⊎ HasBad T vr (pieces r ct)) (sym e)
         (won_first a.takes o a.first);
     readable = λ p ps w h v. subst (TakesFirst r (cells s) a.piece) (sym e)
@@ -230,43 +230,27 @@ module _ {env : Variables} (T : Type 0) (a b : Outcome T) (qa qb : Roles)
   own_role (Two k w) h = ap is_own_role (apart.right k h)
 
   -- a piece of the first means what it means to the first
-  pick_first : {o : LinePiece} {v : T} → is_own qa o ≡ true → vr o v ≡ va o v
-  pick_first {o} {v} h = ap (λ z. MatchBool z (va o v) (vb o v)) h
+  same_first : (o : LinePiece) (v : T) → is_own qa o ≡ true → vr o v ≡ va o v
+  same_first o v h = ap (λ z. MatchBool z (va o v) (vb o v)) h
 
   -- one of the second what it means to the second
-  pick_second : {o : LinePiece} {v : T} → is_own qb o ≡ true → vr o v ≡ vb o v
-  pick_second {o} {v} h = ap (λ z. MatchBool z (va o v) (vb o v)) (own_role o h)
-
-  -- from the first to the choice
-  give_first : (o : LinePiece) (v : T) → is_own qa o ≡ true → va o v → vr o v
-  give_first o v h g = subst (λ X. X) (sym (pick_first h)) g
-
-  -- and back
-  from_first : (o : LinePiece) (v : T) → is_own qa o ≡ true → vr o v → va o v
-  from_first o v h g = subst (λ X. X) (pick_first h) g
-
-  -- from the second to the choice
-  give_second : (o : LinePiece) (v : T) → is_own qb o ≡ true → vb o v → vr o v
-  give_second o v h g = subst (λ X. X) (sym (pick_second h)) g
-
-  -- and back
-  from_second : (o : LinePiece) (v : T) → is_own qb o ≡ true → vr o v → vb o v
-  from_second o v h g = subst (λ X. X) (pick_second h) g
+  same_second : (o : LinePiece) (v : T) → is_own qb o ≡ true → vr o v ≡ vb o v
+  same_second o v h = ap (λ z. MatchBool z (va o v) (vb o v)) (own_role o h)
 
   -- the first branch won
   first_won : {s m t : Situation} {x : T} → AlternativeOk T qa va s x m
       → Other T qb vb (cells s) (cells m) → Steady m t → cells t ≡ cells m
       → AlternativeOk T (either qa qb) vr s x t
   first_won {s} {m} {t} {x} o h st e =
-      won T qa qb (either qa qb) u va vb vr give_first from_first from_second s m t x o h st e
+      won T qa qb (either qa qb) u va vb vr same_first same_second s m t x o h st e
 
   -- the second branch won
   second_won : {s n t : Situation} {y : T} → AlternativeOk T qb vb s y n
       → Other T qa va (cells s) (cells n) → Steady n t → cells t ≡ cells n
       → AlternativeOk T (either qa qb) vr s y t
   second_won {s} {n} {t} {y} o h st e =
-      won T qb qa (either qa qb) (swap_union qa qb
-      (either qa qb) u) vb va vr give_second from_second from_first s n t y o h st e
+      won T qb qa (either qa qb) (swap_union qa qb (either qa qb) u) vb va vr same_second same_first
+      s n t y o h st e
 
   -- the other branch took something further right
   took_other : {q : Roles} {v : LinePiece → T → Type 0} {s : Situation} (m : Situation)
@@ -370,42 +354,27 @@ module _ {env : Variables} (T : Type 0) (a b : Outcome T) (qa qb : Roles)
 
   -- both fail
   first_bad : (cs : Cells) → HasBad T va (pieces qa cs) → HasBad T vr (pieces (either qa qb) cs)
-  first_bad cs h = bad_left T va vr qa qb (either qa qb) u from_first cs h
+  first_bad cs h = bad_left T va vr qa qb (either qa qb) u same_first cs h
 
   -- the first piece can't be read
-  Unread : (q : Roles) (v : LinePiece → T → Type 0) (s : Situation) → Type 0
+  abbrev Unread : (q : Roles) (v : LinePiece → T → Type 0) (s : Situation) → Type 0
   Unread q v s =
       (o : LinePiece) (os : List LinePiece) (w : T) → pieces q (cells s) ≡ o ∷ os → v o w → ⊥
 
-  -- where there is no piece none can
-  none_unread : (q : Roles) (v : LinePiece → T → Type 0) (s : Situation) → pieces q (cells s) ≡ []
-      → Unread q v s
-  unfolding Unread
-  none_unread q v s e o os w h g = cc
-
   -- where neither first piece can be read, that of both can't
   both_unread : (s : Situation) → Unread qa va s → Unread qb vb s → Unread (either qa qb) vr s
-  unfolding Unread
   both_unread s f g o os w h x = by_owner (owner (cells s) u h)
     where
-      by_owner : HeadOf qa (cells s) o × (is_own qa o ≡ true) ⊎ HeadOf qb (cells s) o
-          × (is_own qb o ≡ true) → ⊥
-      by_owner (inl i) = f o i.0.tail w i.0.is (from_first o w i.1 x)
-      by_owner (inr i) = g o i.0.tail w i.0.is (from_second o w i.1 x)
-
-  -- then the choice refuses
-  refused_either : {s : Situation} {g : Error} → class g ≡ Refused
-      → HasBad T vr (pieces (either qa qb) (cells s)) → Unread (either qa qb) vr s
-      → AlternativeErr T (either qa qb) vr s g s
-  unfolding Unread
-  refused_either c h n = alternative_refused c refl h n
+      by_owner : HeadOf qa (cells s) o ⊎ HeadOf qb (cells s) o → ⊥
+      by_owner (inl i) = f o i.0 w i.1 (subst (λ X. X) (same_first o w i.2) x)
+      by_owner (inr i) = g o i.0 w i.1 (subst (λ X. X) (same_second o w i.2) x)
 
   -- with a refusal of either class
   by_class : {s : Situation} {g : Error} → (class g ≡ OfMemory) ⊎ (class g ≡ Refused)
       → HasBad T vr (pieces (either qa qb) (cells s)) → Unread (either qa qb) vr s
       → AlternativeErr T (either qa qb) vr s g s
   by_class (inl c) h n = alternative_memory c
-  by_class (inr c) h n = refused_either c h n
+  by_class (inr c) h n = alternative_refused c refl h n
 
   -- where neither has a piece, the choice has none
   both_missing : {s : Situation} {g : Error} → (class g ≡ OfMissing) ⊎ (class g ≡ OfMemory)
@@ -417,19 +386,18 @@ module _ {env : Variables} (T : Type 0) (a b : Outcome T) (qa qb : Roles)
   both_failed : (s : Situation) {m n : Situation} (e f : Error) {g : Error} → is_memory e.0 ≡ false
       → is_memory f.0 ≡ false → Combines e.0 f.0 g.0 → AlternativeErr T qa va s e m
       → AlternativeErr T qb vb s f n → AlternativeErr T (either qa qb) vr s g s
-  unfolding Unread
   both_failed s e f x y c (alternative_memory p) j = absurd (not_memory e.0 x p)
   both_failed s e f x y c i (alternative_memory q) = absurd (not_memory f.0 y q)
   both_failed s e f x y c (alternative_missing p i same st) (alternative_missing q j alike steady) =
       both_missing (combined_missing e.0 f.0 p q c) (both_nil (cells s) u i j)
   both_failed s e f x y c (alternative_missing p i same st) (alternative_refused q path h k) =
       by_class (combined_refused e.0 f.0 (inr q) (inl p) (inr q) c)
-      (bad_left T vb vr qb qa (either qa qb) (swap_union qa qb (either qa qb) u) from_second
+      (bad_left T vb vr qb qa (either qa qb) (swap_union qa qb (either qa qb) u) same_second
       (cells s) h)
-      (both_unread s (none_unread qa va s i) k)
+      (both_unread s (λ o os w e g. cc) k)
   both_failed s e f x y c (alternative_refused p path h k) (alternative_missing q j same st) =
       by_class (combined_refused e.0 f.0 (inl p) (inr p) (inl q) c) (first_bad (cells s) h)
-      (both_unread s k (none_unread qb vb s j))
+      (both_unread s k (λ o os w e g. cc))
   both_failed s e f x y c (alternative_refused p path h k) (alternative_refused q other bad none) =
       by_class (combined_refused e.0 f.0 (inl p) (inr p) (inr q) c) (first_bad (cells s) h)
       (both_unread s k none)

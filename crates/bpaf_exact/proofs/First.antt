@@ -10,6 +10,7 @@ use Rattle.bpaf_exact.specs.Alternative.{TakesFirst, first_one, first_two, first
 use Rattle.bpaf_exact.specs.Alternative.{bad_here, bad_later}
 use Rattle.bpaf_exact.proofs.Cells.{value_foreign, nil_rest, nil_foreign, keeps_other, same_next}
 use Rattle.bpaf_exact.proofs.Cells.{begin_at}
+use Rattle.std.proofs.Common.{⊎_elim}
 
 -- taking the first piece is taking one
 pub first_takes : {q : Roles} {cs ds : Cells} {o : LinePiece} → TakesFirst q cs o ds
@@ -176,67 +177,41 @@ belongs {qa} {qb} {r} {k} u = by_role (qa k) (qb k) refl refl
     by_role Foreign _ e f = let h = ap is_own_role f in to_second h (u.right k h) e
     by_role _ y e f = let h = ap is_own_role e in to_first h (u.left k h) (u.apart.left k h)
 
--- an item isn't both the field's own and not
-own_or_not : (x : Role) → is_own_role x ≡ true → x ≡ Foreign → ⊥
-own_or_not Foreign h e = cc
-own_or_not _ h e = cc
-
 -- the first piece of both is the first piece of its owner
-pub record HeadOf (q : Roles) (cs : Cells) (o : LinePiece) : Type 0 where
-  pub tail : List LinePiece
-  pub is : pieces q cs ≡ o ∷ tail
+abbrev pub HeadOf : Roles → Cells → LinePiece → Type 0
+HeadOf q cs o = (tail : List LinePiece) × (pieces q cs ≡ o ∷ tail) × (is_own q o ≡ true)
 
 -- the first piece of both is that of one of them
 pub owner : {qa qb r : Roles} (cs : Cells) {o : LinePiece} {os : List LinePiece} → Union qa qb r
-    → pieces r cs ≡ o ∷ os
-    → HeadOf qa cs o × (is_own qa o ≡ true) ⊎ HeadOf qb cs o × (is_own qb o ≡ true)
+    → pieces r cs ≡ o ∷ os → HeadOf qa cs o ⊎ HeadOf qb cs o
 owner [] u e = absurd cc
-owner {qa} {qb} (None ∷ cs) {o} u e = passed_by (owner cs u e)
-  where
-    same_head : {q : Roles} → HeadOf q cs o → HeadOf q (None ∷ cs) o
-    same_head h = record { tail = h.tail; is = h.is }
-
-    passed_by : HeadOf qa cs o × (is_own qa o ≡ true) ⊎ HeadOf qb cs o × (is_own qb o ≡ true)
-        → HeadOf qa (None ∷ cs) o × (is_own qa o ≡ true) ⊎ HeadOf qb (None ∷ cs) o
-        × (is_own qb o ≡ true)
-    passed_by (inl h) = inl (same_head h.0, h.1)
-    passed_by (inr h) = inr (same_head h.0, h.1)
+owner (None ∷ cs) u e = owner cs u e
 owner {qa} {qb} {r} (Some k ∷ cs) {o} {os} u e =
     by_owner (belongs u) (λ h. owner cs u (sym (begin_at k cs (pieces r cs) h) ∙ e))
   where
-    other_head : {q : Roles} → q k ≡ Foreign → HeadOf q cs o → HeadOf q (Some k ∷ cs) o
-    other_head {q} f h = record { tail = h.tail; is = begin_at k cs (pieces q cs) f ∙ h.is }
-
-    own_head : {q : Roles} (x : Role) → q k ≡ x → r k ≡ x → is_own_role x ≡ true
-        → HeadOf q (Some k ∷ cs) o × (is_own q o ≡ true)
-    own_head Foreign f g h = absurd cc
-    own_head {q} Alone f g h =
+    own_head : (q : Roles) (x : Role) → q k ≡ x → r k ≡ x → is_own_role x ≡ true
+        → HeadOf q (Some k ∷ cs) o
+    own_head q Foreign f g h = absurd cc
+    own_head q Alone f g h =
         let a = begin_at k cs (pieces r cs) g in
         let b = begin_at k cs (pieces q cs) f in
         let d : One k ≡ o = cc in
-        (record { tail = pieces q cs; is = cc }, ap (is_own q) (sym d) ∙ ap is_own_role f)
-    own_head {q} WithNext f g h =
+        (pieces q cs, cc, ap (is_own q) (sym d) ∙ ap is_own_role f)
+    own_head q WithNext f g h =
         let a = begin_at k cs (pieces r cs) g in
         let b = begin_at k cs (pieces q cs) f in
-        let d : with_next k cs ≡ o = cc in (
-          record { tail = pieces q cs; is = cc },
-          ap (is_own q) (sym d) ∙ (own_next q k cs ∙ ap is_own_role f),
-        )
+        let d : with_next k cs ≡ o = cc in
+        (pieces q cs, cc, ap (is_own q) (sym d) ∙ (own_next q k cs ∙ ap is_own_role f))
 
-    rest_owner : qa k ≡ Foreign → qb k ≡ Foreign
-        → HeadOf qa cs o × (is_own qa o ≡ true) ⊎ HeadOf qb cs o × (is_own qb o ≡ true)
-        → HeadOf qa (Some k ∷ cs) o × (is_own qa o ≡ true) ⊎ HeadOf qb (Some k ∷ cs) o
-        × (is_own qb o ≡ true)
-    rest_owner f g (inl h) = inl (other_head f h.0, h.1)
-    rest_owner f g (inr h) = inr (other_head g h.0, h.1)
+    passed_by : (q : Roles) → q k ≡ Foreign → HeadOf q cs o → HeadOf q (Some k ∷ cs) o
+    passed_by q f h = (h.0, begin_at k cs (pieces q cs) f ∙ h.1, h.2)
 
-    by_owner : Belongs qa qb r k → (r k ≡ Foreign
-        → HeadOf qa cs o × (is_own qa o ≡ true) ⊎ HeadOf qb cs o × (is_own qb o ≡ true))
-        → HeadOf qa (Some k ∷ cs) o × (is_own qa o ≡ true) ⊎ HeadOf qb (Some k ∷ cs) o
-        × (is_own qb o ≡ true)
-    by_owner (to_first h g f) i = inl (own_head (qa k) refl g h)
-    by_owner (to_second h g f) i = inr (own_head (qb k) refl g h)
-    by_owner (to_none f g h) i = rest_owner f g (i h)
+    by_owner : Belongs qa qb r k → (r k ≡ Foreign → HeadOf qa cs o ⊎ HeadOf qb cs o)
+        → HeadOf qa (Some k ∷ cs) o ⊎ HeadOf qb (Some k ∷ cs) o
+    by_owner (to_first h g f) i = inl (own_head qa (qa k) refl g h)
+    by_owner (to_second h g f) i = inr (own_head qb (qb k) refl g h)
+    by_owner (to_none f g h) i =
+        ⊎_elim (λ a. inl (passed_by qa f a)) (λ b. inr (passed_by qb g b)) (i h)
 
 -- An item that isn't the first field's own goes before the first piece only where it isn't the
 -- other's either.
@@ -246,10 +221,10 @@ not_either : {qa qb r : Roles} {k : Arg} (cs : Cells) {o : LinePiece} {os : List
 not_either {qa} {qb} {r} {k} cs {o} {os} u f h e = by_owner (belongs u)
   where
     by_owner : Belongs qa qb r k → (r k ≡ Foreign) × (pieces r cs ≡ o ∷ os)
-    by_owner (to_first g x y) = absurd (own_or_not (qa k) g f)
+    by_owner (to_first g x y) = let z = ap is_own_role f in absurd cc
     by_owner (to_second g x y) =
         let d = head_key qa (r k) k cs (pieces r cs) o (ap is_own_role x ∙ g) e in
-        let z : is_own_role (qa k) ≡ false = ap is_own_role f in
+        let z = ap is_own_role f in
         absurd cc
     by_owner (to_none x y z) = (z, sym (begin_at k cs (pieces r cs) z) ∙ e)
 
@@ -361,7 +336,7 @@ never_same {qa} u s t e =
 
 -- A piece of one field that can't be read is one of both that can't be read.
 module _ (T : Type 0) (va vr : LinePiece → T → Type 0) (qa qb r : Roles) (u : Union qa qb r)
-    (back : (o : LinePiece) (v : T) → is_own qa o ≡ true → vr o v → va o v) where
+    (same : (o : LinePiece) (v : T) → is_own qa o ≡ true → vr o v ≡ va o v) where
   -- pieces that can't be read stay behind an item
   bad_any : (x : Role) (k : Arg) (cs : Cells) {os : List LinePiece} → HasBad T vr os
       → HasBad T vr (begin_piece x k cs os)
@@ -377,10 +352,11 @@ module _ (T : Type 0) (va vr : LinePiece → T → Type 0) (qa qb r : Roles) (u 
   bad_at Foreign {y} k cs e g f h = bad_any y k cs (f h)
   bad_at Alone k cs {ps} e g f (bad_here h) =
       subst (λ z. HasBad T vr (begin_piece z k cs ps)) (sym (e refl))
-      (bad_here (λ v x. h v (back (One k) v (g (One k) refl) x)))
+      (bad_here (λ v x. h v (subst (λ X. X) (same (One k) v (g (One k) refl)) x)))
   bad_at WithNext k cs {ps} e g f (bad_here h) =
       subst (λ z. HasBad T vr (begin_piece z k cs ps)) (sym (e refl))
-      (bad_here (λ v x. h v (back (with_next k cs) v (g (with_next k cs) (own_next qa k cs)) x)))
+      (bad_here (λ v x. h v (subst (λ X. X)
+      (same (with_next k cs) v (g (with_next k cs) (own_next qa k cs))) x)))
   bad_at _ k cs {ps} e g f (bad_later h) =
       subst (λ z. HasBad T vr (begin_piece z k cs ps)) (sym (e refl)) (bad_later (f h))
 
