@@ -84,7 +84,8 @@ guard_law env A inner checks message names words s g l =
 pub optional_law : (env : Variables) (T : Type 0) (inner : Outcome T) (catch : Bool)
     (names : List Names) (words : List (List ℕ)) (s : ProgramForm T)
     → FormLaw env inner names words s
-    → FormLaw env (TurnOutcome inner catch true) names [] (program_if (not catch) (program_optional s))
+    → FormLaw env (TurnOutcome inner catch true) names []
+    (program_if (not catch) (program_optional s))
 optional_law env T inner true names words s l = tt
 optional_law env T inner false names words s l =
     narrower_form env (Option T) _ _ (no_more by_answer) names [] (program_optional s)

@@ -5,7 +5,7 @@ use Rattle.std.proofs.Common.{⊎_elim, arith, true≢false}
 use Rattle.std.proofs.{lemmas.Bool.and_parts, lemmas.List.Folds.list_any-append}
 use Rattle.bpaf_base.specs.Items.{is_command_word}
 use Rattle.bpaf_line.specs.Messages.{is_memory, is_wrong_input}
-use Rattle.bpaf_line.specs.Situation.{Situation, Context, beginning}
+use Rattle.bpaf_line.specs.Situation.{Situation}
 use Rattle.bpaf_line.specs.{declared.error.Error.Error, declared.error.Message.Message}
 use Rattle.bpaf_line.specs.{declared.error.Message.TheVariants.Missing, Conflicts.ConflictsSaved}
 use Rattle.bpaf_laws.specs.Choice.{Chosen, depth, branch_of, ChoiceOutcome, EqualDepths, OneOk}
@@ -13,8 +13,6 @@ use Rattle.bpaf_laws.specs.Spared.{IsNotMemory}
 use Rattle.bpaf_laws.specs.{Choice.Winner, Command.is_one_of, Reading.Outcome, Turn.is_untouched}
 use Rattle.bpaf_exact.specs.Flat.{ErrorClass, OfMemory, OfMissing, is_missing, class, cells}
 use Rattle.bpaf_exact.specs.Flat.{NonePresent, no_place, none_here, IsWholeIn, Variables}
-use Rattle.bpaf_exact.specs.Record.{line_cells, RunAnswer, Accepted, RunRan, run_value}
-use Rattle.bpaf_exact.specs.Record.{run_leftover, run_memory, run_refusal, IsAcceptedOrWant}
 use Rattle.bpaf_exact.specs.Wrappers.{Closure, AgreesOn, ClosedEval, closed_yes, closed_no}
 use Rattle.bpaf_exact.specs.Wrappers.{closed_memory, closed_err, OptionalEval, optional_some}
 use Rattle.bpaf_exact.specs.Wrappers.{ClosedValue, optional_none, optional_err, optional_memory}
@@ -26,8 +24,6 @@ use Rattle.bpaf_exact.specs.Single.{Stops, nothing_found, caught, present_count}
 use Rattle.bpaf_exact.proofs.BeforeCommands.{apart_first, apart_second}
 use Rattle.bpaf_exact.proofs.Choice.{same_scope, cells_same, saved_steady}
 use Rattle.bpaf_exact.proofs.Combining.{combined_missing, is_missing_of}
-use Rattle.bpaf_exact.proofs.Exact.{first_cells_are, no_value, all_whole}
-use Rattle.bpaf_exact.proofs.Records.{none_counted, count_none}
 use Rattle.bpaf_exact.proofs.{Classes.memory_class, Classes.not_memory, Counts.open_present}
 
 -- Closures.
@@ -460,35 +456,3 @@ module _ {env : Variables} (T : Type 0) (a b : Outcome T) (ra rb : Roles) (wa wb
           let o = la.opened cs v h in (o.0, opens_left wa wb o.1)
       by_opened {cs = cs} {v = v} (inr h) =
           let o = lb.opened cs v h in (o.0, opens_right wa wb o.1)
-
--- A run of a program.
-module _ (V : Type 0) (outcome : Outcome V) (r : Roles) (value : CellsValue V)
-    (context : Context) (l : ProgramLaw context.env V outcome r value) where
-  -- the situation at the beginning
-  abbrev s : Situation
-  s = beginning context
-
-  -- a value comes only where it is one of the program's
-  pub program_sound : IsSpelledLine context → {a : RunAnswer V} → RunRan V outcome s a → (v : V)
-      → a ≡ Accepted v → value (line_cells context) v
-  program_sound spelled (run_value {v = x} {t = t} o e) v h =
-      let d : x ≡ v = cc in
-      subst (λ cs. value cs v) (first_cells_are context) (subst (value (cells s)) d
-      (l.ok s t x all_whole spelled o (none_counted (cells t) (sym (open_present t) ∙ e))))
-  program_sound spelled {a} (run_leftover o e n) v h = absurd (no_value a n h)
-  program_sound spelled (run_memory o e) v h = absurd cc
-  program_sound spelled {a} (run_refusal o e n) v h = absurd (no_value a n h)
-
-  -- where it has a value, each answer is one, or want of memory
-  pub program_complete : {a : RunAnswer V} → RunRan V outcome s a → (u : V)
-      → value (line_cells context) u → IsAcceptedOrWant (value (line_cells context)) a
-  program_complete (run_value {v = x} {t = t} o e) u h =
-      subst (λ cs. value cs x) (first_cells_are context) (l.answers s t (Ok x) u all_whole o
-      (subst (λ cs. value cs u) (sym (first_cells_are context)) h)).0
-  program_complete (run_leftover {v = x} {t = t} o e n) u h =
-      absurd (e (open_present t ∙ count_none (l.answers s t (Ok x) u all_whole o
-      (subst (λ cs. value cs u) (sym (first_cells_are context)) h)).1))
-  program_complete (run_memory o e) u h = tt
-  program_complete (run_refusal {e = x} {t = t} o e n) u h =
-      absurd (e (l.answers s t (Err x) u all_whole o
-      (subst (λ cs. value cs u) (sym (first_cells_are context)) h)))

@@ -36,7 +36,7 @@ use Rattle.bpaf_exact.proofs.Alternative.{alternative_single, closed_alternative
 use Rattle.bpaf_exact.proofs.Wrappers.{closed_law, single_law, optional_law, fallback_law}
 use Rattle.bpaf_exact.proofs.NamedProducts.{named_both_law, named_con_law, named_last_law}
 use Rattle.bpaf_exact.proofs.Commands.{closed_program, closed_commands, optional_commands}
-use Rattle.bpaf_exact.proofs.Commands.{choice_commands, program_sound, program_complete}
+use Rattle.bpaf_exact.proofs.Commands.{choice_commands}
 use Rattle.bpaf_exact.proofs.Names.{foreign_of, apart_of_names, either_owns}
 use Rattle.bpaf_exact.proofs.BeforeCommands.{before_law, con_program}
 use Rattle.bpaf_exact.proofs.Narrow.{AllowsNoMore, narrower_gives, narrower_field, narrower_fields}
@@ -44,6 +44,7 @@ use Rattle.bpaf_exact.proofs.{Choice.choice_law, Repeat.repeat_law, Gathered.som
 use Rattle.bpaf_exact.proofs.{Gathered.last_of_law, Product.both_law, Records.con_law}
 use Rattle.bpaf_exact.proofs.{Records.last_law, Narrow.narrower_alternative, Narrow.narrower_single}
 use Rattle.bpaf_exact.proofs.{Programs.command_law, Programs.record_program, Exact.exact}
+use Rattle.bpaf_exact.proofs.Exact.{run_sound, all_whole, run_complete, first_cells_are}
 
 -- where a test holds
 if_law : (env : Variables) {T : Type 0} (outcome : Outcome T) (names : List Names)
@@ -291,7 +292,8 @@ module _ (env : Variables) (T : Type 0) (outcome : Outcome T) (names : List Name
 
   -- a flat record keeps to the laws of a list of fields,
   pub record_law : (s : ProgramForm T) → is_record s ≡ true → Law s
-      → FieldsLaw env T outcome (product_roles (whole_program s)) (product_reading (whole_program s))
+      → FieldsLaw env T outcome (product_roles (whole_program s))
+      (product_reading (whole_program s))
   record_law (alternative wide q value) h l = (whole_law (alternative wide q value) l).0
   record_law (single wide k q group gap) h l = (whole_law (single wide k q group gap) l).0
   record_law (complete wide k q value) h l = (whole_law (complete wide k q value) l).0
@@ -401,9 +403,12 @@ pub runs_as_program : (V : Type 0) (outcome : Outcome V) (names : List Names)
     × ((u : V) → program_value s (line_cells context) u
     → IsAcceptedOrWant (program_value s (line_cells context)) a)
 runs_as_program V outcome names words s h context l spelled a ran =
-    let law = program_law context.env V outcome names words s h l in (
-      program_sound V outcome law.roles (program_value s) context law.program spelled ran,
-      program_complete V outcome law.roles (program_value s) context law.program ran,
+    let law = (program_law context.env V outcome names words s h l).program in (
+      run_sound (program_value s)
+          (λ t v o n. law.ok (beginning context) t v all_whole spelled o n) ran,
+      λ u value. run_complete (program_value s) (λ t x o. law.answers (beginning context) t x u
+          all_whole o (subst (λ cs. program_value s cs u) (sym (first_cells_are context)) value))
+          ran,
     )
 
 -- each answer of a run of a flat record is exact

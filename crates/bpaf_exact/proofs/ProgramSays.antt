@@ -207,7 +207,8 @@ program_command_says env {T} inside q outcome words form adjacent apart called l
         c.0,
         c.1,
         (program_says env outcome words s law h
-            (and_parts ((not adjacent && apart) && are_plain opening) (is_program s) on).1) c.0 v c.2,
+            (and_parts ((not adjacent && apart) && are_plain opening) (is_program s) on).1) c.0 v
+            c.2,
       )));
 }
   where

@@ -1,7 +1,7 @@
 -- A command over a program keeps to the laws of commands, and a named field before them to those of
 -- a program.
 use Rattle.std.proofs.Common.{◌≡◌, ◌≤◌, ◌<◌, ℕ, zero, suc, Bool, true, false, not, ◌&&◌, List, []}
-use Rattle.std.proofs.Common.{◌∷◌, length, Option, Some, None, Result, Ok, Err, refl, sym, ap, ◌∙◌}
+use Rattle.std.proofs.Common.{◌∷◌, length, Option, Some, None, Result, Ok, refl, sym, ap, ◌∙◌}
 use Rattle.std.proofs.Common.{subst, inl, inr, ⊎_elim, arith, true≢false, if◌then◌else◌, ◌||◌}
 use Rattle.std.proofs.lemmas.Bool.{cases_lt, cases_Bool, and_parts}
 use Rattle.std.proofs.lemmas.Slice.Eq.{bytes_eq-Decides}
@@ -28,6 +28,7 @@ use Rattle.bpaf_exact.proofs.Choice.{HasItem, has_item}
 use Rattle.bpaf_exact.proofs.Places.{same_cells, same_item, closed_item, TakenOne}
 use Rattle.bpaf_exact.proofs.{Counts.open_present, Matching.match_of, Product.no_own_in_cut}
 use Rattle.bpaf_exact.proofs.{Records.count_none, Cells.begin_at, Cuts.read_cut}
+use Rattle.bpaf_exact.proofs.Records.{fields_give}
 
 -- A command's word on cells.
 
@@ -337,24 +338,12 @@ module _ {env : Variables} (T : Type 0) (inner : Outcome T) (r : Roles) (value :
 -- A flat record is a program.
 module _ {env : Variables} {V : Type 0} {outcome : Outcome V} {r : Roles}
     {reading : FieldsReading V} (l : FieldsLaw env V outcome r reading) where
-  -- its values, read off a cut
-  abbrev record_value : CellsValue V
-  record_value cs v = ReadOff V r reading.value cs v
-
-  -- where it has a value each answer is one, or want of memory
-  record_answers : (s t : Situation) (a : Result V Error) (u : V) → IsWholeIn env s → outcome s a t
-      → record_value (cells s) u → GivesAll (record_value (cells s)) a t
-  record_answers s t (Ok v) u w o h =
-      let n = l.takes_all s t v h.cut_into w o (read_cut h) (l.has_each h.cut_into u h.read) in
-      (l.ok s t v w o n, n)
-  record_answers s t (Err e) u w o h =
-      l.refuses s t e h.cut_into w o (read_cut h) (l.has_each h.cut_into u h.read)
-
   -- the laws
-  pub record_program : ProgramLaw env V outcome r record_value
+  pub record_program : ProgramLaw env V outcome r (ReadOff V r reading.value)
   record_program = record {
     others = λ q n a cs v s h. no_own_in_cut n a (read_cut h);
     deep = λ s t v w o. let e = ap length (l.steady s t v w o).path in omega arith;
     ok = λ s t v w spelled o. l.ok s t v w o;
-    answers = record_answers;
+    answers = λ s t a u w o h.
+        fields_give l a w o (read_cut h) (l.has_each h.cut_into u h.read);
   }

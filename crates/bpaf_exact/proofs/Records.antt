@@ -1,16 +1,18 @@
 -- The last field of a product, and its constructor.
-use Rattle.std.proofs.Common.{◌≡◌, List, [], ◌∷◌, Some, None, refl, sym, ap, ◌∙◌, subst, arith}
+use Rattle.std.proofs.Common.{◌≡◌, List, [], ◌∷◌, Some, None, refl, sym, ap, ◌∙◌, subst, arith, Ok}
 use Rattle.bpaf_line.specs.Situation.{Situation, with_current}
 use Rattle.bpaf_laws.specs.{Product.ProductOutcome, Reading.Outcome}
 use Rattle.bpaf_exact.specs.Pieces.{Cells, Roles, Role, Foreign, LinePiece, IsNamed, Cut, either}
 use Rattle.bpaf_exact.specs.Pieces.{either_role, no_roles, pieces}
-use Rattle.bpaf_exact.specs.Flat.{cells, NonePresent, no_place, none_here, Steady}
-use Rattle.bpaf_exact.specs.Flat.{FieldKind, ByName, keys, OwnItems, FieldLaw, FieldsLaw}
+use Rattle.bpaf_exact.specs.Flat.{cells, NonePresent, no_place, none_here, Steady, IsWholeIn}
+use Rattle.bpaf_exact.specs.Flat.{FieldKind, ByName, keys, OwnItems, FieldLaw, FieldsLaw, ReadOff}
 use Rattle.bpaf_exact.specs.Flat.{Before, FieldsReading, HasValue, portion, front, Variables}
 use Rattle.bpaf_exact.specs.Wrappers.{map_closure, ClosedValue}
-use Rattle.bpaf_exact.specs.{Single.present_count, Record.last_reading}
+use Rattle.bpaf_exact.specs.{Single.present_count, Record.last_reading, Programs.GivesAll}
 use Rattle.bpaf_exact.proofs.Product.{step_back, none_left, own_portion, step_on}
 use Rattle.bpaf_exact.proofs.{Words.empty_cut, Words.cut_empty, Cuts.read_off}
+use Rattle.std.proofs.Common.{Result, Err}
+use Rattle.bpaf_line.specs.declared.error.Error.{Error}
 
 -- Nothing is present where the count is nought.
 pub none_counted : (cs : Cells) → present_count cs ≡ 0 → NonePresent cs
@@ -22,6 +24,15 @@ none_counted (Some x ∷ cs) e = absurd (omega arith)
 pub count_none : {cs : Cells} → NonePresent cs → present_count cs ≡ 0
 count_none no_place = refl
 count_none (none_here n) = count_none n
+
+-- where each field has a value, each answer of fields is one, with nothing left, or want of memory
+pub fields_give : {env : Variables} {V : Type 0} {outcome : Outcome V} {r : Roles}
+    {reading : FieldsReading V} → FieldsLaw env V outcome r reading → {s t : Situation}
+    {os : List LinePiece} (a : Result V Error) → IsWholeIn env s → outcome s a t
+    → Cut r (cells s) os → reading.each os → GivesAll (ReadOff V r reading.value (cells s)) a t
+fields_give l {s} {t} {os} (Ok v) w o c h =
+    let n = l.takes_all s t v os w o c h in (l.ok s t v w o n, n)
+fields_give l {s} {t} {os} (Err e) w o c h = l.refuses s t e os w o c h
 
 -- The last field of a product, or a record of one field alone.
 module _ {env : Variables} {T : Type 0} {outcome : Outcome T} {k : FieldKind} {q : Roles}

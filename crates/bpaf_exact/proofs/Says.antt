@@ -324,8 +324,8 @@ fallback_says {T} f {s} {said = said} h = record {
 }
 
 -- under a repeat, as a list
-repeat_says : {T : Type 0} {s : ProgramForm T} {kind : SaidKind} {names : List Names} {said : Said T}
-    → Says names s kind said
+repeat_says : {T : Type 0} {s : ProgramForm T} {kind : SaidKind} {names : List Names}
+    {said : Said T} → Says names s kind said
     → Says names (completed repeated (OwnList T) s) (repeated_kind kind) (RepeatSays said)
 repeat_says {T} {s} {said = said} h = record {
   by = whole_form_says repeated_kind (λ k. refl) (OwnList T) (RepeatSays said)
@@ -340,8 +340,8 @@ pub listed_says : {T B : Type 0} (f : Closure (List T) B) {s : ProgramForm T} {k
 listed_says f h = closed_says (repeat_says h)
 
 -- under `last`
-pub last_says : {T : Type 0} {s : ProgramForm T} {kind : SaidKind} {names : List Names} {said : Said T}
-    → Says names s kind said
+pub last_says : {T : Type 0} {s : ProgramForm T} {kind : SaidKind} {names : List Names}
+    {said : Said T} → Says names s kind said
     → Says names (completed repeated (LastOf T) s) (repeated_kind kind) (LastSays said)
 last_says {T} {s} {said = said} h = record {
   by = whole_form_says repeated_kind (λ k. refl) (LastOf T) (LastSays said)
@@ -393,7 +393,8 @@ alone_says {T} {names} {s} {kind} {said} own_keys h = record { by = by_form s ow
         whole (subst (λ own. Fits own (either q no_roles) whole) (sym (append-nil names)) fits)))))
         (each (mine q os) v (each_own q os) m.0)
     own k q value owned each whole os v fits m same =
-        subst (λ z. said (front k z) v) (sym (others_none (either no_roles no_roles) (λ k. refl) os))
+        subst (λ z. said (front k z) v)
+        (sym (others_none (either no_roles no_roles) (λ k. refl) os))
         (each (front k os) v tt m.0)
 
     by_form : (s : ProgramForm T) → FormOwns names s → FormSays names s kind said
