@@ -152,16 +152,20 @@ pub others_foreign : (q : Roles) {o : LinePiece} (os : List LinePiece) → is_ow
     → others q (o ∷ os) ≡ o ∷ others q os
 others_foreign q {o} os h = ap (λ b. if not b then (o ∷ others q os) else others q os) h
 
--- with one piece more the others are alike where they were
-others_cong : (q : Roles) (o : LinePiece) (os ps : List LinePiece) → others q os ≡ others q ps
-    → others q (o ∷ os) ≡ others q (o ∷ ps)
-others_cong q o os ps e = ap (λ z. if not (is_own q o) then (o ∷ z) else z) e
-
 -- a cut with the same pieces of others
 pub record CutAlike (q r : Roles) (cs : Cells) (os : List LinePiece) : Type 0 where
   pub now : List LinePiece
   pub cut : Cut r cs now
   pub alike : others q now ≡ others q os
+
+-- with one piece more in front
+cut_more : {q r : Roles} {o : LinePiece} {cs ds : Cells} {os : List LinePiece} → CutAlike q r cs os
+    → ((ps : List LinePiece) → Cut r cs ps → Cut r ds (o ∷ ps)) → CutAlike q r ds (o ∷ os)
+cut_more {q} {o = o} i on = record {
+  now = o ∷ i.now;
+  cut = on i.now i.cut;
+  alike = ap (λ z. if not (is_own q o) then (o ∷ z) else z) i.alike;
+}
 
 -- a piece given back to its place is cut off there again
 pub put_back : {q : Roles} (r : Roles) {cs ds : Cells} {o : LinePiece} {os : List LinePiece}
@@ -178,19 +182,10 @@ put_back {q} r (takes_two {k = k} {w = w} e v) (passed (passed {os = os} c)) = r
 }
 put_back r (takes_later {c = None} t) (passed c) = let i = put_back r t c in
     record { now = i.now; cut = passed i.cut; alike = i.alike }
-put_back {q} r (takes_later {c = Some k} t) (flag e c) =
-    let i = put_back r t c in
-    record { now = One k ∷ i.now; cut = flag e i.cut; alike = others_cong q (One k) _ _ i.alike }
-put_back {q} r (takes_later {c = Some k} (takes_later {c = Some w} t)) (argument e v c) =
-    let i = put_back r t c in
-    record {
-      now = Two k w ∷ i.now;
-      cut = argument e v i.cut;
-      alike = others_cong q (Two k w) _ _ i.alike;
-    }
-put_back {q} r (takes_later {c = Some k} t) (word h c) =
-    let i = put_back r t c in
-    record { now = One k ∷ i.now; cut = word h i.cut; alike = others_cong q (One k) _ _ i.alike }
+put_back r (takes_later {c = Some k} t) (flag e c) = cut_more (put_back r t c) (λ ps. flag e)
+put_back r (takes_later {c = Some k} (takes_later {c = Some w} t)) (argument e v c) =
+    cut_more (put_back r t c) (λ ps. argument e v)
+put_back r (takes_later {c = Some k} t) (word h c) = cut_more (put_back r t c) (λ ps. word h)
 
 -- so are some pieces
 pub put_back_some : {q : Roles} (r : Roles) {cs ds : Cells} {os : List LinePiece}
@@ -225,23 +220,14 @@ take_from {q} r n (takes_two {k = k} {w = w} e v) (argument {os = os} g u c) = r
 take_from r n (takes_two e v) (word h c) = let g = word_foreign n h in absurd cc
 take_from r n (takes_later {c = None} t) (passed c) = let i = take_from r n t c in
     record { now = i.now; cut = passed i.cut; alike = i.alike }
-take_from {q} r n (takes_later {c = Some k} t) (flag e c) =
-    let i = take_from r n t c in
-    record { now = One k ∷ i.now; cut = flag e i.cut; alike = others_cong q (One k) _ _ i.alike }
-take_from {q} r n (takes_later {c = Some k} (takes_later {c = Some w} t)) (argument e v c) =
-    let i = take_from r n t c in
-    record {
-      now = Two k w ∷ i.now;
-      cut = argument e v i.cut;
-      alike = others_cong q (Two k w) _ _ i.alike;
-    }
+take_from r n (takes_later {c = Some k} t) (flag e c) = cut_more (take_from r n t c) (λ ps. flag e)
+take_from r n (takes_later {c = Some k} (takes_later {c = Some w} t)) (argument e v c) =
+    cut_more (take_from r n t c) (λ ps. argument e v)
 take_from r n (takes_later {c = Some k} (takes_one e')) (argument e v c) =
     let g = value_foreign n v in absurd cc
 take_from r n (takes_later {c = Some k} (takes_two e' v')) (argument e v c) =
     let g = value_foreign n v in absurd cc
-take_from {q} r n (takes_later {c = Some k} t) (word h c) =
-    let i = take_from r n t c in
-    record { now = One k ∷ i.now; cut = word h i.cut; alike = others_cong q (One k) _ _ i.alike }
+take_from r n (takes_later {c = Some k} t) (word h c) = cut_more (take_from r n t c) (λ ps. word h)
 
 -- when some pieces are
 pub take_some_from : {q : Roles} (r : Roles) {cs ds : Cells} {os : List LinePiece} → IsNamed q

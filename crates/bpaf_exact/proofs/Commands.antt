@@ -38,32 +38,30 @@ module _ {A B : Type 0} (inner : Outcome A) (r : Roles) {value : CellsValue A} {
       → ProgramLaw env B (ClosedEval A B inner f c) r closed
   closed_program {env} l = record {
     others = λ q n a cs v s h. l.others q n a cs h.from s h.read;
-    deep = closed_deep l;
-    ok = closed_ok l;
-    answers = closed_answers l;
+    deep = closed_deep;
+    ok = closed_ok;
+    answers = closed_answers;
   }
     where
-      closed_deep : ProgramLaw env A inner r value → (s t : Situation) (v : B) → IsWholeIn env s
+      closed_deep : (s t : Situation) (v : B) → IsWholeIn env s
           → ClosedEval A B inner f c s (Ok v) t → depth s ≤ depth t
-      closed_deep l s t v w (closed_yes {x = x} i y) = l.deep s t x w i
+      closed_deep s t v w (closed_yes {x = x} i y) = l.deep s t x w i
 
-      closed_ok : ProgramLaw env A inner r value → (s t : Situation) (v : B) → IsWholeIn env s
-          → IsSpelledLine s.context → ClosedEval A B inner f c s (Ok v) t → NonePresent (cells t)
-          → closed (cells s) v
-      closed_ok l s t v w spelled (closed_yes {x = x} i y) n =
+      closed_ok : (s t : Situation) (v : B) → IsWholeIn env s → IsSpelledLine s.context
+          → ClosedEval A B inner f c s (Ok v) t → NonePresent (cells t) → closed (cells s) v
+      closed_ok s t v w spelled (closed_yes {x = x} i y) n =
           record { from = x; read = l.ok s t x w spelled i n; made = y }
 
-      closed_answers : ProgramLaw env A inner r value → (s t : Situation) (a : Result B Error)
-          (u : B) → IsWholeIn env s → ClosedEval A B inner f c s a t → closed (cells s) u
-          → GivesAll (closed (cells s)) a t
-      closed_answers l s t a u w (closed_yes {x = x} i y) h =
+      closed_answers : (s t : Situation) (a : Result B Error) (u : B) → IsWholeIn env s
+          → ClosedEval A B inner f c s a t → closed (cells s) u → GivesAll (closed (cells s)) a t
+      closed_answers s t a u w (closed_yes {x = x} i y) h =
           let g = l.answers s t (Ok x) h.from w i h.read in
           (record { from = x; read = g.0; made = y }, g.1)
-      closed_answers l s t a u w (closed_no {x = x} i refuses e) h =
+      closed_answers s t a u w (closed_no {x = x} i refuses e) h =
           let g = l.answers s t (Ok x) h.from w i h.read in
           absurd (agrees (cells s) h.from x u h.read g.0 h.made refuses)
-      closed_answers l s t a u w (closed_memory i e) h = e
-      closed_answers l s t a u w (closed_err {e = e} i) h = l.answers s t (Err e) h.from w i h.read
+      closed_answers s t a u w (closed_memory i e) h = e
+      closed_answers s t a u w (closed_err {e = e} i) h = l.answers s t (Err e) h.from w i h.read
 
   -- round commands
   pub closed_commands : {env : Variables} {words : List (List ℕ)}
@@ -72,16 +70,15 @@ module _ {A B : Type 0} (inner : Outcome A) (r : Roles) {value : CellsValue A} {
   closed_commands {env} {words} l = record {
     program = closed_program l.program;
     opened = λ cs v h. l.opened cs h.from h.read;
-    none = closed_none l;
+    none = closed_none;
   }
     where
-      closed_none : CommandsLaw env A inner r words value → (s t : Situation) (a : Result B Error)
-          → IsWholeIn env s → ClosedEval A B inner f c s a t → OpensNone words (cells s)
-          → FindsNoCommand s a t
-      closed_none l s t a w (closed_yes {x = x} i y) n = absurd (l.none s t (Ok x) w i n)
-      closed_none l s t a w (closed_no {x = x} i refuses e) n = absurd (l.none s t (Ok x) w i n)
-      closed_none l s t a w (closed_memory e g) n = inl g
-      closed_none l s t a w (closed_err {e = e} i) n = l.none s t (Err e) w i n
+      closed_none : (s t : Situation) (a : Result B Error) → IsWholeIn env s
+          → ClosedEval A B inner f c s a t → OpensNone words (cells s) → FindsNoCommand s a t
+      closed_none s t a w (closed_yes {x = x} i y) n = absurd (l.none s t (Ok x) w i n)
+      closed_none s t a w (closed_no {x = x} i refuses e) n = absurd (l.none s t (Ok x) w i n)
+      closed_none s t a w (closed_memory e g) n = inl g
+      closed_none s t a w (closed_err {e = e} i) n = l.none s t (Err e) w i n
 
 -- Commands that may be left out.
 

@@ -62,7 +62,7 @@ module _ {V : Type 0} {outcome : Outcome V} {context : Context} (value : CellsVa
   run_sound ok (run_memory o e) v h = absurd cc
   run_sound ok {a} (run_refusal o e n) v h = absurd (no_value a n h)
 
-  -- where each answer of it is a value, with nothing left, or want of memory, each of the run is one
+  -- each answer is one where each of the outcome is one, with nothing left, or want of memory
   pub run_complete : ((t : Situation) (a : Result V Error) → outcome (beginning context) a t
       → GivesAll (value (cells (beginning context))) a t) → {a : RunAnswer V} → RunRan V outcome
       (beginning context) a → IsAcceptedOrWant (value (line_cells context)) a

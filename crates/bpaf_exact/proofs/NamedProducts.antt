@@ -1,6 +1,6 @@
 -- A product of named fields keeps to the laws of a named field, so it may stand in another product.
 use Rattle.std.proofs.Common.{◌≡◌, true, false, List, [], ◌∷◌, Some, None, Ok, Err, refl, sym, ap}
-use Rattle.std.proofs.Common.{ap₂, ◌∙◌, subst, if◌then◌else◌, not}
+use Rattle.std.proofs.Common.{ap₂, ◌∙◌, subst, if◌then◌else◌, not, Bool, filter}
 use Rattle.bpaf_base.specs.declared.arg.Arg.{Arg}
 use Rattle.bpaf_line.specs.{declared.error.Error.Error, Situation.Situation}
 use Rattle.bpaf_laws.specs.{Product.BothOutcome, Product.ProductOutcome, Reading.Outcome}
@@ -17,40 +17,30 @@ use Rattle.bpaf_exact.proofs.{First.union_named, Product.refused_by, Product.ste
 use Rattle.bpaf_exact.proofs.{Product.values_of_both, Cells.keeps_other_some, Cells.begin_at}
 use Rattle.bpaf_exact.proofs.{Records.before_none, Records.current_cells, Records.same_steady}
 use Rattle.bpaf_exact.proofs.{Repeat.some_trans}
+use Rattle.bpaf_exact.specs.Pieces.{is_own}
 
 -- The pieces of two fields together.
 
-module _ (q : Roles) (k : Arg) (cs : Cells) (os : List LinePiece) where
-  -- an own item begins an own piece
-  mine_begin : (x : Role) → is_own_role (q k) ≡ true
-      → mine q (begin_piece x k cs os) ≡ begin_piece x k cs (mine q os)
-  mine_begin Foreign h = refl
-  mine_begin Alone h = ap (λ b. if b then (One k ∷ mine q os) else mine q os) h
-  mine_begin WithNext h =
-      ap (λ b. if b then (with_next k cs ∷ mine q os) else mine q os) (own_next q k cs ∙ h)
+-- What a test keeps of the pieces that begin with an item.
+module _ (q : Roles) (test : LinePiece → Bool) (k : Arg) (cs : Cells) (os : List LinePiece) where
+  -- a piece that passes it is kept
+  kept_begin : (x : Role) → ((o : LinePiece) → is_own q o ≡ is_own_role (q k) → test o ≡ true)
+      → filter test (begin_piece x k cs os) ≡ begin_piece x k cs (filter test os)
+  kept_begin Foreign h = refl
+  kept_begin Alone h =
+      ap (λ b. if b then (One k ∷ filter test os) else filter test os) (h (One k) refl)
+  kept_begin WithNext h = ap (λ b. if b then (with_next k cs ∷ filter test os) else filter test os)
+      (h (with_next k cs) (own_next q k cs))
 
-  -- another item begins none
-  mine_passes : (x : Role) → is_own_role (q k) ≡ false → mine q (begin_piece x k cs os) ≡ mine q os
-  mine_passes Foreign h = refl
-  mine_passes Alone h = ap (λ b. if b then (One k ∷ mine q os) else mine q os) h
-  mine_passes WithNext h =
-      ap (λ b. if b then (with_next k cs ∷ mine q os) else mine q os) (own_next q k cs ∙ h)
-
-  -- an own item begins no piece of others
-  others_pass : (x : Role) → is_own_role (q k) ≡ true
-      → others q (begin_piece x k cs os) ≡ others q os
-  others_pass Foreign h = refl
-  others_pass Alone h = ap (λ b. if not b then (One k ∷ others q os) else others q os) h
-  others_pass WithNext h =
-      ap (λ b. if not b then (with_next k cs ∷ others q os) else others q os) (own_next q k cs ∙ h)
-
-  -- another item begins one
-  others_begin : (x : Role) → is_own_role (q k) ≡ false
-      → others q (begin_piece x k cs os) ≡ begin_piece x k cs (others q os)
-  others_begin Foreign h = refl
-  others_begin Alone h = ap (λ b. if not b then (One k ∷ others q os) else others q os) h
-  others_begin WithNext h =
-      ap (λ b. if not b then (with_next k cs ∷ others q os) else others q os) (own_next q k cs ∙ h)
+  -- another isn't
+  passed_begin : (x : Role) → ((o : LinePiece) → is_own q o ≡ is_own_role (q k) → test o ≡ false)
+      → filter test (begin_piece x k cs os) ≡ filter test os
+  passed_begin Foreign h = refl
+  passed_begin Alone h =
+      ap (λ b. if b then (One k ∷ filter test os) else filter test os) (h (One k) refl)
+  passed_begin WithNext h = ap (λ b. if b then (with_next k cs ∷ filter test os) else filter test
+      os)
+      (h (with_next k cs) (own_next q k cs))
 
 module _ {p q r : Roles} (u : Union p q r) where
   -- of the pieces of both the first one's are its own,
@@ -62,12 +52,13 @@ module _ {p q r : Roles} (u : Union p q r) where
       by_owner : Belongs p q r k → mine p (pieces r cs) ≡ pieces p cs
           → mine p (pieces r (Some k ∷ cs)) ≡ pieces p (Some k ∷ cs)
       by_owner (to_first h g f) behind =
-          mine_begin p k cs (pieces r cs) (r k) h ∙ ap₂ (λ x os. begin_piece x k cs os) g behind
+          kept_begin p (is_own p) k cs (pieces r cs) (r k) (λ o e. e ∙ h)
+          ∙ ap₂ (λ x os. begin_piece x k cs os) g behind
       by_owner (to_second h g f) behind =
-          mine_passes p k cs (pieces r cs) (r k) (ap is_own_role f)
+          passed_begin p (is_own p) k cs (pieces r cs) (r k) (λ o e. e ∙ ap is_own_role f)
           ∙ (behind ∙ sym (begin_at k cs (pieces p cs) f))
       by_owner (to_none f g h) behind =
-          mine_passes p k cs (pieces r cs) (r k) (ap is_own_role f)
+          passed_begin p (is_own p) k cs (pieces r cs) (r k) (λ o e. e ∙ ap is_own_role f)
           ∙ (behind ∙ sym (begin_at k cs (pieces p cs) f))
 
   -- and the others the second one's
@@ -76,16 +67,19 @@ module _ {p q r : Roles} (u : Union p q r) where
   others_of_both (None ∷ cs) = others_of_both cs
   others_of_both (Some k ∷ cs) = by_owner (belongs u) (others_of_both cs)
     where
+      others_begin : is_own_role (p k) ≡ false → r k ≡ q k → others p (pieces r cs) ≡ pieces q cs
+          → others p (pieces r (Some k ∷ cs)) ≡ pieces q (Some k ∷ cs)
+      others_begin h g behind =
+          kept_begin p (λ o. not (is_own p o)) k cs (pieces r cs) (r k) (λ o e. ap not (e ∙ h))
+          ∙ ap₂ (λ x os. begin_piece x k cs os) g behind
+
       by_owner : Belongs p q r k → others p (pieces r cs) ≡ pieces q cs
           → others p (pieces r (Some k ∷ cs)) ≡ pieces q (Some k ∷ cs)
       by_owner (to_first h g f) behind =
-          others_pass p k cs (pieces r cs) (r k) h ∙ (behind ∙ sym (begin_at k cs (pieces q cs) f))
-      by_owner (to_second h g f) behind =
-          others_begin p k cs (pieces r cs) (r k) (ap is_own_role f)
-          ∙ ap₂ (λ x os. begin_piece x k cs os) g behind
-      by_owner (to_none f g h) behind =
-          others_begin p k cs (pieces r cs) (r k) (ap is_own_role f)
-          ∙ ap₂ (λ x os. begin_piece x k cs os) (h ∙ sym g) behind
+          passed_begin p (λ o. not (is_own p o)) k cs (pieces r cs) (r k) (λ o e. ap not (e ∙ h))
+          ∙ (behind ∙ sym (begin_at k cs (pieces q cs) f))
+      by_owner (to_second h g f) behind = others_begin (ap is_own_role f) g behind
+      by_owner (to_none f g h) behind = others_begin (ap is_own_role f) (h ∙ sym g) behind
 
   -- what the first takes both take
   takes_some_left : {cs ds : Cells} → TakesPieces p cs ds → TakesPieces r cs ds

@@ -14,7 +14,8 @@ use Rattle.bpaf_exact.specs.Wrappers.{Closure, OptionalValue, FallbackValue}
 use Rattle.bpaf_exact.specs.Leaves.{FlagValue, ArgumentValue, WordValue, flag_field, LastGroup}
 use Rattle.bpaf_exact.specs.Leaves.{argument_field, argument_group, argument_roles, flag_roles}
 use Rattle.bpaf_exact.specs.Leaves.{key_field, word_by}
-use Rattle.bpaf_exact.specs.Record.{RunAnswer, Accepted, NoMemory, Refusal, RecordValue, IsExact, line_cells}
+use Rattle.bpaf_exact.specs.Record.{RunAnswer, Accepted, NoMemory, Refusal, RecordValue, IsExact}
+use Rattle.bpaf_exact.specs.Record.{line_cells}
 use Rattle.bpaf_exact.specs.ProgramForm.{ProgramForm, alternative, single, complete, product}
 use Rattle.bpaf_exact.specs.ProgramForm.{commands, before_commands, FormLaw, program_if}
 use Rattle.bpaf_exact.specs.ProgramForm.{program_closed, completed, program_field, may_follow}
