@@ -1,137 +1,407 @@
 -- Arguments keep to the laws.
-use Rattle.std.proofs.Common.{◌≡◌, ℕ, Bool, true, false, List, [], ◌∷◌, refl, sym, ap, ◌∙◌}
-use Rattle.std.proofs.Common.{Some, None, ◌&&◌, ◌||◌, not, subst, ⊎_elim}
+use Rattle.std.proofs.Common.{◌≡◌, ℕ, true, List, [], ◌∷◌, Some, None, refl, sym, ap, subst}
+use Rattle.std.proofs.Common.{◌∙◌, ◌++◌, ⊎_elim, map, Bool, false, ◌&&◌, ◌||◌, not}
+use Rattle.std.proofs.lemmas.Bool.{and_parts, not-true}
 use Rattle.bpaf_text.specs.Named.{KeyWithValue, argument_part}
+use Rattle.bpaf_base.specs.{Items.is_key_of, Items.item_text, declared.arg.Arg.Arg}
 use Rattle.bpaf_line.specs.declared.error.Message.TheVariants.{Memory, NoArgument, ParseFailed}
+use Rattle.bpaf_line.specs.{Situation.Situation, Situation.with_current, declared.error.Error.Error}
 use Rattle.bpaf_line.specs.declared.error.Message.{Message}
-use Rattle.bpaf_line.specs.{declared.error.Error.Error, Situation.Situation}
-use Rattle.bpaf_laws.specs.Argument.{ArgumentOutcome, ArgumentFails, TakesOwnText, TakesBefore}
-use Rattle.bpaf_laws.specs.Argument.{GetsText, LacksText, is_key_with_value}
-use Rattle.bpaf_laws.specs.{Environment.first_set, Repeat.is_nil}
-use Rattle.bpaf_exact.specs.Flat.{ByName, class, class_of, cells, Variables}
-use Rattle.bpaf_exact.specs.Alternative.{AlternativeErr, alternative_memory}
-use Rattle.bpaf_exact.specs.Single.{FrontOf, Gap, gap_of, Groups, SingleErr, SingleLaw}
-use Rattle.bpaf_exact.specs.Single.{took, of_memory, of_piece}
-use Rattle.bpaf_exact.specs.Leaves.{argument_roles, ArgumentValue, argument_field, argument_group}
-use Rattle.bpaf_exact.specs.Pieces.{Roles, LinePiece, One, Two, pieces}
-use Rattle.bpaf_exact.specs.{Alternative.AlternativeLaw, Leaves.key_field, ProgramForm.FormLaw}
-use Rattle.bpaf_exact.proofs.ArgumentPieces.{TookPair, named, nowhere, owns, took_pair, test}
-use Rattle.bpaf_exact.proofs.ArgumentPieces.{no_key, variable_fault, variable_read}
-use Rattle.bpaf_exact.proofs.Matching.{match_of, bare_taken, first_alternative, first_refused}
-use Rattle.bpaf_exact.proofs.Matching.{missing_same, absence_missing}
-use Rattle.bpaf_exact.proofs.First.{first_pieces, first_takes, takes_nonempty}
-use Rattle.bpaf_exact.proofs.Alternative.{gap_empty, took_front}
-use Rattle.bpaf_exact.proofs.{Classes.missing_class, LastArguments.last_argument_law}
+use Rattle.bpaf_laws.specs.Argument.{TakesKeyWithText, HasNoKey, IsNowhere, ReadsVariable}
+use Rattle.bpaf_laws.specs.Argument.{is_key_with_value, ArgumentOutcome, ArgumentFails}
+use Rattle.bpaf_laws.specs.Argument.{TakesKeysWithTexts, TakesOwnText, TakesBefore, GetsText}
+use Rattle.bpaf_laws.specs.{Environment.first_set, Argument.LacksText, Repeat.is_nil}
+use Rattle.bpaf_exact.specs.Flat.{ByName, Refused, Steady, cells, class, class_of, Variables}
+use Rattle.bpaf_exact.specs.Single.{Groups, gap_of, SingleErr, SingleOk, gave_absent, of_absent}
+use Rattle.bpaf_exact.specs.Single.{of_missing, Gap, TakesAny, took, of_memory, of_piece, SingleLaw}
+use Rattle.bpaf_exact.specs.Pieces.{WithNext, Roles, Two, IsNamed, pieces, LinePiece, One}
+use Rattle.bpaf_exact.specs.Alternative.{TakesFirst, AlternativeErr, alternative_memory}
+use Rattle.bpaf_exact.specs.Leaves.{argument_roles, LastGroup, ArgumentValue, argument_field}
+use Rattle.bpaf_exact.specs.{Leaves.argument_group, Leaves.key_field, Alternative.AlternativeLaw}
+use Rattle.bpaf_exact.specs.{Pieces.takes_none, Pieces.takes_more, ProgramForm.FormLaw, Names.Owns}
+use Rattle.bpaf_exact.specs.Single.{FrontOf}
+use Rattle.bpaf_exact.proofs.Matching.{match_of, ByTest, by_test, test_named, test_owns, behind_of}
+use Rattle.bpaf_exact.proofs.Matching.{pair_is, two_taken, two_steady, no_pieces, absence_caught}
+use Rattle.bpaf_exact.proofs.Matching.{bare_taken, first_alternative, first_refused, missing_same}
+use Rattle.bpaf_exact.proofs.First.{first_takes, first_pieces, takes_nonempty}
+use Rattle.bpaf_exact.proofs.{Alternative.gap_empty, Alternative.took_front, Classes.missing_class}
+use Rattle.bpaf_exact.proofs.{Records.current_cells, Records.same_steady, Matching.absence_missing}
+use Rattle.bpaf_exact.proofs.{Product.steady_refl, Product.steady_trans, Fronts.never_nil}
 
--- the text of an argument behind its key
-takes_pair : (argument : KeyWithValue) → argument.last ≡ false → {s t : Situation} {text : List ℕ}
-    → TakesOwnText argument.last argument s text t
-    → TookPair (argument_roles argument.adjacent argument.named.names) s t text
-takes_pair argument once {s} {t} {text} takes =
-    took_pair argument s t text (subst (λ b. TakesOwnText b argument s text t) once takes)
+-- the last element of a list is one
+pub last_same : {T : Type 0} (xs ys : List T) {v w : T} → xs ++ (v ∷ []) ≡ ys ++ (w ∷ []) → v ≡ w
+last_same [] [] e = cc
+last_same [] (y ∷ []) e = absurd cc
+last_same [] (y ∷ (z ∷ ys)) e = absurd cc
+last_same (x ∷ []) [] e = absurd cc
+last_same (x ∷ (z ∷ xs)) [] e = absurd cc
+last_same (x ∷ xs) (y ∷ ys) e = last_same xs ys cc
 
--- an argument without a name in the environment
-module _ {T : Type 0} (means : List ℕ → T → Type 0) (argument : KeyWithValue)
-    (no_envs : argument.named.envs ≡ []) (once : argument.last ≡ false) where
+-- keys, each with its value
+abbrev pairs : List (Arg × Arg) → List LinePiece
+pairs before = map (λ pair. Two pair.0 pair.1) before
+
+-- a key without a value is none of pieces that each have one
+bare_spoils : (some tail : List LinePiece) (before : List (Arg × Arg)) (k j w : Arg)
+    → some ++ One k ∷ tail ≡ pairs before ++ Two j w ∷ [] → ⊥
+bare_spoils [] tail [] k j w e = cc
+bare_spoils [] tail (pair ∷ before) k j w e = cc
+bare_spoils (o ∷ some) tail [] k j w e = absurd (never_nil some (One k) tail cc)
+bare_spoils (o ∷ some) tail (pair ∷ before) k j w e = bare_spoils some tail before k j w cc
+
+-- the first key of some roles and its value, which has this text, are the first piece
+pub record TookPair (q : Roles) (s t : Situation) (text : List ℕ) : Type 0 where
+  pub key : Arg
+  pub word : Arg
+  pub text_is : item_text word ≡ text
+  pub takes : TakesFirst q (cells s) (Two key word) (cells t)
+  pub steady : Steady s t
+
+module _ (argument : KeyWithValue) where
   -- the items of the argument
   abbrev q : Roles
   q = argument_roles argument.adjacent argument.named.names
 
-  -- what its pieces mean
-  abbrev value : LinePiece → T → Type 0
-  value = ArgumentValue means
+  -- what stands for no key, by the variables
+  abbrev gap : {T : Type 0} → (List ℕ → T → Type 0) → Variables → Gap T
+  gap means variables = gap_of means (first_set variables argument.named.envs)
 
-  -- no name is set in the environment
-  never_set : (s : Situation) {text : List ℕ}
-      → first_set s.context.env argument.named.envs ≡ Some text → ⊥
-  never_set s e =
-      let h : first_set s.context.env argument.named.envs ≡ None =
-      ap (first_set s.context.env) no_envs in
-      cc
+  -- each has one of its names
+  named_item : (k : Arg) → is_key_with_value argument k ≡ true
+      → is_key_of argument.named.names k ≡ true
+  named_item k e = (and_parts (is_key_of argument.named.names k) _ e).0
 
-  -- the text stands behind its key
-  gets_pair : {s t : Situation} {text : List ℕ} → GetsText argument s text t → TookPair q s t text
-  gets_pair {s} gets =
-      ⊎_elim (takes_pair argument once) (λ variable. absurd (never_set s variable.set)) gets
+  -- they are the keys that the argument looks for
+  pub test : ByTest (is_key_with_value argument) q WithNext
+  test = by_test
 
-  -- a refusal: no piece, or a first one that can't be read
-  argument_err : {s t : Situation} {e : Error} (m : Message) → class e ≡ class_of m
-      → ArgumentFails means argument s m t → AlternativeErr T q value s e t
-  argument_err Memory c o = alternative_memory c
-  argument_err (ParseFailed place fault) c o =
-      let m = gets_pair o.1 in
-      first_refused value c m.steady.path (first_pieces q (named argument) m.takes)
-      (λ v y. o.2.0 v (subst (λ z. means z v) m.text_is y))
-  argument_err {s} {t} (NoArgument key metavar) c o =
-      let same = subst (λ b. TakesBefore b argument s t) once o.1 in
-      let lacks = subst (λ z. LacksText argument z (NoArgument key metavar)) same o.0 in
-      let m = match_of (is_key_with_value argument) s key lacks.0.matches in
-      let b = bare_taken (test argument) lacks.0 m lacks.1 in
-      first_refused value c (ap (λ z. z.path) same) b.is (λ v y. y)
-  argument_err {s} other c o =
-      missing_same value (c ∙ missing_class other
-      (absence_missing s (argument_part argument) argument.named.envs no_envs other o.1.1))
-      (no_key argument s o.0) o.2
+  -- they are keys
+  pub named : IsNamed q
+  named = test_named (is_key_with_value argument) argument.named.names WithNext named_item
 
-  -- an argument keeps to the laws of an alternative
-  argument_law : {env : Variables} → AlternativeLaw env T (ArgumentOutcome means argument) q value
-  argument_law = record {
-    named = named argument;
-    ok = λ s t v w o.
+  -- with its names
+  pub owns : Owns q (argument.named.names ∷ [])
+  owns = test_owns WithNext named_item
+
+  -- a key that was taken with its text
+  pub took_pair : (s t : Situation) (text : List ℕ) → TakesKeyWithText argument s text t
+      → TookPair q s t text
+  took_pair s t text takes =
+      let m = match_of (is_key_with_value argument) s takes.key takes.first.matches in
+      let b = behind_of s takes.value in
+      subst (λ z. TookPair q s z text) (sym (takes.taken ∙ pair_is s)) (record {
+        key = m.item;
+        word = b.item;
+        text_is = b.text_is;
+        takes = two_taken s test takes.first m b;
+        steady = two_steady;
+      })
+
+  -- no key: there is no piece
+  pub no_key : (s : Situation) → HasNoKey argument s → pieces q (cells s) ≡ []
+  no_key s none = no_pieces s test none
+
+  -- the text of an argument behind its key
+  takes_pair : argument.last ≡ false → {s t : Situation} {text : List ℕ}
+      → TakesOwnText argument.last argument s text t
+      → TookPair q s t text
+  takes_pair once {s} {t} {text} takes =
+      took_pair s t text (subst (λ b. TakesOwnText b argument s text t) once takes)
+
+  -- What an argument with these pieces answers where no key is there, by its variable.
+  module _ {T : Type 0} (means : List ℕ → T → Type 0) (group : Groups T)
+      (variables : Variables) where
+    -- the text of a variable stands for no piece
+    pub variable_read : {s t : Situation} {text : List ℕ} {v : T} → s.context.env ≡ variables
+        → ReadsVariable argument s text t → means text v
+        → SingleOk T ByName q group (gap means variables) s v t
+    variable_read {s} {text} {v} same read m =
+        let here = subst (λ z. first_set z argument.named.envs ≡ Some text) same read.set in
+        subst (SingleOk T ByName q group (gap means variables) s v) (sym read.left)
+        (subst (λ gap. SingleOk T ByName q group gap s v (with_current s None))
+        (ap (gap_of means) (sym here))
+        (gave_absent refl (no_key s read.no_key) m (current_cells s)
+        (same_steady steady_refl)))
+
+    -- one that means no value is refused
+    pub variable_fault : {s t : Situation} {e : Error} {text : List ℕ} → s.context.env ≡ variables
+        → ReadsVariable argument s text t → class e ≡ Refused → ((v : T) → means text v → ⊥)
+        → SingleErr T ByName q group (gap means variables) s e t
+    variable_fault {s} {t} {e} {text} same read c none =
+        let here = subst (λ z. first_set z argument.named.envs ≡ Some text) same read.set in
+        subst (λ gap. SingleErr T ByName q group gap s e t) (ap (gap_of means) (sym here))
+        (of_absent c refl (no_key s read.no_key) none)
+
+    -- without one there is no value
+    pub nowhere : {s t : Situation} {e : Error} (m : Message) → class e ≡ class_of m
+        → s.context.env ≡ variables → HasNoKey argument s → IsNowhere argument s m → t ≡ s
+        → SingleErr T ByName q group (gap means variables) s e t
+    nowhere {s} {e} m c same none unset left =
+        let here = subst (λ z. first_set z argument.named.envs ≡ None) same unset.0 in
+        subst (SingleErr T ByName q group (gap means variables) s e) (sym left)
+        (of_missing (absence_caught s (argument_part argument) argument.named.envs m c unset.1)
+        (ap (λ z. (gap_of means z).has) here) (no_key s none) (λ c. refl))
+
+  module _ {T : Type 0} (means : List ℕ → T → Type 0)
+      (all : argument.last ≡ true) (variables : Variables) where
+    -- keys that were taken with their texts are the first pieces
+    record TookSome (s t : Situation) : Type 0 where
+      pairs : List LinePiece
+      is : pieces q (cells s) ≡ pairs ++ pieces q (cells t)
+
+    -- some keys with their texts
+    took_some : (s t : Situation) (texts : List (List ℕ)) → TakesKeysWithTexts argument s texts t
+        → TookSome s t
+    took_some s t [] same = record { pairs = []; is = ap (λ z. pieces q (cells z)) (sym same) }
+    took_some s t (text ∷ texts) o =
+        let m = took_pair s o.0 text o.1 in
+        let rest = took_some o.0 t texts o.2 in
+        record {
+          pairs = Two m.key m.word ∷ rest.pairs;
+          is = first_pieces q named m.takes ∙ ap (λ z. Two m.key m.word ∷ z) rest.is;
+        }
+
+    -- all of them are the pieces, and this is the text of the last one
+    record TookAll (s t : Situation) (text : List ℕ) : Type 0 where
+      before : List (Arg × Arg)
+      key : Arg
+      word : Arg
+      text_is : item_text word ≡ text
+      is : pieces q (cells s) ≡ pairs before ++ Two key word ∷ pieces q (cells t)
+      any : TakesAny q (cells s) (cells t)
+      steady : Steady s t
+
+    -- one key with its text
+    all_one : {s t : Situation} {text : List ℕ} → TookPair q s t text → TookAll s t text
+    all_one {t} m = record {
+      before = [];
+      key = m.key;
+      word = m.word;
+      text_is = m.text_is;
+      is = first_pieces q named m.takes;
+      any = record {
+        piece = Two m.key m.word;
+        middle = cells t;
+        one = first_takes m.takes;
+        more = takes_none;
+      };
+      steady = m.steady;
+    }
+
+    -- one before others
+    all_more : (s m t : Situation) (x text : List ℕ) → TookPair q s m x → TookAll m t text
+        → TookAll s t text
+    all_more s m t x text first rest = record {
+      before = (first.key, first.word) ∷ rest.before;
+      key = rest.key;
+      word = rest.word;
+      text_is = rest.text_is;
+      is = first_pieces q named first.takes
+          ∙ ap (λ z. Two first.key first.word ∷ z) rest.is;
+      any = record {
+        piece = Two first.key first.word;
+        middle = cells m;
+        one = first_takes first.takes;
+        more = takes_more rest.any.one rest.any.more;
+      };
+      steady = steady_trans first.steady rest.steady;
+    }
+
+    -- keys with their texts, of which this is the last
+    took_texts : (s t : Situation) (text : List ℕ) (before : List (List ℕ))
+        → TakesKeysWithTexts argument s (before ++ text ∷ []) t → TookAll s t text
+    took_texts s t text [] o =
+        subst (λ z. TookAll s z text) (sym o.2) (all_one (took_pair s o.0 text o.1))
+    took_texts s t text (x ∷ before) o =
+        all_more s o.0 t x text (took_pair s o.0 x o.1) (took_texts o.0 t text before o.2)
+
+    -- the text of an argument is that of the last of its pieces, of which none is left
+    record GotAll (s t : Situation) (text : List ℕ) : Type 0 where
+      pieces_are : TookAll s t text
+      none : pieces q (cells t) ≡ []
+
+    -- all its keys were taken
+    takes_all : {s t : Situation} {text : List ℕ} → TakesOwnText argument.last argument s text t
+        → GotAll s t text
+    takes_all {s} {t} {text} takes =
+        let last = subst (λ b. TakesOwnText b argument s text t) all takes in
+        record {
+          pieces_are = took_texts s t text last.before last.taken;
+          none = no_key t last.no_more;
+        }
+
+    -- the pieces of a text, up to the last one
+    whole : {s t : Situation} {text : List ℕ} (got : GotAll s t text)
+        → pieces q (cells s) ≡ pairs got.pieces_are.before ++ Two got.pieces_are.key
+        got.pieces_are.word ∷ []
+    whole got =
+        let a = got.pieces_are in
+        a.is ∙ ap (λ z. pairs a.before ++ Two a.key a.word ∷ z) got.none
+
+    -- a value is that of the last piece
+    last_read : (s t : Situation) {text : List ℕ} (v : T) → GotAll s t text → means text v
+        → SingleOk T ByName q (LastGroup T means) (gap means variables) s v t
+    last_read s t v got m =
+        let a = got.pieces_are in
+        let group : (rest : List LinePiece) → rest ≡ []
+        → LastGroup T means (pieces q (cells s)) v rest = (λ rest none. (
+          a.before,
+          (a.key, a.word),
+          whole got,
+          subst (λ z. means z v) (sym a.text_is) m,
+          none,
+        )) in
+        took (record {
+          steady = a.steady;
+          takes = a.any;
+          found = takes_nonempty a.any.one;
+          read = λ r. group (pieces q (cells t)) got.none;
+          readable = λ x rest g. (group rest g.4, got.none ∙ sym g.4);
+        })
+
+    -- where a last text means no value, the pieces have none
+    fault_group : {s t : Situation} {text : List ℕ} → GotAll s t text → ((v : T) → means text v → ⊥)
+        → (v : T) (rest : List LinePiece) → LastGroup T means (pieces q (cells s)) v rest → ⊥
+    fault_group got nothing v rest g =
+        let a = got.pieces_are in
+        let same : Two g.1.0 g.1.1 ≡ Two a.key a.word = last_same (pairs g.0) (pairs a.before)
+        (sym g.2 ∙ whole got) in
+        let word : g.1.1 ≡ a.word = cc in
+        nothing v (subst (λ z. means z v) (ap item_text word ∙ a.text_is) g.3)
+
+    -- where a key has no value, the pieces have none
+    bare_refused : (s : Situation) {t : Situation} {e : Error} {k : Arg} {tail : List LinePiece}
+        → class e ≡ Refused → TookSome s t → pieces q (cells t) ≡ One k ∷ tail
+        → SingleErr T ByName q (LastGroup T means) (gap means variables) s e t
+    bare_refused s {k} {tail} c some is =
+        let there : pieces q (cells s) ≡ some.pairs ++ One k ∷ tail =
+        some.is ∙ ap (λ z. some.pairs ++ z) is in
+        of_piece c (λ none. never_nil some.pairs (One k) tail (sym there ∙ none))
+        (λ v rest g. bare_spoils some.pairs tail g.0 k g.1.0 g.1.1 (sym there ∙ g.2))
+
+    -- a refusal: no piece, one without a value, or a last one that means none
+    last_err : {s t : Situation} {e : Error} (m : Message) → class e ≡ class_of m
+        → s.context.env ≡ variables → ArgumentFails means argument s m t
+        → SingleErr T ByName q (LastGroup T means) (gap means variables) s e t
+    last_err Memory c same o = of_memory c
+    last_err (ParseFailed place fault) c same o = ⊎_elim (λ takes. let got = takes_all takes in
+        of_piece c (takes_nonempty got.pieces_are.any.one) (fault_group got o.2.0))
+        (λ read. variable_fault means (LastGroup T means) variables same read c o.2.0) o.1
+    last_err {s} {t} (NoArgument key metavar) c same o =
+        let before = subst (λ b. TakesBefore b argument s t) all o.1 in
+        let m = match_of (is_key_with_value argument) t key o.0.0.matches in
+        let b = bare_taken test o.0.0 m o.0.1 in
+        bare_refused s c (took_some s t before.0 before.1) b.is
+    last_err other c same o =
+        nowhere means (LastGroup T means) variables other c same o.0 o.1 o.2
+
+    -- such an argument keeps to the laws of a field
+    pub last_argument_law : SingleLaw variables T (ArgumentOutcome means argument)
+        ByName q (LastGroup T means) (gap means variables)
+    last_argument_law = record {
+      own = named;
+      words = tt;
+      starts = λ v rest g. never_nil (pairs g.0) (Two g.1.0 g.1.1) [] (sym g.2);
+      no_absent = gap_empty means _;
+      ok = λ s t v w o.
+          ⊎_elim (λ takes. last_read s t v (takes_all takes) o.2)
+          (λ read. variable_read means (LastGroup T means) variables w.environment read o.2)
+          o.1;
+      err = λ s t e w o. last_err e.0 refl w.environment o;
+    }
+
+  -- an argument without a name in the environment
+  module _ {T : Type 0} (means : List ℕ → T → Type 0)
+      (no_envs : argument.named.envs ≡ []) (once : argument.last ≡ false) where
+    -- what its pieces mean
+    abbrev value : LinePiece → T → Type 0
+    value = ArgumentValue means
+
+    -- no name is set in the environment
+    never_set : (s : Situation) {text : List ℕ}
+        → first_set s.context.env argument.named.envs ≡ Some text → ⊥
+    never_set s e =
+        let h : first_set s.context.env argument.named.envs ≡ None =
+        ap (first_set s.context.env) no_envs in
+        cc
+
+    -- the text stands behind its key
+    gets_pair : {s t : Situation} {text : List ℕ} → GetsText argument s text t → TookPair q s t text
+    gets_pair {s} gets =
+        ⊎_elim (takes_pair once) (λ variable. absurd (never_set s variable.set)) gets
+
+    -- a refusal: no piece, or a first one that can't be read
+    argument_err : {s t : Situation} {e : Error} (m : Message) → class e ≡ class_of m
+        → ArgumentFails means argument s m t → AlternativeErr T q value s e t
+    argument_err Memory c o = alternative_memory c
+    argument_err (ParseFailed place fault) c o =
         let m = gets_pair o.1 in
-        first_alternative value m.steady (subst (λ z. means z v) (sym m.text_is) o.2) m.takes;
-    err = λ s t e w o. argument_err e.0 refl o;
-  }
+        first_refused value c m.steady.path (first_pieces q named m.takes)
+        (λ v y. o.2.0 v (subst (λ z. means z v) m.text_is y))
+    argument_err {s} {t} (NoArgument key metavar) c o =
+        let same = subst (λ b. TakesBefore b argument s t) once o.1 in
+        let lacks = subst (λ z. LacksText argument z (NoArgument key metavar)) same o.0 in
+        let m = match_of (is_key_with_value argument) s key lacks.0.matches in
+        let b = bare_taken test lacks.0 m lacks.1 in
+        first_refused value c (ap (λ z. z.path) same) b.is (λ v y. y)
+    argument_err {s} other c o =
+        missing_same value (c ∙ missing_class other
+        (absence_missing s (argument_part argument) argument.named.envs no_envs other o.1.1))
+        (no_key s o.0) o.2
 
--- an argument with names there, where the environment has these variables
-module _ {T : Type 0} (means : List ℕ → T → Type 0) (argument : KeyWithValue)
-    (once : argument.last ≡ false) (variables : Variables) where
-  abbrev roles : Roles
-  roles = argument_roles argument.adjacent argument.named.names
+    -- an argument keeps to the laws of an alternative
+    argument_law : {env : Variables} → AlternativeLaw env T (ArgumentOutcome means argument) q value
+    argument_law = record {
+      named = named;
+      ok = λ s t v w o.
+          let m = gets_pair o.1 in
+          first_alternative value m.steady (subst (λ z. means z v) (sym m.text_is) o.2) m.takes;
+      err = λ s t e w o. argument_err e.0 refl o;
+    }
 
-  abbrev group : Groups T
-  group = FrontOf T (ArgumentValue means)
+  -- an argument with names there, where the environment has these variables
+  module _ {T : Type 0} (means : List ℕ → T → Type 0)
+      (once : argument.last ≡ false) (variables : Variables) where
+    abbrev group : Groups T
+    group = FrontOf T (ArgumentValue means)
 
-  abbrev gap : Gap T
-  gap = gap_of means (first_set variables argument.named.envs)
+    -- a refusal: neither, or what can't be read
+    variable_err : {s t : Situation} {e : Error} (m : Message) → class e ≡ class_of m
+        → s.context.env ≡ variables → ArgumentFails means argument s m t
+        → SingleErr T ByName q group (gap means variables) s e t
+    variable_err Memory c same o = of_memory c
+    variable_err {t} (ParseFailed place fault) c same o = ⊎_elim
+        (λ takes. let m = takes_pair once takes in
+        of_piece c (takes_nonempty (first_takes m.takes))
+        (λ v rest g. let d : Two m.key m.word ∷ pieces q (cells t) ≡ g.0 ∷ rest =
+        sym (first_pieces q named m.takes) ∙ g.1 in
+        let j : g.0 ≡ Two m.key m.word = cc in
+        o.2.0 v (subst (λ z. means z v) m.text_is (subst (λ z. ArgumentValue means z v) j g.2))))
+        (λ read. variable_fault means group variables same read c o.2.0) o.1
+    variable_err {s} {t} (NoArgument key metavar) c same o =
+        let left = subst (λ b. TakesBefore b argument s t) once o.1 in
+        let lacks = subst (λ z. LacksText argument z (NoArgument key metavar)) left o.0 in
+        let m = match_of (is_key_with_value argument) s key lacks.0.matches in
+        let b = bare_taken test lacks.0 m lacks.1 in
+        of_piece c (λ none. let d : One m.item ∷ b.tail ≡ [] = sym b.is ∙ none in cc)
+        (λ v rest g. let d : One m.item ∷ b.tail ≡ g.0 ∷ rest = sym b.is ∙ g.1 in
+        let j : g.0 ≡ One m.item = cc in subst (λ z. ArgumentValue means z v) j g.2)
+    variable_err other c same o = nowhere means group variables other c same o.0 o.1 o.2
 
-  -- a refusal: neither, or what can't be read
-  variable_err : {s t : Situation} {e : Error} (m : Message) → class e ≡ class_of m
-      → s.context.env ≡ variables → ArgumentFails means argument s m t
-      → SingleErr T ByName roles group gap s e t
-  variable_err Memory c same o = of_memory c
-  variable_err {t} (ParseFailed place fault) c same o = ⊎_elim
-      (λ takes. let m = takes_pair argument once takes in
-      of_piece c (takes_nonempty (first_takes m.takes))
-      (λ v rest g. let d : Two m.key m.word ∷ pieces roles (cells t) ≡ g.0 ∷ rest =
-      sym (first_pieces roles (named argument) m.takes) ∙ g.1 in
-      let j : g.0 ≡ Two m.key m.word = cc in
-      o.2.0 v (subst (λ z. means z v) m.text_is (subst (λ z. ArgumentValue means z v) j g.2))))
-      (λ read. variable_fault means argument group variables same read c o.2.0) o.1
-  variable_err {s} {t} (NoArgument key metavar) c same o =
-      let left = subst (λ b. TakesBefore b argument s t) once o.1 in
-      let lacks = subst (λ z. LacksText argument z (NoArgument key metavar)) left o.0 in
-      let m = match_of (is_key_with_value argument) s key lacks.0.matches in
-      let b = bare_taken (test argument) lacks.0 m lacks.1 in
-      of_piece c (λ none. let d : One m.item ∷ b.tail ≡ [] = sym b.is ∙ none in cc)
-      (λ v rest g. let d : One m.item ∷ b.tail ≡ g.0 ∷ rest = sym b.is ∙ g.1 in
-      let j : g.0 ≡ One m.item = cc in subst (λ z. ArgumentValue means z v) j g.2)
-  variable_err other c same o = nowhere means argument group variables other c same o.0 o.1 o.2
-
-  variable_law : SingleLaw variables T (ArgumentOutcome means argument) ByName
-      roles group gap
-  variable_law = record {
-    own = named argument;
-    words = tt;
-    starts = λ v rest g. let e = g.1 in cc;
-    no_absent = gap_empty means _;
-    ok = λ s t v w o. ⊎_elim (λ takes. let m = takes_pair argument once takes in
-        took (took_front (ArgumentValue means) m.steady
-        m.takes (first_pieces roles (named argument) m.takes)
-        (subst (λ z. means z v) (sym m.text_is) o.2) (λ none. absurd cc)))
-        (λ read. variable_read means argument group variables w.environment read o.2) o.1;
-    err = λ s t e w o. variable_err e.0 refl w.environment o;
-  }
+    variable_law : SingleLaw variables T (ArgumentOutcome means argument) ByName
+        q group (gap means variables)
+    variable_law = record {
+      own = named;
+      words = tt;
+      starts = λ v rest g. let e = g.1 in cc;
+      no_absent = gap_empty means _;
+      ok = λ s t v w o. ⊎_elim (λ takes. let m = takes_pair once takes in
+          took (took_front (ArgumentValue means) m.steady
+          m.takes (first_pieces q named m.takes)
+          (subst (λ z. means z v) (sym m.text_is) o.2) (λ none. absurd cc)))
+          (λ read. variable_read means group variables w.environment read o.2) o.1;
+      err = λ s t e w o. variable_err e.0 refl w.environment o;
+    }
 
 -- an argument keeps to the laws of its form
 pub argument_field_law : (variables : Variables) (T : Type 0) (means : List ℕ → T → Type 0)
@@ -139,30 +409,23 @@ pub argument_field_law : (variables : Variables) (T : Type 0) (means : List ℕ 
     → FormLaw variables (ArgumentOutcome means argument) (argument.named.names ∷ []) []
     (argument_field means argument variables)
 argument_field_law variables T means argument =
-    by_envs argument.named.envs argument.last refl refl
+    by_choice (is_nil argument.named.envs && not argument.last) (λ may.
+    let both = and_parts (is_nil argument.named.envs) (not argument.last) may in
+    (none_of argument.named.envs both.0, not-true argument.last both.1))
   where
+    none_of : (envs : List (List ℕ)) → is_nil envs ≡ true → envs ≡ []
+    none_of [] e = refl
+    none_of (env ∷ envs) e = cc
+
     by_last : (last : Bool) → argument.last ≡ last
-        → SingleLaw variables T (ArgumentOutcome means argument) ByName
-        (argument_roles argument.adjacent argument.named.names) (argument_group means last)
-        (gap_of means (first_set variables argument.named.envs))
-    by_last false g = variable_law means argument g variables
-    by_last true g = last_argument_law means argument g variables
+        → SingleLaw variables T (ArgumentOutcome means argument) ByName (q argument)
+        (argument_group means last) (gap argument means variables)
+    by_last false once = variable_law argument means once variables
+    by_last true all = last_argument_law argument means all variables
 
-    single_law : {envs : List (List ℕ)} (last : Bool) → argument.named.envs ≡ envs
-        → argument.last ≡ last
-        → SingleLaw variables T (ArgumentOutcome means argument) ByName
-        (argument_roles argument.adjacent argument.named.names) (argument_group means last)
-        (gap_of means (first_set variables envs))
-    single_law last e g = subst (λ z. SingleLaw variables T (ArgumentOutcome means argument)
-        ByName (argument_roles argument.adjacent argument.named.names) (argument_group means last)
-        (gap_of means (first_set variables z))) e (by_last last g)
-
-    by_envs : (envs : List (List ℕ)) (last : Bool) → argument.named.envs ≡ envs
-        → argument.last ≡ last
+    by_choice : (may : Bool) → (may ≡ true → (argument.named.envs ≡ []) × (argument.last ≡ false))
         → FormLaw variables (ArgumentOutcome means argument) (argument.named.names ∷ []) []
-        (key_field (argument.adjacent || not (is_nil envs)) (is_nil envs && not last)
-        (argument_roles argument.adjacent argument.named.names) (ArgumentValue means)
-        (argument_group means last) (gap_of means (first_set variables envs)))
-    by_envs [] false e g = (argument_law means argument e g, owns argument)
-    by_envs [] true e g = (single_law true e g, owns argument)
-    by_envs (env ∷ envs) last e g = (single_law last e g, owns argument)
+        (key_field (argument.adjacent || not (is_nil argument.named.envs)) may (q argument)
+        (ArgumentValue means) (argument_group means argument.last) (gap argument means variables))
+    by_choice true f = (argument_law argument means (f refl).0 (f refl).1, owns argument)
+    by_choice false f = (by_last argument.last refl, owns argument)

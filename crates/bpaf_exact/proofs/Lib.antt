@@ -13,8 +13,6 @@ pub mod Alternative
 pub mod Gathered
 pub mod Matching
 pub mod Flags
-pub mod ArgumentPieces
-pub mod LastArguments
 pub mod Arguments
 pub mod Positionals
 pub mod Combining

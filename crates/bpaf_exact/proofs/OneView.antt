@@ -28,7 +28,7 @@ use Rattle.bpaf_exact.specs.{Single.repeated, Programs.OptionalCommands}
 use Rattle.bpaf_exact.specs.{OneView.RunsToOne, Gathered.list_closure, Names.are_all_apart}
 use Rattle.bpaf_exact.proofs.Alternative.{alternative_single}
 use Rattle.bpaf_exact.proofs.ProgramForm.{record_law, whole_law, runs_exactly}
-use Rattle.bpaf_exact.proofs.{Cuts.one_cut, Cuts.read_cut, LastArguments.last_same}
+use Rattle.bpaf_exact.proofs.{Cuts.one_cut, Cuts.read_cut, Arguments.last_same}
 use Rattle.bpaf_exact.proofs.{Commands.none_opens, Repeat.own_nil, BeforeCommands.one_take}
 use Rattle.bpaf_text.specs.Named.{Named as Key, KeyWithValue}
 
