@@ -1,6 +1,6 @@
 -- Arguments keep to the laws.
-use Rattle.std.proofs.Common.{◌≡◌, ℕ, true, List, [], ◌∷◌, Some, None, refl, sym, ap, subst}
-use Rattle.std.proofs.Common.{◌∙◌, ◌++◌, ⊎_elim, map, Bool, false, ◌&&◌, ◌||◌, not}
+use Rattle.std.proofs.Common.{◌≡◌, ℕ, true, List, [], ◌∷◌, Some, None, refl, sym, ap, subst, ◌∙◌}
+use Rattle.std.proofs.Common.{◌++◌, ⊎_elim, map, Bool, false, ◌&&◌, ◌||◌, not}
 use Rattle.std.proofs.lemmas.Bool.{and_parts, not-true}
 use Rattle.bpaf_text.specs.Named.{KeyWithValue, argument_part}
 use Rattle.bpaf_base.specs.{Items.is_key_of, Items.item_text, declared.arg.Arg.Arg}
@@ -24,9 +24,9 @@ use Rattle.bpaf_exact.proofs.Matching.{match_of, ByTest, by_test, test_named, te
 use Rattle.bpaf_exact.proofs.Matching.{pair_is, two_taken, two_steady, no_pieces, absence_caught}
 use Rattle.bpaf_exact.proofs.Matching.{bare_taken, first_alternative, first_refused, missing_same}
 use Rattle.bpaf_exact.proofs.First.{first_takes, first_pieces, takes_nonempty}
-use Rattle.bpaf_exact.proofs.{Alternative.gap_empty, Alternative.took_front, Classes.missing_class}
 use Rattle.bpaf_exact.proofs.{Records.current_cells, Records.same_steady, Matching.absence_missing}
-use Rattle.bpaf_exact.proofs.{Product.steady_refl, Product.steady_trans, Fronts.never_nil}
+use Rattle.bpaf_exact.proofs.{Product.steady_refl, Product.steady_trans, Classes.missing_class}
+use Rattle.bpaf_exact.proofs.{Wrappers.gap_empty, Wrappers.took_front, Fronts.never_nil}
 
 -- the last element of a list is one
 pub last_same : {T : Type 0} (xs ys : List T) {v w : T} → xs ++ (v ∷ []) ≡ ys ++ (w ∷ []) → v ≡ w

@@ -4,31 +4,31 @@ use Rattle.std.proofs.Common.{length, Option, Some, None, Result, Ok, Err, refl,
 use Rattle.std.proofs.Common.{◌≤◌, subst, inl, inr, ◌⊎◌, ⊎_elim, arith, true≢false, nat_le, nat_lt}
 use Rattle.std.proofs.lemmas.Bool.{eqb-true, le-leb, lt-ltb, and_parts, cases_lt}
 use Rattle.bpaf_base.specs.{declared.arg.Arg.Arg, Items.any_item}
-use Rattle.bpaf_line.specs.Conflicts.{IsWinner, ConflictsSaved}
-use Rattle.bpaf_line.specs.Messages.{is_memory, is_wrong_input}
 use Rattle.bpaf_line.specs.Situation.{Situation, is_taken, item_in, open_count}
-use Rattle.bpaf_line.specs.{declared.error.Error.Error, Combining.Combines, Taking.open_item}
+use Rattle.bpaf_line.specs.{Conflicts.IsWinner, Conflicts.ConflictsSaved, Combining.Combines}
+use Rattle.bpaf_line.specs.{Messages.is_memory, Messages.is_wrong_input, declared.error.Error.Error}
+use Rattle.bpaf_line.specs.Taking.{open_item}
 use Rattle.bpaf_line.proofs.{Places.present_in_line, Matches.open_has_item}
 use Rattle.bpaf_laws.proofs.ChoiceLaws.{not_winner}
 use Rattle.bpaf_laws.specs.Choice.{branch_of, ChoiceOutcome, EqualDepths, OneOk, Winner}
-use Rattle.bpaf_laws.specs.Choice.{BranchesEval}
-use Rattle.bpaf_laws.specs.{Reading.Outcome, Spared.IsNotMemory, Turn.is_untouched}
+use Rattle.bpaf_laws.specs.{Choice.BranchesEval, Spared.IsNotMemory, Turn.is_untouched}
+use Rattle.bpaf_laws.specs.Reading.{Outcome}
 use Rattle.bpaf_exact.specs.Pieces.{Cells, Roles, LinePiece, One, Two, is_own_role, is_own, Apart}
 use Rattle.bpaf_exact.specs.Pieces.{either, pieces, TakesPiece, takes_one, takes_two, takes_later}
 use Rattle.bpaf_exact.specs.Flat.{OfMemory, OfMissing, Refused, class, cells, first_cells}
-use Rattle.bpaf_exact.specs.Flat.{IsWholeIn, Steady, Variables}
 use Rattle.bpaf_exact.specs.Alternative.{TakesFirst, HasBad, AlternativeOk, AlternativeErr}
 use Rattle.bpaf_exact.specs.Alternative.{alternative_memory, alternative_missing}
 use Rattle.bpaf_exact.specs.Alternative.{alternative_refused, AlternativeLaw, either_value}
+use Rattle.bpaf_exact.specs.Flat.{IsWholeIn, Steady, Variables}
 use Rattle.std.specs.{Option.option_map_or, Prelude.MatchBool}
 use Rattle.bpaf_exact.proofs.First.{Union, swap_union, either_union, union_named, takes_left}
 use Rattle.bpaf_exact.proofs.First.{bad_given_back, bad_left, HeadOf, owner, first_mine}
 use Rattle.bpaf_exact.proofs.First.{first_alone, both_nil, TookLeft, left_here, left_later}
+use Rattle.bpaf_exact.proofs.First.{first_both, not_left, never_same}
 use Rattle.bpaf_exact.proofs.Places.{same_cells, same_item, closed_item}
 use Rattle.bpaf_exact.proofs.Product.{steady_refl, steady_trans, none_outside_after}
-use Rattle.bpaf_exact.proofs.{First.first_both, First.not_left, First.never_same, Cells.keeps_other}
-use Rattle.bpaf_exact.proofs.{Classes.memory_class, Classes.not_memory, Combining.combined_refused}
-use Rattle.bpaf_exact.proofs.{Combining.combined_missing, Counts.open_present, Counts.takes_fewer}
+use Rattle.bpaf_exact.proofs.Classes.{memory_class, not_memory, combined_refused, combined_missing}
+use Rattle.bpaf_exact.proofs.{Counts.open_present, Counts.takes_fewer, Cells.keeps_other}
 
 -- the same scope of the same line
 pub record SameScope (m n : Situation) : Type 0 where

@@ -1,16 +1,15 @@
 -- Closures round commands, choices of them, and commands that may be left out keep to the laws.
 use Rattle.std.proofs.Common.{◌≡◌, ◌≤◌, ℕ, Bool, true, false, ◌||◌, List, [], ◌++◌, length, Option}
 use Rattle.std.proofs.Common.{Some, None, Result, Ok, Err, refl, sym, ap, ◌∙◌, subst, inl, inr}
-use Rattle.std.proofs.Common.{⊎_elim, arith, true≢false}
-use Rattle.std.proofs.{lemmas.Bool.and_parts, lemmas.List.Folds.list_any-append}
+use Rattle.std.proofs.{Common.⊎_elim, Common.arith, Common.true≢false, lemmas.Bool.and_parts}
+use Rattle.std.proofs.lemmas.List.Folds.{list_any-append}
 use Rattle.bpaf_base.specs.Items.{is_command_word}
-use Rattle.bpaf_line.specs.Messages.{is_memory, is_wrong_input}
-use Rattle.bpaf_line.specs.Situation.{Situation}
-use Rattle.bpaf_line.specs.{declared.error.Error.Error, declared.error.Message.Message}
+use Rattle.bpaf_line.specs.{Messages.is_memory, Messages.is_wrong_input, declared.error.Error.Error}
 use Rattle.bpaf_line.specs.{declared.error.Message.TheVariants.Missing, Conflicts.ConflictsSaved}
+use Rattle.bpaf_line.specs.{declared.error.Message.Message, Situation.Situation}
 use Rattle.bpaf_laws.specs.Choice.{Chosen, depth, branch_of, ChoiceOutcome, EqualDepths, OneOk}
-use Rattle.bpaf_laws.specs.Spared.{IsNotMemory}
-use Rattle.bpaf_laws.specs.{Choice.Winner, Command.is_one_of, Reading.Outcome, Turn.is_untouched}
+use Rattle.bpaf_laws.specs.{Spared.IsNotMemory, Command.is_one_of, Turn.is_untouched, Choice.Winner}
+use Rattle.bpaf_laws.specs.Reading.{Outcome}
 use Rattle.bpaf_exact.specs.Flat.{ErrorClass, OfMemory, OfMissing, is_missing, class, cells}
 use Rattle.bpaf_exact.specs.Flat.{NonePresent, no_place, none_here, IsWholeIn, Variables}
 use Rattle.bpaf_exact.specs.Wrappers.{Closure, AgreesOn, ClosedEval, closed_yes, closed_no}
@@ -23,8 +22,8 @@ use Rattle.bpaf_exact.specs.Pieces.{Cells, Roles, pieces, either}
 use Rattle.bpaf_exact.specs.Single.{Stops, nothing_found, caught, present_count}
 use Rattle.bpaf_exact.proofs.BeforeCommands.{apart_first, apart_second}
 use Rattle.bpaf_exact.proofs.Choice.{same_scope, cells_same, saved_steady}
-use Rattle.bpaf_exact.proofs.Combining.{combined_missing, is_missing_of}
-use Rattle.bpaf_exact.proofs.{Classes.memory_class, Classes.not_memory, Counts.open_present}
+use Rattle.bpaf_exact.proofs.Classes.{combined_missing, is_missing_of, memory_class, not_memory}
+use Rattle.bpaf_exact.proofs.Counts.{open_present}
 
 -- Closures.
 module _ {A B : Type 0} (inner : Outcome A) (r : Roles) {value : CellsValue A} {f : Closure A B}

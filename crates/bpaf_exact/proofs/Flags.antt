@@ -1,11 +1,11 @@
 -- Flags keep to the laws.
-use Rattle.std.proofs.Common.{◌≡◌, ℕ, Bool, true, false, List, [], ◌∷◌, Option, Some, None}
-use Rattle.std.proofs.Common.{◌&&◌, not, refl, sym, ap, ◌∙◌, subst, ⊎_elim, true≢false}
+use Rattle.std.proofs.Common.{◌≡◌, ℕ, Bool, true, false, List, [], ◌∷◌, Option, Some, None, ◌&&◌}
+use Rattle.std.proofs.Common.{not, refl, sym, ap, ◌∙◌, subst, ⊎_elim, true≢false}
 use Rattle.std.specs.Option.{is_none, is_some, IsSomeRelated}
 use Rattle.bpaf_base.specs.Items.{is_key_of}
-use Rattle.bpaf_line.specs.{declared.error.Error.Error, declared.error.Message.Message}
-use Rattle.bpaf_line.specs.{declared.error.Message.TheVariants.Memory, Situation.Situation}
-use Rattle.bpaf_line.specs.{Taking.HasNone, Taking.TakesFlag}
+use Rattle.bpaf_line.specs.{declared.error.Message.TheVariants.Memory, declared.error.Error.Error}
+use Rattle.bpaf_line.specs.{Taking.HasNone, Taking.TakesFlag, declared.error.Message.Message}
+use Rattle.bpaf_line.specs.Situation.{Situation}
 use Rattle.bpaf_laws.specs.Flag.{FlagOutcome, FlagFails, value_without_key}
 use Rattle.bpaf_laws.specs.{Environment.first_set, Environment.is_set, Repeat.is_nil}
 use Rattle.bpaf_exact.specs.Single.{Groups, Gap, FrontOf, SingleOk, gave_absent, took, SingleErr}
@@ -14,12 +14,12 @@ use Rattle.bpaf_exact.specs.Alternative.{AlternativeOk, AlternativeErr, alternat
 use Rattle.bpaf_exact.specs.Leaves.{flag_roles, FlagValue, flag_field, key_field}
 use Rattle.bpaf_exact.specs.Pieces.{Alone, Roles, LinePiece, IsNamed}
 use Rattle.bpaf_exact.specs.Flat.{class, class_of, ByName, Variables}
-use Rattle.bpaf_exact.specs.{Alternative.AlternativeLaw, Names.Owns, ProgramForm.FormLaw}
-use Rattle.bpaf_exact.proofs.Alternative.{gap_empty, took_front}
+use Rattle.bpaf_exact.specs.{Alternative.AlternativeLaw, ProgramForm.FormLaw, Names.Owns}
 use Rattle.bpaf_exact.proofs.Matching.{match_of, ByTest, by_test, test_named, no_pieces, one_taken}
 use Rattle.bpaf_exact.proofs.Matching.{first_alternative, missing_same, absence_missing, test_owns}
-use Rattle.bpaf_exact.proofs.{Matching.absence_caught, Classes.missing_class, Product.steady_refl}
-use Rattle.bpaf_exact.proofs.{First.first_pieces, Places.take_steady}
+use Rattle.bpaf_exact.proofs.{Wrappers.gap_empty, Wrappers.took_front, Matching.absence_caught}
+use Rattle.bpaf_exact.proofs.{Classes.missing_class, Product.steady_refl, First.first_pieces}
+use Rattle.bpaf_exact.proofs.Places.{take_steady}
 use Rattle.bpaf_text.specs.Named.{Named as Key, flag_part}
 
 -- a flag

@@ -2,34 +2,33 @@
 -- of a line look alike.
 use Rattle.std.proofs.Common.{◌≡◌, ℕ, Bool, true, false, List, [], ◌∷◌, map, Option, Some, None}
 use Rattle.std.proofs.Common.{◌&&◌, ◌||◌, not, refl, sym, ap, ◌∙◌, subst, inl, inr}
-use Rattle.std.specs.{Option.is_none, Option.IsSomeRelated, Global.Vec, Prelude.option_map}
+use Rattle.std.specs.{Option.is_none, Option.IsSomeRelated, Prelude.option_map, Global.Vec}
 use Rattle.bpaf_doc.specs.Names.{Names}
 use Rattle.bpaf_base.specs.Items.{item_text}
 use Rattle.bpaf_line.specs.Situation.{Context}
-use Rattle.bpaf_laws.specs.{Environment.first_set, Repeat.is_nil, Reading.Outcome}
+use Rattle.bpaf_laws.specs.{Environment.first_set, Reading.Outcome, Repeat.is_nil}
 use Rattle.bpaf_exact.specs.Flat.{FieldsLaw, FieldsReading, FieldKind, ByName, ReadOff, Variables}
 use Rattle.bpaf_exact.specs.Single.{Groups, Gap, FrontOf, Own, own_none, own_more, SingleLaw}
 use Rattle.bpaf_exact.specs.Single.{SingleValue, OwnList, listed, listed_and_absent, only_absent}
 use Rattle.bpaf_exact.specs.Wrappers.{Closure, OptionalValue, FallbackValue}
 use Rattle.bpaf_exact.specs.Leaves.{FlagValue, ArgumentValue, WordValue, flag_field, LastGroup}
 use Rattle.bpaf_exact.specs.Leaves.{argument_field, argument_group, argument_roles, flag_roles}
-use Rattle.bpaf_exact.specs.Leaves.{key_field, word_by}
 use Rattle.bpaf_exact.specs.Record.{RunAnswer, Accepted, NoMemory, Refusal, RecordValue, IsExact}
-use Rattle.bpaf_exact.specs.Record.{line_cells}
 use Rattle.bpaf_exact.specs.ProgramForm.{ProgramForm, alternative, single, complete, product}
 use Rattle.bpaf_exact.specs.ProgramForm.{commands, before_commands, FormLaw, program_if}
 use Rattle.bpaf_exact.specs.ProgramForm.{program_closed, completed, program_field, may_follow}
 use Rattle.bpaf_exact.specs.ProgramForm.{program_both, program_alone, program_con, whole_program}
-use Rattle.bpaf_exact.specs.ProgramForm.{is_record, program_optional}
-use Rattle.bpaf_exact.specs.ProgramForm.{program_value, product_reading, whole_value}
+use Rattle.bpaf_exact.specs.ProgramForm.{is_record, program_optional, program_value}
+use Rattle.bpaf_exact.specs.ProgramForm.{product_reading, whole_value}
 use Rattle.bpaf_exact.specs.OneView.{Alike, OneGroup, HasOneView, Respects, pair_view, LooksLike}
 use Rattle.bpaf_exact.specs.Pieces.{Cells, Roles, LinePiece, One, Two, IsNamed}
-use Rattle.bpaf_exact.specs.{Single.repeated, Programs.OptionalCommands}
-use Rattle.bpaf_exact.specs.{OneView.RunsToOne, Gathered.list_closure, Names.are_all_apart}
-use Rattle.bpaf_exact.proofs.Alternative.{alternative_single}
+use Rattle.bpaf_exact.specs.{Leaves.key_field, Leaves.word_by, Programs.OptionalCommands}
+use Rattle.bpaf_exact.specs.{Gathered.list_closure, Names.are_all_apart, Record.line_cells}
+use Rattle.bpaf_exact.specs.{OneView.RunsToOne, Single.repeated}
 use Rattle.bpaf_exact.proofs.ProgramForm.{record_law, whole_law, runs_exactly}
-use Rattle.bpaf_exact.proofs.{Cuts.one_cut, Cuts.read_cut, Arguments.last_same}
-use Rattle.bpaf_exact.proofs.{Commands.none_opens, Repeat.own_nil, BeforeCommands.one_take}
+use Rattle.bpaf_exact.proofs.{Wrappers.alternative_single, Cuts.one_cut, Cuts.read_cut}
+use Rattle.bpaf_exact.proofs.{BeforeCommands.one_take, Arguments.last_same, Commands.none_opens}
+use Rattle.bpaf_exact.proofs.Repeat.{own_nil}
 use Rattle.bpaf_text.specs.Named.{Named as Key, KeyWithValue}
 
 -- Closures.

@@ -3,25 +3,25 @@ use Rattle.std.proofs.Common.{◌≡◌, ℕ, Bool, true, false, List, [], ◌�
 use Rattle.std.proofs.Common.{sym, ap, ◌∙◌, not, subst, true≢false, if◌then◌else◌, option_and_then}
 use Rattle.std.proofs.Common.{take}
 use Rattle.std.specs.Option.{option_map_or}
-use Rattle.bpaf_base.specs.declared.arg.Arg.{Arg}
 use Rattle.bpaf_base.specs.declared.arg.Arg.TheVariants.{Word, PosWord}
 use Rattle.bpaf_base.specs.Items.{is_positional, word_text, item_text}
+use Rattle.bpaf_base.specs.declared.arg.Arg.{Arg}
 use Rattle.bpaf_line.specs.{declared.error.Error.Error, Situation.Situation, Taking.TakesText}
 use Rattle.bpaf_line.proofs.Matches.{open_item_there}
 use Rattle.bpaf_exact.specs.Pieces.{Cells, Alone, LinePiece, One, Two, word_roles, pieces}
 use Rattle.bpaf_exact.specs.Flat.{cells, IsWholeIn, Steady, EachWord, OneWord, front, back}
-use Rattle.bpaf_exact.specs.Flat.{is_behind, Variables}
 use Rattle.bpaf_exact.specs.Single.{Groups, FrontOf, gap_of, SingleOk, took, SingleErr, of_memory}
 use Rattle.bpaf_exact.specs.Single.{catch_missing, catch_other, of_missing, of_piece, WordByWord}
 use Rattle.bpaf_exact.specs.Alternative.{TakesFirst, first_one, first_two, first_later}
 use Rattle.bpaf_exact.specs.Leaves.{WordEval, WordValue, word_by, word_fault, word_memory}
 use Rattle.bpaf_exact.specs.Leaves.{word_missing, word_passed, word_read}
-use Rattle.bpaf_exact.specs.{Pieces.stands_behind, Single.SingleLaw, ProgramForm.FormLaw}
+use Rattle.bpaf_exact.specs.{Flat.is_behind, Flat.Variables, Pieces.stands_behind, Single.SingleLaw}
+use Rattle.bpaf_exact.specs.ProgramForm.{FormLaw}
 use Rattle.bpaf_exact.proofs.Fronts.{back_more, back_one, each_front, front_more, front_one}
 use Rattle.bpaf_exact.proofs.Fronts.{front_nil, of_front_more, of_front_one}
 use Rattle.bpaf_exact.proofs.Matching.{match_of, ByTest, by_test, no_pieces, one_taken}
-use Rattle.bpaf_exact.proofs.Alternative.{took_front}
-use Rattle.bpaf_exact.proofs.{Places.take_steady, Words.never_two, Cells.begin_at}
+use Rattle.bpaf_exact.proofs.{Wrappers.took_front, Places.take_steady, Cuts.never_two}
+use Rattle.bpaf_exact.proofs.Cells.{begin_at}
 
 -- the text and the side of a word are those of its item
 pub word_is : (w : Arg) (strict : Bool) (text : List ℕ) → word_text w ≡ Some (strict, text)

@@ -2,21 +2,20 @@
 use Rattle.std.proofs.Common.{◌≡◌, true, false, List, [], ◌∷◌, length, Some, Result, Ok, Err, refl}
 use Rattle.std.proofs.Common.{inl, inr, Bool, sym, ap, ◌∙◌, subst, if◌then◌else◌, ◌<◌}
 use Rattle.bpaf_line.specs.{declared.error.Error.Error, Situation.Situation, Messages.is_memory}
-use Rattle.bpaf_laws.specs.{Product.BothOutcome, Product.joined, Reading.Outcome}
-use Rattle.bpaf_laws.specs.{Spared.IsNotMemory}
-use Rattle.bpaf_exact.specs.Pieces.{Cells, Role, Foreign, Roles}
-use Rattle.bpaf_exact.specs.Pieces.{LinePiece, is_own_role, is_own, others, either_role}
-use Rattle.bpaf_exact.specs.Pieces.{either, IsNamed, Apart, Cut, at_end, passed, flag, argument}
-use Rattle.bpaf_exact.specs.Flat.{cells, IsWholeIn, Steady, FieldKind, ByName}
-use Rattle.bpaf_exact.specs.Flat.{front, back, portion, left, keys, OwnItems}
-use Rattle.bpaf_exact.specs.Flat.{NoKeysLeft, FieldTook, FieldLaw, FieldsLaw, Before}
-use Rattle.bpaf_exact.specs.Flat.{FieldsReading, both_reading, class, OfMemory, HasValue, Variables}
-use Rattle.bpaf_exact.specs.Pieces.{word, pieces, TakesPieces}
+use Rattle.bpaf_laws.specs.{Product.BothOutcome, Product.joined, Spared.IsNotMemory}
+use Rattle.bpaf_laws.specs.Reading.{Outcome}
+use Rattle.bpaf_exact.specs.Pieces.{Cells, Role, Foreign, Roles, LinePiece, is_own_role, is_own}
+use Rattle.bpaf_exact.specs.Pieces.{others, either_role, either, IsNamed, Apart, Cut, at_end}
+use Rattle.bpaf_exact.specs.Pieces.{passed, flag, argument, word, pieces, TakesPieces}
+use Rattle.bpaf_exact.specs.Flat.{cells, IsWholeIn, Steady, FieldKind, ByName, front, back, portion}
+use Rattle.bpaf_exact.specs.Flat.{left, keys, OwnItems, NoKeysLeft, FieldTook, FieldLaw, FieldsLaw}
+use Rattle.bpaf_exact.specs.Flat.{Before, FieldsReading, both_reading, class, OfMemory, HasValue}
+use Rattle.bpaf_exact.specs.Flat.{Variables}
 use Rattle.bpaf_exact.proofs.Cells.{value_foreign, word_foreign, nil_rest, nil_foreign}
 use Rattle.bpaf_exact.proofs.Cells.{pieces_of_cut, others_foreign, put_back_some, take_some_from}
-use Rattle.bpaf_exact.proofs.Words.{put_words_back, take_words_from, words_of_cut}
-use Rattle.bpaf_exact.proofs.{Cells.begin_at, Classes.memory_class, Classes.not_memory}
-use Rattle.bpaf_exact.proofs.Cuts.{read_cut, read_off}
+use Rattle.bpaf_exact.proofs.Cuts.{put_words_back, take_words_from, words_of_cut, read_cut}
+use Rattle.bpaf_exact.proofs.{Classes.memory_class, Classes.not_memory, Cells.begin_at}
+use Rattle.bpaf_exact.proofs.Cuts.{read_off}
 
 -- what isn't taken stays in the scope
 pub none_outside_after : {env : Variables} {s t : Situation} → IsWholeIn env s → Steady s t

@@ -4,17 +4,17 @@ use Rattle.std.proofs.Common.{Option, Some, None, refl, sym, ap, ◌∙◌, subs
 use Rattle.std.proofs.Common.{true≢false, append-nil, inl, inr}
 use Rattle.std.proofs.lemmas.Bool.{and_parts, or_cases, false_from_ne_true}
 use Rattle.std.proofs.lemmas.Slice.Eq.{bytes_eq-Decides}
-use Rattle.std.specs.{List.list_all, Option.option_map_or}
+use Rattle.std.specs.{Option.option_map_or, List.list_all}
 use Rattle.bpaf_doc.specs.Names.{Names}
-use Rattle.bpaf_base.specs.declared.arg.Arg.{Arg}
 use Rattle.bpaf_base.specs.Items.{command_word, is_command_word, is_text_among}
+use Rattle.bpaf_base.specs.declared.arg.Arg.{Arg}
 use Rattle.bpaf_line.specs.Situation.{Context, beginning}
-use Rattle.bpaf_laws.specs.Product.{BothOutcome, ProductOutcome}
 use Rattle.bpaf_laws.specs.Command.{Called, is_one_of, opening_words}
-use Rattle.bpaf_laws.specs.{Choice.ChoiceOutcome, Reading.Outcome, Repeat.LastOutcome}
-use Rattle.bpaf_exact.specs.Flat.{ErrorClass, Refused, FieldKind, ByName, Before}
-use Rattle.bpaf_exact.specs.Flat.{FieldLaw, FieldsLaw, both_reading, keys, Variables}
-use Rattle.bpaf_exact.specs.Single.{RepeatOutcome, repeated, Groups, Gap, SingleLaw}
+use Rattle.bpaf_laws.specs.{Product.BothOutcome, Product.ProductOutcome, Choice.ChoiceOutcome}
+use Rattle.bpaf_laws.specs.{Repeat.LastOutcome, Reading.Outcome}
+use Rattle.bpaf_exact.specs.Flat.{ErrorClass, Refused, FieldKind, ByName, Before, FieldLaw}
+use Rattle.bpaf_exact.specs.Flat.{FieldsLaw, both_reading, keys, Variables}
+use Rattle.bpaf_exact.specs.Single.{RepeatOutcome, repeated, Groups, Gap, SingleLaw, OwnList}
 use Rattle.bpaf_exact.specs.Wrappers.{Closure, Decides, map_closure, ClosedEval, OptionalEval}
 use Rattle.bpaf_exact.specs.Wrappers.{ClosedValue, FallbackEval, FallbackValue}
 use Rattle.bpaf_exact.specs.ProgramForm.{ProgramForm, no_program, alternative, single, complete}
@@ -27,24 +27,24 @@ use Rattle.bpaf_exact.specs.ProgramForm.{program_alone, program_con, whole_progr
 use Rattle.bpaf_exact.specs.ProgramForm.{is_program, is_record, program_command, product_roles}
 use Rattle.bpaf_exact.specs.ProgramForm.{product_reading, whole_value}
 use Rattle.bpaf_exact.specs.Programs.{CellsValue, ProgramLaw, CommandEval, are_plain, WordsApart}
-use Rattle.bpaf_exact.specs.Programs.{IsSpelledLine}
 use Rattle.bpaf_exact.specs.Record.{line_cells, RunAnswer, Accepted, RunRan, IsAcceptedOrWant}
 use Rattle.bpaf_exact.specs.Pieces.{Roles, no_roles, either, LinePiece}
-use Rattle.bpaf_exact.specs.{Single.OwnList, Record.last_reading, Names.Owns, Names.are_all_apart}
-use Rattle.bpaf_exact.specs.{Gathered.some_closure, Gathered.LastOf, Theorem.RunsExactly}
-use Rattle.bpaf_exact.proofs.Alternative.{alternative_single, closed_alternative, closed_single}
+use Rattle.bpaf_exact.specs.{Gathered.some_closure, Gathered.LastOf, Programs.IsSpelledLine}
+use Rattle.bpaf_exact.specs.{Names.Owns, Names.are_all_apart, Record.last_reading}
+use Rattle.bpaf_exact.specs.Theorem.{RunsExactly}
+use Rattle.bpaf_exact.proofs.Wrappers.{alternative_single, closed_alternative, closed_single}
 use Rattle.bpaf_exact.proofs.Wrappers.{closed_law, single_law, optional_law, fallback_law}
 use Rattle.bpaf_exact.proofs.NamedProducts.{named_both_law, named_con_law, named_last_law}
 use Rattle.bpaf_exact.proofs.Commands.{closed_program, closed_commands, optional_commands}
-use Rattle.bpaf_exact.proofs.Commands.{choice_commands}
 use Rattle.bpaf_exact.proofs.Names.{foreign_of, apart_of_names, either_owns}
 use Rattle.bpaf_exact.proofs.BeforeCommands.{before_law, con_program}
 use Rattle.bpaf_exact.proofs.Narrow.{AllowsNoMore, narrower_gives, narrower_field, narrower_fields}
-use Rattle.bpaf_exact.proofs.{Choice.choice_law, Repeat.repeat_law, Gathered.some_agrees_on}
-use Rattle.bpaf_exact.proofs.{Gathered.last_of_law, Product.both_law, Records.con_law}
-use Rattle.bpaf_exact.proofs.{Records.last_law, Narrow.narrower_alternative, Narrow.narrower_single}
-use Rattle.bpaf_exact.proofs.{Programs.command_law, Programs.record_program, Exact.exact}
-use Rattle.bpaf_exact.proofs.Exact.{run_sound, all_whole, run_complete, first_cells_are}
+use Rattle.bpaf_exact.proofs.Narrow.{narrower_alternative, narrower_single}
+use Rattle.bpaf_exact.proofs.Repeat.{repeat_law, some_agrees_on, last_of_law}
+use Rattle.bpaf_exact.proofs.Exact.{exact, run_sound, all_whole, run_complete, first_cells_are}
+use Rattle.bpaf_exact.proofs.{Programs.command_law, Programs.record_program, Choice.choice_law}
+use Rattle.bpaf_exact.proofs.{Records.con_law, Records.last_law, Commands.choice_commands}
+use Rattle.bpaf_exact.proofs.Product.{both_law}
 
 -- where a test holds
 if_law : (env : Variables) {T : Type 0} (outcome : Outcome T) (names : List Names)

@@ -1,18 +1,17 @@
 -- The last field of a product, and its constructor.
 use Rattle.std.proofs.Common.{◌≡◌, List, [], ◌∷◌, Some, None, refl, sym, ap, ◌∙◌, subst, arith, Ok}
-use Rattle.bpaf_line.specs.Situation.{Situation, with_current}
+use Rattle.std.proofs.Common.{Result, Err}
+use Rattle.bpaf_line.specs.{Situation.Situation, Situation.with_current, declared.error.Error.Error}
 use Rattle.bpaf_laws.specs.{Product.ProductOutcome, Reading.Outcome}
 use Rattle.bpaf_exact.specs.Pieces.{Cells, Roles, Role, Foreign, LinePiece, IsNamed, Cut, either}
-use Rattle.bpaf_exact.specs.Pieces.{either_role, no_roles, pieces}
 use Rattle.bpaf_exact.specs.Flat.{cells, NonePresent, no_place, none_here, Steady, IsWholeIn}
 use Rattle.bpaf_exact.specs.Flat.{FieldKind, ByName, keys, OwnItems, FieldLaw, FieldsLaw, ReadOff}
 use Rattle.bpaf_exact.specs.Flat.{Before, FieldsReading, HasValue, portion, front, Variables}
-use Rattle.bpaf_exact.specs.Wrappers.{map_closure, ClosedValue}
-use Rattle.bpaf_exact.specs.{Single.present_count, Record.last_reading, Programs.GivesAll}
+use Rattle.bpaf_exact.specs.{Pieces.either_role, Pieces.no_roles, Pieces.pieces, Programs.GivesAll}
+use Rattle.bpaf_exact.specs.{Wrappers.map_closure, Wrappers.ClosedValue, Single.present_count}
+use Rattle.bpaf_exact.specs.Record.{last_reading}
 use Rattle.bpaf_exact.proofs.Product.{step_back, none_left, own_portion, step_on}
-use Rattle.bpaf_exact.proofs.{Words.empty_cut, Words.cut_empty, Cuts.read_off}
-use Rattle.std.proofs.Common.{Result, Err}
-use Rattle.bpaf_line.specs.declared.error.Error.{Error}
+use Rattle.bpaf_exact.proofs.Cuts.{empty_cut, cut_empty, read_off}
 
 -- Nothing is present where the count is nought.
 pub none_counted : (cs : Cells) → present_count cs ≡ 0 → NonePresent cs

@@ -1,9 +1,9 @@
--- Repeats of a field that keeps to the laws of one evaluation.
+-- Repeats of a field that keeps to the laws of one evaluation, and what `some` and `last` make of one.
 use Rattle.std.proofs.Common.{◌≡◌, ◌<◌, ◌≤◌, Bool, true, false, List, [], ◌∷◌, None, Ok, Err, refl}
-use Rattle.std.proofs.Common.{sym, ap, ◌∙◌, subst, arith, inl, inr, ◌⊎◌, true≢false}
-use Rattle.bpaf_line.specs.{declared.error.Error.Error, Situation.Situation, Situation.open_count}
-use Rattle.bpaf_laws.specs.{Reading.Outcome, Repeat.Turns, Repeat.stops, Repeat.rests}
-use Rattle.bpaf_laws.specs.{Repeat.is_nil, Turn.TurnOutcome}
+use Rattle.std.proofs.Common.{sym, ap, ◌∙◌, subst, arith, inl, inr, ◌⊎◌, true≢false, ◌++◌}
+use Rattle.bpaf_line.specs.{Situation.Situation, Situation.open_count, declared.error.Error.Error}
+use Rattle.bpaf_laws.specs.Repeat.{Turns, stops, rests, is_nil, LastOutcome, UntilRest}
+use Rattle.bpaf_laws.specs.{Turn.TurnOutcome, Reading.Outcome}
 use Rattle.bpaf_exact.specs.Pieces.{Cells, Roles, LinePiece, pieces, TakesPieces, takes_none}
 use Rattle.bpaf_exact.specs.Flat.{OfMemory, OfMissing, class, cells, IsWholeIn, Steady, FieldKind}
 use Rattle.bpaf_exact.specs.Flat.{ByName, OneWord, EachWord, front, back, OwnItems, FieldLaw}
@@ -12,10 +12,11 @@ use Rattle.bpaf_exact.specs.Single.{TookGroup, SingleOk, gave_absent, took, Sing
 use Rattle.bpaf_exact.specs.Single.{of_missing, of_absent, of_piece, SingleLaw, OwnList, listed}
 use Rattle.bpaf_exact.specs.Single.{listed_and_absent, only_absent, repeated, Stops, nothing_found}
 use Rattle.bpaf_exact.specs.Single.{caught, CanCatch, catch_missing, catch_other, RepeatOutcome}
-use Rattle.bpaf_exact.specs.{Pieces.takes_more, Flat.Variables, Single.ReadsWords}
-use Rattle.bpaf_exact.specs.{Single.present_count}
+use Rattle.bpaf_exact.specs.{Flat.Variables, Flat.FieldTook, Flat.NoKeysLeft, Pieces.takes_more}
+use Rattle.bpaf_exact.specs.{Single.ReadsWords, Single.present_count, Wrappers.AgreesOn}
+use Rattle.bpaf_exact.specs.Gathered.{some_closure, LastOf}
 use Rattle.bpaf_exact.proofs.Classes.{memory_class, stops_at, goes_on}
-use Rattle.bpaf_exact.proofs.Fronts.{back_all, each_nil, nil_each, no_keys_left}
+use Rattle.bpaf_exact.proofs.Fronts.{back_all, each_nil, nil_each, no_keys_left, never_nil}
 use Rattle.bpaf_exact.proofs.Product.{none_outside_after, steady_refl, steady_trans}
 use Rattle.bpaf_exact.proofs.Counts.{open_present, takes_any_fewer}
 
@@ -435,4 +436,100 @@ module _ {env : Variables} {T : Type 0} {inner : Outcome T} {k : FieldKind} {q :
     takes_all = λ s t vs ws w f o.
         no_keys_left (repeated k) q (cells t) _ (repeat_took idle w f).none;
     refuses = λ s t e ws w f o. repeat_fails idle s t e w f o;
+  }
+
+module _ {env : Variables} {T : Type 0} {inner : Outcome T} (k : FieldKind) (q : Roles)
+    (group : Groups T) (gap : Gap T) (l : SingleLaw env T inner k q group gap) where
+  -- the laws of the list
+  rl : FieldLaw env (List T) (RepeatOutcome inner true) (repeated k) q (OwnList T group gap)
+  rl = repeat_law l true
+
+  -- no value at all: there was no piece, and none has an absent value
+  data Nothing (os : List LinePiece) : Type 0 where
+    nothing : gap.has ≡ false → os ≡ [] → Nothing os
+
+  -- an empty own list has no pieces
+  own_empty : {os : List LinePiece} {vs : List T} → vs ≡ [] → Own T group os vs → os ≡ []
+  own_empty e own_none = refl
+  own_empty e (own_more g o) = absurd cc
+
+  -- an empty list under a repeat comes of no piece
+  empty_list : {os : List LinePiece} {vs : List T} → vs ≡ [] → OwnList T group gap os vs
+      → Nothing os
+  empty_list e (listed h o) = nothing h (own_empty e o)
+  empty_list e _ = absurd cc
+
+  -- and no piece gives an empty list
+  empty_nothing : {os : List LinePiece} {vs : List T} → Nothing os → OwnList T group gap os vs
+      → vs ≡ []
+  empty_nothing (nothing g e) (listed h o) = own_nil l e o
+  empty_nothing (nothing g e) (listed_and_absent h a o) = absurd cc
+  empty_nothing (nothing g e) (only_absent h a) = absurd cc
+
+  -- Of the own lists of the same pieces all are empty or none is.
+  pub some_agrees_on : (os : List LinePiece) → AgreesOn (OwnList T group gap os) (some_closure T)
+  some_agrees_on os x y v ox oy g n = g.1 (empty_nothing (empty_list n oy) ox)
+
+  -- where there was nothing once more nothing is answered
+  again_never : {m t : Situation} {v : T} → gap.has ≡ false → front k (pieces q (cells m)) ≡ []
+      → SingleOk T k q group gap m v t → ⊥
+  again_never h p (gave_absent g p' ab same st) = cc
+  again_never h p (took g) = g.found p
+
+  -- so the evaluation after an empty list answers no value
+  again_ok : (s : Situation) {m : Situation} (t : Situation) (v : T) → IsWholeIn env s
+      → UntilRest inner s [] m → inner m (Ok v) t → ⊥
+  again_ok s {m} t v w f g =
+      let i = repeat_took l true w f in
+      by_empty (empty_list refl i.list) i.none (l.ok m t v (none_outside_after w i.steady) g)
+    where
+      by_empty : Nothing (front (repeated k) (pieces q (cells s)))
+          → pieces q (cells m) ≡ back (repeated k) (pieces q (cells s))
+          → SingleOk T k q group gap m v t → ⊥
+      by_empty (nothing h e) p o =
+          let same : pieces q (cells m) ≡ pieces q (cells s) = p ∙ back_all (repeated k) e in
+          again_never h (nil_each k _ (ap (front (repeated k)) same ∙ e)) o
+
+  -- a last value is that of the own list
+  last_took : (s t : Situation) (v : T) → IsWholeIn env s → LastOutcome inner s (Ok v) t
+      → FieldTook T (repeated k) q (LastOf T group gap) s v t
+  last_took s t v w (inl o) =
+      let vs = o.0 ++ v ∷ [] in
+      let i = rl.ok s t vs w o.1 in
+      record {
+        steady = i.steady;
+        takes = i.takes;
+        read = λ n. (o.0, i.read n);
+        rest = i.rest;
+      }
+  last_took s t v w (inr o) = absurd (again_ok s t v w o.1 o.2)
+
+  -- where the list has a last value it isn't empty
+  never_empty : {s m : Situation} {v : T} → IsWholeIn env s → UntilRest inner s [] m
+      → LastOf T group gap (front (repeated k) (pieces q (cells s))) v → ⊥
+  never_empty {v} w f h =
+      let i = repeat_took l true w f in
+      never_nil h.0 v [] (empty_nothing (empty_list refl i.list) h.1)
+
+  -- so all is taken,
+  last_takes : (s t : Situation) (x v : T) → IsWholeIn env s → LastOutcome inner s (Ok x) t
+      → LastOf T group gap (front (repeated k) (pieces q (cells s))) v
+      → NoKeysLeft (repeated k) q (cells t)
+  last_takes s t x v w (inl o) h = rl.takes_all s t (o.0 ++ x ∷ []) (h.0 ++ v ∷ []) w o.1 h.1
+  last_takes s t x v w (inr o) h = absurd (never_empty w o.1 h)
+
+  -- and a refusal is want of memory
+  last_refuses : (s t : Situation) (e : Error) (v : T) → IsWholeIn env s
+      → LastOutcome inner s (Err e) t
+      → LastOf T group gap (front (repeated k) (pieces q (cells s))) v → class e ≡ OfMemory
+  last_refuses s t e v w (inl o) h = rl.refuses s t e (h.0 ++ v ∷ []) w o h.1
+  last_refuses s t e v w (inr o) h = absurd (never_empty w o.1 h)
+
+  -- last keeps to the laws of a field
+  pub last_of_law : FieldLaw env T (LastOutcome inner) (repeated k) q (LastOf T group gap)
+  last_of_law = record {
+    own = rl.own;
+    ok = last_took;
+    takes_all = last_takes;
+    refuses = last_refuses;
   }

@@ -8,9 +8,9 @@ use Rattle.bpaf_exact.specs.Wrappers.{Closure, OptionalValue, FallbackValue}
 use Rattle.bpaf_exact.specs.ProgramForm.{ProgramForm, alternative, single, complete, product}
 use Rattle.bpaf_exact.specs.ProgramForm.{program_closed, completed, program_field, program_if}
 use Rattle.bpaf_exact.specs.Accepted.{OneByOne, AtMostOne, HasNoSurplus, IsPartOf}
-use Rattle.bpaf_exact.specs.{Pieces.Roles, Pieces.LinePiece, Gathered.LastOf, Alternative.HasBad}
-use Rattle.bpaf_exact.specs.{Record.last_reading, Leaves.key_field, Leaves.word_by}
-use Rattle.bpaf_exact.proofs.Alternative.{own_bad}
+use Rattle.bpaf_exact.specs.{Leaves.key_field, Leaves.word_by, Pieces.Roles, Pieces.LinePiece}
+use Rattle.bpaf_exact.specs.{Record.last_reading, Alternative.HasBad, Gathered.LastOf}
+use Rattle.bpaf_exact.proofs.Wrappers.{own_bad}
 
 -- A surplus occurrence.
 
