@@ -14,7 +14,6 @@ pub mod Arguments
 pub mod Positionals
 pub mod Choice
 pub mod Records
-pub mod NamedProducts
 pub mod Narrow
 pub mod Programs
 pub mod BeforeCommands

@@ -34,7 +34,7 @@ use Rattle.bpaf_exact.specs.{Names.Owns, Names.are_all_apart, Record.last_readin
 use Rattle.bpaf_exact.specs.Theorem.{RunsExactly}
 use Rattle.bpaf_exact.proofs.Wrappers.{alternative_single, closed_alternative, closed_single}
 use Rattle.bpaf_exact.proofs.Wrappers.{closed_law, single_law, optional_law, fallback_law}
-use Rattle.bpaf_exact.proofs.NamedProducts.{named_both_law, named_con_law, named_last_law}
+use Rattle.bpaf_exact.proofs.Records.{named_both_law, named_con_law, named_last_law, con_law}
 use Rattle.bpaf_exact.proofs.Commands.{closed_program, closed_commands, optional_commands}
 use Rattle.bpaf_exact.proofs.Names.{foreign_of, apart_of_names, either_owns}
 use Rattle.bpaf_exact.proofs.BeforeCommands.{before_law, con_program}
@@ -43,8 +43,7 @@ use Rattle.bpaf_exact.proofs.Narrow.{narrower_alternative, narrower_single}
 use Rattle.bpaf_exact.proofs.Repeat.{repeat_law, some_agrees_on, last_of_law}
 use Rattle.bpaf_exact.proofs.Exact.{exact, run_sound, all_whole, run_complete, first_cells_are}
 use Rattle.bpaf_exact.proofs.{Programs.command_law, Programs.record_program, Choice.choice_law}
-use Rattle.bpaf_exact.proofs.{Records.con_law, Records.last_law, Commands.choice_commands}
-use Rattle.bpaf_exact.proofs.Product.{both_law}
+use Rattle.bpaf_exact.proofs.{Commands.choice_commands, Records.last_law, Product.both_law}
 
 -- where a test holds
 if_law : (env : Variables) {T : Type 0} (outcome : Outcome T) (names : List Names)
@@ -128,8 +127,8 @@ pub some_agrees : (env : Variables) {T : Type 0} (inner : Outcome T) (names : Li
     (words : List (List ℕ)) (s : ProgramForm T) → FormLaw env inner names words s
     → Agrees (some_closure T) (completed repeated (OwnList T) s)
 some_agrees env inner names words (alternative wide q value) l =
-    some_agrees_on ByName q _ _ (alternative_single l.0)
-some_agrees env inner names words (single wide k q group gap) l = some_agrees_on k q group gap l.0
+    some_agrees_on (alternative_single l.0)
+some_agrees env inner names words (single wide k q group gap) l = some_agrees_on l.0
 some_agrees env inner names words _ l = tt
 
 module _ (env : Variables) (T : Type 0) (inner : Outcome T) (names : List Names)
@@ -137,7 +136,8 @@ module _ (env : Variables) (T : Type 0) (inner : Outcome T) (names : List Names)
   -- the last value
   pub program_last_law : FormLaw env (LastOutcome inner) names []
       (completed repeated (LastOf T) s)
-  program_last_law = completed_law (LastOf T) (λ k q. repeated_keys k q) (last_of_law) words [] s l
+  program_last_law = completed_law (LastOf T) (λ k q. repeated_keys k q)
+      (λ k q group gap l. last_of_law l) words [] s l
 
   -- what has a value that stands for it
   pub program_fallback_law : (f : Closure (Unit {0}) T) → Decides f

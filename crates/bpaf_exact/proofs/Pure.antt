@@ -4,9 +4,9 @@ use Rattle.bpaf_laws.specs.{Default.GivesClone, Pure.PureOutcome}
 use Rattle.bpaf_doc.specs.Names.{Names}
 use Rattle.bpaf_exact.specs.Flat.{ByName, FieldTook, cells, Variables}
 use Rattle.bpaf_exact.specs.Pieces.{LinePiece, TakesPieces, no_roles, takes_none}
-use Rattle.bpaf_exact.specs.{ProgramForm.FormLaw, Leaves.pure_field, Says.Says, Says.of_kind}
-use Rattle.bpaf_exact.proofs.NamedProducts.{none_of_nobody}
-use Rattle.bpaf_exact.proofs.{Classes.memory_class, ProgramForm.no_names, Records.current_cells}
+use Rattle.bpaf_exact.specs.{Says.Says, Says.of_kind, ProgramForm.FormLaw, Leaves.pure_field}
+use Rattle.bpaf_exact.proofs.{Records.none_of_nobody, Records.current_cells, Classes.memory_class}
+use Rattle.bpaf_exact.proofs.ProgramForm.{no_names}
 
 module _ (T : Type 0) (clones : T → T → Type 0) (kept : T) where
   -- what it stands for

@@ -1,4 +1,5 @@
--- Repeats of a field that keeps to the laws of one evaluation, and what `some` and `last` make of one.
+-- Repeats of a field that keeps to the laws of one evaluation, and what `some` and `last` make of
+-- one.
 use Rattle.std.proofs.Common.{◌≡◌, ◌<◌, ◌≤◌, Bool, true, false, List, [], ◌∷◌, None, Ok, Err, refl}
 use Rattle.std.proofs.Common.{sym, ap, ◌∙◌, subst, arith, inl, inr, ◌⊎◌, true≢false, ◌++◌}
 use Rattle.bpaf_line.specs.{Situation.Situation, Situation.open_count, declared.error.Error.Error}
@@ -438,11 +439,9 @@ module _ {env : Variables} {T : Type 0} {inner : Outcome T} {k : FieldKind} {q :
     refuses = λ s t e ws w f o. repeat_fails idle s t e w f o;
   }
 
-module _ {env : Variables} {T : Type 0} {inner : Outcome T} (k : FieldKind) (q : Roles)
-    (group : Groups T) (gap : Gap T) (l : SingleLaw env T inner k q group gap) where
   -- the laws of the list
   rl : FieldLaw env (List T) (RepeatOutcome inner true) (repeated k) q (OwnList T group gap)
-  rl = repeat_law l true
+  rl = repeat_law true
 
   -- no value at all: there was no piece, and none has an absent value
   data Nothing (os : List LinePiece) : Type 0 where
@@ -462,7 +461,7 @@ module _ {env : Variables} {T : Type 0} {inner : Outcome T} (k : FieldKind) (q :
   -- and no piece gives an empty list
   empty_nothing : {os : List LinePiece} {vs : List T} → Nothing os → OwnList T group gap os vs
       → vs ≡ []
-  empty_nothing (nothing g e) (listed h o) = own_nil l e o
+  empty_nothing (nothing g e) (listed h o) = own_nil e o
   empty_nothing (nothing g e) (listed_and_absent h a o) = absurd cc
   empty_nothing (nothing g e) (only_absent h a) = absurd cc
 
@@ -480,7 +479,7 @@ module _ {env : Variables} {T : Type 0} {inner : Outcome T} (k : FieldKind) (q :
   again_ok : (s : Situation) {m : Situation} (t : Situation) (v : T) → IsWholeIn env s
       → UntilRest inner s [] m → inner m (Ok v) t → ⊥
   again_ok s {m} t v w f g =
-      let i = repeat_took l true w f in
+      let i = repeat_took true w f in
       by_empty (empty_list refl i.list) i.none (l.ok m t v (none_outside_after w i.steady) g)
     where
       by_empty : Nothing (front (repeated k) (pieces q (cells s)))
@@ -508,7 +507,7 @@ module _ {env : Variables} {T : Type 0} {inner : Outcome T} (k : FieldKind) (q :
   never_empty : {s m : Situation} {v : T} → IsWholeIn env s → UntilRest inner s [] m
       → LastOf T group gap (front (repeated k) (pieces q (cells s))) v → ⊥
   never_empty {v} w f h =
-      let i = repeat_took l true w f in
+      let i = repeat_took true w f in
       never_nil h.0 v [] (empty_nothing (empty_list refl i.list) h.1)
 
   -- so all is taken,
