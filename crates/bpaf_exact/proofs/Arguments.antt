@@ -66,22 +66,18 @@ module _ (argument : KeyWithValue) where
   abbrev gap : {T : Type 0} → (List ℕ → T → Type 0) → Variables → Gap T
   gap means variables = gap_of means (first_set variables argument.named.envs)
 
-  -- each has one of its names
-  named_item : (k : Arg) → is_key_with_value argument k ≡ true
-      → is_key_of argument.named.names k ≡ true
-  named_item k e = (and_parts (is_key_of argument.named.names k) _ e).0
-
   -- they are the keys that the argument looks for
   pub test : ByTest (is_key_with_value argument) q WithNext
   test = by_test
 
   -- they are keys
   pub named : IsNamed q
-  named = test_named (is_key_with_value argument) argument.named.names WithNext named_item
+  named = test_named (is_key_with_value argument) argument.named.names WithNext
+      (λ k e. (and_parts (is_key_of argument.named.names k) _ e).0)
 
   -- with its names
   pub owns : Owns q (argument.named.names ∷ [])
-  owns = test_owns WithNext named_item
+  owns = test_owns WithNext (λ k e. (and_parts (is_key_of argument.named.names k) _ e).0)
 
   -- a key that was taken with its text
   pub took_pair : (s t : Situation) (text : List ℕ) → TakesKeyWithText argument s text t

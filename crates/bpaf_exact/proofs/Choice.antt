@@ -252,12 +252,6 @@ module _ {env : Variables} (T : Type 0) (a b : Outcome T) (qa qb : Roles)
       won T qb qa (either qa qb) (swap_union qa qb (either qa qb) u) vb va vr same_second same_first
       s n t y o h st e
 
-  -- the other branch took something further right
-  took_other : {q : Roles} {v : LinePiece → T → Type 0} {s : Situation} (m : Situation)
-      {n : Situation} {y : T} → AlternativeOk T q v s y n → TookLeft (cells m) (cells n)
-      → Other T q v (cells s) (cells m)
-  took_other m o l = other_took o.takes l o.first o.readable
-
   -- the other branch refused
   err_other : {q : Roles} {v : LinePiece → T → Type 0} {s n : Situation} {cm : Cells} {e : Error}
       → is_memory e.0 ≡ false → AlternativeErr T q v s e n → Other T q v (cells s) cm
@@ -279,19 +273,14 @@ module _ {env : Variables} (T : Type 0) (a b : Outcome T) (qa qb : Roles)
   law_path l s {n} (Ok x) w o h = (l.ok s n x w o).steady.path
   law_path l s {n} (Err e) w o h = err_path h (l.err s n e w o)
 
-  -- so no branch is deeper than the other
-  never_deeper : (s m n : Situation) → m.path ≡ s.path → n.path ≡ s.path
-      → length n.path < length m.path → ⊥
-  never_deeper s m n e f h = let c = ap length (e ∙ sym f) in omega arith
-
   -- and both are equally deep
   equally_deep : {s t : Situation} {r : Result T Error} → IsWholeIn env s
       → (o : BranchesEval a b s r t) → EqualDepths s o.a o.sa o.b o.sb r t
   equally_deep {s} w o =
       let pa = law_path la s o.a w o.first_ran o.first_spared in
       let pb = law_path lb s o.b w o.second_ran o.second_spared in
-      ⊎_elim (λ deeper. absurd (never_deeper s o.sa o.sb pa pb deeper.0))
-      (λ other. ⊎_elim (λ deeper. absurd (never_deeper s o.sb o.sa pb pa deeper.0))
+      ⊎_elim (λ deeper. absurd (let c = ap length (pa ∙ sym pb) in omega arith))
+      (λ other. ⊎_elim (λ deeper. absurd (let c = ap length (pb ∙ sym pa) in omega arith))
       (λ equal. equal.1) other) o.chosen
 
   -- an alternative that answered took something
@@ -316,13 +305,16 @@ module _ {env : Variables} (T : Type 0) (a b : Outcome T) (qa qb : Roles)
       let d : x ≡ v = cc in
       let free = differ (is_taken sb p) win.0.differs win.1 in
       subst (λ z. AlternativeOk T (either qa qb) vr s z t) d (first_won i
-      (took_other sa j (left_of w i.steady j.steady win.1 free win.0.first)) (saved_steady sb k.1)
+      (other_took j.takes (left_of w i.steady j.steady win.1 free win.0.first) j.first j.readable)
+      (saved_steady sb k.1)
       (cells_same (same_scope (saved_steady sb k.1)) k.1.taken))
   winner_ok s {sa} {sb} t {y} v (false, Some p) w i j win k =
       let d : y ≡ v = cc in
       let here = differ_not (is_taken sb p) win.0.differs win.1 in
-      subst (λ z. AlternativeOk T (either qa qb) vr s z t) d (second_won j (took_other sb i
-      (left_of w j.steady i.steady here win.1 (λ q l. sym (win.0.first q l)))) (saved_steady sa k.1)
+      subst (λ z. AlternativeOk T (either qa qb) vr s z t) d
+      (second_won j
+      (other_took i.takes (left_of w j.steady i.steady here win.1 (λ q l. sym (win.0.first q l)))
+      i.first i.readable) (saved_steady sa k.1)
       (cells_same (same_scope (saved_steady sa k.1)) k.1.taken))
 
   -- the value of one, where the other refused

@@ -203,15 +203,13 @@ owner {qa} {qb} {r} (Some k ∷ cs) {o} {os} u e =
         let d : with_next k cs ≡ o = cc in
         (pieces q cs, cc, ap (is_own q) (sym d) ∙ (own_next q k cs ∙ ap is_own_role f))
 
-    passed_by : (q : Roles) → q k ≡ Foreign → HeadOf q cs o → HeadOf q (Some k ∷ cs) o
-    passed_by q f h = (h.0, begin_at k cs (pieces q cs) f ∙ h.1, h.2)
-
     by_owner : Belongs qa qb r k → (r k ≡ Foreign → HeadOf qa cs o ⊎ HeadOf qb cs o)
         → HeadOf qa (Some k ∷ cs) o ⊎ HeadOf qb (Some k ∷ cs) o
     by_owner (to_first h g f) i = inl (own_head qa (qa k) refl g h)
     by_owner (to_second h g f) i = inr (own_head qb (qb k) refl g h)
     by_owner (to_none f g h) i =
-        ⊎_elim (λ a. inl (passed_by qa f a)) (λ b. inr (passed_by qb g b)) (i h)
+        ⊎_elim (λ a. inl ((a.0, begin_at k cs (pieces qa cs) f ∙ a.1, a.2)))
+        (λ b. inr ((b.0, begin_at k cs (pieces qb cs) g ∙ b.1, b.2))) (i h)
 
 -- An item that isn't the first field's own goes before the first piece only where it isn't the
 -- other's either.

@@ -235,10 +235,6 @@ module _ {env : Variables} (A B : Type 0) (first : Outcome A) (rest : Outcome B)
     subst (λ os. read.value os v.1) (others_of_both together cs) h.1,
   )
 
-  -- what the first takes leaves the pieces of the rest,
-  rest_kept : {cs ds : Cells} → TakesPieces q cs ds → pieces r ds ≡ pieces r cs
-  rest_kept t = keeps_other_some lf.own lr.own apart t
-
   -- and what they take leaves its own
   first_kept : {cs ds : Cells} → TakesPieces r cs ds → pieces q ds ≡ pieces q cs
   first_kept t =
@@ -248,7 +244,8 @@ module _ {env : Variables} (A B : Type 0) (first : Outcome A) (rest : Outcome B)
   rest_value : {s m : Situation} {x : A} {u : A × B} → IsWholeIn env s → first s (Ok x) m
       → value (pieces both (cells s)) u → read.value (pieces r (cells m)) u.1
   rest_value {s} {m} {x} {u} w f h =
-      subst (λ os. read.value os u.1) (sym (rest_kept (lf.ok s m x w f).takes))
+      subst (λ os. read.value os u.1)
+      (sym (keeps_other_some lf.own lr.own apart (lf.ok s m x w f).takes))
       (each_value (cells s) h).1
 
   -- and a refusal is want of memory
@@ -277,7 +274,7 @@ module _ {env : Variables} (A B : Type 0) (first : Outcome A) (rest : Outcome B)
               (takes_some_left (swap_union q r both together) j.takes);
           read = λ none. both_value (cells s) v (i.read (sym (first_kept j.takes)
               ∙ (sym (mine_of_both together (cells t)) ∙ ap (mine q) none)))
-              (subst (λ os. read.value os v.1) (rest_kept i.takes)
+              (subst (λ os. read.value os v.1) (keeps_other_some lf.own lr.own apart i.takes)
               (j.read (sym (others_of_both together (cells t)) ∙ ap (others q) none)));
           rest = λ none. none;
         };

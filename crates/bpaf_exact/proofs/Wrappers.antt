@@ -139,18 +139,13 @@ module _ {env : Variables} {T : Type 0} {inner : Outcome T} {k : FieldKind} {q :
       → SingleValue T group gap (front k (pieces q (cells s))) w → NoKeysLeft k q (cells t)
   single_takes s t v w h i g = no_keys_left k q (cells t) _ (ok_takes (l.ok s t v h i) g)
 
-  -- and of each refusal
-  single_refuses : (s t : Situation) (e : Error) (w : T) → IsWholeIn env s → inner s (Err e) t
-      → SingleValue T group gap (front k (pieces q (cells s))) w → class e ≡ OfMemory
-  single_refuses s t e w h i g = err_gives (l.err s t e h i) g
-
   -- a field without a repeat or default keeps to the laws of a field
   pub single_law : FieldLaw env T inner k q (SingleValue T group gap)
   single_law = record {
     own = l.own;
     ok = λ s t v w i. single_took (l.ok s t v w i);
     takes_all = single_takes;
-    refuses = single_refuses;
+    refuses = λ s t e w h i g. err_gives (l.err s t e h i) g;
   }
 
   -- optional
@@ -204,7 +199,7 @@ module _ {env : Variables} {T : Type 0} {inner : Outcome T} {k : FieldKind} {q :
   optional_refuses : (s t : Situation) (e : Error) (v : Option T) → IsWholeIn env s
       → OptionalEval T inner s (Err e) t
       → OptionalValue T group gap (front k (pieces q (cells s))) v → class e ≡ OfMemory
-  optional_refuses s t e (Some y) w (optional_err i n) g = single_refuses s t e y w i g
+  optional_refuses s t e (Some y) w (optional_err i n) g = err_gives (l.err s t e w i) g
   optional_refuses s t e None w (optional_err i n) g =
       none_fails (λ c same. n (stops_by c same)) g.0 g.1 (l.err s t e w i)
   optional_refuses s t e v w (optional_memory c) g = c
@@ -262,8 +257,7 @@ module _ {env : Variables} {T : Type 0} {inner : Outcome T} {k : FieldKind} {q :
         absurd (own_missing s (catch_none h (l.err s m e w i)) o)
     fallback_refuses s t g v w (fallback_no i h n c) (inr p) = absurd (decides tt v p.2 n)
     fallback_refuses s t g v w (fallback_memory c) view = c
-    fallback_refuses s t g v w (fallback_err {m = m} i n) (inl o) =
-        single_refuses s m g v w i o
+    fallback_refuses s t g v w (fallback_err {m = m} i n) (inl o) = err_gives (l.err s m g w i) o
     fallback_refuses s t g v w (fallback_err {m = m} i n) (inr p) =
         none_fails (λ c same. n c) p.0 p.1 (l.err s m g w i)
 
