@@ -119,21 +119,13 @@ module _ {env : Variables} {T : Type 0} {inner : Outcome T} {k : FieldKind} {q :
     list : Own T group (own s) vs
     absent : gap.has ≡ true → (a : T) × gap.absent a
 
-  -- where the cells are the same not fewer items are present
-  not_less : (s m : Situation) → cells m ≡ cells s → open_count s ≤ open_count m
-  not_less s m e = let h = same_count s m e in omega arith
-
-  -- where a piece was taken fewer are
+  -- where a piece was taken fewer items are present
   fewer_count : (s m : Situation) → TakesAny q (cells s) (cells m) → open_count m < open_count s
   fewer_count s m t =
       let a = takes_any_fewer t in
       let b = open_present m in
       let c = open_present s in
       omega arith
-
-  -- as many aren't fewer
-  not_fewer : (s m : Situation) → open_count s ≤ open_count m → open_count m < open_count s → ⊥
-  not_fewer s m same fewer = omega arith
 
   -- a value after the first one took an item
   took_item : (s m : Situation) → (false ≡ true) ⊎ (open_count m < open_count s)
@@ -175,14 +167,15 @@ module _ {env : Variables} {T : Type 0} {inner : Outcome T} {k : FieldKind} {q :
   step_took : {s m t : Situation} {v : T} {vs : List T} → open_count m < open_count s
       → SingleOk T k q group gap s v m → (Steady s m → Took m vs t) → Took s (v ∷ vs) t
   step_took {s} {m} fewer (gave_absent h p ab same st) i =
-      absurd (not_fewer s m (not_less s m same) fewer)
+      let h = same_count s m same in absurd (omega arith)
   step_took fewer (took h) i = took_more h (i h.steady)
 
   -- a value that took nothing ends it
   enough_took : {s t : Situation} {v : T} → open_count s ≤ open_count t
       → SingleOk T k q group gap s v t → Took s [] t
   enough_took {v} same (gave_absent h p ab e st) = ended st p e (λ i. (v, ab))
-  enough_took {s} {t} same (took h) = absurd (not_fewer s t same (fewer_count s t h.takes))
+  enough_took {s} {t} same (took h) =
+      let f = fewer_count s t h.takes in absurd (omega arith)
 
   -- a turn after a value that stops
   stop_took : (s : Situation) {t : Situation} → IsWholeIn env s
@@ -314,17 +307,19 @@ module _ {env : Variables} {T : Type 0} {inner : Outcome T} {k : FieldKind} {q :
   own_view own_none = view_none refl refl
   own_view (own_more {rest = rest} {v = v} {vs = us} g o) = view_more v rest us refl g o
 
-  -- what is left after a turn that took something can be read
-  on_step : {s m : Situation} {v : T} {ws : List T}
-      → (gap.has ≡ true → front k (pieces q (cells s)) ≡ [] → cells m ≡ cells s → ⊥)
-      → OwnView (own s) ws → SingleOk T k q group gap s v m
-      → Steady s m × (us : List T) × Own T group (own m) us
-  on_step n o (gave_absent h p ab same st) = absurd (n h p same)
-  on_step n (view_none p e) (took h) = absurd (h.found (nil_each k _ p))
-  on_step n (view_more w rest us e g o) (took h) =
-      let f = of_group g in
-      let d = h.readable w f.0 f.1 in
-      (h.steady, us, subst (λ os. Own T group os us) (f.2 ∙ sym (ap (front (repeated k)) d.1)) o)
+  -- what is left after a turn can be read
+  on_step : {s m : Situation} {v : T} {ws : List T} → Own T group (own s) ws
+      → SingleOk T k q group gap s v m → Steady s m × (us : List T) × Own T group (own m) us
+  on_step {s} {m} {ws} o (gave_absent h p ab same st) =
+      (st, ws, subst (λ os. Own T group os ws) (sym (same_own s m same)) o)
+  on_step {s} {m} o (took h) = let more = by_view (own_view o) in (h.steady, more.0, more.1)
+    where
+      by_view : {ws : List T} → OwnView (own s) ws → (us : List T) × Own T group (own m) us
+      by_view (view_none p e) = absurd (h.found (nil_each k _ p))
+      by_view (view_more w rest us e g o) =
+          let f = of_group g in
+          let d = h.readable w f.0 f.1 in
+          (us, subst (λ os. Own T group os us) (f.2 ∙ sym (ap (front (repeated k)) d.1)) o)
 
   -- where the pieces can be read a refusal is want of memory
   failed_gives : {s t : Situation} {e : Error} {ws : List T} → IsWholeIn env s
@@ -345,75 +340,34 @@ module _ {env : Variables} {T : Type 0} {inner : Outcome T} {k : FieldKind} {q :
       failed_gives w ab view (goes_on e o.1) (l.err s t e w o.0)
   turn_fails first e w ab view (inr o) = memory_class e.0 o.0
 
-  -- and so do the turns after a value
-  later_fails : (vs : List T) {s m t : Situation} {e : Error} {ws : List T} → IsWholeIn env s
-      → (gap.has ≡ true → (a : T) × gap.absent a) → Own T group (own s) ws
-      → Turns inner false false s vs m → TurnOutcome inner false false m (Err e) t
+  -- and so do turns
+  turns_fail : (first last : Bool) (vs : List T) {s m t : Situation} {e : Error} {ws : List T}
+      → IsWholeIn env s → (gap.has ≡ true → (a : T) × gap.absent a) → Own T group (own s) ws
+      → Turns inner false first s vs m → TurnOutcome inner false last m (Err e) t
       → class e ≡ OfMemory
-  later_fails [] {t} {e} w ab o turns fails =
-      turn_fails false e w ab (own_view o)
-      (subst (λ z. TurnOutcome inner false false z (Err e) t) (sym turns) fails)
-  later_fails (v ∷ vs) {s} w ab o turns fails =
-      let on = on_step
-      (λ h p same. not_fewer s turns.0 (not_less s turns.0 same) (took_item s turns.0 turns.1.1))
-      (own_view o) (l.ok s turns.0 v w turns.1.0) in
-      later_fails vs (none_outside_after w on.0) ab on.2 turns.2 fails
+  turns_fail first last [] {t} {e} w ab o turns fails =
+      turn_fails last e w ab (own_view o)
+      (subst (λ z. TurnOutcome inner false last z (Err e) t) (sym turns) fails)
+  turns_fail first last (v ∷ vs) {s} w ab o turns fails =
+      let on = on_step o (l.ok s turns.0 v w turns.1.0) in
+      turns_fail false last vs (none_outside_after w on.0) ab on.2 turns.2 fails
 
-  -- an own list under a repeat: all that is read, or the absent value alone
-  data ListView (os : List LinePiece) (vs : List T) : Type 0 where
-    all_read : (gap.has ≡ true → (a : T) × gap.absent a) → Own T group os vs
-        → (gap.has ≡ true → os ≡ [] → ⊥) → ListView os vs
-    gap_read : gap.has ≡ true → (a : T) → gap.absent a → os ≡ [] → ListView os vs
+  -- where there is an own list all can be read, and the absent value is there
+  all_read : {os : List LinePiece} {vs : List T} → OwnList T group gap os vs
+      → (gap.has ≡ true → (a : T) × gap.absent a) × (us : List T) × Own T group os us
+  all_read {vs} (listed h o) = (λ i. absurd cc, vs, o)
+  all_read {vs} (listed_and_absent {a = a} h ab o) = (λ i. (a, ab), vs, o)
+  all_read (only_absent {a = a} h ab) = (λ i. (a, ab), [], own_none)
 
-  -- by its constructors
-  list_view : {os : List LinePiece} {vs : List T} → OwnList T group gap os vs → ListView os vs
-  list_view (listed h o) = all_read (λ i. absurd cc) o (λ i e. absurd cc)
-  list_view (listed_and_absent {a = a} h ab o) =
-      all_read (λ i. (a, ab)) o (λ i e. let n = own_nil e o in absurd cc)
-  list_view (only_absent {a = a} h ab) = gap_read h a ab refl
-
-  -- turns that fail after a first one where there is no piece
-  gap_step_failed : {s m : Situation} (t : Situation) {v : T} (e : Error) → own s ≡ []
-      → (Steady s m → (gap.has ≡ true → (a : T) × gap.absent a) → Own T group (own m) [] → class e
-      ≡ OfMemory) → SingleOk T k q group gap s v m → class e ≡ OfMemory
-  gap_step_failed {s} {m} t {v} e p i (gave_absent h p' ab same st) =
-      i st (λ y. (v, ab)) (subst (λ os. Own T group os []) (sym (same_own s m same ∙ p)) own_none)
-  gap_step_failed t e p i (took h) = absurd (h.found (nil_each k _ p))
-
-  -- where there is an absent value a refusal is want of memory
-  gap_failed : {s t : Situation} {a : T} {e : Error} → gap.has ≡ true → gap.absent a → own s ≡ []
-      → SingleErr T k q group gap s e t → class e ≡ OfMemory
-  gap_failed h ab p (of_memory c) = c
-  gap_failed h ab p (of_missing c g p' same) = absurd cc
-  gap_failed {a} h ab p (of_absent c g p' none) = absurd (none a ab)
-  gap_failed h ab p (of_piece c ne none) = absurd (ne (nil_each k _ p))
-
-  -- so do turns from the first one on
-  turns_fail : (first : Bool) (vs : List T) (s : Situation) {m t : Situation} {e : Error}
-      {ws : List T} → IsWholeIn env s → ListView (own s) ws → Turns inner false first s vs m
-      → TurnOutcome inner false (is_nil vs) m (Err e) t → class e ≡ OfMemory
-  turns_fail first [] s {t} {e} {ws} w view turns fails =
-      by_view view (subst (λ z. TurnOutcome inner false true z (Err e) t) (sym turns) fails)
-    where
-      by_view : ListView (own s) ws → TurnOutcome inner false true s (Err e) t → class e ≡ OfMemory
-      by_view (all_read ab o n) one = turn_fails true e w ab (own_view o) one
-      by_view (gap_read h a ab p) (inl one) = gap_failed h ab p (l.err s t e w one.0)
-      by_view (gap_read h a ab p) (inr one) = memory_class e.0 one.0
-  turns_fail first (v ∷ vs) s w (all_read ab o n) turns fails =
-      let on = on_step (λ h p same. n h (own_none_left s p)) (own_view o)
-      (l.ok s turns.0 v w turns.1.0) in
-      later_fails vs (none_outside_after w on.0) ab on.2 turns.2 fails
-  turns_fail first (v ∷ vs) s {t} {e} w (gap_read h a ab p) turns fails =
-      gap_step_failed t e p (λ st abs own.
-      later_fails vs (none_outside_after w st) abs own turns.2 fails) (l.ok s turns.0 v w turns.1.0)
-
-  -- where there is an own list a repeat fails for want of memory alone
+  -- and so a repeat fails for want of memory alone
   repeat_fails : (idle : Bool) (s t : Situation) (e : Error) {ws : List T} → IsWholeIn env s
       → RepeatOutcome inner idle s (Err e) t → OwnList T group gap (own s) ws → class e ≡ OfMemory
   repeat_fails false s t e w o own_list =
-      turns_fail true o.values s w (list_view own_list) o.steps o.fails
+      let read = all_read own_list in
+      turns_fail true (is_nil o.values) o.values w read.0 read.2 o.steps o.fails
   repeat_fails true s t e w o own_list =
-      turns_fail false o.values s w (list_view own_list) o.steps o.fails
+      let read = all_read own_list in
+      turns_fail false (is_nil o.values) o.values w read.0 read.2 o.steps o.fails
 
   -- the items of a repeat are those of the field
   own_repeated : OwnItems (repeated k) q
