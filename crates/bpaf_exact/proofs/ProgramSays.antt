@@ -68,100 +68,83 @@ module _ {P Q A B : Type 0} (inside : Q → P) (q : Q) where
       by_form (commands optional value) h = closed_said h
       by_form _ h = tt
 
-module _ {P Q T : Type 0} (inside : Q → P) (q : Q) {s : ProgramForm T} {said : ProgramSaid P T}
-    {kind : SaidKind} {names : List Names} (h : ProgramSays names s kind said (inside q)) where
+module _ {P Q T : Type 0} (inside : Q → P) (q : Q) {s : ProgramForm T} where
   -- what is made of a repeat
-  pub program_repeat_says : {B : Type 0} (catch : Bool) (f : Closure (List T) B)
-      → ProgramSays names (program_if (not catch) (program_closed f (completed repeated (OwnList T)
-      s))) (repeated_kind kind) (said_repeat inside f said) q
-  program_repeat_says catch f = by_said said h
+  pub program_repeat_says : {said : ProgramSaid P T} {kind : SaidKind} {names : List Names}
+      {B : Type 0} → ProgramSays names s kind said (inside q) → (catch : Bool)
+      (f : Closure (List T) B) → ProgramSays names (program_if (not catch)
+      (program_closed f (completed repeated (OwnList T) s))) (repeated_kind kind)
+      (said_repeat inside f said) q
+  program_repeat_says {said = of_pieces said} h catch f =
+      record { by = unless_says catch (listed_says f h.by) }
+  program_repeat_says {said = of_cells said} h catch f =
+      record { by = cells_if (not catch) _ _ (λ on. by_form s h.by) }
     where
-      by_said : (said : ProgramSaid P T) → ProgramSays names s kind said (inside q)
-          → ProgramSays names (program_if (not catch) (program_closed f (completed repeated
-          (OwnList T) s))) (repeated_kind kind) (said_repeat inside f said) q
-      by_said (of_pieces said) h = record { by = unless_says catch (listed_says f h.by) }
-      by_said (of_cells said) h = record {
-        by = cells_if (not catch) _ _ (λ on. by_form s h.by);
-      }
-        where
-          by_form : (s : ProgramForm T) → CellsSay s (said (inside q))
-              → CellsSay (program_closed f (completed repeated (OwnList T) s)) (λ cs v. ⊥)
-          by_form (alternative wide r value) h = absurd h
-          by_form (single wide k r group gap) h = absurd h
-          by_form _ h = tt
+      by_form : (s : ProgramForm T) → CellsSay s (said (inside q))
+          → CellsSay (program_closed f (completed repeated (OwnList T) s)) (λ cs v. ⊥)
+      by_form (alternative wide r value) h = absurd h
+      by_form (single wide k r group gap) h = absurd h
+      by_form _ h = tt
 
   -- its last value
-  pub program_last_says : ProgramSays names (completed repeated (LastOf T) s)
-      (repeated_kind kind) (said_last inside said) q
-  program_last_says = by_said said h
-    where
-      by_said : (said : ProgramSaid P T) → ProgramSays names s kind said (inside q)
-          → ProgramSays names (completed repeated (LastOf T) s) (repeated_kind kind)
-          (said_last inside said) q
-      by_said (of_pieces said) h = record { by = last_says h.by }
-      by_said (of_cells said) h =
-          record { by = completed_cells repeated (LastOf T) s (said (inside q)) (λ cs v. ⊥) h.by }
+  pub program_last_says : {said : ProgramSaid P T} {kind : SaidKind} {names : List Names}
+      → ProgramSays names s kind said (inside q)
+      → ProgramSays names (completed repeated (LastOf T) s) (repeated_kind kind)
+      (said_last inside said) q
+  program_last_says {said = of_pieces said} h = record { by = last_says h.by }
+  program_last_says {said = of_cells said} h =
+      record { by = completed_cells repeated (LastOf T) s (said (inside q)) (λ cs v. ⊥) h.by }
 
   -- a fallback
-  pub program_fallback_says : (f : Q → Closure (Unit {0}) T)
+  pub program_fallback_says : {said : ProgramSaid P T} {kind : SaidKind} {names : List Names}
+      → ProgramSays names s kind said (inside q) → (f : Q → Closure (Unit {0}) T)
       → ProgramSays names (completed (λ k. k) (λ group gap. FallbackValue T group gap (f q)) s) kind
       (said_fallback inside f said) q
-  program_fallback_says f = by_said said h
-    where
-      by_said : (said : ProgramSaid P T) → ProgramSays names s kind said (inside q)
-          → ProgramSays names (completed (λ k. k) (λ group gap. FallbackValue T group gap (f q)) s)
-          kind (said_fallback inside f said) q
-      by_said (of_pieces said) h = record { by = fallback_says (f q) h.by }
-      by_said (of_cells said) h = record {
-        by = completed_cells (λ k. k) (λ group gap. FallbackValue T group gap (f q)) s
-            (said (inside q)) (λ cs v. ⊥) h.by;
-      }
+  program_fallback_says {said = of_pieces said} h f = record { by = fallback_says (f q) h.by }
+  program_fallback_says {said = of_cells said} h f = record {
+    by = completed_cells (λ k. k) (λ group gap. FallbackValue T group gap (f q)) s
+        (said (inside q)) (λ cs v. ⊥) h.by;
+  }
 
   -- another look
-  pub program_dressed_says : ProgramSays names (program_dressed s) kind
-      (said_dressed inside said) q
-  program_dressed_says = by_said said h
+  pub program_dressed_says : {said : ProgramSaid P T} {kind : SaidKind} {names : List Names}
+      → ProgramSays names s kind said (inside q)
+      → ProgramSays names (program_dressed s) kind (said_dressed inside said) q
+  program_dressed_says {said = of_pieces said} {kind} {names} h =
+      record { by = record { by = by_form s h.by.by } }
     where
-      pieces_of : (s : ProgramForm T) (said : Said T) → FormSays names s kind said
-          → FormSays names (program_dressed s) kind said
-      pieces_of (before_commands value) said h = tt
-      pieces_of _ said h = h
-
-      cells_of : (s : ProgramForm T) (said : CellsValue T) → CellsSay s said
-          → CellsSay (program_dressed s) said
-      cells_of (before_commands value) said h = tt
-      cells_of _ said h = h
-
-      by_said : (said : ProgramSaid P T) → ProgramSays names s kind said (inside q)
-          → ProgramSays names (program_dressed s) kind (said_dressed inside said) q
-      by_said (of_pieces said) h =
-          record { by = record { by = pieces_of s (said (inside q)) h.by.by } }
-      by_said (of_cells said) h = record { by = cells_of s (said (inside q)) h.by }
+      by_form : (s : ProgramForm T) → FormSays names s kind (said (inside q))
+          → FormSays names (program_dressed s) kind (said (inside q))
+      by_form (before_commands value) h = tt
+      by_form _ h = h
+  program_dressed_says {said = of_cells said} h = record { by = by_form s h.by }
+    where
+      by_form : (s : ProgramForm T) → CellsSay s (said (inside q))
+          → CellsSay (program_dressed s) (said (inside q))
+      by_form (before_commands value) h = tt
+      by_form _ h = h
 
   -- what may be left out
-  pub program_optional_says : (catch : Bool)
+  pub program_optional_says : {said : ProgramSaid P T} {kind : SaidKind} {names : List Names}
+      → ProgramSays names s kind said (inside q) → (catch : Bool)
       → ProgramSays names (program_if (not catch) (program_optional s)) kind
       (said_optional inside said) q
-  program_optional_says catch = by_said said h
+  program_optional_says {said = of_pieces said} h catch =
+      record { by = unless_says catch (optional_says h.by) }
+  program_optional_says {said = of_cells said} h catch =
+      record { by = cells_if (not catch) _ _ (λ on. by_form s h.by) }
     where
-      by_said : (said : ProgramSaid P T) → ProgramSays names s kind said (inside q)
-          → ProgramSays names (program_if (not catch) (program_optional s)) kind
-          (said_optional inside said) q
-      by_said (of_pieces said) h = record { by = unless_says catch (optional_says h.by) }
-      by_said (of_cells said) h = record {
-        by = cells_if (not catch) _ _ (λ on. by_form s h.by);
-      }
-        where
-          by_form : (s : ProgramForm T) → CellsSay s (said (inside q))
-              → CellsSay (program_optional s) (OptionalCommands T (said (inside q)))
-          by_form (commands false value) h = by_value
-            where
-              by_value : IsSaid (OptionalCommands T value) (OptionalCommands T (said (inside q)))
-              by_value cs (Some v) c = h cs v c
-              by_value cs None none = none
-          by_form s h =
-              completed_cells (λ k. k) (OptionalValue T) s (said (inside q))
-              (OptionalCommands T (said (inside q))) h
+      by_value : {value : CellsValue T} → IsSaid value (said (inside q))
+          → IsSaid (OptionalCommands T value) (OptionalCommands T (said (inside q)))
+      by_value h cs (Some v) c = h cs v c
+      by_value h cs None none = none
+
+      by_form : (s : ProgramForm T) → CellsSay s (said (inside q))
+          → CellsSay (program_optional s) (OptionalCommands T (said (inside q)))
+      by_form (commands false value) h = by_value h
+      by_form s h =
+          completed_cells (λ k. k) (OptionalValue T) s (said (inside q))
+          (OptionalCommands T (said (inside q))) h
 
 -- a value of a whole program says so of the cells
 pub program_says : (env : Variables) {P T : Type 0} (outcome : Outcome T) (words : List (List ℕ))
