@@ -98,19 +98,15 @@ NoKeys r = (k : Arg) → r k ≡ Foreign
 
 -- an item of a positional field is a word
 word_of : {q : Roles} (k : Arg) → IsWords q → q k ≡ Alone → is_positional k ≡ true
-word_of k n e = by_word (is_positional k) (sym (n.words k) ∙ e)
-  where
-    by_word : (b : Bool) → (if b then Alone else Foreign) ≡ Alone → b ≡ true
-    by_word true h = refl
-    by_word false h = cc
+word_of k n e =
+    elim (is_positional k) as (λ b. (if b then Alone else Foreign) ≡ Alone → b ≡ true)
+    [ true ↦ λ h. refl | false ↦ λ h. cc ] (sym (n.words k) ∙ e)
 
 -- and a piece by itself
 pub never_two : {q : Roles} {k : Arg} → IsWords q → q k ≡ WithNext → ⊥
-never_two {k} n e = by_word (is_positional k) (sym (n.words k) ∙ e)
-  where
-    by_word : (b : Bool) → (if b then Alone else Foreign) ≡ WithNext → ⊥
-    by_word true h = cc
-    by_word false h = cc
+never_two {k} n e =
+    elim (is_positional k) as (λ b. (if b then Alone else Foreign) ≡ WithNext → ⊥)
+    [ true ↦ λ h. cc | false ↦ λ h. cc ] (sym (n.words k) ∙ e)
 
 -- a cut of words
 pub record WordCut (r : Roles) (cs : Cells) : Type 0 where

@@ -1,5 +1,5 @@
 -- Taking the first piece, and the first piece of two fields together.
-use Rattle.std.proofs.Common.{◌≡◌, ◌<◌, Bool, true, false, List, [], ◌∷◌, length, Option, Some}
+use Rattle.std.proofs.Common.{◌≡◌, ◌<◌, true, false, List, [], ◌∷◌, length, Option, Some}
 use Rattle.std.proofs.Common.{None, refl, sym, ap, ◌∙◌, subst, inl, inr, ◌⊎◌, if◌then◌else◌, arith}
 use Rattle.bpaf_base.specs.declared.arg.Arg.{Arg}
 use Rattle.bpaf_exact.specs.Pieces.{Cells, Role, Foreign, Alone, WithNext, Roles, LinePiece, One}
@@ -147,11 +147,9 @@ takes_left u (takes_later t) = takes_later (takes_left u t)
 pub own_next : (q : Roles) (k : Arg) (cs : Cells) → is_own q (with_next k cs) ≡ is_own_role (q k)
 own_next q k [] = refl
 own_next q k (None ∷ cs) = refl
-own_next q k (Some w ∷ cs) = by_value (is_value w)
-  where
-    by_value : (b : Bool) → is_own q (if b then Two k w else One k) ≡ is_own_role (q k)
-    by_value true = refl
-    by_value false = refl
+own_next q k (Some w ∷ cs) =
+    elim (is_value w) as (λ b. is_own q (if b then Two k w else One k) ≡ is_own_role (q k))
+    [ true ↦ refl | false ↦ refl ]
 
 -- the key of the piece that an item begins
 head_key : (q : Roles) (x : Role) (k : Arg) (cs : Cells) (os : List LinePiece) (o : LinePiece)

@@ -74,11 +74,9 @@ test_named test names own asks =
 -- where a place has no match, nothing of the field's own is there
 not_own : {test : Arg → Bool} {r : Roles} {own : Role} (s : Situation) (p : ℕ) → ByTest test r own
     → is_match test s p ≡ false → NotOwn r (open_item s p)
-not_own {test} {r} s p t e = by_item (open_item s p) e
-  where
-    by_item : (c : Option Arg) → option_map_or test c false ≡ false → NotOwn r c
-    by_item None h = tt
-    by_item (Some k) h = t.no k h
+not_own {test} {r} s p t e =
+    elim (open_item s p) as (λ c. option_map_or test c false ≡ false → NotOwn r c)
+    [ None ↦ λ h. tt | Some k ↦ λ h. t.no k h ] e
 
 -- nothing of the field's own stands before the first match
 none_before : {test : Arg → Bool} {r : Roles} {own : Role} {s : Situation} {p : ℕ}

@@ -222,12 +222,9 @@ only_says {T = T} q (of_pieces said) names s h = record { by = by_form s h.by }
     by_form (alternative wide r value) h = h
     by_form (commands optional value) h = absurd h
     by_form _ h = tt
-only_says {T = T} q (of_cells said) names s h = by_form s h
-  where
-    by_form : (s : ProgramForm T) → CellsSay s (said q) → CellsSay (choice_only s) (said q)
-    by_form (commands false value) h = h
-    by_form (alternative wide r value) h = absurd h
-    by_form _ h = tt
+only_says {T = T} q (of_cells said) names s h =
+    elim s as (λ s. CellsSay s (said q) → CellsSay (choice_only s) (said q))
+    [ commands false value ↦ λ h. h | alternative wide r value ↦ λ h. absurd h | _ ↦ λ h. tt ] h
 
 module _ {P Q T : Type 0} (q : Q) where
   -- what one parser says goes into what is said of all

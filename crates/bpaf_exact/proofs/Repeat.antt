@@ -90,14 +90,13 @@ module _ {env : Variables} {T : Type 0} {inner : Outcome T} {k : FieldKind} {q :
   by_group : {os : List LinePiece} {v : T} {rest : List LinePiece} → group os v rest
       → group (front (repeated k) os) v (front (repeated k) rest)
       × (back (repeated k) rest ≡ back (repeated k) os)
-  by_group {os} {v} {rest} g = by_kind k l.words
-    where
-      by_kind : (z : FieldKind) → ReadsWords z group
-          → group (front (repeated z) os) v (front (repeated z) rest)
-          × (back (repeated z) rest ≡ back (repeated z) os)
-      by_kind ByName u = (g, refl)
-      by_kind (OneWord b) u = u.by_each os v rest g
-      by_kind (EachWord b) u = absurd u
+  by_group {os} {v} {rest} g =
+      elim k as (λ z. ReadsWords z group → group (front (repeated z) os) v (front (repeated z) rest)
+      × (back (repeated z) rest ≡ back (repeated z) os)) [
+        | ByName ↦ λ u. (g, refl)
+        | OneWord b ↦ λ u. u.by_each os v rest g
+        | EachWord b ↦ λ u. absurd u
+      ] l.words
 
   -- and the other way
   of_group : {os : List LinePiece} {v : T} {rest : List LinePiece}
@@ -371,11 +370,8 @@ module _ {env : Variables} {T : Type 0} {inner : Outcome T} {k : FieldKind} {q :
 
   -- the items of a repeat are those of the field
   own_repeated : OwnItems (repeated k) q
-  own_repeated = by_kind k l.own
-    where
-      by_kind : (z : FieldKind) → OwnItems z q → OwnItems (repeated z) q
-      by_kind ByName o = o
-      by_kind _ o = o
+  own_repeated =
+      elim k as (λ z. OwnItems z q → OwnItems (repeated z) q) [ ByName ↦ λ o. o | _ ↦ λ o. o ] l.own
 
   -- many, and what is built on it: the values of the own list
   pub repeat_law : (idle : Bool) → FieldLaw env (List T) (RepeatOutcome inner idle) (repeated k) q

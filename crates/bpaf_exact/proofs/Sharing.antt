@@ -162,12 +162,10 @@ module _ {q r : Roles} {own behind : List Names} (owned : Owns q own) (owned_beh
 -- the own ones of pieces are all one's own
 pub each_own : (q : Roles) (os : List LinePiece) → EachOwn q (mine q os)
 each_own q [] = tt
-each_own q (o ∷ os) = by_own (is_own q o) refl (each_own q os)
-  where
-    by_own : (b : Bool) → is_own q o ≡ b → EachOwn q (mine q os)
-        → EachOwn q (if b then (o ∷ mine q os) else mine q os)
-    by_own true e all = (e, all)
-    by_own false e all = all
+each_own q (o ∷ os) =
+    elim (is_own q o) as (λ b. is_own q o ≡ b → EachOwn q (mine q os)
+    → EachOwn q (if b then (o ∷ mine q os) else mine q os))
+    [ true ↦ λ e all. (e, all) | false ↦ λ e all. all ] refl (each_own q os)
 
 -- so are those taken from cells
 pub taken_own : {q : Roles} {cs ds : Cells} {os : List LinePiece} → Takes q cs os ds → EachOwn q os
@@ -186,20 +184,16 @@ mine_within q r part =
 -- an own item of the first is one of either, and so is one of the second
 pub first_within : (q r : Roles) (k : Arg) → is_own_role (q k) ≡ true
     → is_own_role (either q r k) ≡ true
-first_within q r k = by_role (q k)
-  where
-    by_role : (x : Role) → is_own_role x ≡ true → is_own_role (either_role x (r k)) ≡ true
-    by_role Foreign e = absurd cc
-    by_role _ e = refl
+first_within q r k =
+    elim (q k) as (λ x. is_own_role x ≡ true → is_own_role (either_role x (r k)) ≡ true)
+    [ Foreign ↦ λ e. absurd cc | _ ↦ λ e. refl ]
 
 -- the second
 pub second_within : (q r : Roles) (k : Arg) → is_own_role (r k) ≡ true
     → is_own_role (either q r k) ≡ true
-second_within q r k = by_role (q k)
-  where
-    by_role : (x : Role) → is_own_role (r k) ≡ true → is_own_role (either_role x (r k)) ≡ true
-    by_role Foreign e = e
-    by_role _ e = refl
+second_within q r k =
+    elim (q k) as (λ x. is_own_role (r k) ≡ true → is_own_role (either_role x (r k)) ≡ true)
+    [ Foreign ↦ λ e. e | _ ↦ λ e. refl ]
 
 -- what is another's own isn't among one's own
 pub mine_of_others : (p q : Roles) → ((k : Arg) → is_own_role (q k) ≡ true → p k ≡ Foreign)
@@ -224,12 +218,10 @@ module _ (q : Roles) (none : (k : Arg) → is_own_role (q k) ≡ false) where
 -- where no piece is another's, each is one's own
 pub all_mine : (q : Roles) (os : List LinePiece) → others q os ≡ [] → mine q os ≡ os
 all_mine q [] e = refl
-all_mine q (o ∷ os) e = by_own (is_own q o) e (all_mine q os)
-  where
-    by_own : (b : Bool) → (if not b then (o ∷ others q os) else others q os) ≡ []
-        → (others q os ≡ [] → mine q os ≡ os) → (if b then (o ∷ mine q os) else mine q os) ≡ o ∷ os
-    by_own true f h = ap (λ z. o ∷ z) (h f)
-    by_own false f h = cc
+all_mine q (o ∷ os) e =
+    elim (is_own q o) as (λ b. (if not b then (o ∷ others q os) else others q os) ≡ []
+    → (others q os ≡ [] → mine q os ≡ os) → (if b then (o ∷ mine q os) else mine q os) ≡ o ∷ os)
+    [ true ↦ λ f h. ap (λ z. o ∷ z) (h f) | false ↦ λ f h. cc ] e (all_mine q os)
 
 -- what is neither's is no piece of both
 pub others_both : (q r : Roles) (os : List LinePiece)
