@@ -9,13 +9,12 @@ use Rattle.bpaf_exact.specs.Pieces.{Cells, Role, Foreign, Roles, LinePiece, One,
 use Rattle.bpaf_exact.specs.Pieces.{is_own_role, IsNamed, TakesPiece, takes_one, takes_two}
 use Rattle.bpaf_exact.specs.Pieces.{takes_later, TakesPieces, takes_none, takes_more, Takes}
 use Rattle.bpaf_exact.specs.Pieces.{no_cells, empty_stays, other_stays, takes_flag, takes_argument}
-use Rattle.bpaf_exact.specs.Flat.{OfMemory, class, cells, NonePresent, IsWholeIn, ByName, FieldLaw}
+use Rattle.bpaf_exact.specs.Flat.{cells, NonePresent, IsWholeIn, ByName, FieldLaw}
 use Rattle.bpaf_exact.specs.Programs.{CellsValue, FieldThen, ProgramLaw}
 use Rattle.bpaf_exact.specs.Programs.{IsSpelledLine, AllSpelled, no_cell, empty_cell, spelled_cell}
 use Rattle.bpaf_exact.specs.Wrappers.{ClosedValue, map_closure}
 use Rattle.bpaf_exact.specs.{Pieces.either, Pieces.either_role, Flat.Variables, Programs.GivesAll}
-use Rattle.bpaf_exact.proofs.Product.{none_outside_after, values_of_both, RefusedBy, for_memory}
-use Rattle.bpaf_exact.proofs.Product.{by_first, by_rest, refused_by}
+use Rattle.bpaf_exact.proofs.Product.{none_outside_after, values_of_both, refused_both}
 use Rattle.bpaf_exact.proofs.Cells.{nil_rest, nil_foreign, value_foreign, begin_at}
 use Rattle.bpaf_exact.proofs.{Programs.cells_spelled, Records.current_cells}
 
@@ -174,13 +173,8 @@ module _ {env : Variables} {A B : Type 0} {first : Outcome A} {rest : Outcome B}
         },
         j.1.1,
       )
-  both_answers s t (Err e) u w o h = by_side (refused_by first rest o)
-    where
-      by_side : RefusedBy first rest s e t → class e ≡ OfMemory
-      by_side (for_memory m) = m
-      by_side (by_first {d = d} {m = m} f spared) =
-          absurd (spared (lf.refuses s m d u.0 w f (own_value h)))
-      by_side (by_rest f g) = (rest_gives w f g h).1
+  both_answers s t (Err e) u w o h = refused_both first rest
+      (λ d m f. lf.refuses s m d u.0 w f (own_value h)) (λ v m f g. (rest_gives w f g h).1) o
 
   -- the laws
   pub before_law : ProgramLaw env (A × B) (BothOutcome first rest) (either q r) value

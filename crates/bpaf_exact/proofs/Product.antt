@@ -216,27 +216,21 @@ module _ {A B : Type 0} (first : Outcome A) (rest : Outcome B) where
       → ValuesOfBoth A B first rest s v t
   values_of_both o = joined_values o.a o.b o.first_ran o.rest_ran o.answer
 
-  -- a refusal is of the first, not for want of memory; of the others, after its value; or want of
-  -- memory
-  pub data RefusedBy (s : Situation) (e : Error) (t : Situation) : Type 0 where
-    for_memory : class e ≡ OfMemory → RefusedBy s e t
-    by_first : {d : Error} {m : Situation} → first s (Err d) m → (class d ≡ OfMemory → ⊥)
-        → RefusedBy s e t
-    by_rest : {v : A} {m : Situation} → first s (Ok v) m → rest m (Err e) t → RefusedBy s e t
-
-  -- of joined answers
-  joined_refused : {s m t : Situation} (a : Result A Error) (b : Result B Error) {e : Error}
-      → first s a m → rest m b t → IsNotMemory a → Err e ≡ joined a b → RefusedBy s e t
-  joined_refused (Ok a) (Ok b) f g spared i = absurd cc
-  joined_refused {m} {t} (Ok a) (Err b) {e} f g spared i =
-      let d : b ≡ e = cc in by_rest f (subst (λ z. rest m (Err z) t) d g)
-  joined_refused (Err a) b f g spared i = by_first f (not_memory a.0 spared)
-
-  -- and so each
-  pub refused_by : {s t : Situation} {e : Error} → BothOutcome first rest s (Err e) t
-      → RefusedBy s e t
-  refused_by (inl o) = joined_refused o.a o.b o.first_ran o.rest_ran o.spared o.answer
-  refused_by {e} (inr o) = for_memory (memory_class e.0 o.1)
+  -- a refusal is want of memory where each of the first is, and each of the others after its value
+  pub refused_both : {s t : Situation} {e : Error}
+      → ((d : Error) (m : Situation) → first s (Err d) m → class d ≡ OfMemory)
+      → ((v : A) (m : Situation) → first s (Ok v) m → rest m (Err e) t → class e ≡ OfMemory)
+      → BothOutcome first rest s (Err e) t → class e ≡ OfMemory
+  refused_both {e} of_first of_rest (inr o) = memory_class e.0 o.1
+  refused_both {s} {t} {e} of_first of_rest (inl o) =
+      by_answers o.a o.b o.first_ran o.rest_ran o.spared o.answer
+    where
+      by_answers : (a : Result A Error) (b : Result B Error) → first s a o.middle
+          → rest o.middle b t → IsNotMemory a → Err e ≡ joined a b → class e ≡ OfMemory
+      by_answers (Ok a) (Ok b) f g spared i = absurd cc
+      by_answers (Ok a) (Err b) f g spared i =
+          let d : b ≡ e = cc in of_rest a o.middle f (subst (λ z. rest o.middle (Err z) t) d g)
+      by_answers (Err a) b f g spared i = absurd (not_memory a.0 spared (of_first a o.middle f))
 
 module _ {env : Variables} {A B : Type 0} {first : Outcome A} {rest : Outcome B} {k : FieldKind}
     {q r : Roles} {fv : List LinePiece → A → Type 0} {others_read : FieldsReading B}
@@ -258,20 +252,6 @@ module _ {env : Variables} {A B : Type 0} {first : Outcome A} {rest : Outcome B}
   rest_cut {s} {m} {x} w f c h =
       let i = lf.ok s m x w f in
       step_on k lf.own b i.takes (i.rest (lf.takes_all s m x h.0 w f (own_value s c h))) c
-
-  -- and a refusal is want of memory
-  both_refuse : (s t : Situation) (e : Error) (os : List LinePiece) → IsWholeIn env s
-      → BothOutcome first rest s (Err e) t → Cut (either (keys k q) r) (cells s) os
-      → reading.each os → class e ≡ OfMemory
-  both_refuse s t e os w o c h = by_side (refused_by first rest o)
-    where
-      by_side : RefusedBy first rest s e t → class e ≡ OfMemory
-      by_side (for_memory m) = m
-      by_side (by_first {d = d} {m = m} f spared) =
-          absurd (spared (lf.refuses s m d h.0.0 w f (own_value s c h.0)))
-      by_side (by_rest {v = v} {m = m} f g) =
-          lr.refuses m t e (left k q os) (none_outside_after w (lf.ok s m v w f).steady) g
-          (rest_cut w f c h.0) h.1
 
   -- a flat field before flat fields: together they keep to the laws
   pub both_law : FieldsLaw env (A × B) (BothOutcome first rest) (either (keys k q) r) reading
@@ -296,5 +276,8 @@ module _ {env : Variables} {A B : Type 0} {first : Outcome A} {rest : Outcome B}
         lr.takes_all i.middle t u.1 (left k q os)
         (none_outside_after w (lf.ok s i.middle u.0 w i.first_ran).steady) i.rest_ran
         (rest_cut w i.first_ran c h.0) h.1;
-    refuses = both_refuse;
+    refuses = λ s t e os w o c h. refused_both first rest
+        (λ d m f. lf.refuses s m d h.0.0 w f (own_value s c h.0))
+        (λ v m f g. lr.refuses m t e (left k q os)
+        (none_outside_after w (lf.ok s m v w f).steady) g (rest_cut w f c h.0) h.1) o;
   }

@@ -10,12 +10,12 @@ use Rattle.bpaf_exact.specs.Pieces.{WithNext, begin_piece, is_own_role, mine, ot
 use Rattle.bpaf_exact.specs.Flat.{cells, NonePresent, no_place, none_here, Steady, IsWholeIn}
 use Rattle.bpaf_exact.specs.Flat.{FieldKind, ByName, keys, OwnItems, FieldLaw, FieldsLaw, ReadOff}
 use Rattle.bpaf_exact.specs.Flat.{Before, FieldsReading, HasValue, portion, front, Variables}
-use Rattle.bpaf_exact.specs.Flat.{FieldTook, OfMemory, both_reading, class}
+use Rattle.bpaf_exact.specs.Flat.{FieldTook, both_reading}
 use Rattle.bpaf_exact.specs.{Pieces.takes_none, Pieces.with_next, Pieces.is_own, Programs.GivesAll}
 use Rattle.bpaf_exact.specs.{Wrappers.map_closure, Wrappers.ClosedValue, Single.present_count}
 use Rattle.bpaf_exact.specs.Record.{last_reading}
-use Rattle.bpaf_exact.proofs.Product.{step_back, none_left, own_portion, step_on, RefusedBy}
-use Rattle.bpaf_exact.proofs.Product.{by_first, by_rest, for_memory, none_outside_after, refused_by}
+use Rattle.bpaf_exact.proofs.Product.{step_back, none_left, own_portion, step_on, refused_both}
+use Rattle.bpaf_exact.proofs.Product.{none_outside_after}
 use Rattle.bpaf_exact.proofs.First.{Belongs, Union, belongs, both_nil, either_union, own_next}
 use Rattle.bpaf_exact.proofs.First.{swap_union, takes_left, to_first, to_none, to_second}
 use Rattle.bpaf_exact.proofs.{Cuts.empty_cut, Cuts.cut_empty, Cuts.read_off, First.union_named}
@@ -248,18 +248,6 @@ module _ {env : Variables} (A B : Type 0) (first : Outcome A) (rest : Outcome B)
       (sym (keeps_other_some lf.own lr.own apart (lf.ok s m x w f).takes))
       (each_value (cells s) h).1
 
-  -- and a refusal is want of memory
-  both_refuse : (s t : Situation) (e : Error) (u : A × B) → IsWholeIn env s
-      → BothOutcome first rest s (Err e) t → value (pieces both (cells s)) u → class e ≡ OfMemory
-  both_refuse s t e u w o h = by_side (refused_by first rest o)
-    where
-      by_side : RefusedBy first rest s e t → class e ≡ OfMemory
-      by_side (for_memory m) = m
-      by_side (by_first {d = d} {m = m} f spared) =
-          absurd (spared (lf.refuses s m d u.0 w f (each_value (cells s) h).0))
-      by_side (by_rest {v = v} {m = m} f g) =
-          lr.refuses m t e u.1 (none_outside_after w (lf.ok s m v w f).steady) g (rest_value w f h)
-
   -- together they keep to the laws of a named field
   pub named_both_law : FieldLaw env (A × B) (BothOutcome first rest) ByName both value
   named_both_law = record {
@@ -284,7 +272,10 @@ module _ {env : Variables} (A B : Type 0) (first : Outcome A) (rest : Outcome B)
         both_nil (cells t) together (first_kept (lr.ok i.middle t v.1 after i.rest_ran).takes
         ∙ lf.takes_all s i.middle v.0 u.0 w i.first_ran (each_value (cells s) h).0)
         (lr.takes_all i.middle t v.1 u.1 after i.rest_ran (rest_value w i.first_ran h));
-    refuses = both_refuse;
+    refuses = λ s t e u w o h. refused_both first rest
+        (λ d m f. lf.refuses s m d u.0 w f (each_value (cells s) h).0)
+        (λ v m f g. lr.refuses m t e u.1
+        (none_outside_after w (lf.ok s m v w f).steady) g (rest_value w f h)) o;
   }
 
 -- no item is nobody's own
