@@ -1,6 +1,6 @@
 -- A named field before others, the last of which are commands: together they keep to the laws of a
 -- program.
-use Rattle.std.proofs.Common.{◌≡◌, ◌≤◌, true, List, [], ◌∷◌, length, Some, None, Result, Ok, Err}
+use Rattle.std.proofs.Common.{◌≡◌, ◌≤◌, List, [], ◌∷◌, length, Some, None, Result, Ok, Err}
 use Rattle.std.proofs.Common.{refl, sym, ap, ◌∙◌, subst, arith, if◌then◌else◌}
 use Rattle.bpaf_line.specs.{declared.error.Error.Error, Situation.Situation}
 use Rattle.bpaf_laws.specs.Product.{BothOutcome, ProductOutcome}
@@ -16,7 +16,8 @@ use Rattle.bpaf_exact.specs.Wrappers.{ClosedValue, map_closure}
 use Rattle.bpaf_exact.specs.{Pieces.either, Pieces.either_role, Flat.Variables, Programs.GivesAll}
 use Rattle.bpaf_exact.proofs.Product.{none_outside_after, values_of_both, refused_both}
 use Rattle.bpaf_exact.proofs.Cells.{nil_rest, nil_foreign, value_foreign, begin_at}
-use Rattle.bpaf_exact.proofs.{Programs.cells_spelled, Records.current_cells}
+use Rattle.bpaf_exact.proofs.{Programs.cells_spelled, Records.current_cells, Sharing.second_within}
+use Rattle.bpaf_exact.proofs.Sharing.{first_within}
 
 -- What is taken, and what is left.
 
@@ -104,35 +105,24 @@ left_spelled (takes_flag e t) (spelled_cell s a) = empty_cell (left_spelled t a)
 left_spelled (takes_argument e v t) (spelled_cell s (spelled_cell r a)) =
     empty_cell (empty_cell (left_spelled t a))
 
+-- what has no role to two has none to each
+none_of_both : (x y : Role) → either_role x y ≡ Foreign → (x ≡ Foreign) × (y ≡ Foreign)
+none_of_both Foreign y e = (refl, e)
+none_of_both _ y e = absurd cc
+
 -- what is apart from two is apart from each
 pub apart_first : {p q : Roles} (r : Roles) → Apart p (either q r) → Apart p q
 apart_first {q} r a = record {
-  left = λ k own. by_role (q k) (r k) (a.left k own);
-  right = λ k own. a.right k (by_own (q k) (r k) own);
+  left = λ k own. (none_of_both (q k) (r k) (a.left k own)).0;
+  right = λ k own. a.right k (first_within q r k own);
 }
-  where
-    by_role : (x y : Role) → either_role x y ≡ Foreign → x ≡ Foreign
-    by_role Foreign y e = refl
-    by_role _ y e = e
-
-    by_own : (x y : Role) → is_own_role x ≡ true → is_own_role (either_role x y) ≡ true
-    by_own Foreign y e = cc
-    by_own _ y e = refl
 
 -- and from the other
 pub apart_second : {p : Roles} (q : Roles) {r : Roles} → Apart p (either q r) → Apart p r
 apart_second q {r} a = record {
-  left = λ k own. by_role (q k) (a.left k own);
-  right = λ k own. a.right k (by_own (q k) (r k) own);
+  left = λ k own. (none_of_both (q k) (r k) (a.left k own)).1;
+  right = λ k own. a.right k (second_within q r k own);
 }
-  where
-    by_role : (x : Role) {y : Role} → either_role x y ≡ Foreign → y ≡ Foreign
-    by_role Foreign e = e
-    by_role _ e = cc
-
-    by_own : (x y : Role) → is_own_role y ≡ true → is_own_role (either_role x y) ≡ true
-    by_own Foreign y e = e
-    by_own _ y e = refl
 
 module _ {env : Variables} {A B : Type 0} {first : Outcome A} {rest : Outcome B} {q r : Roles}
     {fv : List LinePiece → A → Type 0} {rv : CellsValue B} (lf : FieldLaw env A first ByName q fv)

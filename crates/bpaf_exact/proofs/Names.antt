@@ -1,6 +1,6 @@
 -- Fields whose keys are apart have no item in common.
-use Rattle.std.proofs.Common.{◌≡◌, Bool, true, false, not, ◌||◌, List, [], ◌∷◌, ◌++◌, refl}
-use Rattle.std.proofs.Common.{sym, ap, ◌∙◌, subst, ⊎_elim}
+use Rattle.std.proofs.Common.{◌≡◌, Bool, true, false, not, ◌||◌, List, [], ◌∷◌, ◌++◌, refl, ◌==◌}
+use Rattle.std.proofs.Common.{sym, ap, ◌∙◌, subst, ⊎_elim, bytes_eq}
 use Rattle.std.specs.List.{list_all, list_any}
 use Rattle.std.proofs.lemmas.Bool.{eqb-true, false_from_ne_true, and_parts, or_cases}
 use Rattle.std.proofs.{lemmas.List.Folds.list_any-append, lemmas.Slice.Eq.bytes_eq-Decides}
@@ -12,16 +12,15 @@ use Rattle.bpaf_exact.specs.Pieces.{Role, Foreign, Roles, is_own_role, is_key, A
 use Rattle.bpaf_exact.specs.Pieces.{either_role}
 use Rattle.bpaf_exact.specs.Names.{is_key_of_any, are_apart, are_all_apart, Owns}
 
--- a test that holds of each element of a list holds of one that a second test picks
-picked : {X : Type 0} (test : X → Bool) {pick : X → Bool} {x : X}
-    → ((y : X) → pick y ≡ true → y ≡ x) → (ys : List X) → list_all test ys ≡ true
-    → list_any pick ys ≡ true → test x ≡ true
-picked test same [] all any = absurd cc
-picked test {pick} same (y ∷ ys) all any = ⊎_elim
-    (λ (e : pick y ≡ true). subst (λ z. test z ≡ true) (same y e)
-    (and_parts (test y) (list_all test ys) all).0)
-    (λ e. picked test same ys (and_parts (test y) (list_all test ys) all).1 e)
-    (or_cases (pick y) (list_any pick ys) any)
+-- where a test holds of each element of a list, and another of one, both hold of one
+pub both_hold : {X C : Type 0} (test pick : X → Bool)
+    → ((x : X) → test x ≡ true → pick x ≡ true → C) → (xs : List X) → list_all test xs ≡ true
+    → list_any pick xs ≡ true → C
+both_hold test pick f [] all any = absurd cc
+both_hold test pick f (x ∷ xs) all any =
+    let each = and_parts (test x) (list_all test xs) all in
+    ⊎_elim (λ here. f x each.0 here) (λ later. both_hold test pick f xs each.1 later)
+    (or_cases (pick x) (list_any pick xs) any)
 
 -- a test and its opposite don't both hold
 never_both : (b : Bool) → not b ≡ true → b ≡ true → ⊥
@@ -32,36 +31,24 @@ never_both false e f = cc
 one_owner : (own others : Names) (k : Arg) → are_apart own others ≡ true → is_key_of own k ≡ true
     → is_key_of others k ≡ true → ⊥
 one_owner own others (Short c attached word) apart e f =
-    never_both (is_among others.shorts c) (picked (λ name. not (is_among others.shorts name))
-    (λ d h. eqb-true d c h) own.shorts (and_parts _ _ apart).0 e) f
+    both_hold (λ name. not (is_among others.shorts name)) (λ name. name == c)
+    (λ name t h. never_both (is_among others.shorts name) t
+    (subst (λ z. is_among others.shorts z ≡ true) (sym (eqb-true name c h)) f)) own.shorts
+    (and_parts _ _ apart).0 e
 one_owner own others (Long name attached word) apart e f =
-    never_both (is_text_among others.longs name)
-    (picked (λ other. not (is_text_among others.longs other))
-    (λ other h. (bytes_eq-Decides other name).0 h) own.longs (and_parts _ _ apart).1 e) f
+    both_hold (λ other. not (is_text_among others.longs other)) (λ other. bytes_eq other name)
+    (λ other t h. never_both (is_text_among others.longs other) t
+    (subst (λ z. is_text_among others.longs z ≡ true) (sym ((bytes_eq-Decides other name).0 h)) f))
+    own.longs (and_parts _ _ apart).1 e
 one_owner own others _ apart e f = cc
-
--- nor of keys of which each is apart from it
-none_owner : (names : Names) (others : List Names) (k : Arg)
-    → list_all (are_apart names) others ≡ true → is_key_of names k ≡ true
-    → is_key_of_any others k ≡ true → ⊥
-none_owner names [] k apart e f = cc
-none_owner names (other ∷ others) k apart e f = ⊎_elim
-    (λ (h : is_key_of other k ≡ true). one_owner names other k
-    (and_parts (are_apart names other) (list_all (are_apart names) others) apart).0 e h)
-    (λ h. none_owner names others k
-    (and_parts (are_apart names other) (list_all (are_apart names) others) apart).1 e h)
-    (or_cases (is_key_of other k) (is_key_of_any others k) f)
 
 -- an item is a key of at most one of two lists that are apart
 pub one_list : (keys others : List Names) (k : Arg) → are_all_apart keys others ≡ true
     → is_key_of_any keys k ≡ true → is_key_of_any others k ≡ true → ⊥
-one_list [] others k apart e f = cc
-one_list (names ∷ keys) others k apart e f = ⊎_elim
-    (λ (h : is_key_of names k ≡ true). none_owner names others k
-    (and_parts (list_all (are_apart names) others) (are_all_apart keys others) apart).0 h f)
-    (λ h. one_list keys others k
-    (and_parts (list_all (are_apart names) others) (are_all_apart keys others) apart).1 h f)
-    (or_cases (is_key_of names k) (is_key_of_any keys k) e)
+one_list keys others k apart e f =
+    both_hold (λ names. list_all (are_apart names) others) (λ names. is_key_of names k)
+    (λ names all h. both_hold (are_apart names) (λ other. is_key_of other k)
+    (λ other t i. one_owner names other k t h i) others all f) keys apart e
 
 -- what isn't the field's own
 pub foreign_of : (x : Role) → is_own_role x ≡ false → x ≡ Foreign

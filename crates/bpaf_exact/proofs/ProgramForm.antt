@@ -1,12 +1,12 @@
 -- Each parser keeps to the laws of its form to a program, where its inner parsers do.
-use Rattle.std.proofs.Common.{◌≡◌, ℕ, Bool, true, false, not, ◌&&◌, ◌||◌, List, [], ◌∷◌, ◌++◌}
+use Rattle.std.proofs.Common.{◌≡◌, ℕ, Bool, true, false, not, ◌&&◌, List, [], ◌∷◌, ◌++◌}
 use Rattle.std.proofs.Common.{Option, Some, None, refl, sym, ap, ◌∙◌, subst, bytes_eq, ⊎_elim}
 use Rattle.std.proofs.Common.{true≢false, append-nil, inl, inr}
-use Rattle.std.proofs.lemmas.Bool.{and_parts, or_cases, false_from_ne_true}
+use Rattle.std.proofs.lemmas.Bool.{and_parts, false_from_ne_true}
 use Rattle.std.proofs.lemmas.Slice.Eq.{bytes_eq-Decides}
 use Rattle.std.specs.{Option.option_map_or, List.list_all}
 use Rattle.bpaf_doc.specs.Names.{Names}
-use Rattle.bpaf_base.specs.Items.{command_word, is_command_word, is_text_among}
+use Rattle.bpaf_base.specs.Items.{command_word, is_command_word}
 use Rattle.bpaf_base.specs.declared.arg.Arg.{Arg}
 use Rattle.bpaf_line.specs.Situation.{Context, beginning}
 use Rattle.bpaf_laws.specs.Command.{Called, is_one_of, opening_words}
@@ -36,7 +36,7 @@ use Rattle.bpaf_exact.proofs.Wrappers.{alternative_single, closed_alternative, c
 use Rattle.bpaf_exact.proofs.Wrappers.{closed_law, single_law, optional_law, fallback_law}
 use Rattle.bpaf_exact.proofs.Records.{named_both_law, named_con_law, named_last_law, con_law}
 use Rattle.bpaf_exact.proofs.Commands.{closed_program, closed_commands, optional_commands}
-use Rattle.bpaf_exact.proofs.Names.{foreign_of, apart_of_names, either_owns}
+use Rattle.bpaf_exact.proofs.Names.{foreign_of, apart_of_names, either_owns, both_hold}
 use Rattle.bpaf_exact.proofs.BeforeCommands.{before_law, con_program}
 use Rattle.bpaf_exact.proofs.Narrow.{AllowsNoMore, narrower_gives, narrower_field, narrower_fields}
 use Rattle.bpaf_exact.proofs.Narrow.{narrower_alternative, narrower_single}
@@ -158,62 +158,27 @@ program_optional_law env inner names words (alternative wide q value) l =
 program_optional_law env inner names words (single wide k q group gap) l = (optional_law l.0, l.1)
 program_optional_law env inner names words _ l = tt
 
--- a word that an item is, is one of the words of which it is one
-among : (words : List (List ℕ)) (k : Arg) → is_one_of words k ≡ true
-    → (word : List ℕ) × (command_word k ≡ Some word) × (is_text_among words word ≡ true)
-among [] k h = absurd cc
-among (w ∷ ws) k h = ⊎_elim
-    (λ (e : is_command_word w k ≡ true). here (command_word k) refl e)
-    (λ (e : is_one_of ws k ≡ true). let i = among ws k e in (i.0, i.1, later (bytes_eq w i.0) i.2))
-    (or_cases (is_command_word w k) (is_one_of ws k) h)
+-- an item is one word
+same_word : (word other : List ℕ) (k : Arg) → is_command_word word k ≡ true
+    → is_command_word other k ≡ true → word ≡ other
+same_word word other k = by_word (command_word k)
   where
-    later : (a : Bool) {b : Bool} → b ≡ true → (a || b) ≡ true
-    later true e = refl
-    later false e = e
+    by_word : (c : Option (List ℕ)) → option_map_or (λ own. bytes_eq own word) c false ≡ true
+        → option_map_or (λ own. bytes_eq own other) c false ≡ true → word ≡ other
+    by_word None e f = absurd cc
+    by_word (Some own) e f =
+        sym ((bytes_eq-Decides own word).0 e) ∙ (bytes_eq-Decides own other).0 f
 
-    here : (c : Option (List ℕ)) → command_word k ≡ c
-        → option_map_or (λ own. bytes_eq own w) c false ≡ true
-        → (word : List ℕ) × (command_word k ≡ Some word) × (is_text_among (w ∷ ws) word ≡ true)
-    here None e f = absurd cc
-    here (Some own) e f =
-        let same : own ≡ w = (bytes_eq-Decides own w).0 f in
-        (own, e, ap (λ b. b || is_text_among ws own) ((bytes_eq-Decides w own).1 (sym same)))
-
--- a word that is apart from others isn't among these
-apart_from : (word : List ℕ) (others : List (List ℕ))
-    → list_all (λ other. not (bytes_eq word other)) others ≡ true
-    → is_text_among others word ≡ true → ⊥
-apart_from word [] apart i = cc
-apart_from word (o ∷ os) apart i =
-    let both = and_parts (not (bytes_eq word o))
-    (list_all (λ other. not (bytes_eq word other)) os) apart in
-    ⊎_elim
-    (λ (e : bytes_eq o word ≡ true). true≢false (sym both.0
-    ∙ ap not ((bytes_eq-Decides word o).1 (sym ((bytes_eq-Decides o word).0 e)))))
-    (λ (e : is_text_among os word ≡ true). apart_from word os both.1 e)
-    (or_cases (bytes_eq o word) (is_text_among os word) i)
-
--- a text among words that are apart from others isn't among these
-not_among : (words others : List (List ℕ)) (text : List ℕ) → are_words_apart words others ≡ true
-    → is_text_among words text ≡ true → is_text_among others text ≡ true → ⊥
-not_among [] others text apart h i = cc
-not_among (w ∷ ws) others text apart h i =
-    let both = and_parts (list_all (λ other. not (bytes_eq w other)) others)
-    (are_words_apart ws others) apart in
-    ⊎_elim
-    (λ (e : bytes_eq w text ≡ true). apart_from w others both.0
-    (subst (λ z. is_text_among others z ≡ true) (sym ((bytes_eq-Decides w text).0 e)) i))
-    (λ (e : is_text_among ws text ≡ true). not_among ws others text both.1 e i)
-    (or_cases (bytes_eq w text) (is_text_among ws text) h)
-
--- so no item is a word of both
+-- so it is a word of at most one of two lists of which none is among the other
 pub words_apart : (words others : List (List ℕ)) → are_words_apart words others ≡ true
     → WordsApart words others
 words_apart words others apart k h = false_from_ne_true (is_one_of others k)
-    (λ f. let i = among words k h in let j = among others k f in
-    let same : i.0 ≡ j.0 = (let p = i.1 in let q = j.1 in cc) in
-    not_among words others i.0 apart i.2
-    (subst (λ z. is_text_among others z ≡ true) (sym same) j.2))
+    (λ f. both_hold (λ word. list_all (λ other. not (bytes_eq word other)) others)
+    (λ word. is_command_word word k)
+    (λ word all e. both_hold (λ other. not (bytes_eq word other)) (λ other. is_command_word other k)
+    (λ other t i. true≢false
+    (sym t ∙ ap not ((bytes_eq-Decides word other).1 (same_word word other k e i)))) others all f)
+    words apart h)
 
 -- a choice of two
 pub program_choice_law : (env : Variables) (T : Type 0) (a b : Outcome T) (own others : List Names)
