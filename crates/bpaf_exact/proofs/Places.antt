@@ -62,26 +62,6 @@ tail_two taken = record {
       (λ e. next (omega arith));
 }
 
--- the first cell is taken
-head_one : (r : Roles) {c d : Option Arg} (cs ds : Cells) (k : Arg) → c ≡ Some k → d ≡ None
-    → ds ≡ cs → r k ≡ Alone → TakesFirst r (c ∷ cs) (One k) (d ∷ ds)
-head_one r {d} cs ds k e f g h =
-    subst (λ z. TakesFirst r (z ∷ cs) (One k) (d ∷ ds)) (sym e)
-    (subst (λ z. TakesFirst r (Some k ∷ cs) (One k) (z ∷ ds)) (sym f)
-    (subst (λ z. TakesFirst r (Some k ∷ cs) (One k) (None ∷ z)) (sym g) (first_one h)))
-
--- the first two are taken
-head_two : (r : Roles) {c d a b : Option Arg} (cs ds : Cells) (k w : Arg) → c ≡ Some k → d ≡ Some w
-    → a ≡ None → b ≡ None → ds ≡ cs → r k ≡ WithNext → is_value w ≡ true
-    → TakesFirst r (c ∷ d ∷ cs) (Two k w) (a ∷ b ∷ ds)
-head_two r {d} {a} {b} cs ds k w e f g i j h v =
-    subst (λ z. TakesFirst r (z ∷ d ∷ cs) (Two k w) (a ∷ b ∷ ds)) (sym e)
-    (subst (λ z. TakesFirst r (Some k ∷ z ∷ cs) (Two k w) (a ∷ b ∷ ds)) (sym f)
-    (subst (λ z. TakesFirst r (Some k ∷ Some w ∷ cs) (Two k w) (z ∷ b ∷ ds)) (sym g)
-    (subst (λ z. TakesFirst r (Some k ∷ Some w ∷ cs) (Two k w) (None ∷ z ∷ ds)) (sym i)
-    (subst (λ z. TakesFirst r (Some k ∷ Some w ∷ cs) (Two k w) (None ∷ None ∷ z)) (sym j)
-    (first_two h v)))))
-
 -- a later one is
 later : {r : Roles} {c d : Option Arg} {cs ds : Cells} {o : LinePiece} → d ≡ c → NotOwn r c
     → TakesFirst r cs o ds → TakesFirst r (c ∷ cs) o (d ∷ ds)
@@ -94,8 +74,12 @@ pub take_one : {r : Roles} {at left : ℕ → Option Arg} (n p : ℕ) {k : Arg} 
     → TakesFirst r (first_cells at n) (One k) (first_cells left n)
 take_one zero p l e h none taken = absurd (omega arith)
 take_one {r} {at} (suc n) zero {k} l e h none taken =
-    head_one r _ _ k e taken.gone (same_cells (λ q. at (suc q)) n
-    (λ q i. taken.others (suc q) (λ f. absurd (omega arith)))) h
+    rw (
+      e,
+      taken.gone,
+      same_cells (λ q. at (suc q)) n
+          (λ q i. taken.others (suc q) (λ f. absurd (omega arith))),
+    ) (first_one h)
 take_one (suc n) (suc p) l e h none taken =
     later (taken.others zero (λ f. absurd (omega arith))) (none.before zero (omega arith))
     (take_one n p (omega arith) e h (tail_before none) (tail_one taken))
@@ -107,8 +91,15 @@ pub take_two : {r : Roles} {at left : ℕ → Option Arg} (n p : ℕ) {k w : Arg
 take_two zero p l e f h v none taken = absurd (omega arith)
 take_two (suc zero) zero l e f h v none taken = absurd (omega arith)
 take_two {r} {at} (suc (suc n)) zero {k} {w} l e f h v none taken =
-    head_two r _ _ k w e f taken.gone taken.next_gone (same_cells (λ q. at (suc (suc q))) n
-    (λ q i. taken.others (suc (suc q)) (λ g. absurd (omega arith)) (λ g. absurd (omega arith)))) h v
+    rw (
+      e,
+      f,
+      taken.gone,
+      taken.next_gone,
+      same_cells (λ q. at (suc (suc q))) n
+          (λ q i. taken.others (suc (suc q)) (λ g. absurd (omega arith)) (λ g. absurd (omega arith))),
+    )
+    (first_two h v)
 take_two (suc n) (suc p) l e f h v none taken =
     later (taken.others zero (λ g. absurd (omega arith)) (λ g. absurd (omega arith)))
     (none.before zero (omega arith)) (take_two n p (omega arith) e f h v

@@ -1,9 +1,9 @@
 -- A command over a program keeps to the laws of commands, and a named field before them to those of
 -- a program.
-use Rattle.std.proofs.Common.{◌≡◌, ◌≤◌, ◌<◌, ℕ, zero, suc, Bool, true, false, not, ◌&&◌, List, []}
+use Rattle.std.proofs.Common.{◌≡◌, ◌≤◌, ◌<◌, ℕ, zero, suc, true, false, not, ◌&&◌, List, []}
 use Rattle.std.proofs.Common.{◌∷◌, length, Option, Some, None, Result, Ok, refl, sym, ap, ◌∙◌}
-use Rattle.std.proofs.Common.{subst, inl, inr, ⊎_elim, arith, true≢false, if◌then◌else◌, ◌||◌}
-use Rattle.std.proofs.lemmas.Bool.{cases_lt, cases_Bool, and_parts}
+use Rattle.std.proofs.Common.{subst, inl, inr, ⊎_elim, arith, true≢false, if◌then◌else◌}
+use Rattle.std.proofs.lemmas.Bool.{cases_lt, cases_Bool, false_from_ne_true}
 use Rattle.std.proofs.lemmas.Slice.Eq.{bytes_eq-Decides}
 use Rattle.std.proofs.{Common.bytes_eq, lemmas.Bool.Decides.nat_tests, lemmas.List.length_push}
 use Rattle.std.specs.{List.list_any, Option.option_map_or}
@@ -23,46 +23,22 @@ use Rattle.bpaf_exact.specs.Programs.{empty_cell, spelled_cell, are_plain, Comma
 use Rattle.bpaf_exact.specs.Programs.{ProgramLaw, FindsNoCommand, CommandsLaw}
 use Rattle.bpaf_exact.specs.Programs.{CommandEval, command_value, command_leftover, command_refused}
 use Rattle.bpaf_exact.specs.Programs.{command_missing, command_memory, GivesAll}
-use Rattle.bpaf_exact.specs.Pieces.{Cells, Roles, pieces, IsNamed, is_key}
+use Rattle.bpaf_exact.specs.Pieces.{Cells, Roles, pieces, IsNamed, is_key, Alone, One}
 use Rattle.bpaf_exact.proofs.Choice.{HasItem, has_item}
-use Rattle.bpaf_exact.proofs.Places.{same_cells, same_item, closed_item, TakenOne}
+use Rattle.bpaf_exact.proofs.Places.{same_item, closed_item, TakenOne, take_one}
 use Rattle.bpaf_exact.proofs.{Counts.open_present, Matching.match_of, Product.no_own_in_cut}
-use Rattle.bpaf_exact.proofs.{Records.count_none, Cells.begin_at, Cuts.read_cut}
+use Rattle.bpaf_exact.proofs.{Records.count_none, Cells.begin_at, Cuts.read_cut, Names.both_hold}
 use Rattle.bpaf_exact.proofs.Records.{fields_give}
+use Rattle.bpaf_exact.specs.Alternative.{TakesFirst, NotOwn, first_one, first_later}
 
 -- A command's word on cells.
 
--- the first cell is the word
-opens_head : {words : List (List ℕ)} {c d : Option Arg} (cs ds : Cells) (k : Arg) → c ≡ Some k
-    → d ≡ None → ds ≡ cs → is_one_of words k ≡ true → Opens words (c ∷ cs) (d ∷ ds)
-opens_head {words} {d} cs ds k e f g h =
-    subst (λ z. Opens words (z ∷ cs) (d ∷ ds)) (sym e)
-    (subst (λ z. Opens words (Some k ∷ cs) (z ∷ ds)) (sym f)
-    (subst (λ z. Opens words (Some k ∷ cs) (None ∷ z)) (sym g) (opens_here h)))
-
--- nothing stands in the first cell
-opens_tail : {words : List (List ℕ)} {c d : Option Arg} (cs ds : Cells) → c ≡ None → d ≡ None
-    → Opens words cs ds → Opens words (c ∷ cs) (d ∷ ds)
-opens_tail {words} {d} cs ds e f o =
-    subst (λ z. Opens words (z ∷ cs) (d ∷ ds)) (sym e)
-    (subst (λ z. Opens words (None ∷ cs) (z ∷ ds)) (sym f) (opens_later o))
-
--- the first place at which something stands is taken, and is the word
-opens_at : (words : List (List ℕ)) (at left : ℕ → Option Arg) (n p : ℕ) (k : Arg) → p < n
-    → at p ≡ Some k → is_one_of words k ≡ true → ((q : ℕ) → q < p → at q ≡ None)
-    → TakenOne at left p → Opens words (first_cells at n) (first_cells left n)
-opens_at words at left zero p k l e h none taken = absurd (omega arith)
-opens_at words at left (suc n) zero k l e h none taken =
-    opens_head _ _ k e taken.gone (same_cells (λ q. at (suc q)) n
-    (λ q i. taken.others (suc q) (λ f. absurd (omega arith)))) h
-opens_at words at left (suc n) (suc p) k l e h none taken =
-    opens_tail _ _ (none zero (omega arith))
-    (taken.others zero (λ f. absurd (omega arith)) ∙ none zero (omega arith))
-    (opens_at words (λ q. at (suc q)) (λ q. left (suc q)) n p k (omega arith) e h
-    (λ q i. none (suc q) (omega arith)) (record {
-      gone = taken.gone;
-      others = λ q other. taken.others (suc q) (λ f. other (omega arith));
-    }))
+-- the first thing taken opens, where it is a word
+first_opens : {words : List (List ℕ)} {cs ds : Cells} {k : Arg} → is_one_of words k ≡ true
+    → TakesFirst (λ item. Alone) cs (One k) ds → Opens words cs ds
+first_opens h (first_one e) = opens_here h
+first_opens h (first_later {c = None} n t) = opens_later (first_opens h t)
+first_opens h (first_later {c = Some j} n t) = absurd cc
 
 -- what a word leaves is decided by the cells
 pub opens_one : (words : List (List ℕ)) {cs ds es : Cells} → Opens words cs ds → Opens words cs es
@@ -117,16 +93,10 @@ word_of {words} {at} (suc n) o = by_head (at zero) refl o (λ fs. word_of n)
 -- a plain word isn't dashed
 plain_word : (words : List (List ℕ)) → are_plain words ≡ true → (word : List ℕ)
     → is_dashed word ≡ true → list_any (λ own. bytes_eq word own) words ≡ false
-plain_word [] plain word dashed = refl
-plain_word (own ∷ words) plain word dashed =
-    let both = and_parts (not (is_dashed own)) (are_plain words) plain in
-    by_test (bytes_eq word own) (plain_word words both.1 word dashed)
-    (λ same. true≢false (sym (subst (λ z. not (is_dashed z) ≡ true)
-    (sym ((bytes_eq-Decides word own).0 same)) both.0) ∙ ap not dashed))
-  where
-    by_test : (a : Bool) {b : Bool} → b ≡ false → (a ≡ true → ⊥) → (a || b) ≡ false
-    by_test true e f = absurd (f refl)
-    by_test false e f = e
+plain_word words plain word dashed = false_from_ne_true (list_any (λ own. bytes_eq word own) words)
+    (both_hold (λ own. not (is_dashed own)) (λ own. bytes_eq word own) (λ own t same.
+    true≢false (sym (subst (λ z. not (is_dashed z) ≡ true)
+    (sym ((bytes_eq-Decides word own).0 same)) t) ∙ ap not dashed)) words plain)
 
 -- so a key is none of the words
 no_key : (words : List (List ℕ)) → are_plain words ≡ true → (k : Arg) → is_spelled k ≡ true
@@ -220,10 +190,11 @@ module _ (called : Called) (s : Situation) (p : ℕ)
   unfolding cells
   opens_cells =
       let m = match_of any_item s p at.first.matches in
-      opens_at (opening_words called) (open_item s) (open_item behind) (length s.context.line) p
-      m.item m.in_line m.is
-      (subst (λ z. option_map_or (is_one_of (opening_words called)) z false ≡ true)
-      (open_item_there s p m.item m.is).1 at.named) none_before behind_one
+      first_opens (subst (λ z. option_map_or (is_one_of (opening_words called)) z false ≡ true)
+      (open_item_there s p m.item m.is).1 at.named)
+      (take_one (length s.context.line) p m.in_line m.is refl
+      (record { before = λ q l. subst (NotOwn (λ item. Alone)) (sym (none_before q l)) tt })
+      behind_one)
 
   -- what isn't taken lies in the scope behind it
   pub whole_behind : {env : Variables} → IsWholeIn env s → IsWholeIn env behind
