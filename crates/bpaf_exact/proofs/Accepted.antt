@@ -1,7 +1,7 @@
 -- A cut line holds together, and what its named fields leave to positional ones.
 use Rattle.std.proofs.Common.{◌≡◌, ℕ, true, List, [], ◌∷◌, ◌++◌, Some, None, refl, sym, ap, ◌∙◌}
 use Rattle.std.proofs.lemmas.List.Elements.{All-nil, All-cons, filter-append}
-use Rattle.std.proofs.{Common.subst, Common.not, lemmas.List.append_assoc}
+use Rattle.std.proofs.{Common.not, lemmas.List.append_assoc}
 use Rattle.std.specs.List.{AllPass}
 use Rattle.bpaf_base.specs.declared.arg.Arg.TheVariants.{ArgWord}
 use Rattle.bpaf_base.specs.{Items.is_positional, declared.arg.Arg.Arg}
@@ -113,13 +113,11 @@ module _ (r : Roles) (n : IsNamed r) where
   words_alone at_end = All-nil (λ o. is_word_alone o ≡ true)
   words_alone (passed c) = words_alone c
   words_alone (flag {k = k} {os = os} e c) =
-      subst (AllPass is_word_alone) (sym (others_own r (One k) os (ap is_own_role e)))
-      (words_alone c)
+      rw (others_own r (One k) os (ap is_own_role e)) (words_alone c)
   words_alone (argument {k = k} {w = w} {os = os} e v c) =
-      subst (AllPass is_word_alone) (sym (others_own r (Two k w) os (ap is_own_role e)))
-      (words_alone c)
+      rw (others_own r (Two k w) os (ap is_own_role e)) (words_alone c)
   words_alone (word {w = w} {os = os} h c) =
-      subst (AllPass is_word_alone) (sym (others_foreign r os (ap is_own_role (word_foreign n h))))
+      rw (others_foreign r os (ap is_own_role (word_foreign n h)))
       (All-cons (λ o. is_word_alone o ≡ true) (One w) (others r os) h (words_alone c))
 
   -- a cut line holds together
@@ -133,7 +131,7 @@ module _ (r : Roles) (n : IsNamed r) where
     where
       at : {before after : Cells} {k : Arg} → cs ≡ before ++ (Some k ∷ after)
           → Item before k after os
-      at {before} e = item_of before (subst (λ z. Cut r z os) e c)
+      at {before} e = item_of before (rw (← e) c)
 
 -- What is left to positional fields.
 

@@ -1,5 +1,5 @@
 -- The premise of exactness, of closures that can't tell apart the values on the same pieces.
-use Rattle.std.proofs.Common.{◌≡◌, ℕ, List, sym, subst, ◌∙◌}
+use Rattle.std.proofs.Common.{◌≡◌, ℕ, List, sym, ◌∙◌}
 use Rattle.bpaf_text.specs.{Meaning.SpellsUnsigned, Named.KeyWithValue}
 use Rattle.bpaf_exact.specs.ProgramForm.{Agrees, ProgramForm, alternative, commands, complete}
 use Rattle.bpaf_exact.specs.ProgramForm.{product, program_closed, single}
@@ -29,14 +29,14 @@ module _ {A B X : Type 0} {see : A → X} {f : Closure A B}
 module _ {A B : Type 0} (f : Closure A B) (decides : Decides f) where
   -- So does one that decides, where the values are one.
   pub closure_agrees : (s : ProgramForm A) → HasOneView (λ v. v) s → Agrees f s
-  closure_agrees = view_agrees (λ x y v e a n. decides x v a (subst f.no (sym e) n))
+  closure_agrees = view_agrees (λ x y v e a n. decides x v a (rw e n))
 
   -- Where it has one answer to each input, what it makes of one value is one.
   pub closed_one : ((x : A) (v w : B) → f.yes x v → f.yes x w → v ≡ w) → (s : ProgramForm A)
       → HasOneView (λ v. v) s → HasOneView (λ v. v) (program_closed f s)
   closed_one once = closed_view A B A B (λ v. v) (λ v. v) f (record {
-    same = λ x y v w e a b. once x v w a (subst (λ z. f.yes z w) (sym e) b);
-    apart = λ x y v e a n. decides x v a (subst f.no (sym e) n);
+    same = λ x y v w e a b. once x v w a (rw e b);
+    apart = λ x y v e a n. decides x v a (rw e n);
   })
 
 -- an argument has one value where each text means one

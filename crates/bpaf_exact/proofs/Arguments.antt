@@ -85,7 +85,7 @@ module _ (argument : KeyWithValue) where
   took_pair s t text takes =
       let m = match_of (is_key_with_value argument) s takes.key takes.first.matches in
       let b = behind_of s takes.value in
-      subst (λ z. TookPair q s z text) (sym (takes.taken ∙ pair_is s)) (record {
+      rw (takes.taken ∙ pair_is s) (record {
         key = m.item;
         word = b.item;
         text_is = b.text_is;
@@ -206,8 +206,7 @@ module _ (argument : KeyWithValue) where
     -- keys with their texts, of which this is the last
     took_texts : (s t : Situation) (text : List ℕ) (before : List (List ℕ))
         → TakesKeysWithTexts argument s (before ++ text ∷ []) t → TookAll s t text
-    took_texts s t text [] o =
-        subst (λ z. TookAll s z text) (sym o.2) (all_one (took_pair s o.0 text o.1))
+    took_texts s t text [] o = rw o.2 (all_one (took_pair s o.0 text o.1))
     took_texts s t text (x ∷ before) o =
         all_more s o.0 t x text (took_pair s o.0 x o.1) (took_texts o.0 t text before o.2)
 
@@ -244,7 +243,7 @@ module _ (argument : KeyWithValue) where
           a.before,
           (a.key, a.word),
           whole got,
-          subst (λ z. means z v) (sym a.text_is) m,
+          rw a.text_is m,
           none,
         )) in
         took (record {
@@ -263,7 +262,7 @@ module _ (argument : KeyWithValue) where
         let same : Two g.1.0 g.1.1 ≡ Two a.key a.word = last_same (pairs g.0) (pairs a.before)
         (sym g.2 ∙ whole got) in
         let word : g.1.1 ≡ a.word = cc in
-        nothing v (subst (λ z. means z v) (ap item_text word ∙ a.text_is) g.3)
+        nothing v (rw (← ap item_text word ∙ a.text_is) g.3)
 
     -- where a key has no value, the pieces have none
     bare_refused : (s : Situation) {t : Situation} {e : Error} {k : Arg} {tail : List LinePiece}
@@ -333,7 +332,7 @@ module _ (argument : KeyWithValue) where
     argument_err (ParseFailed place fault) c o =
         let m = gets_pair o.1 in
         first_refused value c m.steady.path (first_pieces q named m.takes)
-        (λ v y. o.2.0 v (subst (λ z. means z v) m.text_is y))
+        (λ v y. o.2.0 v (rw (← m.text_is) y))
     argument_err {s} {t} (NoArgument key metavar) c o =
         let same = subst (λ b. TakesBefore b argument s t) once o.1 in
         let lacks = subst (λ z. LacksText argument z (NoArgument key metavar)) same o.0 in
@@ -351,7 +350,7 @@ module _ (argument : KeyWithValue) where
       named = named;
       ok = λ s t v w o.
           let m = gets_pair o.1 in
-          first_alternative value m.steady (subst (λ z. means z v) (sym m.text_is) o.2) m.takes;
+          first_alternative value m.steady (rw m.text_is o.2) m.takes;
       err = λ s t e w o. argument_err e.0 refl o;
     }
 
@@ -392,9 +391,8 @@ module _ (argument : KeyWithValue) where
       starts = λ v rest g. let e = g.1 in cc;
       no_absent = gap_empty means _;
       ok = λ s t v w o. ⊎_elim (λ takes. let m = takes_pair once takes in
-          took (took_front (ArgumentValue means) m.steady
-          m.takes (first_pieces q named m.takes)
-          (subst (λ z. means z v) (sym m.text_is) o.2) (λ none. absurd cc)))
+          took (took_front (ArgumentValue means) m.steady m.takes (first_pieces q named m.takes)
+          (rw m.text_is o.2) (λ none. absurd cc)))
           (λ read. variable_read means group variables w.environment read o.2) o.1;
       err = λ s t e w o. variable_err e.0 refl w.environment o;
     }

@@ -1,15 +1,15 @@
 -- A named field before others, the last of which are commands: together they keep to the laws of a
 -- program.
-use Rattle.std.proofs.Common.{◌≡◌, ◌≤◌, List, [], ◌∷◌, length, Some, None, Result, Ok, Err}
-use Rattle.std.proofs.Common.{refl, sym, ap, ◌∙◌, subst, arith, if◌then◌else◌}
+use Rattle.std.proofs.Common.{◌≡◌, List, [], ◌∷◌, length, Some, None, Result, Ok, Err}
+use Rattle.std.proofs.Common.{refl, sym, ap, ◌∙◌, arith, if◌then◌else◌}
 use Rattle.bpaf_line.specs.{declared.error.Error.Error, Situation.Situation}
 use Rattle.bpaf_laws.specs.Product.{BothOutcome, ProductOutcome}
-use Rattle.bpaf_laws.specs.{Choice.depth, Reading.Outcome}
+use Rattle.bpaf_laws.specs.{Reading.Outcome}
 use Rattle.bpaf_exact.specs.Pieces.{Cells, Role, Foreign, Roles, LinePiece, One, Two, pieces, Apart}
 use Rattle.bpaf_exact.specs.Pieces.{is_own_role, IsNamed, TakesPiece, takes_one, takes_two}
 use Rattle.bpaf_exact.specs.Pieces.{takes_later, TakesPieces, takes_none, takes_more, Takes}
 use Rattle.bpaf_exact.specs.Pieces.{no_cells, empty_stays, other_stays, takes_flag, takes_argument}
-use Rattle.bpaf_exact.specs.Flat.{cells, NonePresent, IsWholeIn, ByName, FieldLaw}
+use Rattle.bpaf_exact.specs.Flat.{cells, IsWholeIn, ByName, FieldLaw}
 use Rattle.bpaf_exact.specs.Programs.{CellsValue, FieldThen, ProgramLaw}
 use Rattle.bpaf_exact.specs.Programs.{IsSpelledLine, AllSpelled, no_cell, empty_cell, spelled_cell}
 use Rattle.bpaf_exact.specs.Wrappers.{ClosedValue, map_closure}
@@ -133,7 +133,7 @@ module _ {env : Variables} {A B : Type 0} {first : Outcome A} {rest : Outcome B}
 
   -- where both have a value, the first has it on all its own pieces
   own_value : {cs : Cells} {u : A × B} → value cs u → fv (pieces q cs) u.0
-  own_value {u} h = subst (λ os. fv os u.0) (taken_pieces lf.own h.taken) h.own
+  own_value {u} h = rw (← taken_pieces lf.own h.taken) h.own
 
   -- and the others answer one on what the field left, or want of memory
   rest_gives : {s m t : Situation} {x : A} {y : Result B Error} {u : A × B} → IsWholeIn env s
@@ -143,9 +143,8 @@ module _ {env : Variables} {A B : Type 0} {first : Outcome A} {rest : Outcome B}
       let i = lf.ok s m x w f in
       let none = lf.takes_all s m x u.0 w f (own_value h) in
       let e = (one_take (all_taken i.takes none).1 h.taken).1 in (
-        subst (λ os. fv os x) (sym (taken_pieces lf.own h.taken)) (i.read none),
-        subst (λ cs. GivesAll (rv cs) y t) e (lr.answers m t y u.1 (none_outside_after w i.steady) g
-            (subst (λ cs. rv cs u.1) (sym e) h.left)),
+        rw (taken_pieces lf.own h.taken) (i.read none),
+        rw (← e) (lr.answers m t y u.1 (none_outside_after w i.steady) g (rw e h.left)),
       )
 
   -- each answer
@@ -181,18 +180,16 @@ module _ {env : Variables} {A B : Type 0} {first : Outcome A} {rest : Outcome B}
     ok = λ s t v w spelled o e.
         let h = values_of_both first rest o in
         let i = lf.ok s h.middle v.0 w h.first_ran in
-        let still : IsSpelledLine h.middle.context =
-        subst IsSpelledLine (sym i.steady.context) spelled in
+        let still : IsSpelledLine h.middle.context = rw i.steady.context spelled in
         let after = lr.ok h.middle t v.1 (none_outside_after w i.steady) still h.rest_ran e in
         let none = lr.others q lf.own apart (cells h.middle) v.1 (cells_spelled h.middle still)
-        after
-        in
+        after in
         let all = all_taken i.takes none in
         record {
           own_pieces = all.0;
           left_cells = cells h.middle;
           taken = all.1;
-          own = subst (λ os. fv os v.0) (sym (taken_pieces lf.own all.1)) (i.read none);
+          own = rw (taken_pieces lf.own all.1) (i.read none);
           left = after;
         };
     answers = both_answers;
@@ -211,7 +208,7 @@ module _ {env : Variables} {A B : Type 0} {fields : Outcome A} (makes : A → B 
   con_answers s t (Ok v) u w o h =
       let j = l.answers s o.0 (Ok o.1) h.from w o.2 h.read in (
         record { from = o.1; read = j.0; made = o.3 },
-        subst NonePresent (sym (ap cells o.4 ∙ current_cells o.0)) j.1,
+        rw (ap cells o.4 ∙ current_cells o.0) j.1,
       )
   con_answers s t (Err e) u w o h = l.answers s o.0 (Err e) h.from w o.1 h.read
 
@@ -219,11 +216,10 @@ module _ {env : Variables} {A B : Type 0} {fields : Outcome A} (makes : A → B 
   pub con_program : ProgramLaw env B (ProductOutcome fields makes) r made
   con_program = record {
     others = λ q n a cs v s h. l.others q n a cs h.from s h.read;
-    deep = λ s t v w o. subst (λ z. depth s ≤ depth z) (sym o.4) (l.deep s o.0 o.1 w o.2);
+    deep = λ s t v w o. rw o.4 (l.deep s o.0 o.1 w o.2);
     ok = λ s t v w spelled o n. record {
       from = o.1;
-      read = l.ok s o.0 o.1 w spelled o.2 (subst NonePresent (ap cells o.4 ∙ current_cells o.0)
-          n);
+      read = l.ok s o.0 o.1 w spelled o.2 (rw (← ap cells o.4 ∙ current_cells o.0) n);
       made = o.3;
     };
     answers = con_answers;

@@ -1,6 +1,6 @@
 -- What parsers answer, by their tables, is what the laws of flat fields speak of.
 use Rattle.std.proofs.Common.{◌≡◌, ℕ, Bool, true, false, List, [], Option, Some, None, Result, Ok}
-use Rattle.std.proofs.Common.{Err, refl, sym, ap, ◌∙◌, subst, inl, inr, ◌⊎◌, ⊎_elim, true≢false}
+use Rattle.std.proofs.Common.{Err, refl, sym, ap, ◌∙◌, inl, inr, ◌⊎◌, ⊎_elim, true≢false}
 use Rattle.std.proofs.Common.{length, not}
 use Rattle.std.specs.Global.{Vec}
 use Rattle.bpaf_doc.specs.Names.{Names}
@@ -95,8 +95,7 @@ optional_law env T inner false names words s l =
         → OptionalEval T inner s r t
     by_answer s t (Ok (Some v)) o = optional_some o.0
     by_answer s t (Ok None) (inl o) = absurd (true≢false o.2)
-    by_answer s t (Ok None) (inr o) =
-        subst (OptionalEval T inner s (Ok None)) (sym o.1) (optional_none o.0.2 (stops_at o.0.3))
+    by_answer s t (Ok None) (inr o) = rw o.1 (optional_none o.0.2 (stops_at o.0.3))
     by_answer s t (Err e) (inl o) = optional_err o.0 (goes_on e o.1)
     by_answer s t (Err e) (inr o) = optional_memory (memory_class e.0 o.0)
 
@@ -215,13 +214,11 @@ fallback_form_law env {T} inner gives f decides gave refused names words s l =
         → FallbackEval T inner f s r t
     by_answer s t (Ok v) (inl o) = fallback_ok o
     by_answer s t (Ok v) (inr o) =
-        subst (FallbackEval T inner f s (Ok v)) (sym o.0.1)
-        (fallback_given o.0.0.2 (can_catch_of o.0.0.3) (gave v o.1))
-    by_answer s t (Err e) (inl o) = subst (FallbackEval T inner f s (Err e)) (sym o.1)
+        rw o.0.1 (fallback_given o.0.0.2 (can_catch_of o.0.0.3) (gave v o.1))
+    by_answer s t (Err e) (inl o) = rw o.1
         (⊎_elim (λ kept. fallback_err kept.1 (not_catch_of e kept.2))
         (λ memory. fallback_memory (memory_class e.0 memory)) o.0)
-    by_answer s t (Err e) (inr o) = subst (FallbackEval T inner f s (Err e)) (sym o.0.1)
-        (⊎_elim (λ memory. fallback_memory memory)
+    by_answer s t (Err e) (inr o) = rw o.0.1 (⊎_elim (λ memory. fallback_memory memory)
         (λ told. fallback_no o.0.0.2 (can_catch_of o.0.0.3) told.0 told.1) (refused e o.1))
 
 -- a kept value

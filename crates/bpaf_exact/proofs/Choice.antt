@@ -66,9 +66,7 @@ cells_same {m} {n} st f =
 -- two lists of cells of which the first took the first item
 left_head : {c d : Option Arg} {x : Arg} (cs ds : Cells) → c ≡ None → d ≡ Some x
     → TookLeft (c ∷ cs) (d ∷ ds)
-left_head {d} cs ds e f =
-    subst (λ z. TookLeft (z ∷ cs) (d ∷ ds)) (sym e)
-    (subst (λ z. TookLeft (None ∷ cs) (z ∷ ds)) (sym f) left_here)
+left_head {d} cs ds e f = rw (e, f) left_here
 
 -- the leftmost place at which two differ
 left_cells : {at : ℕ → Option Arg} (other : ℕ → Option Arg) (n p : ℕ) {x : Arg} → p < n
@@ -169,7 +167,7 @@ module _ (T : Type 0) (qa qb r : Roles) (u : Union qa qb r) (va vb vr : LinePiec
       → HasBad T vr (pieces r cm)
   kept_bad {cm = cm} t h =
       bad_left T vb vr qb qa r (swap_union qa qb r u) same_b cm
-      (subst (HasBad T vb) (sym (keeps_other u.named_left u.named_right u.apart t)) h)
+      (rw (keeps_other u.named_left u.named_right u.apart t) h)
 
   -- the winner took the first piece of both, or one that can't be read stays
   won_first : {cs cm : Cells} {oa : LinePiece} → TakesPiece qa cs oa cm → Other T qb vb cs cm
@@ -190,13 +188,11 @@ module _ (T : Type 0) (qa qb r : Roles) (u : Union qa qb r) (va vb vr : LinePiec
   won_readable {cs = cs} {cm = cm} {oa = oa} t other ra o w e v = by_owner (owner cs u e) other
     where
       by_owner : HeadOf qa cs o ⊎ HeadOf qb cs o → Other T qb vb cs cm → TakesFirst r cs oa cm
-      by_owner (inl h) x =
-          first_mine u e h.2 (ra o h.0 w h.1 (subst (λ X. X) (same_a o w h.2) v))
+      by_owner (inl h) x = first_mine u e h.2 (ra o h.0 w h.1 (rw (← same_a o w h.2) v))
       by_owner (inr h) (other_took tb l f rb) =
-          absurd (not_left u e h.2 t (rb o h.0 w h.1 (subst (λ X. X) (same_b o w h.2) v)) l)
+          absurd (not_left u e h.2 t (rb o h.0 w h.1 (rw (← same_b o w h.2) v)) l)
       by_owner (inr h) (other_missing n) = let i = h.1 in absurd cc
-      by_owner (inr h) (other_refused b n) =
-          absurd (n o h.0 w h.1 (subst (λ X. X) (same_b o w h.2) v))
+      by_owner (inr h) (other_refused b n) = absurd (n o h.0 w h.1 (rw (← same_b o w h.2) v))
 
   -- the winner's value is one of the choice
   won : (s m t : Situation) (x : T) → AlternativeOk T qa va s x m
@@ -205,12 +201,10 @@ module _ (T : Type 0) (qa qb r : Roles) (u : Union qa qb r) (va vb vr : LinePiec
   won s m t x a o st e = record {
     steady = steady_trans a.steady st;
     piece = a.piece;
-    takes = subst (TakesPiece r (cells s) a.piece) (sym e) (takes_left u a.takes);
-    means = subst (λ X. X) (sym (same_a a.piece x (takes_own a.takes))) a.means;
-    first = subst (λ ct. TakesFirst r (cells s) a.piece ct ⊎ HasBad T vr (pieces r ct)) (sym e)
-        (won_first a.takes o a.first);
-    readable = λ p ps w h v. subst (TakesFirst r (cells s) a.piece) (sym e)
-        (won_readable a.takes o a.readable p w h v);
+    takes = rw e (takes_left u a.takes);
+    means = rw (same_a a.piece x (takes_own a.takes)) a.means;
+    first = rw e (won_first a.takes o a.first);
+    readable = λ p ps w h v. rw e (won_readable a.takes o a.readable p w h v);
   }
 
 module _ {env : Variables} (T : Type 0) (a b : Outcome T) (qa qb : Roles)
@@ -304,15 +298,13 @@ module _ {env : Variables} (T : Type 0) (a b : Outcome T) (qa qb : Roles)
   winner_ok s {sa} {sb} t {x} v (true, Some p) w i j win k =
       let d : x ≡ v = cc in
       let free = differ (is_taken sb p) win.0.differs win.1 in
-      subst (λ z. AlternativeOk T (either qa qb) vr s z t) d (first_won i
+      rw (← d) (first_won i
       (other_took j.takes (left_of w i.steady j.steady win.1 free win.0.first) j.first j.readable)
-      (saved_steady sb k.1)
-      (cells_same (same_scope (saved_steady sb k.1)) k.1.taken))
+      (saved_steady sb k.1) (cells_same (same_scope (saved_steady sb k.1)) k.1.taken))
   winner_ok s {sa} {sb} t {y} v (false, Some p) w i j win k =
       let d : y ≡ v = cc in
       let here = differ_not (is_taken sb p) win.0.differs win.1 in
-      subst (λ z. AlternativeOk T (either qa qb) vr s z t) d
-      (second_won j
+      rw (← d) (second_won j
       (other_took i.takes (left_of w j.steady i.steady here win.1 (λ q l. sym (win.0.first q l)))
       i.first i.readable) (saved_steady sa k.1)
       (cells_same (same_scope (saved_steady sa k.1)) k.1.taken))
@@ -324,8 +316,7 @@ module _ {env : Variables} (T : Type 0) (a b : Outcome T) (qa qb : Roles)
   alone_ok {s} {m} {x} {v} i (inr o) =
       let given = o.1.0 in
       let d : x ≡ v = cc in
-      subst (λ z. AlternativeOk T (either qa qb) vr s v z) (sym o.1.1)
-      (subst (λ z. AlternativeOk T (either qa qb) vr s z m) d i)
+      rw (o.1.1, ← d) i
 
   -- the value where both paths are equally deep
   equal_ok : (s sa sb : Situation) {t : Situation} {v : T} (x y : Result T Error) → IsWholeIn env s
@@ -358,8 +349,8 @@ module _ {env : Variables} (T : Type 0) (a b : Outcome T) (qa qb : Roles)
   both_unread s f g o os w h x = by_owner (owner (cells s) u h)
     where
       by_owner : HeadOf qa (cells s) o ⊎ HeadOf qb (cells s) o → ⊥
-      by_owner (inl i) = f o i.0 w i.1 (subst (λ X. X) (same_first o w i.2) x)
-      by_owner (inr i) = g o i.0 w i.1 (subst (λ X. X) (same_second o w i.2) x)
+      by_owner (inl i) = f o i.0 w i.1 (rw (← same_first o w i.2) x)
+      by_owner (inr i) = g o i.0 w i.1 (rw (← same_second o w i.2) x)
 
   -- with a refusal of either class
   by_class : {s : Situation} {g : Error} → (class g ≡ OfMemory) ⊎ (class g ≡ Refused)
@@ -413,9 +404,7 @@ module _ {env : Variables} (T : Type 0) (a b : Outcome T) (qa qb : Roles)
   equal_err s {sa} {sb} {g} (Err e) (Err d) w f h hf hg o =
       let given = o.0.2 in
       let same : o.0.0 ≡ g = cc in
-      subst (λ z. AlternativeErr T (either qa qb) vr s g z) (sym o.1)
-      (subst (λ z. AlternativeErr T (either qa qb) vr s z s) same
-      (both_failed s e d hf hg o.0.1 (la.err s sa e w f) (lb.err s sb d w h)))
+      rw (o.1, ← same) (both_failed s e d hf hg o.0.1 (la.err s sa e w f) (lb.err s sb d w h))
 
   -- a refusal of the choice is that of an alternative
   choice_err : (s t : Situation) (e : Error) → IsWholeIn env s → ChoiceOutcome a b s (Err e) t

@@ -1,6 +1,6 @@
 -- Closures round commands, choices of them, and commands that may be left out keep to the laws.
 use Rattle.std.proofs.Common.{◌≡◌, ◌≤◌, ℕ, Bool, true, false, ◌||◌, List, [], ◌++◌, length, Option}
-use Rattle.std.proofs.Common.{Some, None, Result, Ok, Err, refl, sym, ap, ◌∙◌, subst, inl, inr}
+use Rattle.std.proofs.Common.{Some, None, Result, Ok, Err, refl, sym, ap, ◌∙◌, inl, inr}
 use Rattle.std.proofs.{Common.⊎_elim, Common.arith, Common.true≢false, lemmas.Bool.and_parts}
 use Rattle.std.proofs.lemmas.List.Folds.{list_any-append}
 use Rattle.bpaf_base.specs.Items.{is_command_word}
@@ -232,15 +232,15 @@ module _ {env : Variables} (T : Type 0) (a b : Outcome T) (ra rb : Roles) (wa wb
   of_winner s sa x v (first, None) f g k =
       let given = k.0 in
       let d : x ≡ v = cc in
-      of_first (subst (λ z. a s (Ok z) sa) d f) (alike_same k.1)
+      of_first (rw (← d) f) (alike_same k.1)
   of_winner s sa {sb} x v (true, Some p) f g k =
       let given = k.0 in
       let d : x ≡ v = cc in
-      of_first (subst (λ z. a s (Ok z) sa) d f) (alike_saved sb k.1)
+      of_first (rw (← d) f) (alike_saved sb k.1)
   of_winner s sa {sb} x {y} v (false, Some p) f g k =
       let given = k.0 in
       let d : y ≡ v = cc in
-      of_second (subst (λ z. b s (Ok z) sb) d g) (alike_saved sa k.1)
+      of_second (rw (← d) g) (alike_saved sa k.1)
 
   -- where both are equally deep
   of_equal : (s : Situation) {sa sb t : Situation} (x y : Result T Error) (v : T) → a s x sa
@@ -248,27 +248,25 @@ module _ {env : Variables} (T : Type 0) (a b : Outcome T) (ra rb : Roles) (wa wb
   of_equal s {sa} (Ok x) (Ok y) v f g (inl o) =
       let given = o.1.0 in
       let d : x ≡ v = cc in
-      of_first (subst (λ z. a s (Ok z) sa) d f) (alike_same o.1.1)
+      of_first (rw (← d) f) (alike_same o.1.1)
   of_equal s {sa} (Ok x) (Ok y) v f g (inr o) = of_winner s sa x v o.1.0 f g o.1.2
   of_equal s (Ok x) (Err e) v f g (inl o) = let i = o.1 in absurd cc
   of_equal s {sa} (Ok x) (Err e) v f g (inr o) =
       let given = o.1.0 in
       let d : x ≡ v = cc in
-      of_first (subst (λ z. a s (Ok z) sa) d f) (alike_same o.1.1)
+      of_first (rw (← d) f) (alike_same o.1.1)
   of_equal s (Err e) (Ok y) v f g (inl o) = let i = o.1 in absurd cc
   of_equal s {sb} (Err e) (Ok y) v f g (inr o) =
       let given = o.1.0 in
       let d : y ≡ v = cc in
-      of_second (subst (λ z. b s (Ok z) sb) d g) (alike_same o.1.1)
+      of_second (rw (← d) g) (alike_same o.1.1)
   of_equal s (Err e) (Err d) v f g o = let i = o.0.2 in absurd cc
 
   -- each
   branch_ok : {s t : Situation} {v : T} → ChoiceOutcome a b s (Ok v) t → BranchOk s v t
   branch_ok {s} {v} o =
-      ⊎_elim (λ deeper. of_first (subst (λ z. a s z o.sa) (sym deeper.1) o.first_ran)
-      (alike_same deeper.2)) (λ other. ⊎_elim
-      (λ deeper. of_second (subst (λ z. b s z o.sb) (sym deeper.1) o.second_ran)
-      (alike_same deeper.2))
+      ⊎_elim (λ deeper. of_first (rw deeper.1 o.first_ran) (alike_same deeper.2)) (λ other. ⊎_elim
+      (λ deeper. of_second (rw deeper.1 o.second_ran) (alike_same deeper.2))
       (λ equal. of_equal s o.a o.b v o.first_ran o.second_ran equal.1) other) o.chosen
 
   -- the path gets no shorter
@@ -277,10 +275,8 @@ module _ {env : Variables} (T : Type 0) (a b : Outcome T) (ra rb : Roles) (wa wb
   choice_deep s t v w o = by_branch (branch_ok o)
     where
       by_branch : BranchOk s v t → depth s ≤ depth t
-      by_branch (of_first {m = m} i e) =
-          subst (λ n. depth s ≤ n) (sym e.depth_alike) (la.program.deep s m v w i)
-      by_branch (of_second {m = m} i e) =
-          subst (λ n. depth s ≤ n) (sym e.depth_alike) (lb.program.deep s m v w i)
+      by_branch (of_first {m = m} i e) = rw e.depth_alike (la.program.deep s m v w i)
+      by_branch (of_second {m = m} i e) = rw e.depth_alike (lb.program.deep s m v w i)
 
   -- a value of the choice is one of the branch that was opened
   choice_ok : (s t : Situation) (v : T) → IsWholeIn env s → IsSpelledLine s.context
@@ -289,9 +285,9 @@ module _ {env : Variables} (T : Type 0) (a b : Outcome T) (ra rb : Roles) (wa wb
     where
       by_branch : BranchOk s v t → value (cells s) v
       by_branch (of_first {m = m} i e) =
-          inl (la.program.ok s m v w spelled i (subst NonePresent e.cells_alike n))
+          inl (la.program.ok s m v w spelled i (rw (← e.cells_alike) n))
       by_branch (of_second {m = m} i e) =
-          inr (lb.program.ok s m v w spelled i (subst NonePresent e.cells_alike n))
+          inr (lb.program.ok s m v w spelled i (rw (← e.cells_alike) n))
 
   -- what opens the first doesn't open the second
   second_closed : {cs : Cells} {u : T} → va cs u → OpensNone wb cs
@@ -306,14 +302,14 @@ module _ {env : Variables} (T : Type 0) (a b : Outcome T) (ra rb : Roles) (wa wb
       → value (cells s) u → GivesAll (value (cells s)) (Ok v) t
   choice_gives s v {u} w (of_first {m = m} i e) (inl h) =
       let g = la.program.answers s m (Ok v) u w i h in
-      (inl g.0, subst NonePresent (sym e.cells_alike) g.1)
+      (inl g.0, rw e.cells_alike g.1)
   choice_gives s v w (of_second {m = m} i e) (inl h) =
       absurd (lb.none s m (Ok v) w i (second_closed h))
   choice_gives s v w (of_first {m = m} i e) (inr h) =
       absurd (la.none s m (Ok v) w i (first_closed h))
   choice_gives s v {u} w (of_second {m = m} i e) (inr h) =
       let g = lb.program.answers s m (Ok v) u w i h in
-      (inr g.0, subst NonePresent (sym e.cells_alike) g.1)
+      (inr g.0, rw e.cells_alike g.1)
 
   -- a branch that found no command, of whose answer something else than want of memory is known
   abbrev Passed : Situation → Error → Situation → Type 0

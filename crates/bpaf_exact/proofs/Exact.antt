@@ -1,6 +1,6 @@
 -- The exactness theorem: a run of a flat record answers the record's value, or want of memory.
 use Rattle.std.proofs.Common.{◌≡◌, ℕ, zero, ◌<◌, Bool, true, false, not, ◌&&◌, ◌||◌, length}
-use Rattle.std.proofs.Common.{Option, slice_get, None, Ok, if◌then◌else◌, refl, sym, ◌∙◌, subst}
+use Rattle.std.proofs.Common.{Option, slice_get, None, Ok, if◌then◌else◌, refl, sym, ◌∙◌}
 use Rattle.std.proofs.Common.{arith, nat_lt, nat_le, Result, Err}
 use Rattle.std.proofs.lemmas.Bool.{lt-ltb, le-leb}
 use Rattle.bpaf_base.specs.declared.arg.Arg.{Arg}
@@ -11,7 +11,7 @@ use Rattle.bpaf_exact.specs.Flat.{cells, NonePresent, IsWholeIn, FieldsLaw, Fiel
 use Rattle.bpaf_exact.specs.Record.{line_cells, RecordValue, RunAnswer, Accepted, RunRan, run_value}
 use Rattle.bpaf_exact.specs.Record.{run_leftover, run_memory, run_refusal, IsNoValue}
 use Rattle.bpaf_exact.specs.{Record.IsAcceptedOrWant, Record.IsExact, Programs.CellsValue}
-use Rattle.bpaf_exact.specs.{Pieces.Roles, Pieces.Cut, Programs.GivesAll}
+use Rattle.bpaf_exact.specs.{Pieces.Roles, Programs.GivesAll}
 use Rattle.bpaf_exact.proofs.{Counts.open_present, Cuts.one_cut, Places.same_cells}
 use Rattle.bpaf_exact.proofs.{Records.none_counted, Records.count_none, Cuts.read_cut}
 use Rattle.bpaf_exact.proofs.Records.{fields_give}
@@ -55,9 +55,8 @@ module _ {V : Type 0} {outcome : Outcome V} {context : Context} (value : CellsVa
       (beginning context) a → (v : V) → a ≡ Accepted v → value (line_cells context) v
   run_sound ok (run_value {v = x} {t = t} o e) v h =
       let d : x ≡ v = cc in
-      subst (λ cs. value cs v) (first_cells_are context) (subst (value (cells (beginning context)))
-      d
-      (ok t x o (none_counted (cells t) (sym (open_present t) ∙ e))))
+      rw (← first_cells_are context, ← d)
+      (ok t x o (none_counted (cells t) (sym (open_present t) ∙ e)))
   run_sound ok {a} (run_leftover o e n) v h = absurd (no_value a n h)
   run_sound ok (run_memory o e) v h = absurd cc
   run_sound ok {a} (run_refusal o e n) v h = absurd (no_value a n h)
@@ -67,7 +66,7 @@ module _ {V : Type 0} {outcome : Outcome V} {context : Context} (value : CellsVa
       → GivesAll (value (cells (beginning context))) a t) → {a : RunAnswer V} → RunRan V outcome
       (beginning context) a → IsAcceptedOrWant (value (line_cells context)) a
   run_complete all (run_value {v = x} {t = t} o e) =
-      subst (λ cs. value cs x) (first_cells_are context) (all t (Ok x) o).0
+      rw (← first_cells_are context) (all t (Ok x) o).0
   run_complete all (run_leftover {v = x} {t = t} o e n) =
       absurd (e (open_present t ∙ count_none (all t (Ok x) o).1))
   run_complete all (run_memory o e) = tt
@@ -88,8 +87,7 @@ module _ {V : Type 0} {outcome : Outcome V} {r : Roles} {reading : FieldsReading
   exact ran = record {
     sound = sound ran;
     complete = λ os c h. run_complete (ReadOff V r reading.value)
-        (λ t a o. fields_give l a all_whole
-        o (subst (λ cs. Cut r cs os) (sym (first_cells_are context)) c) h) ran;
+        (λ t a o. fields_give l a all_whole o (rw (first_cells_are context) c) h) ran;
     refused = λ os c none v h. let i = sound ran v h in
-        none (subst reading.each (one_cut l.named (read_cut i) c) (l.has_each i.cut_into v i.read));
+        none (rw (← one_cut l.named (read_cut i) c) (l.has_each i.cut_into v i.read));
   }

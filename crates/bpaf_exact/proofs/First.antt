@@ -1,6 +1,6 @@
 -- Taking the first piece, and the first piece of two fields together.
 use Rattle.std.proofs.Common.{◌≡◌, ◌<◌, true, false, List, [], ◌∷◌, length, Option, Some}
-use Rattle.std.proofs.Common.{None, refl, sym, ap, ◌∙◌, subst, inl, inr, ◌⊎◌, if◌then◌else◌, arith}
+use Rattle.std.proofs.Common.{None, refl, sym, ap, ◌∙◌, inl, inr, ◌⊎◌, if◌then◌else◌, arith}
 use Rattle.bpaf_base.specs.declared.arg.Arg.{Arg}
 use Rattle.bpaf_exact.specs.Pieces.{Cells, Role, Foreign, Alone, WithNext, Roles, LinePiece, One}
 use Rattle.bpaf_exact.specs.Pieces.{Two, is_value, is_own_role, is_own, IsNamed, Apart, either}
@@ -69,16 +69,15 @@ module _ {T : Type 0} {value : LinePiece → T → Type 0} where
   bad_begin WithNext k cs ds {os} {ps} e f h = by_next e h
     where
       by_next : {x y : LinePiece} → x ≡ y → HasBad T value (x ∷ os) → HasBad T value (y ∷ ps)
-      by_next e (bad_here h) = bad_here (λ v g. h v (subst (λ z. value z v) (sym e) g))
+      by_next e (bad_here h) = bad_here (λ v g. h v (rw e g))
       by_next e (bad_later h) = bad_later (f h)
 
   -- A piece that can't be read stays one when others are given back.
   pub bad_given_back : {q : Roles} {cs ds : Cells} {o : LinePiece} → IsNamed q
       → TakesPiece q cs o ds → HasBad T value (pieces q ds) → HasBad T value (pieces q cs)
   bad_given_back {q} n (takes_one {k = k} {cs = cs} e) h =
-      subst (HasBad T value) (sym (begin_at k cs (pieces q cs) e)) (bad_later h)
-  bad_given_back n (takes_two {cs = cs} e v) h =
-      subst (HasBad T value) (sym (pair_pieces cs n e v)) (bad_later h)
+      rw (begin_at k cs (pieces q cs) e) (bad_later h)
+  bad_given_back n (takes_two {cs = cs} e v) h = rw (pair_pieces cs n e v) (bad_later h)
   bad_given_back n (takes_later {c = None} t) h = bad_given_back n t h
   bad_given_back {q} n (takes_later {c = Some k} {cs = cs} {ds = ds} t) h =
       bad_begin (q k) k cs ds (same_next k n t) (bad_given_back n t) h
@@ -347,14 +346,12 @@ module _ (T : Type 0) (va vr : LinePiece → T → Type 0) (qa qb r : Roles) (u 
       → HasBad T vr (begin_piece y k cs ps)
   bad_at Foreign {y} k cs e g f h = bad_any y k cs (f h)
   bad_at Alone k cs {ps} e g f (bad_here h) =
-      subst (λ z. HasBad T vr (begin_piece z k cs ps)) (sym (e refl))
-      (bad_here (λ v x. h v (subst (λ X. X) (same (One k) v (g (One k) refl)) x)))
+      rw (e refl) (bad_here (λ v x. h v (rw (← same (One k) v (g (One k) refl)) x)))
   bad_at WithNext k cs {ps} e g f (bad_here h) =
-      subst (λ z. HasBad T vr (begin_piece z k cs ps)) (sym (e refl))
-      (bad_here (λ v x. h v (subst (λ X. X)
-      (same (with_next k cs) v (g (with_next k cs) (own_next qa k cs))) x)))
-  bad_at _ k cs {ps} e g f (bad_later h) =
-      subst (λ z. HasBad T vr (begin_piece z k cs ps)) (sym (e refl)) (bad_later (f h))
+      rw (e refl)
+      (bad_here (λ v x. h v (rw (← same (with_next k cs) v (g (with_next k cs) (own_next qa k cs)))
+      x)))
+  bad_at _ k cs {ps} e g f (bad_later h) = rw (e refl) (bad_later (f h))
 
   -- a piece of the first that can't be read is one of both
   pub bad_left : (cs : Cells) → HasBad T va (pieces qa cs) → HasBad T vr (pieces r cs)

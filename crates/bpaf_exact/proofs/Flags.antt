@@ -1,6 +1,6 @@
 -- Flags keep to the laws.
 use Rattle.std.proofs.Common.{◌≡◌, ℕ, Bool, true, false, List, [], ◌∷◌, Option, Some, None, ◌&&◌}
-use Rattle.std.proofs.Common.{not, refl, sym, ap, ◌∙◌, subst, ⊎_elim, true≢false}
+use Rattle.std.proofs.Common.{not, refl, sym, ap, ◌∙◌, ⊎_elim, true≢false}
 use Rattle.std.specs.Option.{is_none, is_some, IsSomeRelated}
 use Rattle.bpaf_base.specs.Items.{is_key_of}
 use Rattle.bpaf_line.specs.{declared.error.Message.TheVariants.Memory, declared.error.Error.Error}
@@ -49,8 +49,7 @@ module _ {T : Type 0} (clones : T → T → Type 0) (key : Key) (present : T) wh
       → clones present v → AlternativeOk T q value s v t
   flag_found s v takes y =
       let m = match_of (is_key_of key.names) s takes.0 takes.1.matches in
-      subst (AlternativeOk T q value s v) (sym takes.2)
-      (first_alternative value take_steady y (one_taken test takes.1 m))
+      rw takes.2 (first_alternative value take_steady y (one_taken test takes.1 m))
 
 -- a flag that must be there
 module _ {T : Type 0} (clones : T → T → Type 0) (key : Key) (present : T)
@@ -124,27 +123,25 @@ module _ {T : Type 0} (clones : T → T → Type 0) (key : Key) (present : T) (a
       let m = match_of (is_key_of key.names) s takes.0 takes.1.matches in
       let h = one_taken own takes.1 m in
       let e = first_pieces roles (named clones key present) h in
-      subst (SingleOk T ByName roles group gap s v) (sym takes.2)
+      rw takes.2
       (took (took_front (FlagValue (clones present)) take_steady h e y (λ none. absurd cc)))
 
   switch_none : {s t : Situation} {v : T} → HasNone (is_key_of key.names) s → t ≡ s
       → (gap.has ≡ true) × gap.absent v → SingleOk T ByName roles group gap s v t
   switch_none {s} {v} none same g =
-      subst (SingleOk T ByName roles group gap s v) (sym same) (gave_absent g.0
-      (no_pieces s (test clones key present) none) g.1 refl steady_refl)
+      rw same (gave_absent g.0 (no_pieces s (test clones key present) none) g.1 refl steady_refl)
 
   -- a name that is set here is set in these variables
   set_here : (s : Situation) {b : Bool} → s.context.env ≡ variables
       → is_set s.context.env key.envs ≡ b → is_some (first_set variables key.envs) ≡ b
-  set_here s {b} e f = subst (λ z. is_set z key.envs ≡ b) e f
+  set_here s {b} e f = rw (← e) f
 
   switch_err : {s t : Situation} {e : Error} (m : Message) → class e ≡ class_of m
       → s.context.env ≡ variables → FlagFails {T = T} key absent s m t
       → SingleErr T ByName roles group gap s e t
   switch_err Memory c same o = of_memory c
   switch_err {s} {e} other c same o =
-      subst (λ z. SingleErr T ByName roles group gap s e z) (sym o.0.0.1)
-      (of_missing (absence_caught s (flag_part key) key.envs other c o.2)
+      rw o.0.0.1 (of_missing (absence_caught s (flag_part key) key.envs other c o.2)
       (gap_none clones present absent _ (set_here s same o.0.1) o.1)
       (no_pieces s (test clones key present) o.0.0.0) (λ c. refl))
 
@@ -174,11 +171,7 @@ flag_field_law variables T clones key present absent = by_envs key.envs absent r
         → SingleLaw variables T (FlagOutcome clones key present absent) ByName
         (flag_roles key.names) (FrontOf T (FlagValue (clones present)))
         (gap_of clones (value_without_key present absent (first_set variables envs)))
-    single_law absent e = subst (λ z. SingleLaw variables T
-        (FlagOutcome clones key present absent) ByName (flag_roles key.names)
-        (FrontOf T (FlagValue (clones present)))
-        (gap_of clones (value_without_key present absent (first_set variables z)))) e
-        (switch_law clones key present absent variables)
+    single_law absent e = rw (← e) (switch_law clones key present absent variables)
 
     by_envs : (envs : List (List ℕ)) (absent : Option T) → key.envs ≡ envs
         → FormLaw variables (FlagOutcome clones key present absent) (key.names ∷ []) []

@@ -1,6 +1,6 @@
 -- What a field takes of pieces, and what it leaves.
 use Rattle.std.proofs.Common.{◌≡◌, Bool, true, false, List, [], ◌∷◌, ap, refl, if◌then◌else◌, ◌++◌}
-use Rattle.std.proofs.Common.{◌&&◌, ◌∙◌, sym, subst, not, take, drop, length, append-nil}
+use Rattle.std.proofs.Common.{◌&&◌, ◌∙◌, sym, not, take, drop, length, append-nil}
 use Rattle.std.specs.List.{position_or_len}
 use Rattle.std.proofs.lemmas.List.{append_assoc, take-append-drop}
 use Rattle.std.proofs.{Math.Seq.drop-append_seam, lemmas.List.Sums.take_while-cons}
@@ -17,9 +17,7 @@ never_nil (y ∷ before) x behind e = cc
 -- what stands behind the first pieces
 behind_first : {os : List LinePiece} (first behind : List LinePiece) → first ++ behind ≡ os
     → first ++ drop (length first) os ≡ os
-behind_first first behind e =
-    subst (λ z. first ++ drop (length first) z ≡ z) e
-    (ap (λ z. first ++ z) (drop-append_seam first behind))
+behind_first first behind e = rw (← e) (ap (λ z. first ++ z) (drop-append_seam first behind))
 
 -- what a repeat takes and what it leaves are all
 each_back : (b : Bool) {os : List LinePiece} → front (EachWord b) os ++ back (EachWord b) os ≡ os

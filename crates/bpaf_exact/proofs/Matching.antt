@@ -1,6 +1,6 @@
 -- From what the calls of a state take to pieces.
 use Rattle.std.proofs.Common.{◌≡◌, ℕ, suc, ◌+◌, ◌<◌, Bool, true, false, List, [], ◌∷◌, length}
-use Rattle.std.proofs.Common.{Option, Some, None, refl, sym, ap, ◌∙◌, subst, inl, if◌then◌else◌}
+use Rattle.std.proofs.Common.{Option, Some, None, refl, sym, ap, ◌∙◌, inl, if◌then◌else◌}
 use Rattle.std.proofs.Common.{option_and_then, add-one, ◌||◌}
 use Rattle.std.specs.Option.{option_map_or, is_some}
 use Rattle.bpaf_doc.specs.{Names.Names, Shape.Part}
@@ -16,7 +16,7 @@ use Rattle.bpaf_laws.specs.Environment.{IsAbsence, MissesItem}
 use Rattle.bpaf_exact.specs.Pieces.{Role, Foreign, Alone, WithNext, Roles, LinePiece, One, Two}
 use Rattle.bpaf_exact.specs.Pieces.{is_value, is_key, is_own_role, IsNamed, pieces}
 use Rattle.bpaf_exact.specs.Flat.{OfMissing, Refused, is_missing, class, class_of, cells, Steady}
-use Rattle.bpaf_exact.specs.Alternative.{NotOwn, TakesFirst, HasBad, bad_here, AlternativeOk}
+use Rattle.bpaf_exact.specs.Alternative.{NotOwn, TakesFirst, bad_here, AlternativeOk}
 use Rattle.bpaf_exact.specs.Alternative.{AlternativeErr, alternative_missing, alternative_refused}
 use Rattle.bpaf_exact.specs.{Names.Owns, Single.CanCatch, Single.catch_missing, Single.catch_other}
 use Rattle.bpaf_exact.proofs.Places.{take_steady, NoneBefore, take_one, take_two, none_present}
@@ -190,16 +190,14 @@ pub first_refused : {T : Type 0} {q : Roles} (value : LinePiece → T → Type 0
     {e : Error} {o : LinePiece} {os : List LinePiece} → class e ≡ Refused → t.path ≡ s.path
     → pieces q (cells s) ≡ o ∷ os → ((v : T) → value o v → ⊥) → AlternativeErr T q value s e t
 first_refused {T} value {o} c p h n =
-    alternative_refused c p (subst (HasBad T value) (sym h) (bad_here n))
-    (λ x xs w g m. let d : x ≡ o = (let k = sym h ∙ g in cc) in n w (subst (λ z. value z w) d m))
+    alternative_refused c p (rw h (bad_here n))
+    (λ x xs w g m. let d : x ≡ o = (let k = sym h ∙ g in cc) in n w (rw (← d) m))
 
 -- no piece, nothing taken
 pub missing_same : {T : Type 0} {q : Roles} (value : LinePiece → T → Type 0) {s t : Situation}
     {e : Error} → class e ≡ OfMissing → pieces q (cells s) ≡ [] → t ≡ s
     → AlternativeErr T q value s e t
-missing_same {T} {q} value {s} {e} c p same =
-    subst (λ z. AlternativeErr T q value s e z) (sym same)
-    (alternative_missing c p refl steady_refl)
+missing_same {T} {q} value {s} {e} c p same = rw same (alternative_missing c p refl steady_refl)
 
 -- a refusal that names a missing item says that items are missing
 misses : (s : Situation) (part : Option Part) (m : Message) → MissesItem s part m

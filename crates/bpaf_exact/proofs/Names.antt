@@ -1,6 +1,6 @@
 -- Fields whose keys are apart have no item in common.
 use Rattle.std.proofs.Common.{◌≡◌, Bool, true, false, not, ◌||◌, List, [], ◌∷◌, ◌++◌, refl, ◌==◌}
-use Rattle.std.proofs.Common.{sym, ap, ◌∙◌, subst, ⊎_elim, bytes_eq}
+use Rattle.std.proofs.Common.{sym, ap, ◌∙◌, ⊎_elim, bytes_eq}
 use Rattle.std.specs.List.{list_all, list_any}
 use Rattle.std.proofs.lemmas.Bool.{eqb-true, false_from_ne_true, and_parts, or_cases}
 use Rattle.std.proofs.{lemmas.List.Folds.list_any-append, lemmas.Slice.Eq.bytes_eq-Decides}
@@ -32,14 +32,12 @@ one_owner : (own others : Names) (k : Arg) → are_apart own others ≡ true →
     → is_key_of others k ≡ true → ⊥
 one_owner own others (Short c attached word) apart e f =
     both_hold (λ name. not (is_among others.shorts name)) (λ name. name == c)
-    (λ name t h. never_both (is_among others.shorts name) t
-    (subst (λ z. is_among others.shorts z ≡ true) (sym (eqb-true name c h)) f)) own.shorts
+    (λ name t h. never_both (is_among others.shorts name) t (rw (eqb-true name c h) f)) own.shorts
     (and_parts _ _ apart).0 e
 one_owner own others (Long name attached word) apart e f =
     both_hold (λ other. not (is_text_among others.longs other)) (λ other. bytes_eq other name)
     (λ other t h. never_both (is_text_among others.longs other) t
-    (subst (λ z. is_text_among others.longs z ≡ true) (sym ((bytes_eq-Decides other name).0 h)) f))
-    own.longs (and_parts _ _ apart).1 e
+    (rw ((bytes_eq-Decides other name).0 h) f)) own.longs (and_parts _ _ apart).1 e
 one_owner own others _ apart e f = cc
 
 -- an item is a key of at most one of two lists that are apart

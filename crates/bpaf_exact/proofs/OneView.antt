@@ -66,7 +66,7 @@ front_view : {T X : Type 0} {see : T → X} (value : LinePiece → T → Type 0)
 front_view value u os rest others v w a b =
     let c : a.0 ∷ rest ≡ b.0 ∷ others = sym a.1 ∙ b.1 in
     let d : a.0 ≡ b.0 = cc in
-    (u b.0 v w (subst (λ z. value z v) d a.2) b.2, cc)
+    (u b.0 v w (rw (← d) a.2) b.2, cc)
 
 -- a present value
 flag_piece : {T X : Type 0} {see : T → X} {present : T → Type 0} → Alike see present
@@ -108,10 +108,7 @@ last_group : {T X : Type 0} {see : T → X} {means : List ℕ → T → Type 0}
     → ((text : List ℕ) → Alike see (means text)) → OneGroup see (LastGroup T means)
 last_group {means} u os rest others v w a b =
     let same : Two a.1.0 a.1.1 ≡ Two b.1.0 b.1.1 = last_same _ _ (sym a.2 ∙ b.2) in
-    let word : a.1.1 ≡ b.1.1 = cc in (
-      u (item_text b.1.1) v w (subst (λ x. means (item_text x) v) word a.3) b.3,
-      a.4 ∙ sym b.4,
-    )
+    let word : a.1.1 ≡ b.1.1 = cc in (u (item_text b.1.1) v w (rw (← word) a.3) b.3, a.4 ∙ sym b.4)
 
 -- the pieces of one evaluation
 argument_group_view : {T X : Type 0} {see : T → X} {means : List ℕ → T → Type 0}
@@ -292,8 +289,8 @@ both_view A B X Y see look own others (complete wide k q fv) (product other name
 both_view A B X Y see look own others (complete wide ByName q fv) (before_commands rv) u n =
     if_view (pair_view see look) _ (are_all_apart own others)
     (λ cs v w a b. let same = one_take a.taken b.taken in
-    let d = u _ v.0 w.0 (subst (λ os. fv os v.0) same.0 a.own) b.own in
-    let e = n _ v.1 w.1 (subst (λ ds. rv ds v.1) same.1 a.left) b.left in λ i. (d i, e i))
+    let d = u _ v.0 w.0 (rw (← same.0) a.own) b.own in
+    let e = n _ v.1 w.1 (rw (← same.1) a.left) b.left in λ i. (d i, e i))
 both_view A B X Y see look own others _ _ u n = tt
 
 module _ (T X : Type 0) (see : T → X) where
@@ -334,8 +331,7 @@ module _ (T X : Type 0) (see : T → X) where
       → ((os : List LinePiece) → Alike see (value os)) → (cs : Cells)
       → Alike see (ReadOff T r value cs)
   reads_one {value} named one cs v w a b =
-      one b.cut_into v w
-      (subst (λ os. value os v) (one_cut named (read_cut a) (read_cut b)) a.read) b.read
+      one b.cut_into v w (rw (← one_cut named (read_cut a) (read_cut b)) a.read) b.read
 
   -- All values of a program on the same cells look alike.
   pub values_look_one : (env : Variables) (outcome : Outcome T) (names : List Names)

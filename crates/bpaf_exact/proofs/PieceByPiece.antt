@@ -1,6 +1,6 @@
 -- What a repeat's values say, piece by piece.
 use Rattle.std.proofs.Common.{◌≡◌, ℕ, Bool, false, List, [], ◌∷◌, ◌++◌, Option, None, sym, ap}
-use Rattle.std.proofs.Common.{◌∙◌, subst, true≢false}
+use Rattle.std.proofs.Common.{◌∙◌, true≢false}
 use Rattle.std.specs.List.{AllZip}
 use Rattle.bpaf_exact.specs.Says.{Said, FlagSays, says_present, says_absent, ArgumentSays}
 use Rattle.bpaf_exact.specs.Says.{says_variable, says_variable_text, says_text, says_last_text}
@@ -24,8 +24,7 @@ module _ {T : Type 0} (said : Said T) (one : LinePiece → T → Type 0)
   in_turn (o ∷ os) [] h = elim h [ ]
   in_turn os (v ∷ vs) (own_more {rest = rest} front more) =
       let first = of_one front.part v front.told in
-      subst (λ z. AllZip one z (v ∷ vs)) (sym (front.is ∙ ap (λ part. part ++ rest) first.is))
-      (first.said, in_turn rest vs more)
+      rw (front.is ∙ ap (λ part. part ++ rest) first.is) (first.said, in_turn rest vs more)
 
   one_by_one : {os : List LinePiece} {vs : List T} → RepeatSays said os vs → AllZip one os vs
   one_by_one {os} {vs} (says_in_turn turns) = in_turn os vs turns

@@ -1,6 +1,6 @@
 -- From places to cells: the first place that is wanted, and what is left when it is taken.
 use Rattle.std.proofs.Common.{◌≡◌, ◌≢◌, ℕ, suc, zero, ◌<◌, Bool, true, false, not, ◌&&◌, List, []}
-use Rattle.std.proofs.Common.{◌∷◌, Option, Some, None, refl, sym, ap, ap₂, ◌∙◌, subst}
+use Rattle.std.proofs.Common.{◌∷◌, Option, Some, None, refl, ap, ap₂, ◌∙◌}
 use Rattle.std.proofs.Common.{if◌then◌else◌, arith}
 use Rattle.bpaf_base.specs.declared.arg.Arg.{Arg}
 use Rattle.bpaf_line.specs.Situation.{Situation, is_open, is_taken, in_scope, item_at, take_place}
@@ -65,8 +65,7 @@ tail_two taken = record {
 -- a later one is
 later : {r : Roles} {c d : Option Arg} {cs ds : Cells} {o : LinePiece} → d ≡ c → NotOwn r c
     → TakesFirst r cs o ds → TakesFirst r (c ∷ cs) o (d ∷ ds)
-later {r} {c} {cs = cs} {ds = ds} {o = o} e n t =
-    subst (λ z. TakesFirst r (c ∷ cs) o (z ∷ ds)) (sym e) (first_later n t)
+later {r} {c} {cs = cs} {ds = ds} {o = o} e n t = rw e (first_later n t)
 
 -- the first item that is wanted, taken by itself
 pub take_one : {r : Roles} {at left : ℕ → Option Arg} (n p : ℕ) {k : Arg} → p < n → at p ≡ Some k
@@ -97,9 +96,9 @@ take_two {r} {at} (suc (suc n)) zero {k} {w} l e f h v none taken =
       taken.gone,
       taken.next_gone,
       same_cells (λ q. at (suc (suc q))) n
-          (λ q i. taken.others (suc (suc q)) (λ g. absurd (omega arith)) (λ g. absurd (omega arith))),
-    )
-    (first_two h v)
+          (λ q i. taken.others (suc (suc q)) (λ g. absurd (omega arith))
+          (λ g. absurd (omega arith))),
+    ) (first_two h v)
 take_two (suc n) (suc p) l e f h v none taken =
     later (taken.others zero (λ g. absurd (omega arith)) (λ g. absurd (omega arith)))
     (none.before zero (omega arith)) (take_two n p (omega arith) e f h v

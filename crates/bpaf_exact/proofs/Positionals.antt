@@ -1,6 +1,6 @@
 -- Positional words keep to the laws.
 use Rattle.std.proofs.Common.{◌≡◌, ℕ, Bool, true, false, List, [], ◌∷◌, Some, None, Ok, Err, refl}
-use Rattle.std.proofs.Common.{sym, ap, ◌∙◌, not, subst, true≢false, if◌then◌else◌, option_and_then}
+use Rattle.std.proofs.Common.{sym, ap, ◌∙◌, not, true≢false, if◌then◌else◌, option_and_then}
 use Rattle.std.proofs.Common.{take}
 use Rattle.std.specs.Option.{option_map_or}
 use Rattle.bpaf_base.specs.declared.arg.Arg.TheVariants.{Word, PosWord}
@@ -80,7 +80,7 @@ module _ {T : Type 0} {b : Bool} {value : LinePiece → T → Type 0}
   took_word {s} {p} {strict} {text} takes =
       let m = match_of is_positional s p takes.first.matches in
       let at = (open_item_there s p m.item m.is).1 in
-      subst (λ z. TookWord s z strict text) (sym takes.taken) (record {
+      rw takes.taken (record {
         word = m.item;
         text_is = sym (ap (option_and_then word_text) at) ∙ takes.is;
         takes = one_taken test takes.first m;
@@ -114,7 +114,7 @@ module _ {T : Type 0} {b : Bool} {value : LinePiece → T → Type 0}
       (sym (ap (front (OneWord b)) i) ∙ none)) (λ x rest y.
       let d : One m.word ∷ pieces word_roles (cells t) ≡ y.0 ∷ rest = sym i ∙ y.1 in
       let j : y.0 ≡ One m.word = cc in
-      n m.word x m.text_is (subst (λ z. value z x) j y.2))
+      n m.word x m.text_is (rw (← j) y.2))
   word_err s t e w (word_missing none c) =
       of_missing (catch_missing c) refl (ap (front (OneWord b)) (no_pieces s test none)
       ∙ front_nil (OneWord b)) (λ c. refl)

@@ -1,6 +1,6 @@
 -- A field before other fields: the laws of a product from those of its parts.
 use Rattle.std.proofs.Common.{◌≡◌, true, false, List, [], ◌∷◌, length, Some, Result, Ok, Err, refl}
-use Rattle.std.proofs.Common.{inl, inr, Bool, sym, ap, ◌∙◌, subst, if◌then◌else◌, ◌<◌}
+use Rattle.std.proofs.Common.{inl, inr, Bool, sym, ap, ◌∙◌, subst, if◌then◌else◌}
 use Rattle.bpaf_line.specs.{declared.error.Error.Error, Situation.Situation, Messages.is_memory}
 use Rattle.bpaf_laws.specs.{Product.BothOutcome, Product.joined, Spared.IsNotMemory}
 use Rattle.bpaf_laws.specs.Reading.{Outcome}
@@ -22,7 +22,7 @@ pub none_outside_after : {env : Variables} {s t : Situation} → IsWholeIn env s
     → IsWholeIn env t
 none_outside_after w k = record {
   end = k.end ∙ (w.end ∙ ap (λ c. length c.line) (sym k.context));
-  front = λ p l. k.keeps p (w.front p (subst (λ n. p < n) k.start l));
+  front = λ p l. k.keeps p (w.front p (rw (← k.start) l));
   environment = ap (λ c. c.env) k.context ∙ w.environment;
 }
 
@@ -198,11 +198,7 @@ module _ {A B : Type 0} (first : Outcome A) (rest : Outcome B) where
       → first s a m → rest m b t → Ok v ≡ joined a b → ValuesOfBoth A B first rest s v t
   joined_values {s} {m} {t} (Ok a) (Ok b) {v} f g e =
       let d : v ≡ (a, b) = cc in
-      record {
-        middle = m;
-        first_ran = subst (λ z. first s (Ok z.0) m) (sym d) f;
-        rest_ran = subst (λ z. rest m (Ok z.1) t) (sym d) g;
-      }
+      record { middle = m; first_ran = rw d f; rest_ran = rw d g }
   joined_values (Ok a) (Err f) h g e = absurd cc
   joined_values (Err e) (Ok b) h g i = absurd cc
   joined_values {s} {t} (Err e) (Err f) {v} h g i = by_test (is_memory f.0) i
@@ -229,7 +225,7 @@ module _ {A B : Type 0} (first : Outcome A) (rest : Outcome B) where
           → rest o.middle b t → IsNotMemory a → Err e ≡ joined a b → class e ≡ OfMemory
       by_answers (Ok a) (Ok b) f g spared i = absurd cc
       by_answers (Ok a) (Err b) f g spared i =
-          let d : b ≡ e = cc in of_rest a o.middle f (subst (λ z. rest o.middle (Err z) t) d g)
+          let d : b ≡ e = cc in of_rest a o.middle f (rw (← d) g)
       by_answers (Err a) b f g spared i = absurd (not_memory a.0 spared (of_first a o.middle f))
 
 module _ {env : Variables} {A B : Type 0} {first : Outcome A} {rest : Outcome B} {k : FieldKind}
@@ -243,7 +239,7 @@ module _ {env : Variables} {A B : Type 0} {first : Outcome A} {rest : Outcome B}
   -- where each field has a value, so has the first on its own pieces
   own_value : (s : Situation) {os : List LinePiece} → Cut (either (keys k q) r) (cells s) os
       → (h : HasValue fv (portion k q os)) → fv (front k (pieces q (cells s))) h.0
-  own_value s c h = subst (λ z. fv z h.0) (sym (own_portion k q r lf.own b c)) h.1
+  own_value s c h = rw (own_portion k q r lf.own b c) h.1
 
   -- what the first leaves is cut into what it leaves of the pieces
   rest_cut : {s m : Situation} {x : A} {os : List LinePiece} → IsWholeIn env s → first s (Ok x) m
@@ -267,8 +263,8 @@ module _ {env : Variables} {A B : Type 0} {first : Outcome A} {rest : Outcome B}
         let after = lr.ok h.middle t v.1 (none_outside_after w i.steady) h.rest_ran e in
         let p = step_back k fv lf.own b i (read_cut after) in
         read_off reading.value (both_named k q lf.own lr.named) p.cut (
-          subst (λ os. fv os v.0) p.own (i.read (none_left k q lf.own b (read_cut after))),
-          subst (λ os. others_read.value os v.1) (sym p.leaves) after.read,
+          rw (← p.own) (i.read (none_left k q lf.own b (read_cut after))),
+          rw p.leaves after.read,
         );
     has_each = λ os v h. ((v.0, h.0), lr.has_each (left k q os) v.1 h.1);
     takes_all = λ s t u os w o c h.

@@ -1,6 +1,6 @@
 -- Each parser keeps to the laws of its form to a program, where its inner parsers do.
 use Rattle.std.proofs.Common.{◌≡◌, ℕ, Bool, true, false, not, ◌&&◌, List, [], ◌∷◌, ◌++◌}
-use Rattle.std.proofs.Common.{Option, Some, None, refl, sym, ap, ◌∙◌, subst, bytes_eq, ⊎_elim}
+use Rattle.std.proofs.Common.{Option, Some, None, refl, sym, ap, ◌∙◌, bytes_eq, ⊎_elim}
 use Rattle.std.proofs.Common.{true≢false, append-nil, inl, inr}
 use Rattle.std.proofs.lemmas.Bool.{and_parts, false_from_ne_true}
 use Rattle.std.proofs.lemmas.Slice.Eq.{bytes_eq-Decides}
@@ -232,11 +232,8 @@ module _ (env : Variables) (T : Type 0) (outcome : Outcome T) (names : List Name
   -- the last field, or one alone
   pub program_alone_law : (s : ProgramForm T) → Law s
       → FormLaw env outcome names [] (program_alone s)
-  program_alone_law (complete wide k q value) l = (
-    last_law l.0,
-    subst (Owns (either (keys k q) no_roles)) (append-nil names) (either_owns l.1 no_names),
-    by_name k l.0,
-  )
+  program_alone_law (complete wide k q value) l =
+      (last_law l.0, rw (← append-nil names) (either_owns l.1 no_names), by_name k l.0)
     where
       by_name : (j : FieldKind) → FieldLaw env T outcome j q value
           → NamedLaw env (is_named j) outcome (either (keys j q) no_roles)
@@ -372,8 +369,7 @@ runs_as_program V outcome names words s h context l spelled a ran =
       run_sound (program_value s)
           (λ t v o n. law.ok (beginning context) t v all_whole spelled o n) ran,
       λ u value. run_complete (program_value s) (λ t x o. law.answers (beginning context) t x u
-          all_whole o (subst (λ cs. program_value s cs u) (sym (first_cells_are context)) value))
-          ran,
+          all_whole o (rw (first_cells_are context) value)) ran,
     )
 
 -- each answer of a run of a flat record is exact

@@ -95,8 +95,7 @@ plain_word : (words : List (List ℕ)) → are_plain words ≡ true → (word : 
     → is_dashed word ≡ true → list_any (λ own. bytes_eq word own) words ≡ false
 plain_word words plain word dashed = false_from_ne_true (list_any (λ own. bytes_eq word own) words)
     (both_hold (λ own. not (is_dashed own)) (λ own. bytes_eq word own) (λ own t same.
-    true≢false (sym (subst (λ z. not (is_dashed z) ≡ true)
-    (sym ((bytes_eq-Decides word own).0 same)) t) ∙ ap not dashed)) words plain)
+    true≢false (sym (rw ((bytes_eq-Decides word own).0 same) t) ∙ ap not dashed)) words plain)
 
 -- so a key is none of the words
 no_key : (words : List (List ℕ)) → are_plain words ≡ true → (k : Arg) → is_spelled k ≡ true
@@ -263,7 +262,7 @@ module _ {env : Variables} (T : Type 0) (inner : Outcome T) (r : Roles) (value :
       → GivesAll (value (cells (inside called s p))) a m
   answer_behind {s} {m} {p} {a} {u} w at i h =
       l.answers (inside called s p) m a u (whole_behind called s p at w) i
-      (subst (λ cs. value cs u) (opens_one words h.1 (opens_cells called s p at)) h.2)
+      (rw (← opens_one words h.1 (opens_cells called s p at)) h.2)
 
   -- where it has a value each answer is one, or want of memory
   command_answers : (s t : Situation) (a : Result T Error) (u : T) → IsWholeIn env s

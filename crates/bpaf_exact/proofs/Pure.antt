@@ -1,9 +1,9 @@
 -- A kept value is a field that takes no piece.
-use Rattle.std.proofs.Common.{List, [], refl, subst, sym}
+use Rattle.std.proofs.Common.{List, [], refl}
 use Rattle.bpaf_laws.specs.{Default.GivesClone, Pure.PureOutcome}
 use Rattle.bpaf_doc.specs.Names.{Names}
-use Rattle.bpaf_exact.specs.Flat.{ByName, FieldTook, cells, Variables}
-use Rattle.bpaf_exact.specs.Pieces.{LinePiece, TakesPieces, no_roles, takes_none}
+use Rattle.bpaf_exact.specs.Flat.{ByName, cells, Variables}
+use Rattle.bpaf_exact.specs.Pieces.{LinePiece, takes_none}
 use Rattle.bpaf_exact.specs.{Says.Says, Says.of_kind, ProgramForm.FormLaw, Leaves.pure_field}
 use Rattle.bpaf_exact.proofs.{Records.none_of_nobody, Records.current_cells, Classes.memory_class}
 use Rattle.bpaf_exact.proofs.ProgramForm.{no_names}
@@ -19,7 +19,7 @@ module _ (T : Type 0) (clones : T → T → Type 0) (kept : T) where
   pure_field_law = (
     record {
       own = record { only_keys = λ k h. refl };
-      ok = λ s t v w o. subst (FieldTook T ByName no_roles value s v) (sym o.1) (record {
+      ok = λ s t v w o. rw o.1 (record {
         steady = record {
           context = refl;
           start = refl;
@@ -27,7 +27,7 @@ module _ (T : Type 0) (clones : T → T → Type 0) (kept : T) where
           path = refl;
           keeps = λ p taken. taken;
         };
-        takes = subst (TakesPieces no_roles (cells s)) (sym (current_cells s)) takes_none;
+        takes = rw (current_cells s) takes_none;
         read = λ none. o.0;
         rest = λ none. none;
       });

@@ -1,6 +1,6 @@
 -- The last field of a product, and its constructor; and that a product of named fields keeps to the
 -- laws of a named field, so it may stand in another product.
-use Rattle.std.proofs.Common.{◌≡◌, List, [], ◌∷◌, Some, None, refl, sym, ap, ◌∙◌, subst, arith, Ok}
+use Rattle.std.proofs.Common.{◌≡◌, List, [], ◌∷◌, Some, None, refl, sym, ap, ◌∙◌, arith, Ok}
 use Rattle.std.proofs.Common.{Result, Err, true, false, ap₂, if◌then◌else◌, not, Bool, filter}
 use Rattle.bpaf_line.specs.{Situation.Situation, Situation.with_current, declared.error.Error.Error}
 use Rattle.bpaf_laws.specs.{Product.ProductOutcome, Product.BothOutcome, Reading.Outcome}
@@ -10,7 +10,7 @@ use Rattle.bpaf_exact.specs.Pieces.{WithNext, begin_piece, is_own_role, mine, ot
 use Rattle.bpaf_exact.specs.Flat.{cells, NonePresent, no_place, none_here, Steady, IsWholeIn}
 use Rattle.bpaf_exact.specs.Flat.{FieldKind, ByName, keys, OwnItems, FieldLaw, FieldsLaw, ReadOff}
 use Rattle.bpaf_exact.specs.Flat.{Before, FieldsReading, HasValue, portion, front, Variables}
-use Rattle.bpaf_exact.specs.Flat.{FieldTook, both_reading}
+use Rattle.bpaf_exact.specs.Flat.{both_reading}
 use Rattle.bpaf_exact.specs.{Pieces.takes_none, Pieces.with_next, Pieces.is_own, Programs.GivesAll}
 use Rattle.bpaf_exact.specs.{Wrappers.map_closure, Wrappers.ClosedValue, Single.present_count}
 use Rattle.bpaf_exact.specs.Record.{last_reading}
@@ -69,8 +69,7 @@ module _ {env : Variables} {T : Type 0} {outcome : Outcome T} {k : FieldKind} {q
   -- where the field has a value on its pieces, it has one on those of the cells
   own_value : (s : Situation) {os : List LinePiece} → Cut (either (keys k q) no_roles) (cells s) os
       → (h : HasValue value (portion k q os)) → value (front k (pieces q (cells s))) h.0
-  own_value s c h =
-      subst (λ z. value z h.0) (sym (own_portion k q no_roles l.own before_none c)) h.1
+  own_value s c h = rw (own_portion k q no_roles l.own before_none c) h.1
 
   -- a last field keeps to the laws of a list of fields
   pub last_law : FieldsLaw env T outcome (either (keys k q) no_roles) (last_reading k q value)
@@ -82,7 +81,7 @@ module _ {env : Variables} {T : Type 0} {outcome : Outcome T} {k : FieldKind} {q
         let c = empty_cut n in
         let p = step_back k value l.own before_none i c in
         read_off (last_reading k q value).value keys_named p.cut (
-          subst (λ os. value os v) p.own (i.read (none_left k q l.own before_none c)),
+          rw (← p.own) (i.read (none_left k q l.own before_none c)),
           p.leaves,
         );
     has_each = λ os v h. ((v, h.0), h.1);
@@ -120,9 +119,9 @@ module _ {env : Variables} {A B : Type 0} {fields : Outcome A} (makes : A → B 
   pub con_law : FieldsLaw env B (ProductOutcome fields makes) r made
   con_law = record {
     named = l.named;
-    steady = λ s t v w o. subst (Steady s) (sym o.4) (same_steady (l.steady s o.0 o.1 w o.2));
+    steady = λ s t v w o. rw o.4 (same_steady (l.steady s o.0 o.1 w o.2));
     ok = λ s t v w o n.
-        let a = l.ok s o.0 o.1 w o.2 (subst NonePresent (ap cells o.4 ∙ current_cells o.0) n) in
+        let a = l.ok s o.0 o.1 w o.2 (rw (← ap cells o.4 ∙ current_cells o.0) n) in
         record {
           cut_into = a.cut_into;
           left_cells = a.left_cells;
@@ -131,7 +130,7 @@ module _ {env : Variables} {A B : Type 0} {fields : Outcome A} (makes : A → B 
           read = record { from = o.1; read = a.read; made = o.3 };
         };
     has_each = λ os v h. l.has_each os h.from h.read;
-    takes_all = λ s t u os w o c h. subst NonePresent (sym (ap cells o.4 ∙ current_cells o.0))
+    takes_all = λ s t u os w o c h. rw (ap cells o.4 ∙ current_cells o.0)
         (l.takes_all s o.0 o.1 os w o.2 c h);
     refuses = λ s t e os w o c h. l.refuses s o.0 e os w o.1 c h;
   }
@@ -222,18 +221,12 @@ module _ {env : Variables} (A B : Type 0) (first : Outcome A) (rest : Outcome B)
   -- both have a value on their own pieces where each has one on its own
   both_value : (cs : Cells) (v : A × B) → fv (pieces q cs) v.0 → read.value (pieces r cs) v.1
       → value (pieces both cs) v
-  both_value cs v a b = (
-    subst (λ os. fv os v.0) (sym (mine_of_both together cs)) a,
-    subst (λ os. read.value os v.1) (sym (others_of_both together cs)) b,
-  )
+  both_value cs v a b = (rw (mine_of_both together cs) a, rw (others_of_both together cs) b)
 
   -- and the other way
   each_value : (cs : Cells) {v : A × B} → value (pieces both cs) v
       → fv (pieces q cs) v.0 × read.value (pieces r cs) v.1
-  each_value cs {v} h = (
-    subst (λ os. fv os v.0) (mine_of_both together cs) h.0,
-    subst (λ os. read.value os v.1) (others_of_both together cs) h.1,
-  )
+  each_value cs {v} h = (rw (← mine_of_both together cs) h.0, rw (← others_of_both together cs) h.1)
 
   -- and what they take leaves its own
   first_kept : {cs ds : Cells} → TakesPieces r cs ds → pieces q ds ≡ pieces q cs
@@ -244,9 +237,7 @@ module _ {env : Variables} (A B : Type 0) (first : Outcome A) (rest : Outcome B)
   rest_value : {s m : Situation} {x : A} {u : A × B} → IsWholeIn env s → first s (Ok x) m
       → value (pieces both (cells s)) u → read.value (pieces r (cells m)) u.1
   rest_value {s} {m} {x} {u} w f h =
-      subst (λ os. read.value os u.1)
-      (sym (keeps_other_some lf.own lr.own apart (lf.ok s m x w f).takes))
-      (each_value (cells s) h).1
+      rw (keeps_other_some lf.own lr.own apart (lf.ok s m x w f).takes) (each_value (cells s) h).1
 
   -- together they keep to the laws of a named field
   pub named_both_law : FieldLaw env (A × B) (BothOutcome first rest) ByName both value
@@ -262,7 +253,7 @@ module _ {env : Variables} (A B : Type 0) (first : Outcome A) (rest : Outcome B)
               (takes_some_left (swap_union q r both together) j.takes);
           read = λ none. both_value (cells s) v (i.read (sym (first_kept j.takes)
               ∙ (sym (mine_of_both together (cells t)) ∙ ap (mine q) none)))
-              (subst (λ os. read.value os v.1) (keeps_other_some lf.own lr.own apart i.takes)
+              (rw (← keeps_other_some lf.own lr.own apart i.takes)
               (j.read (sym (others_of_both together (cells t)) ∙ ap (others q) none)));
           rest = λ none. none;
         };
@@ -297,7 +288,7 @@ module _ {env : Variables} {T : Type 0} {outcome : Outcome T} {q : Roles}
   -- and the other way
   own_read : (cs : Cells) {v : T} → (last_reading ByName q value).value (pieces alone cs) v
       → value (pieces q cs) v
-  own_read cs {v} h = subst (λ os. value os v) (mine_of_both by_itself cs) h.0
+  own_read cs {v} h = rw (← mine_of_both by_itself cs) h.0
 
   -- a last field keeps to the laws of a named one
   pub named_last_law : FieldLaw env T outcome ByName alone (last_reading ByName q value).value
@@ -307,10 +298,9 @@ module _ {env : Variables} {T : Type 0} {outcome : Outcome T} {q : Roles}
       steady = i.steady;
       takes = takes_some_left by_itself i.takes;
       read = λ none. (
-        subst (λ os. value os v) (sym (mine_of_both by_itself (cells s)))
+        rw (mine_of_both by_itself (cells s))
             (i.read (sym (mine_of_both by_itself (cells t)) ∙ ap (mine q) none)),
-        others_of_both by_itself
-            (cells s) ∙ none_of_nobody (cells s),
+        others_of_both by_itself (cells s) ∙ none_of_nobody (cells s),
       );
       rest = λ none. none;
     };
@@ -332,9 +322,9 @@ module _ {env : Variables} {A B : Type 0} {fields : Outcome A} (makes : A → B 
     own = l.own;
     ok = λ s t v w o.
         let i = l.ok s o.0 o.1 w o.2 in
-        subst (FieldTook B ByName q made_of s v) (sym o.4) (record {
+        rw o.4 (record {
           steady = same_steady i.steady;
-          takes = subst (TakesPieces q (cells s)) (sym (current_cells o.0)) i.takes;
+          takes = rw (current_cells o.0) i.takes;
           read = λ none. record {
             from = o.1;
             read = i.read (sym (ap (pieces q) (current_cells o.0)) ∙ none);

@@ -33,7 +33,7 @@ some_trans (takes_more t more) b = takes_more t (some_trans more b)
 
 -- where the cells are the same none was taken
 pub same_takes : {q : Roles} {cs ds : Cells} → ds ≡ cs → TakesPieces q cs ds
-same_takes {q} {cs = cs} e = subst (TakesPieces q cs) (sym e) takes_none
+same_takes {q} {cs = cs} e = rw e takes_none
 
 -- what has an own list can be read
 readable : {T : Type 0} (k : FieldKind) {group : Groups T} (os : List LinePiece) {vs : List T}
@@ -139,7 +139,7 @@ module _ {env : Variables} {T : Type 0} {inner : Outcome T} {k : FieldKind} {q :
     steady = st;
     takes = same_takes e;
     none = ap (pieces q) e ∙ all_left s p;
-    list = subst (λ os. Own T group os []) (sym (own_none_left s p)) own_none;
+    list = rw (own_none_left s p) own_none;
     absent = ab;
   }
 
@@ -180,14 +180,12 @@ module _ {env : Variables} {T : Type 0} {inner : Outcome T} {k : FieldKind} {q :
   stop_took : (s : Situation) {t : Situation} → IsWholeIn env s
       → TurnOutcome inner false false s (Ok None) t → Took s [] t
   stop_took s {t} w (inl o) = enough_took o.3 (l.ok s t o.0 w o.1)
-  stop_took s w (inr o) =
-      subst (λ z. Took s [] z) (sym o.1) (stop_after (stops_at o.0.3) (l.err s o.0.1 o.0.0 w o.0.2))
+  stop_took s w (inr o) = rw o.1 (stop_after (stops_at o.0.3) (l.err s o.0.1 o.0.0 w o.0.2))
 
   -- Once it has the first value, a repeat that answers has read all its pieces.
   later_took : (vs : List T) {s m t : Situation} → IsWholeIn env s → Turns inner false false s vs m
       → TurnOutcome inner false false m (Ok None) t → Took s vs t
-  later_took [] {s} {t} w turns stop =
-      stop_took s w (subst (λ z. TurnOutcome inner false false z (Ok None) t) (sym turns) stop)
+  later_took [] {s} {t} w turns stop = stop_took s w (rw turns stop)
   later_took (v ∷ vs) {s} w turns stop =
       step_took (took_item s turns.0 turns.1.1) (l.ok s turns.0 v w turns.1.0)
       (λ st. later_took vs (none_outside_after w st) turns.2 stop)
@@ -202,8 +200,7 @@ module _ {env : Variables} {T : Type 0} {inner : Outcome T} {k : FieldKind} {q :
   -- no piece has no own list but the empty one
   pub own_nil : {os : List LinePiece} {vs : List T} → os ≡ [] → Own T group os vs → vs ≡ []
   own_nil e own_none = refl
-  own_nil e (own_more {rest = rest} {v = v} g o) =
-      absurd (l.starts v rest (subst (λ z. group z v rest) e g))
+  own_nil e (own_more {rest = rest} {v = v} g o) = absurd (l.starts v rest (rw (← e) g))
 
   -- an own list, with the absent value where there is one
   with_absent : (has : Bool) → gap.has ≡ has → {os : List LinePiece} {v : T} {vs : List T}
@@ -215,9 +212,7 @@ module _ {env : Variables} {T : Type 0} {inner : Outcome T} {k : FieldKind} {q :
   -- the absent value alone
   absent_alone : (s t : Situation) {v : T} {us : List T} → us ≡ [] → gap.has ≡ true
       → front k (pieces q (cells s)) ≡ [] → gap.absent v → OwnList T group gap (own s) (v ∷ us)
-  absent_alone s t {v} {us} e h p ab =
-      subst (λ os. OwnList T group gap os (v ∷ us)) (sym (own_none_left s p))
-      (subst (λ z. OwnList T group gap [] (v ∷ z)) (sym e) (only_absent h ab))
+  absent_alone s t {v} {us} e h p ab = rw (own_none_left s p, e) (only_absent h ab)
 
   -- where the cells are the same the same pieces are taken
   same_own : (s m : Situation) → cells m ≡ cells s → own m ≡ own s
@@ -264,23 +259,20 @@ module _ {env : Variables} {T : Type 0} {inner : Outcome T} {k : FieldKind} {q :
         steady = steady_refl;
         takes = takes_none;
         none = all_left s a.1;
-        list = listed a.0 (subst (λ os. Own T group os []) (sym (own_none_left s a.1)) own_none);
+        list = listed a.0 (rw (own_none_left s a.1) own_none);
       }
 
   -- a first turn that stops read all
   first_stopped : {s t : Situation} → IsWholeIn env s → TurnOutcome inner false true s (Ok None) t
       → RepeatTook s [] t
   first_stopped w (inl o) = absurd (true≢false o.2)
-  first_stopped {s} w (inr o) =
-      subst (λ z. RepeatTook s [] z) (sym o.1)
-      (first_stop s (stops_at o.0.3) (l.err s o.0.1 o.0.0 w o.0.2))
+  first_stopped {s} w (inr o) = rw o.1 (first_stop s (stops_at o.0.3) (l.err s o.0.1 o.0.0 w o.0.2))
 
   -- so did turns from the first one on, until one stops
   turns_took : (first : Bool) (vs : List T) {s m t : Situation} → IsWholeIn env s
       → Turns inner false first s vs m → TurnOutcome inner false (is_nil vs) m (Ok None) t
       → RepeatTook s vs t
-  turns_took first [] {t} w turns stop =
-      first_stopped w (subst (λ z. TurnOutcome inner false true z (Ok None) t) (sym turns) stop)
+  turns_took first [] {t} w turns stop = first_stopped w (rw turns stop)
   turns_took first (v ∷ vs) {s} w turns stop =
       first_step (l.ok s turns.0 v w turns.1.0)
       (λ st. later_took vs (none_outside_after w st) turns.2 stop)
@@ -290,8 +282,7 @@ module _ {env : Variables} {T : Type 0} {inner : Outcome T} {k : FieldKind} {q :
       → RepeatOutcome inner idle s (Ok vs) t → RepeatTook s vs t
   repeat_took false {vs} w o = turns_took true vs w o.steps o.stop
   repeat_took true {vs} w (stops m turns stop) = turns_took false vs w turns stop
-  repeat_took true {s} {t} w (rests v e ran same) =
-      subst (λ z. RepeatTook s z t) (sym e) (first_idle s t w same (l.ok s t v w ran))
+  repeat_took true {s} {t} w (rests v e ran same) = rw e (first_idle s t w same (l.ok s t v w ran))
 
   -- Where the pieces can be read a refusal comes for want of memory alone.
 
@@ -309,8 +300,7 @@ module _ {env : Variables} {T : Type 0} {inner : Outcome T} {k : FieldKind} {q :
   -- what is left after a turn can be read
   on_step : {s m : Situation} {v : T} {ws : List T} → Own T group (own s) ws
       → SingleOk T k q group gap s v m → Steady s m × (us : List T) × Own T group (own m) us
-  on_step {s} {m} {ws} o (gave_absent h p ab same st) =
-      (st, ws, subst (λ os. Own T group os ws) (sym (same_own s m same)) o)
+  on_step {s} {m} {ws} o (gave_absent h p ab same st) = (st, ws, rw (same_own s m same) o)
   on_step {s} {m} o (took h) = let more = by_view (own_view o) in (h.steady, more.0, more.1)
     where
       by_view : {ws : List T} → OwnView (own s) ws → (us : List T) × Own T group (own m) us
@@ -318,7 +308,7 @@ module _ {env : Variables} {T : Type 0} {inner : Outcome T} {k : FieldKind} {q :
       by_view (view_more w rest us e g o) =
           let f = of_group g in
           let d = h.readable w f.0 f.1 in
-          (us, subst (λ os. Own T group os us) (f.2 ∙ sym (ap (front (repeated k)) d.1)) o)
+          (us, rw (← f.2 ∙ sym (ap (front (repeated k)) d.1)) o)
 
   -- where the pieces can be read a refusal is want of memory
   failed_gives : {s t : Situation} {e : Error} {ws : List T} → IsWholeIn env s

@@ -218,8 +218,8 @@ module _ {T : Type 0} (said : Said T) (group : Groups T) (gap : Gap T)
   -- a value of all pieces at once
   whole_says : (os : List LinePiece) (v : T) → SingleValue T group gap os v → said os v
   whole_says os v (inl g) = let there = fronts os [] v g in
-      subst (λ z. said z v) (sym (there.is ∙ append-nil there.part)) there.told
-  whole_says os v (inr e) = subst (λ z. said z v) (sym e.0) (absent v e.1)
+      rw (there.is ∙ append-nil there.part) there.told
+  whole_says os v (inr e) = rw e.0 (absent v e.1)
 
   -- values in turn
   turns_say : (os : List LinePiece) (vs : List T) → Own T group os vs → Own T (FrontSays said) os vs
@@ -393,20 +393,16 @@ alone_says {T} {names} {s} {kind} {said} own_keys h = record { by = by_form s ow
         whole (subst (λ own. Fits own (either q no_roles) whole) (sym (append-nil names)) fits)))))
         (each (mine q os) v (each_own q os) m.0)
     own k q value owned each whole os v fits m same =
-        subst (λ z. said (front k z) v)
-        (sym (others_none (either no_roles no_roles) (λ k. refl) os))
-        (each (front k os) v tt m.0)
+        rw (others_none (either no_roles no_roles) (λ k. refl) os) (each (front k os) v tt m.0)
 
     by_form : (s : ProgramForm T) → FormOwns names s → FormSays names s kind said
         → FieldsFormSays names (program_alone s)
         (λ os words v. said (its_pieces kind names os words) v)
-    by_form (product wide false q fields) law h = λ whole os v fits fit m same.
-        subst (λ j. said (its_pieces j names whole (others q os)) v) (sym h.0)
+    by_form (product wide false q fields) law h = λ whole os v fits fit m same. rw h.0
         (h.1 (keyed names whole ++ others q os) os v (rest_fit q names whole os fits fit) fit m
         (mine_rest q names whole os fits ∙ same) (others_rest q names whole os fits))
-    by_form (complete wide k q value) law h = λ whole os v fits fit m same.
-        subst (λ j. said (its_pieces j names whole (others (either (keys k q) no_roles) os)) v)
-        (sym h.0) (own k q value law h.1 whole os v fits m same)
+    by_form (complete wide k q value) law h =
+        λ whole os v fits fit m same. rw h.0 (own k q value law h.1 whole os v fits m same)
     by_form (commands optional value) law h = absurd h
     by_form (before_commands value) law h = absurd h
     by_form _ law h = tt
@@ -448,9 +444,8 @@ module _ {A B : Type 0} (own : List Names) {behind : List Names} (said : Said A)
   kind_says k each owned may whole os v fits fit m same =
       let none = none_behind own behind owned_behind may in
       let left_to = others_none r none os in (
-        subst (λ z. said (front k z) v.0) (sym left_to) (each (front k os) v.0 tt m.0),
-        subst (λ z. rest_said whole z v.1)
-            (others_none r none (back k os) ∙ ap (back k) (sym left_to))
+        rw left_to (each (front k os) v.0 tt m.0),
+        rw (← others_none r none (back k os) ∙ ap (back k) (sym left_to))
             (rest_each whole (back k os) v.1 (no_fits r own behind may none whole)
             (no_fits r own behind may none (back k os)) m.1
             (mine_none r none whole ∙ sym (mine_none r none (back k os)))),
@@ -473,9 +468,7 @@ both_say {own = own} {behind = behind} {a = complete wide k q first}
         (λ os words v.
         said (its_pieces kind own os words) v.0 × rest_said os (words_after kind words) v.1)
     by_test false may = tt
-    by_test true may = λ whole os v fits fit m same. subst
-        (λ j. said (its_pieces j own whole (others (either (keys k q) r) os)) v.0
-        × rest_said whole (words_after j (others (either (keys k q) r) os)) v.1) (sym h.by.0)
+    by_test true may = λ whole os v fits fit m same. rw h.by.0
         (kind_says own said rest_said q first fields behind_keys.by g.by k h.by.1
         own_keys.by may whole os v fits fit m same)
 both_say {s = before_commands value} own_keys behind_keys h g = absurd g.by
@@ -516,7 +509,7 @@ record_says {T} s {kind} {names} {said} h = by_form s h.by
         → ((os : List LinePiece) (v : T) → AllOwn k q os → value os v → said os v)
         → {os : List LinePiece} (v : T) → (last_reading k q value).value os v → said os v
     all_own ByName q value each {os} v m =
-        subst (λ z. said z v) (all_mine q os m.1) (each (mine q os) v (each_own q os) m.0)
+        rw (← all_mine q os m.1) (each (mine q os) v (each_own q os) m.0)
     all_own k q value each {os} v m =
         subst (λ z. said z v) (all_front k m.1) (each (front k os) v tt m.0)
 

@@ -1,6 +1,6 @@
 -- A surplus occurrence, a surplus word and an occurrence without a value leave a field no value.
 use Rattle.std.proofs.Common.{◌≡◌, ℕ, Bool, not, true, false, List, [], ◌∷◌, Option, Some, None}
-use Rattle.std.proofs.Common.{subst, inl, inr}
+use Rattle.std.proofs.Common.{inl, inr}
 use Rattle.bpaf_exact.specs.Flat.{FieldKind, FieldsReading, HasValue, both_reading, portion, left}
 use Rattle.bpaf_exact.specs.Single.{Groups, Gap, FrontOf, own_none, own_more, OwnList, listed}
 use Rattle.bpaf_exact.specs.Single.{listed_and_absent, only_absent, SingleValue, gap_of}
@@ -158,8 +158,8 @@ module _ (each : List LinePiece → Type 0) (own : List LinePiece → List LineP
   pub surplus_occurrence : {T : Type 0} (field : List LinePiece → T → Type 0) → AtMostOne field
       → IsPartOf each own (HasValue field) → (o p : LinePiece) (more : List LinePiece)
       → own os ≡ o ∷ p ∷ more → ¬ (each os)
-  surplus_occurrence field once is o p more e = part_lacks (HasValue field) is
-      (λ has. once o p more has.0 (subst (λ z. field z has.0) e has.1))
+  surplus_occurrence field once is o p more e =
+      part_lacks (HasValue field) is (λ has. once o p more has.0 (rw (← e) has.1))
 
   -- with a surplus word,
   pub surplus_word : IsPartOf each own (λ z. z ≡ []) → (o : LinePiece) (more : List LinePiece)

@@ -79,11 +79,7 @@ module _ {env : Variables} {T : Type 0} {inner : Outcome T} {k : FieldKind} {q :
       → (Readable z group (pieces q (cells t)) → group (pieces q (cells s)) v (pieces q (cells t)))
       → group (front z (pieces q (cells s))) v []
       × (pieces q (cells t) ≡ back z (pieces q (cells s)))
-  took_read ByName s t {v} u n up = (
-    subst (group (pieces q (cells s)) v) n
-        (up ([], subst (λ os. Own T group os []) (sym n) own_none)),
-    n,
-  )
+  took_read ByName s t {v} u n up = (rw (← n) (up ([], rw n own_none)), n)
   took_read (OneWord b) s t {v} u n up =
       u.by_front (pieces q (cells s)) v (pieces q (cells t)) (up tt)
   took_read (EachWord b) s t u n up = absurd u
@@ -274,7 +270,7 @@ pub own_bad : {T : Type 0} (value : LinePiece → T → Type 0) {os : List LineP
     → HasBad T value os → Own T (FrontOf T value) os vs → ⊥
 own_bad value h own_none = elim h [ ]
 own_bad {T} value h (own_more {rest = rest} {v = v} g o) =
-    by_bad (λ b. own_bad value b o) (subst (HasBad T value) g.1 h)
+    by_bad (λ b. own_bad value b o) (rw (← g.1) h)
   where
     by_bad : (HasBad T value rest → ⊥) → HasBad T value (g.0 ∷ rest) → ⊥
     by_bad i (bad_here n) = n v g.2
@@ -390,9 +386,7 @@ module _ {env : Variables} {A B : Type 0} {inner : Outcome A} {q : Roles}
   no_bad : {s t : Situation} {x : A} (a : AlternativeOk A q value s x t) → f.no x
       → TakesFirst q (cells s) a.piece (cells t) ⊎ HasBad A value (pieces q (cells t))
       → HasBad B (ClosedValue value f) (pieces q (cells s))
-  no_bad a n (inl h) =
-      subst (HasBad B (ClosedValue value f)) (sym (first_pieces q l.named h))
-      (bad_here (refused_value a.means n))
+  no_bad a n (inl h) = rw (first_pieces q l.named h) (bad_here (refused_value a.means n))
   no_bad a n (inr h) = closed_bad (bad_given_back l.named a.takes h)
 
   -- an inner refusal is passed on
@@ -413,7 +407,7 @@ module _ {env : Variables} {A B : Type 0} {inner : Outcome A} {q : Roles}
       let p = first_pieces q l.named (a.readable o os g.from h g.read) in
       let d : a.piece ∷ pieces q (cells t) ≡ o ∷ os = sym p ∙ h in
       let r : o ≡ a.piece = cc in
-      refused_value a.means n v (subst (λ z. ClosedValue value f z v) r g))
+      refused_value a.means n v (rw (← r) g))
   closed_alternative_err s t e w (closed_memory i c) = alternative_memory c
   closed_alternative_err s t e w (closed_err i) = err_closed (l.err s t e w i)
 
