@@ -285,8 +285,7 @@ module _ (argument : KeyWithValue) where
     last_err {s} {t} (NoArgument key metavar) c same o =
         let before = subst (λ b. TakesBefore b argument s t) all o.1 in
         let m = match_of (is_key_with_value argument) t key o.0.0.matches in
-        let b = bare_taken test o.0.0 m o.0.1 in
-        bare_refused s c (took_some s t before.0 before.1) b.is
+        bare_refused s c (took_some s t before.0 before.1) (bare_taken test o.0.0 m o.0.1).is
     last_err other c same o =
         nowhere means (LastGroup T means) variables other c same o.0 o.1 o.2
 

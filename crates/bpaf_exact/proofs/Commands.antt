@@ -362,8 +362,7 @@ module _ {env : Variables} (T : Type 0) (a b : Outcome T) (ra rb : Roles) (wa wb
       absurd (omega arith)
   second_fails s (Err e) (Ok y) w i j hx hy (inr (inl deeper)) h = let k = deeper.1 in absurd cc
   second_fails s {sa} (Err e) (Ok y) w i j hx hy (inr (inr equal)) h =
-      let k = passed s sa e hx (la.none s sa (Err e) w i (first_closed h)) in
-      no_fault k.0 equal.1
+      no_fault (passed s sa e hx (la.none s sa (Err e) w i (first_closed h))).0 equal.1
 
   -- each answer
   choice_answers : (s t : Situation) (r : Result T Error) (u : T) → IsWholeIn env s
@@ -385,9 +384,8 @@ module _ {env : Variables} (T : Type 0) (a b : Outcome T) (ra rb : Roles) (wa wb
   none_chosen s {sa} (Ok x) y w i j hx hy na nb chosen = absurd (la.none s sa (Ok x) w i na)
   none_chosen s {sb} (Err d) (Ok y) w i j hx hy na nb chosen = absurd (lb.none s sb (Ok y) w j nb)
   none_chosen s {sa} {sb} {t} (Err d) (Err e) {g} w i j hx hy na nb chosen =
-      let k = passed s sa d hx (la.none s sa (Err d) w i na) in
       let l = passed s sb e hy (lb.none s sb (Err e) w j nb) in
-      by_depth k l chosen
+      by_depth (passed s sa d hx (la.none s sa (Err d) w i na)) l chosen
     where
       by_depth : Passed s d sa → Passed s e sb
           → Chosen {T = T} s (Err d) sa (Err e) sb (Err g) t → FindsNoCommand {T = T} s (Err g) t

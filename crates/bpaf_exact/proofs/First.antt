@@ -281,9 +281,7 @@ not_left u e h (takes_later t) (first_two x v) (left_later same l) = cc
 not_left u e h (takes_later {c = None} t) (first_later n s) (left_later same l) =
     not_left u e h t s l
 not_left {qa} {qb} {r} u e h (takes_later {c = Some k} {cs = cs} t) (first_later n s)
-    (left_later same l) =
-    let d = not_either cs (swap_union qa qb r u) n h e in
-    not_left u d.1 h t s l
+    (left_later same l) = not_left u (not_either cs (swap_union qa qb r u) n h e).1 h t s l
 not_left u e h (takes_one {k = k} x) (first_one y) l =
     let z = u.apart.left k (ap is_own_role x) in cc
 not_left u e h (takes_one {k = k} x) (first_two y v) l =

@@ -98,8 +98,7 @@ module _ {T : Type 0} {b : Bool} {value : LinePiece → T → Type 0}
       → SingleOk T (OneWord b) word_roles group (gap_of value None) s v t
   word_ok s t v w (word_read takes y) =
       let m = took_word takes in
-      let e = word_pieces m.takes in
-      took (took_front value m.steady m.takes e
+      took (took_front value m.steady m.takes (word_pieces m.takes)
       (y m.word m.text_is) (some_front m.word _ (λ h. clear h (One m.word) v (y m.word m.text_is))))
 
   -- a refusal: there is no word, or the first can't be read

@@ -272,8 +272,7 @@ module _ {env : Variables} (T : Type 0) (inner : Outcome T) (r : Roles) (value :
       let g = answer_behind w at i h in
       (from_behind at g.0, g.1)
   command_answers s t a u w (command_leftover {m = m} at i left) h =
-      let g = answer_behind w at i h in
-      absurd (left (open_present m ∙ count_none g.1))
+      absurd (left (open_present m ∙ count_none (answer_behind w at i h).1))
   command_answers s t a u w (command_refused at i spared) h =
       absurd (spared (answer_behind w at i h))
   command_answers s t a u w (command_missing none e) h = absurd (opens_none s none h.0 h.1)

@@ -307,8 +307,7 @@ module _ {env : Variables} {T : Type 0} {inner : Outcome T} {k : FieldKind} {q :
       by_view (view_none p e) = absurd (h.found (nil_each k _ p))
       by_view (view_more w rest us e g o) =
           let f = of_group g in
-          let d = h.readable w f.0 f.1 in
-          (us, rw (← f.2 ∙ sym (ap (front (repeated k)) d.1)) o)
+          (us, rw (← f.2 ∙ sym (ap (front (repeated k)) (h.readable w f.0 f.1).1)) o)
 
   -- where the pieces can be read a refusal is want of memory
   failed_gives : {s t : Situation} {e : Error} {ws : List T} → IsWholeIn env s
@@ -433,22 +432,15 @@ module _ {env : Variables} {T : Type 0} {inner : Outcome T} {k : FieldKind} {q :
   last_took : (s t : Situation) (v : T) → IsWholeIn env s → LastOutcome inner s (Ok v) t
       → FieldTook T (repeated k) q (LastOf T group gap) s v t
   last_took s t v w (inl o) =
-      let vs = o.0 ++ v ∷ [] in
-      let i = rl.ok s t vs w o.1 in
-      record {
-        steady = i.steady;
-        takes = i.takes;
-        read = λ n. (o.0, i.read n);
-        rest = i.rest;
-      }
+      let i = rl.ok s t (o.0 ++ v ∷ []) w o.1 in
+      record { steady = i.steady; takes = i.takes; read = λ n. (o.0, i.read n); rest = i.rest }
   last_took s t v w (inr o) = absurd (again_ok s t v w o.1 o.2)
 
   -- where the list has a last value it isn't empty
   never_empty : {s m : Situation} {v : T} → IsWholeIn env s → UntilRest inner s [] m
       → LastOf T group gap (front (repeated k) (pieces q (cells s))) v → ⊥
   never_empty {v} w f h =
-      let i = repeat_took true w f in
-      never_nil h.0 v [] (empty_nothing (empty_list refl i.list) h.1)
+      never_nil h.0 v [] (empty_nothing (empty_list refl (repeat_took true w f).list) h.1)
 
   -- so all is taken,
   last_takes : (s t : Situation) (x v : T) → IsWholeIn env s → LastOutcome inner s (Ok x) t

@@ -340,8 +340,7 @@ module _ {env : Variables} {T : Type 0} {outcome : Outcome T} {q : Roles}
           found = takes_nonempty a.takes;
           read = alternative_reads a a.first;
           readable = λ x rest g.
-              let e = first_pieces q l.named (a.readable g.0 rest x g.1 g.2) in
-              front_alone value e a.means g;
+              front_alone value (first_pieces q l.named (a.readable g.0 rest x g.1 g.2)) a.means g;
         });
     err = λ s t e w o. alternative_err (l.err s t e w o);
   }
