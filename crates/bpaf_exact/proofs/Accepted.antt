@@ -46,7 +46,7 @@ module _ (r : Roles) (n : IsNamed r) where
       → {before : Cells} {k : Arg} {after : Cells} {os : List LinePiece} → Item before k after os
       → Item (front ++ before) k after (ps ++ os)
   further front ps c (flag_key e) = flag_key e
-  further front ps c {before = before} {k = k} (argument_key e h) =
+  further front ps c {before} {k} (argument_key e h) =
       argument_key e (has_its_value h.value e h.may_be_one
       h.next (c before h.earlier h.cut_before) h.cut_behind
       (ap (λ z. ps ++ z) h.one_piece ∙ sym (append_assoc ps h.earlier (Two k h.value ∷ h.later))))
@@ -63,7 +63,7 @@ module _ (r : Roles) (n : IsNamed r) where
   item_of : (before : Cells) {k : Arg} {after : Cells} {os : List LinePiece}
       → Cut r (before ++ (Some k ∷ after)) os → Item before k after os
   item_of [] (flag e c) = flag_key e
-  item_of [] (argument {w = w} e v c) = argument_key e (has_its_value w e v refl at_end c refl)
+  item_of [] (argument {w} e v c) = argument_key e (has_its_value w e v refl at_end c refl)
   item_of [] (word h c) = positional h
   item_of (None ∷ b) (passed c) = further (None ∷ []) [] (λ cs ps d. passed d) (item_of b c)
   item_of (Some j ∷ []) (flag e c) =
@@ -112,11 +112,10 @@ module _ (r : Roles) (n : IsNamed r) where
       → AllPass is_word_alone (others r os)
   words_alone at_end = All-nil (λ o. is_word_alone o ≡ true)
   words_alone (passed c) = words_alone c
-  words_alone (flag {k = k} {os = os} e c) =
-      rw (others_own r (One k) os (ap is_own_role e)) (words_alone c)
-  words_alone (argument {k = k} {w = w} {os = os} e v c) =
+  words_alone (flag {k} {os} e c) = rw (others_own r (One k) os (ap is_own_role e)) (words_alone c)
+  words_alone (argument {k} {w} {os} e v c) =
       rw (others_own r (Two k w) os (ap is_own_role e)) (words_alone c)
-  words_alone (word {w = w} {os = os} h c) =
+  words_alone (word {w} {os} h c) =
       rw (others_foreign r os (ap is_own_role (word_foreign n h)))
       (All-cons (λ o. is_word_alone o ≡ true) (One w) (others r os) h (words_alone c))
 

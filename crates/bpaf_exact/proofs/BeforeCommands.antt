@@ -27,11 +27,11 @@ pub one_take : {q : Roles} {cs ds es : Cells} {os ps : List LinePiece} → Takes
 one_take no_cells no_cells = (refl, refl)
 one_take (empty_stays t) (empty_stays u) =
     let i = one_take t u in (i.0, ap (λ z. None ∷ z) i.1)
-one_take (other_stays {k = k} e t) (other_stays f u) =
+one_take (other_stays {k} e t) (other_stays f u) =
     let i = one_take t u in (i.0, ap (λ z. Some k ∷ z) i.1)
-one_take (takes_flag {k = k} e t) (takes_flag f u) =
+one_take (takes_flag {k} e t) (takes_flag f u) =
     let i = one_take t u in (ap (λ z. One k ∷ z) i.0, ap (λ z. None ∷ z) i.1)
-one_take (takes_argument {k = k} {w = w} e v t) (takes_argument f y u) =
+one_take (takes_argument {k} {w} e v t) (takes_argument f y u) =
     let i = one_take t u in (ap (λ z. Two k w ∷ z) i.0, ap (λ z. None ∷ (None ∷ z)) i.1)
 one_take (other_stays e t) (takes_flag f u) = absurd cc
 one_take (other_stays e t) (takes_argument f y u) = absurd cc
@@ -45,11 +45,11 @@ taken_pieces : {q : Roles} {cs ds : Cells} {os : List LinePiece} → IsNamed q �
     → os ≡ pieces q cs
 taken_pieces n no_cells = refl
 taken_pieces n (empty_stays t) = taken_pieces n t
-taken_pieces {q} n (other_stays {k = k} {cs = cs} e t) =
+taken_pieces {q} n (other_stays {k} {cs} e t) =
     taken_pieces n t ∙ sym (begin_at k cs (pieces q cs) e)
-taken_pieces {q} n (takes_flag {k = k} {cs = cs} e t) =
+taken_pieces {q} n (takes_flag {k} {cs} e t) =
     ap (λ z. One k ∷ z) (taken_pieces n t) ∙ sym (begin_at k cs (pieces q cs) e)
-taken_pieces {q} n (takes_argument {k = k} {w = w} {cs = cs} e v t) =
+taken_pieces {q} n (takes_argument {k} {w} {cs} e v t) =
     ap (λ z. Two k w ∷ z) (taken_pieces n t)
     ∙ sym (begin_at k (Some w ∷ cs) (pieces q (Some w ∷ cs)) e
     ∙ ap (λ b. (if b then Two k w else One k) ∷ pieces q (Some w ∷ cs)) v
@@ -65,20 +65,20 @@ take_none {q} (Some k ∷ cs) e =
 -- with one piece more that was taken
 take_more : {q : Roles} {cs ds es : Cells} {o : LinePiece} {os : List LinePiece}
     → TakesPiece q cs o ds → Takes q ds os es → (ps : List LinePiece) × Takes q cs ps es
-take_more (takes_one {k = k} e) (empty_stays {os = os} t) = (One k ∷ os, takes_flag e t)
-take_more (takes_two {k = k} {w = w} e v) (empty_stays (empty_stays {os = os} t)) =
+take_more (takes_one {k} e) (empty_stays {os} t) = (One k ∷ os, takes_flag e t)
+take_more (takes_two {k} {w} e v) (empty_stays (empty_stays {os} t)) =
     (Two k w ∷ os, takes_argument e v t)
 take_more (takes_later t) (empty_stays u) = let i = take_more t u in (i.0, empty_stays i.1)
 take_more (takes_later t) (other_stays e u) = let i = take_more t u in (i.0, other_stays e i.1)
-take_more (takes_later t) (takes_flag {k = k} e u) =
+take_more (takes_later t) (takes_flag {k} e u) =
     let i = take_more t u in (One k ∷ i.0, takes_flag e i.1)
-take_more (takes_later (takes_later t)) (takes_argument {k = k} {w = w} e v u) =
+take_more (takes_later (takes_later t)) (takes_argument {k} {w} e v u) =
     let i = take_more t u in (Two k w ∷ i.0, takes_argument e v i.1)
 
 -- where some were taken, and no own piece is left, all were
 all_taken : {q : Roles} {cs ds : Cells} → TakesPieces q cs ds → pieces q ds ≡ []
     → (os : List LinePiece) × Takes q cs os ds
-all_taken {ds = ds} takes_none e = ([], take_none ds e)
+all_taken {ds} takes_none e = ([], take_none ds e)
 all_taken (takes_more t more) e = take_more t (all_taken more e).1
 
 -- where another field has none of its own on what is left, it has none at all
@@ -86,12 +86,12 @@ foreign_before : {p q : Roles} {cs ds : Cells} {os : List LinePiece} → IsNamed
     → Takes q cs os ds → pieces p ds ≡ [] → pieces p cs ≡ []
 foreign_before n a no_cells e = e
 foreign_before n a (empty_stays t) e = foreign_before n a t e
-foreign_before {p} n a (other_stays {k = k} {cs = cs} {ds = ds} f t) e =
+foreign_before {p} n a (other_stays {k} {cs} {ds} f t) e =
     begin_at k cs (pieces p cs) (nil_foreign (p k) k ds (pieces p ds) e)
     ∙ foreign_before n a t (nil_rest (p k) k ds e)
-foreign_before {p} n a (takes_flag {k = k} {cs = cs} f t) e =
+foreign_before {p} n a (takes_flag {k} {cs} f t) e =
     begin_at k cs (pieces p cs) (a.right k (ap is_own_role f)) ∙ foreign_before n a t e
-foreign_before {p} n a (takes_argument {k = k} {w = w} {cs = cs} f v t) e =
+foreign_before {p} n a (takes_argument {k} {w} {cs} f v t) e =
     begin_at k (Some w ∷ cs) (pieces p (Some w ∷ cs)) (a.right k (ap is_own_role f))
     ∙ begin_at w cs (pieces p cs) (value_foreign n v) ∙ foreign_before n a t e
 
@@ -133,7 +133,7 @@ module _ {env : Variables} {A B : Type 0} {first : Outcome A} {rest : Outcome B}
 
   -- where both have a value, the first has it on all its own pieces
   own_value : {cs : Cells} {u : A × B} → value cs u → fv (pieces q cs) u.0
-  own_value {u} h = rw (← taken_pieces lf.own h.taken) h.own
+  own_value h = rw (← taken_pieces lf.own h.taken) h.own
 
   -- and the others answer one on what the field left, or want of memory
   rest_gives : {s m t : Situation} {x : A} {y : Result B Error} {u : A × B} → IsWholeIn env s

@@ -104,7 +104,7 @@ optional_law env T inner false names words s l =
 -- what a repeat makes of a field, by what is made of its list; with `catch` it is none
 abbrev pub repeated_form : {T B : Type 0} → Bool → Closure (List T) B → ProgramForm T
     → ProgramForm B
-repeated_form {T = T} catch f s =
+repeated_form {T} catch f s =
     program_if (not catch) (program_closed f (completed repeated (OwnList T) s))
 
 -- what answers no more than a closure on the list of a repeat, where it has no `catch`, keeps to

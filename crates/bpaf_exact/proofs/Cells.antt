@@ -71,9 +71,9 @@ no_value_next {k} w cs h = ap (λ b. if b then Two k w else One k) h
 -- taking a piece leaves what a key before it has next to it
 pub same_next : {q : Roles} (k : Arg) {cs ds : Cells} {o : LinePiece} → IsNamed q
     → TakesPiece q cs o ds → with_next k ds ≡ with_next k cs
-same_next k n (takes_one {k = j} {cs = cs} e) =
+same_next k n (takes_one {k = j} {cs} e) =
     sym (no_value_next j cs (own_not_value j n (ap is_own_role e)))
-same_next k n (takes_two {k = j} {w = w} {cs = cs} e v) =
+same_next k n (takes_two {k = j} {w} {cs} e v) =
     sym (no_value_next j (Some w ∷ cs) (own_not_value j n (ap is_own_role e)))
 same_next k n (takes_later {c = None} t) = refl
 same_next k n (takes_later {c = Some j} t) = refl
@@ -81,13 +81,13 @@ same_next k n (takes_later {c = Some j} t) = refl
 -- What one takes of its own leaves the pieces of another as they are.
 pub keeps_other : {q r : Roles} {cs ds : Cells} {o : LinePiece} → IsNamed q → IsNamed r → Apart q r
     → TakesPiece q cs o ds → pieces r ds ≡ pieces r cs
-keeps_other {r} nq nr a (takes_one {k = k} {cs = cs} e) =
+keeps_other {r} nq nr a (takes_one {k} {cs} e) =
     sym (begin_at k cs (pieces r cs) (a.left k (ap is_own_role e)))
-keeps_other {r} nq nr a (takes_two {k = k} {w = w} {cs = cs} e v) =
+keeps_other {r} nq nr a (takes_two {k} {w} {cs} e v) =
     sym (begin_at k (Some w ∷ cs) (pieces r (Some w ∷ cs)) (a.left k (ap is_own_role e))
     ∙ begin_at w cs (pieces r cs) (value_foreign nr v))
 keeps_other nq nr a (takes_later {c = None} t) = keeps_other nq nr a t
-keeps_other {r} nq nr a (takes_later {c = Some k} {cs = cs} {ds = ds} t) =
+keeps_other {r} nq nr a (takes_later {c = Some k} {cs} {ds} t) =
     begin_cong (r k) k cs ds (same_next k nq t) (keeps_other nq nr a t)
 
 -- so do some pieces
@@ -126,12 +126,11 @@ pub pieces_of_cut : {q : Roles} (r : Roles) {cs : Cells} {os : List LinePiece} �
     → Cut (either q r) cs os → pieces q cs ≡ mine q os
 pieces_of_cut r n at_end = refl
 pieces_of_cut r n (passed c) = pieces_of_cut r n c
-pieces_of_cut {q} r n (flag {k = k} {cs = cs} e c) =
-    flag_mine q (q k) (r k) k cs e (pieces_of_cut r n c)
-pieces_of_cut {q} r n (argument {k = k} {w = w} {cs = cs} e v c) =
+pieces_of_cut {q} r n (flag {k} {cs} e c) = flag_mine q (q k) (r k) k cs e (pieces_of_cut r n c)
+pieces_of_cut {q} r n (argument {k} {w} {cs} e v c) =
     argument_mine (q k) (r k) k w cs e v
     (begin_at w cs (pieces q cs) (value_foreign n v) ∙ pieces_of_cut r n c)
-pieces_of_cut {q} r n (word {w = w} {cs = cs} h c) =
+pieces_of_cut {q} r n (word {w} {cs} h c) =
     foreign_mine (q w) w cs (One w) (word_foreign n h) (pieces_of_cut r n c)
 
 -- The other way: a piece given back to its place.
@@ -161,7 +160,7 @@ pub record CutAlike (q r : Roles) (cs : Cells) (os : List LinePiece) : Type 0 wh
 -- with one piece more in front
 cut_more : {q r : Roles} {o : LinePiece} {cs ds : Cells} {os : List LinePiece} → CutAlike q r cs os
     → ((ps : List LinePiece) → Cut r cs ps → Cut r ds (o ∷ ps)) → CutAlike q r ds (o ∷ os)
-cut_more {q} {o = o} i on = record {
+cut_more {q} {o} i on = record {
   now = o ∷ i.now;
   cut = on i.now i.cut;
   alike = ap (λ z. if not (is_own q o) then (o ∷ z) else z) i.alike;
@@ -170,12 +169,12 @@ cut_more {q} {o = o} i on = record {
 -- a piece given back to its place is cut off there again
 pub put_back : {q : Roles} (r : Roles) {cs ds : Cells} {o : LinePiece} {os : List LinePiece}
     → TakesPiece q cs o ds → Cut (either q r) ds os → CutAlike q (either q r) cs os
-put_back {q} r (takes_one {k = k} e) (passed {os = os} c) = record {
+put_back {q} r (takes_one {k} e) (passed {os} c) = record {
   now = One k ∷ os;
   cut = flag (either_own (q k) (r k) Alone e refl) c;
   alike = others_own q (One k) os (ap is_own_role e);
 }
-put_back {q} r (takes_two {k = k} {w = w} e v) (passed (passed {os = os} c)) = record {
+put_back {q} r (takes_two {k} {w} e v) (passed (passed {os} c)) = record {
   now = Two k w ∷ os;
   cut = argument (either_own (q k) (r k) WithNext e refl) v c;
   alike = others_own q (Two k w) os (ap is_own_role e);
@@ -190,7 +189,7 @@ put_back r (takes_later {c = Some k} t) (word h c) = cut_more (put_back r t c) (
 -- so are some pieces
 pub put_back_some : {q : Roles} (r : Roles) {cs ds : Cells} {os : List LinePiece}
     → TakesPieces q cs ds → Cut (either q r) ds os → CutAlike q (either q r) cs os
-put_back_some r {os = os} takes_none c = record { now = os; cut = c; alike = refl }
+put_back_some r {os} takes_none c = record { now = os; cut = c; alike = refl }
 put_back_some r (takes_more t more) c =
     let i = put_back_some r more c in
     let j = put_back r t i.cut in
@@ -206,13 +205,12 @@ either_not {x} y {z} e h g = sym (either_own x y z e h) ∙ g
 -- what is left of a cut when a piece is taken
 pub take_from : {q : Roles} (r : Roles) {cs ds : Cells} {o : LinePiece} {os : List LinePiece}
     → IsNamed q → TakesPiece q cs o ds → Cut (either q r) cs os → CutAlike q (either q r) ds os
-take_from {q} r n (takes_one {k = k} e) (flag {os = os} g c) =
+take_from {q} r n (takes_one {k} e) (flag {os} g c) =
     record { now = os; cut = passed c; alike = sym (others_own q (One k) os (ap is_own_role e)) }
-take_from r n (takes_one {k = k} e) (argument g v c) =
-    let h = either_not (r k) e refl g in absurd cc
+take_from r n (takes_one {k} e) (argument g v c) = let h = either_not (r k) e refl g in absurd cc
 take_from r n (takes_one e) (word h c) = let g = word_foreign n h in absurd cc
-take_from r n (takes_two {k = k} e v) (flag g c) = let h = either_not (r k) e refl g in absurd cc
-take_from {q} r n (takes_two {k = k} {w = w} e v) (argument {os = os} g u c) = record {
+take_from r n (takes_two {k} e v) (flag g c) = let h = either_not (r k) e refl g in absurd cc
+take_from {q} r n (takes_two {k} {w} e v) (argument {os} g u c) = record {
   now = os;
   cut = passed (passed c);
   alike = sym (others_own q (Two k w) os (ap is_own_role e));
@@ -232,7 +230,7 @@ take_from r n (takes_later {c = Some k} t) (word h c) = cut_more (take_from r n 
 -- when some pieces are
 pub take_some_from : {q : Roles} (r : Roles) {cs ds : Cells} {os : List LinePiece} → IsNamed q
     → TakesPieces q cs ds → Cut (either q r) cs os → CutAlike q (either q r) ds os
-take_some_from r {os = os} n takes_none c = record { now = os; cut = c; alike = refl }
+take_some_from r {os} n takes_none c = record { now = os; cut = c; alike = refl }
 take_some_from r n (takes_more t more) c =
     let j = take_from r n t c in
     let i = take_some_from r n more j.cut in

@@ -66,7 +66,7 @@ cells_same {m} {n} st f =
 -- two lists of cells of which the first took the first item
 left_head : {c d : Option Arg} {x : Arg} (cs ds : Cells) → c ≡ None → d ≡ Some x
     → TookLeft (c ∷ cs) (d ∷ ds)
-left_head {d} cs ds e f = rw (e, f) left_here
+left_head cs ds e f = rw (e, f) left_here
 
 -- the leftmost place at which two differ
 left_cells : {at : ℕ → Option Arg} (other : ℕ → Option Arg) (n p : ℕ) {x : Arg} → p < n
@@ -165,7 +165,7 @@ module _ (T : Type 0) (qa qb r : Roles) (u : Union qa qb r) (va vb vr : LinePiec
   -- a piece of the other branch that can't be read stays one
   kept_bad : {cs cm : Cells} {oa : LinePiece} → TakesPiece qa cs oa cm → HasBad T vb (pieces qb cs)
       → HasBad T vr (pieces r cm)
-  kept_bad {cm = cm} t h =
+  kept_bad {cm} t h =
       bad_left T vb vr qb qa r (swap_union qa qb r u) same_b cm
       (rw (keeps_other u.named_left u.named_right u.apart t) h)
 
@@ -173,7 +173,7 @@ module _ (T : Type 0) (qa qb r : Roles) (u : Union qa qb r) (va vb vr : LinePiec
   won_first : {cs cm : Cells} {oa : LinePiece} → TakesPiece qa cs oa cm → Other T qb vb cs cm
       → TakesFirst qa cs oa cm ⊎ HasBad T va (pieces qa cm)
       → TakesFirst r cs oa cm ⊎ HasBad T vr (pieces r cm)
-  won_first {cm = cm} t o (inr h) = inr (bad_left T va vr qa qb r u same_a cm h)
+  won_first {cm} t o (inr h) = inr (bad_left T va vr qa qb r u same_a cm h)
   won_first t (other_took tb l (inl f) rb) (inl h) = inl (first_both u h f l)
   won_first t (other_took tb l (inr f) rb) (inl h) =
       inr (kept_bad t (bad_given_back u.named_right tb f))
@@ -185,7 +185,7 @@ module _ (T : Type 0) (qa qb r : Roles) (u : Union qa qb r) (va vb vr : LinePiec
       → ((o : LinePiece) (os : List LinePiece) (w : T) → pieces qa cs ≡ o ∷ os → va o w → TakesFirst
       qa cs oa cm) → (o : LinePiece) {os : List LinePiece} (w : T) → pieces r cs ≡ o ∷ os → vr o w
       → TakesFirst r cs oa cm
-  won_readable {cs = cs} {cm = cm} {oa = oa} t other ra o w e v = by_owner (owner cs u e) other
+  won_readable {cs} {cm} {oa} t other ra o w e v = by_owner (owner cs u e) other
     where
       by_owner : HeadOf qa cs o ⊎ HeadOf qb cs o → Other T qb vb cs cm → TakesFirst r cs oa cm
       by_owner (inl h) x = first_mine u e h.2 (ra o h.0 w h.1 (rw (← same_a o w h.2) v))
@@ -295,7 +295,7 @@ module _ {env : Variables} (T : Type 0) (a b : Outcome T) (qa qb : Roles)
       → AlternativeOk T (either qa qb) vr s v t
   winner_ok s t v (first, None) w i j win k =
       absurd (never_same u i.takes j.takes (cells_same (steady_both i.steady j.steady) win.0))
-  winner_ok s {sa} {sb} t {x} v (true, Some p) w i j win k =
+  winner_ok s {sb} t {x} v (true, Some p) w i j win k =
       let d : x ≡ v = cc in
       let free = differ (is_taken sb p) win.0.differs win.1 in
       rw (← d) (first_won i
@@ -313,7 +313,7 @@ module _ {env : Variables} (T : Type 0) (a b : Outcome T) (qa qb : Roles)
   alone_ok : {s m t : Situation} {x v : T} {e : Error} → AlternativeOk T (either qa qb) vr s x m
       → OneOk s (branch_of x m) e (Ok v) t → AlternativeOk T (either qa qb) vr s v t
   alone_ok i (inl o) = let h = o.1 in absurd cc
-  alone_ok {s} {m} {x} {v} i (inr o) =
+  alone_ok {x} {v} i (inr o) =
       let given = o.1.0 in
       let d : x ≡ v = cc in
       rw (o.1.1, ← d) i
@@ -362,7 +362,7 @@ module _ {env : Variables} (T : Type 0) (a b : Outcome T) (qa qb : Roles)
   -- where neither has a piece, the choice has none
   both_missing : {s : Situation} {g : Error} → (class g ≡ OfMissing) ⊎ (class g ≡ OfMemory)
       → pieces (either qa qb) (cells s) ≡ [] → AlternativeErr T (either qa qb) vr s g s
-  both_missing {s} (inl c) h = alternative_missing c h refl steady_refl
+  both_missing (inl c) h = alternative_missing c h refl steady_refl
   both_missing (inr c) h = alternative_memory c
 
   -- both branches refused

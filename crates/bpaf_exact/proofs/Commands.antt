@@ -44,23 +44,23 @@ module _ {A B : Type 0} (inner : Outcome A) (r : Roles) {value : CellsValue A} {
     where
       closed_deep : (s t : Situation) (v : B) → IsWholeIn env s
           → ClosedEval A B inner f c s (Ok v) t → depth s ≤ depth t
-      closed_deep s t v w (closed_yes {x = x} i y) = l.deep s t x w i
+      closed_deep s t v w (closed_yes {x} i y) = l.deep s t x w i
 
       closed_ok : (s t : Situation) (v : B) → IsWholeIn env s → IsSpelledLine s.context
           → ClosedEval A B inner f c s (Ok v) t → NonePresent (cells t) → closed (cells s) v
-      closed_ok s t v w spelled (closed_yes {x = x} i y) n =
+      closed_ok s t v w spelled (closed_yes {x} i y) n =
           record { from = x; read = l.ok s t x w spelled i n; made = y }
 
       closed_answers : (s t : Situation) (a : Result B Error) (u : B) → IsWholeIn env s
           → ClosedEval A B inner f c s a t → closed (cells s) u → GivesAll (closed (cells s)) a t
-      closed_answers s t a u w (closed_yes {x = x} i y) h =
+      closed_answers s t a u w (closed_yes {x} i y) h =
           let g = l.answers s t (Ok x) h.from w i h.read in
           (record { from = x; read = g.0; made = y }, g.1)
-      closed_answers s t a u w (closed_no {x = x} i refuses e) h =
+      closed_answers s t a u w (closed_no {x} i refuses e) h =
           let g = l.answers s t (Ok x) h.from w i h.read in
           absurd (agrees (cells s) h.from x u h.read g.0 h.made refuses)
       closed_answers s t a u w (closed_memory i e) h = e
-      closed_answers s t a u w (closed_err {e = e} i) h = l.answers s t (Err e) h.from w i h.read
+      closed_answers s t a u w (closed_err {e} i) h = l.answers s t (Err e) h.from w i h.read
 
   -- round commands
   pub closed_commands : {env : Variables} {words : List (List ℕ)}
@@ -74,10 +74,10 @@ module _ {A B : Type 0} (inner : Outcome A) (r : Roles) {value : CellsValue A} {
     where
       closed_none : (s t : Situation) (a : Result B Error) → IsWholeIn env s
           → ClosedEval A B inner f c s a t → OpensNone words (cells s) → FindsNoCommand s a t
-      closed_none s t a w (closed_yes {x = x} i y) n = absurd (l.none s t (Ok x) w i n)
-      closed_none s t a w (closed_no {x = x} i refuses e) n = absurd (l.none s t (Ok x) w i n)
+      closed_none s t a w (closed_yes {x} i y) n = absurd (l.none s t (Ok x) w i n)
+      closed_none s t a w (closed_no {x} i refuses e) n = absurd (l.none s t (Ok x) w i n)
       closed_none s t a w (closed_memory e g) n = inl g
-      closed_none s t a w (closed_err {e = e} i) n = l.none s t (Err e) w i n
+      closed_none s t a w (closed_err {e} i) n = l.none s t (Err e) w i n
 
 -- Commands that may be left out.
 
@@ -119,10 +119,10 @@ module _ {env : Variables} {T : Type 0} {inner : Outcome T} {r : Roles} {words :
   some_answers : (s : Situation) {t : Situation} {a : Result (Option T) Error} (x : T)
       → IsWholeIn env s → OptionalEval T inner s a t → value (cells s) x
       → GivesAll (optional (cells s)) a t
-  some_answers s {t} x w (optional_some {v = v} i) h = l.program.answers s t (Ok v) x w i h
-  some_answers s x w (optional_none {e = e} {m = m} i stops) h =
+  some_answers s {t} x w (optional_some {v} i) h = l.program.answers s t (Ok v) x w i h
+  some_answers s x w (optional_none {e} {m} i stops) h =
       absurd (memory_goes_on (l.program.answers s m (Err e) x w i h) stops)
-  some_answers s {t} x w (optional_err {e = e} i goes) h = l.program.answers s t (Err e) x w i h
+  some_answers s {t} x w (optional_err {e} i goes) h = l.program.answers s t (Err e) x w i h
   some_answers s x w (optional_memory e) h = e
 
   -- where none is found nothing stops but want of memory
@@ -136,9 +136,9 @@ module _ {env : Variables} {T : Type 0} {inner : Outcome T} {r : Roles} {words :
   -- where nothing is present it is None
   none_answers : {s t : Situation} {a : Result (Option T) Error} → IsWholeIn env s
       → OptionalEval T inner s a t → NonePresent (cells s) → GivesAll (optional (cells s)) a t
-  none_answers {s} {t} w (optional_some {v = v} i) n = absurd (l.none s t (Ok v) w i (none_opens n))
+  none_answers {s} {t} w (optional_some {v} i) n = absurd (l.none s t (Ok v) w i (none_opens n))
   none_answers w (optional_none i stops) n = (n, n)
-  none_answers {s} {t} w (optional_err {e = e} i goes) n =
+  none_answers {s} {t} w (optional_err {e} i goes) n =
       none_stops (l.none s t (Err e) w i (none_opens n)) goes
   none_answers w (optional_memory e) n = e
 
@@ -168,7 +168,7 @@ module _ {env : Variables} {T : Type 0} {inner : Outcome T} {r : Roles} {words :
 -- what one of some words opens, one of more words does
 pub opens_left : (words others : List (List ℕ)) {cs ds : Cells} → Opens words cs ds
     → Opens (words ++ others) cs ds
-opens_left words others (opens_here {k = k} h) =
+opens_left words others (opens_here {k} h) =
     opens_here (list_any-append (λ word. is_command_word word k) words others
     ∙ ap (λ b. b || is_one_of others k) h)
 opens_left words others (opens_later o) = opens_later (opens_left words others o)
@@ -176,7 +176,7 @@ opens_left words others (opens_later o) = opens_later (opens_left words others o
 -- or one of the others
 pub opens_right : (words others : List (List ℕ)) {cs ds : Cells} → Opens others cs ds
     → Opens (words ++ others) cs ds
-opens_right words others (opens_here {k = k} h) =
+opens_right words others (opens_here {k} h) =
     opens_here (list_any-append (λ word. is_command_word word k) words others
     ∙ by_test (is_one_of words k) h)
   where
@@ -188,7 +188,7 @@ opens_right words others (opens_later o) = opens_later (opens_right words others
 -- words that are apart don't open the same cells
 pub opens_apart : (words others : List (List ℕ)) → WordsApart words others → {cs ds es : Cells}
     → Opens words cs ds → Opens others cs es → ⊥
-opens_apart words others a (opens_here {k = k} h) (opens_here i) = true≢false (sym i ∙ a k h)
+opens_apart words others a (opens_here {k} h) (opens_here i) = true≢false (sym i ∙ a k h)
 opens_apart words others a (opens_later o) (opens_later p) = opens_apart words others a o p
 
 -- a missing item is no wrong input
@@ -237,7 +237,7 @@ module _ {env : Variables} (T : Type 0) (a b : Outcome T) (ra rb : Roles) (wa wb
       let given = k.0 in
       let d : x ≡ v = cc in
       of_first (rw (← d) f) (alike_saved sb k.1)
-  of_winner s sa {sb} x {y} v (false, Some p) f g k =
+  of_winner s sa x {y} v (false, Some p) f g k =
       let given = k.0 in
       let d : y ≡ v = cc in
       of_second (rw (← d) g) (alike_saved sa k.1)
@@ -245,18 +245,18 @@ module _ {env : Variables} (T : Type 0) (a b : Outcome T) (ra rb : Roles) (wa wb
   -- where both are equally deep
   of_equal : (s : Situation) {sa sb t : Situation} (x y : Result T Error) (v : T) → a s x sa
       → b s y sb → EqualDepths s x sa y sb (Ok v) t → BranchOk s v t
-  of_equal s {sa} (Ok x) (Ok y) v f g (inl o) =
+  of_equal s (Ok x) (Ok y) v f g (inl o) =
       let given = o.1.0 in
       let d : x ≡ v = cc in
       of_first (rw (← d) f) (alike_same o.1.1)
   of_equal s {sa} (Ok x) (Ok y) v f g (inr o) = of_winner s sa x v o.1.0 f g o.1.2
   of_equal s (Ok x) (Err e) v f g (inl o) = let i = o.1 in absurd cc
-  of_equal s {sa} (Ok x) (Err e) v f g (inr o) =
+  of_equal s (Ok x) (Err e) v f g (inr o) =
       let given = o.1.0 in
       let d : x ≡ v = cc in
       of_first (rw (← d) f) (alike_same o.1.1)
   of_equal s (Err e) (Ok y) v f g (inl o) = let i = o.1 in absurd cc
-  of_equal s {sb} (Err e) (Ok y) v f g (inr o) =
+  of_equal s (Err e) (Ok y) v f g (inr o) =
       let given = o.1.0 in
       let d : y ≡ v = cc in
       of_second (rw (← d) g) (alike_same o.1.1)
@@ -275,8 +275,8 @@ module _ {env : Variables} (T : Type 0) (a b : Outcome T) (ra rb : Roles) (wa wb
   choice_deep s t v w o = by_branch (branch_ok o)
     where
       by_branch : BranchOk s v t → depth s ≤ depth t
-      by_branch (of_first {m = m} i e) = rw e.depth_alike (la.program.deep s m v w i)
-      by_branch (of_second {m = m} i e) = rw e.depth_alike (lb.program.deep s m v w i)
+      by_branch (of_first {m} i e) = rw e.depth_alike (la.program.deep s m v w i)
+      by_branch (of_second {m} i e) = rw e.depth_alike (lb.program.deep s m v w i)
 
   -- a value of the choice is one of the branch that was opened
   choice_ok : (s t : Situation) (v : T) → IsWholeIn env s → IsSpelledLine s.context
@@ -284,10 +284,8 @@ module _ {env : Variables} (T : Type 0) (a b : Outcome T) (ra rb : Roles) (wa wb
   choice_ok s t v w spelled o n = by_branch (branch_ok o)
     where
       by_branch : BranchOk s v t → value (cells s) v
-      by_branch (of_first {m = m} i e) =
-          inl (la.program.ok s m v w spelled i (rw (← e.cells_alike) n))
-      by_branch (of_second {m = m} i e) =
-          inr (lb.program.ok s m v w spelled i (rw (← e.cells_alike) n))
+      by_branch (of_first {m} i e) = inl (la.program.ok s m v w spelled i (rw (← e.cells_alike) n))
+      by_branch (of_second {m} i e) = inr (lb.program.ok s m v w spelled i (rw (← e.cells_alike) n))
 
   -- what opens the first doesn't open the second
   second_closed : {cs : Cells} {u : T} → va cs u → OpensNone wb cs
@@ -300,14 +298,12 @@ module _ {env : Variables} (T : Type 0) (a b : Outcome T) (ra rb : Roles) (wa wb
   -- where either has a value each value of the choice is one of its
   choice_gives : (s : Situation) {t : Situation} (v : T) {u : T} → IsWholeIn env s → BranchOk s v t
       → value (cells s) u → GivesAll (value (cells s)) (Ok v) t
-  choice_gives s v {u} w (of_first {m = m} i e) (inl h) =
+  choice_gives s v {u} w (of_first {m} i e) (inl h) =
       let g = la.program.answers s m (Ok v) u w i h in
       (inl g.0, rw e.cells_alike g.1)
-  choice_gives s v w (of_second {m = m} i e) (inl h) =
-      absurd (lb.none s m (Ok v) w i (second_closed h))
-  choice_gives s v w (of_first {m = m} i e) (inr h) =
-      absurd (la.none s m (Ok v) w i (first_closed h))
-  choice_gives s v {u} w (of_second {m = m} i e) (inr h) =
+  choice_gives s v w (of_second {m} i e) (inl h) = absurd (lb.none s m (Ok v) w i (second_closed h))
+  choice_gives s v w (of_first {m} i e) (inr h) = absurd (la.none s m (Ok v) w i (first_closed h))
+  choice_gives s v {u} w (of_second {m} i e) (inr h) =
       let g = lb.program.answers s m (Ok v) u w i h in
       (inr g.0, rw e.cells_alike g.1)
 
@@ -413,9 +409,8 @@ module _ {env : Variables} (T : Type 0) (a b : Outcome T) (ra rb : Roles) (wa wb
   choice_none s t (Ok v) w o n = by_branch (branch_ok o)
     where
       by_branch : BranchOk s v t → ⊥
-      by_branch (of_first {m = m} i e) = la.none s m (Ok v) w i (λ ds p. n ds (opens_left wa wb p))
-      by_branch (of_second {m = m} i e) =
-          lb.none s m (Ok v) w i (λ ds p. n ds (opens_right wa wb p))
+      by_branch (of_first {m} i e) = la.none s m (Ok v) w i (λ ds p. n ds (opens_left wa wb p))
+      by_branch (of_second {m} i e) = lb.none s m (Ok v) w i (λ ds p. n ds (opens_right wa wb p))
   choice_none s t (Err e) w (inr o) n = inl (memory_class e.0 o.0)
   choice_none s t (Err e) w (inl o) n =
       none_chosen s o.a o.b w o.first_ran o.second_ran o.first_spared o.second_spared
@@ -438,11 +433,9 @@ module _ {env : Variables} (T : Type 0) (a b : Outcome T) (ra rb : Roles) (wa wb
     where
       by_others : (q : Roles) {cs : Cells} {v : T} → ((u : T) → va cs u → pieces q cs ≡ [])
           → ((u : T) → vb cs u → pieces q cs ≡ []) → value cs v → pieces q cs ≡ []
-      by_others q {v = v} f g (inl h) = f v h
-      by_others q {v = v} f g (inr h) = g v h
+      by_others q {v} f g (inl h) = f v h
+      by_others q {v} f g (inr h) = g v h
 
       by_opened : {cs : Cells} {v : T} → value cs v → (ds : Cells) × Opens (wa ++ wb) cs ds
-      by_opened {cs = cs} {v = v} (inl h) =
-          let o = la.opened cs v h in (o.0, opens_left wa wb o.1)
-      by_opened {cs = cs} {v = v} (inr h) =
-          let o = lb.opened cs v h in (o.0, opens_right wa wb o.1)
+      by_opened {cs} {v} (inl h) = let o = la.opened cs v h in (o.0, opens_left wa wb o.1)
+      by_opened {cs} {v} (inr h) = let o = lb.opened cs v h in (o.0, opens_right wa wb o.1)

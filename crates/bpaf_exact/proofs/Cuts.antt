@@ -16,15 +16,15 @@ pub one_cut : {r : Roles} {cs : Cells} {os ps : List LinePiece} → IsNamed r �
     → Cut r cs ps → os ≡ ps
 one_cut n at_end at_end = refl
 one_cut n (passed c) (passed d) = one_cut n c d
-one_cut n (flag {k = k} e c) (flag f d) = ap (λ z. One k ∷ z) (one_cut n c d)
+one_cut n (flag {k} e c) (flag f d) = ap (λ z. One k ∷ z) (one_cut n c d)
 one_cut n (flag e c) (argument f v d) = cc
 one_cut n (flag e c) (word h d) = let f = word_foreign n h in cc
 one_cut n (argument e v c) (flag f d) = cc
-one_cut n (argument {k = k} {w = w} e v c) (argument f u d) = ap (λ z. Two k w ∷ z) (one_cut n c d)
+one_cut n (argument {k} {w} e v c) (argument f u d) = ap (λ z. Two k w ∷ z) (one_cut n c d)
 one_cut n (argument e v c) (word h d) = let f = word_foreign n h in cc
 one_cut n (word h c) (flag e d) = let f = word_foreign n h in cc
 one_cut n (word h c) (argument e v d) = let f = word_foreign n h in cc
-one_cut n (word {w = w} h c) (word g d) = ap (λ z. One w ∷ z) (one_cut n c d)
+one_cut n (word {w} h c) (word g d) = ap (λ z. One w ∷ z) (one_cut n c d)
 
 -- where nothing is left, the pieces taken are those of a cut
 cut_of : {r : Roles} {cs ds : Cells} {os : List LinePiece} → Takes (either r word_roles) cs os ds
@@ -32,7 +32,7 @@ cut_of : {r : Roles} {cs ds : Cells} {os : List LinePiece} → Takes (either r w
 cut_of no_cells no_place = at_end
 cut_of (empty_stays t) (none_here n) = passed (cut_of t n)
 cut_of (other_stays e t) none = elim none [ ]
-cut_of {r} (takes_flag {k = k} {cs = cs} {os = os} e t) (none_here n) =
+cut_of {r} (takes_flag {k} {cs} {os} e t) (none_here n) =
     by_role (r k) (is_positional k) refl refl e (cut_of t n)
   where
     by_role : (x : Role) (b : Bool) → r k ≡ x → is_positional k ≡ b
@@ -41,7 +41,7 @@ cut_of {r} (takes_flag {k = k} {cs = cs} {os = os} e t) (none_here n) =
     by_role Foreign true f h e c = word h c
     by_role Alone b f h e c = flag f c
     by_role _ _ f h e c = absurd cc
-cut_of {r} (takes_argument {k = k} e v t) (none_here (none_here n)) =
+cut_of {r} (takes_argument {k} e v t) (none_here (none_here n)) =
     argument (by_role (r k) (is_positional k) e) v (cut_of t n)
   where
     by_role : (x : Role) (b : Bool)
@@ -61,19 +61,19 @@ taken_of : {r : Roles} → IsNamed r → {cs : Cells} {os : List LinePiece} → 
     → (ds : Cells) × Takes (either r word_roles) cs os ds × NonePresent ds
 taken_of n at_end = ([], no_cells, no_place)
 taken_of n (passed c) = let i = taken_of n c in (None ∷ i.0, empty_stays i.1, none_here i.2)
-taken_of n (flag {k = k} e c) =
+taken_of n (flag {k} e c) =
     let i = taken_of n c in (
       None ∷ i.0,
       takes_flag (ap (λ x. if is_own_role x then x else word_roles k) e) i.1,
       none_here i.2,
     )
-taken_of n (argument {k = k} e v c) =
+taken_of n (argument {k} e v c) =
     let i = taken_of n c in (
       None ∷ (None ∷ i.0),
       takes_argument (ap (λ x. if is_own_role x then x else word_roles k) e) v i.1,
       none_here (none_here i.2),
     )
-taken_of n (word {w = w} h c) =
+taken_of n (word {w} h c) =
     let i = taken_of n c in (
       None ∷ i.0,
       takes_flag (ap (λ x. if is_own_role x then x else word_roles w) (word_foreign n h)
@@ -84,7 +84,7 @@ taken_of n (word {w = w} h c) =
 -- what is meant by the pieces of a cut is read off
 pub read_off : {V : Type 0} {r : Roles} (value : List LinePiece → V → Type 0) {cs : Cells}
     {os : List LinePiece} {v : V} → IsNamed r → Cut r cs os → value os v → ReadOff V r value cs v
-read_off value {os = os} n c read = let i = taken_of n c in record {
+read_off value {os} n c read = let i = taken_of n c in record {
   cut_into = os;
   left_cells = i.0;
   cut = i.1;
@@ -116,7 +116,7 @@ pub record WordCut (r : Roles) (cs : Cells) : Type 0 where
 -- a word given back to its place
 pub put_word_back : {q r : Roles} {cs ds : Cells} {o : LinePiece} {os : List LinePiece} → IsWords q
     → NoKeys r → TakesPiece q cs o ds → Cut r ds os → WordCut r cs
-put_word_back n f (takes_one {k = k} e) (passed {os = os} c) =
+put_word_back n f (takes_one {k} e) (passed {os} c) =
     record { words = One k ∷ os; cut = word (word_of k n e) c }
 put_word_back n f (takes_two e v) c = absurd (never_two n e)
 put_word_back n f (takes_later {c = None} t) (passed c) = let i = put_word_back n f t c in
@@ -130,7 +130,7 @@ put_word_back n f (takes_later {c = Some k} t) (word h c) = let i = put_word_bac
 pub take_word_from : {q r : Roles} {cs ds : Cells} {o : LinePiece} {os : List LinePiece} → IsWords q
     → NoKeys r → TakesPiece q cs o ds → Cut r cs os → WordCut r ds
 take_word_from n f (takes_one e) (flag g c) = record { words = _; cut = passed c }
-take_word_from n f (takes_one {k = k} e) (argument g v c) = let h = f k in absurd cc
+take_word_from n f (takes_one {k} e) (argument g v c) = let h = f k in absurd cc
 take_word_from n f (takes_one e) (word h c) = record { words = _; cut = passed c }
 take_word_from n f (takes_two e v) c = absurd (never_two n e)
 take_word_from n f (takes_later {c = None} t) (passed c) = let i = take_word_from n f t c in
@@ -157,9 +157,9 @@ pub words_of_cut : {q r : Roles} {cs : Cells} {os : List LinePiece} → IsWords 
     → Cut r cs os → pieces q cs ≡ os
 words_of_cut n f at_end = refl
 words_of_cut n f (passed c) = words_of_cut n f c
-words_of_cut n f (flag {k = k} e c) = let g = f k in cc
-words_of_cut n f (argument {k = k} e v c) = let g = f k in cc
-words_of_cut {q} n f (word {w = w} {cs = cs} h c) =
+words_of_cut n f (flag {k} e c) = let g = f k in cc
+words_of_cut n f (argument {k} e v c) = let g = f k in cc
+words_of_cut {q} n f (word {w} {cs} h c) =
     begin_at w cs (pieces q cs) (n.words w ∙ ap (λ b. if b then Alone else Foreign) h) ∙ ap
     (λ z. One w ∷ z) (words_of_cut n f c)
 

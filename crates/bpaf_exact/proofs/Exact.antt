@@ -53,7 +53,7 @@ module _ {V : Type 0} {outcome : Outcome V} {context : Context} (value : CellsVa
       (cells t)
       → value (cells (beginning context)) v) → {a : RunAnswer V} → RunRan V outcome
       (beginning context) a → (v : V) → a ≡ Accepted v → value (line_cells context) v
-  run_sound ok (run_value {v = x} {t = t} o e) v h =
+  run_sound ok (run_value {v = x} {t} o e) v h =
       let d : x ≡ v = cc in
       rw (← first_cells_are context, ← d)
       (ok t x o (none_counted (cells t) (sym (open_present t) ∙ e)))
@@ -65,12 +65,11 @@ module _ {V : Type 0} {outcome : Outcome V} {context : Context} (value : CellsVa
   pub run_complete : ((t : Situation) (a : Result V Error) → outcome (beginning context) a t
       → GivesAll (value (cells (beginning context))) a t) → {a : RunAnswer V} → RunRan V outcome
       (beginning context) a → IsAcceptedOrWant (value (line_cells context)) a
-  run_complete all (run_value {v = x} {t = t} o e) =
-      rw (← first_cells_are context) (all t (Ok x) o).0
-  run_complete all (run_leftover {v = x} {t = t} o e n) =
+  run_complete all (run_value {v = x} {t} o e) = rw (← first_cells_are context) (all t (Ok x) o).0
+  run_complete all (run_leftover {v = x} {t} o e n) =
       absurd (e (open_present t ∙ count_none (all t (Ok x) o).1))
   run_complete all (run_memory o e) = tt
-  run_complete all (run_refusal {e = x} {t = t} o e n) = absurd (e (all t (Err x) o))
+  run_complete all (run_refusal {e = x} {t} o e n) = absurd (e (all t (Err x) o))
 
 module _ {V : Type 0} {outcome : Outcome V} {r : Roles} {reading : FieldsReading V}
     (context : Context) (l : FieldsLaw context.env V outcome r reading) where

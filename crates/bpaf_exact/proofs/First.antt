@@ -31,10 +31,10 @@ pair_pieces {q} {k} {w} cs n e v =
 -- The first piece heads the list.
 pub first_pieces : (q : Roles) {cs ds : Cells} {o : LinePiece} → IsNamed q → TakesFirst q cs o ds
     → pieces q cs ≡ o ∷ pieces q ds
-first_pieces q n (first_one {k = k} {cs = cs} e) = begin_at k cs (pieces q cs) e
-first_pieces q n (first_two {cs = cs} e v) = pair_pieces cs n e v
+first_pieces q n (first_one {k} {cs} e) = begin_at k cs (pieces q cs) e
+first_pieces q n (first_two {cs} e v) = pair_pieces cs n e v
 first_pieces q n (first_later {c = None} h t) = first_pieces q n t
-first_pieces q n (first_later {c = Some k} {cs = cs} {ds = ds} h t) =
+first_pieces q n (first_later {c = Some k} {cs} {ds} h t) =
     let a = begin_at k cs (pieces q cs) h in
     let b = begin_at k ds (pieces q ds) h in
     let i = first_pieces q n t in
@@ -43,13 +43,11 @@ first_pieces q n (first_later {c = Some k} {cs = cs} {ds = ds} h t) =
 -- what was taken was there
 pub takes_nonempty : {q : Roles} {cs ds : Cells} {o : LinePiece} → TakesPiece q cs o ds
     → pieces q cs ≡ [] → ⊥
-takes_nonempty {q} (takes_one {k = k} {cs = cs} e) h =
-    let f = nil_foreign (q k) k cs (pieces q cs) h in cc
-takes_nonempty {q} (takes_two {k = k} {w = w} {cs = cs} e v) h =
+takes_nonempty {q} (takes_one {k} {cs} e) h = let f = nil_foreign (q k) k cs (pieces q cs) h in cc
+takes_nonempty {q} (takes_two {k} {w} {cs} e v) h =
     let f = nil_foreign (q k) k (Some w ∷ cs) (pieces q (Some w ∷ cs)) h in cc
 takes_nonempty (takes_later {c = None} t) h = takes_nonempty t h
-takes_nonempty {q} (takes_later {c = Some k} {cs = cs} t) h =
-    takes_nonempty t (nil_rest (q k) k cs h)
+takes_nonempty {q} (takes_later {c = Some k} {cs} t) h = takes_nonempty t (nil_rest (q k) k cs h)
 
 -- A piece that can't be read stays one when others are given back.
 
@@ -75,11 +73,10 @@ module _ {T : Type 0} {value : LinePiece → T → Type 0} where
   -- A piece that can't be read stays one when others are given back.
   pub bad_given_back : {q : Roles} {cs ds : Cells} {o : LinePiece} → IsNamed q
       → TakesPiece q cs o ds → HasBad T value (pieces q ds) → HasBad T value (pieces q cs)
-  bad_given_back {q} n (takes_one {k = k} {cs = cs} e) h =
-      rw (begin_at k cs (pieces q cs) e) (bad_later h)
-  bad_given_back n (takes_two {cs = cs} e v) h = rw (pair_pieces cs n e v) (bad_later h)
+  bad_given_back {q} n (takes_one {k} {cs} e) h = rw (begin_at k cs (pieces q cs) e) (bad_later h)
+  bad_given_back n (takes_two {cs} e v) h = rw (pair_pieces cs n e v) (bad_later h)
   bad_given_back n (takes_later {c = None} t) h = bad_given_back n t h
-  bad_given_back {q} n (takes_later {c = Some k} {cs = cs} {ds = ds} t) h =
+  bad_given_back {q} n (takes_later {c = Some k} {cs} {ds} t) h =
       bad_begin (q k) k cs ds (same_next k n t) (bad_given_back n t) h
 
 -- the items of two fields together
@@ -183,7 +180,7 @@ pub owner : {qa qb r : Roles} (cs : Cells) {o : LinePiece} {os : List LinePiece}
     → pieces r cs ≡ o ∷ os → HeadOf qa cs o ⊎ HeadOf qb cs o
 owner [] u e = absurd cc
 owner (None ∷ cs) u e = owner cs u e
-owner {qa} {qb} {r} (Some k ∷ cs) {o} {os} u e =
+owner {qa} {qb} {r} (Some k ∷ cs) {o} u e =
     by_owner (belongs u) (λ h. owner cs u (sym (begin_at k cs (pieces r cs) h) ∙ e))
   where
     own_head : (q : Roles) (x : Role) → q k ≡ x → r k ≡ x → is_own_role x ≡ true
@@ -230,7 +227,7 @@ pub first_mine : {qa qb r : Roles} {cs ds : Cells} {oa o : LinePiece} {os : List
 first_mine u e h (first_one x) = first_one (left_role u refl x)
 first_mine u e h (first_two x v) = first_two (left_role u refl x) v
 first_mine u e h (first_later {c = None} n t) = first_later tt (first_mine u e h t)
-first_mine u e h (first_later {c = Some k} {cs = cs} n t) =
+first_mine u e h (first_later {c = Some k} {cs} n t) =
     let d = not_either cs u n h e in
     first_later d.0 (first_mine u d.1 h t)
 
@@ -240,7 +237,7 @@ pub first_alone : {qa qb r : Roles} {cs ds : Cells} {oa : LinePiece} → Union q
 first_alone u e (first_one x) = first_one (left_role u refl x)
 first_alone u e (first_two x v) = first_two (left_role u refl x) v
 first_alone u e (first_later {c = None} n t) = first_later tt (first_alone u e t)
-first_alone {qb} u e (first_later {c = Some k} {cs = cs} n t) =
+first_alone {qb} u e (first_later {c = Some k} {cs} n t) =
     first_later (u.none k n (nil_foreign (qb k) k cs (pieces qb cs) e))
     (first_alone u (nil_rest (qb k) k cs e) t)
 
@@ -280,22 +277,19 @@ not_left u e h (takes_later t) (first_one x) (left_later same l) = cc
 not_left u e h (takes_later t) (first_two x v) (left_later same l) = cc
 not_left u e h (takes_later {c = None} t) (first_later n s) (left_later same l) =
     not_left u e h t s l
-not_left {qa} {qb} {r} u e h (takes_later {c = Some k} {cs = cs} t) (first_later n s)
+not_left {qa} {qb} {r} u e h (takes_later {c = Some k} {cs} t) (first_later n s)
     (left_later same l) = not_left u (not_either cs (swap_union qa qb r u) n h e).1 h t s l
-not_left u e h (takes_one {k = k} x) (first_one y) l =
-    let z = u.apart.left k (ap is_own_role x) in cc
-not_left u e h (takes_one {k = k} x) (first_two y v) l =
-    let z = u.apart.left k (ap is_own_role x) in cc
-not_left {qa} {qb} {r} u e h (takes_one {k = k} {cs = cs} x) (first_later n s) l =
+not_left u e h (takes_one {k} x) (first_one y) l = let z = u.apart.left k (ap is_own_role x) in cc
+not_left u e h (takes_one {k} x) (first_two y v) l = let z = u.apart.left k (ap is_own_role x) in cc
+not_left {qa} {qb} {r} u e h (takes_one {k} {cs} x) (first_later n s) l =
     let d = not_either cs (swap_union qa qb r u) n h e in
     let f = u.left k (ap is_own_role x) in
     let g = d.0 in
     cc
-not_left u e h (takes_two {k = k} x w) (first_one y) l =
+not_left u e h (takes_two {k} x w) (first_one y) l = let z = u.apart.left k (ap is_own_role x) in cc
+not_left u e h (takes_two {k} x w) (first_two y v) l =
     let z = u.apart.left k (ap is_own_role x) in cc
-not_left u e h (takes_two {k = k} x w) (first_two y v) l =
-    let z = u.apart.left k (ap is_own_role x) in cc
-not_left {qa} {qb} {r} u e h (takes_two {k = k} {w = j} {cs = cs} x w) (first_later n s) l =
+not_left {qa} {qb} {r} u e h (takes_two {k} {w = j} {cs} x w) (first_later n s) l =
     let d = not_either (Some j ∷ cs) (swap_union qa qb r u) n h e in
     let f = u.left k (ap is_own_role x) in
     let g = d.0 in
@@ -310,11 +304,11 @@ begin_length _ k cs ds os ps h = omega arith
 -- taking a piece leaves fewer
 takes_shorter : {q : Roles} {cs ds : Cells} {o : LinePiece} → IsNamed q → TakesPiece q cs o ds
     → length (pieces q ds) < length (pieces q cs)
-takes_shorter {q} n (takes_one {k = k} {cs = cs} e) =
+takes_shorter {q} n (takes_one {k} {cs} e) =
     let d = ap length (begin_at k cs (pieces q cs) e) in omega arith
-takes_shorter n (takes_two {cs = cs} e v) = let d = ap length (pair_pieces cs n e v) in omega arith
+takes_shorter n (takes_two {cs} e v) = let d = ap length (pair_pieces cs n e v) in omega arith
 takes_shorter n (takes_later {c = None} t) = takes_shorter n t
-takes_shorter {q} n (takes_later {c = Some k} {cs = cs} {ds = ds} t) =
+takes_shorter {q} n (takes_later {c = Some k} {cs} {ds} t) =
     begin_length (q k) k ds cs (pieces q ds) (pieces q cs) (takes_shorter n t)
 
 -- two that share no item never leave the same cells
@@ -343,13 +337,13 @@ module _ (T : Type 0) (va vr : LinePiece → T → Type 0) (qa qb r : Roles) (u 
       → (HasBad T va os → HasBad T vr ps) → HasBad T va (begin_piece x k cs os)
       → HasBad T vr (begin_piece y k cs ps)
   bad_at Foreign {y} k cs e g f h = bad_any y k cs (f h)
-  bad_at Alone k cs {ps} e g f (bad_here h) =
+  bad_at Alone k cs e g f (bad_here h) =
       rw (e refl) (bad_here (λ v x. h v (rw (← same (One k) v (g (One k) refl)) x)))
-  bad_at WithNext k cs {ps} e g f (bad_here h) =
+  bad_at WithNext k cs e g f (bad_here h) =
       rw (e refl)
       (bad_here (λ v x. h v (rw (← same (with_next k cs) v (g (with_next k cs) (own_next qa k cs)))
       x)))
-  bad_at _ k cs {ps} e g f (bad_later h) = rw (e refl) (bad_later (f h))
+  bad_at _ k cs e g f (bad_later h) = rw (e refl) (bad_later (f h))
 
   -- a piece of the first that can't be read is one of both
   pub bad_left : (cs : Cells) → HasBad T va (pieces qa cs) → HasBad T vr (pieces r cs)

@@ -128,19 +128,19 @@ module _ {T : Type 0} (clones : T → T → Type 0) (key : Key) (present : T) (a
 
   switch_none : {s t : Situation} {v : T} → HasNone (is_key_of key.names) s → t ≡ s
       → (gap.has ≡ true) × gap.absent v → SingleOk T ByName roles group gap s v t
-  switch_none {s} {v} none same g =
+  switch_none {s} none same g =
       rw same (gave_absent g.0 (no_pieces s (test clones key present) none) g.1 refl steady_refl)
 
   -- a name that is set here is set in these variables
   set_here : (s : Situation) {b : Bool} → s.context.env ≡ variables
       → is_set s.context.env key.envs ≡ b → is_some (first_set variables key.envs) ≡ b
-  set_here s {b} e f = rw (← e) f
+  set_here s e f = rw (← e) f
 
   switch_err : {s t : Situation} {e : Error} (m : Message) → class e ≡ class_of m
       → s.context.env ≡ variables → FlagFails {T = T} key absent s m t
       → SingleErr T ByName roles group gap s e t
   switch_err Memory c same o = of_memory c
-  switch_err {s} {e} other c same o =
+  switch_err {s} other c same o =
       rw o.0.0.1 (of_missing (absence_caught s (flag_part key) key.envs other c o.2)
       (gap_none clones present absent _ (set_here s same o.0.1) o.1)
       (no_pieces s (test clones key present) o.0.0.0) (λ c. refl))

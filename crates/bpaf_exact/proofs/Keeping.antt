@@ -17,7 +17,7 @@ pub keep_last : {env : Variables} {P R A : Type 0} (last : R → P) (r : R) (out
     → ProgramSays (names (last r)) s (kind (last r)) said (last r)
     → FieldsKeep env outcome (names (last r)) (program_alone (program_field s))
     (said_alone last kind names said) r
-keep_last {env} {A = A} last r outcome kind names words s said law says = record {
+keep_last {env} {A} last r outcome kind names words s said law says = record {
   law = program_alone_law env A outcome (names (last r)) words (program_field s)
       (program_field_law env A outcome (names (last r)) words s law);
   says = program_alone_says env last outcome kind names words law says;

@@ -189,7 +189,7 @@ first_alternative value {o} st m f = record {
 pub first_refused : {T : Type 0} {q : Roles} (value : LinePiece → T → Type 0) {s t : Situation}
     {e : Error} {o : LinePiece} {os : List LinePiece} → class e ≡ Refused → t.path ≡ s.path
     → pieces q (cells s) ≡ o ∷ os → ((v : T) → value o v → ⊥) → AlternativeErr T q value s e t
-first_refused {T} value {o} c p h n =
+first_refused value {o} c p h n =
     alternative_refused c p (rw h (bad_here n))
     (λ x xs w g m. let d : x ≡ o = (let k = sym h ∙ g in cc) in n w (rw (← d) m))
 
@@ -197,7 +197,7 @@ first_refused {T} value {o} c p h n =
 pub missing_same : {T : Type 0} {q : Roles} (value : LinePiece → T → Type 0) {s t : Situation}
     {e : Error} → class e ≡ OfMissing → pieces q (cells s) ≡ [] → t ≡ s
     → AlternativeErr T q value s e t
-missing_same {T} {q} value {s} {e} c p same = rw same (alternative_missing c p refl steady_refl)
+missing_same value c p same = rw same (alternative_missing c p refl steady_refl)
 
 -- a refusal that names a missing item says that items are missing
 misses : (s : Situation) (part : Option Part) (m : Message) → MissesItem s part m

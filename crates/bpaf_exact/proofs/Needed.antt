@@ -55,7 +55,7 @@ repeat_needs {T} {said} needs vs some (says_in_turn turns) = in_turn vs refl som
     in_turn : {os : List LinePiece} (xs : List T) → os ≡ [] → xs ≢ []
         → ¬ (Own T (FrontSays said) os xs)
     in_turn [] none some turns = some refl
-    in_turn (x ∷ xs) none some (own_more {rest = rest} front more) =
+    in_turn (x ∷ xs) none some (own_more {rest} front more) =
         front.some (no_part front.part rest (sym none ∙ front.is))
 
 -- and a last value then.

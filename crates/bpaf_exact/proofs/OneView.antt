@@ -106,7 +106,7 @@ argument_piece u (Two k x) v w a b = u (item_text x) v w a b
 -- all keys with their values, of which the last one counts
 last_group : {T X : Type 0} {see : T → X} {means : List ℕ → T → Type 0}
     → ((text : List ℕ) → Alike see (means text)) → OneGroup see (LastGroup T means)
-last_group {means} u os rest others v w a b =
+last_group u os rest others v w a b =
     let same : Two a.1.0 a.1.1 ≡ Two b.1.0 b.1.1 = last_same _ _ (sym a.2 ∙ b.2) in
     let word : a.1.1 ≡ b.1.1 = cc in (u (item_text b.1.1) v w (rw (← word) a.3) b.3, a.4 ∙ sym b.4)
 
@@ -154,10 +154,9 @@ module _ {env : Variables} {T X : Type 0} {see : T → X} {inner : Outcome T} (k
   own_view : {os : List LinePiece} {vs ws : List T} → Own T group os vs → Own T group os ws
       → map see vs ≡ map see ws
   own_view own_none own_none = refl
-  own_view own_none (own_more {rest = rest} {v = v} g o) = absurd (l.starts v rest g)
-  own_view (own_more {rest = rest} {v = v} g o) own_none = absurd (l.starts v rest g)
-  own_view {os} (own_more {rest = rest} {v = v} g o) (own_more {rest = others} {v = w} {vs = xs} h
-      p) =
+  own_view own_none (own_more {rest} {v} g o) = absurd (l.starts v rest g)
+  own_view (own_more {rest} {v} g o) own_none = absurd (l.starts v rest g)
+  own_view {os} (own_more {rest} {v} g o) (own_more {rest = others} {v = w} {vs = xs} h p) =
       let d = one os rest others v w g h in
       let i = own_view o (subst (λ z. Own T group z xs) (sym d.1) p) in
       let e = d.0 in

@@ -22,7 +22,7 @@ module _ {T : Type 0} (said : Said T) (one : LinePiece → T → Type 0)
   in_turn : (os : List LinePiece) (vs : List T) → Own T (FrontSays said) os vs → AllZip one os vs
   in_turn [] [] own_none = tt
   in_turn (o ∷ os) [] h = elim h [ ]
-  in_turn os (v ∷ vs) (own_more {rest = rest} front more) =
+  in_turn os (v ∷ vs) (own_more {rest} front more) =
       let first = of_one front.part v front.told in
       rw (front.is ∙ ap (λ part. part ++ rest) first.is) (first.said, in_turn rest vs more)
 

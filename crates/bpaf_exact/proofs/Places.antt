@@ -65,19 +65,18 @@ tail_two taken = record {
 -- a later one is
 later : {r : Roles} {c d : Option Arg} {cs ds : Cells} {o : LinePiece} → d ≡ c → NotOwn r c
     → TakesFirst r cs o ds → TakesFirst r (c ∷ cs) o (d ∷ ds)
-later {r} {c} {cs = cs} {ds = ds} {o = o} e n t = rw e (first_later n t)
+later e n t = rw e (first_later n t)
 
 -- the first item that is wanted, taken by itself
 pub take_one : {r : Roles} {at left : ℕ → Option Arg} (n p : ℕ) {k : Arg} → p < n → at p ≡ Some k
     → r k ≡ Alone → NoneBefore r at p → TakenOne at left p
     → TakesFirst r (first_cells at n) (One k) (first_cells left n)
 take_one zero p l e h none taken = absurd (omega arith)
-take_one {r} {at} (suc n) zero {k} l e h none taken =
+take_one {at} (suc n) zero l e h none taken =
     rw (
       e,
       taken.gone,
-      same_cells (λ q. at (suc q)) n
-          (λ q i. taken.others (suc q) (λ f. absurd (omega arith))),
+      same_cells (λ q. at (suc q)) n (λ q i. taken.others (suc q) (λ f. absurd (omega arith))),
     ) (first_one h)
 take_one (suc n) (suc p) l e h none taken =
     later (taken.others zero (λ f. absurd (omega arith))) (none.before zero (omega arith))
@@ -89,7 +88,7 @@ pub take_two : {r : Roles} {at left : ℕ → Option Arg} (n p : ℕ) {k w : Arg
     → TakenTwo at left p → TakesFirst r (first_cells at n) (Two k w) (first_cells left n)
 take_two zero p l e f h v none taken = absurd (omega arith)
 take_two (suc zero) zero l e f h v none taken = absurd (omega arith)
-take_two {r} {at} (suc (suc n)) zero {k} {w} l e f h v none taken =
+take_two {at} (suc (suc n)) zero l e f h v none taken =
     rw (
       e,
       f,

@@ -58,10 +58,10 @@ module _ {T : Type 0} {b : Bool} {value : LinePiece → T → Type 0}
   -- the first word heads the pieces
   word_pieces : {cs ds : Cells} {o : LinePiece} → TakesFirst word_roles cs o ds
       → pieces word_roles cs ≡ o ∷ pieces word_roles ds
-  word_pieces (first_one {k = k} {cs = cs} e) = begin_at k cs (pieces word_roles cs) e
-  word_pieces (first_two {k = k} e v) = absurd (never_two (record { words = λ k. refl }) e)
+  word_pieces (first_one {k} {cs} e) = begin_at k cs (pieces word_roles cs) e
+  word_pieces (first_two {k} e v) = absurd (never_two (record { words = λ k. refl }) e)
   word_pieces (first_later {c = None} h t) = word_pieces t
-  word_pieces (first_later {c = Some k} {cs = cs} {ds = ds} h t) =
+  word_pieces (first_later {c = Some k} {cs} {ds} h t) =
       let a = begin_at k cs (pieces word_roles cs) h in
       let b = begin_at k ds (pieces word_roles ds) h in
       let i = word_pieces t in
@@ -77,7 +77,7 @@ module _ {T : Type 0} {b : Bool} {value : LinePiece → T → Type 0}
   -- a word that was taken
   took_word : {s t : Situation} {p : ℕ} {strict : Bool} {text : List ℕ}
       → TakesText s p strict text t → TookWord s t strict text
-  took_word {s} {p} {strict} {text} takes =
+  took_word {s} {p} takes =
       let m = match_of is_positional s p takes.first.matches in
       let at = (open_item_there s p m.item m.is).1 in
       rw takes.taken (record {
@@ -105,7 +105,7 @@ module _ {T : Type 0} {b : Bool} {value : LinePiece → T → Type 0}
   word_err : {env : Variables} (s t : Situation) (e : Error) → IsWholeIn env s
       → WordEval T b value s (Err e) t
       → SingleErr T (OneWord b) word_roles group (gap_of value None) s e t
-  word_err s t e w (word_fault {strict = strict} {text = text} takes before n c) =
+  word_err s t e w (word_fault {strict} {text} takes before n c) =
       let m = took_word takes in
       let i = word_pieces m.takes in
       of_piece c
@@ -117,7 +117,7 @@ module _ {T : Type 0} {b : Bool} {value : LinePiece → T → Type 0}
   word_err s t e w (word_missing none c) =
       of_missing (catch_missing c) refl (ap (front (OneWord b)) (no_pieces s test none)
       ∙ front_nil (OneWord b)) (λ c. refl)
-  word_err s t e w (word_passed {text = text} h takes c) =
+  word_err s t e w (word_passed {text} h takes c) =
       let m = took_word takes in
       of_missing (catch_other c) refl (ap (front (OneWord b)) (word_pieces m.takes)
       ∙ passed_by b h (One m.word) (pieces word_roles (cells t)) (word_is m.word true text

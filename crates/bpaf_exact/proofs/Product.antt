@@ -46,12 +46,12 @@ pub no_own_in_cut : {q r : Roles} {cs : Cells} {os : List LinePiece} → IsNamed
     → Cut r cs os → pieces q cs ≡ []
 no_own_in_cut n a at_end = refl
 no_own_in_cut n a (passed c) = no_own_in_cut n a c
-no_own_in_cut {q} n a (flag {k = k} {cs = cs} e c) =
+no_own_in_cut {q} n a (flag {k} {cs} e c) =
     begin_at k cs (pieces q cs) (a.right k (ap is_own_role e)) ∙ no_own_in_cut n a c
-no_own_in_cut {q} n a (argument {k = k} {w = w} {cs = cs} e v c) =
+no_own_in_cut {q} n a (argument {k} {w} {cs} e v c) =
     begin_at k (Some w ∷ cs) (pieces q (Some w ∷ cs)) (a.right k (ap is_own_role e))
     ∙ (begin_at w cs (pieces q cs) (value_foreign n v) ∙ no_own_in_cut n a c)
-no_own_in_cut {q} n a (word {w = w} {cs = cs} h c) =
+no_own_in_cut {q} n a (word {w} {cs} h c) =
     begin_at w cs (pieces q cs) (word_foreign n h) ∙ no_own_in_cut n a c
 
 -- an item that isn't the first's has the role that it has to the second
@@ -74,14 +74,14 @@ widen : {q r : Roles} {cs : Cells} {os : List LinePiece} → IsNamed q → Apart
     → Widened q r cs os
 widen n a at_end = record { cut = at_end; all = refl }
 widen n a (passed c) = let i = widen n a c in record { cut = passed i.cut; all = i.all }
-widen {q} n a (flag {k = k} e c) =
+widen {q} n a (flag {k} e c) =
     let i = widen n a c in
     let f = a.right k (ap is_own_role e) in
     record {
       cut = flag (either_foreign (q k) f e) i.cut;
       all = others_all q (ap is_own_role f) i.all;
     }
-widen {q} n a (argument {k = k} e v c) =
+widen {q} n a (argument {k} e v c) =
     let i = widen n a c in
     let f = a.right k (ap is_own_role e) in
     record {
@@ -107,18 +107,18 @@ narrow : {q r : Roles} {cs : Cells} {os : List LinePiece} → IsNamed q → piec
     → Cut (either q r) cs os → Narrowed q r cs os
 narrow n p at_end = record { cut = at_end; all = refl }
 narrow n p (passed c) = let i = narrow n p c in record { cut = passed i.cut; all = i.all }
-narrow {q} n p (flag {k = k} {cs = cs} e c) =
+narrow {q} n p (flag {k} {cs} e c) =
     let f = nil_foreign (q k) k cs (pieces q cs) p in
     let i = narrow n (nil_rest (q k) k cs p) c in
     record { cut = flag (other_role (q k) f e) i.cut; all = others_all q (ap is_own_role f) i.all }
-narrow {q} n p (argument {k = k} {w = w} {cs = cs} e v c) =
+narrow {q} n p (argument {k} {w} {cs} e v c) =
     let f = nil_foreign (q k) k (Some w ∷ cs) (pieces q (Some w ∷ cs)) p in
     let i = narrow n (nil_rest (q w) w cs (nil_rest (q k) k (Some w ∷ cs) p)) c in
     record {
       cut = argument (other_role (q k) f e) v i.cut;
       all = others_all q (ap is_own_role f) i.all;
     }
-narrow {q} n p (word {w = w} {cs = cs} h c) =
+narrow {q} n p (word {w} {cs} h c) =
     let i = narrow n (nil_rest (q w) w cs p) c in
     record { cut = word h i.cut; all = others_all q (ap is_own_role (word_foreign n h)) i.all }
 
@@ -196,7 +196,7 @@ module _ {A B : Type 0} (first : Outcome A) (rest : Outcome B) where
   -- joined answers are a value where both are
   joined_values : {s m t : Situation} (a : Result A Error) (b : Result B Error) {v : A × B}
       → first s a m → rest m b t → Ok v ≡ joined a b → ValuesOfBoth A B first rest s v t
-  joined_values {s} {m} {t} (Ok a) (Ok b) {v} f g e =
+  joined_values {m} (Ok a) (Ok b) {v} f g e =
       let d : v ≡ (a, b) = cc in
       record { middle = m; first_ran = rw d f; rest_ran = rw d g }
   joined_values (Ok a) (Err f) h g e = absurd cc

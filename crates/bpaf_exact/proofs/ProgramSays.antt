@@ -215,14 +215,14 @@ in_rest x xs there = (suc there.0, omega arith, there.2)
 only_says : {Q T : Type 0} (q : Q) (said : ProgramSaid Q T) (names : List Names) (s : ProgramForm T)
     → ProgramFormSays names s (of_kind ByName) said q
     → ProgramFormSays names (choice_only s) (of_kind ByName) said q
-only_says {T = T} q (of_pieces said) names s h = record { by = by_form s h.by }
+only_says {T} q (of_pieces said) names s h = record { by = by_form s h.by }
   where
     by_form : (s : ProgramForm T) → FormSays names s (of_kind ByName) (said q)
         → FormSays names (choice_only s) (of_kind ByName) (said q)
     by_form (alternative wide r value) h = h
     by_form (commands optional value) h = absurd h
     by_form _ h = tt
-only_says {T = T} q (of_cells said) names s h =
+only_says q (of_cells said) names s h =
     elim s as (λ s. CellsSay s (said q) → CellsSay (choice_only s) (said q))
     [ commands false value ↦ λ h. h | alternative wide r value ↦ λ h. absurd h | _ ↦ λ h. tt ] h
 
@@ -301,8 +301,7 @@ pub program_choice_says : {P Q R T : Type 0} (this : R → P) (that : R → Q) (
     → ProgramSays others t k b (that r)
     → ProgramSays (own ++ others) (program_choice own others words more s t) (of_kind ByName)
     (said_choice this that a b) r
-program_choice_says {P = P} {Q = Q} {T = T} this that r own others words more {s} {t} {a} {b} {j}
-    {k} h g =
+program_choice_says {P} {Q} {T} this that r own others words more {s} {t} {a} {b} {j} {k} h g =
     record { by = by_said a b h.by g.by }
   where
     both_cells : (s t : ProgramForm T) (x y : CellsValue T) → CellsSay s x → CellsSay t y
@@ -351,7 +350,7 @@ program_alone_says env last outcome kind names words {s} {said = of_pieces said}
   by = alone_says (field_owned env outcome words s law)
       (field_says (owned env outcome words s law) h.by);
 }
-program_alone_says env {T = T} last {q} outcome kind names words {s} {said = of_cells said} law h =
+program_alone_says env {T} last {q} outcome kind names words {s} {said = of_cells said} law h =
     record { by = by_form s h.by }
   where
     by_form : (s : ProgramForm T) → CellsSay s (said (last q))
@@ -432,7 +431,7 @@ pub program_con_says : (env : Variables) {P Q A B : Type 0} (fields : Q → P) (
     (said_con fields names makes said) q
 program_con_says env fields q outcome names makes {s} {said = of_all_pieces said} law g =
     record { by = con_says (owned env outcome [] s law) g.by }
-program_con_says env {A = A} fields q outcome names makes {s} {said = of_all_cells said} law g =
+program_con_says env {A} fields q outcome names makes {s} {said = of_all_cells said} law g =
     record { by = by_form s g.by }
   where
     by_form : (s : ProgramForm A) → CellsSay s (said (fields q))

@@ -115,7 +115,7 @@ no_key words plain _ s h = refl
 opens_pieces : {words : List (List ℕ)} {q : Roles} → are_plain words ≡ true → IsNamed q
     → {cs ds : Cells} → AllSpelled cs → Opens words cs ds → pieces q cs ≡ pieces q ds
 opens_pieces plain n no_cell o = elim o [ ]
-opens_pieces {words} {q} plain n (spelled_cell s a) (opens_here {k = k} {cs = cs} h) =
+opens_pieces {words} {q} plain n (spelled_cell s a) (opens_here {k} {cs} h) =
     begin_at k cs (pieces q cs) (n.only_keys k (no_key words plain k s h))
 opens_pieces plain n (empty_cell a) (opens_later o) = opens_pieces plain n a o
 
@@ -245,7 +245,7 @@ module _ {env : Variables} (T : Type 0) (inner : Outcome T) (r : Roles) (value :
   -- the path gets no shorter
   command_deep : (s t : Situation) (v : T) → IsWholeIn env s → CommandEval T inner called s (Ok v) t
       → depth s ≤ depth t
-  command_deep s t v w (command_value {p = p} at i e) =
+  command_deep s t v w (command_value {p} at i e) =
       let a = deeper_behind called s p at in
       let b = l.deep (inside called s p) t v (whole_behind called s p at w) i in
       omega arith
@@ -253,7 +253,7 @@ module _ {env : Variables} (T : Type 0) (inner : Outcome T) (r : Roles) (value :
   -- an Ok took the word, and has the value of what is behind it
   command_ok : (s t : Situation) (v : T) → IsWholeIn env s → IsSpelledLine s.context
       → CommandEval T inner called s (Ok v) t → NonePresent (cells t) → opened_value (cells s) v
-  command_ok s t v w spelled (command_value {p = p} at i e) n =
+  command_ok s t v w spelled (command_value {p} at i e) n =
       from_behind at (l.ok (inside called s p) t v (whole_behind called s p at w) spelled i n)
 
   -- what its program answers behind the word where there is a value
@@ -271,7 +271,7 @@ module _ {env : Variables} (T : Type 0) (inner : Outcome T) (r : Roles) (value :
   command_answers s t a u w (command_value at i e) h =
       let g = answer_behind w at i h in
       (from_behind at g.0, g.1)
-  command_answers s t a u w (command_leftover {m = m} at i left) h =
+  command_answers s t a u w (command_leftover {m} at i left) h =
       absurd (left (open_present m ∙ count_none (answer_behind w at i h).1))
   command_answers s t a u w (command_refused at i spared) h =
       absurd (spared (answer_behind w at i h))
@@ -282,10 +282,9 @@ module _ {env : Variables} (T : Type 0) (inner : Outcome T) (r : Roles) (value :
   command_none : (s t : Situation) (a : Result T Error) → IsWholeIn env s
       → CommandEval T inner called s a t → OpensNone words (cells s) → FindsNoCommand s a t
   unfolding cells
-  command_none s t a w (command_value {p = p} at i e) n = absurd (n _ (opens_cells called s p at))
-  command_none s t a w (command_leftover {p = p} at i left) n =
-      absurd (n _ (opens_cells called s p at))
-  command_none s t a w (command_refused {p = p} at i spared) n =
+  command_none s t a w (command_value {p} at i e) n = absurd (n _ (opens_cells called s p at))
+  command_none s t a w (command_leftover {p} at i left) n = absurd (n _ (opens_cells called s p at))
+  command_none s t a w (command_refused {p} at i spared) n =
       absurd (n _ (opens_cells called s p at))
   command_none s t a w (command_missing none e) n = inr (e, refl, refl)
   command_none s t a w (command_memory e) n = inl e

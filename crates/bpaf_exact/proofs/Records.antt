@@ -226,7 +226,7 @@ module _ {env : Variables} (A B : Type 0) (first : Outcome A) (rest : Outcome B)
   -- and the other way
   each_value : (cs : Cells) {v : A × B} → value (pieces both cs) v
       → fv (pieces q cs) v.0 × read.value (pieces r cs) v.1
-  each_value cs {v} h = (rw (← mine_of_both together cs) h.0, rw (← others_of_both together cs) h.1)
+  each_value cs h = (rw (← mine_of_both together cs) h.0, rw (← others_of_both together cs) h.1)
 
   -- and what they take leaves its own
   first_kept : {cs ds : Cells} → TakesPieces r cs ds → pieces q ds ≡ pieces q cs
@@ -236,7 +236,7 @@ module _ {env : Variables} (A B : Type 0) (first : Outcome A) (rest : Outcome B)
   -- where both have a value, so have the others after the first
   rest_value : {s m : Situation} {x : A} {u : A × B} → IsWholeIn env s → first s (Ok x) m
       → value (pieces both (cells s)) u → read.value (pieces r (cells m)) u.1
-  rest_value {s} {m} {x} {u} w f h =
+  rest_value {s} {m} {x} w f h =
       rw (keeps_other_some lf.own lr.own apart (lf.ok s m x w f).takes) (each_value (cells s) h).1
 
   -- together they keep to the laws of a named field
@@ -288,7 +288,7 @@ module _ {env : Variables} {T : Type 0} {outcome : Outcome T} {q : Roles}
   -- and the other way
   own_read : (cs : Cells) {v : T} → (last_reading ByName q value).value (pieces alone cs) v
       → value (pieces q cs) v
-  own_read cs {v} h = rw (← mine_of_both by_itself cs) h.0
+  own_read cs h = rw (← mine_of_both by_itself cs) h.0
 
   -- a last field keeps to the laws of a named one
   pub named_last_law : FieldLaw env T outcome ByName alone (last_reading ByName q value).value

@@ -33,7 +33,7 @@ some_trans (takes_more t more) b = takes_more t (some_trans more b)
 
 -- where the cells are the same none was taken
 pub same_takes : {q : Roles} {cs ds : Cells} → ds ≡ cs → TakesPieces q cs ds
-same_takes {q} {cs = cs} e = rw e takes_none
+same_takes e = rw e takes_none
 
 -- what has an own list can be read
 readable : {T : Type 0} (k : FieldKind) {group : Groups T} (os : List LinePiece) {vs : List T}
@@ -185,7 +185,7 @@ module _ {env : Variables} {T : Type 0} {inner : Outcome T} {k : FieldKind} {q :
   -- Once it has the first value, a repeat that answers has read all its pieces.
   later_took : (vs : List T) {s m t : Situation} → IsWholeIn env s → Turns inner false false s vs m
       → TurnOutcome inner false false m (Ok None) t → Took s vs t
-  later_took [] {s} {t} w turns stop = stop_took s w (rw turns stop)
+  later_took [] {s} w turns stop = stop_took s w (rw turns stop)
   later_took (v ∷ vs) {s} w turns stop =
       step_took (took_item s turns.0 turns.1.1) (l.ok s turns.0 v w turns.1.0)
       (λ st. later_took vs (none_outside_after w st) turns.2 stop)
@@ -200,7 +200,7 @@ module _ {env : Variables} {T : Type 0} {inner : Outcome T} {k : FieldKind} {q :
   -- no piece has no own list but the empty one
   pub own_nil : {os : List LinePiece} {vs : List T} → os ≡ [] → Own T group os vs → vs ≡ []
   own_nil e own_none = refl
-  own_nil e (own_more {rest = rest} {v = v} g o) = absurd (l.starts v rest (rw (← e) g))
+  own_nil e (own_more {rest} {v} g o) = absurd (l.starts v rest (rw (← e) g))
 
   -- an own list, with the absent value where there is one
   with_absent : (has : Bool) → gap.has ≡ has → {os : List LinePiece} {v : T} {vs : List T}
@@ -212,7 +212,7 @@ module _ {env : Variables} {T : Type 0} {inner : Outcome T} {k : FieldKind} {q :
   -- the absent value alone
   absent_alone : (s t : Situation) {v : T} {us : List T} → us ≡ [] → gap.has ≡ true
       → front k (pieces q (cells s)) ≡ [] → gap.absent v → OwnList T group gap (own s) (v ∷ us)
-  absent_alone s t {v} {us} e h p ab = rw (own_none_left s p, e) (only_absent h ab)
+  absent_alone s t e h p ab = rw (own_none_left s p, e) (only_absent h ab)
 
   -- where the cells are the same the same pieces are taken
   same_own : (s m : Situation) → cells m ≡ cells s → own m ≡ own s
@@ -272,7 +272,7 @@ module _ {env : Variables} {T : Type 0} {inner : Outcome T} {k : FieldKind} {q :
   turns_took : (first : Bool) (vs : List T) {s m t : Situation} → IsWholeIn env s
       → Turns inner false first s vs m → TurnOutcome inner false (is_nil vs) m (Ok None) t
       → RepeatTook s vs t
-  turns_took first [] {t} w turns stop = first_stopped w (rw turns stop)
+  turns_took first [] w turns stop = first_stopped w (rw turns stop)
   turns_took first (v ∷ vs) {s} w turns stop =
       first_step (l.ok s turns.0 v w turns.1.0)
       (λ st. later_took vs (none_outside_after w st) turns.2 stop)
@@ -295,7 +295,7 @@ module _ {env : Variables} {T : Type 0} {inner : Outcome T} {k : FieldKind} {q :
   -- by its constructors
   own_view : {os : List LinePiece} {vs : List T} → Own T group os vs → OwnView os vs
   own_view own_none = view_none refl refl
-  own_view (own_more {rest = rest} {v = v} {vs = us} g o) = view_more v rest us refl g o
+  own_view (own_more {rest} {v} {vs = us} g o) = view_more v rest us refl g o
 
   -- what is left after a turn can be read
   on_step : {s m : Situation} {v : T} {ws : List T} → Own T group (own s) ws
@@ -344,8 +344,8 @@ module _ {env : Variables} {T : Type 0} {inner : Outcome T} {k : FieldKind} {q :
   all_read : {os : List LinePiece} {vs : List T} → OwnList T group gap os vs
       → (gap.has ≡ true → (a : T) × gap.absent a) × (us : List T) × Own T group os us
   all_read {vs} (listed h o) = (λ i. absurd cc, vs, o)
-  all_read {vs} (listed_and_absent {a = a} h ab o) = (λ i. (a, ab), vs, o)
-  all_read (only_absent {a = a} h ab) = (λ i. (a, ab), [], own_none)
+  all_read {vs} (listed_and_absent {a} h ab o) = (λ i. (a, ab), vs, o)
+  all_read (only_absent {a} h ab) = (λ i. (a, ab), [], own_none)
 
   -- and so a repeat fails for want of memory alone
   repeat_fails : (idle : Bool) (s t : Situation) (e : Error) {ws : List T} → IsWholeIn env s

@@ -225,7 +225,7 @@ module _ {T : Type 0} (said : Said T) (group : Groups T) (gap : Gap T)
   turns_say : (os : List LinePiece) (vs : List T) → Own T group os vs → Own T (FrontSays said) os vs
   turns_say [] [] own_none = own_none
   turns_say (o ∷ os) [] h = elim h [ ]
-  turns_say os (v ∷ vs) (own_more {rest = rest} g more) =
+  turns_say os (v ∷ vs) (own_more {rest} g more) =
       own_more (fronts os rest v g) (turns_say rest vs more)
 
   -- the values of a repeat
@@ -287,7 +287,7 @@ pub field_says : {T : Type 0} {s : ProgramForm T} {kind : SaidKind} {names : Lis
     {said : Said T}
     → OwnsKeys names s → Says names s kind said → Says names (program_field s) kind said
 field_says {s = complete wide k q value} own h = h
-field_says {s = product wide true q fields} {names = names} own h = record {
+field_says {s = product wide true q fields} {names} own h = record {
   by = (
     h.by.0,
     λ os v all m. let fit = own_fit q names own.by os all in
@@ -317,7 +317,7 @@ pub fallback_says : {T : Type 0} (f : Closure (Unit {0}) T) {s : ProgramForm T} 
     {names : List Names} {said : Said T} → Says names s kind said
     → Says names (completed (λ k. k) (λ group gap. FallbackValue T group gap f) s) kind
     (FallbackSays said (f.yes tt))
-fallback_says {T} f {s} {said = said} h = record {
+fallback_says {T} f {s} {said} h = record {
   by = whole_form_says (λ j. j) (λ k. refl) (λ group gap. FallbackValue T group gap f)
       (FallbackSays said (f.yes tt))
       (λ group gap fronts absent. fallback_by said group gap fronts absent f) _ _ s h.by;
@@ -327,7 +327,7 @@ fallback_says {T} f {s} {said = said} h = record {
 repeat_says : {T : Type 0} {s : ProgramForm T} {kind : SaidKind} {names : List Names}
     {said : Said T} → Says names s kind said
     → Says names (completed repeated (OwnList T) s) (repeated_kind kind) (RepeatSays said)
-repeat_says {T} {s} {said = said} h = record {
+repeat_says {T} {s} {said} h = record {
   by = whole_form_says repeated_kind (λ k. refl) (OwnList T) (RepeatSays said)
       (list_says said) _ _ s h.by;
 }
@@ -343,7 +343,7 @@ listed_says f h = closed_says (repeat_says h)
 pub last_says : {T : Type 0} {s : ProgramForm T} {kind : SaidKind} {names : List Names}
     {said : Said T} → Says names s kind said
     → Says names (completed repeated (LastOf T) s) (repeated_kind kind) (LastSays said)
-last_says {T} {s} {said = said} h = record {
+last_says {T} {s} {said} h = record {
   by = whole_form_says repeated_kind (λ k. refl) (LastOf T) (LastSays said)
       (λ group gap fronts absent os v m. record {
         values = m.0 ++ v ∷ [];
@@ -458,9 +458,9 @@ pub both_say : {A B : Type 0} {own behind : List Names} {a : ProgramForm A} {s :
     → FieldsSay (own ++ behind) (program_both own behind a s)
     (λ os words v.
     said (its_pieces kind own os words) v.0 × rest_said os (words_after kind words) v.1)
-both_say {own = own} {behind = behind} {a = complete wide k q first}
-    {s = product other named r fields} {kind = kind} {said = said} {rest_said = rest_said} own_keys
-    behind_keys h g = record { by = by_test (may_follow k own behind) refl }
+both_say {own} {behind} {a = complete wide k q first} {s = product other named r fields} {kind}
+    {said} {rest_said} own_keys behind_keys h g =
+    record { by = by_test (may_follow k own behind) refl }
   where
     by_test : (may : Bool) → may_follow k own behind ≡ may → FieldsFormSays (own ++ behind)
         (program_if may (product (wide || other) (is_named k && named) (either (keys k q) r)
@@ -478,7 +478,7 @@ both_say own_keys behind_keys h g = record { by = tt }
 pub con_says : {A B : Type 0} {names : List Names} {s : ProgramForm A} {said : FieldsSaid A}
     {f : Closure A B} → OwnsKeys names s → FieldsSay names s said
     → Says names (program_con f s) (form_kind s) (RecordSays said names f)
-con_says {names = names} {s = product wide named q fields} {said = said} own_keys g = record {
+con_says {names} {s = product wide named q fields} {said} own_keys g = record {
   by = (
     refl,
     λ whole os v fits fit m same other. record {
@@ -495,7 +495,7 @@ con_says own_keys g = record { by = tt }
 -- each value of a whole program of this form says so of all pieces of a line; one of commands,
 -- which is read off none, says nothing
 abbrev pub WholeSays : {T : Type 0} → List Names → ProgramForm T → Said T → Type 0
-WholeSays {T = T} names (product wide named r fields) said =
+WholeSays {T} names (product wide named r fields) said =
     (os : List LinePiece) (v : T) → Fits names r os → fields.value os v → said os v
 WholeSays names no_program said = Unit {0}
 WholeSays names _ said = ⊥

@@ -110,11 +110,10 @@ module _ (r : Roles) (names : List Names) where
     pub cut_fit : {cs : Cells} {os : List LinePiece} → Cut r cs os → Fits names r os
     cut_fit at_end = tt
     cut_fit (passed c) = cut_fit c
-    cut_fit (flag {k = k} e c) = let own =
-        ap is_own_role e in (own ∙ sym (owned.own k own), cut_fit c)
-    cut_fit (argument {k = k} e v c) =
+    cut_fit (flag {k} e c) = let own = ap is_own_role e in (own ∙ sym (owned.own k own), cut_fit c)
+    cut_fit (argument {k} e v c) =
         let own = ap is_own_role e in (own ∙ sym (owned.own k own), cut_fit c)
-    cut_fit (word {w = w} h c) =
+    cut_fit (word {w} h c) =
         let none = no_key names w h in (
           fails (is_own_role (r w)) (λ e. sym (owned.own w e) ∙ none) ∙ sym none,
           cut_fit c,

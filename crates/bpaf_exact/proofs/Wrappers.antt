@@ -34,7 +34,7 @@ module _ {env : Variables} {A B : Type 0} {inner : Outcome A} {k : FieldKind} {q
   -- a value that the closure gave
   closed_ok : (s t : Situation) (v : B) → IsWholeIn env s → ClosedEval A B inner f c s (Ok v) t
       → FieldTook B k q (ClosedValue value f) s v t
-  closed_ok s t v w (closed_yes {x = x} i y) =
+  closed_ok s t v w (closed_yes {x} i y) =
       let a = l.ok s t x w i in
       record {
         steady = a.steady;
@@ -46,13 +46,13 @@ module _ {env : Variables} {A B : Type 0} {inner : Outcome A} {k : FieldKind} {q
   -- where the portion has a value it takes all,
   closed_takes : (s t : Situation) (u v : B) → IsWholeIn env s → ClosedEval A B inner f c s (Ok u) t
       → ClosedValue value f (front k (pieces q (cells s))) v → NoKeysLeft k q (cells t)
-  closed_takes s t u v w (closed_yes {x = x} i y) h = l.takes_all s t x h.from w i h.read
+  closed_takes s t u v w (closed_yes {x} i y) h = l.takes_all s t x h.from w i h.read
 
   -- and a refusal is want of memory
   closed_refuses : (s t : Situation) (e : Error) (v : B) → IsWholeIn env s
       → ClosedEval A B inner f c s (Err e) t
       → ClosedValue value f (front k (pieces q (cells s))) v → class e ≡ OfMemory
-  closed_refuses s t e v w (closed_no {x = x} i n g) h =
+  closed_refuses s t e v w (closed_no {x} i n g) h =
       let read = (l.ok s t x w i).read (l.takes_all s t x h.from w i h.read) in
       absurd (agrees (front k (pieces q (cells s))) h.from x v h.read read h.made n)
   closed_refuses s t e v w (closed_memory i m) h = m
@@ -79,7 +79,7 @@ module _ {env : Variables} {T : Type 0} {inner : Outcome T} {k : FieldKind} {q :
       → (Readable z group (pieces q (cells t)) → group (pieces q (cells s)) v (pieces q (cells t)))
       → group (front z (pieces q (cells s))) v []
       × (pieces q (cells t) ≡ back z (pieces q (cells s)))
-  took_read ByName s t {v} u n up = (rw (← n) (up ([], rw n own_none)), n)
+  took_read ByName s t u n up = (rw (← n) (up ([], rw n own_none)), n)
   took_read (OneWord b) s t {v} u n up =
       u.by_front (pieces q (cells s)) v (pieces q (cells t)) (up tt)
   took_read (EachWord b) s t u n up = absurd u
@@ -152,7 +152,7 @@ module _ {env : Variables} {T : Type 0} {inner : Outcome T} {k : FieldKind} {q :
   optional_ok s t v w (optional_some {v = x} i) =
       let a = single_took (l.ok s t x w i) in
       record { steady = a.steady; takes = a.takes; read = λ n. a.read n; rest = a.rest }
-  optional_ok s t v w (optional_none {e = e} {m = m} i h) =
+  optional_ok s t v w (optional_none {e} {m} i h) =
       let a = catch_none (stopped_by h) (l.err s m e w i) in
       record {
         steady = steady_refl;
@@ -188,7 +188,7 @@ module _ {env : Variables} {T : Type 0} {inner : Outcome T} {k : FieldKind} {q :
       → OptionalEval T inner s (Ok u) t → OptionalValue T group gap (front k (pieces q (cells s))) v
       → NoKeysLeft k q (cells t)
   optional_takes s t u v w (optional_some {v = x} i) g = some_takes v w i (l.ok s t x w i) g
-  optional_takes s t u v w (optional_none {e = e} {m = m} i h) g =
+  optional_takes s t u v w (optional_none {e} {m} i h) g =
       none_takes s (catch_none (stopped_by h) (l.err s m e w i)).1
 
   -- and a refusal is want of memory
@@ -217,7 +217,7 @@ module _ {env : Variables} {T : Type 0} {inner : Outcome T} {k : FieldKind} {q :
     fallback_took s t v w (fallback_ok i) =
         let a = single_took (l.ok s t v w i) in
         record { steady = a.steady; takes = a.takes; read = λ n. inl (a.read n); rest = a.rest }
-    fallback_took s t v w (fallback_given {e = e} {m = m} i h y) =
+    fallback_took s t v w (fallback_given {e} {m} i h y) =
         let a = catch_none h (l.err s m e w i) in
         record {
           steady = steady_refl;
@@ -242,19 +242,19 @@ module _ {env : Variables} {T : Type 0} {inner : Outcome T} {k : FieldKind} {q :
         → FallbackValue T group gap f (front k (pieces q (cells s))) v → NoKeysLeft k q (cells t)
     fallback_takes s t u v w (fallback_ok i) (inl g) = single_takes s t u v w i g
     fallback_takes s t u v w (fallback_ok i) (inr e) = absurd (kept_ok e.0 e.1 (l.ok s t u w i))
-    fallback_takes s t u v w (fallback_given {e = e} {m = m} i h y) g =
+    fallback_takes s t u v w (fallback_given {e} {m} i h y) g =
         none_takes s (catch_none h (l.err s m e w i)).1
 
     -- and a refusal is want of memory
     fallback_refuses : (s t : Situation) (g : Error) (v : T) → IsWholeIn env s
         → FallbackEval T inner f s (Err g) t
         → FallbackValue T group gap f (front k (pieces q (cells s))) v → class g ≡ OfMemory
-    fallback_refuses s t g v w (fallback_no {e = e} {m = m} i h n c) (inl o) =
+    fallback_refuses s t g v w (fallback_no {e} {m} i h n c) (inl o) =
         absurd (own_missing s (catch_none h (l.err s m e w i)) o)
     fallback_refuses s t g v w (fallback_no i h n c) (inr p) = absurd (decides tt v p.2 n)
     fallback_refuses s t g v w (fallback_memory c) view = c
-    fallback_refuses s t g v w (fallback_err {m = m} i n) (inl o) = err_gives (l.err s m g w i) o
-    fallback_refuses s t g v w (fallback_err {m = m} i n) (inr p) =
+    fallback_refuses s t g v w (fallback_err {m} i n) (inl o) = err_gives (l.err s m g w i) o
+    fallback_refuses s t g v w (fallback_err {m} i n) (inr p) =
         none_fails (λ c same. n c) p.0 p.1 (l.err s m g w i)
 
     pub fallback_law : FieldLaw env T (FallbackEval T inner f) k q (FallbackValue T group gap f)
@@ -269,8 +269,7 @@ module _ {env : Variables} {T : Type 0} {inner : Outcome T} {k : FieldKind} {q :
 pub own_bad : {T : Type 0} (value : LinePiece → T → Type 0) {os : List LinePiece} {vs : List T}
     → HasBad T value os → Own T (FrontOf T value) os vs → ⊥
 own_bad value h own_none = elim h [ ]
-own_bad {T} value h (own_more {rest = rest} {v = v} g o) =
-    by_bad (λ b. own_bad value b o) (rw (← g.1) h)
+own_bad {T} value h (own_more {rest} {v} g o) = by_bad (λ b. own_bad value b o) (rw (← g.1) h)
   where
     by_bad : (HasBad T value rest → ⊥) → HasBad T value (g.0 ∷ rest) → ⊥
     by_bad i (bad_here n) = n v g.2
@@ -280,7 +279,7 @@ own_bad {T} value h (own_more {rest = rest} {v = v} g o) =
 pub front_alone : {T : Type 0} (value : LinePiece → T → Type 0) {o : LinePiece} {v : T}
     {os left rest : List LinePiece} {w : T} → os ≡ o ∷ left → value o v → FrontOf T value os w rest
     → FrontOf T value os v rest × (left ≡ rest)
-front_alone value {o} {left = left} {rest = rest} e means g =
+front_alone value {o} {left} {rest} e means g =
     let d : o ∷ left ≡ g.0 ∷ rest = sym e ∙ g.1 in
     let r : left ≡ rest = cc in
     ((o, e ∙ ap (λ z. o ∷ z) r, means), r)
@@ -363,7 +362,7 @@ module _ {env : Variables} {A B : Type 0} {inner : Outcome A} {q : Roles}
   closed_alternative_ok : (s t : Situation) (v : B) → IsWholeIn env s
       → ClosedEval A B inner f Refused s (Ok v) t
       → AlternativeOk B q (ClosedValue value f) s v t
-  closed_alternative_ok s t v w (closed_yes {x = x} i y) =
+  closed_alternative_ok s t v w (closed_yes {x} i y) =
       let a = l.ok s t x w i in
       record {
         steady = a.steady;
@@ -400,7 +399,7 @@ module _ {env : Variables} {A B : Type 0} {inner : Outcome A} {q : Roles}
   closed_alternative_err : (s t : Situation) (e : Error) → IsWholeIn env s
       → ClosedEval A B inner f Refused s (Err e) t
       → AlternativeErr B q (ClosedValue value f) s e t
-  closed_alternative_err s t e w (closed_no {x = x} i n c) =
+  closed_alternative_err s t e w (closed_no {x} i n c) =
       let a = l.ok s t x w i in
       alternative_refused c a.steady.path (no_bad a n a.first) (λ o os v h g.
       let p = first_pieces q l.named (a.readable o os g.from h g.read) in
@@ -497,13 +496,13 @@ module _ {env : Variables} {A B : Type 0} {inner : Outcome A} {k : FieldKind} {q
   closed_single_ok : (s t : Situation) (v : B) → IsWholeIn env s
       → ClosedEval A B inner f Refused s (Ok v) t
       → SingleOk B k q closed_group (closed_gap gap f) s v t
-  closed_single_ok s t v w (closed_yes {x = x} i y) = yes_single x y (l.ok s t x w i)
+  closed_single_ok s t v w (closed_yes {x} i y) = yes_single x y (l.ok s t x w i)
 
   -- a refusal of one evaluation
   closed_single_err : (s t : Situation) (e : Error) → IsWholeIn env s
       → ClosedEval A B inner f Refused s (Err e) t
       → SingleErr B k q closed_group (closed_gap gap f) s e t
-  closed_single_err s t e w (closed_no {x = x} i n c) = no_single x c n (l.ok s t x w i)
+  closed_single_err s t e w (closed_no {x} i n c) = no_single x c n (l.ok s t x w i)
   closed_single_err s t e w (closed_memory i c) = of_memory c
   closed_single_err s t e w (closed_err i) = err_single (l.err s t e w i)
 
