@@ -99,8 +99,7 @@ module _ (argument : KeyWithValue) where
 
   -- the text of an argument behind its key
   takes_pair : argument.last ≡ false → {s t : Situation} {text : List ℕ}
-      → TakesOwnText argument.last argument s text t
-      → TookPair q s t text
+      → TakesOwnText argument.last argument s text t → TookPair q s t text
   takes_pair once {s} {t} {text} takes =
       took_pair s t text (subst (λ b. TakesOwnText b argument s text t) once takes)
 
@@ -115,8 +114,7 @@ module _ (argument : KeyWithValue) where
         let here = subst (λ z. first_set z argument.named.envs ≡ Some text) same read.set in
         subst (SingleOk T ByName q group (gap means variables) s v) (sym read.left)
         (subst (λ gap. SingleOk T ByName q group gap s v (with_current s None))
-        (ap (gap_of means) (sym here))
-        (gave_absent refl (no_key s read.no_key) m (current_cells s)
+        (ap (gap_of means) (sym here)) (gave_absent refl (no_key s read.no_key) m (current_cells s)
         (same_steady steady_refl)))
 
     -- one that means no value is refused
@@ -192,8 +190,7 @@ module _ (argument : KeyWithValue) where
       key = rest.key;
       word = rest.word;
       text_is = rest.text_is;
-      is = first_pieces q named first.takes
-          ∙ ap (λ z. Two first.key first.word ∷ z) rest.is;
+      is = first_pieces q named first.takes ∙ ap (λ z. Two first.key first.word ∷ z) rest.is;
       any = record {
         piece = Two first.key first.word;
         middle = cells m;
@@ -286,8 +283,7 @@ module _ (argument : KeyWithValue) where
         let before = subst (λ b. TakesBefore b argument s t) all o.1 in
         let m = match_of (is_key_with_value argument) t key o.0.0.matches in
         bare_refused s c (took_some s t before.0 before.1) (bare_taken test o.0.0 m o.0.1).is
-    last_err other c same o =
-        nowhere means (LastGroup T means) variables other c same o.0 o.1 o.2
+    last_err other c same o = nowhere means (LastGroup T means) variables other c same o.0 o.1 o.2
 
     -- such an argument keeps to the laws of a field
     pub last_argument_law : SingleLaw variables T (ArgumentOutcome means argument)
@@ -297,10 +293,8 @@ module _ (argument : KeyWithValue) where
       words = tt;
       starts = λ v rest g. never_nil (pairs g.0) (Two g.1.0 g.1.1) [] (sym g.2);
       no_absent = gap_empty means _;
-      ok = λ s t v w o.
-          ⊎_elim (λ takes. last_read s t v (takes_all takes) o.2)
-          (λ read. variable_read means (LastGroup T means) variables w.environment read o.2)
-          o.1;
+      ok = λ s t v w o. ⊎_elim (λ takes. last_read s t v (takes_all takes) o.2)
+          (λ read. variable_read means (LastGroup T means) variables w.environment read o.2) o.1;
       err = λ s t e w o. last_err e.0 refl w.environment o;
     }
 

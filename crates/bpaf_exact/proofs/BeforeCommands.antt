@@ -1,23 +1,22 @@
 -- A named field before others, the last of which are commands: together they keep to the laws of a
 -- program.
-use Rattle.std.proofs.Common.{◌≡◌, List, [], ◌∷◌, length, Some, None, Result, Ok, Err}
-use Rattle.std.proofs.Common.{refl, sym, ap, ◌∙◌, arith, if◌then◌else◌}
+use Rattle.std.proofs.Common.{◌≡◌, List, [], ◌∷◌, length, Some, None, Result, Ok, Err, refl, sym}
+use Rattle.std.proofs.Common.{ap, ◌∙◌, arith, if◌then◌else◌}
 use Rattle.bpaf_line.specs.{declared.error.Error.Error, Situation.Situation}
-use Rattle.bpaf_laws.specs.Product.{BothOutcome, ProductOutcome}
-use Rattle.bpaf_laws.specs.{Reading.Outcome}
+use Rattle.bpaf_laws.specs.{Product.BothOutcome, Product.ProductOutcome, Reading.Outcome}
 use Rattle.bpaf_exact.specs.Pieces.{Cells, Role, Foreign, Roles, LinePiece, One, Two, pieces, Apart}
 use Rattle.bpaf_exact.specs.Pieces.{is_own_role, IsNamed, TakesPiece, takes_one, takes_two}
 use Rattle.bpaf_exact.specs.Pieces.{takes_later, TakesPieces, takes_none, takes_more, Takes}
 use Rattle.bpaf_exact.specs.Pieces.{no_cells, empty_stays, other_stays, takes_flag, takes_argument}
-use Rattle.bpaf_exact.specs.Flat.{cells, IsWholeIn, ByName, FieldLaw}
-use Rattle.bpaf_exact.specs.Programs.{CellsValue, FieldThen, ProgramLaw}
-use Rattle.bpaf_exact.specs.Programs.{IsSpelledLine, AllSpelled, no_cell, empty_cell, spelled_cell}
+use Rattle.bpaf_exact.specs.Flat.{cells, IsWholeIn, ByName, FieldLaw, Variables}
+use Rattle.bpaf_exact.specs.Programs.{CellsValue, FieldThen, ProgramLaw, IsSpelledLine, AllSpelled}
+use Rattle.bpaf_exact.specs.Programs.{no_cell, empty_cell, spelled_cell, GivesAll}
 use Rattle.bpaf_exact.specs.Wrappers.{ClosedValue, map_closure}
-use Rattle.bpaf_exact.specs.{Pieces.either, Pieces.either_role, Flat.Variables, Programs.GivesAll}
+use Rattle.bpaf_exact.specs.Pieces.{either, either_role}
 use Rattle.bpaf_exact.proofs.Product.{none_outside_after, values_of_both, refused_both}
 use Rattle.bpaf_exact.proofs.Cells.{nil_rest, nil_foreign, value_foreign, begin_at}
-use Rattle.bpaf_exact.proofs.{Programs.cells_spelled, Records.current_cells, Sharing.second_within}
-use Rattle.bpaf_exact.proofs.Sharing.{first_within}
+use Rattle.bpaf_exact.proofs.{Sharing.second_within, Sharing.first_within, Programs.cells_spelled}
+use Rattle.bpaf_exact.proofs.Records.{current_cells}
 
 -- What is taken, and what is left.
 
@@ -25,8 +24,7 @@ use Rattle.bpaf_exact.proofs.Sharing.{first_within}
 pub one_take : {q : Roles} {cs ds es : Cells} {os ps : List LinePiece} → Takes q cs os ds
     → Takes q cs ps es → (os ≡ ps) × (ds ≡ es)
 one_take no_cells no_cells = (refl, refl)
-one_take (empty_stays t) (empty_stays u) =
-    let i = one_take t u in (i.0, ap (λ z. None ∷ z) i.1)
+one_take (empty_stays t) (empty_stays u) = let i = one_take t u in (i.0, ap (λ z. None ∷ z) i.1)
 one_take (other_stays {k} e t) (other_stays f u) =
     let i = one_take t u in (i.0, ap (λ z. Some k ∷ z) i.1)
 one_take (takes_flag {k} e t) (takes_flag f u) =

@@ -1,16 +1,15 @@
 -- What parsers answer, by their tables, is what the laws of flat fields speak of.
 use Rattle.std.proofs.Common.{◌≡◌, ℕ, Bool, true, false, List, [], Option, Some, None, Result, Ok}
-use Rattle.std.proofs.Common.{Err, refl, sym, ap, ◌∙◌, inl, inr, ◌⊎◌, ⊎_elim, true≢false}
-use Rattle.std.proofs.Common.{length, not}
+use Rattle.std.proofs.Common.{Err, refl, sym, ap, ◌∙◌, inl, inr, ◌⊎◌, ⊎_elim, true≢false, length}
+use Rattle.std.proofs.Common.{not}
 use Rattle.std.specs.Global.{Vec}
 use Rattle.bpaf_doc.specs.Names.{Names}
-use Rattle.bpaf_line.specs.declared.error.Message.{Message}
-use Rattle.bpaf_line.specs.declared.error.Message.TheVariants.{Missing}
-use Rattle.bpaf_line.specs.{declared.error.Error.Error, Messages.can_catch, Situation.Situation}
+use Rattle.bpaf_line.specs.{declared.error.Message.TheVariants.Missing, declared.error.Error.Error}
+use Rattle.bpaf_line.specs.{declared.error.Message.Message, Situation.Situation, Messages.can_catch}
 use Rattle.bpaf_laws.specs.Repeat.{ManyOutcome, SomeOutcome, CollectOutcome, CountOutcome, is_nil}
 use Rattle.bpaf_laws.specs.Default.{Gives, GivesClone, GivesAnswer, FallbackOutcome}
 use Rattle.bpaf_laws.specs.Transform.{MapOutcome, ParseOutcome, GuardOutcome}
-use Rattle.bpaf_laws.specs.{Hide.HideOutcome, Hide.hidden, Reading.Outcome, Turn.TurnOutcome}
+use Rattle.bpaf_laws.specs.{Hide.HideOutcome, Hide.hidden, Turn.TurnOutcome, Reading.Outcome}
 use Rattle.bpaf_exact.specs.Flat.{OfMemory, Caught, Refused, class, class_of, Variables, ErrorClass}
 use Rattle.bpaf_exact.specs.Single.{CanCatch, RepeatOutcome, catch_missing, catch_other, OwnList}
 use Rattle.bpaf_exact.specs.Wrappers.{Closure, Decides, map_closure, parse_closure, guard_closure}
@@ -18,10 +17,10 @@ use Rattle.bpaf_exact.specs.Wrappers.{answer_closure, ClosedEval, closed_yes, cl
 use Rattle.bpaf_exact.specs.Wrappers.{closed_memory, closed_err, OptionalEval, optional_some}
 use Rattle.bpaf_exact.specs.Wrappers.{optional_none, optional_err, optional_memory, FallbackEval}
 use Rattle.bpaf_exact.specs.Wrappers.{fallback_ok, fallback_given, fallback_no, fallback_memory}
-use Rattle.bpaf_exact.specs.Wrappers.{fallback_err, FallbackValue}
 use Rattle.bpaf_exact.specs.ProgramForm.{ProgramForm, FormLaw, Agrees, program_closed, completed}
 use Rattle.bpaf_exact.specs.ProgramForm.{program_dressed, program_if, program_optional}
-use Rattle.bpaf_exact.specs.{Single.repeated, Gathered.list_closure, Gathered.some_closure}
+use Rattle.bpaf_exact.specs.{Wrappers.fallback_err, Wrappers.FallbackValue, Single.repeated}
+use Rattle.bpaf_exact.specs.Gathered.{list_closure, some_closure}
 use Rattle.bpaf_exact.proofs.Classes.{memory_class, caught_class, kept_class, stops_at, goes_on}
 use Rattle.bpaf_exact.proofs.ProgramForm.{listed_law, narrower_form, never_refuses}
 use Rattle.bpaf_exact.proofs.ProgramForm.{program_closed_law, program_dressed_law}
@@ -58,8 +57,7 @@ parse_law env A B E inner answers shown names words s g l =
         → ClosedEval A B inner (parse_closure answers) Refused s r t
     by_answer s t (Ok v) o = closed_yes o.1 o.2
     by_answer s t (Err e) (inl o) = closed_err o
-    by_answer s t (Err e) (inr o) = ⊎_elim
-        (λ memory. closed_memory o.1 (ap class_of memory))
+    by_answer s t (Err e) (inr o) = ⊎_elim (λ memory. closed_memory o.1 (ap class_of memory))
         (λ told. closed_no o.1 (o.2, o.3) (ap class_of told.1)) o.4
 
 -- guard
@@ -76,8 +74,7 @@ guard_law env A inner checks message names words s g l =
         → ClosedEval A A inner (guard_closure checks) Refused s r t
     by_answer s t (Ok v) o = closed_yes o.0 (refl, o.1)
     by_answer s t (Err e) (inl o) = closed_err o
-    by_answer s t (Err e) (inr o) = ⊎_elim
-        (λ told. closed_no o.1 o.2 (ap class_of told))
+    by_answer s t (Err e) (inr o) = ⊎_elim (λ told. closed_no o.1 o.2 (ap class_of told))
         (λ memory. closed_memory o.1 (ap class_of memory)) o.3
 
 -- optional
@@ -147,8 +144,7 @@ some_law env T inner catch message names words s l =
   where
     by_answer : (s t : Situation) (r : Result (Vec T) Error) → SomeOutcome inner false message s r t
         → ClosedEval (List T) (Vec T) (RepeatOutcome inner false) (some_closure T) Caught s r t
-    by_answer s t (Ok v) o =
-        closed_yes o.0 (refl, λ none. true≢false (sym (ap is_nil none) ∙ o.1))
+    by_answer s t (Ok v) o = closed_yes o.0 (refl, λ none. true≢false (sym (ap is_nil none) ∙ o.1))
     by_answer s t (Err e) (inl o) = closed_err o
     by_answer s t (Err e) (inr o) =
         ⊎_elim (λ told. closed_no o.0 refl (ap class_of told))
@@ -254,8 +250,7 @@ pub hide_law : (env : Variables) (T : Type 0) (inner : Outcome T) (names : List 
     → FormLaw env (HideOutcome inner) names words (program_dressed s)
 hide_law env T inner names words s l =
     program_dressed_law env T (HideOutcome inner) names words s
-    (narrower_form env T inner (HideOutcome inner)
-    (record {
+    (narrower_form env T inner (HideOutcome inner) (record {
       value = λ s t v o. o;
       refusal = λ s t e o. (o.0, o.1, hidden_class o.0.0 ∙ ap class_of (sym o.2));
     }) names words s l)

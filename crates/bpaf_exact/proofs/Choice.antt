@@ -328,11 +328,9 @@ module _ {env : Variables} (T : Type 0) (a b : Outcome T) (qa qb : Roles)
   equal_ok s sa sb {t} {v} (Ok x) (Ok y) w f g hf hg (inr o) =
       winner_ok s t v o.1.0 w (la.ok s sa x w f) (lb.ok s sb y w g) o.1.1 o.1.2
   equal_ok s sa sb (Ok x) (Err e) w f g hf hg o =
-      alone_ok (first_won (la.ok s sa x w f)
-      (err_other hg (lb.err s sb e w g)) steady_refl refl) o
+      alone_ok (first_won (la.ok s sa x w f) (err_other hg (lb.err s sb e w g)) steady_refl refl) o
   equal_ok s sa sb (Err e) (Ok y) w f g hf hg o =
-      alone_ok (second_won (lb.ok s sb y w g)
-      (err_other hf (la.err s sa e w f)) steady_refl refl) o
+      alone_ok (second_won (lb.ok s sb y w g) (err_other hf (la.err s sa e w f)) steady_refl refl) o
   equal_ok s sa sb (Err e) (Err d) w f g hf hg o = let i = o.0.2 in absurd cc
 
   -- both fail
@@ -376,8 +374,7 @@ module _ {env : Variables} (T : Type 0) (a b : Outcome T) (qa qb : Roles)
   both_failed s e f x y c (alternative_missing p i same st) (alternative_refused q path h k) =
       by_class (combined_refused e.0 f.0 (inr q) (inl p) (inr q) c)
       (bad_left T vb vr qb qa (either qa qb) (swap_union qa qb (either qa qb) u) same_second
-      (cells s) h)
-      (both_unread s (λ o os w e g. cc) k)
+      (cells s) h) (both_unread s (λ o os w e g. cc) k)
   both_failed s e f x y c (alternative_refused p path h k) (alternative_missing q j same st) =
       by_class (combined_refused e.0 f.0 (inl p) (inr p) (inl q) c) (first_bad (cells s) h)
       (both_unread s k (λ o os w e g. cc))

@@ -106,8 +106,7 @@ module _ {env : Variables} {T : Type 0} {inner : Outcome T} {r : Roles} {words :
   -- the value is that of a command, or nothing is present
   optional_ok : (s t : Situation) (v : Option T) → IsWholeIn env s → IsSpelledLine s.context
       → OptionalEval T inner s (Ok v) t → NonePresent (cells t) → optional (cells s) v
-  optional_ok s t v w spelled (optional_some {v = x} i) n =
-      l.program.ok s t x w spelled i n
+  optional_ok s t v w spelled (optional_some {v = x} i) n = l.program.ok s t x w spelled i n
   optional_ok s t v w spelled (optional_none i stops) n = n
 
   -- want of memory stops nothing

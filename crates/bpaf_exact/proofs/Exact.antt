@@ -1,21 +1,19 @@
 -- The exactness theorem: a run of a flat record answers the record's value, or want of memory.
-use Rattle.std.proofs.Common.{◌≡◌, ℕ, zero, ◌<◌, Bool, true, false, not, ◌&&◌, ◌||◌, length}
-use Rattle.std.proofs.Common.{Option, slice_get, None, Ok, if◌then◌else◌, refl, sym, ◌∙◌}
-use Rattle.std.proofs.Common.{arith, nat_lt, nat_le, Result, Err}
+use Rattle.std.proofs.Common.{◌≡◌, ℕ, zero, ◌<◌, Bool, true, false, not, ◌&&◌, ◌||◌, length, Option}
+use Rattle.std.proofs.Common.{slice_get, None, Ok, if◌then◌else◌, refl, sym, ◌∙◌, arith, nat_lt}
+use Rattle.std.proofs.Common.{nat_le, Result, Err}
 use Rattle.std.proofs.lemmas.Bool.{lt-ltb, le-leb}
 use Rattle.bpaf_base.specs.declared.arg.Arg.{Arg}
 use Rattle.bpaf_line.specs.Situation.{Context, Situation, beginning, item_in, is_marker}
-use Rattle.bpaf_line.specs.Taking.{open_item}
+use Rattle.bpaf_line.specs.{declared.error.Error.Error, Taking.open_item}
 use Rattle.bpaf_laws.specs.Reading.{Outcome}
 use Rattle.bpaf_exact.specs.Flat.{cells, NonePresent, IsWholeIn, FieldsLaw, FieldsReading, ReadOff}
 use Rattle.bpaf_exact.specs.Record.{line_cells, RecordValue, RunAnswer, Accepted, RunRan, run_value}
 use Rattle.bpaf_exact.specs.Record.{run_leftover, run_memory, run_refusal, IsNoValue}
-use Rattle.bpaf_exact.specs.{Record.IsAcceptedOrWant, Record.IsExact, Programs.CellsValue}
-use Rattle.bpaf_exact.specs.{Pieces.Roles, Programs.GivesAll}
-use Rattle.bpaf_exact.proofs.{Counts.open_present, Cuts.one_cut, Places.same_cells}
-use Rattle.bpaf_exact.proofs.{Records.none_counted, Records.count_none, Cuts.read_cut}
-use Rattle.bpaf_exact.proofs.Records.{fields_give}
-use Rattle.bpaf_line.specs.declared.error.Error.{Error}
+use Rattle.bpaf_exact.specs.{Record.IsAcceptedOrWant, Record.IsExact, Pieces.Roles}
+use Rattle.bpaf_exact.specs.Programs.{CellsValue, GivesAll}
+use Rattle.bpaf_exact.proofs.Records.{none_counted, count_none, fields_give}
+use Rattle.bpaf_exact.proofs.{Cuts.one_cut, Cuts.read_cut, Counts.open_present, Places.same_cells}
 
 -- at the beginning each item is present, but for the marker
 open_at_first : (context : Context) (p : ℕ) → p < length context.line

@@ -1,6 +1,6 @@
 -- Taking the first piece, and the first piece of two fields together.
-use Rattle.std.proofs.Common.{◌≡◌, ◌<◌, true, false, List, [], ◌∷◌, length, Option, Some}
-use Rattle.std.proofs.Common.{None, refl, sym, ap, ◌∙◌, inl, inr, ◌⊎◌, if◌then◌else◌, arith}
+use Rattle.std.proofs.Common.{◌≡◌, ◌<◌, true, false, List, [], ◌∷◌, length, Option, Some, None}
+use Rattle.std.proofs.Common.{refl, sym, ap, ◌∙◌, inl, inr, ◌⊎◌, if◌then◌else◌, arith, ⊎_elim}
 use Rattle.bpaf_base.specs.declared.arg.Arg.{Arg}
 use Rattle.bpaf_exact.specs.Pieces.{Cells, Role, Foreign, Alone, WithNext, Roles, LinePiece, One}
 use Rattle.bpaf_exact.specs.Pieces.{Two, is_value, is_own_role, is_own, IsNamed, Apart, either}
@@ -10,7 +10,6 @@ use Rattle.bpaf_exact.specs.Alternative.{TakesFirst, first_one, first_two, first
 use Rattle.bpaf_exact.specs.Alternative.{bad_here, bad_later}
 use Rattle.bpaf_exact.proofs.Cells.{value_foreign, nil_rest, nil_foreign, keeps_other, same_next}
 use Rattle.bpaf_exact.proofs.Cells.{begin_at}
-use Rattle.std.proofs.Common.{⊎_elim}
 
 -- taking the first piece is taking one
 pub first_takes : {q : Roles} {cs ds : Cells} {o : LinePiece} → TakesFirst q cs o ds

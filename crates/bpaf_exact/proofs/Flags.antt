@@ -152,8 +152,7 @@ module _ {T : Type 0} (clones : T → T → Type 0) (key : Key) (present : T) (a
     words = tt;
     starts = λ v rest g. let e = g.1 in cc;
     no_absent = gap_empty clones _;
-    ok = λ s t v w o.
-        ⊎_elim (λ here. ⊎_elim (λ takes. switch_found s v takes here.1)
+    ok = λ s t v w o. ⊎_elim (λ here. ⊎_elim (λ takes. switch_found s v takes here.1)
         (λ set. switch_none set.0.0 set.0.1 (gap_set clones present absent _
         (set_here s w.environment set.1) here.1)) here.0) (λ none. switch_none none.0.0.0 none.0.0.1
         (gap_unset clones present absent _ v (set_here s w.environment none.0.1) none.1)) o;

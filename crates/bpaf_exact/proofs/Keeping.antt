@@ -11,9 +11,8 @@ use Rattle.bpaf_exact.proofs.ProgramSays.{inside_say, program_alone_says, progra
 
 -- the last field
 pub keep_last : {env : Variables} {P R A : Type 0} (last : R → P) (r : R) (outcome : Outcome A)
-    (kind : P → SaidKind)
-    (names : P → List Names) (words : List (List ℕ)) (s : ProgramForm A) (said : ProgramSaid P A)
-    → FormLaw env outcome (names (last r)) words s
+    (kind : P → SaidKind) (names : P → List Names) (words : List (List ℕ)) (s : ProgramForm A)
+    (said : ProgramSaid P A) → FormLaw env outcome (names (last r)) words s
     → ProgramSays (names (last r)) s (kind (last r)) said (last r)
     → FieldsKeep env outcome (names (last r)) (program_alone (program_field s))
     (said_alone last kind names said) r
@@ -33,14 +32,13 @@ keep_inside inside r kept = record { law = kept.law; says = inside_say inside ke
 -- a field before such fields
 pub keep_before : {env : Variables} {P Q R A B : Type 0} (first : R → P) (rest : R → Q) (r : R)
     (outcome : Outcome A) (kind : P → SaidKind) (names : P → List Names) (words : List (List ℕ))
-    (s : ProgramForm A) (said : ProgramSaid P A)
-    → FormLaw env outcome (names (first r)) words s
-    → ProgramSays (names (first r)) s (kind (first r)) said (first r)
-    → {behind : Outcome B} {others : List Names} {t : ProgramForm B} {more : ProgramFieldsSaid Q B}
+    (s : ProgramForm A) (said : ProgramSaid P A) → FormLaw env outcome (names (first r)) words s
+    → ProgramSays (names (first r)) s (kind (first r)) said (first r) → {behind : Outcome B}
+    {others : List Names} {t : ProgramForm B} {more : ProgramFieldsSaid Q B}
     → FieldsKeep env behind others t more (rest r)
     → FieldsKeep env (BothOutcome outcome behind) (names (first r) ++ others)
-    (program_both (names (first r)) others (program_field s) t)
-    (said_both first rest kind names said more) r
+    (program_both (names (first r)) others (program_field s) t) (said_both first rest kind names
+    said more) r
 keep_before {env} {A} {B} first rest r outcome kind names words s said law says {behind} {others}
     {t} kept = record {
       law = program_both_law env A B outcome behind (names (first r)) others words

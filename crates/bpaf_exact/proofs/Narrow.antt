@@ -18,10 +18,8 @@ pub record AllowsNoMore (T : Type 0) (a b : Outcome T) : Type 0 where
 -- so it is where it allows each answer itself
 pub no_more : {T : Type 0} {a b : Outcome T}
     → ((s t : Situation) (r : Result T Error) → b s r t → a s r t) → AllowsNoMore T a b
-no_more f = record {
-  value = λ s t v o. f s t (Ok v) o;
-  refusal = λ s t e o. (e, f s t (Err e) o, refl);
-}
+no_more f =
+    record { value = λ s t v o. f s t (Ok v) o; refusal = λ s t e o. (e, f s t (Err e) o, refl) }
 
 module _ (T : Type 0) {d e : Error} (same : class d ≡ class e) where
   -- a refusal of an alternative is one of another error of its class

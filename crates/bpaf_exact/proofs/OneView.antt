@@ -182,10 +182,8 @@ module _ {env : Variables} {T X : Type 0} {see : T → X} {inner : Outcome T} (k
   -- the value of a single field
   pub value_view : (os : List LinePiece) → Alike see (SingleValue T group gap os)
   value_view os v w (inl g) (inl h) = (one os [] [] v w g h).0
-  value_view os v w (inl g) (inr e) =
-      absurd (l.starts v [] (subst (λ z. group z v []) e.0 g))
-  value_view os v w (inr e) (inl h) =
-      absurd (l.starts w [] (subst (λ z. group z w []) e.0 h))
+  value_view os v w (inl g) (inr e) = absurd (l.starts v [] (subst (λ z. group z v []) e.0 g))
+  value_view os v w (inr e) (inl h) = absurd (l.starts w [] (subst (λ z. group z w []) e.0 h))
   value_view os v w (inr e) (inr f) = absent v w e.1 f.1
 
   -- where there is no piece there is none
@@ -268,8 +266,7 @@ pub many_view : (env : Variables) (T X : Type 0) (see : T → X) (inner : Outcom
     (program_closed (list_closure T) (completed repeated (OwnList T) s))
 many_view env T X see inner names words s l u =
     closed_view (List T) (Vec T) (List X) (List X) (map see) (λ values. map see values.items)
-    (list_closure T)
-    (record {
+    (list_closure T) (record {
       same = λ x y v w e f g. ap (map see) f ∙ (e ∙ sym (ap (map see) g));
       apart = λ x y v e f n. n;
     }) (completed repeated (OwnList T) s)

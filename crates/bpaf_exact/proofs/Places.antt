@@ -1,7 +1,6 @@
 -- From places to cells: the first place that is wanted, and what is left when it is taken.
 use Rattle.std.proofs.Common.{◌≡◌, ◌≢◌, ℕ, suc, zero, ◌<◌, Bool, true, false, not, ◌&&◌, List, []}
-use Rattle.std.proofs.Common.{◌∷◌, Option, Some, None, refl, ap, ap₂, ◌∙◌}
-use Rattle.std.proofs.Common.{if◌then◌else◌, arith}
+use Rattle.std.proofs.Common.{◌∷◌, Option, Some, None, refl, ap, ap₂, ◌∙◌, if◌then◌else◌, arith}
 use Rattle.bpaf_base.specs.declared.arg.Arg.{Arg}
 use Rattle.bpaf_line.specs.Situation.{Situation, is_open, is_taken, in_scope, item_at, take_place}
 use Rattle.bpaf_line.specs.Taking.{open_item}

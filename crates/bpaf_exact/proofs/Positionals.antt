@@ -1,7 +1,6 @@
 -- Positional words keep to the laws.
 use Rattle.std.proofs.Common.{◌≡◌, ℕ, Bool, true, false, List, [], ◌∷◌, Some, None, Ok, Err, refl}
-use Rattle.std.proofs.Common.{sym, ap, ◌∙◌, not, true≢false, if◌then◌else◌, option_and_then}
-use Rattle.std.proofs.Common.{take}
+use Rattle.std.proofs.Common.{sym, ap, ◌∙◌, not, true≢false, if◌then◌else◌, option_and_then, take}
 use Rattle.std.specs.Option.{option_map_or}
 use Rattle.bpaf_base.specs.declared.arg.Arg.TheVariants.{Word, PosWord}
 use Rattle.bpaf_base.specs.Items.{is_positional, word_text, item_text}

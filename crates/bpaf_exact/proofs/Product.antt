@@ -35,8 +35,7 @@ pub steady_trans : {s m t : Situation} → Steady s m → Steady m t → Steady 
 steady_trans a b = record {
   context = b.context ∙ a.context;
   start = b.start ∙ a.start;
-  end = b.end
-      ∙ a.end;
+  end = b.end ∙ a.end;
   path = b.path ∙ a.path;
   keeps = λ p h. b.keeps p (a.keeps p h);
 }

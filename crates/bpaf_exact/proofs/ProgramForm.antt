@@ -1,13 +1,11 @@
 -- Each parser keeps to the laws of its form to a program, where its inner parsers do.
-use Rattle.std.proofs.Common.{◌≡◌, ℕ, Bool, true, false, not, ◌&&◌, List, [], ◌∷◌, ◌++◌}
-use Rattle.std.proofs.Common.{Option, Some, None, refl, sym, ap, ◌∙◌, bytes_eq, ⊎_elim}
-use Rattle.std.proofs.Common.{true≢false, append-nil, inl, inr}
+use Rattle.std.proofs.Common.{◌≡◌, ℕ, Bool, true, false, not, ◌&&◌, List, [], ◌∷◌, ◌++◌, Option}
+use Rattle.std.proofs.Common.{Some, None, refl, sym, ap, ◌∙◌, bytes_eq, ⊎_elim, true≢false}
 use Rattle.std.proofs.lemmas.Bool.{and_parts, false_from_ne_true}
-use Rattle.std.proofs.lemmas.Slice.Eq.{bytes_eq-Decides}
+use Rattle.std.proofs.{Common.append-nil, Common.inl, Common.inr, lemmas.Slice.Eq.bytes_eq-Decides}
 use Rattle.std.specs.{Option.option_map_or, List.list_all}
 use Rattle.bpaf_doc.specs.Names.{Names}
-use Rattle.bpaf_base.specs.Items.{command_word, is_command_word}
-use Rattle.bpaf_base.specs.declared.arg.Arg.{Arg}
+use Rattle.bpaf_base.specs.{Items.command_word, Items.is_command_word, declared.arg.Arg.Arg}
 use Rattle.bpaf_line.specs.Situation.{Context, beginning}
 use Rattle.bpaf_laws.specs.Command.{Called, is_one_of, opening_words}
 use Rattle.bpaf_laws.specs.{Product.BothOutcome, Product.ProductOutcome, Choice.ChoiceOutcome}
@@ -134,8 +132,7 @@ some_agrees env inner names words _ l = tt
 module _ (env : Variables) (T : Type 0) (inner : Outcome T) (names : List Names)
     (words : List (List ℕ)) (s : ProgramForm T) (l : FormLaw env inner names words s) where
   -- the last value
-  pub program_last_law : FormLaw env (LastOutcome inner) names []
-      (completed repeated (LastOf T) s)
+  pub program_last_law : FormLaw env (LastOutcome inner) names [] (completed repeated (LastOf T) s)
   program_last_law = completed_law (LastOf T) (λ k q. repeated_keys k q)
       (λ k q group gap l. last_of_law l) words [] s l
 

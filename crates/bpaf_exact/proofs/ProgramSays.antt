@@ -13,7 +13,7 @@ use Rattle.bpaf_exact.specs.ProgramForm.{program_optional, program_choice, choic
 use Rattle.bpaf_exact.specs.ProgramForm.{program_field, program_both, program_alone, program_con}
 use Rattle.bpaf_exact.specs.ProgramForm.{whole_program, program_value, is_program, program_command}
 use Rattle.bpaf_exact.specs.ProgramForm.{are_words_apart, product_roles}
-use Rattle.bpaf_exact.specs.Programs.{CellsValue, ChoiceValue, OptionalCommands}
+use Rattle.bpaf_exact.specs.Programs.{CellsValue, ChoiceValue, OptionalCommands, are_plain}
 use Rattle.bpaf_exact.specs.ProgramSays.{ProgramSaid, of_pieces, of_cells, ProgramFieldsSaid}
 use Rattle.bpaf_exact.specs.ProgramSays.{of_all_pieces, of_all_cells, IsSaid, CellsSay}
 use Rattle.bpaf_exact.specs.ProgramSays.{ProgramFormSays, ProgramSays, ProgramFieldsSay, cells_said}
@@ -22,15 +22,13 @@ use Rattle.bpaf_exact.specs.ProgramSays.{said_command, said_dressed, said_option
 use Rattle.bpaf_exact.specs.ProgramSays.{said_last, said_repeat, fields_said_inside, CutSays}
 use Rattle.bpaf_exact.specs.Wrappers.{ClosedValue, FallbackValue, OptionalValue, Closure}
 use Rattle.bpaf_exact.specs.Single.{OwnList, repeated, Groups, Gap}
-use Rattle.bpaf_exact.specs.Flat.{ByName, Variables, FieldKind}
-use Rattle.bpaf_exact.specs.{Programs.are_plain, ProgramSays.FieldThenSays, Names.are_all_apart}
-use Rattle.bpaf_exact.specs.{Gathered.LastOf, Pieces.LinePiece}
+use Rattle.bpaf_exact.specs.{Flat.ByName, Flat.Variables, Flat.FieldKind, ProgramSays.FieldThenSays}
+use Rattle.bpaf_exact.specs.{Names.are_all_apart, Pieces.LinePiece, Gathered.LastOf}
 use Rattle.bpaf_exact.proofs.Says.{alone_says, both_say, choice_into, choice_says, closed_says}
 use Rattle.bpaf_exact.proofs.Says.{con_says, field_owned, field_says, optional_says, owned}
 use Rattle.bpaf_exact.proofs.Says.{record_says, unless_says, fallback_says, OwnsKeys, last_says}
-use Rattle.bpaf_exact.proofs.Sharing.{cut_fit, taken_own}
-use Rattle.bpaf_exact.proofs.{Says.listed_says, ProgramForm.whole_law, Cuts.read_cut}
-use Rattle.bpaf_exact.proofs.Says.{WholeSays}
+use Rattle.bpaf_exact.proofs.{Sharing.cut_fit, Sharing.taken_own, Says.listed_says, Says.WholeSays}
+use Rattle.bpaf_exact.proofs.{ProgramForm.whole_law, Cuts.read_cut}
 
 -- where a test holds
 cells_if : {T : Type 0} (b : Bool) (s : ProgramForm T) (said : CellsValue T)
@@ -257,8 +255,7 @@ module _ {P Q T : Type 0} (q : Q) where
       only_says q (of_cells said) names _ (by_form before s h g)
     where
       by_form : (before s : ProgramForm T) → CellsSay (choice_only before) (said q)
-          → CellsSay s (says p)
-          → CellsSay (program_choice own others words more before s) (said q)
+          → CellsSay s (says p) → CellsSay (program_choice own others words more before s) (said q)
       by_form (commands false a) (commands false b) h g =
           cells_if (are_words_apart words more) _ _ (λ on. either)
         where
@@ -274,9 +271,8 @@ module _ {P Q T : Type 0} (q : Q) where
 
   -- the first parser
   pub first_says : (says : ProgramSaid P T) (said : ProgramSaid Q T) (p : P) (kind : SaidKind)
-      (keys names : List Names) (s : ProgramForm T)
-      → ProgramFormSays keys s kind says p → Into says said p
-      → ProgramFormSays names (choice_only s) (of_kind ByName) said q
+      (keys names : List Names) (s : ProgramForm T) → ProgramFormSays keys s kind says p
+      → Into says said p → ProgramFormSays names (choice_only s) (of_kind ByName) said q
   first_says (of_pieces says) (of_pieces said) p kind keys names s h into =
       record { by = by_form s h.by }
     where
@@ -316,8 +312,7 @@ program_choice_says {P} {Q} {T} this that r own others words more {s} {t} {a} {b
     both_cells _ _ x y h g = tt
 
     first_cells : (s t : ProgramForm T) (x : CellsValue T) (y : Said T) → CellsSay s x
-        → FormSays others t k y
-        → CellsSay (program_choice own others words more s t) (λ cs v. ⊥)
+        → FormSays others t k y → CellsSay (program_choice own others words more s t) (λ cs v. ⊥)
     first_cells (alternative wide q value) t x y h g = absurd h
     first_cells (commands false value) (commands optional other) x y h g = absurd g
     first_cells _ _ x y h g = tt
@@ -395,13 +390,12 @@ module _ {P Q R A B : Type 0} (first : R → P) (rest : R → Q) (r : R) (outcom
   cells_before said _ t h = tt
 
   pub program_both_say : (env : Variables) {s : ProgramForm A} {t : ProgramForm B}
-      {said : ProgramSaid P A}
-      {more : ProgramFieldsSaid Q B} → FormLaw env outcome (names (first r)) words s
-      → FormLaw env behind others [] t
+      {said : ProgramSaid P A} {more : ProgramFieldsSaid Q B}
+      → FormLaw env outcome (names (first r)) words s → FormLaw env behind others [] t
       → ProgramSays (names (first r)) s (kind (first r)) said (first r)
-      → ProgramFieldsSay others t more (rest r) → ProgramFieldsSay (names (first r) ++ others)
-      (program_both (names (first r)) others (program_field s) t)
-      (said_both first rest kind names said more) r
+      → ProgramFieldsSay others t more (rest r)
+      → ProgramFieldsSay (names (first r) ++ others) (program_both (names (first r)) others
+      (program_field s) t) (said_both first rest kind names said more) r
   program_both_say env {s} {t} {said = of_pieces said} {more = of_all_pieces more} law laws h g =
       record {
         by = both_say (field_owned env outcome words s law) (owned env behind [] t laws)

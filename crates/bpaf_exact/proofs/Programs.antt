@@ -1,12 +1,12 @@
 -- A command over a program keeps to the laws of commands, and a named field before them to those of
 -- a program.
-use Rattle.std.proofs.Common.{◌≡◌, ◌≤◌, ◌<◌, ℕ, zero, suc, true, false, not, ◌&&◌, List, []}
-use Rattle.std.proofs.Common.{◌∷◌, length, Option, Some, None, Result, Ok, refl, sym, ap, ◌∙◌}
-use Rattle.std.proofs.Common.{subst, inl, inr, ⊎_elim, arith, true≢false, if◌then◌else◌}
+use Rattle.std.proofs.Common.{◌≡◌, ◌≤◌, ◌<◌, ℕ, zero, suc, true, false, not, ◌&&◌, List, [], ◌∷◌}
+use Rattle.std.proofs.Common.{length, Option, Some, None, Result, Ok, refl, sym, ap, ◌∙◌, subst}
+use Rattle.std.proofs.Common.{inl, inr, ⊎_elim, arith, true≢false, if◌then◌else◌, bytes_eq}
 use Rattle.std.proofs.lemmas.Bool.{cases_lt, cases_Bool, false_from_ne_true}
-use Rattle.std.proofs.lemmas.Slice.Eq.{bytes_eq-Decides}
-use Rattle.std.proofs.{Common.bytes_eq, lemmas.Bool.Decides.nat_tests, lemmas.List.length_push}
-use Rattle.std.specs.{List.list_any, Option.option_map_or}
+use Rattle.std.proofs.{lemmas.Slice.Eq.bytes_eq-Decides, lemmas.Bool.Decides.nat_tests}
+use Rattle.std.proofs.lemmas.List.{length_push}
+use Rattle.std.specs.{Option.option_map_or, List.list_any}
 use Rattle.bpaf_base.specs.declared.arg.Arg.TheVariants.{Short, Long}
 use Rattle.bpaf_base.specs.{declared.arg.Arg.Arg, Items.any_item}
 use Rattle.bpaf_line.specs.Situation.{Situation, in_scope, is_taken, item_at}
@@ -14,22 +14,21 @@ use Rattle.bpaf_line.specs.{declared.error.Error.Error, Taking.open_item}
 use Rattle.bpaf_line.proofs.Places.{open_in_scope, taken_here, taken_other, taken_stays}
 use Rattle.bpaf_line.proofs.Matches.{match_is_open, open_item_there}
 use Rattle.bpaf_laws.specs.Command.{Called, IsNotOpened, IsOpenedAt, inside, is_one_of}
-use Rattle.bpaf_laws.specs.{Command.opening_words, Choice.depth, Reading.Outcome}
+use Rattle.bpaf_laws.specs.{Command.opening_words, Reading.Outcome, Choice.depth}
 use Rattle.bpaf_exact.specs.Flat.{cells, first_cells, NonePresent, IsWholeIn, FieldsLaw}
-use Rattle.bpaf_exact.specs.Flat.{FieldsReading, ReadOff, Variables}
 use Rattle.bpaf_exact.specs.Programs.{CellsValue, Opens, opens_here, opens_later, OpensNone}
 use Rattle.bpaf_exact.specs.Programs.{is_dashed, is_spelled, IsSpelledLine, AllSpelled, no_cell}
-use Rattle.bpaf_exact.specs.Programs.{empty_cell, spelled_cell, are_plain, CommandValue}
-use Rattle.bpaf_exact.specs.Programs.{ProgramLaw, FindsNoCommand, CommandsLaw}
-use Rattle.bpaf_exact.specs.Programs.{CommandEval, command_value, command_leftover, command_refused}
-use Rattle.bpaf_exact.specs.Programs.{command_missing, command_memory, GivesAll}
+use Rattle.bpaf_exact.specs.Programs.{empty_cell, spelled_cell, are_plain, CommandValue, ProgramLaw}
+use Rattle.bpaf_exact.specs.Programs.{FindsNoCommand, CommandsLaw, CommandEval, command_value}
+use Rattle.bpaf_exact.specs.Programs.{command_leftover, command_refused, command_missing}
 use Rattle.bpaf_exact.specs.Pieces.{Cells, Roles, pieces, IsNamed, is_key, Alone, One}
-use Rattle.bpaf_exact.proofs.Choice.{HasItem, has_item}
-use Rattle.bpaf_exact.proofs.Places.{same_item, closed_item, TakenOne, take_one}
-use Rattle.bpaf_exact.proofs.{Counts.open_present, Matching.match_of, Product.no_own_in_cut}
-use Rattle.bpaf_exact.proofs.{Records.count_none, Cells.begin_at, Cuts.read_cut, Names.both_hold}
-use Rattle.bpaf_exact.proofs.Records.{fields_give}
 use Rattle.bpaf_exact.specs.Alternative.{TakesFirst, NotOwn, first_one, first_later}
+use Rattle.bpaf_exact.specs.Flat.{FieldsReading, ReadOff, Variables}
+use Rattle.bpaf_exact.specs.Programs.{command_memory, GivesAll}
+use Rattle.bpaf_exact.proofs.Places.{same_item, closed_item, TakenOne, take_one}
+use Rattle.bpaf_exact.proofs.{Records.count_none, Records.fields_give, Product.no_own_in_cut}
+use Rattle.bpaf_exact.proofs.{Choice.HasItem, Choice.has_item, Counts.open_present, Names.both_hold}
+use Rattle.bpaf_exact.proofs.{Matching.match_of, Cells.begin_at, Cuts.read_cut}
 
 -- A command's word on cells.
 
@@ -312,6 +311,5 @@ module _ {env : Variables} {V : Type 0} {outcome : Outcome V} {r : Roles}
     others = λ q n a cs v s h. no_own_in_cut n a (read_cut h);
     deep = λ s t v w o. let e = ap length (l.steady s t v w o).path in omega arith;
     ok = λ s t v w spelled o. l.ok s t v w o;
-    answers = λ s t a u w o h.
-        fields_give l a w o (read_cut h) (l.has_each h.cut_into u h.read);
+    answers = λ s t a u w o h. fields_give l a w o (read_cut h) (l.has_each h.cut_into u h.read);
   }

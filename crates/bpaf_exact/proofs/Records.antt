@@ -1,7 +1,7 @@
 -- The last field of a product, and its constructor; and that a product of named fields keeps to the
 -- laws of a named field, so it may stand in another product.
-use Rattle.std.proofs.Common.{◌≡◌, List, [], ◌∷◌, Some, None, refl, sym, ap, ◌∙◌, arith, Ok}
-use Rattle.std.proofs.Common.{Result, Err, true, false, ap₂, if◌then◌else◌, not, Bool, filter}
+use Rattle.std.proofs.Common.{◌≡◌, List, [], ◌∷◌, Some, None, refl, sym, ap, ◌∙◌, arith, Ok, Result}
+use Rattle.std.proofs.Common.{Err, true, false, ap₂, if◌then◌else◌, not, Bool, filter}
 use Rattle.bpaf_line.specs.{Situation.Situation, Situation.with_current, declared.error.Error.Error}
 use Rattle.bpaf_laws.specs.{Product.ProductOutcome, Product.BothOutcome, Reading.Outcome}
 use Rattle.bpaf_exact.specs.Pieces.{Cells, Roles, Role, Foreign, LinePiece, IsNamed, Cut, either}
@@ -10,17 +10,15 @@ use Rattle.bpaf_exact.specs.Pieces.{WithNext, begin_piece, is_own_role, mine, ot
 use Rattle.bpaf_exact.specs.Flat.{cells, NonePresent, no_place, none_here, Steady, IsWholeIn}
 use Rattle.bpaf_exact.specs.Flat.{FieldKind, ByName, keys, OwnItems, FieldLaw, FieldsLaw, ReadOff}
 use Rattle.bpaf_exact.specs.Flat.{Before, FieldsReading, HasValue, portion, front, Variables}
-use Rattle.bpaf_exact.specs.Flat.{both_reading}
-use Rattle.bpaf_exact.specs.{Pieces.takes_none, Pieces.with_next, Pieces.is_own, Programs.GivesAll}
+use Rattle.bpaf_exact.specs.{Pieces.takes_none, Pieces.with_next, Pieces.is_own, Flat.both_reading}
 use Rattle.bpaf_exact.specs.{Wrappers.map_closure, Wrappers.ClosedValue, Single.present_count}
-use Rattle.bpaf_exact.specs.Record.{last_reading}
+use Rattle.bpaf_exact.specs.{Record.last_reading, Programs.GivesAll}
 use Rattle.bpaf_exact.proofs.Product.{step_back, none_left, own_portion, step_on, refused_both}
-use Rattle.bpaf_exact.proofs.Product.{none_outside_after}
+use Rattle.bpaf_exact.proofs.Product.{none_outside_after, steady_trans, values_of_both}
 use Rattle.bpaf_exact.proofs.First.{Belongs, Union, belongs, both_nil, either_union, own_next}
 use Rattle.bpaf_exact.proofs.First.{swap_union, takes_left, to_first, to_none, to_second}
 use Rattle.bpaf_exact.proofs.{Cuts.empty_cut, Cuts.cut_empty, Cuts.read_off, First.union_named}
-use Rattle.bpaf_exact.proofs.{Product.steady_trans, Product.values_of_both, Repeat.some_trans}
-use Rattle.bpaf_exact.proofs.Cells.{keeps_other_some, begin_at}
+use Rattle.bpaf_exact.proofs.{Cells.keeps_other_some, Cells.begin_at, Repeat.some_trans}
 use Rattle.bpaf_base.specs.declared.arg.Arg.{Arg}
 
 -- Nothing is present where the count is nought.
@@ -101,13 +99,8 @@ current_cells s = refl
 
 -- a step that takes the same is as steady, whichever place is current
 pub same_steady : {s t : Situation} → Steady s t → Steady s (with_current t None)
-same_steady a = record {
-  context = a.context;
-  start = a.start;
-  end = a.end;
-  path = a.path;
-  keeps = a.keeps;
-}
+same_steady a =
+    record { context = a.context; start = a.start; end = a.end; path = a.path; keeps = a.keeps }
 
 module _ {env : Variables} {A B : Type 0} {fields : Outcome A} (makes : A → B → Type 0) {r : Roles}
     {reading : FieldsReading A} (l : FieldsLaw env A fields r reading) where
@@ -155,8 +148,7 @@ module _ (q : Roles) (test : LinePiece → Bool) (k : Arg) (cs : Cells) (os : Li
   passed_begin Alone h =
       ap (λ b. if b then (One k ∷ filter test os) else filter test os) (h (One k) refl)
   passed_begin WithNext h = ap (λ b. if b then (with_next k cs ∷ filter test os) else filter test
-      os)
-      (h (with_next k cs) (own_next q k cs))
+      os) (h (with_next k cs) (own_next q k cs))
 
 module _ {p q r : Roles} (u : Union p q r) where
   -- of the pieces of both the first one's are its own,

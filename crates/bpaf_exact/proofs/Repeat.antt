@@ -173,8 +173,7 @@ module _ {env : Variables} {T : Type 0} {inner : Outcome T} {k : FieldKind} {q :
   enough_took : {s t : Situation} {v : T} → open_count s ≤ open_count t
       → SingleOk T k q group gap s v t → Took s [] t
   enough_took {v} same (gave_absent h p ab e st) = ended st p e (λ i. (v, ab))
-  enough_took {s} {t} same (took h) =
-      let f = fewer_count s t h.takes in absurd (omega arith)
+  enough_took {s} {t} same (took h) = let f = fewer_count s t h.takes in absurd (omega arith)
 
   -- a turn after a value that stops
   stop_took : (s : Situation) {t : Situation} → IsWholeIn env s
@@ -458,9 +457,5 @@ module _ {env : Variables} {T : Type 0} {inner : Outcome T} {k : FieldKind} {q :
 
   -- last keeps to the laws of a field
   pub last_of_law : FieldLaw env T (LastOutcome inner) (repeated k) q (LastOf T group gap)
-  last_of_law = record {
-    own = rl.own;
-    ok = last_took;
-    takes_all = last_takes;
-    refuses = last_refuses;
-  }
+  last_of_law =
+      record { own = rl.own; ok = last_took; takes_all = last_takes; refuses = last_refuses }

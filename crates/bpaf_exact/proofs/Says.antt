@@ -3,20 +3,17 @@ use Rattle.std.proofs.Common.{◌≡◌, ℕ, Bool, true, false, List, [], ◌�
 use Rattle.std.proofs.Common.{◌&&◌, ◌||◌, not, refl, sym, ap, ◌∙◌, subst, append-nil, inl, inr}
 use Rattle.bpaf_doc.specs.Names.{Names}
 use Rattle.bpaf_exact.specs.Pieces.{Roles, LinePiece, One, Two, is_own, mine, others, either}
-use Rattle.bpaf_exact.specs.Flat.{FieldKind, ByName, OneWord, FieldsReading, keys, front}
+use Rattle.bpaf_exact.specs.Flat.{FieldKind, ByName, OneWord, FieldsReading, keys, front, back}
 use Rattle.bpaf_exact.specs.Single.{Groups, Gap, FrontOf, Own, own_none, own_more, OwnList, listed}
 use Rattle.bpaf_exact.specs.Single.{listed_and_absent, only_absent, SingleValue, gap_of, repeated}
 use Rattle.bpaf_exact.specs.Wrappers.{Closure, OptionalValue, FallbackValue}
-use Rattle.bpaf_laws.specs.Flag.{value_without_key}
 use Rattle.bpaf_exact.specs.Leaves.{flag_field, flag_roles, FlagValue, argument_field}
 use Rattle.bpaf_exact.specs.Leaves.{argument_group, argument_roles, key_field, ArgumentValue}
-use Rattle.bpaf_laws.specs.{Reading.Outcome, Environment.first_set, Repeat.is_nil}
 use Rattle.bpaf_exact.specs.ProgramForm.{ProgramForm, FormLaw, no_program, alternative, single}
 use Rattle.bpaf_exact.specs.ProgramForm.{complete, product, commands, before_commands, program_if}
 use Rattle.bpaf_exact.specs.ProgramForm.{program_closed, program_choice, completed}
 use Rattle.bpaf_exact.specs.ProgramForm.{program_optional, program_field, is_named, may_follow}
-use Rattle.bpaf_exact.specs.ProgramForm.{program_both, program_alone, program_con}
-use Rattle.bpaf_exact.specs.ProgramForm.{whole_program}
+use Rattle.bpaf_exact.specs.ProgramForm.{program_both, program_alone, program_con, whole_program}
 use Rattle.bpaf_exact.specs.Says.{SaidKind, form_kind, of_kind, keyed, repeated_kind, AllOwn, Fits}
 use Rattle.bpaf_exact.specs.Says.{Said, FlagSays, says_present, says_absent, says_variable}
 use Rattle.bpaf_exact.specs.Says.{ArgumentSays, says_variable_text, says_text, says_last_text}
@@ -24,10 +21,12 @@ use Rattle.bpaf_exact.specs.Says.{WordSays, EitherSays, says_this, says_that, Ma
 use Rattle.bpaf_exact.specs.Says.{OptionalSays, says_some, says_none, FallbackSays, says_own}
 use Rattle.bpaf_exact.specs.Says.{says_kept, FrontSays, RepeatSays, says_in_turn, says_alone}
 use Rattle.bpaf_exact.specs.Says.{LastSays, FieldsSaid, RecordSays, FormSays, Says, FieldsFormSays}
-use Rattle.bpaf_exact.specs.Says.{FieldsSay, its_pieces, words_after}
-use Rattle.bpaf_exact.specs.{Pieces.no_roles, Flat.back, Flat.both_reading, Flat.Variables}
-use Rattle.bpaf_exact.specs.{Leaves.WordValue, Leaves.word_by, Names.Owns, Names.are_all_apart}
-use Rattle.bpaf_exact.specs.{Gathered.LastOf, Alternative.either_value, Record.last_reading}
+use Rattle.bpaf_exact.specs.{Says.FieldsSay, Says.its_pieces, Says.words_after, Record.last_reading}
+use Rattle.bpaf_exact.specs.{Flat.both_reading, Flat.Variables, Leaves.WordValue, Leaves.word_by}
+use Rattle.bpaf_exact.specs.{Names.Owns, Names.are_all_apart, Alternative.either_value}
+use Rattle.bpaf_exact.specs.{Pieces.no_roles, Gathered.LastOf}
+use Rattle.bpaf_laws.specs.{Flag.value_without_key, Environment.first_set, Reading.Outcome}
+use Rattle.bpaf_laws.specs.Repeat.{is_nil}
 use Rattle.std.specs.{Option.is_none, Option.IsSomeRelated, Prelude.MatchBool}
 use Rattle.bpaf_exact.proofs.Sharing.{mine_rest, others_fit, others_rest, rest_fit, apart_none}
 use Rattle.bpaf_exact.proofs.Sharing.{each_own, first_fits, no_fits, own_fit, second_fits}
@@ -127,8 +126,7 @@ module _ {T : Type 0} (means : List ℕ → T → Type 0) where
 -- what the value of a word by itself says
 pub word_says : {T : Type 0} (accepts : Bool → Bool) (means : List ℕ → T → Type 0) (o : LinePiece)
     (v : T) → WordValue accepts means o v → WordSays accepts means (o ∷ []) v
-word_says accepts means (One w) v m =
-    record { word = w; is = refl; side = m.0; meant = m.1 }
+word_says accepts means (One w) v m = record { word = w; is = refl; side = m.0; meant = m.1 }
 word_says accepts means (Two k w) v m = absurd m
 
 -- a positional word

@@ -1,19 +1,18 @@
 -- Pieces that are shared out by roles are shared out by names.
 use Rattle.std.proofs.Common.{◌≡◌, Bool, true, false, List, [], ◌∷◌, refl, sym, ap, ◌∙◌}
 use Rattle.std.proofs.Common.{if◌then◌else◌, not, ◌++◌, ◌||◌, ◌&&◌, ◌⊎◌, ⊎_elim, inl, inr, ap₂}
-use Rattle.std.proofs.Common.{append-nil}
+use Rattle.std.proofs.{lemmas.Bool.and_right, lemmas.Bool.not-true, Common.append-nil}
+use Rattle.std.proofs.{lemmas.List.Elements.filter-append, lemmas.List.Folds.list_any-append}
 use Rattle.std.specs.Prelude.{filter}
-use Rattle.std.proofs.lemmas.Bool.{and_right, not-true}
-use Rattle.std.proofs.lemmas.List.{Folds.list_any-append, Elements.filter-append}
 use Rattle.bpaf_base.specs.declared.arg.Arg.TheVariants.{Word, PosWord}
 use Rattle.bpaf_base.specs.{Items.is_key_of, Items.is_positional, declared.arg.Arg.Arg}
 use Rattle.bpaf_exact.specs.Pieces.{Cells, Cut, argument, at_end, flag, passed, word, Takes}
 use Rattle.bpaf_exact.specs.Pieces.{no_cells, empty_stays, other_stays, takes_flag, takes_argument}
-use Rattle.bpaf_exact.specs.Pieces.{Role, Foreign, Roles, LinePiece, One, Two}
-use Rattle.bpaf_exact.specs.Pieces.{is_own_role, is_own, mine, others, either, either_role}
+use Rattle.bpaf_exact.specs.Pieces.{Role, Foreign, Roles, LinePiece, One, Two, is_own_role, is_own}
+use Rattle.bpaf_exact.specs.Pieces.{mine, others, either, either_role}
 use Rattle.bpaf_exact.specs.Names.{are_all_apart, Owns, is_key_of_any}
 use Rattle.bpaf_exact.specs.Says.{EachOwn, Fits, first_item, keyed, unkeyed}
-use Rattle.bpaf_exact.specs.{Flat.OneWord, ProgramForm.may_follow}
+use Rattle.bpaf_exact.specs.{ProgramForm.may_follow, Flat.OneWord}
 use Rattle.bpaf_exact.proofs.Names.{one_list, or_true}
 use Rattle.bpaf_doc.specs.Names.{Names}
 
@@ -148,8 +147,7 @@ module _ {q r : Roles} {own behind : List Names} (owned : Owns q own) (owned_beh
   pub second_fits : (os : List LinePiece) → Fits (own ++ behind) (either q r) os → Fits behind r os
   second_fits [] fits = tt
   second_fits (o ∷ os) fits = (
-    same_truth _ _ (own_keyed r behind owned_behind o)
-        ((λ f. ⊎_elim
+    same_truth _ _ (own_keyed r behind owned_behind o) ((λ f. ⊎_elim
         (λ one. absurd (one_list own behind (first_item o) apart (own_keyed q own owned o one) f))
         (λ other. other)
         (either_first o (fits.0 ∙ (list_any-append (λ names. is_key_of names (first_item o)) own
@@ -197,8 +195,7 @@ second_within q r k =
 -- what is another's own isn't among one's own
 pub mine_of_others : (p q : Roles) → ((k : Arg) → is_own_role (q k) ≡ true → p k ≡ Foreign)
     → (os : List LinePiece) → mine q (others p os) ≡ mine q os
-mine_of_others p q apart = kept_within
-    (λ o e. ap not (own_first p o ∙ ap is_own_role
+mine_of_others p q apart = kept_within (λ o e. ap not (own_first p o ∙ ap is_own_role
     (apart (first_item o) (sym (own_first q o) ∙ e))))
 
 module _ (q : Roles) (none : (k : Arg) → is_own_role (q k) ≡ false) where
@@ -211,8 +208,7 @@ module _ (q : Roles) (none : (k : Arg) → is_own_role (q k) ≡ false) where
   others_none [] = refl
   others_none (o ∷ os) =
       ap (λ c. if not c then (o ∷ others q os) else others q os)
-      (own_first q o ∙ none (first_item o))
-      ∙ ap (λ z. o ∷ z) (others_none os)
+      (own_first q o ∙ none (first_item o)) ∙ ap (λ z. o ∷ z) (others_none os)
 
 -- where no piece is another's, each is one's own
 pub all_mine : (q : Roles) (os : List LinePiece) → others q os ≡ [] → mine q os ≡ os
@@ -274,8 +270,7 @@ pub rest_fit : (r : Roles) (names : List Names) (whole os : List LinePiece) → 
     → Fits names r os → Fits names r (keyed names whole ++ others r os)
 rest_fit r names [] os fits fit = others_fit r r names os fit
 rest_fit r names (o ∷ whole) os fits fit =
-    elim (is_key_of_any names (first_item o)) as
-    (λ b. Fits names r
+    elim (is_key_of_any names (first_item o)) as (λ b. Fits names r
     ((if b then (o ∷ keyed names whole) else keyed names whole) ++ others r os)) [
       | true ↦ (fits.0, rest_fit r names whole os fits.1 fit)
       | false ↦ rest_fit r names whole os fits.1 fit
@@ -287,8 +282,7 @@ pub mine_rest : (r : Roles) (names : List Names) (whole os : List LinePiece) →
 mine_rest r names whole os fits =
     filter-append (is_own r) (keyed names whole) (others r os)
     ∙ ap₂ ◌++◌ (ap (mine r) (sym (mine_keyed r names whole fits)) ∙ mine_within r r (λ k e. e)
-    whole)
-    (kept_neither (λ o. not-true (is_own r o)) os) ∙ append-nil (mine r whole)
+    whole) (kept_neither (λ o. not-true (is_own r o)) os) ∙ append-nil (mine r whole)
 
 -- and those of others are the words that are left
 pub others_rest : (r : Roles) (names : List Names) (whole os : List LinePiece) → Fits names r whole

@@ -60,12 +60,8 @@ module _ {env : Variables} {A B : Type 0} {inner : Outcome A} {k : FieldKind} {q
 
   -- a closure round a field is one
   pub closed_law : FieldLaw env B (ClosedEval A B inner f c) k q (ClosedValue value f)
-  closed_law = record {
-    own = l.own;
-    ok = closed_ok;
-    takes_all = closed_takes;
-    refuses = closed_refuses;
-  }
+  closed_law =
+      record { own = l.own; ok = closed_ok; takes_all = closed_takes; refuses = closed_refuses }
 
 module _ {env : Variables} {T : Type 0} {inner : Outcome T} {k : FieldKind} {q : Roles}
     {group : Groups T} {gap : Gap T} (l : SingleLaw env T inner k q group gap) where
@@ -360,8 +356,7 @@ module _ {env : Variables} {A B : Type 0} {inner : Outcome A} {q : Roles}
 
   -- a value that the closure gave
   closed_alternative_ok : (s t : Situation) (v : B) → IsWholeIn env s
-      → ClosedEval A B inner f Refused s (Ok v) t
-      → AlternativeOk B q (ClosedValue value f) s v t
+      → ClosedEval A B inner f Refused s (Ok v) t → AlternativeOk B q (ClosedValue value f) s v t
   closed_alternative_ok s t v w (closed_yes {x} i y) =
       let a = l.ok s t x w i in
       record {
@@ -375,8 +370,7 @@ module _ {env : Variables} {A B : Type 0} {inner : Outcome A} {q : Roles}
     where
       by_first : {o : LinePiece}
           → TakesFirst q (cells s) o (cells t) ⊎ HasBad A value (pieces q (cells t))
-          → TakesFirst q (cells s) o (cells t)
-          ⊎ HasBad B (ClosedValue value f) (pieces q (cells t))
+          → TakesFirst q (cells s) o (cells t) ⊎ HasBad B (ClosedValue value f) (pieces q (cells t))
       by_first (inl h) = inl h
       by_first (inr h) = inr (closed_bad h)
 
@@ -397,8 +391,7 @@ module _ {env : Variables} {A B : Type 0} {inner : Outcome A} {q : Roles}
 
   -- a refusal, of the closure or from inside
   closed_alternative_err : (s t : Situation) (e : Error) → IsWholeIn env s
-      → ClosedEval A B inner f Refused s (Err e) t
-      → AlternativeErr B q (ClosedValue value f) s e t
+      → ClosedEval A B inner f Refused s (Err e) t → AlternativeErr B q (ClosedValue value f) s e t
   closed_alternative_err s t e w (closed_no {x} i n c) =
       let a = l.ok s t x w i in
       alternative_refused c a.steady.path (no_bad a n a.first) (λ o os v h g.
@@ -412,11 +405,8 @@ module _ {env : Variables} {A B : Type 0} {inner : Outcome A} {q : Roles}
   -- a closure round an alternative is one
   pub closed_alternative : AlternativeLaw env B (ClosedEval A B inner f Refused) q
       (ClosedValue value f)
-  closed_alternative = record {
-    named = l.named;
-    ok = closed_alternative_ok;
-    err = closed_alternative_err;
-  }
+  closed_alternative =
+      record { named = l.named; ok = closed_alternative_ok; err = closed_alternative_err }
 
 -- inner closures round a field without a repeat or default
 module _ {env : Variables} {A B : Type 0} {inner : Outcome A} {k : FieldKind} {q : Roles}
