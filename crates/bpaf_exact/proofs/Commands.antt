@@ -324,23 +324,24 @@ module _ {env : Variables} (T : Type 0) (a b : Outcome T) (ra rb : Roles) (wa wb
       ∙ missing_input e.0 (is_missing_of e.0 c))
   no_fault c (inr o) = let h = o.1.0 in cc
 
-  -- where the first has a value no refusal is chosen
+  -- nor is its path longer, so no refusal is chosen
+  never_refused : {s m n t : Situation} {x : T} {e g : Error} → depth s ≤ depth m → Passed s e n
+      → Chosen s (Ok x) m (Err e) n (Err g) t → ⊥
+  never_refused less k (inl deeper) = let given = deeper.1 in cc
+  never_refused less k (inr (inl deeper)) =
+      let same = ap length k.2 in let more = deeper.0 in absurd (omega arith)
+  never_refused less k (inr (inr equal)) = no_fault k.0 equal.1
+
+  -- where the first has a value none is
   first_fails : (s : Situation) {sa sb t : Situation} (x y : Result T Error) {g : Error} {u : T}
       → IsWholeIn env s → a s x sa → b s y sb → IsNotMemory x → IsNotMemory y
       → Chosen s x sa y sb (Err g) t → va (cells s) u → ⊥
   first_fails s {sa} (Err d) y {u} w i j hx hy chosen h =
       not_memory d.0 hx (la.program.answers s sa (Err d) u w i h)
   first_fails s {sb} (Ok x) (Ok y) w i j hx hy chosen h = lb.none s sb (Ok y) w j (second_closed h)
-  first_fails s (Ok x) (Err e) w i j hx hy (inl deeper) h = let k = deeper.1 in absurd cc
-  first_fails s {sa} {sb} (Ok x) (Err e) w i j hx hy (inr (inl deeper)) h =
-      let k = passed s sb e hy (lb.none s sb (Err e) w j (second_closed h)) in
-      let same = ap length k.2 in
-      let less = la.program.deep s sa x w i in
-      let more = deeper.0 in
-      absurd (omega arith)
-  first_fails s {sb} (Ok x) (Err e) w i j hx hy (inr (inr equal)) h =
-      let k = passed s sb e hy (lb.none s sb (Err e) w j (second_closed h)) in
-      no_fault k.0 equal.1
+  first_fails s {sa} {sb} (Ok x) (Err e) w i j hx hy chosen h =
+      never_refused (la.program.deep s sa x w i)
+      (passed s sb e hy (lb.none s sb (Err e) w j (second_closed h))) chosen
 
   -- nor where the second has
   second_fails : (s : Situation) {sa sb t : Situation} (x y : Result T Error) {g : Error} {u : T}
@@ -349,15 +350,11 @@ module _ {env : Variables} (T : Type 0) (a b : Outcome T) (ra rb : Roles) (wa wb
   second_fails s {sb} x (Err d) {u} w i j hx hy chosen h =
       not_memory d.0 hy (lb.program.answers s sb (Err d) u w j h)
   second_fails s {sa} (Ok x) (Ok y) w i j hx hy chosen h = la.none s sa (Ok x) w i (first_closed h)
-  second_fails s {sa} {sb} (Err e) (Ok y) w i j hx hy (inl deeper) h =
-      let k = passed s sa e hx (la.none s sa (Err e) w i (first_closed h)) in
-      let same = ap length k.2 in
-      let less = lb.program.deep s sb y w j in
-      let more = deeper.0 in
-      absurd (omega arith)
-  second_fails s (Err e) (Ok y) w i j hx hy (inr (inl deeper)) h = let k = deeper.1 in absurd cc
-  second_fails s {sa} (Err e) (Ok y) w i j hx hy (inr (inr equal)) h =
-      no_fault (passed s sa e hx (la.none s sa (Err e) w i (first_closed h))).0 equal.1
+  second_fails s {sa} {sb} (Err e) (Ok y) w i j hx hy chosen h =
+      never_refused (lb.program.deep s sb y w j)
+      (passed s sa e hx (la.none s sa (Err e) w i (first_closed h)))
+      (⊎_elim (λ deeper. inr (inl deeper)) (λ other. ⊎_elim (λ deeper. inl deeper)
+      (λ equal. inr (inr (sym equal.0, equal.1))) other) chosen)
 
   -- each answer
   choice_answers : (s t : Situation) (r : Result T Error) (u : T) → IsWholeIn env s
@@ -385,15 +382,9 @@ module _ {env : Variables} (T : Type 0) (a b : Outcome T) (ra rb : Roles) (wa wb
       by_depth : Passed s d sa → Passed s e sb
           → Chosen {T = T} s (Err d) sa (Err e) sb (Err g) t → FindsNoCommand {T = T} s (Err g) t
       by_depth k l (inl deeper) =
-          let p = ap length k.2 in
-          let q = ap length l.2 in
-          let m = deeper.0 in
-          absurd (omega arith)
+          let same = ap length (k.2 ∙ sym l.2) in let more = deeper.0 in absurd (omega arith)
       by_depth k l (inr (inl deeper)) =
-          let p = ap length k.2 in
-          let q = ap length l.2 in
-          let m = deeper.0 in
-          absurd (omega arith)
+          let same = ap length (k.2 ∙ sym l.2) in let more = deeper.0 in absurd (omega arith)
       by_depth k l (inr (inr equal)) =
           let o = equal.1 in
           let given = o.0.2 in
