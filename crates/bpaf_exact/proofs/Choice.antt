@@ -63,17 +63,12 @@ cells_same {m} {n} st f =
     ap (λ c. first_cells (open_item n) (length c.line)) st.context
     ∙ same_cells (open_item m) (length m.context.line) (λ p l. steady_item st p (f p))
 
--- two lists of cells of which the first took the first item
-left_head : {c d : Option Arg} {x : Arg} (cs ds : Cells) → c ≡ None → d ≡ Some x
-    → TookLeft (c ∷ cs) (d ∷ ds)
-left_head cs ds e f = rw (e, f) left_here
-
 -- the leftmost place at which two differ
 left_cells : {at : ℕ → Option Arg} (other : ℕ → Option Arg) (n p : ℕ) {x : Arg} → p < n
     → at p ≡ None → other p ≡ Some x → ((q : ℕ) → q < p → at q ≡ other q)
     → TookLeft (first_cells at n) (first_cells other n)
 left_cells other zero p l e f same = absurd (omega arith)
-left_cells other (suc n) zero l e f same = left_head _ _ e f
+left_cells other (suc n) zero l e f same = rw (e, f) left_here
 left_cells other (suc n) (suc p) l e f same =
     left_later (same zero (omega arith)) (left_cells (λ q. other (suc q)) n p (omega arith) e f
     (λ q i. same (suc q) (omega arith)))

@@ -11,7 +11,7 @@ use Rattle.bpaf_exact.specs.Flat.{FieldsLaw, FieldsReading, FieldKind, ByName, R
 use Rattle.bpaf_exact.specs.Single.{Groups, Gap, FrontOf, Own, own_none, own_more, SingleLaw}
 use Rattle.bpaf_exact.specs.Single.{SingleValue, OwnList, listed, listed_and_absent, only_absent}
 use Rattle.bpaf_exact.specs.Wrappers.{Closure, OptionalValue, FallbackValue}
-use Rattle.bpaf_exact.specs.Leaves.{FlagValue, ArgumentValue, WordValue, flag_field, LastGroup}
+use Rattle.bpaf_exact.specs.Leaves.{FlagValue, ArgumentValue, WordValue, flag_field}
 use Rattle.bpaf_exact.specs.Leaves.{argument_field, argument_group, argument_roles, flag_roles}
 use Rattle.bpaf_exact.specs.Record.{RunAnswer, Accepted, NoMemory, Refusal, RecordValue, IsExact}
 use Rattle.bpaf_exact.specs.ProgramForm.{ProgramForm, alternative, single, complete, product}
@@ -103,19 +103,14 @@ argument_piece : {T X : Type 0} {see : T → X} {means : List ℕ → T → Type
 argument_piece u (One k) v w a b = absurd a
 argument_piece u (Two k x) v w a b = u (item_text x) v w a b
 
--- all keys with their values, of which the last one counts
-last_group : {T X : Type 0} {see : T → X} {means : List ℕ → T → Type 0}
-    → ((text : List ℕ) → Alike see (means text)) → OneGroup see (LastGroup T means)
-last_group u os rest others v w a b =
-    let same : Two a.1.0 a.1.1 ≡ Two b.1.0 b.1.1 = last_same _ _ (sym a.2 ∙ b.2) in
-    let word : a.1.1 ≡ b.1.1 = cc in (u (item_text b.1.1) v w (rw (← word) a.3) b.3, a.4 ∙ sym b.4)
-
 -- the pieces of one evaluation
 argument_group_view : {T X : Type 0} {see : T → X} {means : List ℕ → T → Type 0}
     → ((text : List ℕ) → Alike see (means text)) → (last : Bool)
     → OneGroup see (argument_group means last)
 argument_group_view u false = front_view _ (argument_piece u)
-argument_group_view u true = last_group u
+argument_group_view u true = λ os rest others v w a b.
+    let same : Two a.1.0 a.1.1 ≡ Two b.1.0 b.1.1 = last_same _ _ (sym a.2 ∙ b.2) in
+    let word : a.1.1 ≡ b.1.1 = cc in (u (item_text b.1.1) v w (rw (← word) a.3) b.3, a.4 ∙ sym b.4)
 
 -- an argument, where what a text means looks alike
 pub argument_view : (T X : Type 0) (see : T → X) (means : List ℕ → T → Type 0)

@@ -210,11 +210,6 @@ module _ {env : Variables} (A B : Type 0) (first : Outcome A) (rest : Outcome B)
   together : Union q r both
   together = either_union lf.own lr.own apart
 
-  -- both have a value on their own pieces where each has one on its own
-  both_value : (cs : Cells) (v : A × B) → fv (pieces q cs) v.0 → read.value (pieces r cs) v.1
-      → value (pieces both cs) v
-  both_value cs v a b = (rw (mine_of_both together cs) a, rw (others_of_both together cs) b)
-
   -- and the other way
   each_value : (cs : Cells) {v : A × B} → value (pieces both cs) v
       → fv (pieces q cs) v.0 × read.value (pieces r cs) v.1
@@ -243,10 +238,14 @@ module _ {env : Variables} (A B : Type 0) (first : Outcome A) (rest : Outcome B)
           steady = steady_trans i.steady j.steady;
           takes = some_trans (takes_some_left together i.takes)
               (takes_some_left (swap_union q r both together) j.takes);
-          read = λ none. both_value (cells s) v (i.read (sym (first_kept j.takes)
-              ∙ (sym (mine_of_both together (cells t)) ∙ ap (mine q) none)))
-              (rw (← keeps_other_some lf.own lr.own apart i.takes)
-              (j.read (sym (others_of_both together (cells t)) ∙ ap (others q) none)));
+          read = λ none. (
+            rw (mine_of_both together (cells s))
+                (i.read (sym (first_kept j.takes) ∙ (sym (mine_of_both together (cells t)) ∙ ap (mine q)
+                none))),
+            rw (others_of_both together (cells s))
+                (rw (← keeps_other_some lf.own lr.own apart i.takes)
+                (j.read (sym (others_of_both together (cells t)) ∙ ap (others q) none))),
+          );
           rest = λ none. none;
         };
     takes_all = λ s t v u w o h.

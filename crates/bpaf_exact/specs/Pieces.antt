@@ -1,6 +1,7 @@
 -- How a flat record sees a line: its places, cut into pieces, which the fields share out.
 use Rattle.std.specs.Prelude.{◌≡◌, Bool, true, false, List, [], ◌∷◌, Option, Some, None}
-use Rattle.std.specs.{Prelude.if◌then◌else◌, Prelude.filter, Prelude.not, Option.is_some}
+use Rattle.std.specs.Prelude.{if◌then◌else◌, filter, not}
+use Rattle.std.specs.Option.{is_some}
 use Rattle.bpaf_base.specs.declared.arg.Arg.TheVariants.{Short, Long, PosWord}
 use Rattle.bpaf_base.specs.{Items.value_text, Items.is_positional, declared.arg.Arg.Arg}
 

@@ -1,10 +1,11 @@
 -- A flat field without a repeat or default: one evaluation, and what repeats and defaults make of
 -- it.
 use Rattle.std.specs.Prelude.{◌≡◌, ℕ, suc, Bool, true, false, List, [], ◌∷◌, Option, Some, None, Ok}
-use Rattle.std.specs.{Prelude.Err, Prelude.is_some, Prelude.◌⊎◌, Option.IsSomeRelated}
-use Rattle.bpaf_line.specs.{Situation.Situation, Situation.open_count, declared.error.Error.Error}
-use Rattle.bpaf_laws.specs.Repeat.{ListOutcome, UntilRest, UntilFault}
+use Rattle.std.specs.Prelude.{Err, is_some, ◌⊎◌}
+use Rattle.std.specs.Option.{IsSomeRelated}
+use Rattle.bpaf_line.specs.{declared.error.Error.Error, Situation.Situation, Situation.open_count}
 use Rattle.bpaf_laws.specs.Reading.{Outcome}
+use Rattle.bpaf_laws.specs.Repeat.{ListOutcome, UntilRest, UntilFault}
 use Rattle.bpaf_exact.specs.Pieces.{Cells, Roles, LinePiece, pieces, TakesPiece, TakesPieces}
 use Rattle.bpaf_exact.specs.Flat.{OfMemory, OfMissing, Caught, Refused, class, cells, IsWholeIn}
 use Rattle.bpaf_exact.specs.Flat.{Steady, FieldKind, ByName, OneWord, EachWord, front, back}
