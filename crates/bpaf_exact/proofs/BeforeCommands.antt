@@ -104,21 +104,21 @@ left_spelled (takes_argument e v t) (spelled_cell s (spelled_cell r a)) =
     empty_cell (empty_cell (left_spelled t a))
 
 -- what has no role to two has none to each
-none_of_both : (x y : Role) → either_role x y ≡ Foreign → (x ≡ Foreign) × (y ≡ Foreign)
-none_of_both Foreign y e = (refl, e)
-none_of_both _ y e = absurd cc
+none_of_both : (x : Role) {y : Role} → either_role x y ≡ Foreign → (x ≡ Foreign) × (y ≡ Foreign)
+none_of_both Foreign e = (refl, e)
+none_of_both _ e = absurd cc
 
 -- what is apart from two is apart from each
 pub apart_first : {p q : Roles} (r : Roles) → Apart p (either q r) → Apart p q
 apart_first {q} r a = record {
-  left = λ k own. (none_of_both (q k) (r k) (a.left k own)).0;
+  left = λ k own. (none_of_both (q k) (a.left k own)).0;
   right = λ k own. a.right k (first_within q r k own);
 }
 
 -- and from the other
 pub apart_second : {p : Roles} (q : Roles) {r : Roles} → Apart p (either q r) → Apart p r
 apart_second q {r} a = record {
-  left = λ k own. (none_of_both (q k) (r k) (a.left k own)).1;
+  left = λ k own. (none_of_both (q k) (a.left k own)).1;
   right = λ k own. a.right k (second_within q r k own);
 }
 

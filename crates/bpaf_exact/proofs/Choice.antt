@@ -154,21 +154,22 @@ data Other (T : Type 0) (qb : Roles) (vb : LinePiece → T → Type 0) (cs cm : 
       → ((o : LinePiece) (os : List LinePiece) (w : T) → pieces qb cs ≡ o ∷ os → vb o w → ⊥)
       → Other T qb vb cs cm
 
-module _ (T : Type 0) (qa qb r : Roles) (u : Union qa qb r) (va vb vr : LinePiece → T → Type 0)
+module _ (T : Type 0) {qa qb r : Roles} (u : Union qa qb r) (va : LinePiece → T → Type 0)
+    {vb : LinePiece → T → Type 0} (vr : LinePiece → T → Type 0)
     (same_a : (o : LinePiece) (v : T) → is_own qa o ≡ true → vr o v ≡ va o v)
     (same_b : (o : LinePiece) (v : T) → is_own qb o ≡ true → vr o v ≡ vb o v) where
   -- a piece of the other branch that can't be read stays one
   kept_bad : {cs cm : Cells} {oa : LinePiece} → TakesPiece qa cs oa cm → HasBad T vb (pieces qb cs)
       → HasBad T vr (pieces r cm)
   kept_bad {cm} t h =
-      bad_left T vb vr qb qa r (swap_union qa qb r u) same_b cm
+      bad_left T vb vr (swap_union u) same_b cm
       (rw (keeps_other u.named_left u.named_right u.apart t) h)
 
   -- the winner took the first piece of both, or one that can't be read stays
   won_first : {cs cm : Cells} {oa : LinePiece} → TakesPiece qa cs oa cm → Other T qb vb cs cm
       → TakesFirst qa cs oa cm ⊎ HasBad T va (pieces qa cm)
       → TakesFirst r cs oa cm ⊎ HasBad T vr (pieces r cm)
-  won_first {cm} t o (inr h) = inr (bad_left T va vr qa qb r u same_a cm h)
+  won_first {cm} t o (inr h) = inr (bad_left T va vr u same_a cm h)
   won_first t (other_took tb l (inl f) rb) (inl h) = inl (first_both u h f l)
   won_first t (other_took tb l (inr f) rb) (inl h) =
       inr (kept_bad t (bad_given_back u.named_right tb f))
@@ -190,10 +191,10 @@ module _ (T : Type 0) (qa qb r : Roles) (u : Union qa qb r) (va vb vr : LinePiec
       by_owner (inr h) (other_refused b n) = absurd (n o h.0 w h.1 (rw (← same_b o w h.2) v))
 
   -- the winner's value is one of the choice
-  won : (s m t : Situation) (x : T) → AlternativeOk T qa va s x m
+  won : {s m t : Situation} {x : T} → AlternativeOk T qa va s x m
       → Other T qb vb (cells s) (cells m) → Steady m t → cells t ≡ cells m
       → AlternativeOk T r vr s x t
-  won s m t x a o st e = record {
+  won {x} a o st e = record {
     steady = steady_trans a.steady st;
     piece = a.piece;
     takes = rw e (takes_left u a.takes);
@@ -230,16 +231,13 @@ module _ {env : Variables} (T : Type 0) (a b : Outcome T) (qa qb : Roles)
   first_won : {s m t : Situation} {x : T} → AlternativeOk T qa va s x m
       → Other T qb vb (cells s) (cells m) → Steady m t → cells t ≡ cells m
       → AlternativeOk T (either qa qb) vr s x t
-  first_won {s} {m} {t} {x} o h st e =
-      won T qa qb (either qa qb) u va vb vr same_first same_second s m t x o h st e
+  first_won {s} {m} {t} {x} o h st e = won T u va vr same_first same_second o h st e
 
   -- the second branch won
   second_won : {s n t : Situation} {y : T} → AlternativeOk T qb vb s y n
       → Other T qa va (cells s) (cells n) → Steady n t → cells t ≡ cells n
       → AlternativeOk T (either qa qb) vr s y t
-  second_won {s} {n} {t} {y} o h st e =
-      won T qb qa (either qa qb) (swap_union qa qb (either qa qb) u) vb va vr same_second same_first
-      s n t y o h st e
+  second_won {s} {n} {t} {y} o h st e = won T (swap_union u) vb vr same_second same_first o h st e
 
   -- the other branch refused
   err_other : {q : Roles} {v : LinePiece → T → Type 0} {s n : Situation} {cm : Cells} {e : Error}
@@ -283,20 +281,19 @@ module _ {env : Variables} (T : Type 0) (a b : Outcome T) (qa qb : Roles)
       absurd (omega arith)
 
   -- the winner's value, where both answered
-  winner_ok : (s : Situation) {sa sb : Situation} (t : Situation) {x y : T} (v : T)
-      (winner : Bool × Option ℕ) → IsWholeIn env s → AlternativeOk T qa va s x sa
-      → AlternativeOk T qb vb s y sb → IsWinner sa sb winner
+  winner_ok : {s sa sb t : Situation} {x y : T} (v : T) (winner : Bool × Option ℕ) → IsWholeIn env s
+      → AlternativeOk T qa va s x sa → AlternativeOk T qb vb s y sb → IsWinner sa sb winner
       → Winner (branch_of x sa) (branch_of y sb) winner (Ok v) t
       → AlternativeOk T (either qa qb) vr s v t
-  winner_ok s t v (first, None) w i j win k =
+  winner_ok v (first, None) w i j win k =
       absurd (never_same u i.takes j.takes (cells_same (steady_both i.steady j.steady) win.0))
-  winner_ok s {sb} t {x} v (true, Some p) w i j win k =
+  winner_ok {sb} {x} v (true, Some p) w i j win k =
       let d : x ≡ v = cc in
       let free = differ (is_taken sb p) win.0.differs win.1 in
       rw (← d) (first_won i
       (other_took j.takes (left_of w i.steady j.steady win.1 free win.0.first) j.first j.readable)
       (saved_steady sb k.1) (cells_same (same_scope (saved_steady sb k.1)) k.1.taken))
-  winner_ok s {sa} {sb} t {y} v (false, Some p) w i j win k =
+  winner_ok {sa} {sb} {y} v (false, Some p) w i j win k =
       let d : y ≡ v = cc in
       let here = differ_not (is_taken sb p) win.0.differs win.1 in
       rw (← d) (second_won j
@@ -321,7 +318,7 @@ module _ {env : Variables} (T : Type 0) (a b : Outcome T) (qa qb : Roles)
       absurd (never_untouched (la.ok s sa x w f)
       (and_parts (is_untouched s sa) (is_untouched s sb) o.0).0)
   equal_ok s sa sb {t} {v} (Ok x) (Ok y) w f g hf hg (inr o) =
-      winner_ok s t v o.1.0 w (la.ok s sa x w f) (lb.ok s sb y w g) o.1.1 o.1.2
+      winner_ok v o.1.0 w (la.ok s sa x w f) (lb.ok s sb y w g) o.1.1 o.1.2
   equal_ok s sa sb (Ok x) (Err e) w f g hf hg o =
       alone_ok (first_won (la.ok s sa x w f) (err_other hg (lb.err s sb e w g)) steady_refl refl) o
   equal_ok s sa sb (Err e) (Ok y) w f g hf hg o =
@@ -330,7 +327,7 @@ module _ {env : Variables} (T : Type 0) (a b : Outcome T) (qa qb : Roles)
 
   -- both fail
   first_bad : (cs : Cells) → HasBad T va (pieces qa cs) → HasBad T vr (pieces (either qa qb) cs)
-  first_bad cs h = bad_left T va vr qa qb (either qa qb) u same_first cs h
+  first_bad cs h = bad_left T va vr u same_first cs h
 
   -- the first piece can't be read
   abbrev Unread : (q : Roles) (v : LinePiece → T → Type 0) (s : Situation) → Type 0
@@ -368,8 +365,7 @@ module _ {env : Variables} (T : Type 0) (a b : Outcome T) (qa qb : Roles)
       both_missing (combined_missing e.0 f.0 p q c) (both_nil (cells s) u i j)
   both_failed s e f x y c (alternative_missing p i same st) (alternative_refused q path h k) =
       by_class (combined_refused e.0 f.0 (inr q) (inl p) (inr q) c)
-      (bad_left T vb vr qb qa (either qa qb) (swap_union qa qb (either qa qb) u) same_second
-      (cells s) h) (both_unread s (λ o os w e g. cc) k)
+      (bad_left T vb vr (swap_union u) same_second (cells s) h) (both_unread s (λ o os w e g. cc) k)
   both_failed s e f x y c (alternative_refused p path h k) (alternative_missing q j same st) =
       by_class (combined_refused e.0 f.0 (inl p) (inr p) (inl q) c) (first_bad (cells s) h)
       (both_unread s k (λ o os w e g. cc))

@@ -225,48 +225,48 @@ module _ {env : Variables} (T : Type 0) (a b : Outcome T) (ra rb : Roles) (wa wb
     of_second : {m : Situation} → b s (Ok v) m → Alike m t → BranchOk s v t
 
   -- the winner's
-  of_winner : (s sa : Situation) {sb t : Situation} (x : T) {y : T} (v : T)
-      (winner : Bool × Option ℕ) → a s (Ok x) sa → b s (Ok y) sb
-      → Winner (branch_of x sa) (branch_of y sb) winner (Ok v) t → BranchOk s v t
-  of_winner s sa x v (first, None) f g k =
+  of_winner : {s sa sb t : Situation} (x : T) {y : T} (v : T) (winner : Bool × Option ℕ)
+      → a s (Ok x) sa → b s (Ok y) sb → Winner (branch_of x sa) (branch_of y sb) winner (Ok v) t
+      → BranchOk s v t
+  of_winner x v (first, None) f g k =
       let given = k.0 in
       let d : x ≡ v = cc in
       of_first (rw (← d) f) (alike_same k.1)
-  of_winner s sa {sb} x v (true, Some p) f g k =
+  of_winner {sb} x v (true, Some p) f g k =
       let given = k.0 in
       let d : x ≡ v = cc in
       of_first (rw (← d) f) (alike_saved sb k.1)
-  of_winner s sa x {y} v (false, Some p) f g k =
+  of_winner {sa} x {y} v (false, Some p) f g k =
       let given = k.0 in
       let d : y ≡ v = cc in
       of_second (rw (← d) g) (alike_saved sa k.1)
 
   -- where both are equally deep
-  of_equal : (s : Situation) {sa sb t : Situation} (x y : Result T Error) (v : T) → a s x sa
-      → b s y sb → EqualDepths s x sa y sb (Ok v) t → BranchOk s v t
-  of_equal s (Ok x) (Ok y) v f g (inl o) =
+  of_equal : {s sa sb t : Situation} (x y : Result T Error) (v : T) → a s x sa → b s y sb
+      → EqualDepths s x sa y sb (Ok v) t → BranchOk s v t
+  of_equal (Ok x) (Ok y) v f g (inl o) =
       let given = o.1.0 in
       let d : x ≡ v = cc in
       of_first (rw (← d) f) (alike_same o.1.1)
-  of_equal s {sa} (Ok x) (Ok y) v f g (inr o) = of_winner s sa x v o.1.0 f g o.1.2
-  of_equal s (Ok x) (Err e) v f g (inl o) = let i = o.1 in absurd cc
-  of_equal s (Ok x) (Err e) v f g (inr o) =
+  of_equal {sa} (Ok x) (Ok y) v f g (inr o) = of_winner x v o.1.0 f g o.1.2
+  of_equal (Ok x) (Err e) v f g (inl o) = let i = o.1 in absurd cc
+  of_equal (Ok x) (Err e) v f g (inr o) =
       let given = o.1.0 in
       let d : x ≡ v = cc in
       of_first (rw (← d) f) (alike_same o.1.1)
-  of_equal s (Err e) (Ok y) v f g (inl o) = let i = o.1 in absurd cc
-  of_equal s (Err e) (Ok y) v f g (inr o) =
+  of_equal (Err e) (Ok y) v f g (inl o) = let i = o.1 in absurd cc
+  of_equal (Err e) (Ok y) v f g (inr o) =
       let given = o.1.0 in
       let d : y ≡ v = cc in
       of_second (rw (← d) g) (alike_same o.1.1)
-  of_equal s (Err e) (Err d) v f g o = let i = o.0.2 in absurd cc
+  of_equal (Err e) (Err d) v f g o = let i = o.0.2 in absurd cc
 
   -- each
   branch_ok : {s t : Situation} {v : T} → ChoiceOutcome a b s (Ok v) t → BranchOk s v t
   branch_ok {s} {v} o =
       ⊎_elim (λ deeper. of_first (rw deeper.1 o.first_ran) (alike_same deeper.2)) (λ other. ⊎_elim
       (λ deeper. of_second (rw deeper.1 o.second_ran) (alike_same deeper.2))
-      (λ equal. of_equal s o.a o.b v o.first_ran o.second_ran equal.1) other) o.chosen
+      (λ equal. of_equal o.a o.b v o.first_ran o.second_ran equal.1) other) o.chosen
 
   -- the path gets no shorter
   choice_deep : (s t : Situation) (v : T) → IsWholeIn env s → ChoiceOutcome a b s (Ok v) t

@@ -70,7 +70,7 @@ module _ {V : Type 0} {outcome : Outcome V} {context : Context} (value : CellsVa
   run_complete all (run_refusal {e = x} {t} o e n) = absurd (e (all t (Err x) o))
 
 module _ {V : Type 0} {outcome : Outcome V} {r : Roles} {reading : FieldsReading V}
-    (context : Context) (l : FieldsLaw context.env V outcome r reading) where
+    {context : Context} (l : FieldsLaw context.env V outcome r reading) where
   -- a value comes only where it is one of the record's
   sound : {a : RunAnswer V} → RunRan V outcome (beginning context) a → (v : V) → a ≡ Accepted v
       → RecordValue r reading.value context v

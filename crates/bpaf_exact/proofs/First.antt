@@ -88,8 +88,8 @@ pub record Union (qa qb r : Roles) : Type 0 where
   pub none : (k : Arg) → qa k ≡ Foreign → qb k ≡ Foreign → r k ≡ Foreign
 
 -- the items of two fields, in the other order
-pub swap_union : (qa qb r : Roles) → Union qa qb r → Union qb qa r
-swap_union qa qb r u = record {
+pub swap_union : {qa qb r : Roles} → Union qa qb r → Union qb qa r
+swap_union u = record {
   apart = record { left = u.apart.right; right = u.apart.left };
   named_left = u.named_right;
   named_right = u.named_left;
@@ -277,11 +277,11 @@ not_left u e h (takes_later t) (first_two x v) (left_later same l) = cc
 not_left u e h (takes_later {c = None} t) (first_later n s) (left_later same l) =
     not_left u e h t s l
 not_left {qa} {qb} {r} u e h (takes_later {c = Some k} {cs} t) (first_later n s)
-    (left_later same l) = not_left u (not_either cs (swap_union qa qb r u) n h e).1 h t s l
+    (left_later same l) = not_left u (not_either cs (swap_union u) n h e).1 h t s l
 not_left u e h (takes_one {k} x) (first_one y) l = let z = u.apart.left k (ap is_own_role x) in cc
 not_left u e h (takes_one {k} x) (first_two y v) l = let z = u.apart.left k (ap is_own_role x) in cc
 not_left {qa} {qb} {r} u e h (takes_one {k} {cs} x) (first_later n s) l =
-    let d = not_either cs (swap_union qa qb r u) n h e in
+    let d = not_either cs (swap_union u) n h e in
     let f = u.left k (ap is_own_role x) in
     let g = d.0 in
     cc
@@ -289,7 +289,7 @@ not_left u e h (takes_two {k} x w) (first_one y) l = let z = u.apart.left k (ap 
 not_left u e h (takes_two {k} x w) (first_two y v) l =
     let z = u.apart.left k (ap is_own_role x) in cc
 not_left {qa} {qb} {r} u e h (takes_two {k} {w = j} {cs} x w) (first_later n s) l =
-    let d = not_either (Some j ∷ cs) (swap_union qa qb r u) n h e in
+    let d = not_either (Some j ∷ cs) (swap_union u) n h e in
     let f = u.left k (ap is_own_role x) in
     let g = d.0 in
     cc
@@ -321,7 +321,7 @@ never_same {qa} u s t e =
     omega arith
 
 -- A piece of one field that can't be read is one of both that can't be read.
-module _ (T : Type 0) (va vr : LinePiece → T → Type 0) (qa qb r : Roles) (u : Union qa qb r)
+module _ (T : Type 0) (va vr : LinePiece → T → Type 0) {qa qb r : Roles} (u : Union qa qb r)
     (same : (o : LinePiece) (v : T) → is_own qa o ≡ true → vr o v ≡ va o v) where
   -- pieces that can't be read stay behind an item
   bad_any : (x : Role) (k : Arg) (cs : Cells) {os : List LinePiece} → HasBad T vr os

@@ -45,9 +45,9 @@ module _ {T : Type 0} (clones : T → T → Type 0) (key : Key) (present : T) wh
   owned = test_owns Alone (λ k e. e)
 
   -- a taken key is an answer
-  flag_found : (s : Situation) {t : Situation} (v : T) → TakesFlag key.names s true t
+  flag_found : (s : Situation) {t : Situation} {v : T} → TakesFlag key.names s true t
       → clones present v → AlternativeOk T q value s v t
-  flag_found s v takes y =
+  flag_found s takes y =
       let m = match_of (is_key_of key.names) s takes.0 takes.1.matches in
       rw takes.2 (first_alternative value take_steady y (one_taken test takes.1 m))
 
@@ -70,8 +70,7 @@ module _ {T : Type 0} (clones : T → T → Type 0) (key : Key) (present : T)
       (FlagValue (clones present))
   flag_law = record {
     named = named clones key present;
-    ok = λ s t v w o.
-        ⊎_elim (λ here. ⊎_elim (λ takes. flag_found clones key present s v takes here.1)
+    ok = λ s t v w o. ⊎_elim (λ here. ⊎_elim (λ takes. flag_found clones key present s takes here.1)
         (λ set. absurd (true≢false (sym set.1 ∙ ap (is_set s.context.env) no_envs))) here.0)
         (λ none. absurd none.1) o;
     err = λ s t e w o. flag_err e.0 refl o;
@@ -116,9 +115,9 @@ module _ {T : Type 0} (clones : T → T → Type 0) (key : Key) (present : T) (a
   abbrev gap : Gap T
   gap = gap_of clones (value_without_key present absent (first_set variables key.envs))
 
-  switch_found : (s : Situation) {t : Situation} (v : T) → TakesFlag key.names s true t
+  switch_found : (s : Situation) {t : Situation} {v : T} → TakesFlag key.names s true t
       → clones present v → SingleOk T ByName roles group gap s v t
-  switch_found s v takes y =
+  switch_found s takes y =
       let own = test clones key present in
       let m = match_of (is_key_of key.names) s takes.0 takes.1.matches in
       let h = one_taken own takes.1 m in
@@ -152,7 +151,7 @@ module _ {T : Type 0} (clones : T → T → Type 0) (key : Key) (present : T) (a
     words = tt;
     starts = λ v rest g. let e = g.1 in cc;
     no_absent = gap_empty clones _;
-    ok = λ s t v w o. ⊎_elim (λ here. ⊎_elim (λ takes. switch_found s v takes here.1)
+    ok = λ s t v w o. ⊎_elim (λ here. ⊎_elim (λ takes. switch_found s takes here.1)
         (λ set. switch_none set.0.0 set.0.1 (gap_set clones present absent _
         (set_here s w.environment set.1) here.1)) here.0) (λ none. switch_none none.0.0.0 none.0.0.1
         (gap_unset clones present absent _ v (set_here s w.environment none.0.1) none.1)) o;

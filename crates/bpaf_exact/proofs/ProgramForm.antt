@@ -374,7 +374,7 @@ pub runs_exactly : (V : Type 0) (outcome : Outcome V) (names : List Names)
     (words : List (List ℕ)) (s : ProgramForm V) → is_record s ≡ true → (context : Context)
     → FormLaw context.env outcome names words s → RunsExactly outcome s context
 runs_exactly V outcome names words s h context l a r =
-    exact context (record_law context.env V outcome names words s h l) r
+    exact (record_law context.env V outcome names words s h l) r
 
 -- an outcome that allows no more keeps to the same laws
 narrower_program : {env : Variables} {V : Type 0} {a b : Outcome V} → AllowsNoMore V a b

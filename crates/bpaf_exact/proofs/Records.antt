@@ -237,10 +237,11 @@ module _ {env : Variables} (A B : Type 0) (first : Outcome A) (rest : Outcome B)
         record {
           steady = steady_trans i.steady j.steady;
           takes = some_trans (takes_some_left together i.takes)
-              (takes_some_left (swap_union q r both together) j.takes);
+              (takes_some_left (swap_union together) j.takes);
           read = λ none. (
             rw (mine_of_both together (cells s))
-                (i.read (sym (first_kept j.takes) ∙ (sym (mine_of_both together (cells t)) ∙ ap (mine q)
+                (i.read (sym (first_kept j.takes) ∙ (sym (mine_of_both together (cells t)) ∙ ap
+                (mine q)
                 none))),
             rw (others_of_both together (cells s))
                 (rw (← keeps_other_some lf.own lr.own apart i.takes)

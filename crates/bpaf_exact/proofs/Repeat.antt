@@ -347,12 +347,13 @@ module _ {env : Variables} {T : Type 0} {inner : Outcome T} {k : FieldKind} {q :
   all_read (only_absent {a} h ab) = (λ i. (a, ab), [], own_none)
 
   -- and so a repeat fails for want of memory alone
-  repeat_fails : (idle : Bool) (s t : Situation) (e : Error) {ws : List T} → IsWholeIn env s
-      → RepeatOutcome inner idle s (Err e) t → OwnList T group gap (own s) ws → class e ≡ OfMemory
-  repeat_fails false s t e w o own_list =
+  repeat_fails : (idle : Bool) {s : Situation} (t : Situation) (e : Error) {ws : List T}
+      → IsWholeIn env s → RepeatOutcome inner idle s (Err e) t → OwnList T group gap (own s) ws
+      → class e ≡ OfMemory
+  repeat_fails false t e w o own_list =
       let read = all_read own_list in
       turns_fail true (is_nil o.values) o.values w read.0 read.2 o.steps o.fails
-  repeat_fails true s t e w o own_list =
+  repeat_fails true t e w o own_list =
       let read = all_read own_list in
       turns_fail false (is_nil o.values) o.values w read.0 read.2 o.steps o.fails
 
@@ -374,7 +375,7 @@ module _ {env : Variables} {T : Type 0} {inner : Outcome T} {k : FieldKind} {q :
     };
     takes_all = λ s t vs ws w f o.
         no_keys_left (repeated k) q (cells t) _ (repeat_took idle w f).none;
-    refuses = λ s t e ws w f o. repeat_fails idle s t e w f o;
+    refuses = λ s t e ws w f o. repeat_fails idle t e w f o;
   }
 
   -- the laws of the list

@@ -505,20 +505,20 @@ record_says {T} s {kind} {names} {said} h = by_form s h.by
   where
     all_own : (k : FieldKind) (q : Roles) (value : List LinePiece → T → Type 0)
         → ((os : List LinePiece) (v : T) → AllOwn k q os → value os v → said os v)
-        → {os : List LinePiece} (v : T) → (last_reading k q value).value os v → said os v
-    all_own ByName q value each {os} v m =
+        → {os : List LinePiece} {v : T} → (last_reading k q value).value os v → said os v
+    all_own ByName q value each {os} {v} m =
         rw (← all_mine q os m.1) (each (mine q os) v (each_own q os) m.0)
-    all_own k q value each {os} v m =
+    all_own k q value each {os} {v} m =
         subst (λ z. said z v) (all_front k m.1) (each (front k os) v tt m.0)
 
     by_form : (s : ProgramForm T) → FormSays names s kind said
         → WholeSays names (whole_program s) said
     by_form (alternative wide q value) h = λ os v fits m. all_own ByName q _
         (λ os v all. whole_says said _ (gap_of value None) (front_says value h.1)
-        (λ v none. absurd none) os v) v m
-    by_form (single wide k q group gap) h = λ os v fits m.
-        all_own k q _ (λ os v all. whole_says said group gap h.1 h.2 os v) v m
-    by_form (complete wide k q value) h = λ os v fits m. all_own k q value h.1 v m
+        (λ v none. absurd none) os v) m
+    by_form (single wide k q group gap) h =
+        λ os v fits m. all_own k q _ (λ os v all. whole_says said group gap h.1 h.2 os v) m
+    by_form (complete wide k q value) h = λ os v fits m. all_own k q value h.1 m
     by_form (product wide named q fields) h = λ os v fits m. h.1 os os v fits fits m refl refl
     by_form no_program h = tt
     by_form _ h = absurd h
