@@ -77,13 +77,11 @@ program_closed_law env inner f names words _ g l = tt
 -- A closure that never refuses agrees with every form: map, count, collect, a constructor.
 pub never_refuses : {A B : Type 0} (f : Closure A B) → ((x : A) → f.no x → ⊥) → (s : ProgramForm A)
     → Agrees f s
-never_refuses f n (alternative wide q value) = λ o x y v a b g h. n y h
 never_refuses f n (single wide k q group gap) =
     (λ os rest x y v a b g h. n y h, λ x y v a b g h. n y h)
-never_refuses f n (complete wide k q value) = λ os x y v a b g h. n y h
-never_refuses f n (product wide named q fields) = λ os x y v a b g h. n y h
-never_refuses f n (commands optional value) = λ cs x y v a b g h. n y h
-never_refuses f n _ = tt
+never_refuses f n no_program = tt
+never_refuses f n (before_commands value) = tt
+never_refuses f n _ = λ os x y v a b g h. n y h
 
 -- a repeat has the keys of the field
 repeated_keys : (k : FieldKind) (q : Roles) {names : List Names} → Owns (keys k q) names
