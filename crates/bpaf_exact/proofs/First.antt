@@ -140,11 +140,10 @@ takes_left u (takes_later t) = takes_later (takes_left u t)
 
 -- a piece is its key's
 pub own_next : (q : Roles) (k : Arg) (cs : Cells) → is_own q (with_next k cs) ≡ is_own_role (q k)
-own_next q k [] = refl
-own_next q k (None ∷ cs) = refl
 own_next q k (Some w ∷ cs) =
     elim (is_value w) as (λ b. is_own q (if b then Two k w else One k) ≡ is_own_role (q k))
     [ true ↦ refl | false ↦ refl ]
+own_next q k _ = refl
 
 -- the key of the piece that an item begins
 head_key : (q : Roles) (x : Role) (k : Arg) (cs : Cells) (os : List LinePiece) (o : LinePiece)
