@@ -1,7 +1,8 @@
 """The worked rows of docs/ROWS.md beside what runs: their parsers, words and answers as data or as literals of tests.
 
 A test has a row where a literal that it reaches is the row's words, or some in order are, and the answer stands behind
-them, or in a text by itself. Where a row has no words as literals, its answer is looked for in all that the test reaches.
+them, or in a text by itself; or where a line of a literal has the words before its first bar, and the answer behind it.
+Where a row has no words as literals, its answer is looked for in all that the test reaches.
 """
 import glob
 import re
@@ -70,6 +71,12 @@ class Test:
         for item in self.items:
             found = [*STRING.finditer(item)]
             read = [unescaped(it["text"]) if it["raw"] is None else it["raw"] for it in found]
+            for line in "\n".join(read).split("\n"):
+                line, bar, rest = line.partition(" | ")
+                own = line.replace("''", "").split(" ")
+                part = not self.is_of_parsers and any(own[k : k + len(words)] == words for k in range(len(own)))
+                if bar and (own == words or part):
+                    yield item, rest
             for k in range(len(found)):
                 for wanted in ([" ".join(words)], words):
                     if wanted and read[k : k + len(wanted)] == wanted:
@@ -181,13 +188,13 @@ def as_told(answer, other):
     """
     kind, _, text = answer.partition(" ")
     if kind == "ok" and other:
-        return lambda it: "err " not in it.partition("\\n")[0] or "ok " in it
+        return lambda it: "err " not in it.partition("\\n")[0] and it != "refused" or "ok " in it
     if kind == "ok":
         return lambda it: plain(told(text)) in plain(told(unescaped(it)))
     text = re.sub(r"\\(.)", r"\1", answer.partition("^")[2] if kind.startswith("err^") else text)
     if kind.startswith("err") and not OWN_TEXTS.search(text):
-        return lambda it: plain(told(text)) in plain(told(unescaped(it))) or '"refused"' in it or '"None"' in it
-    return lambda it: '"ok ' not in it
+        return lambda it: plain(told(text)) in plain(told(unescaped(it))) or it == "refused" or '"None"' in it
+    return lambda it: '"ok ' not in '"' + it
 
 
 def of_data(name, row, runs, other):

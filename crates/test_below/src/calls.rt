@@ -1,7 +1,10 @@
-//! The calls of a state as values, and what they answer as a short text.
+//! Calls of a state as words, and what they answer as a short text.
 //!
 //! A test makes no state of its own: it walks a table of lines with the calls that are made on
-//! them, and what these are to answer. So one function alone owns a state.
+//! them, and what these are to answer. So one function alone owns a state. A row is a line of its
+//! table: its words; the short names of flags, and behind `/` those of arguments, that are known;
+//! the calls on the state of these words; and what they answer, each answer ended by a semicolon.
+//! A line that begins with `#` tells what the row below it is.
 ghost use Rattle.std.specs.Prelude.{◌≡◌, ◌≤◌, true, length};
 
 use bpaf_doc::{Metavar, Text};
@@ -11,159 +14,164 @@ use bpaf_words::{Arg, Args};
 use std::alloc::{AllocError, Global};
 use std::fmt::Debug;
 use std::test::Fail;
-use test_support::reads;
-
-/// A call of a state, with its arguments.
-#[derive(Clone, Copy)]
-pub(crate) enum Call<'a> {
-    TakeFlag(&'a [char], &'a [&'a str]),
-    TakeArg(&'a [char], &'a [&'a str], bool),
-    TakeWord,
-    TakeCmd(&'a str),
-    Remove(usize),
-    SetScope(usize, usize),
-    SetCurrent(Option<usize>),
-    PushPath(&'a str),
-    Len,
-    IsEmpty,
-    Scope,
-    Current,
-    Depth,
-    Path,
-    Env(&'a str),
-    Present(usize),
-    EarlierKey(usize),
-    Leftover,
-    Items,
-    Spelled,
-}
-
-/// Words, the short names of flags and of arguments that are known, calls on their state, and what
-/// these answer, each answer ended by a semicolon.
-#[derive(Clone, Copy)]
-pub(crate) struct Row<'a> {
-    pub(crate) words: &'a [&'a str],
-    pub(crate) known: (&'a [char], &'a [char]),
-    pub(crate) calls: &'a [Call<'a>],
-    pub(crate) wanted: &'a str,
-}
+use test_support::{cut, reads, rows_of};
 
 /// Compares what the calls of each row answer with what is wanted; the name of the run is `app`.
-pub(crate) fn walk(alloc: Global, rows: &[Row<'_>]) -> Result<(), Fail> {
-    for row in rows {
-        let args = Args::from(row.words).set_name("app");
-        reads(played(alloc, args, *row), row.wanted)?;
+pub(crate) fn walk(alloc: Global, table: &str) -> Result<(), Fail> {
+    walk_by(alloc, false, table)
+}
+
+/// The same where negative numbers are words.
+pub(crate) fn walk_numbers(alloc: Global, table: &str) -> Result<(), Fail> {
+    walk_by(alloc, true, table)
+}
+
+/// The same where negative numbers are words or aren't.
+fn walk_by(alloc: Global, numbers: bool, table: &str) -> Result<(), Fail> {
+    for row in rows_of(alloc, table)? {
+        let (known, rest) = cut(row.wanted, " | ");
+        let (calls, wanted) = cut(rest, " | ");
+        let args = Args::from(row.words.as_slice()).set_name("app");
+        reads(played(alloc, args, numbers, known, calls), wanted)?;
     }
     Ok(())
 }
 
-/// The answers of the calls of a row on the state of these words, or why they have none.
-pub(crate) fn played(alloc: Global, args: Args<'_>, row: Row<'_>) -> Result<String, AllocError> {
-    let mut answers = String::new(alloc);
-    answer(alloc, args, row, &mut answers)?;
-    Ok(answers)
-}
-
-/// Makes the calls of a row on the state of these words, if they have one.
-fn answer(
+/// The answers of calls on the state of these words, or why they have none.
+pub(crate) fn played(
     alloc: Global,
     args: Args<'_>,
-    row: Row<'_>,
-    answers: &mut String,
-) -> Result<(), AllocError> {
-    let (flags, arguments) = row.known;
-    let line = State::construct(alloc, args, flags, arguments);
-    answer_of(alloc, line, row.calls, answers)
+    numbers: bool,
+    known: &str,
+    calls: &str,
+) -> Result<String, AllocError> {
+    let (flags, arguments) = cut(known, "/");
+    let flags: Vec<char> = flags.chars().collect(alloc)?;
+    let arguments: Vec<char> = arguments.chars().collect(alloc)?;
+    let line = if numbers {
+        State::construct_numbers(alloc, args, flags.as_slice(), arguments.as_slice())
+    } else {
+        State::construct(alloc, args, flags.as_slice(), arguments.as_slice())
+    };
+    answer(alloc, line, calls)
 }
 
-/// Makes calls on a state, if there is one.
-pub(crate) fn answer_of(
-    alloc: Global,
-    line: Result<State, Message>,
-    calls: &[Call<'_>],
-    answers: &mut String,
-) -> Result<(), AllocError> {
+/// The answers of calls on a state, or why there is none.
+fn answer(alloc: Global, line: Result<State, Message>, calls: &str) -> Result<String, AllocError> {
+    let mut answers = String::new(alloc);
     match line {
         Ok(mut state) => {
-            let played = play(alloc, &mut state, calls, answers);
+            let played = play(alloc, &mut state, calls, &mut answers);
             drop(state);
-            played
+            played?;
         }
         Err(message) => {
-            let told = refuse(&message, answers);
+            let told = refuse(&message, &mut answers);
             drop(message);
-            told
+            told?;
         }
     }
+    Ok(answers)
 }
 
 /// Makes calls, one after another.
 fn play(
     alloc: Global,
     state: &mut State,
-    calls: &[Call<'_>],
+    calls: &str,
     answers: &mut String,
 ) -> Result<(), AllocError> {
-    for call in calls {
-        take(alloc, state, *call, answers)?;
+    for call in calls.split(", ") {
+        let (name, given) = cut(call, " ");
+        take(alloc, state, name, given, answers)?;
     }
     Ok(())
 }
 
-/// Makes a call.
+/// Makes a call of this name.
 fn take(
     alloc: Global,
     state: &mut State,
-    call: Call<'_>,
+    name: &str,
+    given: &str,
     answers: &mut String,
 ) -> Result<(), AllocError> {
-    match call {
-        Call::TakeFlag(shorts, longs) => {
-            let longs = texts(alloc, longs)?;
-            tell(state.take_flag(shorts, &longs), answers)
+    match name {
+        "take_flag" => {
+            let (shorts, longs) = names(alloc, given)?;
+            tell(state.take_flag(&shorts, &longs), answers)
         }
-        Call::TakeArg(shorts, longs, adjacent) => {
-            let longs = texts(alloc, longs)?;
-            let taken = state.take_arg(shorts, &longs, adjacent, Metavar("NUM"));
-            tell_taken(taken, answers)
-        }
-        Call::TakeWord => tell_taken(state.take_positional_word(Metavar("FILE")), answers),
-        Call::TakeCmd(name) => tell(state.take_cmd(name), answers),
-        _ => change(state, call, answers),
+        "take_arg" => take_arg(alloc, state, given, false, answers),
+        "take_adjacent" => take_arg(alloc, state, given, true, answers),
+        "take_word" => tell_taken(state.take_positional_word(Metavar("FILE")), answers),
+        "take_cmd" => tell(state.take_cmd(given), answers),
+        "push_path" => state.push_path(given),
+        _ => go(state, name, given, answers),
     }
 }
 
-/// Makes a call that takes nothing by its name.
-fn change(state: &mut State, call: Call<'_>, answers: &mut String) -> Result<(), AllocError> {
-    match call {
-        Call::Remove(place) => Ok(state.remove(place)),
-        Call::SetScope(start, end) => tell(set_scope(state, start, end), answers),
-        Call::SetCurrent(place) => Ok(state.set_current(place)),
-        Call::PushPath(name) => state.push_path(name),
-        _ => look(state, call, answers),
+/// Takes an argument of these names.
+fn take_arg(
+    alloc: Global,
+    state: &mut State,
+    given: &str,
+    adjacent: bool,
+    answers: &mut String,
+) -> Result<(), AllocError> {
+    let (shorts, longs) = names(alloc, given)?;
+    let taken = state.take_arg(&shorts, &longs, adjacent, Metavar("NUM"));
+    tell_taken(taken, answers)
+}
+
+/// The short names and the long ones, as they stand in words.
+fn names(alloc: Global, given: &str) -> Result<(Vec<char>, Vec<Text>), AllocError> {
+    let mut shorts = Vec::new(alloc);
+    let mut longs = Vec::new(alloc);
+    for name in given.split(' ') {
+        match name.strip_prefix("--") {
+            Some(long) => longs.push(Text::new(alloc, long)?)?,
+            None => shorts.push(name.chars().last().unwrap_or('-'))?,
+        }
+    }
+    Ok((shorts, longs))
+}
+
+/// The place that is given.
+pub(crate) fn place_of(given: &str) -> Option<usize> {
+    given.parse::<usize>().ok()
+}
+
+/// Makes a call on a place.
+fn go(state: &mut State, name: &str, given: &str, answers: &mut String) -> Result<(), AllocError> {
+    match (name, place_of(given)) {
+        ("set_current", place) => Ok(state.set_current(place)),
+        ("remove", Some(place)) => Ok(state.remove(place)),
+        ("present", Some(place)) => tell(state.present(place), answers),
+        ("earlier_key", Some(place)) => tell(earlier_key(state, place), answers),
+        ("set_scope", None) => tell(set_scope(state, given), answers),
+        _ => look(state, name, given, answers),
     }
 }
 
 /// Makes a call that changes nothing.
-fn look(state: &State, call: Call<'_>, answers: &mut String) -> Result<(), AllocError> {
-    match call {
-        Call::Len => tell(state.len(), answers),
-        Call::IsEmpty => tell(state.is_empty(), answers),
-        Call::Scope => tell(state.scope(), answers),
-        Call::Current => tell(state.current(), answers),
-        Call::Depth => tell(state.depth(), answers),
-        Call::Path => tell(state.path(), answers),
-        Call::Env(name) => tell(state.env(name), answers),
-        Call::Present(place) => tell(state.present(place), answers),
-        Call::EarlierKey(place) => tell(earlier_key(state, place), answers),
-        Call::Leftover => {
+fn look(state: &State, name: &str, given: &str, answers: &mut String) -> Result<(), AllocError> {
+    match name {
+        "len" => tell(state.len(), answers),
+        "is_empty" => tell(state.is_empty(), answers),
+        "scope" => tell(state.scope(), answers),
+        "current" => tell(state.current(), answers),
+        "depth" => tell(state.depth(), answers),
+        "path" => tell(state.path(), answers),
+        "env" => tell(state.env(given), answers),
+        "leftover" => {
             let left = leftover(state);
             let told = tell_leftover(&left, answers);
             drop(left);
             told
         }
-        Call::Items => list(state, answers),
-        _ => spell(state, answers),
+        "items" => list(state, answers),
+        "spelled" => spell(state, answers),
+        _ => answers.push_str("no such call;"),
     }
 }
 
@@ -185,15 +193,6 @@ fn tell_leftover(message: &Option<Message>, answers: &mut String) -> Result<(), 
         }
         Some(_) => answers.push_str("another message;"),
     }
-}
-
-/// The names as texts.
-fn texts(alloc: Global, names: &[&str]) -> Result<Vec<Text>, AllocError> {
-    let mut all = Vec::new(alloc);
-    for name in names {
-        all.push(Text::new(alloc, *name)?)?;
-    }
-    Ok(all)
 }
 
 /// What was taken, or why nothing was.
@@ -222,8 +221,12 @@ fn refuse(message: &Message, answers: &mut String) -> Result<(), AllocError> {
     }
 }
 
-/// Makes these places the scope, where the line has them.
-fn set_scope(state: &mut State, start: usize, end: usize) -> bool {
+/// Makes the places from one to another the scope, where the line has them.
+fn set_scope(state: &mut State, given: &str) -> bool {
+    let (start, end) = cut(given, " ");
+    let (Some(start), Some(end)) = (place_of(start), place_of(end)) else {
+        return false;
+    };
     let fits = start <= end && has_end(state, end);
     if fits {
         state.set_scope(start..end);

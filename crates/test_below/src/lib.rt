@@ -19,8 +19,6 @@ mod lines;
 #[cfg(test)]
 mod messages;
 #[cfg(test)]
-mod numbers;
-#[cfg(test)]
 mod sources;
 #[cfg(test)]
 mod trees;

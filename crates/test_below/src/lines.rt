@@ -1,319 +1,106 @@
 //! The worked rows on items, and on the calls of a state that take, scope and name.
-use crate::calls::{Call, Row, walk};
+use crate::calls::{walk, walk_numbers};
 use std::test::Fail;
 
 /// What words spell, by the short names that are known; the last have no line, or stand near one.
-const SPELLED: &[Row<'static>] = &[
-    Row {
-        words: &["", "x", "-"],
-        known: (&[], &[]),
-        calls: &[Call::Spelled],
-        wanted: "Word ;Word x;Word -;",
-    },
-    Row {
-        words: &["--n", "--n=v", "--n=", "--=x"],
-        known: (&[], &[]),
-        calls: &[Call::Spelled],
-        wanted: "Long --n false --n;Long --n true --n=v;ArgWord v;Long --n true --n=;ArgWord ;\
-            Long -- true --=x;ArgWord x;",
-    },
-    Row {
-        words: &["--=", "---"],
-        known: (&[], &[]),
-        calls: &[Call::Spelled],
-        wanted: "Long -- true --=;ArgWord ;Long --- false ---;",
-    },
-    Row {
-        words: &["-c", "-c=v", "-cr=v"],
-        known: (&[], &[]),
-        calls: &[Call::Spelled],
-        wanted: "Short -c false -c;Short -c true -c=v;ArgWord v;Short -c true -cr=v;ArgWord r=v;",
-    },
-    Row {
-        words: &["-==x", "-=x", "-="],
-        known: (&[], &[]),
-        calls: &[Call::Spelled],
-        wanted: "Short -= true -==x;ArgWord x;Word -=x;Short -= false -=;",
-    },
-    // items_of_name_beyond_ascii
-    Row {
-        words: &["-ñ=x", "-ñ"],
-        known: (&[], &[]),
-        calls: &[Call::Spelled],
-        wanted: "Short -ñ true -ñ=x;ArgWord x;Short -ñ false -ñ;",
-    },
-    // items_of_attached_value_with_equals
-    Row {
-        words: &["-Obits=2048"],
-        known: (&[], &[]),
-        calls: &[Call::Spelled],
-        wanted: "Short -O true -Obits=2048;ArgWord bits=2048;",
-    },
-    Row {
-        words: &["-Obits=2048"],
-        known: (&['b'], &['O']),
-        calls: &[Call::Spelled],
-        wanted: "Short -O true -Obits=2048;ArgWord bits=2048;",
-    },
-    // unknown_joined_word_is_one_word
-    Row {
-        words: &["-abc"],
-        known: (&[], &[]),
-        calls: &[Call::Spelled],
-        wanted: "Word -abc;",
-    },
-    Row {
-        words: &["-жжж"],
-        known: (&['ж'], &[]),
-        calls: &[Call::Spelled],
-        wanted: "Short -ж false -жжж;Short -ж false ;Short -ж false ;",
-    },
-    Row {
-        words: &["-vn3", "-vn", "-vx"],
-        known: (&['v'], &['n']),
-        calls: &[Call::Spelled],
-        wanted: "Short -v false -vn3;Short -n true -vn3;Word 3;Short -v false -vn;\
-            Short -n false -vn;Word -vx;",
-    },
-    Row {
-        words: &["a", "--", "--", "-b"],
-        known: (&[], &[]),
-        calls: &[Call::Spelled],
-        wanted: "Word a;none;PosWord --;PosWord -b;",
-    },
-    // last_character_ambiguous
-    Row {
-        words: &["-va"],
-        known: (&['v', 'a'], &['a']),
-        calls: &[Call::Len],
-        wanted: "ambiguity -va 2;",
-    },
-    // first_character_ambiguous
-    Row {
-        words: &["-abc"],
-        known: (&['a', 'b', 'c'], &['a']),
-        calls: &[Call::Len],
-        wanted: "ambiguity -abc 1;",
-    },
-    Row {
-        words: &["x", "-abc"],
-        known: (&['a', 'b', 'c'], &['a']),
-        calls: &[Call::Len],
-        wanted: "ambiguity -abc 1;",
-    },
-    Row {
-        words: &["-b"],
-        known: (&['a', 'b', 'c'], &['a']),
-        calls: &[Call::Len],
-        wanted: "1;",
-    },
-    Row {
-        words: &["--", "-va"],
-        known: (&['v', 'a'], &['a']),
-        calls: &[Call::Len],
-        wanted: "1;",
-    },
-];
+const SPELLED: &str = "
+'' x - | / | spelled | Word ;Word x;Word -;
+--n --n=v --n= --=x | / | spelled | \
+    Long --n false --n;Long --n true --n=v;ArgWord v;Long --n true --n=;ArgWord ;\
+    Long -- true --=x;ArgWord x;
+--= --- | / | spelled | Long -- true --=;ArgWord ;Long --- false ---;
+-c -c=v -cr=v | / | spelled | \
+    Short -c false -c;Short -c true -c=v;ArgWord v;Short -c true -cr=v;ArgWord r=v;
+-==x -=x -= | / | spelled | Short -= true -==x;ArgWord x;Word -=x;Short -= false -=;
+# items_of_name_beyond_ascii
+-ñ=x -ñ | / | spelled | Short -ñ true -ñ=x;ArgWord x;Short -ñ false -ñ;
+# items_of_attached_value_with_equals
+-Obits=2048 | / | spelled | Short -O true -Obits=2048;ArgWord bits=2048;
+-Obits=2048 | b/O | spelled | Short -O true -Obits=2048;ArgWord bits=2048;
+# unknown_joined_word_is_one_word
+-abc | / | spelled | Word -abc;
+-жжж | ж/ | spelled | Short -ж false -жжж;Short -ж false ;Short -ж false ;
+-vn3 -vn -vx | v/n | spelled | \
+    Short -v false -vn3;Short -n true -vn3;Word 3;Short -v false -vn;Short -n false -vn;Word -vx;
+a -- -- -b | / | spelled | Word a;none;PosWord --;PosWord -b;
+# last_character_ambiguous
+-va | va/a | len | ambiguity -va 2;
+# first_character_ambiguous
+-abc | abc/a | len | ambiguity -abc 1;
+x -abc | abc/a | len | ambiguity -abc 1;
+-b | abc/a | len | 1;
+-- -va | va/a | len | 1;
+";
 
 #[test]
 fn words_spell_items(rt: HostRuntime) -> Result<(), Fail> {
     walk(rt.alloc(), SPELLED)
 }
 
+/// What words spell by which negative numbers are words.
+const NUMBERS: &str = "
+-5 | / | spelled | Word -5;
+-12 | / | spelled | Word -12;
+-5= | / | spelled | Short -5 true -5=;ArgWord ;
+-1a | / | spelled | Word -1a;
+- | / | spelled | Word -;
+-٣ | / | spelled | Short -٣ false -٣;
+--5 | / | spelled | Long --5 false --5;
+-5.5 | / | spelled | Word -5.5;
+# the names `1` and `2` are known, `1` both as a flag and as an argument
+-12 | 12/1 | spelled | Word -12;
+-n -5 -- -6 | /n | spelled | Short -n false -n;Word -5;none;PosWord -6;
+# letters behind a number are joined to it
+-1a | a/1 | spelled | Short -1 true -1a;Word a;
+-a1 | a/a | spelled | ambiguity -a1 1;
+";
+
+#[test]
+fn numbers_spell_words(rt: HostRuntime) -> Result<(), Fail> {
+    walk_numbers(rt.alloc(), NUMBERS)
+}
+
 /// Flags, arguments and words that are taken.
-const TAKEN: &[Row<'static>] = &[
-    // detached_long_value_taken
-    Row {
-        words: &["--speed", "12"],
-        known: (&[], &[]),
-        calls: &[
-            Call::TakeArg(&[], &["speed"], false),
-            Call::IsEmpty,
-            Call::Current,
-        ],
-        wanted: r#"Some("12");true;Some(1);"#,
-    },
-    // attached_long_value_with_dash_taken
-    Row {
-        words: &["--speed=-12"],
-        known: (&[], &[]),
-        calls: &[
-            Call::TakeArg(&[], &["speed"], true),
-            Call::IsEmpty,
-            Call::Current,
-        ],
-        wanted: r#"Some("-12");true;Some(1);"#,
-    },
-    // attached_long_value_taken
-    Row {
-        words: &["--speed=12"],
-        known: (&[], &[]),
-        calls: &[
-            Call::TakeArg(&[], &["speed"], false),
-            Call::IsEmpty,
-            Call::Current,
-        ],
-        wanted: r#"Some("12");true;Some(1);"#,
-    },
-    // attached_short_value_with_dash_taken
-    Row {
-        words: &["-s=-12"],
-        known: (&[], &[]),
-        calls: &[
-            Call::TakeArg(&['s'], &[], true),
-            Call::IsEmpty,
-            Call::Current,
-        ],
-        wanted: r#"Some("-12");true;Some(1);"#,
-    },
-    // the same, not adjacent
-    Row {
-        words: &["-s=-12"],
-        known: (&[], &[]),
-        calls: &[
-            Call::TakeArg(&['s'], &[], false),
-            Call::IsEmpty,
-            Call::Current,
-        ],
-        wanted: r#"Some("-12");true;Some(1);"#,
-    },
-    // attached_short_value_taken
-    Row {
-        words: &["-s=12"],
-        known: (&[], &[]),
-        calls: &[
-            Call::TakeArg(&['s'], &[], false),
-            Call::IsEmpty,
-            Call::Current,
-        ],
-        wanted: r#"Some("12");true;Some(1);"#,
-    },
-    // detached_short_value_taken
-    Row {
-        words: &["-s", "12"],
-        known: (&[], &[]),
-        calls: &[
-            Call::TakeArg(&['s'], &[], false),
-            Call::IsEmpty,
-            Call::Current,
-        ],
-        wanted: r#"Some("12");true;Some(1);"#,
-    },
-    // long_flag_taken_before_word
-    Row {
-        words: &["--speed", "12"],
-        known: (&[], &[]),
-        calls: &[
-            Call::TakeFlag(&[], &["speed"]),
-            Call::Current,
-            Call::SetCurrent(None),
-            Call::Current,
-            Call::Spelled,
-        ],
-        wanted: "true;Some(0);None;none;Word 12;",
-    },
-    // word_left_by_flag_taken
-    Row {
-        words: &["--speed", "12"],
-        known: (&[], &[]),
-        calls: &[
-            Call::TakeFlag(&[], &["speed"]),
-            Call::TakeWord,
-            Call::IsEmpty,
-        ],
-        wanted: r#"true;(1, false, "12");true;"#,
-    },
-    // word_after_marker_taken
-    Row {
-        words: &["-v", "--", "-x"],
-        known: (&[], &[]),
-        calls: &[Call::TakeFlag(&['v'], &[]), Call::TakeWord, Call::IsEmpty],
-        wanted: r#"true;(2, true, "-x");true;"#,
-    },
-    // value_then_word_after_marker_taken
-    Row {
-        words: &["-v", "12", "--", "-x"],
-        known: (&[], &[]),
-        calls: &[
-            Call::TakeArg(&['v'], &[], false),
-            Call::TakeWord,
-            Call::IsEmpty,
-            Call::TakeWord,
-        ],
-        wanted: r#"Some("12");(3, true, "-x");true;missing;"#,
-    },
-    // flags_taken_in_either_order
-    Row {
-        words: &["-s", "-v"],
-        known: (&[], &[]),
-        calls: &[
-            Call::TakeFlag(&['s'], &[]),
-            Call::TakeFlag(&['s'], &[]),
-            Call::Len,
-            Call::TakeFlag(&['v'], &[]),
-            Call::IsEmpty,
-        ],
-        wanted: "true;false;1;true;true;",
-    },
-    // the other way round
-    Row {
-        words: &["-s", "-v"],
-        known: (&[], &[]),
-        calls: &[
-            Call::TakeFlag(&['v'], &[]),
-            Call::TakeFlag(&['v'], &[]),
-            Call::Len,
-            Call::TakeFlag(&['s'], &[]),
-            Call::IsEmpty,
-        ],
-        wanted: "true;false;1;true;true;",
-    },
-    // joined_flag_taken_three_times
-    Row {
-        words: &["-vvv"],
-        known: (&['v'], &[]),
-        calls: &[
-            Call::TakeFlag(&['v'], &[]),
-            Call::TakeFlag(&['v'], &[]),
-            Call::TakeFlag(&['v'], &[]),
-            Call::TakeFlag(&['v'], &[]),
-            Call::IsEmpty,
-        ],
-        wanted: "true;true;true;false;true;",
-    },
-    // joined_value_taken
-    Row {
-        words: &["-abc"],
-        known: (&[], &['a']),
-        calls: &[Call::TakeArg(&['a'], &[], false), Call::IsEmpty],
-        wanted: r#"Some("bc");true;"#,
-    },
-    // joined_flags_taken
-    Row {
-        words: &["-abc"],
-        known: (&['a', 'b', 'c'], &[]),
-        calls: &[
-            Call::TakeFlag(&['a'], &[]),
-            Call::TakeFlag(&['b'], &[]),
-            Call::TakeFlag(&['c'], &[]),
-            Call::IsEmpty,
-        ],
-        wanted: "true;true;true;true;",
-    },
-    // a refusal takes nothing, nor does a name that is not there
-    Row {
-        words: &["-s", "-v"],
-        known: (&[], &[]),
-        calls: &[
-            Call::TakeArg(&['s'], &[], false),
-            Call::Len,
-            Call::TakeArg(&['x'], &["y"], false),
-            Call::TakeArg(&['s'], &[], true),
-            Call::Len,
-        ],
-        wanted: "no argument 0 NUM;2;None;None;2;",
-    },
-];
+const TAKEN: &str = "
+# detached_long_value_taken
+--speed 12 | / | take_arg --speed, is_empty, current | Some(\"12\");true;Some(1);
+# attached_long_value_with_dash_taken
+--speed=-12 | / | take_adjacent --speed, is_empty, current | Some(\"-12\");true;Some(1);
+# attached_long_value_taken
+--speed=12 | / | take_arg --speed, is_empty, current | Some(\"12\");true;Some(1);
+# attached_short_value_with_dash_taken
+-s=-12 | / | take_adjacent -s, is_empty, current | Some(\"-12\");true;Some(1);
+# the same, not adjacent
+-s=-12 | / | take_arg -s, is_empty, current | Some(\"-12\");true;Some(1);
+# attached_short_value_taken
+-s=12 | / | take_arg -s, is_empty, current | Some(\"12\");true;Some(1);
+# detached_short_value_taken
+-s 12 | / | take_arg -s, is_empty, current | Some(\"12\");true;Some(1);
+# long_flag_taken_before_word
+--speed 12 | / | take_flag --speed, current, set_current, current, spelled | \
+    true;Some(0);None;none;Word 12;
+# word_left_by_flag_taken
+--speed 12 | / | take_flag --speed, take_word, is_empty | true;(1, false, \"12\");true;
+# word_after_marker_taken
+-v -- -x | / | take_flag -v, take_word, is_empty | true;(2, true, \"-x\");true;
+# value_then_word_after_marker_taken
+-v 12 -- -x | / | take_arg -v, take_word, is_empty, take_word | \
+    Some(\"12\");(3, true, \"-x\");true;missing;
+# flags_taken_in_either_order
+-s -v | / | take_flag -s, take_flag -s, len, take_flag -v, is_empty | true;false;1;true;true;
+# the other way round
+-s -v | / | take_flag -v, take_flag -v, len, take_flag -s, is_empty | true;false;1;true;true;
+# joined_flag_taken_three_times
+-vvv | v/ | take_flag -v, take_flag -v, take_flag -v, take_flag -v, is_empty | \
+    true;true;true;false;true;
+# joined_value_taken
+-abc | /a | take_arg -a, is_empty | Some(\"bc\");true;
+# joined_flags_taken
+-abc | abc/ | take_flag -a, take_flag -b, take_flag -c, is_empty | true;true;true;true;
+# a refusal takes nothing, nor does a name that is not there
+-s -v | / | take_arg -s, len, take_arg -x --y, take_adjacent -s, len | \
+    no argument 0 NUM;2;None;None;2;
+";
 
 #[test]
 fn items_are_taken(rt: HostRuntime) -> Result<(), Fail> {
@@ -321,75 +108,21 @@ fn items_are_taken(rt: HostRuntime) -> Result<(), Fail> {
 }
 
 /// The names of commands.
-const COMMANDS: &[Row<'static>] = &[
-    // command_then_word_taken
-    Row {
-        words: &["cmd", "pos"],
-        known: (&[], &[]),
-        calls: &[
-            Call::TakeCmd("cmd"),
-            Call::Current,
-            Call::TakeWord,
-            Call::IsEmpty,
-        ],
-        wanted: r#"true;Some(0);(1, false, "pos");true;"#,
-    },
-    // command_then_value_taken
-    Row {
-        words: &["cmd", "-s", "v"],
-        known: (&[], &[]),
-        calls: &[
-            Call::TakeCmd("cmd"),
-            Call::TakeArg(&['s'], &[], false),
-            Call::IsEmpty,
-        ],
-        wanted: r#"true;Some("v");true;"#,
-    },
-    // a command that is not the first item
-    Row {
-        words: &["-s", "cmd"],
-        known: (&[], &[]),
-        calls: &[
-            Call::SetCurrent(Some(1)),
-            Call::TakeCmd("cmd"),
-            Call::Current,
-            Call::Items,
-        ],
-        wanted: "false;None;0 -s,1 cmd,;",
-    },
-    // keys are commands where no value is attached to a long one
-    Row {
-        words: &["-s"],
-        known: (&[], &[]),
-        calls: &[Call::TakeCmd("-s")],
-        wanted: "true;",
-    },
-    Row {
-        words: &["-s=v"],
-        known: (&[], &[]),
-        calls: &[Call::TakeCmd("-s=v")],
-        wanted: "true;",
-    },
-    Row {
-        words: &["--long"],
-        known: (&[], &[]),
-        calls: &[Call::TakeCmd("--long")],
-        wanted: "true;",
-    },
-    Row {
-        words: &["--long=v"],
-        known: (&[], &[]),
-        calls: &[Call::TakeCmd("--long=v")],
-        wanted: "false;",
-    },
-    // words behind the marker are none
-    Row {
-        words: &["--", "cmd"],
-        known: (&[], &[]),
-        calls: &[Call::TakeCmd("cmd"), Call::Len],
-        wanted: "false;1;",
-    },
-];
+const COMMANDS: &str = "
+# command_then_word_taken
+cmd pos | / | take_cmd cmd, current, take_word, is_empty | true;Some(0);(1, false, \"pos\");true;
+# command_then_value_taken
+cmd -s v | / | take_cmd cmd, take_arg -s, is_empty | true;Some(\"v\");true;
+# a command that is not the first item
+-s cmd | / | set_current 1, take_cmd cmd, current, items | false;None;0 -s,1 cmd,;
+# keys are commands where no value is attached to a long one
+-s | / | take_cmd -s | true;
+-s=v | / | take_cmd -s=v | true;
+--long | / | take_cmd --long | true;
+--long=v | / | take_cmd --long=v | false;
+# words behind the marker are none
+-- cmd | / | take_cmd cmd, len | false;1;
+";
 
 #[test]
 fn commands_are_taken(rt: HostRuntime) -> Result<(), Fail> {
@@ -397,113 +130,39 @@ fn commands_are_taken(rt: HostRuntime) -> Result<(), Fail> {
 }
 
 /// Scope, places and path.
-const SCOPED: &[Row<'static>] = &[
-    // the scope is narrowed, emptied and widened
-    Row {
-        words: &["a", "b", "c", "d"],
-        known: (&[], &[]),
-        calls: &[
-            Call::TakeWord,
-            Call::Scope,
-            Call::SetScope(1, 3),
-            Call::Len,
-            Call::Items,
-            Call::SetScope(2, 2),
-            Call::IsEmpty,
-            Call::Items,
-            Call::SetScope(0, 4),
-            Call::Len,
-            Call::Items,
-        ],
-        wanted: r#"(0, false, "a");0..4;true;2;1 b,2 c,;true;true;;true;3;1 b,2 c,3 d,;"#,
-    },
-    // a place is removed in scope alone, and once
-    Row {
-        words: &["a", "b", "c"],
-        known: (&[], &[]),
-        calls: &[
-            Call::Scope,
-            Call::SetScope(1, 3),
-            Call::Remove(1),
-            Call::Current,
-            Call::SetCurrent(None),
-            Call::Remove(0),
-            Call::Remove(1),
-            Call::Remove(7),
-            Call::Current,
-            Call::Present(0),
-            Call::Present(1),
-            Call::Present(2),
-            Call::Present(3),
-            Call::Items,
-        ],
-        wanted: "0..3;true;Some(1);None;Some(true);Some(false);Some(true);None;2 c,;",
-    },
-    // a key is looked for before a place, of one kind and name, taken or not
-    Row {
-        words: &["-n", "--n", "-n=3", "--n=3", "-m", "n", "-n"],
-        known: (&[], &[]),
-        calls: &[
-            Call::Remove(2),
-            Call::EarlierKey(8),
-            Call::EarlierKey(4),
-            Call::EarlierKey(2),
-            Call::EarlierKey(0),
-            Call::EarlierKey(6),
-            Call::EarlierKey(7),
-            Call::EarlierKey(9),
-        ],
-        wanted: "Some(2);Some(1);Some(0);None;None;None;None;",
-    },
-    // names are put on the path
-    Row {
-        words: &["x"],
-        known: (&[], &[]),
-        calls: &[
-            Call::Depth,
-            Call::PushPath("build"),
-            Call::Depth,
-            Call::Path,
-            Call::Len,
-        ],
-        wanted: r#"1;2;["app", "build"];1;"#,
-    },
-];
-
-/// What is told of items that no parser took.
-const LEFT: &[Row<'static>] = &[
-    // a key is told with the last earlier one of its kind and name
-    Row {
-        words: &["-v", "--v", "-v", "v", "-v"],
-        known: (&[], &[]),
-        calls: &[
-            Call::Leftover,
-            Call::TakeFlag(&['v'], &["v"]),
-            Call::Leftover,
-            Call::TakeFlag(&['v'], &["v"]),
-            Call::Leftover,
-            Call::EarlierKey(0),
-            Call::EarlierKey(1),
-            Call::EarlierKey(3),
-            Call::EarlierKey(4),
-            Call::EarlierKey(5),
-            Call::Remove(2),
-            Call::Leftover,
-            Call::Remove(3),
-            Call::Remove(4),
-            Call::Leftover,
-        ],
-        wanted: "Some(Unconsumed(0));true;Some(Unconsumed(1));true;Some(OnlyOnce(0, 2));\
-            None;None;None;Some(2);None;Some(Unconsumed(3));None;",
-    },
-];
-
-#[test]
-fn leftovers_are_told(rt: HostRuntime) -> Result<(), Fail> {
-    walk(rt.alloc(), LEFT)
-}
+const SCOPED: &str = "
+# the scope is narrowed, emptied and widened
+a b c d | / | take_word, scope, set_scope 1 3, len, items, set_scope 2 2, is_empty, items, \
+    set_scope 0 4, len, items | \
+    (0, false, \"a\");0..4;true;2;1 b,2 c,;true;true;;true;3;1 b,2 c,3 d,;
+# a place is removed in scope alone, and once
+a b c | / | scope, set_scope 1 3, remove 1, current, set_current, remove 0, remove 1, remove 7, \
+    current, present 0, present 1, present 2, present 3, items | \
+    0..3;true;Some(1);None;Some(true);Some(false);Some(true);None;2 c,;
+# a key is looked for before a place, of one kind and name, taken or not
+-n --n -n=3 --n=3 -m n -n | / | remove 2, earlier_key 8, earlier_key 4, earlier_key 2, \
+    earlier_key 0, earlier_key 6, earlier_key 7, earlier_key 9 | \
+    Some(2);Some(1);Some(0);None;None;None;None;
+# names are put on the path
+x | / | depth, push_path build, depth, path, len | 1;2;[\"app\", \"build\"];1;
+";
 
 #[test]
 fn scope_and_path_are_changed(rt: HostRuntime) -> Result<(), Fail> {
     walk(rt.alloc(), SCOPED)
+}
+
+/// What is told of items that no parser took.
+const LEFT: &str = "
+# a key is told with the last earlier one of its kind and name
+-v --v -v v -v | / | leftover, take_flag -v --v, leftover, take_flag -v --v, leftover, \
+    earlier_key 0, earlier_key 1, earlier_key 3, earlier_key 4, earlier_key 5, remove 2, \
+    leftover, remove 3, remove 4, leftover | \
+    Some(Unconsumed(0));true;Some(Unconsumed(1));true;Some(OnlyOnce(0, 2));\
+    None;None;None;Some(2);None;Some(Unconsumed(3));None;
+";
+
+#[test]
+fn leftovers_are_told(rt: HostRuntime) -> Result<(), Fail> {
+    walk(rt.alloc(), LEFT)
 }

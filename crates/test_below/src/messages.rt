@@ -1,162 +1,53 @@
 //! The texts of messages on states of given words.
+use crate::calls::place_of;
 use bpaf_doc::{Item, Meta, ShortLong, Text};
 use bpaf_line::{Message, MissingItem, MissingItems, ParseFailure, State};
 use bpaf_messages::render;
 use bpaf_words::Args;
 use std::alloc::{AllocError, Global};
 use std::test::Fail;
-use test_support::reads;
+use test_support::{cut, reads, rows_of};
 
-/// What is told of words; a text that a program gives is `no`, but where it stands here.
-#[derive(Clone, Copy)]
-enum Told<'a> {
-    NoEnv(&'a str),
-    Fail(&'a str),
-    Strict,
-    NonStrict,
-    Unread(Option<usize>),
-    Unguarded(Option<usize>),
-    NoArgument(usize),
-    Unconsumed(usize),
-    Conflict(usize, usize),
-    OnlyOnce(usize, usize),
-    Ambiguity(&'a str, usize),
-    /// Of each item its short name (`>` is a command), where it was looked for, and the scope.
-    Missing(&'a [(char, usize, usize, usize)]),
-    Expected,
-}
-
-/// Words, what is told of them, and the text of that.
-type Row<'a> = (&'a [&'a str], Told<'a>, &'a str);
-
-const ROWS: &[Row<'static>] = &[
-    (&[], Told::NoEnv("K"), "environment variable `K` is not set"),
-    (
-        &[],
-        Told::Fail("You must\naccept\n\nit\nfirst"),
-        "You must accept\nit first",
-    ),
-    (
-        &["a"],
-        Told::Strict,
-        "expected `FILE` to be on the right side of `--`",
-    ),
-    (
-        &["--", "a"],
-        Told::NonStrict,
-        "expected `FILE` to be on the left side of `--`",
-    ),
-    (&["-n=x"], Told::Unread(Some(1)), "couldn't parse `x`: no"),
-    (
-        &["-n="],
-        Told::Unread(Some(1)),
-        "couldn't parse `-n=\"\"`: no",
-    ),
-    (
-        &["--num", ""],
-        Told::Unread(Some(1)),
-        "couldn't parse `--num \"\"`: no",
-    ),
-    (
-        &["x", ""],
-        Told::Unread(Some(1)),
-        "couldn't parse `\"\"`: no",
-    ),
-    (&[""], Told::Unread(Some(0)), "couldn't parse `\"\"`: no"),
-    (&["-n"], Told::Unread(Some(0)), "couldn't parse: no"),
-    (&["x"], Told::Unread(None), "couldn't parse: no"),
-    (&["x"], Told::Unguarded(Some(0)), "`x`: no"),
-    (&["-v"], Told::Unguarded(Some(0)), "check failed: no"),
-    (&["-v"], Told::Unguarded(Some(1)), "check failed: no"),
-    (
-        &["-n"],
-        Told::NoArgument(0),
-        "`-n` requires an argument `NUM`",
-    ),
-    (
-        &["-n", "--bar"],
-        Told::NoArgument(0),
-        "`-n` requires an argument `NUM`, got a flag `--bar`, \
-            try `-n=--bar` to use it as an argument",
-    ),
-    (
-        &["--verbose=yes"],
-        Told::Unconsumed(1),
-        "`yes` is not expected in this context",
-    ),
-    (
-        &["--verbose=yes"],
-        Told::Unconsumed(0),
-        "`--verbose` is not expected in this context",
-    ),
-    (
-        &[],
-        Told::Unconsumed(0),
-        "`` is not expected in this context",
-    ),
-    (
-        &["-a", "12", "-b", "3"],
-        Told::Conflict(0, 2),
-        "`-b` cannot be used at the same time as `-a`",
-    ),
-    (
-        &["-n", "3", "-n"],
-        Told::OnlyOnce(0, 2),
-        "argument `-n` cannot be used multiple times in this context",
-    ),
-    (
-        &[],
-        Told::Ambiguity("-abc", 1),
-        "app supports `-a` as both an option and an option-argument, \
-            try to split `-abc` into individual options (-a -b ..) \
-            or use `-a=bc` syntax to disambiguate",
-    ),
-    (
-        &[],
-        Told::Ambiguity("-va", 2),
-        "app supports `-a` as both an option and an option-argument, \
-            try to split `-va` into individual options (-v -a ..) \
-            or use `-a=` syntax to disambiguate",
-    ),
-    (
-        &[],
-        Told::Ambiguity("-ñ", 7),
-        "app supports `-` as both an option and an option-argument, \
-            try to split `-ñ` into individual options (-ñ - ..) \
-            or use `-=` syntax to disambiguate",
-    ),
-    (
-        &[],
-        Told::Missing(&[]),
-        "parser requires an extra flag, argument or parameter, \
-            but its name is hidden by the author",
-    ),
-    (
-        &["buil"],
-        Told::Missing(&[('>', 0, 0, 1)]),
-        "expected `COMMAND ...`, got `buil`. Pass `--help` for usage information",
-    ),
-    (
-        &["x", "y", "z"],
-        Told::Missing(&[
-            ('a', 0, 0, 1),
-            ('b', 0, 0, 2),
-            ('>', 1, 0, 2),
-            ('>', 0, 0, 2),
-        ]),
-        "expected `-b=NUM` or `COMMAND ...`, got `y`. Pass `--help` for usage information",
-    ),
-    (
-        &["x"],
-        Told::Missing(&[('a', 1, 0, 2), ('b', 1, 0, 2), ('c', 1, 0, 2)]),
-        "expected `-a=NUM`, `-b=NUM`, or more, pass `--help` for usage information",
-    ),
-    (
-        &[],
-        Told::Expected,
-        "expected no arguments, pass `--help` for usage information",
-    ),
-];
+/// Words, what is told of them with its places, and the text of that; a text that a program gives
+/// is `no`. Of each missing item its short name is told (`>` is a command), where it was looked for,
+/// and the scope.
+const ROWS: &str = "
+ | no_env K | environment variable `K` is not set
+a | strict | expected `FILE` to be on the right side of `--`
+-- a | non_strict | expected `FILE` to be on the left side of `--`
+-n=x | unread 1 | couldn't parse `x`: no
+-n= | unread 1 | couldn't parse `-n=\"\"`: no
+--num '' | unread 1 | couldn't parse `--num \"\"`: no
+x '' | unread 1 | couldn't parse `\"\"`: no
+'' | unread 0 | couldn't parse `\"\"`: no
+-n | unread 0 | couldn't parse: no
+x | unread | couldn't parse: no
+x | unguarded 0 | `x`: no
+-v | unguarded 0 | check failed: no
+-v | unguarded 1 | check failed: no
+-n | no_argument 0 | `-n` requires an argument `NUM`
+-n --bar | no_argument 0 | `-n` requires an argument `NUM`, got a flag `--bar`, \
+    try `-n=--bar` to use it as an argument
+--verbose=yes | unconsumed 1 | `yes` is not expected in this context
+--verbose=yes | unconsumed 0 | `--verbose` is not expected in this context
+ | unconsumed 0 | `` is not expected in this context
+-a 12 -b 3 | conflict 0 2 | `-b` cannot be used at the same time as `-a`
+-n 3 -n | only_once 0 2 | argument `-n` cannot be used multiple times in this context
+ | ambiguity -abc 1 | app supports `-a` as both an option and an option-argument, \
+    try to split `-abc` into individual options (-a -b ..) or use `-a=bc` syntax to disambiguate
+ | ambiguity -va 2 | app supports `-a` as both an option and an option-argument, \
+    try to split `-va` into individual options (-v -a ..) or use `-a=` syntax to disambiguate
+ | ambiguity -ñ 7 | app supports `-` as both an option and an option-argument, \
+    try to split `-ñ` into individual options (-ñ - ..) or use `-=` syntax to disambiguate
+ | missing | parser requires an extra flag, argument or parameter, \
+    but its name is hidden by the author
+buil | missing > 0 0 1 | expected `COMMAND ...`, got `buil`. Pass `--help` for usage information
+x y z | missing a 0 0 1, b 0 0 2, > 1 0 2, > 0 0 2 | expected `-b=NUM` or `COMMAND ...`, got `y`. \
+    Pass `--help` for usage information
+x | missing a 1 0 2, b 1 0 2, c 1 0 2 | expected `-a=NUM`, `-b=NUM`, or more, \
+    pass `--help` for usage information
+ | expected | expected no arguments, pass `--help` for usage information
+";
 
 /// An argument of this short name, or a command.
 fn item(alloc: Global, name: char) -> Result<Item, AllocError> {
@@ -177,39 +68,49 @@ fn item(alloc: Global, name: char) -> Result<Item, AllocError> {
     })
 }
 
-/// Missing items.
-fn missing(
-    alloc: Global,
-    items: &[(char, usize, usize, usize)],
-) -> Result<MissingItems, AllocError> {
+/// An item that was missed: its name, where it was looked for, and the scope.
+fn missed(alloc: Global, told: &str) -> Result<MissingItem, AllocError> {
+    let (name, told) = cut(told, " ");
+    let (position, scope) = cut(told, " ");
+    let (start, end) = cut(scope, " ");
+    Ok(MissingItem {
+        item: item(alloc, name.chars().next().unwrap_or('>'))?,
+        position: place_of(position).unwrap_or(0),
+        scope: place_of(start).unwrap_or(0)..place_of(end).unwrap_or(0),
+    })
+}
+
+/// Missing items, with commas between them.
+fn missing(alloc: Global, told: &str) -> Result<MissingItems, AllocError> {
     let mut all = MissingItems::none(alloc);
-    for (name, position, start, end) in items {
-        let missed = MissingItem {
-            item: item(alloc, *name)?,
-            position: *position,
-            scope: *start..*end,
-        };
-        all = all.join(MissingItems::one(alloc, missed)?)?;
+    if !told.is_empty() {
+        for item in told.split(", ") {
+            all = all.join(MissingItems::one(alloc, missed(alloc, item)?)?)?;
+        }
     }
     Ok(all)
 }
 
-/// The message of a row.
-fn message(alloc: Global, told: Told<'_>) -> Result<Message, AllocError> {
-    Ok(match told {
-        Told::NoEnv(name) => Message::NoEnv(Text::new(alloc, name)?),
-        Told::Fail(text) => Message::ParseFail(Text::new(alloc, text)?),
-        Told::Strict => Message::StrictPos(0, Text::new(alloc, "FILE")?),
-        Told::NonStrict => Message::NonStrictPos(1, Text::new(alloc, "FILE")?),
-        Told::Unread(place) => Message::ParseFailed(place, Text::new(alloc, "no")?),
-        Told::Unguarded(place) => Message::GuardFailed(place, Text::new(alloc, "no")?),
-        Told::NoArgument(place) => Message::NoArgument(place, Text::new(alloc, "NUM")?),
-        Told::Unconsumed(place) => Message::Unconsumed(place),
-        Told::Conflict(winner, loser) => Message::Conflict(winner, loser),
-        Told::OnlyOnce(earlier, place) => Message::OnlyOnce(earlier, place),
-        Told::Ambiguity(word, number) => Message::Ambiguity(Text::new(alloc, word)?, number),
-        Told::Missing(items) => Message::Missing(missing(alloc, items)?),
-        Told::Expected => Message::Expected(Vec::new(alloc), None),
+/// The message that a row tells.
+fn message(alloc: Global, told: &str) -> Result<Message, AllocError> {
+    let (kind, given) = cut(told, " ");
+    let (first, second) = cut(given, " ");
+    let place = place_of(first).unwrap_or(0);
+    let other = place_of(second).unwrap_or(0);
+    Ok(match kind {
+        "no_env" => Message::NoEnv(Text::new(alloc, given)?),
+        "strict" => Message::StrictPos(0, Text::new(alloc, "FILE")?),
+        "non_strict" => Message::NonStrictPos(1, Text::new(alloc, "FILE")?),
+        "unread" => Message::ParseFailed(place_of(first), Text::new(alloc, "no")?),
+        "unguarded" => Message::GuardFailed(place_of(first), Text::new(alloc, "no")?),
+        "no_argument" => Message::NoArgument(place, Text::new(alloc, "NUM")?),
+        "unconsumed" => Message::Unconsumed(place),
+        "conflict" => Message::Conflict(place, other),
+        "only_once" => Message::OnlyOnce(place, other),
+        "ambiguity" => Message::Ambiguity(Text::new(alloc, first)?, other),
+        "missing" => Message::Missing(missing(alloc, given)?),
+        "expected" => Message::Expected(Vec::new(alloc), None),
+        _ => Message::ParseFail(Text::new(alloc, told)?),
     })
 }
 
@@ -221,8 +122,8 @@ fn text(alloc: Global, failure: ParseFailure) -> Result<String, AllocError> {
     }
 }
 
-/// What a row tells.
-fn rendered(alloc: Global, words: &[&str], told: Told<'_>) -> Result<String, AllocError> {
+/// The text of what is told of words.
+fn rendered(alloc: Global, words: &[&str], told: &str) -> Result<String, AllocError> {
     let message = message(alloc, told)?;
     match State::construct(alloc, Args::from(words), &[], &[]) {
         Ok(state) => {
@@ -240,8 +141,13 @@ fn rendered(alloc: Global, words: &[&str], told: Told<'_>) -> Result<String, All
 
 #[test]
 fn messages_have_their_texts(rt: HostRuntime) -> Result<(), Fail> {
-    for (words, told, wanted) in ROWS {
-        reads(rendered(rt.alloc(), *words, *told), *wanted)?;
+    for row in rows_of(rt.alloc(), ROWS)? {
+        let (told, wanted) = cut(row.wanted, " | ");
+        reads(rendered(rt.alloc(), row.words.as_slice(), told), wanted)?;
     }
-    Ok(())
+    let of_the_author = "You must\naccept\n\nit\nfirst";
+    reads(
+        rendered(rt.alloc(), &[], of_the_author),
+        "You must accept\nit first",
+    )
 }

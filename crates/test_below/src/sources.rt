@@ -1,7 +1,7 @@
 //! What lends the words of a run, and a word that is split by itself.
 ghost use Rattle.std.specs.Prelude.{◌≢◌, codes};
 
-use crate::calls::{Call, Row, played};
+use crate::calls::played;
 use bpaf_words::{Args, SplitFault, split_word};
 use std::alloc::{AllocError, Global};
 use std::collections::BTreeMap;
@@ -9,18 +9,15 @@ use std::test::Fail;
 use test_support::{prints, reads};
 
 /// What a run was given beside its words.
-const GIVEN: Row<'static> = Row {
-    words: &[],
-    known: (&[], &[]),
-    calls: &[
-        Call::Env("NUM"),
-        Call::Env("num"),
-        Call::Depth,
-        Call::Path,
-        Call::Items,
-    ],
-    wanted: "",
-};
+fn given(alloc: Global, args: Args<'_>) -> Result<String, AllocError> {
+    played(
+        alloc,
+        args,
+        false,
+        "/",
+        "env NUM, env num, depth, path, items",
+    )
+}
 
 /// The answers of a line of owned words, with a name and with `NUM=5` in the environment.
 fn owned(alloc: Global, words: &[String]) -> Result<String, AllocError> {
@@ -30,19 +27,19 @@ fn owned(alloc: Global, words: &[String]) -> Result<String, AllocError> {
         String::from_str(alloc, "5")?,
     )?;
     let args = Args::from(words).set_name("app").set_env(&variables);
-    played(alloc, args, GIVEN)
+    given(alloc, args)
 }
 
 /// The same, of a slice and of an array, the latter without a name and an environment.
 fn both_owned(alloc: Global) -> Result<(String, String), AllocError> {
     let words = [String::from_str(alloc, "x")?];
     let slice = owned(alloc, &words)?;
-    Ok((slice, played(alloc, Args::from(&words), GIVEN)?))
+    Ok((slice, given(alloc, Args::from(&words))?))
 }
 
 /// The answers of a line of lent words.
 fn lent(alloc: Global) -> Result<String, AllocError> {
-    played(alloc, Args::from(&["x", "y"]), GIVEN)
+    given(alloc, Args::from(&["x", "y"]))
 }
 
 #[test]

@@ -33,8 +33,10 @@ mod compared;
 mod narrow;
 mod outcome;
 mod parsers;
+mod table;
 
 pub use compared::{prints, reads};
 pub use narrow::Narrow;
 pub use outcome::{Tried, Written, ran};
 pub use parsers::{answers, answers_of, num, number, switch, value, verbose};
+pub use table::{Row, cut, fits, rows_of, walk, walk_of};

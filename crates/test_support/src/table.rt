@@ -1,0 +1,107 @@
+//! Rows that stand in a text: tables of words and answers.
+use bpaf_core::{OptionParser, Parser};
+use bpaf_line::ParseFailure;
+use bpaf_words::Args;
+use std::alloc::{AllocError, Global};
+use std::fmt::Debug;
+use std::test::Fail;
+
+/// A row of a table: the words of a line, and what stands behind them.
+#[derive(Drop)]
+pub struct Row<'a> {
+    /// The words.
+    pub words: Vec<&'a str>,
+    /// What is wanted of them.
+    pub wanted: &'a str,
+}
+
+/// What stands before a mark, and what behind it; all of a text without one stands before it.
+pub fn cut<'a>(text: &'a str, mark: &str) -> (&'a str, &'a str) {
+    text.split_once(mark).unwrap_or((text, ""))
+}
+
+/// Words that are parted by spaces; `''` is the empty one.
+fn words_of<'a>(alloc: Global, line: &'a str) -> Result<Vec<&'a str>, AllocError> {
+    let mut words = Vec::new(alloc);
+    for word in line.split_whitespace() {
+        words.push(if word == "''" { "" } else { word })?;
+    }
+    Ok(words)
+}
+
+/// The rows of a table. Each is a line: words, and behind a bar what is wanted of them. A line that
+/// is empty or begins with `#` is none.
+pub fn rows_of<'a>(alloc: Global, table: &'a str) -> Result<Vec<Row<'a>>, AllocError> {
+    let mut rows = Vec::new(alloc);
+    for line in table.split('\n') {
+        if !line.is_empty() && !line.starts_with('#') {
+            let (words, wanted) = cut(line, " | ");
+            let words = words_of(alloc, words)?;
+            rows.push(Row { words, wanted })?;
+        }
+    }
+    Ok(rows)
+}
+
+/// What is told of a failure.
+fn failed(alloc: Global, failure: ParseFailure) -> Result<String, AllocError> {
+    let message = failure.unwrap_stderr()?;
+    match &message {
+        Some(message) => format!(in alloc; "err {message}"),
+        None => String::from_str(alloc, "shown"),
+    }
+}
+
+/// What a run answers: `ok` and the value as Rust's Debug prints it, `err` and the whole message, or
+/// `shown` where a text is shown that was asked for.
+fn told<T: Debug + Drop>(
+    alloc: Global,
+    answer: Result<T, ParseFailure>,
+) -> Result<String, AllocError> {
+    match answer {
+        Ok(value) => format!(in alloc; "ok {value:?}"),
+        Err(ParseFailure::Memory) => Err(AllocError),
+        Err(failure) => failed(alloc, failure),
+    }
+}
+
+/// Compares an answer with the wanted one, for which `refused` is any message; where they differ the
+/// failure is the answer.
+pub fn fits<T: Debug + Drop>(
+    alloc: Global,
+    answer: Result<T, ParseFailure>,
+    wanted: &str,
+) -> Result<(), Fail> {
+    let found = told(alloc, answer)?;
+    if found.as_str() == wanted || (wanted == "refused" && found.starts_with("err ")) {
+        Ok(())
+    } else {
+        Err(Fail::new(found))
+    }
+}
+
+/// Runs a parser on the words of each row, and compares the answers.
+pub fn walk<T: Debug + Drop, P: Parser<T> + Drop>(
+    alloc: Global,
+    parser: P,
+    table: &str,
+) -> Result<(), Fail>
+    requires { P.can_eval parser }
+{
+    walk_of(alloc, parser.to_options(alloc)?, table)
+}
+
+/// The same of options.
+pub fn walk_of<T: Debug + Drop, P: Parser<T> + Drop>(
+    alloc: Global,
+    options: OptionParser<T, P>,
+    table: &str,
+) -> Result<(), Fail>
+    requires { P.can_eval options.inner }
+{
+    for row in rows_of(alloc, table)? {
+        let answer = options.run_inner(Args::from(row.words.as_slice()));
+        fits(alloc, answer, row.wanted)?;
+    }
+    Ok(())
+}
