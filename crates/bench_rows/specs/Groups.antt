@@ -104,17 +104,13 @@ abbrev pub TogetherOutcome : {P : Type 0} → (P → Outcome Value) → (P → D
     → Outcome Value
 TogetherOutcome o d (p ∷ q ∷ []) = TwoGrouped (o p) (o q) (d p) (d q)
 TogetherOutcome o d (p ∷ q ∷ r ∷ []) = ThreeGrouped (o p) (o q) (o r) (d p) (d q) (d r)
-TogetherOutcome o d [] = PureOutcome (GivesRefusal wrong_number)
-TogetherOutcome o d (p ∷ []) = PureOutcome (GivesRefusal wrong_number)
-TogetherOutcome o d (p ∷ q ∷ r ∷ s ∷ ps) = PureOutcome (GivesRefusal wrong_number)
+TogetherOutcome o d _ = PureOutcome (GivesRefusal wrong_number)
 
 -- what is read of it
 abbrev pub TogetherReads : {P : Type 0} → (P → Readings Value) → List P → Readings Value
 TogetherReads f (p ∷ q ∷ []) = GroupedReads (TwoFields (f p) (f q)) ToldPair
 TogetherReads f (p ∷ q ∷ r ∷ []) = GroupedReads (ThreeFields (f p) (f q) (f r)) ToldTriple
-TogetherReads f [] = PureReads (λ v. ⊥)
-TogetherReads f (p ∷ []) = PureReads (λ v. ⊥)
-TogetherReads f (p ∷ q ∷ r ∷ s ∷ ps) = PureReads (λ v. ⊥)
+TogetherReads f _ = PureReads (λ v. ⊥)
 
 -- it keeps to the laws where its parsers do
 pub together_lawful : {P : Type 0} (o : P → Outcome Value) (f : P → Readings Value)
@@ -125,6 +121,4 @@ together_lawful o f d (p ∷ q ∷ []) each =
 together_lawful o f d (p ∷ q ∷ r ∷ []) each =
     grouped_lawful (ThreeDescribe (d p) (d q) (d r)) ToldTriple
     (fail_fast_lawful (each p) (both_lawful (each q) (each r)))
-together_lawful o f d [] each = refusal_lawful wrong_number
-together_lawful o f d (p ∷ []) each = refusal_lawful wrong_number
-together_lawful o f d (p ∷ q ∷ r ∷ s ∷ ps) each = refusal_lawful wrong_number
+together_lawful o f d _ each = refusal_lawful wrong_number

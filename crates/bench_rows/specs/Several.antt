@@ -80,18 +80,14 @@ abbrev pub TupleOutcome : {P : Type 0} → (P → Outcome Value) → List P → 
 TupleOutcome o (p ∷ q ∷ []) = TwoOutcome (o p) (o q)
 TupleOutcome o (p ∷ q ∷ r ∷ []) = ThreeOutcome (o p) (o q) (o r)
 TupleOutcome o (p ∷ q ∷ r ∷ s ∷ []) = FourOutcome (o p) (o q) (o r) (o s)
-TupleOutcome o [] = PureOutcome (GivesRefusal wrong_number)
-TupleOutcome o (p ∷ []) = PureOutcome (GivesRefusal wrong_number)
-TupleOutcome o (p ∷ q ∷ r ∷ s ∷ t ∷ ps) = PureOutcome (GivesRefusal wrong_number)
+TupleOutcome o _ = PureOutcome (GivesRefusal wrong_number)
 
 -- what is read of it
 abbrev pub TupleReads : {P : Type 0} → (P → Readings Value) → List P → Readings Value
 TupleReads f (p ∷ q ∷ []) = NestedReads (TwoFields (f p) (f q)) ToldPair
 TupleReads f (p ∷ q ∷ r ∷ []) = NestedReads (ThreeFields (f p) (f q) (f r)) ToldTriple
 TupleReads f (p ∷ q ∷ r ∷ s ∷ []) = NestedReads (FourFields (f p) (f q) (f r) (f s)) ToldQuadruple
-TupleReads f [] = PureReads (λ v. ⊥)
-TupleReads f (p ∷ []) = PureReads (λ v. ⊥)
-TupleReads f (p ∷ q ∷ r ∷ s ∷ t ∷ ps) = PureReads (λ v. ⊥)
+TupleReads f _ = PureReads (λ v. ⊥)
 
 -- what it shows
 abbrev pub TupleDescribes : {P : Type 0} → (P → Describes) → List P → Shape → Type 0
@@ -99,9 +95,7 @@ TupleDescribes d (p ∷ q ∷ []) shape = ProductDescribes (TwoDescribe (d p) (d
 TupleDescribes d (p ∷ q ∷ r ∷ []) shape = ProductDescribes (ThreeDescribe (d p) (d q) (d r)) shape
 TupleDescribes d (p ∷ q ∷ r ∷ s ∷ []) shape =
     ProductDescribes (FourDescribe (d p) (d q) (d r) (d s)) shape
-TupleDescribes d [] shape = shape ≡ Skip
-TupleDescribes d (p ∷ []) shape = shape ≡ Skip
-TupleDescribes d (p ∷ q ∷ r ∷ s ∷ t ∷ ps) shape = shape ≡ Skip
+TupleDescribes d _ shape = shape ≡ Skip
 
 -- the short names that it shows
 abbrev pub tuple_shorts : {P : Type 0} → (P → ShortNames) → List P → ShortNames
@@ -121,9 +115,7 @@ tuple_shows d n each (p ∷ q ∷ r ∷ []) =
 tuple_shows d n each (p ∷ q ∷ r ∷ s ∷ []) =
     let last_two = both_show (each r) (last_shows (each s)) in
     product_shows (both_show (each p) (both_show (each q) last_two))
-tuple_shows d n each [] = one_shape refl
-tuple_shows d n each (p ∷ []) = one_shape refl
-tuple_shows d n each (p ∷ q ∷ r ∷ s ∷ t ∷ ps) = one_shape refl
+tuple_shows d n each _ = one_shape refl
 
 -- it keeps to the laws where its parsers do
 pub tuple_lawful : {P : Type 0} (o : P → Outcome Value) (f : P → Readings Value) (ps : List P)
@@ -134,33 +126,25 @@ tuple_lawful o f (p ∷ q ∷ r ∷ []) each =
 tuple_lawful o f (p ∷ q ∷ r ∷ s ∷ []) each =
     let last_two = both_lawful (each r) (each s) in
     nested_lawful ToldQuadruple (both_lawful (each p) (both_lawful (each q) last_two))
-tuple_lawful o f [] each = refusal_lawful wrong_number
-tuple_lawful o f (p ∷ []) each = refusal_lawful wrong_number
-tuple_lawful o f (p ∷ q ∷ r ∷ s ∷ t ∷ ps) each = refusal_lawful wrong_number
+tuple_lawful o f _ each = refusal_lawful wrong_number
 
 -- the first that reads of two or three parsers
 abbrev pub OrElseOutcome : {P : Type 0} → (P → Outcome Value) → List P → Outcome Value
 OrElseOutcome o (p ∷ q ∷ []) = ChoiceOutcome (o p) (o q)
 OrElseOutcome o (p ∷ q ∷ r ∷ []) = ChoiceOutcome (ChoiceOutcome (o p) (o q)) (o r)
-OrElseOutcome o [] = PureOutcome (GivesRefusal wrong_number)
-OrElseOutcome o (p ∷ []) = PureOutcome (GivesRefusal wrong_number)
-OrElseOutcome o (p ∷ q ∷ r ∷ s ∷ ps) = PureOutcome (GivesRefusal wrong_number)
+OrElseOutcome o _ = PureOutcome (GivesRefusal wrong_number)
 
 -- what is read of it
 abbrev pub OrElseReads : {P : Type 0} → (P → Readings Value) → List P → Readings Value
 OrElseReads f (p ∷ q ∷ []) = ChoiceReads (f p) (f q)
 OrElseReads f (p ∷ q ∷ r ∷ []) = ChoiceReads (ChoiceReads (f p) (f q)) (f r)
-OrElseReads f [] = PureReads (λ v. ⊥)
-OrElseReads f (p ∷ []) = PureReads (λ v. ⊥)
-OrElseReads f (p ∷ q ∷ r ∷ s ∷ ps) = PureReads (λ v. ⊥)
+OrElseReads f _ = PureReads (λ v. ⊥)
 
 -- what it shows
 abbrev pub OrElseDescribes : {P : Type 0} → (P → Describes) → List P → Shape → Type 0
 OrElseDescribes d (p ∷ q ∷ []) shape = ChoiceDescribes (d p) (d q) shape
 OrElseDescribes d (p ∷ q ∷ r ∷ []) shape = ChoiceDescribes (ChoiceDescribes (d p) (d q)) (d r) shape
-OrElseDescribes d [] shape = shape ≡ Skip
-OrElseDescribes d (p ∷ []) shape = shape ≡ Skip
-OrElseDescribes d (p ∷ q ∷ r ∷ s ∷ ps) shape = shape ≡ Skip
+OrElseDescribes d _ shape = shape ≡ Skip
 
 -- the short names that it shows
 abbrev pub or_else_shorts : {P : Type 0} → (P → ShortNames) → List P → ShortNames
@@ -175,9 +159,7 @@ pub or_else_shows : {P : Type 0} (d : P → Describes) (n : P → ShortNames)
 or_else_shows d n each (p ∷ q ∷ []) = choice_shows (each p) (each q)
 or_else_shows d n each (p ∷ q ∷ r ∷ []) =
     choice_shows (choice_shows (each p) (each q)) (each r)
-or_else_shows d n each [] = one_shape refl
-or_else_shows d n each (p ∷ []) = one_shape refl
-or_else_shows d n each (p ∷ q ∷ r ∷ s ∷ ps) = one_shape refl
+or_else_shows d n each _ = one_shape refl
 
 -- it keeps to the laws where its parsers do
 pub or_else_lawful : {P : Type 0} (o : P → Outcome Value) (f : P → Readings Value) (ps : List P)
@@ -185,6 +167,4 @@ pub or_else_lawful : {P : Type 0} (o : P → Outcome Value) (f : P → Readings 
 or_else_lawful o f (p ∷ q ∷ []) each = choice_lawful (each p) (each q)
 or_else_lawful o f (p ∷ q ∷ r ∷ []) each =
     choice_lawful (choice_lawful (each p) (each q)) (each r)
-or_else_lawful o f [] each = refusal_lawful wrong_number
-or_else_lawful o f (p ∷ []) each = refusal_lawful wrong_number
-or_else_lawful o f (p ∷ q ∷ r ∷ s ∷ ps) each = refusal_lawful wrong_number
+or_else_lawful o f _ each = refusal_lawful wrong_number

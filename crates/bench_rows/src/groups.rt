@@ -5,26 +5,13 @@ ghost use Rattle.bpaf_laws.specs.AdjacentGroup.{GroupDescribes};
 ghost use Rattle.bench_rows.specs.Groups.{GroupedOutcome, ThreeGrouped, TogetherOutcome};
 ghost use Rattle.bench_rows.specs.Groups.{TwoGrouped};
 ghost use Rattle.bench_rows.specs.Several.{TupleDescribes};
-ghost use Rattle.bench_values.specs.Told.{ToldOutcome};
 
 use crate::several::{Three, ThreeFields, Two, TwoFields, product_meta, three_fields, two_fields};
-use bench_values::{AsValue, Told, Value};
+use bench_values::{Told, Value, tell};
 use bpaf::parsers::ParseCon;
 use bpaf::{AdjacentError, Error, Fields, Meta, Parser, State, fail};
 use std::alloc::{AllocError, Global};
 use std::marker::PhantomData;
-
-/// The value of a parser, told as one of all parsers.
-fn told<T: Told + Drop, P: Parser<T> + Drop>(inner: P, state: &mut State) -> Result<Value, Error>
-    requires { P.can_eval inner }
-    ensures { ToldOutcome (P.outcome inner) T.told state.old result state.new }
-{
-    let parser: AsValue<T, P> = AsValue {
-        inner,
-        of: PhantomData,
-    };
-    parser.eval(state)
-}
 
 /// The values of an adjacent group of fields, as one; a refusal where they show no item first.
 fn grouped<V, F>(fields: F, state: &mut State) -> Result<Value, Error>
@@ -41,7 +28,7 @@ where
         values: PhantomData,
     };
     match product.adjacent(state.alloc()) {
-        Ok(group) => told(group, state),
+        Ok(group) => tell(group, state),
         Err(AdjacentError::NoFirstItem) => fail::<Value>("no first item").eval(state),
         Err(AdjacentError::Memory) => Err(Error::from(AllocError)),
     }

@@ -85,6 +85,36 @@ pub enum Leaf {
     Fail(ParseFail<Value>),
 }
 
+/// What the parser of a leaf is.
+trait Saying {
+    ghost use Rattle.bench_rows.specs.Leaves.{Said};
+
+    /// What the trait of parsers says of it.
+    ghost said: { Self → Said };
+}
+
+impl Saying for Leaf {
+    ghost use Rattle.bench_rows.specs.Leaves.{said_of};
+    ghost use Rattle.bench_rows.specs.declared.leaf.Leaf.TheVariants as leaf;
+
+    ghost said = { elim [
+      | leaf.Switch p ↦ said_of ⟦<AsValue<bool, ParseFlag<bool>> as Parser<Value>>⟧ p
+      | leaf.Flag p ↦ said_of ⟦<AsValue<u64, ParseFlag<u64>> as Parser<Value>>⟧ p
+      | leaf.Number p ↦ said_of ⟦<AsValue<u64, ParseArgument<u64>> as Parser<Value>>⟧ p
+      | leaf.Integer p ↦ said_of ⟦<AsValue<i64, ParseArgument<i64>> as Parser<Value>>⟧ p
+      | leaf.Text p ↦ said_of ⟦<AsValue<String, ParseArgument<String>> as Parser<Value>>⟧ p
+      | leaf.Unread p ↦ said_of ⟦<AsValue<Refused, ParseArgument<Refused>> as Parser<Value>>⟧ p
+      | leaf.NumberWord p ↦ said_of ⟦<AsValue<u64, ParsePositional<u64>> as Parser<Value>>⟧ p
+      | leaf.Word p ↦ said_of ⟦<AsValue<String, ParsePositional<String>> as Parser<Value>>⟧ p
+      | leaf.Literal p ↦ said_of ⟦<AsValue<(), ParseLiteral> as Parser<Value>>⟧ p
+      | leaf.Any p ↦ said_of ⟦<OneText as Parser<Value>>⟧ p
+      | leaf.Appname p ↦ said_of ⟦<AsValue<String, ParseAppname> as Parser<Value>>⟧ p
+      | leaf.Pure p ↦ said_of ⟦<ParsePure<Value> as Parser<Value>>⟧ p
+      | leaf.PureWith p ↦ said_of ⟦<Answer as Parser<Value>>⟧ p
+      | leaf.Fail p ↦ said_of ⟦<ParseFail<Value> as Parser<Value>>⟧ p
+    ] };
+}
+
 impl Parser<Value> for Leaf {
     ghost use Rattle.bpaf_laws.proofs.FlagLaws.{flag_lawful};
     ghost use Rattle.bpaf_laws.proofs.ArgumentLaws.{argument_lawful};
@@ -96,97 +126,18 @@ impl Parser<Value> for Leaf {
     ghost use Rattle.bpaf_laws.proofs.PureLaws.{pure_lawful, pure_with_lawful, refusal_lawful};
     ghost use Rattle.bench_values.specs.Modifiers.{number_named};
     ghost use Rattle.bpaf_laws.proofs.AnyLaws.{any_lawful};
-    ghost use Rattle.bench_rows.specs.declared.leaf.Leaf.TheVariants.{Switch, Flag, Number};
-    ghost use Rattle.bench_rows.specs.declared.leaf.Leaf.TheVariants.{Integer, Text, NumberWord};
-    ghost use Rattle.bench_rows.specs.declared.leaf.Leaf.TheVariants.{Word, Pure, PureWith, Fail};
-    ghost use Rattle.bench_rows.specs.declared.leaf.Leaf.TheVariants.{Literal, Any, Appname};
-    ghost use Rattle.bench_rows.specs.declared.leaf.Leaf.TheVariants.{Unread};
     ghost use Rattle.bench_values.specs.Told.{told_lawful};
+    ghost use Rattle.bench_rows.specs.declared.leaf.Leaf.TheVariants as leaf;
 
-    ghost can_eval = { elim [
-      | Switch p ↦ ⟦<AsValue<bool, ParseFlag<bool>> as Parser<Value>>⟧.can_eval p
-      | Flag p ↦ ⟦<AsValue<u64, ParseFlag<u64>> as Parser<Value>>⟧.can_eval p
-      | Number p ↦ ⟦<AsValue<u64, ParseArgument<u64>> as Parser<Value>>⟧.can_eval p
-      | Integer p ↦ ⟦<AsValue<i64, ParseArgument<i64>> as Parser<Value>>⟧.can_eval p
-      | Text p ↦ ⟦<AsValue<String, ParseArgument<String>> as Parser<Value>>⟧.can_eval p
-      | Unread p ↦ ⟦<AsValue<Refused, ParseArgument<Refused>> as Parser<Value>>⟧.can_eval p
-      | NumberWord p ↦ ⟦<AsValue<u64, ParsePositional<u64>> as Parser<Value>>⟧.can_eval p
-      | Word p ↦ ⟦<AsValue<String, ParsePositional<String>> as Parser<Value>>⟧.can_eval p
-      | Literal p ↦ ⟦<AsValue<(), ParseLiteral> as Parser<Value>>⟧.can_eval p
-      | Any p ↦ ⟦<OneText as Parser<Value>>⟧.can_eval p
-      | Appname p ↦ ⟦<AsValue<String, ParseAppname> as Parser<Value>>⟧.can_eval p
-      | Pure p ↦ ⟦<ParsePure<Value> as Parser<Value>>⟧.can_eval p
-      | PureWith p ↦ ⟦<Answer as Parser<Value>>⟧.can_eval p
-      | Fail p ↦ ⟦<ParseFail<Value> as Parser<Value>>⟧.can_eval p
-    ] };
+    ghost can_eval = { λ p. Unit {0} };
 
-    ghost describes = { elim [
-      | Switch p ↦ ⟦<AsValue<bool, ParseFlag<bool>> as Parser<Value>>⟧.describes p
-      | Flag p ↦ ⟦<AsValue<u64, ParseFlag<u64>> as Parser<Value>>⟧.describes p
-      | Number p ↦ ⟦<AsValue<u64, ParseArgument<u64>> as Parser<Value>>⟧.describes p
-      | Integer p ↦ ⟦<AsValue<i64, ParseArgument<i64>> as Parser<Value>>⟧.describes p
-      | Text p ↦ ⟦<AsValue<String, ParseArgument<String>> as Parser<Value>>⟧.describes p
-      | Unread p ↦ ⟦<AsValue<Refused, ParseArgument<Refused>> as Parser<Value>>⟧.describes p
-      | NumberWord p ↦ ⟦<AsValue<u64, ParsePositional<u64>> as Parser<Value>>⟧.describes p
-      | Word p ↦ ⟦<AsValue<String, ParsePositional<String>> as Parser<Value>>⟧.describes p
-      | Literal p ↦ ⟦<AsValue<(), ParseLiteral> as Parser<Value>>⟧.describes p
-      | Any p ↦ ⟦<OneText as Parser<Value>>⟧.describes p
-      | Appname p ↦ ⟦<AsValue<String, ParseAppname> as Parser<Value>>⟧.describes p
-      | Pure p ↦ ⟦<ParsePure<Value> as Parser<Value>>⟧.describes p
-      | PureWith p ↦ ⟦<Answer as Parser<Value>>⟧.describes p
-      | Fail p ↦ ⟦<ParseFail<Value> as Parser<Value>>⟧.describes p
-    ] };
+    ghost describes = { λ p. (⟦<Leaf as Saying>⟧.said p).describes };
 
-    ghost shorts = { elim [
-      | Switch p ↦ ⟦<AsValue<bool, ParseFlag<bool>> as Parser<Value>>⟧.shorts p
-      | Flag p ↦ ⟦<AsValue<u64, ParseFlag<u64>> as Parser<Value>>⟧.shorts p
-      | Number p ↦ ⟦<AsValue<u64, ParseArgument<u64>> as Parser<Value>>⟧.shorts p
-      | Integer p ↦ ⟦<AsValue<i64, ParseArgument<i64>> as Parser<Value>>⟧.shorts p
-      | Text p ↦ ⟦<AsValue<String, ParseArgument<String>> as Parser<Value>>⟧.shorts p
-      | Unread p ↦ ⟦<AsValue<Refused, ParseArgument<Refused>> as Parser<Value>>⟧.shorts p
-      | NumberWord p ↦ ⟦<AsValue<u64, ParsePositional<u64>> as Parser<Value>>⟧.shorts p
-      | Word p ↦ ⟦<AsValue<String, ParsePositional<String>> as Parser<Value>>⟧.shorts p
-      | Literal p ↦ ⟦<AsValue<(), ParseLiteral> as Parser<Value>>⟧.shorts p
-      | Any p ↦ ⟦<OneText as Parser<Value>>⟧.shorts p
-      | Appname p ↦ ⟦<AsValue<String, ParseAppname> as Parser<Value>>⟧.shorts p
-      | Pure p ↦ ⟦<ParsePure<Value> as Parser<Value>>⟧.shorts p
-      | PureWith p ↦ ⟦<Answer as Parser<Value>>⟧.shorts p
-      | Fail p ↦ ⟦<ParseFail<Value> as Parser<Value>>⟧.shorts p
-    ] };
+    ghost shorts = { λ p. (⟦<Leaf as Saying>⟧.said p).shorts };
 
-    ghost reads = { elim [
-      | Switch p ↦ ⟦<AsValue<bool, ParseFlag<bool>> as Parser<Value>>⟧.reads p
-      | Flag p ↦ ⟦<AsValue<u64, ParseFlag<u64>> as Parser<Value>>⟧.reads p
-      | Number p ↦ ⟦<AsValue<u64, ParseArgument<u64>> as Parser<Value>>⟧.reads p
-      | Integer p ↦ ⟦<AsValue<i64, ParseArgument<i64>> as Parser<Value>>⟧.reads p
-      | Text p ↦ ⟦<AsValue<String, ParseArgument<String>> as Parser<Value>>⟧.reads p
-      | Unread p ↦ ⟦<AsValue<Refused, ParseArgument<Refused>> as Parser<Value>>⟧.reads p
-      | NumberWord p ↦ ⟦<AsValue<u64, ParsePositional<u64>> as Parser<Value>>⟧.reads p
-      | Word p ↦ ⟦<AsValue<String, ParsePositional<String>> as Parser<Value>>⟧.reads p
-      | Literal p ↦ ⟦<AsValue<(), ParseLiteral> as Parser<Value>>⟧.reads p
-      | Any p ↦ ⟦<OneText as Parser<Value>>⟧.reads p
-      | Appname p ↦ ⟦<AsValue<String, ParseAppname> as Parser<Value>>⟧.reads p
-      | Pure p ↦ ⟦<ParsePure<Value> as Parser<Value>>⟧.reads p
-      | PureWith p ↦ ⟦<Answer as Parser<Value>>⟧.reads p
-      | Fail p ↦ ⟦<ParseFail<Value> as Parser<Value>>⟧.reads p
-    ] };
+    ghost reads = { λ p. (⟦<Leaf as Saying>⟧.said p).reads };
 
-    ghost outcome = { elim [
-      | Switch p ↦ ⟦<AsValue<bool, ParseFlag<bool>> as Parser<Value>>⟧.outcome p
-      | Flag p ↦ ⟦<AsValue<u64, ParseFlag<u64>> as Parser<Value>>⟧.outcome p
-      | Number p ↦ ⟦<AsValue<u64, ParseArgument<u64>> as Parser<Value>>⟧.outcome p
-      | Integer p ↦ ⟦<AsValue<i64, ParseArgument<i64>> as Parser<Value>>⟧.outcome p
-      | Text p ↦ ⟦<AsValue<String, ParseArgument<String>> as Parser<Value>>⟧.outcome p
-      | Unread p ↦ ⟦<AsValue<Refused, ParseArgument<Refused>> as Parser<Value>>⟧.outcome p
-      | NumberWord p ↦ ⟦<AsValue<u64, ParsePositional<u64>> as Parser<Value>>⟧.outcome p
-      | Word p ↦ ⟦<AsValue<String, ParsePositional<String>> as Parser<Value>>⟧.outcome p
-      | Literal p ↦ ⟦<AsValue<(), ParseLiteral> as Parser<Value>>⟧.outcome p
-      | Any p ↦ ⟦<OneText as Parser<Value>>⟧.outcome p
-      | Appname p ↦ ⟦<AsValue<String, ParseAppname> as Parser<Value>>⟧.outcome p
-      | Pure p ↦ ⟦<ParsePure<Value> as Parser<Value>>⟧.outcome p
-      | PureWith p ↦ ⟦<Answer as Parser<Value>>⟧.outcome p
-      | Fail p ↦ ⟦<ParseFail<Value> as Parser<Value>>⟧.outcome p
-    ] };
+    ghost outcome = { λ p. (⟦<Leaf as Saying>⟧.said p).outcome };
 
     fn eval(&self, state: &mut State) -> Result<Value, Error> {
         match self {
@@ -227,36 +178,36 @@ impl Parser<Value> for Leaf {
     }
 
     ghost lawful = { elim [
-      | Switch p ↦ told_lawful _ (flag_lawful _ _ _ _ _)
-      | Flag p ↦ told_lawful _ (flag_lawful _ _ _ _ _)
-      | Number p ↦ told_lawful _ (argument_lawful _ _ _)
-      | Integer p ↦ told_lawful _ (argument_lawful _ _ _)
-      | Text p ↦ told_lawful _ (argument_lawful _ _ _)
-      | Unread p ↦ told_lawful _ (argument_lawful _ _ _)
-      | NumberWord p ↦ told_lawful _ (positional_lawful _ _ _ _)
-      | Word p ↦ told_lawful _ (positional_lawful _ _ _ _)
-      | Literal p ↦ told_lawful _ (any_lawful _ _ _ _)
-      | Any p ↦ any_lawful _ _ _ _
-      | Appname p ↦ told_lawful _ appname_lawful
-      | Pure p ↦ pure_lawful _ (λ e. names_want e.0)
-      | PureWith p ↦ pure_with_lawful _ (number_named p.number)
-      | Fail p ↦ refusal_lawful _
+      | leaf.Switch p ↦ told_lawful _ (flag_lawful _ _ _ _ _)
+      | leaf.Flag p ↦ told_lawful _ (flag_lawful _ _ _ _ _)
+      | leaf.Number p ↦ told_lawful _ (argument_lawful _ _ _)
+      | leaf.Integer p ↦ told_lawful _ (argument_lawful _ _ _)
+      | leaf.Text p ↦ told_lawful _ (argument_lawful _ _ _)
+      | leaf.Unread p ↦ told_lawful _ (argument_lawful _ _ _)
+      | leaf.NumberWord p ↦ told_lawful _ (positional_lawful _ _ _ _)
+      | leaf.Word p ↦ told_lawful _ (positional_lawful _ _ _ _)
+      | leaf.Literal p ↦ told_lawful _ (any_lawful _ _ _ _)
+      | leaf.Any p ↦ any_lawful _ _ _ _
+      | leaf.Appname p ↦ told_lawful _ appname_lawful
+      | leaf.Pure p ↦ pure_lawful _ (λ e. names_want e.0)
+      | leaf.PureWith p ↦ pure_with_lawful _ (number_named p.number)
+      | leaf.Fail p ↦ refusal_lawful _
     ] };
 
     ghost shows = { elim [
-      | Switch p ↦ flag_shows _ _
-      | Flag p ↦ flag_shows _ _
-      | Number p ↦ argument_shows p.inner
-      | Integer p ↦ argument_shows p.inner
-      | Text p ↦ argument_shows p.inner
-      | Unread p ↦ argument_shows p.inner
-      | NumberWord p ↦ positional_shows _ _ _
-      | Word p ↦ positional_shows _ _ _
-      | Literal p ↦ one_shape refl
-      | Any p ↦ one_shape refl
-      | Appname p ↦ one_shape refl
-      | Pure p ↦ one_shape refl
-      | PureWith p ↦ one_shape refl
-      | Fail p ↦ one_shape refl
+      | leaf.Switch p ↦ flag_shows _ _
+      | leaf.Flag p ↦ flag_shows _ _
+      | leaf.Number p ↦ argument_shows p.inner
+      | leaf.Integer p ↦ argument_shows p.inner
+      | leaf.Text p ↦ argument_shows p.inner
+      | leaf.Unread p ↦ argument_shows p.inner
+      | leaf.NumberWord p ↦ positional_shows _ _ _
+      | leaf.Word p ↦ positional_shows _ _ _
+      | leaf.Literal p ↦ one_shape refl
+      | leaf.Any p ↦ one_shape refl
+      | leaf.Appname p ↦ one_shape refl
+      | leaf.Pure p ↦ one_shape refl
+      | leaf.PureWith p ↦ one_shape refl
+      | leaf.Fail p ↦ one_shape refl
     ] };
 }

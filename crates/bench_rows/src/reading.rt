@@ -86,12 +86,6 @@ fn read_leaf(tokens: &mut Tokens<'_>) -> Result<Leaf, Fault> {
 }
 
 impl Described for Leaf {
-    ghost use Rattle.bench_rows.specs.declared.leaf.Leaf.TheVariants.{Switch, Flag, Number};
-    ghost use Rattle.bench_rows.specs.declared.leaf.Leaf.TheVariants.{Integer, Text, NumberWord};
-    ghost use Rattle.bench_rows.specs.declared.leaf.Leaf.TheVariants.{Word, Pure, PureWith, Fail};
-    ghost use Rattle.bench_rows.specs.declared.leaf.Leaf.TheVariants.{Literal, Any, Appname};
-    ghost use Rattle.bench_rows.specs.declared.leaf.Leaf.TheVariants.{Unread};
-
     fn read(tokens: &mut Tokens<'_>) -> Result<Leaf, Fault> {
         let opened = tokens.open();
         let leaf = read_leaf(tokens)?;
@@ -99,20 +93,5 @@ impl Described for Leaf {
         Ok(leaf)
     }
 
-    ghost ready = { elim [
-      | Switch p ↦ tt
-      | Flag p ↦ tt
-      | Number p ↦ tt
-      | Integer p ↦ tt
-      | Text p ↦ tt
-      | Unread p ↦ tt
-      | NumberWord p ↦ tt
-      | Word p ↦ tt
-      | Literal p ↦ tt
-      | Any p ↦ tt
-      | Appname p ↦ tt
-      | Pure p ↦ tt
-      | PureWith p ↦ tt
-      | Fail p ↦ tt
-    ] };
+    ghost ready = { λ p. tt };
 }

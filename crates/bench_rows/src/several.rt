@@ -7,7 +7,7 @@ ghost use Rattle.bench_rows.specs.Several.{OrElseDescribes, OrElseOutcome, Tuple
 ghost use Rattle.bench_rows.specs.Several.{TupleOutcome};
 
 use crate::product::Product;
-use bench_values::{AsValue, Lent, Told, Value};
+use bench_values::{Lent, Told, Value, tell};
 use bpaf::parsers::ParseOrElse;
 use bpaf::{Both, Error, Fields, Last, Meta, Parser, State, fail};
 use std::alloc::{AllocError, Global};
@@ -36,14 +36,11 @@ fn nested<V: Told + Drop, F: Fields<V> + Drop>(fields: F, state: &mut State) -> 
     requires { F.can_eval fields }
     ensures { NestedOutcome (F.outcome fields) V.told state.old result state.new }
 {
-    let parser: AsValue<V, Product<V, F>> = AsValue {
-        inner: Product {
-            fields,
-            values: PhantomData,
-        },
-        of: PhantomData,
+    let product: Product<V, F> = Product {
+        fields,
+        values: PhantomData,
     };
-    parser.eval(state)
+    tell(product, state)
 }
 
 /// What fields show.

@@ -115,19 +115,16 @@ OverReads clones over.Hide reads = reads
 
 -- what is shown under a modifier
 abbrev pub OverDescribes : Modifier → (Shape → Type 0) → Shape → Type 0
-OverDescribes over.Same inner shape = inner shape
 OverDescribes (over.Optional catch) inner shape = OptionalDescribes inner shape
 OverDescribes (over.Many catch) inner shape = ManyDescribes inner shape
 OverDescribes (over.Some catch) inner shape = SomeDescribes inner shape
 OverDescribes (over.Collect catch) inner shape = ManyDescribes inner shape
 OverDescribes over.Count inner shape = ManyDescribes inner shape
 OverDescribes over.Last inner shape = SomeDescribes inner shape
-OverDescribes over.Map inner shape = inner shape
-OverDescribes (over.Guard limit) inner shape = inner shape
-OverDescribes (over.Parse limit) inner shape = inner shape
 OverDescribes (over.Fallback n) inner shape = OptionalDescribes inner shape
 OverDescribes (over.FallbackWith number) inner shape = OptionalDescribes inner shape
 OverDescribes over.Hide inner shape = shape ≡ Skip
+OverDescribes _ inner shape = inner shape
 
 -- the short names that it shows
 abbrev pub over_shorts : Modifier → ShortNames → ShortNames
@@ -137,19 +134,16 @@ over_shorts _ names = names
 -- so it does where its parser shows its own
 pub over_shows : {inner : Shape → Type 0} {names : ShortNames} (m : Modifier)
     → ShowsNames inner names → ShowsNames (OverDescribes m inner) (over_shorts m names)
-over_shows over.Same shows = shows
 over_shows (over.Optional catch) shows = optional_shows shows
 over_shows (over.Many catch) shows = many_shows shows
 over_shows (over.Some catch) shows = some_shows shows
 over_shows (over.Collect catch) shows = many_shows shows
 over_shows over.Count shows = many_shows shows
 over_shows over.Last shows = some_shows shows
-over_shows over.Map shows = shows
-over_shows (over.Guard limit) shows = shows
-over_shows (over.Parse limit) shows = shows
 over_shows (over.Fallback n) shows = optional_shows shows
 over_shows (over.FallbackWith number) shows = optional_shows shows
 over_shows over.Hide shows = one_shape refl
+over_shows _ shows = shows
 
 -- a number that is refused is the answer of no run inside
 pub number_named : (number : Option ℕ) → NamesGiven (GivesNumber number)

@@ -1,4 +1,6 @@
 //! A parser of any type, as one of the bench's values.
+ghost use Rattle.bench_values.specs.Told.{ToldOutcome};
+
 use crate::value::{Told, Value};
 use bpaf_core::Parser;
 use bpaf_doc::Meta;
@@ -42,4 +44,19 @@ impl<T: Told + Drop, P: Parser<T>> Parser<Value> for AsValue<T, P> {
     ghost lawful = { λ p. told_lawful T.told (P.lawful p.inner) };
 
     ghost shows = { λ p. P.shows p.inner };
+}
+
+/// The value of a parser, told as one of all parsers.
+pub fn tell<T: Told + Drop, P: Parser<T> + Drop>(
+    inner: P,
+    state: &mut State,
+) -> Result<Value, Error>
+    requires { P.can_eval inner }
+    ensures { ToldOutcome (P.outcome inner) T.told state.old result state.new }
+{
+    let parser: AsValue<T, P> = AsValue {
+        inner,
+        of: PhantomData,
+    };
+    parser.eval(state)
 }

@@ -33,7 +33,7 @@ mod refused;
 mod tokens;
 mod value;
 
-pub use as_value::AsValue;
+pub use as_value::{AsValue, tell};
 pub use closures::give;
 pub use combinations::{read_combination, read_several};
 pub use commands::{called, called_meta};

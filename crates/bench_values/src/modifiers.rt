@@ -14,7 +14,7 @@ ghost use Rattle.bench_values.specs.Modifiers.{AcceptOutcome, FillsQueue, GivesN
 ghost use Rattle.bench_values.specs.Modifiers.{OverDescribes, OverOutcome};
 ghost use Rattle.bench_values.specs.Modifiers.{ToldCount, ToldList, need_one, number_of, too_much};
 
-use crate::as_value::AsValue;
+use crate::as_value::tell;
 use crate::closures::{accept, give, half};
 use crate::kind::Modifier;
 use crate::lent::Lent;
@@ -36,11 +36,7 @@ fn optional<P: Parser<Value>>(inner: &P, catch: bool, state: &mut State) -> Resu
         state.old result state.new }
 {
     let inner = Lent { inner };
-    let parser: AsValue<Option<Value>, ParseOptional<Lent<'_, P>>> = AsValue {
-        inner: ParseOptional { inner, catch },
-        of: PhantomData,
-    };
-    parser.eval(state)
+    tell::<Option<Value>, ParseOptional<Lent<'_, P>>>(ParseOptional { inner, catch }, state)
 }
 
 /// The values of a parser.
@@ -50,11 +46,7 @@ fn many<P: Parser<Value>>(inner: &P, catch: bool, state: &mut State) -> Result<V
         state.old result state.new }
 {
     let inner = Lent { inner };
-    let parser: AsValue<Vec<Value>, ParseMany<Lent<'_, P>>> = AsValue {
-        inner: ParseMany { inner, catch },
-        of: PhantomData,
-    };
-    parser.eval(state)
+    tell::<Vec<Value>, ParseMany<Lent<'_, P>>>(ParseMany { inner, catch }, state)
 }
 
 /// The values of a parser, one at least.
@@ -63,16 +55,12 @@ fn some<P: Parser<Value>>(inner: &P, catch: bool, state: &mut State) -> Result<V
     ensures { ToldOutcome (SomeOutcome (P.outcome inner.now) catch need_one) ToldList
         state.old result state.new }
 {
-    let inner = Lent { inner };
-    let parser: AsValue<Vec<Value>, ParseSome<'static, Lent<'_, P>>> = AsValue {
-        inner: ParseSome {
-            inner,
-            message: "need one",
-            catch,
-        },
-        of: PhantomData,
+    let parser = ParseSome {
+        inner: Lent { inner },
+        message: "need one",
+        catch,
     };
-    parser.eval(state)
+    tell::<Vec<Value>, ParseSome<'static, Lent<'_, P>>>(parser, state)
 }
 
 /// The values of a parser, in a queue.
@@ -81,18 +69,13 @@ fn queue<P: Parser<Value>>(inner: &P, catch: bool, state: &mut State) -> Result<
     ensures { ToldOutcome (CollectOutcome (P.outcome inner.now) catch FillsQueue) ToldQueue
         state.old result state.new }
 {
-    let inner = Lent { inner };
-    let parser: AsValue<VecDeque<Value>, ParseCollect<Lent<'_, P>, VecDeque<Value>, Value>> =
-        AsValue {
-            inner: ParseCollect {
-                inner,
-                catch,
-                collection: PhantomData,
-                inner_res: PhantomData,
-            },
-            of: PhantomData,
-        };
-    parser.eval(state)
+    let parser: ParseCollect<Lent<'_, P>, VecDeque<Value>, Value> = ParseCollect {
+        inner: Lent { inner },
+        catch,
+        collection: PhantomData,
+        inner_res: PhantomData,
+    };
+    tell(parser, state)
 }
 
 /// The number of a parser's values.
@@ -101,15 +84,11 @@ fn count<P: Parser<Value>>(inner: &P, state: &mut State) -> Result<Value, Error>
     ensures { ToldOutcome (CountOutcome (P.outcome inner.now)) ToldCount
         state.old result state.new }
 {
-    let inner = Lent { inner };
-    let parser: AsValue<usize, ParseCount<Lent<'_, P>, Value>> = AsValue {
-        inner: ParseCount {
-            inner,
-            inner_res: PhantomData,
-        },
-        of: PhantomData,
+    let parser: ParseCount<Lent<'_, P>, Value> = ParseCount {
+        inner: Lent { inner },
+        inner_res: PhantomData,
     };
-    parser.eval(state)
+    tell(parser, state)
 }
 
 /// The last value of a parser.

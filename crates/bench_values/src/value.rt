@@ -1,5 +1,8 @@
 //! The values that described parsers give.
-ghost use Rattle.std.specs.Prelude.{IfOk};
+ghost use Rattle.std.specs.Prelude.{◌≡◌, IfOk, []};
+ghost use Rattle.bench_values.specs.Values.{IsTupleOf, ToldOption, ToldPair, ToldQuadruple};
+ghost use Rattle.bench_values.specs.Values.{ToldQueue, ToldTriple};
+ghost use Rattle.bench_values.specs.declared.value.Value.TheVariants as value;
 
 use crate::refused::Refused;
 use std::alloc::{AllocError, Global};
@@ -41,10 +44,7 @@ pub trait Told: Sized {
 }
 
 impl Told for bool {
-    ghost use Rattle.std.specs.Prelude.{◌≡◌};
-    ghost use Rattle.bench_values.specs.declared.value.Value.TheVariants.{Bool};
-
-    ghost told = { λ x v. v ≡ Bool x };
+    ghost told = { λ x v. v ≡ value.Bool x };
 
     fn into_value(self, _alloc: Global) -> Result<Value, AllocError> {
         Ok(Value::Bool(self))
@@ -52,10 +52,7 @@ impl Told for bool {
 }
 
 impl Told for u64 {
-    ghost use Rattle.std.specs.Prelude.{◌≡◌};
-    ghost use Rattle.bench_values.specs.declared.value.Value.TheVariants.{Number};
-
-    ghost told = { λ x v. v ≡ Number x };
+    ghost told = { λ x v. v ≡ value.Number x };
 
     fn into_value(self, _alloc: Global) -> Result<Value, AllocError> {
         Ok(Value::Number(self))
@@ -63,10 +60,7 @@ impl Told for u64 {
 }
 
 impl Told for usize {
-    ghost use Rattle.std.specs.Prelude.{◌≡◌};
-    ghost use Rattle.bench_values.specs.declared.value.Value.TheVariants.{Number};
-
-    ghost told = { λ x v. v ≡ Number x };
+    ghost told = { λ x v. v ≡ value.Number x };
 
     fn into_value(self, _alloc: Global) -> Result<Value, AllocError> {
         Ok(Value::Number(self as u64))
@@ -74,10 +68,7 @@ impl Told for usize {
 }
 
 impl Told for i64 {
-    ghost use Rattle.std.specs.Prelude.{◌≡◌};
-    ghost use Rattle.bench_values.specs.declared.value.Value.TheVariants.{Integer};
-
-    ghost told = { λ x v. v ≡ Integer x };
+    ghost told = { λ x v. v ≡ value.Integer x };
 
     fn into_value(self, _alloc: Global) -> Result<Value, AllocError> {
         Ok(Value::Integer(self))
@@ -85,10 +76,7 @@ impl Told for i64 {
 }
 
 impl Told for String {
-    ghost use Rattle.std.specs.Prelude.{◌≡◌};
-    ghost use Rattle.bench_values.specs.declared.value.Value.TheVariants.{Text};
-
-    ghost told = { λ x v. v ≡ Text x };
+    ghost told = { λ x v. v ≡ value.Text x };
 
     fn into_value(self, _alloc: Global) -> Result<Value, AllocError> {
         Ok(Value::Text(self))
@@ -97,9 +85,6 @@ impl Told for String {
 
 /// No values, as a tuple.
 impl Told for () {
-    ghost use Rattle.std.specs.Prelude.{[]};
-    ghost use Rattle.bench_values.specs.Values.{IsTupleOf};
-
     ghost told = { λ _ v. IsTupleOf [] v };
 
     fn into_value(self, alloc: Global) -> Result<Value, AllocError> {
@@ -108,10 +93,7 @@ impl Told for () {
 }
 
 impl Told for Vec<Value> {
-    ghost use Rattle.std.specs.Prelude.{◌≡◌};
-    ghost use Rattle.bench_values.specs.declared.value.Value.TheVariants.{List};
-
-    ghost told = { λ x v. v ≡ List x };
+    ghost told = { λ x v. v ≡ value.List x };
 
     fn into_value(self, _alloc: Global) -> Result<Value, AllocError> {
         Ok(Value::List(self))
@@ -119,8 +101,6 @@ impl Told for Vec<Value> {
 }
 
 impl Told for Option<Value> {
-    ghost use Rattle.bench_values.specs.Values.{ToldOption};
-
     ghost told = { ToldOption };
 
     fn into_value(self, alloc: Global) -> Result<Value, AllocError> {
@@ -132,8 +112,6 @@ impl Told for Option<Value> {
 }
 
 impl Told for VecDeque<Value> {
-    ghost use Rattle.bench_values.specs.Values.{ToldQueue};
-
     ghost told = { ToldQueue };
 
     fn into_value(self, _alloc: Global) -> Result<Value, AllocError> {
@@ -142,8 +120,6 @@ impl Told for VecDeque<Value> {
 }
 
 impl Told for (Value, Value) {
-    ghost use Rattle.bench_values.specs.Values.{ToldPair};
-
     ghost told = { ToldPair };
 
     fn into_value(self, alloc: Global) -> Result<Value, AllocError> {
@@ -153,8 +129,6 @@ impl Told for (Value, Value) {
 }
 
 impl Told for (Value, (Value, Value)) {
-    ghost use Rattle.bench_values.specs.Values.{ToldTriple};
-
     ghost told = { ToldTriple };
 
     fn into_value(self, alloc: Global) -> Result<Value, AllocError> {
@@ -164,8 +138,6 @@ impl Told for (Value, (Value, Value)) {
 }
 
 impl Told for (Value, (Value, (Value, Value))) {
-    ghost use Rattle.bench_values.specs.Values.{ToldQuadruple};
-
     ghost told = { ToldQuadruple };
 
     fn into_value(self, alloc: Global) -> Result<Value, AllocError> {
