@@ -10,7 +10,7 @@ import re
 ROWS = "docs/ROWS.md"
 DATA = "crates/bench/data"
 STRING = re.compile(r'(?s)r#"(?P<raw>.*?)"#|"(?P<text>(?:[^"\\]|\\.)*)"')
-ITEM = re.compile(r"(?m)^(?:#\[test\]\n)?(?:pub(?:\(crate\))? )?(?:const|fn|struct|enum|impl|type) (\w+)")
+ITEM = re.compile(r"(?m)^(?:#\[test\]\n)?(?:pub(?:\(crate\))? )?(?:const|fn|struct|enum|impl|type|macro_rules!) (\w+)")
 NEXT_ROW = re.compile(r"\n    \(|\n +Row \{|;\n|\n\}")
 LET = re.compile(r'let (\w+) = "((?:[^"\\]|\\.)*)"')
 CODE = re.compile(r"``(.+?)``|`([^`\n]+)`")

@@ -1,33 +1,10 @@
 //! Help pages of trees, byte for byte; those of whole parsers stand in the rows of these.
 use crate::trees::{told, tree};
-use bpaf_doc::{Doc, Meta};
+use bpaf_doc::Meta;
 use bpaf_pages::{HelpTexts, render_help};
 use std::alloc::{AllocError, Global};
 use std::test::Fail;
-
-// The page of two trees.
-fn printed(
-    alloc: Global,
-    path: &[String],
-    header: Option<&Doc>,
-    shown: &Meta,
-    extra: &Meta,
-) -> Result<String, AllocError> {
-    let texts = HelpTexts {
-        usage: None,
-        descr: None,
-        header,
-        footer: None,
-    };
-    render_help(alloc, path, texts, shown, extra)?.monochrome(true)
-}
-
-// The path of a program.
-fn path_of(alloc: Global, name: &str) -> Result<Vec<String>, AllocError> {
-    let mut path = Vec::new(alloc);
-    path.push(String::from_str(alloc, name)?)?;
-    Ok(path)
-}
+use test_support::reads;
 
 // The page of two trees, with the name of the program and a text behind the usage.
 fn headed(
@@ -37,9 +14,15 @@ fn headed(
     shown: &Meta,
     extra: &Meta,
 ) -> Result<String, AllocError> {
-    let path = path_of(alloc, name)?;
+    let path = vec![in alloc; String::from_str(alloc, name)?]?;
     let header = told(alloc, header)?;
-    printed(alloc, path.as_slice(), header.as_ref(), shown, extra)
+    let texts = HelpTexts {
+        usage: None,
+        descr: None,
+        header: header.as_ref(),
+        footer: None,
+    };
+    render_help(alloc, path.as_slice(), texts, shown, extra)?.monochrome(true)
 }
 
 // The page of a tree and of a description of what stands behind it.
@@ -90,12 +73,8 @@ skip
 section Nothing below
 and";
 
-#[test]
-fn page_of_sections(rt: HostRuntime) -> Result<(), Fail> {
-    let page = page(rt.alloc(), SECTIONS, HELP, "run", "Of all parts")?;
-    assert_eq!(rt;
-        page.as_str(),
-        "Usage: run --verbose --level=LEVEL NÄME (KEY | -x) RUN
+// The page of these.
+const PAGE: &str = "Usage: run --verbose --level=LEVEL NÄME (KEY | -x) RUN
 
 Of all parts
 
@@ -119,7 +98,12 @@ Available options:
 
 Available commands:
     run, r             Run it
-"
-    );
-    Ok(())
+";
+
+#[test]
+fn page_of_sections(rt: HostRuntime) -> Result<(), Fail> {
+    reads(
+        page(rt.alloc(), SECTIONS, HELP, "run", "Of all parts"),
+        PAGE,
+    )
 }

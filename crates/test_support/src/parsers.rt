@@ -38,29 +38,28 @@ pub fn num(alloc: Global) -> Result<ParseArgument<u64>, AllocError> {
     number(alloc, 'n')
 }
 
-/// A kind of answer and its text, as a line.
-fn push_text(kind: &str, doc: &Doc, full: bool, out: &mut String) -> Result<(), AllocError> {
+/// A kind of answer and its text.
+fn kind_and_text(alloc: Global, kind: &str, doc: &Doc, full: bool) -> Result<String, AllocError> {
     let text = doc.monochrome(full)?;
-    writeln!(out, "{kind} {text}")
+    format!(in alloc; "{kind} {text}")
 }
 
-/// What a run answers, as a line: `ok` and the value, `err` and the message, `out` and a text that
-/// was asked for, or `full` and one that was asked for in full.
-fn push_answer<T: Debug + Drop>(
+/// What a run answers: `ok` and the value as Rust's Debug prints it, `err` and the message, `out` and
+/// a text that was asked for, or `full` and one that was asked for in full.
+pub(crate) fn told<T: Debug + Drop>(
+    alloc: Global,
     answer: Result<T, ParseFailure>,
-    out: &mut String,
-) -> Result<(), AllocError> {
+) -> Result<String, AllocError> {
     match answer {
-        Ok(value) => writeln!(out, "ok {value:?}"),
+        Ok(value) => format!(in alloc; "ok {value:?}"),
         Err(ParseFailure::Memory) => Err(AllocError),
-        Err(ParseFailure::Stderr(doc)) => push_text("err", &doc, true, out),
-        Err(ParseFailure::Stdout(doc, full)) => {
-            push_text(if full { "full" } else { "out" }, &doc, full, out)
-        }
+        Err(ParseFailure::Stderr(doc)) => kind_and_text(alloc, "err", &doc, true),
+        Err(ParseFailure::Stdout(doc, false)) => kind_and_text(alloc, "out", &doc, false),
+        Err(ParseFailure::Stdout(doc, true)) => kind_and_text(alloc, "full", &doc, true),
     }
 }
 
-/// What a parser answers to lines of words, one after the other.
+/// What a parser answers to lines of words, a line each.
 pub fn answers<T: Debug + Drop, P: Parser<T> + Drop>(
     alloc: Global,
     parser: P,
@@ -81,7 +80,8 @@ pub fn answers_of<T: Debug + Drop, P: Parser<T> + Drop>(
 {
     let mut out = String::new(alloc);
     for words in lines {
-        push_answer(options.run_inner(Args::from(*words)), &mut out)?;
+        let told = told(alloc, options.run_inner(Args::from(*words)))?;
+        writeln!(out, "{told}")?;
     }
     Ok(out)
 }

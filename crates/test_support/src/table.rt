@@ -1,4 +1,5 @@
 //! Rows that stand in a text: tables of words and answers.
+use crate::parsers::told;
 use bpaf_core::{OptionParser, Parser};
 use bpaf_line::ParseFailure;
 use bpaf_words::Args;
@@ -43,37 +44,22 @@ pub fn rows_of<'a>(alloc: Global, table: &'a str) -> Result<Vec<Row<'a>>, AllocE
     Ok(rows)
 }
 
-/// What is told of a failure.
-fn failed(alloc: Global, failure: ParseFailure) -> Result<String, AllocError> {
-    let message = failure.unwrap_stderr()?;
-    match &message {
-        Some(message) => format!(in alloc; "err {message}"),
-        None => String::from_str(alloc, "shown"),
-    }
+/// Whether an answer is the wanted one, for which `refused` is any message and `shown` any text that
+/// was asked for.
+fn is_wanted(found: &str, wanted: &str) -> bool {
+    found == wanted
+        || (wanted == "refused" && found.starts_with("err "))
+        || (wanted == "shown" && (found.starts_with("out ") || found.starts_with("full ")))
 }
 
-/// What a run answers: `ok` and the value as Rust's Debug prints it, `err` and the whole message, or
-/// `shown` where a text is shown that was asked for.
-fn told<T: Debug + Drop>(
-    alloc: Global,
-    answer: Result<T, ParseFailure>,
-) -> Result<String, AllocError> {
-    match answer {
-        Ok(value) => format!(in alloc; "ok {value:?}"),
-        Err(ParseFailure::Memory) => Err(AllocError),
-        Err(failure) => failed(alloc, failure),
-    }
-}
-
-/// Compares an answer with the wanted one, for which `refused` is any message; where they differ the
-/// failure is the answer.
+/// Compares an answer with the wanted one; where they differ the failure is the answer.
 pub fn fits<T: Debug + Drop>(
     alloc: Global,
     answer: Result<T, ParseFailure>,
     wanted: &str,
 ) -> Result<(), Fail> {
     let found = told(alloc, answer)?;
-    if found.as_str() == wanted || (wanted == "refused" && found.starts_with("err ")) {
+    if is_wanted(found.as_str(), wanted) {
         Ok(())
     } else {
         Err(Fail::new(found))
