@@ -193,7 +193,8 @@ def as_told(answer, other):
         return lambda it: plain(told(text)) in plain(told(unescaped(it)))
     text = re.sub(r"\\(.)", r"\1", answer.partition("^")[2] if kind.startswith("err^") else text)
     if kind.startswith("err") and not OWN_TEXTS.search(text):
-        return lambda it: plain(told(text)) in plain(told(unescaped(it))) or it == "refused" or '"None"' in it
+        others = ('"refused"', '"None"')
+        return lambda it: plain(told(text)) in plain(told(unescaped(it))) or any(o in f'"{it}"' for o in others)
     return lambda it: '"ok ' not in '"' + it
 
 
