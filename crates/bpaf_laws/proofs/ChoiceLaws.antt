@@ -1,14 +1,15 @@
 -- Choices keep to the laws where both branches do.
 use Rattle.std.specs.Prelude.{◌≡◌, ℕ, Bool, true, false, Result, Ok, Err, Option, Some, None}
-use Rattle.std.proofs.Common.{sym, subst, ⊎_elim, inl, inr}
+use Rattle.std.proofs.Common.{refl, sym, subst, inl, inr}
 use Rattle.bpaf_line.specs.declared.error.Error.{Error}
-use Rattle.bpaf_line.specs.{Situation.Situation, Conflicts.ConflictsSaved}
+use Rattle.bpaf_line.specs.{Situation.Situation, Conflicts.ConflictsSaved, Combining.Combines}
 use Rattle.bpaf_laws.proofs.NamesAnswer.{names_combined, names_want}
-use Rattle.bpaf_laws.proofs.Keeping.{keeps_of, keeps_same, keeps_conflicts, closes_conflicts}
-use Rattle.bpaf_laws.proofs.Keeping.{newly_conflicts}
+use Rattle.bpaf_laws.proofs.Keeping.{Answers, answer_of, lawful_by, keeps_refl, keeps_same}
+use Rattle.bpaf_laws.proofs.Keeping.{reads_as, keeps_conflicts, closes_conflicts, newly_conflicts}
 use Rattle.bpaf_laws.specs.Choice.{AnsweredBranch, branch_of, Winner, EqualDepths, Chosen}
-use Rattle.bpaf_laws.specs.{Reading.Readings, Reading.Outcome, Laws.Keeps, Laws.Reads, Laws.Lawful}
-use Rattle.bpaf_laws.specs.{RefusalNames.NamesAnswer, Choice.ChoiceOutcome, Choice.ChoiceReads}
+use Rattle.bpaf_laws.specs.Choice.{BranchesEval, ChoiceOutcome, ChoiceReads}
+use Rattle.bpaf_laws.specs.{Reading.Readings, Reading.Outcome, Laws.Reads, Laws.Lawful}
+use Rattle.bpaf_laws.specs.RefusalNames.{NamesAnswer}
 
 -- an error is no value
 pub no_value : {T : Type 0} (v : T) (e : Error) → ◌≡◌ {A = Result T Error} (Ok v) (Err e) → ⊥
@@ -20,6 +21,49 @@ pub not_winner : {T : Type 0} (first second : AnsweredBranch T) (winner : Bool �
 not_winner first second (wins, None) e t won = no_value first.value e (sym won.0)
 not_winner first second (true, Some place) e t won = no_value first.value e (sym won.0)
 not_winner first second (false, Some place) e t won = no_value second.value e (sym won.0)
+
+-- where an answer of the table comes from
+pub data ComesFrom {T : Type 0} (s : Situation) (a : Result T Error) (sa : Situation)
+    (b : Result T Error) (sb : Situation) (r : Result T Error) (t : Situation) : Type 0 where
+  -- it is what a branch answered
+  first_stands : r ≡ a → t ≡ sa → ComesFrom s a sa b sb r t
+  second_stands : r ≡ b → t ≡ sb → ComesFrom s a sa b sb r t
+  -- or its value, with conflict notes
+  first_won : (v : T) (place : ℕ) → a ≡ Ok v → r ≡ Ok v → ConflictsSaved sa sb place t
+      → ComesFrom s a sa b sb r t
+  second_won : (v : T) (place : ℕ) → b ≡ Ok v → r ≡ Ok v → ConflictsSaved sb sa place t
+      → ComesFrom s a sa b sb r t
+  -- or an error of one, or those of both, and all is as before
+  first_refused : (e : Error) → a ≡ Err e → r ≡ Err e → t ≡ s → ComesFrom s a sa b sb r t
+  second_refused : (e : Error) → b ≡ Err e → r ≡ Err e → t ≡ s → ComesFrom s a sa b sb r t
+  both_refused : (e f both : Error) → a ≡ Err e → b ≡ Err f → Combines e.0 f.0 both.0
+      → r ≡ Err both → t ≡ s → ComesFrom s a sa b sb r t
+
+-- at equal depths
+equal_from : {T : Type 0} (s : Situation) (a : Result T Error) (sa : Situation)
+    (b : Result T Error) (sb : Situation) (r : Result T Error) (t : Situation)
+    → EqualDepths s a sa b sb r t → ComesFrom s a sa b sb r t
+equal_from s (Ok x) sa (Ok y) sb r t (inl o) = first_stands o.1.0 o.1.1
+equal_from {T} s (Ok x) sa (Ok y) sb r t (inr o) = by_winner o.1.0 o.1.2
+  where
+    by_winner : (winner : Bool × Option ℕ) → Winner (branch_of x sa) (branch_of y sb) winner r t
+        → ComesFrom {T = T} s (Ok x) sa (Ok y) sb r t
+    by_winner (wins, None) won = first_stands won.0 won.1
+    by_winner (true, Some place) won = first_won x place refl won.0 won.1
+    by_winner (false, Some place) won = second_won y place refl won.0 won.1
+equal_from s (Ok x) sa (Err f) sb r t (inl o) = second_refused f refl o.1 o.2
+equal_from s (Ok x) sa (Err f) sb r t (inr o) = first_stands o.1.0 o.1.1
+equal_from s (Err e) sa (Ok y) sb r t (inl o) = first_refused e refl o.1 o.2
+equal_from s (Err e) sa (Ok y) sb r t (inr o) = second_stands o.1.0 o.1.1
+equal_from s (Err e) sa (Err f) sb r t o = both_refused e f o.0.0 refl refl o.0.1 o.0.2 o.1
+
+-- and at any
+pub chosen_from : {T : Type 0} (s : Situation) (a : Result T Error) (sa : Situation)
+    (b : Result T Error) (sb : Situation) (r : Result T Error) (t : Situation)
+    → Chosen s a sa b sb r t → ComesFrom s a sa b sb r t
+chosen_from s a sa b sb r t (inl deeper) = first_stands deeper.1 deeper.2
+chosen_from s a sa b sb r t (inr (inl deeper)) = second_stands deeper.1 deeper.2
+chosen_from s a sa b sb r t (inr (inr equal)) = equal_from s a sa b sb r t equal.1
 
 -- a reading stays one under conflict notes
 reads_conflicts : {T : Type 0} (reads : Readings T) (s m loser : Situation) (winner : ℕ) (v : T)
@@ -34,154 +78,61 @@ reads_conflicts reads s m loser winner v t saved read = record {
 
 module _ {T : Type 0} {first second : Outcome T} {rf rs : Readings T} (lf : Lawful T first rf)
     (ls : Lawful T second rs) (s : Situation) where
-  -- a reading of the first branch
-  of_first : (v : T) (t : Situation) → Reads T rf s v t → Reads T (ChoiceReads rf rs) s v t
-  of_first v t r = record { keeps = r.keeps; closed = r.closed; reading = inl r.reading }
+  -- what the first branch may answer the choice may
+  of_first : (r : Result T Error) (t : Situation) → Answers T rf s r t
+      → Answers T (ChoiceReads rf rs) s r t
+  of_first (Ok v) t r = reads_as r inl
+  of_first (Err e) t kept = kept
 
-  -- a reading of the second branch
-  of_second : (v : T) (t : Situation) → Reads T rs s v t → Reads T (ChoiceReads rf rs) s v t
-  of_second v t r = record { keeps = r.keeps; closed = r.closed; reading = inr r.reading }
+  -- so it is with the second
+  of_second : (r : Result T Error) (t : Situation) → Answers T rs s r t
+      → Answers T (ChoiceReads rf rs) s r t
+  of_second (Ok v) t r = reads_as r inr
+  of_second (Err e) t kept = kept
 
-  -- the first branch's answer is a reading
-  from_first : (a : Result T Error) (sa : Situation) (v : T) (t : Situation) → first s a sa
-      → Ok v ≡ a → t ≡ sa → Reads T (ChoiceReads rf rs) s v t
-  from_first a sa v t ran answer left =
-      of_first v t
-      (lf.ok s t v (subst (λ w. first s w t) (sym answer)
-      (subst (λ w. first s a w) (sym left) ran)))
+  module _ (a : Result T Error) (sa : Situation) (b : Result T Error) (sb : Situation)
+      (f : first s a sa) (g : second s b sb) where
+    -- an error of the first branch names its answer
+    named_first : (e : Error) → a ≡ Err e → NamesAnswer e.0
+    named_first e is = lf.named s sa e (subst (λ x. first s x sa) is f)
 
-  -- so is the second's
-  from_second : (b : Result T Error) (sb : Situation) (v : T) (t : Situation) → second s b sb
-      → Ok v ≡ b → t ≡ sb → Reads T (ChoiceReads rf rs) s v t
-  from_second b sb v t ran answer left =
-      of_second v t
-      (ls.ok s t v (subst (λ w. second s w t) (sym answer)
-      (subst (λ w. second s b w) (sym left) ran)))
+    -- so does one of the second
+    named_second : (e : Error) → b ≡ Err e → NamesAnswer e.0
+    named_second e is = ls.named s sb e (subst (λ x. second s x sb) is g)
 
-  -- and that of the one which won
-  winner_ok : (one other : AnsweredBranch T) (winner : Bool × Option ℕ) (v : T) (t : Situation)
-      → first s (Ok one.value) one.left → second s (Ok other.value) other.left
-      → Winner one other winner (Ok v) t → Reads T (ChoiceReads rf rs) s v t
-  winner_ok one other (wins, None) v t f g won =
-      from_first (Ok one.value) one.left v t f won.0 won.1
-  winner_ok one other (true, Some place) v t f g won =
-      of_first v t (reads_conflicts rf s one.left other.left place v t won.1
-      (lf.ok s one.left v (subst (λ r. first s r one.left) (sym won.0) f)))
-  winner_ok one other (false, Some place) v t f g won =
-      of_second v t (reads_conflicts rs s other.left one.left place v t won.1
-      (ls.ok s other.left v (subst (λ r. second s r other.left) (sym won.0) g)))
+    -- an answer of the table is as the laws say
+    came_answers : (r : Result T Error) (t : Situation) → ComesFrom s a sa b sb r t
+        → Answers T (ChoiceReads rf rs) s r t
+    came_answers r t (first_stands is left) = rw (is, left) (of_first a sa (answer_of lf s a sa f))
+    came_answers r t (second_stands is left) = rw (is, left) (of_second b sb (answer_of ls s b sb g))
+    came_answers r t (first_won v place is answer saved) =
+        rw answer (of_first (Ok v) t (reads_conflicts rf s sa sb place v t saved
+        (lf.ok s sa v (subst (λ x. first s x sa) is f))))
+    came_answers r t (second_won v place is answer saved) =
+        rw answer (of_second (Ok v) t (reads_conflicts rs s sb sa place v t saved
+        (ls.ok s sb v (subst (λ x. second s x sb) is g))))
+    came_answers r t (first_refused e is answer left) =
+        rw (answer, left) (keeps_refl s, named_first e is)
+    came_answers r t (second_refused e is answer left) =
+        rw (answer, left) (keeps_refl s, named_second e is)
+    came_answers r t (both_refused e d both is other combined answer left) =
+        rw (answer, left) (keeps_refl s, names_combined e.0 d.0 both.0 (named_first e is)
+        (named_second d other) combined)
 
-  -- a value at equal depths
-  equal_ok : (a : Result T Error) (sa : Situation) (b : Result T Error) (sb : Situation) (v : T)
-      (t : Situation)
-      → first s a sa → second s b sb → EqualDepths s a sa b sb (Ok v) t
-      → Reads T (ChoiceReads rf rs) s v t
-  equal_ok (Ok x) sa (Ok y) sb v t f g o =
-      ⊎_elim (λ neither. from_first (Ok x) sa v t f neither.1.0 neither.1.1)
-      (λ won. winner_ok (branch_of x sa) (branch_of y sb) won.1.0 v t f g won.1.2) o
-  equal_ok (Ok x) sa (Err e) sb v t f g o =
-      ⊎_elim (λ wrong. absurd (no_value v e wrong.1))
-      (λ right. from_first (Ok x) sa v t f right.1.0 right.1.1) o
-  equal_ok (Err e) sa (Ok y) sb v t f g o =
-      ⊎_elim (λ wrong. absurd (no_value v e wrong.1))
-      (λ right. from_second (Ok y) sb v t g right.1.0 right.1.1) o
-  equal_ok (Err e) sa (Err d) sb v t f g o = absurd (no_value v o.0.0 o.0.2)
+  -- so is one of branches that were evaluated
+  evaluated : (r : Result T Error) (t : Situation) → BranchesEval first second s r t
+      → Answers T (ChoiceReads rf rs) s r t
+  evaluated r t o = came_answers o.a o.sa o.b o.sb o.first_ran o.second_ran r t
+      (chosen_from s o.a o.sa o.b o.sb r t o.chosen)
 
-  -- a value of the table
-  chosen_ok : (a : Result T Error) (sa : Situation) (b : Result T Error) (sb : Situation) (v : T)
-      (t : Situation)
-      → first s a sa → second s b sb → Chosen s a sa b sb (Ok v) t
-      → Reads T (ChoiceReads rf rs) s v t
-  chosen_ok a sa b sb v t f g o = ⊎_elim
-      (λ deeper. from_first a sa v t f deeper.1 deeper.2)
-      (λ rest. ⊎_elim (λ deeper. from_second b sb v t g deeper.1 deeper.2)
-      (λ equal. equal_ok a sa b sb v t f g equal.1) rest)
-      o
-
-  -- what the first branch keeps
-  keeps_first : (a : Result T Error) (sa t : Situation) → first s a sa → t ≡ sa → Keeps s t
-  keeps_first a sa t ran left = subst (Keeps s) (sym left) (keeps_of lf s a sa ran)
-
-  -- what the second branch keeps
-  keeps_second : (b : Result T Error) (sb t : Situation) → second s b sb → t ≡ sb → Keeps s t
-  keeps_second b sb t ran left = subst (Keeps s) (sym left) (keeps_of ls s b sb ran)
-
-  -- a refusal at equal depths leaves all as before
-  equal_err : (a : Result T Error) (sa : Situation) (b : Result T Error) (sb : Situation)
-      (e : Error) (t : Situation) → EqualDepths s a sa b sb (Err e) t → t ≡ s
-  equal_err (Ok x) sa (Ok y) sb e t o =
-      ⊎_elim (λ neither. absurd (no_value x e (sym neither.1.0)))
-      (λ won. absurd (not_winner (branch_of x sa) (branch_of y sb) won.1.0 e t won.1.2)) o
-  equal_err (Ok x) sa (Err f) sb e t o =
-      ⊎_elim (λ wrong. wrong.2) (λ right. absurd (no_value x e (sym right.1.0))) o
-  equal_err (Err f) sa (Ok y) sb e t o =
-      ⊎_elim (λ wrong. wrong.2) (λ right. absurd (no_value y e (sym right.1.0))) o
-  equal_err (Err f) sa (Err d) sb e t o = o.1
-
-  -- a refusal of the table
-  chosen_err : (a : Result T Error) (sa : Situation) (b : Result T Error) (sb : Situation)
-      (e : Error) (t : Situation)
-      → first s a sa → second s b sb → Chosen s a sa b sb (Err e) t → Keeps s t
-  chosen_err a sa b sb e t f g o = ⊎_elim
-      (λ deeper. keeps_first a sa t f deeper.2)
-      (λ rest. ⊎_elim (λ deeper. keeps_second b sb t g deeper.2)
-      (λ equal. keeps_same s t (equal_err a sa b sb e t equal.1)) rest)
-      o
-
-module _ {T : Type 0} {first second : Outcome T} {rf rs : Readings T} (lf : Lawful T first rf)
-    (ls : Lawful T second rs) (s : Situation) where
-  -- the error of the first branch names its answer
-  named_first : (a : Result T Error) (sa : Situation) (e : Error) → first s a sa → Err e ≡ a
-      → NamesAnswer e.0
-  named_first a sa e ran answer = lf.named s sa e (subst (λ w. first s w sa) (sym answer) ran)
-
-  -- so does that of the second
-  named_second : (b : Result T Error) (sb : Situation) (e : Error) → second s b sb → Err e ≡ b
-      → NamesAnswer e.0
-  named_second b sb e ran answer = ls.named s sb e (subst (λ w. second s w sb) (sym answer) ran)
-
-  -- and a refusal at equal depths
-  equal_named : (a : Result T Error) (sa : Situation) (b : Result T Error) (sb : Situation)
-      (e : Error) (t : Situation) → first s a sa → second s b sb
-      → EqualDepths s a sa b sb (Err e) t → NamesAnswer e.0
-  equal_named (Ok x) sa (Ok y) sb e t f g o =
-      ⊎_elim (λ neither. absurd (no_value x e (sym neither.1.0)))
-      (λ won. absurd (not_winner (branch_of x sa) (branch_of y sb) won.1.0 e t won.1.2)) o
-  equal_named (Ok x) sa (Err d) sb e t f g o =
-      ⊎_elim (λ wrong. named_second (Err d) sb e g wrong.1)
-      (λ right. absurd (no_value x e (sym right.1.0))) o
-  equal_named (Err d) sa (Ok y) sb e t f g o =
-      ⊎_elim (λ wrong. named_first (Err d) sa e f wrong.1)
-      (λ right. absurd (no_value y e (sym right.1.0))) o
-  equal_named (Err d) sa (Err c) sb e t f g o =
-      let names = names_combined d.0 c.0 o.0.0.0 (lf.named s sa d f) (ls.named s sb c g) o.0.1 in
-      let same : e ≡ o.0.0 = cc in
-      subst (λ w. NamesAnswer w.0) (sym same) names
-
-  -- and one of the table
-  chosen_named : (a : Result T Error) (sa : Situation) (b : Result T Error) (sb : Situation)
-      (e : Error) (t : Situation) → first s a sa → second s b sb → Chosen s a sa b sb (Err e) t
-      → NamesAnswer e.0
-  chosen_named a sa b sb e t f g o = ⊎_elim
-      (λ deeper. named_first a sa e f deeper.1)
-      (λ rest. ⊎_elim (λ deeper. named_second b sb e g deeper.1)
-      (λ equal. equal_named a sa b sb e t f g equal.1) rest)
-      o
+  -- and so is one of the choice
+  choice_answers : (r : Result T Error) (t : Situation) → ChoiceOutcome first second s r t
+      → Answers T (ChoiceReads rf rs) s r t
+  choice_answers (Ok v) t o = evaluated (Ok v) t o
+  choice_answers (Err e) t (inl o) = evaluated (Err e) t o
+  choice_answers (Err e) t (inr want) = (keeps_same s t want.1, names_want e.0 want.0)
 
 -- choices keep to the laws
 pub choice_lawful : {T : Type 0} {first second : Outcome T} {rf rs : Readings T} → Lawful T first rf
-    → Lawful T second rs
-    → Lawful T (ChoiceOutcome first second) (ChoiceReads rf rs)
-choice_lawful lf ls = record {
-  ok = λ s t v o. chosen_ok lf ls s o.a o.sa o.b o.sb v t o.first_ran o.second_ran o.chosen;
-  err = λ s t e o. ⊎_elim
-      (λ ran. chosen_err lf ls s ran.a ran.sa ran.b ran.sb e t ran.first_ran ran.second_ran
-      ran.chosen)
-      (λ want. keeps_same s t want.1)
-      o;
-  named = λ s t e o. ⊎_elim
-      (λ ran. chosen_named lf ls s ran.a ran.sa ran.b ran.sb e t ran.first_ran ran.second_ran
-      ran.chosen)
-      (λ want. names_want e.0 want.0)
-      o;
-}
+    → Lawful T second rs → Lawful T (ChoiceOutcome first second) (ChoiceReads rf rs)
+choice_lawful lf ls = lawful_by (choice_answers lf ls)

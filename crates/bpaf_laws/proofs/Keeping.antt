@@ -13,12 +13,44 @@ use Rattle.bpaf_line.proofs.Places.{taken_here, taken_other, open_not_taken}
 use Rattle.bpaf_line.specs.{Conflicts.ConflictsSaved, declared.error.Error.Error}
 use Rattle.bpaf_laws.specs.Reading.{Readings, Outcome, Joins, IsEmptyShare, IsPlace, IsPair}
 use Rattle.bpaf_laws.specs.Laws.{Keeps, Closes, Reads, Lawful, newly}
+use Rattle.bpaf_laws.specs.RefusalNames.{NamesAnswer}
 
 -- what an evaluation keeps, whatever it answers
 pub keeps_of : {T : Type 0} {outcome : Outcome T} {reads : Readings T} → Lawful T outcome reads
     → (s : Situation) (r : Result T Error) (t : Situation) → outcome s r t → Keeps s t
 keeps_of law s (Ok v) t o = (law.ok s t v o).keeps
 keeps_of law s (Err e) t o = law.err s t e o
+
+-- what the laws say of an answer
+abbrev pub Answers : (T : Type 0) → Readings T → Situation → Result T Error → Situation → Type 0
+Answers T reads s (Ok v) t = Reads T reads s v t
+Answers T reads s (Err e) t = Keeps s t × NamesAnswer e.0
+
+-- they hold where each answer is as they say
+pub lawful_by : {T : Type 0} {outcome : Outcome T} {reads : Readings T}
+    → ((s : Situation) (r : Result T Error) (t : Situation) → outcome s r t → Answers T reads s r t)
+    → Lawful T outcome reads
+lawful_by answers = record {
+  ok = λ s t v o. answers s (Ok v) t o;
+  err = λ s t e o. (answers s (Err e) t o).0;
+  named = λ s t e o. (answers s (Err e) t o).1;
+}
+
+-- and then each is
+pub answer_of : {T : Type 0} {outcome : Outcome T} {reads : Readings T} → Lawful T outcome reads
+    → (s : Situation) (r : Result T Error) (t : Situation) → outcome s r t → Answers T reads s r t
+answer_of law s (Ok v) t o = law.ok s t v o
+answer_of law s (Err e) t o = (law.err s t e o, law.named s t e o)
+
+-- what was read is a reading of others too, where its places are
+pub reads_as : {A B : Type 0} {reads : Readings A} {others : Readings B} {s : Situation} {v : A}
+    {w : B} {t : Situation} → Reads A reads s v t
+    → (reads s.context (newly s t) v → others s.context (newly s t) w) → Reads B others s w t
+reads_as read also = record {
+  keeps = read.keeps;
+  closed = read.closed;
+  reading = also read.reading;
+}
 
 -- nothing is newly taken since the same situation
 pub newly_none : (s : Situation) → IsEmptyShare (newly s s)

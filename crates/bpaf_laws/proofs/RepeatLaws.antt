@@ -1,14 +1,14 @@
 -- Repeats keep to the laws where the inner parser does, and are bounded.
 use Rattle.std.specs.Prelude.{◌≡◌, ℕ, ◌+◌, ◌<◌, ◌≤◌, Bool, true, false, ◌&&◌, if◌then◌else◌, List}
-use Rattle.std.specs.Prelude.{[], ◌∷◌, ◌++◌, length, Ok, Some, None, refl}
+use Rattle.std.specs.Prelude.{[], ◌∷◌, ◌++◌, length, Result, Ok, Err, Some, None, refl}
 use Rattle.std.specs.Global.{Vec}
-use Rattle.std.proofs.Common.{sym, ◌∙◌, ap, subst, ⊎_elim, inl, arith, true≢false}
+use Rattle.std.proofs.Common.{sym, ◌∙◌, ap, subst, ⊎_elim, inl, inr, arith, true≢false}
 use Rattle.bpaf_laws.specs.Reading.{Readings, Outcome, IsEmptyShare}
 use Rattle.bpaf_laws.specs.Laws.{Keeps, Closes, Reads, Lawful, newly}
-use Rattle.bpaf_laws.proofs.Keeping.{keeps_refl, keeps_trans, closes_refl, closes_trans}
-use Rattle.bpaf_laws.proofs.Keeping.{newly_joins, newly_none}
+use Rattle.bpaf_laws.proofs.Keeping.{Answers, lawful_by, keeps_refl, keeps_trans, reads_as}
+use Rattle.bpaf_laws.proofs.Keeping.{closes_refl, closes_trans, newly_joins, newly_none}
 use Rattle.bpaf_laws.proofs.CountingLaws.{open_count-falls, fewer_took, same_took_none}
-use Rattle.bpaf_laws.proofs.DefaultLaws.{step_named, step_refused}
+use Rattle.bpaf_laws.proofs.DefaultLaws.{step_refuses}
 use Rattle.bpaf_laws.proofs.NamesAnswer.{names_same, names_want}
 use Rattle.bpaf_line.specs.declared.error.Message.TheVariants.{Memory, ParseSome}
 use Rattle.bpaf_line.specs.{Situation.Situation, Situation.open_count, declared.error.Error.Error}
@@ -142,37 +142,28 @@ module _ {T : Type 0} {inner : Outcome T} {reads : Readings T} (law : Lawful T i
       first_read s run.steps.0 run.last t v vs run.steps.1.0 run.steps.2
       (stop_takes_nothing false run.last t run.stop)
 
-  -- what turns until one fails keep
-  until_error_keeps : (s : Situation) (e : Error) (t : Situation) → UntilError inner catches s e t
-      → Keeps s t
-  until_error_keeps s e t run =
-      keeps_trans s run.last t (steps_keep true s run.values run.last run.steps)
-      (step_refused law catches (is_nil run.values) run.last t e run.fails)
-
-  -- an error of turns names its answer
-  until_error_named : (s : Situation) (e : Error) (t : Situation) → UntilError inner catches s e t
-      → NamesAnswer e.0
-  until_error_named s e t run = step_named law catches (is_nil run.values) run.last t e run.fails
+  -- what turns until one fails keep, and that their error names its answer
+  until_error_refuses : (s : Situation) (e : Error) (t : Situation) → UntilError inner catches s e t
+      → Keeps s t × NamesAnswer e.0
+  until_error_refuses s e t run =
+      let fails = step_refuses law catches (is_nil run.values) run.last t e run.fails in
+      (keeps_trans s run.last t (steps_keep true s run.values run.last run.steps) fails.0, fails.1)
 
   -- a list that was read until a turn stopped, with what is made of it, is a reading
   made_read : {R : Type 0} (makes : List T → R → Type 0) (s t : Situation) (values : List T) (v : R)
       → UntilStop inner catches s values t → makes values v
       → Reads R (MapReads (List T) R (ListReads reads) makes) s v t
   made_read makes s t values v run made =
-      let read = until_stop_reads s values t run in
-      record {
-        keeps = read.keeps;
-        closed = read.closed;
-        reading = record { from = values; read = read.reading; made = made };
-      }
+      reads_as (until_stop_reads s values t run)
+      (λ read. record { from = values; read = read; made = made })
 
   -- many keeps to the laws
   pub many_lawful : Lawful (Vec T) (ManyOutcome inner catches)
       (MapReads (List T) (Vec T) (ListReads reads) (λ values v. v.items ≡ values))
   many_lawful = record {
     ok = λ s t v o. made_read (λ values w. w.items ≡ values) s t v.items v o refl;
-    err = λ s t e o. until_error_keeps s e t o;
-    named = λ s t e o. until_error_named s e t o;
+    err = λ s t e o. (until_error_refuses s e t o).0;
+    named = λ s t e o. (until_error_refuses s e t o).1;
   }
 
   -- some keeps to the laws
@@ -183,10 +174,10 @@ module _ {T : Type 0} {inner : Outcome T} {reads : Readings T} (law : Lawful T i
     ok = λ s t v o. made_read (λ values w. (w.items ≡ values) × (is_nil values ≡ false)) s t
         v.items v o.0 (refl, o.1);
     err =
-        λ s t e o. ⊎_elim (λ failed. until_error_keeps s e t failed)
+        λ s t e o. ⊎_elim (λ failed. (until_error_refuses s e t failed).0)
         (λ none. (until_stop_reads s [] t none.0).keeps) o;
     named =
-        λ s t e o. ⊎_elim (λ failed. until_error_named s e t failed)
+        λ s t e o. ⊎_elim (λ failed. (until_error_refuses s e t failed).1)
         (λ none. ⊎_elim (names_same e.0 (ParseSome message) tt) (names_same e.0 Memory tt) none.1)
         o;
   }
@@ -198,10 +189,10 @@ module _ {T : Type 0} {inner : Outcome T} {reads : Readings T} (law : Lawful T i
   collect_lawful fills = record {
     ok = λ s t v o. made_read fills s t o.0 v o.1 o.2;
     err =
-        λ s t e o. ⊎_elim (λ failed. until_error_keeps s e t failed)
+        λ s t e o. ⊎_elim (λ failed. (until_error_refuses s e t failed).0)
         (λ refused. (until_stop_reads s refused.0 t refused.1).keeps) o;
     named =
-        λ s t e o. ⊎_elim (λ failed. until_error_named s e t failed)
+        λ s t e o. ⊎_elim (λ failed. (until_error_refuses s e t failed).1)
         (λ refused. names_want e.0 refused.2) o;
   }
 
@@ -270,31 +261,22 @@ module _ {T : Type 0} {inner : Outcome T} {reads : Readings T} (law : Lawful T i
   until_rest_reads s vs t (rests v is o same) =
       subst (λ values. Reads (List T) (ListReads reads) s values t) (sym is) (one_read s t v o)
 
-  -- what turns until one fails keep
-  until_fault_keeps : (s : Situation) (e : Error) (t : Situation) → UntilFault inner s e t
-      → Keeps s t
-  until_fault_keeps s e t run =
-      keeps_trans s run.last t (steps_keep law false false s run.values run.last run.steps)
-      (step_refused law false (is_nil run.values) run.last t e run.fails)
-
-  -- their error names its answer
-  until_fault_named : (s : Situation) (e : Error) (t : Situation) → UntilFault inner s e t
-      → NamesAnswer e.0
-  until_fault_named s e t run = step_named law false (is_nil run.values) run.last t e run.fails
+  -- what turns until one fails keep, and that their error names its answer
+  until_fault_refuses : (s : Situation) (e : Error) (t : Situation) → UntilFault inner s e t
+      → Keeps s t × NamesAnswer e.0
+  until_fault_refuses s e t run =
+      let fails = step_refuses law false (is_nil run.values) run.last t e run.fails in
+      let kept = steps_keep law false false s run.values run.last run.steps in
+      (keeps_trans s run.last t kept fails.0, fails.1)
 
   -- count keeps to the laws
   pub count_lawful : Lawful ℕ (CountOutcome inner)
       (MapReads (List T) ℕ (ListReads reads) (λ values n. n ≡ length values))
   count_lawful = record {
-    ok = λ s t n o.
-        let read = until_rest_reads s o.0 t o.1 in
-        record {
-          keeps = read.keeps;
-          closed = read.closed;
-          reading = record { from = o.0; read = read.reading; made = o.2 };
-        };
-    err = λ s t e o. until_fault_keeps s e t o;
-    named = λ s t e o. until_fault_named s e t o;
+    ok = λ s t n o. reads_as (until_rest_reads s o.0 t o.1)
+        (λ read. record { from = o.0; read = read; made = o.2 });
+    err = λ s t e o. (until_fault_refuses s e t o).0;
+    named = λ s t e o. (until_fault_refuses s e t o).1;
   }
 
   -- evaluated once more, after nothing
@@ -303,42 +285,22 @@ module _ {T : Type 0} {inner : Outcome T} {reads : Readings T} (law : Lawful T i
   again_reads s m t v run o =
       one_read s t v (subst (λ w. inner w (Ok v) t) (no_values inner s [] m refl run) o)
 
-  -- what last answers is a reading
-  last_read : (s t : Situation) (v : T) → LastOutcome inner s (Ok v) t
-      → Reads T (MapReads (List T) T (ListReads reads)
-      (λ values w. (before : List T) × (values ≡ before ++ w ∷ []))) s v t
-  last_read s t v o =
-      ⊎_elim
-      (λ run.
-      let read = until_rest_reads s (run.0 ++ v ∷ []) t run.1 in
-      record {
-        keeps = read.keeps;
-        closed = read.closed;
-        reading = record { from = run.0 ++ v ∷ []; read = read.reading; made = (run.0, refl) };
-      })
-      (λ again.
-      let read = again_reads s again.0 t v again.1 again.2 in
-      record {
-        keeps = read.keeps;
-        closed = read.closed;
-        reading = record { from = v ∷ []; read = read.reading; made = ([], refl) };
-      })
-      o
+  -- an answer of last
+  last_answers : (s : Situation) (r : Result T Error) (t : Situation) → LastOutcome inner s r t
+      → Answers T (MapReads (List T) T (ListReads reads)
+      (λ values w. (before : List T) × (values ≡ before ++ w ∷ []))) s r t
+  last_answers s (Ok v) t (inl run) = reads_as (until_rest_reads s (run.0 ++ v ∷ []) t run.1)
+      (λ read. record { from = run.0 ++ v ∷ []; read = read; made = (run.0, refl) })
+  last_answers s (Ok v) t (inr again) = reads_as (again_reads s again.0 t v again.1 again.2)
+      (λ read. record { from = v ∷ []; read = read; made = ([], refl) })
+  last_answers s (Err e) t (inl fault) = until_fault_refuses s e t fault
+  last_answers s (Err e) t (inr again) = (
+    keeps_trans s again.0 t (until_rest_reads s [] again.0 again.1).keeps
+        (law.err again.0 t e again.2),
+    law.named again.0 t e again.2,
+  )
 
   -- last keeps to the laws
   pub last_lawful : Lawful T (LastOutcome inner) (MapReads (List T) T (ListReads reads)
       (λ values v. (before : List T) × (values ≡ before ++ v ∷ [])))
-  last_lawful = record {
-    ok = λ s t v o. last_read s t v o;
-    err = λ s t e o.
-        ⊎_elim
-        (λ fault. until_fault_keeps s e t fault)
-        (λ again. keeps_trans s again.0 t (until_rest_reads s [] again.0 again.1).keeps
-        (law.err again.0 t e again.2))
-        o;
-    named = λ s t e o.
-        ⊎_elim
-        (λ fault. until_fault_named s e t fault)
-        (λ again. law.named again.0 t e again.2)
-        o;
-  }
+  last_lawful = lawful_by last_answers

@@ -2,7 +2,7 @@
 use Rattle.std.specs.Prelude.{◌≡◌, ℕ, Bool, true, List, Result, Ok, Option, refl}
 use Rattle.std.proofs.Common.{⊎_elim}
 use Rattle.bpaf_line.specs.declared.error.Message.TheVariants.{Memory, GuardFailed, ParseFailed}
-use Rattle.bpaf_laws.proofs.NamesAnswer.{names_fault, names_same}
+use Rattle.bpaf_laws.proofs.{NamesAnswer.names_fault, NamesAnswer.names_same, Keeping.reads_as}
 use Rattle.bpaf_laws.specs.Transform.{MapReads, MapOutcome, ParseOutcome, GuardOutcome}
 use Rattle.bpaf_laws.specs.{Reading.Readings, Reading.Outcome, Laws.Reads, Laws.Lawful}
 
@@ -11,12 +11,7 @@ module _ {T : Type 0} {inner : Outcome T} {reads : Readings T} (law : Lawful T i
   map_read : {R : Type 0} (answers : T → R → Type 0) (s t : _) (x : T) (v : R) → inner s (Ok x) t
       → answers x v → Reads R (MapReads T R reads answers) s v t
   map_read answers s t x v ran made =
-      let read = law.ok s t x ran in
-      record {
-        keeps = read.keeps;
-        closed = read.closed;
-        reading = record { from = x; read = read.reading; made = made };
-      }
+      reads_as (law.ok s t x ran) (λ read. record { from = x; read = read; made = made })
 
   -- mapped parsers keep to the laws
   pub map_lawful : {R : Type 0} (answers : T → R → Type 0)
