@@ -7,8 +7,9 @@ use Rattle.bpaf_line.specs.Combining.{Combines, CombinesSpared}
 use Rattle.bpaf_line.specs.Situation.{Situation, with_scope}
 use Rattle.bpaf_line.specs.{declared.error.Error.Error, declared.error.Message.Message}
 use Rattle.bpaf_line.specs.{Messages.can_catch, Messages.is_memory, Stretches.IsStretchFrom}
-use Rattle.bpaf_laws.proofs.ChoiceLaws.{no_value, not_winner}
-use Rattle.bpaf_laws.specs.Choice.{branch_of, ChoiceOutcome, Chosen, EqualDepths}
+use Rattle.bpaf_laws.proofs.ChoiceLaws.{ComesFrom, first_stands, second_stands, first_won, second_won}
+use Rattle.bpaf_laws.proofs.ChoiceLaws.{first_refused, second_refused, both_refused, chosen_from}
+use Rattle.bpaf_laws.specs.Choice.{ChoiceOutcome}
 use Rattle.bpaf_laws.specs.Command.{Called, IsOpenedAt, inside, opening_words}
 use Rattle.bpaf_laws.specs.{Laws.Lawful, Reading.Outcome, Reading.Readings}
 use Rattle.bpaf_laws.proofs.{Keeping.keeps_refl, OneStretch.keeps_stretch}
@@ -70,29 +71,20 @@ module _ (showing : Showing) {T : Type 0} {first second : Outcome T}
         (λ there. other.all s g sb doc full ran' there)
         (combined_shows f.0 g.0 both.0 doc full combines same)
 
-    -- branches of equal depth show what one of them does
-    equal_show : (a : Result T Error) (sa : Situation) (b : Result T Error) (sb : Situation)
-        → first s a sa → second s b sb → EqualDepths s a sa b sb (Err e) t
-        → CameTo showing s doc full
-    equal_show (Ok x) sa (Ok y) sb f g o =
-        ⊎_elim (λ neither. absurd (no_value x e (sym neither.1.0)))
-        (λ won. absurd (not_winner (branch_of x sa) (branch_of y sb) won.1.0 e t won.1.2)) o
-    equal_show (Ok x) sa (Err d) sb f g o =
-        ⊎_elim (λ wrong. of_second (Err d) sb g wrong.1)
-        (λ right. absurd (no_value x e (sym right.1.0))) o
-    equal_show (Err d) sa (Ok y) sb f g o =
-        ⊎_elim (λ wrong. of_first (Err d) sa f wrong.1)
-        (λ right. absurd (no_value y e (sym right.1.0))) o
-    equal_show (Err d) sa (Err c) sb f g o =
-        of_both d c o.0.0 sa sb f g o.0.1 cc
-
     -- so do branches of any depths
     chosen_shows : (a : Result T Error) (sa : Situation) (b : Result T Error) (sb : Situation)
-        → first s a sa → second s b sb → Chosen s a sa b sb (Err e) t → CameTo showing s doc full
-    chosen_shows a sa b sb f g o =
-        ⊎_elim (λ deeper. of_first a sa f deeper.1)
-        (⊎_elim (λ deeper. of_second b sb g deeper.1)
-        (λ equal. equal_show a sa b sb f g equal.1)) o
+        → first s a sa → second s b sb → ComesFrom s a sa b sb (Err e) t → CameTo showing s doc full
+    chosen_shows a sa b sb f g (first_stands same left) = of_first a sa f same
+    chosen_shows a sa b sb f g (second_stands same left) = of_second b sb g same
+    chosen_shows a sa b sb f g (first_won v place same answer saved) = absurd cc
+    chosen_shows a sa b sb f g (second_won v place same answer saved) = absurd cc
+    chosen_shows a sa b sb f g (first_refused d same answer left) =
+        of_first a sa f (answer ∙ sym same)
+    chosen_shows a sa b sb f g (second_refused d same answer left) =
+        of_second b sb g (answer ∙ sym same)
+    chosen_shows a sa b sb f g (both_refused d c both one other combined answer left) =
+        of_both d c both sa sb (subst (λ r. first s r sa) one f)
+        (subst (λ r. second s r sb) other g) combined cc
 
   -- a choice of two shows what one of them does
   pub choice_hands_on : HandsOn showing (ChoiceOutcome first second)
@@ -100,7 +92,7 @@ module _ (showing : Showing) {T : Type 0} {first second : Outcome T}
     all = λ s e t doc full o is. ⊎_elim
         (λ ran.
         chosen_shows s t e doc full is ran.a ran.sa ran.b ran.sb ran.first_ran ran.second_ran
-        ran.chosen)
+        (chosen_from s ran.a ran.sa ran.b ran.sb (Err e) t ran.chosen))
         (λ want. absurd (true≢false (sym want.0 ∙ ap is_memory is)))
         o;
   }

@@ -14,9 +14,9 @@ use Rattle.bpaf_line.specs.Situation.{Situation, is_taken, in_scope, is_open, it
 use Rattle.bpaf_line.specs.Taking.{IsFirst, HasNone, is_match, open_item}
 use Rattle.bpaf_line.specs.{Conflicts.ConflictsSaved, Conflicts.IsWinner, Messages.is_memory}
 use Rattle.bpaf_line.specs.{Situation.open_count, Situation.take_place, declared.error.Error.Error}
-use Rattle.bpaf_laws.proofs.ChoiceLaws.{choice_lawful, no_value, not_winner}
+use Rattle.bpaf_laws.proofs.ChoiceLaws.{chosen_at_equal, choice_lawful, no_value, not_winner}
 use Rattle.bpaf_laws.proofs.{CountingLaws.same_took_none, FlagLaws.flag_lawful}
-use Rattle.bpaf_laws.specs.Choice.{BranchesEval, Chosen, EqualDepths, Winner, branch_of, depth}
+use Rattle.bpaf_laws.specs.Choice.{BranchesEval, EqualDepths, Winner, branch_of, depth}
 use Rattle.bpaf_laws.specs.Repeat.{Turns, UntilStop, is_nil}
 use Rattle.bpaf_laws.specs.Turn.{TurnOutcome, stops_step, stops_spared, is_untouched}
 use Rattle.bpaf_batteries.proofs.Keys.{KeyEval, key_ran, not_both}
@@ -192,15 +192,6 @@ opposite_false : (a b : Bool) → a ≡ false → a ≡ not b → b ≡ true
 opposite_false a true e f = refl
 opposite_false a false e f = absurd (true≢false (sym f ∙ e))
 
--- at equal depths the table is that of equal depths
-equal_depths : {T : Type 0} (s : Situation) (a : Result T Error) (sa : Situation)
-    (b : Result T Error) (sb : Situation) (r : Result T Error) (t : Situation)
-    → depth sa ≡ depth sb → Chosen s a sa b sb r t → EqualDepths s a sa b sb r t
-equal_depths s a sa b sb r t same chosen = ⊎_elim
-    (λ deeper. let d = deeper.0 in absurd (omega arith))
-    (λ rest. ⊎_elim (λ deeper. let d = deeper.0 in absurd (omega arith)) (λ equal. equal.1) rest)
-    chosen
-
 module _ {T : Type 0} (clones : T → T → Type 0) (one other : ParseFlag T) (s : Situation) where
   -- the answer of a flag leaves the path
   ran_depth : (flag : ParseFlag T) (r : Result T Error) (t : Situation)
@@ -262,54 +253,39 @@ module _ {T : Type 0} (clones : T → T → Type 0) (one other : ParseFlag T) (s
     equal_took : (a : Result T Error) (sa : Situation) (b : Result T Error) (sb : Situation) (v : T)
         (t : Situation) → KeyEval clones one s a sa → KeyEval clones other s b sb
         → EqualDepths s a sa b sb (Ok v) t → TookKey clones one other s v t
-    equal_took (Ok x) sa (Ok y) sb v t f g o = ⊎_elim
-        (λ neither. absurd (true≢false
+    equal_took (Ok x) sa (Ok y) sb v t f g (inl neither) = absurd (true≢false
         (sym (and_parts (is_untouched s sa) (is_untouched s sb) neither.0).0
-        ∙ ran_touched one x sa f)))
-        (λ winner. won t f.0 g.0 x y v f.1 g.1 f.3 g.3 winner.1.0
-        (subst (λ m. IsWinner m (take_place s g.0) winner.1.0) f.2
-        (subst (λ m. IsWinner sa m winner.1.0) g.2 winner.1.1))
-        (subst (λ m. Winner (branch_of x m) (branch_of y (take_place s g.0)) winner.1.0 (Ok v) t)
-        f.2
-        (subst (λ m. Winner (branch_of x sa) (branch_of y m) winner.1.0 (Ok v) t) g.2 winner.1.2)))
-        o
-    equal_took (Ok x) sa (Err e) sb v t f g o = ⊎_elim
-        (λ wrong. absurd (no_value v e wrong.1))
-        (λ right.
+        ∙ ran_touched one x sa f))
+    equal_took (Ok x) sa (Ok y) sb v t f g (inr winner) =
+        won t f.0 g.0 x y v f.1 g.1 f.3 g.3 winner.1.0 (rw (f.2, g.2) at winner.1.1)
+        (rw (f.2, g.2) at winner.1.2)
+    equal_took (Ok x) sa (Err e) sb v t f g (inl wrong) = absurd (no_value v e wrong.1)
+    equal_took (Ok x) sa (Err e) sb v t f g (inr right) =
         let same : x ≡ v = let r = right.1.0 in cc in
         took_one clones one other s t f.0 v f.1 (λ r before. g.0 r)
         (subst (clones one.present) same f.3)
-        (alike_same t (take_place s f.0) (right.1.1 ∙ f.2)))
-        o
-    equal_took (Err e) sa (Ok y) sb v t f g o = ⊎_elim
-        (λ wrong. absurd (no_value v e wrong.1))
-        (λ right.
+        (alike_same t (take_place s f.0) (right.1.1 ∙ f.2))
+    equal_took (Err e) sa (Ok y) sb v t f g (inl wrong) = absurd (no_value v e wrong.1)
+    equal_took (Err e) sa (Ok y) sb v t f g (inr right) =
         let same : y ≡ v = let r = right.1.0 in cc in
         took_other clones one other s t g.0 v g.1 (λ r before. f.0 r)
         (subst (clones other.present) same g.3)
-        (alike_same t (take_place s g.0) (right.1.1 ∙ g.2)))
-        o
+        (alike_same t (take_place s g.0) (right.1.1 ∙ g.2))
     equal_took (Err e) sa (Err d) sb v t f g o = absurd (no_value v o.0.0 o.0.2)
 
   -- a refusal at equal depths comes where neither has a key
   equal_none : (a : Result T Error) (sa : Situation) (b : Result T Error) (sb : Situation)
       (e : Error) (t : Situation) → KeyEval clones one s a sa → KeyEval clones other s b sb
       → EqualDepths s a sa b sb (Err e) t → HasNone (is_either one other) s
-  equal_none (Ok x) sa (Ok y) sb e t f g o = ⊎_elim
-      (λ neither. absurd (no_value x e (sym neither.1.0)))
-      (λ winner.
-      absurd (not_winner (branch_of x sa) (branch_of y sb) winner.1.0 e t winner.1.2))
-      o
-  equal_none (Ok x) sa (Err d) sb e t f g o = ⊎_elim
-      (λ wrong. absurd (true≢false
-      (sym (and_parts (is_untouched s sa) _ wrong.0).0 ∙ ran_touched one x sa f)))
-      (λ right. absurd (no_value x e (sym right.1.0)))
-      o
-  equal_none (Err d) sa (Ok y) sb e t f g o = ⊎_elim
-      (λ wrong. absurd (true≢false
-      (sym (and_parts (is_untouched s sb) _ wrong.0).0 ∙ ran_touched other y sb g)))
-      (λ right. absurd (no_value y e (sym right.1.0)))
-      o
+  equal_none (Ok x) sa (Ok y) sb e t f g (inl neither) = absurd (no_value x e (sym neither.1.0))
+  equal_none (Ok x) sa (Ok y) sb e t f g (inr winner) =
+      absurd (not_winner (branch_of x sa) (branch_of y sb) winner.1.0 e t winner.1.2)
+  equal_none (Ok x) sa (Err d) sb e t f g (inl wrong) = absurd (true≢false
+      (sym (and_parts (is_untouched s sa) _ wrong.0).0 ∙ ran_touched one x sa f))
+  equal_none (Ok x) sa (Err d) sb e t f g (inr right) = absurd (no_value x e (sym right.1.0))
+  equal_none (Err d) sa (Ok y) sb e t f g (inl wrong) = absurd (true≢false
+      (sym (and_parts (is_untouched s sb) _ wrong.0).0 ∙ ran_touched other y sb g))
+  equal_none (Err d) sa (Ok y) sb e t f g (inr right) = absurd (no_value y e (sym right.1.0))
   equal_none (Err d) sa (Err c) sb e t f g o =
       λ q. neither_at (is_key one) (is_key other) (open_item s q) (f.0 q) (g.0 q)
 
@@ -332,7 +308,7 @@ module _ {T : Type 0} (clones : T → T → Type 0) (one other : ParseFlag T)
       equal_took clones one other s keys.apart ran.a ran.sa ran.b ran.sb v t
       (key_ran clones one keys.one_stands s ran.sa ran.a ran.first_ran ran.first_spared)
       (key_ran clones other keys.other_stands s ran.sb ran.b ran.second_ran ran.second_spared)
-      (equal_depths s ran.a ran.sa ran.b ran.sb (Ok v) t (same_depth s t (Ok v) ran) ran.chosen)
+      (chosen_at_equal s ran.a ran.sa ran.b ran.sb (Ok v) t (same_depth s t (Ok v) ran) ran.chosen)
 
   -- a refusal that isn't want of memory comes where there is no key
   choice_none : (s t : Situation) (e : Error) → EitherOutcome clones one other s (Err e) t
@@ -343,7 +319,7 @@ module _ {T : Type 0} (clones : T → T → Type 0) (one other : ParseFlag T)
       equal_none clones one other s ran.a ran.sa ran.b ran.sb e t
       (key_ran clones one keys.one_stands s ran.sa ran.a ran.first_ran ran.first_spared)
       (key_ran clones other keys.other_stands s ran.sb ran.b ran.second_ran ran.second_spared)
-      (equal_depths s ran.a ran.sa ran.b ran.sb (Err e) t (same_depth s t (Err e) ran) ran.chosen))
+      (chosen_at_equal s ran.a ran.sa ran.b ran.sb (Err e) t (same_depth s t (Err e) ran) ran.chosen))
       (λ want. absurd (true≢false (sym want.0 ∙ spared)))
       o
 

@@ -1,12 +1,12 @@
 -- Choices keep to the laws where both branches do.
 use Rattle.std.specs.Prelude.{◌≡◌, ℕ, Bool, true, false, Result, Ok, Err, Option, Some, None}
-use Rattle.std.proofs.Common.{refl, sym, subst, inl, inr}
+use Rattle.std.proofs.Common.{arith, refl, sym, subst, inl, inr}
 use Rattle.bpaf_line.specs.declared.error.Error.{Error}
 use Rattle.bpaf_line.specs.{Situation.Situation, Conflicts.ConflictsSaved, Combining.Combines}
 use Rattle.bpaf_laws.proofs.NamesAnswer.{names_combined, names_want}
-use Rattle.bpaf_laws.proofs.Keeping.{Answers, answer_of, lawful_by, keeps_refl, keeps_same}
+use Rattle.bpaf_laws.proofs.Keeping.{LawfulAnswer, lawful_answer, lawful_by, keeps_refl, keeps_same}
 use Rattle.bpaf_laws.proofs.Keeping.{reads_as, keeps_conflicts, closes_conflicts, newly_conflicts}
-use Rattle.bpaf_laws.specs.Choice.{AnsweredBranch, branch_of, Winner, EqualDepths, Chosen}
+use Rattle.bpaf_laws.specs.Choice.{AnsweredBranch, branch_of, depth, Winner, EqualDepths, Chosen}
 use Rattle.bpaf_laws.specs.Choice.{BranchesEval, ChoiceOutcome, ChoiceReads}
 use Rattle.bpaf_laws.specs.{Reading.Readings, Reading.Outcome, Laws.Reads, Laws.Lawful}
 use Rattle.bpaf_laws.specs.RefusalNames.{NamesAnswer}
@@ -65,6 +65,14 @@ chosen_from s a sa b sb r t (inl deeper) = first_stands deeper.1 deeper.2
 chosen_from s a sa b sb r t (inr (inl deeper)) = second_stands deeper.1 deeper.2
 chosen_from s a sa b sb r t (inr (inr equal)) = equal_from s a sa b sb r t equal.1
 
+-- where both paths are equally deep the table is that of equal depths
+pub chosen_at_equal : {T : Type 0} (s : Situation) (a : Result T Error) (sa : Situation)
+    (b : Result T Error) (sb : Situation) (r : Result T Error) (t : Situation)
+    → depth sa ≡ depth sb → Chosen s a sa b sb r t → EqualDepths s a sa b sb r t
+chosen_at_equal s a sa b sb r t same (inl deeper) = let d = deeper.0 in absurd (omega arith)
+chosen_at_equal s a sa b sb r t same (inr (inl deeper)) = let d = deeper.0 in absurd (omega arith)
+chosen_at_equal s a sa b sb r t same (inr (inr equal)) = equal.1
+
 -- a reading stays one under conflict notes
 reads_conflicts : {T : Type 0} (reads : Readings T) (s m loser : Situation) (winner : ℕ) (v : T)
     (t : Situation) → ConflictsSaved m loser winner t → Reads T reads s v m → Reads T reads s v t
@@ -79,14 +87,14 @@ reads_conflicts reads s m loser winner v t saved read = record {
 module _ {T : Type 0} {first second : Outcome T} {rf rs : Readings T} (lf : Lawful T first rf)
     (ls : Lawful T second rs) (s : Situation) where
   -- what the first branch may answer the choice may
-  of_first : (r : Result T Error) (t : Situation) → Answers T rf s r t
-      → Answers T (ChoiceReads rf rs) s r t
+  of_first : (r : Result T Error) (t : Situation) → LawfulAnswer T rf s r t
+      → LawfulAnswer T (ChoiceReads rf rs) s r t
   of_first (Ok v) t r = reads_as r inl
   of_first (Err e) t kept = kept
 
   -- so it is with the second
-  of_second : (r : Result T Error) (t : Situation) → Answers T rs s r t
-      → Answers T (ChoiceReads rf rs) s r t
+  of_second : (r : Result T Error) (t : Situation) → LawfulAnswer T rs s r t
+      → LawfulAnswer T (ChoiceReads rf rs) s r t
   of_second (Ok v) t r = reads_as r inr
   of_second (Err e) t kept = kept
 
@@ -102,9 +110,11 @@ module _ {T : Type 0} {first second : Outcome T} {rf rs : Readings T} (lf : Lawf
 
     -- an answer of the table is as the laws say
     came_answers : (r : Result T Error) (t : Situation) → ComesFrom s a sa b sb r t
-        → Answers T (ChoiceReads rf rs) s r t
-    came_answers r t (first_stands is left) = rw (is, left) (of_first a sa (answer_of lf s a sa f))
-    came_answers r t (second_stands is left) = rw (is, left) (of_second b sb (answer_of ls s b sb g))
+        → LawfulAnswer T (ChoiceReads rf rs) s r t
+    came_answers r t (first_stands is left) =
+        rw (is, left) (of_first a sa (lawful_answer lf s a sa f))
+    came_answers r t (second_stands is left) =
+        rw (is, left) (of_second b sb (lawful_answer ls s b sb g))
     came_answers r t (first_won v place is answer saved) =
         rw answer (of_first (Ok v) t (reads_conflicts rf s sa sb place v t saved
         (lf.ok s sa v (subst (λ x. first s x sa) is f))))
@@ -121,13 +131,13 @@ module _ {T : Type 0} {first second : Outcome T} {rf rs : Readings T} (lf : Lawf
 
   -- so is one of branches that were evaluated
   evaluated : (r : Result T Error) (t : Situation) → BranchesEval first second s r t
-      → Answers T (ChoiceReads rf rs) s r t
+      → LawfulAnswer T (ChoiceReads rf rs) s r t
   evaluated r t o = came_answers o.a o.sa o.b o.sb o.first_ran o.second_ran r t
       (chosen_from s o.a o.sa o.b o.sb r t o.chosen)
 
   -- and so is one of the choice
   choice_answers : (r : Result T Error) (t : Situation) → ChoiceOutcome first second s r t
-      → Answers T (ChoiceReads rf rs) s r t
+      → LawfulAnswer T (ChoiceReads rf rs) s r t
   choice_answers (Ok v) t o = evaluated (Ok v) t o
   choice_answers (Err e) t (inl o) = evaluated (Err e) t o
   choice_answers (Err e) t (inr want) = (keeps_same s t want.1, names_want e.0 want.0)

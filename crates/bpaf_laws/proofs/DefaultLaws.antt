@@ -5,8 +5,8 @@ use Rattle.std.proofs.Common.{⊎_elim, inl, inr, true≢false}
 use Rattle.bpaf_line.specs.declared.error.Message.TheVariants.{PureFailed}
 use Rattle.bpaf_line.specs.{Situation.Situation, declared.error.Error.Error}
 use Rattle.bpaf_laws.specs.Laws.{Keeps, Lawful}
-use Rattle.bpaf_laws.proofs.Keeping.{Answers, answer_of, lawful_by, keeps_same, reads_as, reads_same}
-use Rattle.bpaf_laws.proofs.Keeping.{newly_none}
+use Rattle.bpaf_laws.proofs.Keeping.{LawfulAnswer, lawful_answer, lawful_by, keeps_same, reads_as}
+use Rattle.bpaf_laws.proofs.Keeping.{newly_none, reads_same}
 use Rattle.bpaf_laws.specs.Default.{Gives, NamesGiven, OptionalReads, FallbackOutcome, GivesAnswer}
 use Rattle.bpaf_laws.specs.{Reading.Readings, Reading.Outcome, Turn.TurnOutcome, Choice.ChoiceReads}
 use Rattle.bpaf_laws.specs.{Pure.PureReads, RefusalNames.NamesAnswer}
@@ -22,12 +22,12 @@ module _ {T : Type 0} {inner : Outcome T} {reads : Readings T} (law : Lawful T i
   -- what a turn's error keeps, and that it names its answer
   pub step_refuses : (catches first : Bool) (s t : Situation) (e : Error)
       → TurnOutcome inner catches first s (Err e) t → Keeps s t × NamesAnswer e.0
-  step_refuses catches first s t e (inl failed) = answer_of law s (Err e) t failed.0
+  step_refuses catches first s t e (inl failed) = lawful_answer law s (Err e) t failed.0
   step_refuses catches first s t e (inr memory) = (keeps_same s t memory.1, names_want e.0 memory.0)
 
   -- an answer of an optional value
   optional_answers : (catches : Bool) (s : Situation) (r : Result (Option T) Error) (t : Situation)
-      → TurnOutcome inner catches true s r t → Answers (Option T) (OptionalReads reads) s r t
+      → TurnOutcome inner catches true s r t → LawfulAnswer (Option T) (OptionalReads reads) s r t
   optional_answers catches s (Ok (Some v)) t o = reads_as (law.ok s t v o.0) (λ read. read)
   optional_answers catches s (Ok None) t (inl dropped) = absurd (true≢false dropped.2)
   optional_answers catches s (Ok None) t (inr stopped) =
@@ -42,7 +42,7 @@ module _ {T : Type 0} {inner : Outcome T} {reads : Readings T} (law : Lawful T i
   -- an answer of a fallback
   fallback_answers : (gives : Gives T) → NamesGiven gives → (s : Situation) (r : Result T Error)
       (t : Situation) → FallbackOutcome inner gives s r t
-      → Answers T (ChoiceReads reads (PureReads (λ w. gives (Ok w)))) s r t
+      → LawfulAnswer T (ChoiceReads reads (PureReads (λ w. gives (Ok w)))) s r t
   fallback_answers gives names s (Ok v) t (inl ran) = reads_as (law.ok s t v ran) inl
   fallback_answers gives names s (Ok v) t (inr fell) =
       reads_same (ChoiceReads reads (PureReads (λ w. gives (Ok w)))) s t v fell.0.1

@@ -22,13 +22,15 @@ keeps_of law s (Ok v) t o = (law.ok s t v o).keeps
 keeps_of law s (Err e) t o = law.err s t e o
 
 -- what the laws say of an answer
-abbrev pub Answers : (T : Type 0) → Readings T → Situation → Result T Error → Situation → Type 0
-Answers T reads s (Ok v) t = Reads T reads s v t
-Answers T reads s (Err e) t = Keeps s t × NamesAnswer e.0
+abbrev pub LawfulAnswer : (T : Type 0) → Readings T → Situation → Result T Error → Situation
+    → Type 0
+LawfulAnswer T reads s (Ok v) t = Reads T reads s v t
+LawfulAnswer T reads s (Err e) t = Keeps s t × NamesAnswer e.0
 
 -- they hold where each answer is as they say
 pub lawful_by : {T : Type 0} {outcome : Outcome T} {reads : Readings T}
-    → ((s : Situation) (r : Result T Error) (t : Situation) → outcome s r t → Answers T reads s r t)
+    → ((s : Situation) (r : Result T Error) (t : Situation) → outcome s r t
+    → LawfulAnswer T reads s r t)
     → Lawful T outcome reads
 lawful_by answers = record {
   ok = λ s t v o. answers s (Ok v) t o;
@@ -37,10 +39,11 @@ lawful_by answers = record {
 }
 
 -- and then each is
-pub answer_of : {T : Type 0} {outcome : Outcome T} {reads : Readings T} → Lawful T outcome reads
-    → (s : Situation) (r : Result T Error) (t : Situation) → outcome s r t → Answers T reads s r t
-answer_of law s (Ok v) t o = law.ok s t v o
-answer_of law s (Err e) t o = (law.err s t e o, law.named s t e o)
+pub lawful_answer : {T : Type 0} {outcome : Outcome T} {reads : Readings T}
+    → Lawful T outcome reads → (s : Situation) (r : Result T Error) (t : Situation)
+    → outcome s r t → LawfulAnswer T reads s r t
+lawful_answer law s (Ok v) t o = law.ok s t v o
+lawful_answer law s (Err e) t o = (law.err s t e o, law.named s t e o)
 
 -- what was read is a reading of others too, where its places are
 pub reads_as : {A B : Type 0} {reads : Readings A} {others : Readings B} {s : Situation} {v : A}

@@ -5,9 +5,9 @@ use Rattle.bpaf_line.specs.Conflicts.{IsLeftmost, TakeTheSame, IsWinner}
 use Rattle.bpaf_line.specs.Situation.{Situation, is_taken, open_count}
 use Rattle.bpaf_line.specs.declared.error.Error.{Error}
 use Rattle.bpaf_laws.specs.Choice.{AnsweredBranch, branch_of, depth, Stands, Winner, EqualDepths}
-use Rattle.bpaf_laws.specs.Choice.{Chosen, IsChosen, TookAndIsChosen, ChoiceOutcome, LeftmostWins}
+use Rattle.bpaf_laws.specs.Choice.{IsChosen, TookAndIsChosen, ChoiceOutcome, LeftmostWins}
 use Rattle.bpaf_laws.specs.{Reading.Readings, Reading.Outcome, Laws.Lawful, Turn.is_untouched}
-use Rattle.bpaf_laws.proofs.CountingLaws.{same_took_none}
+use Rattle.bpaf_laws.proofs.{ChoiceLaws.chosen_at_equal, CountingLaws.same_took_none}
 use Rattle.std.proofs.{Common.⊎_elim, Common.true≢false, lemmas.Bool.cases_lt, lemmas.Bool.cases_eq}
 use Rattle.std.proofs.{lemmas.Bool.Decides.nat_tests, Math.Bool.and-eq-true_iff}
 
@@ -127,14 +127,6 @@ module _ {T : Type 0} {first second : Outcome T} {first_reads second_reads : Rea
       absurd (true≢false (sym second_ok))
   equal_first (Err e) sa b sb chosen first_ok second_ok same = absurd (true≢false (sym first_ok))
 
-  -- at equal depths the table is that of equal depths
-  at_equal : (a : Result T Error) (sa : Situation) (b : Result T Error) (sb : Situation)
-      → Chosen s a sa b sb (Ok v) t → depth sa ≡ depth sb → EqualDepths s a sa b sb (Ok v) t
-  at_equal a sa b sb chosen same = ⊎_elim
-      (λ deeper. let d = deeper.0 in absurd (omega arith))
-      (λ rest. ⊎_elim (λ deeper. let d = deeper.0 in absurd (omega arith)) (λ equal. equal.1) rest)
-      chosen
-
 -- in every choice
 pub leftmost_is_chosen : {T : Type 0} {first second : Outcome T}
     {first_reads second_reads : Readings T}
@@ -143,14 +135,14 @@ pub leftmost_is_chosen : {T : Type 0} {first second : Outcome T}
     → LeftmostWins first second s r t
 leftmost_is_chosen first_law second_law s t (Err e) ran = ran
 leftmost_is_chosen first_law second_law s t (Ok v) ran =
-    let equal = at_equal first_law second_law s v t ran.a ran.sa ran.b ran.sb ran.chosen in
+    let equal = λ (depths : depth ran.sa ≡ depth ran.sb).
+    chosen_at_equal s ran.a ran.sa ran.b ran.sb (Ok v) t depths ran.chosen in
     record {
       ran = ran;
       leftmost = λ first_ok second_ok depths p left.
           equal_took first_law second_law s v t ran.a ran.sa ran.b ran.sb ran.first_ran
-          ran.second_ran
-          (equal depths) first_ok second_ok p left;
+          ran.second_ran (equal depths) first_ok second_ok p left;
       else_first = λ first_ok second_ok depths all.
-          equal_first first_law second_law s v t ran.a ran.sa ran.b ran.sb
-          (equal depths) first_ok second_ok all;
+          equal_first first_law second_law s v t ran.a ran.sa ran.b ran.sb (equal depths) first_ok
+          second_ok all;
     }

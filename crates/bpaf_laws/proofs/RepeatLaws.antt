@@ -5,7 +5,7 @@ use Rattle.std.specs.Global.{Vec}
 use Rattle.std.proofs.Common.{sym, ◌∙◌, ap, subst, ⊎_elim, inl, inr, arith, true≢false}
 use Rattle.bpaf_laws.specs.Reading.{Readings, Outcome, IsEmptyShare}
 use Rattle.bpaf_laws.specs.Laws.{Keeps, Closes, Reads, Lawful, newly}
-use Rattle.bpaf_laws.proofs.Keeping.{Answers, lawful_by, keeps_refl, keeps_trans, reads_as}
+use Rattle.bpaf_laws.proofs.Keeping.{LawfulAnswer, lawful_by, keeps_refl, keeps_trans, reads_as}
 use Rattle.bpaf_laws.proofs.Keeping.{closes_refl, closes_trans, newly_joins, newly_none}
 use Rattle.bpaf_laws.proofs.CountingLaws.{open_count-falls, fewer_took, same_took_none}
 use Rattle.bpaf_laws.proofs.DefaultLaws.{step_refuses}
@@ -286,15 +286,15 @@ module _ {T : Type 0} {inner : Outcome T} {reads : Readings T} (law : Lawful T i
       one_read s t v (subst (λ w. inner w (Ok v) t) (no_values inner s [] m refl run) o)
 
   -- an answer of last
-  last_answers : (s : Situation) (r : Result T Error) (t : Situation) → LastOutcome inner s r t
-      → Answers T (MapReads (List T) T (ListReads reads)
+  answers_of_last : (s : Situation) (r : Result T Error) (t : Situation) → LastOutcome inner s r t
+      → LawfulAnswer T (MapReads (List T) T (ListReads reads)
       (λ values w. (before : List T) × (values ≡ before ++ w ∷ []))) s r t
-  last_answers s (Ok v) t (inl run) = reads_as (until_rest_reads s (run.0 ++ v ∷ []) t run.1)
+  answers_of_last s (Ok v) t (inl run) = reads_as (until_rest_reads s (run.0 ++ v ∷ []) t run.1)
       (λ read. record { from = run.0 ++ v ∷ []; read = read; made = (run.0, refl) })
-  last_answers s (Ok v) t (inr again) = reads_as (again_reads s again.0 t v again.1 again.2)
+  answers_of_last s (Ok v) t (inr again) = reads_as (again_reads s again.0 t v again.1 again.2)
       (λ read. record { from = v ∷ []; read = read; made = ([], refl) })
-  last_answers s (Err e) t (inl fault) = until_fault_refuses s e t fault
-  last_answers s (Err e) t (inr again) = (
+  answers_of_last s (Err e) t (inl fault) = until_fault_refuses s e t fault
+  answers_of_last s (Err e) t (inr again) = (
     keeps_trans s again.0 t (until_rest_reads s [] again.0 again.1).keeps
         (law.err again.0 t e again.2),
     law.named again.0 t e again.2,
@@ -303,4 +303,4 @@ module _ {T : Type 0} {inner : Outcome T} {reads : Readings T} (law : Lawful T i
   -- last keeps to the laws
   pub last_lawful : Lawful T (LastOutcome inner) (MapReads (List T) T (ListReads reads)
       (λ values v. (before : List T) × (values ≡ before ++ v ∷ [])))
-  last_lawful = lawful_by last_answers
+  last_lawful = lawful_by answers_of_last
