@@ -1,10 +1,14 @@
 //! Adjacent groups: products whose items stand next to one another.
 ghost use Rattle.std.specs.Prelude.{◌≡◌, ◌+◌, None, Some, Ok, Err, IfOk, IfErr};
 ghost use Rattle.bpaf_doc.specs.Shape.{part_of, shape_of};
-ghost use Rattle.bpaf_laws.specs.Spared.{IsNotMemory};
-ghost use Rattle.bpaf_laws.specs.Product.{ProductDescribes};
+ghost use Rattle.bpaf_laws.specs.Product.{ProductDescribes, ProductOutcome};
 ghost use Rattle.bpaf_laws.specs.AdjacentGroup.{GroupDescribes, GroupOutcome};
+ghost use Rattle.bpaf_laws.specs.OneStretch.{IsStretch, StretchReads};
+ghost use Rattle.bpaf_laws.specs.{Spared.IsNotMemory, Transform.MapReads, Laws.newly};
 ghost use Rattle.bpaf.specs.Remembering.{IsFirstOf, IsRefused};
+ghost use Rattle.bpaf.specs.declared.adjacent.AdjacentError.TheVariants.{Memory};
+ghost use Rattle.bpaf_laws.proofs.ShownNames.{product_shows, group_shows};
+ghost use Rattle.bpaf_laws.proofs.{ProductLaws.product_lawful, AdjacentGroupLaws.group_lawful};
 
 mod attempts;
 mod failures;
@@ -26,9 +30,6 @@ pub enum AdjacentError {
 }
 
 impl From<AllocError> for AdjacentError {
-    ghost use Rattle.std.specs.Prelude.{◌≡◌};
-    ghost use Rattle.bpaf.specs.declared.adjacent.AdjacentError.TheVariants.{Memory};
-
     ghost from_gives = { λ _ error. error ≡ Memory };
 
     fn from(_error: AllocError) -> AdjacentError {
@@ -43,11 +44,6 @@ struct FailFast<'p, P> {
 }
 
 impl<'p, V, T, P: Fields<V>, F: Fn(V) -> T> Parser<T> for FailFast<'p, ParseCon<V, P, F>> {
-    ghost use Rattle.bpaf_laws.specs.Product.{ProductOutcome, ProductDescribes};
-    ghost use Rattle.bpaf_laws.specs.Transform.{MapReads};
-    ghost use Rattle.bpaf_laws.proofs.ProductLaws.{product_lawful};
-    ghost use Rattle.bpaf_laws.proofs.ShownNames.{product_shows};
-
     ghost can_eval = { λ p. P.can_eval p.product.now.fields
         × F.IsAlwaysCallable p.product.now.make };
 
@@ -142,18 +138,6 @@ impl<V, P, F> ParseCon<V, P, F> {
 /// the state that it left; where none took a place the first item is missing. Want of memory is
 /// refused at once.
 impl<V, T: Drop, P: Fields<V>, F: Fn(V) -> T> Parser<T> for ParseAdjacent<ParseCon<V, P, F>> {
-    ghost use Rattle.std.specs.Prelude.{IfOk};
-    ghost use Rattle.bpaf_doc.specs.Shape.{part_of};
-    ghost use Rattle.bpaf_laws.specs.Laws.{newly};
-    ghost use Rattle.bpaf_laws.specs.Spared.{IsNotMemory};
-    ghost use Rattle.bpaf_laws.specs.Product.{ProductOutcome, ProductDescribes};
-    ghost use Rattle.bpaf_laws.specs.Transform.{MapReads};
-    ghost use Rattle.bpaf_laws.proofs.ProductLaws.{product_lawful};
-    ghost use Rattle.bpaf_laws.specs.AdjacentGroup.{GroupDescribes, GroupOutcome};
-    ghost use Rattle.bpaf_laws.specs.OneStretch.{IsStretch, StretchReads};
-    ghost use Rattle.bpaf_laws.proofs.AdjacentGroupLaws.{group_lawful};
-    ghost use Rattle.bpaf_laws.proofs.ShownNames.{group_shows, product_shows};
-
     ghost can_eval = { λ p. P.can_eval p.inner.fields × F.IsAlwaysCallable p.inner.make };
 
     ghost describes = { λ p. GroupDescribes (ProductDescribes (P.describes p.inner.fields)) };

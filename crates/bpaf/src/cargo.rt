@@ -1,5 +1,12 @@
 //! A parser whose line may begin with cargo's own name of the subcommand.
-ghost use Rattle.std.specs.Prelude.{◌≡◌, IfOk, false};
+ghost use Rattle.std.specs.Prelude.{◌≡◌, IfOk, false, Option, refl};
+ghost use Rattle.bpaf_laws.specs.Product.{ProductOutcome, ProductDescribes};
+ghost use Rattle.bpaf_laws.specs.{Transform.MapReads, Spared.IsNotMemory, Any.IsLiteral};
+ghost use Rattle.bpaf_doc.specs.Shape.{Any};
+ghost use Rattle.bpaf_laws.proofs.DefaultLaws.{optional_lawful};
+ghost use Rattle.bpaf_laws.proofs.ProductLaws.{both_lawful, product_lawful};
+ghost use Rattle.bpaf_laws.proofs.ShownNames.{both_show, last_shows, one_shape, product_shows};
+ghost use Rattle.bpaf_laws.proofs.{AnyLaws.any_lawful, HideLaws.hide_lawful};
 
 use crate::leaves::literal::{ParseLiteral, literal};
 use crate::product::{Both, Fields, Last};
@@ -47,18 +54,6 @@ pub fn cargo_helper<P: Drop>(
 /// The word is evaluated, and then the parser, also after an error; then no word is current. Want
 /// of memory is refused at once.
 impl<T: Drop, P: Parser<T>> Parser<T> for CargoHelper<P> {
-    ghost use Rattle.std.specs.Prelude.{◌≡◌, Option, refl};
-    ghost use Rattle.bpaf_laws.specs.Product.{ProductOutcome, ProductDescribes};
-    ghost use Rattle.bpaf_laws.specs.Transform.{MapReads};
-    ghost use Rattle.bpaf_laws.specs.Spared.{IsNotMemory};
-    ghost use Rattle.bpaf_doc.specs.Shape.{Any};
-    ghost use Rattle.bpaf_laws.specs.Any.{IsLiteral};
-    ghost use Rattle.bpaf_laws.proofs.AnyLaws.{any_lawful};
-    ghost use Rattle.bpaf_laws.proofs.DefaultLaws.{optional_lawful};
-    ghost use Rattle.bpaf_laws.proofs.HideLaws.{hide_lawful};
-    ghost use Rattle.bpaf_laws.proofs.ProductLaws.{both_lawful, product_lawful};
-    ghost use Rattle.bpaf_laws.proofs.ShownNames.{both_show, last_shows, one_shape, product_shows};
-
     ghost can_eval = { λ p. P.can_eval p.fields.rest.last };
 
     ghost describes = { λ p. ProductDescribes

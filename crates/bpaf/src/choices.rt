@@ -2,7 +2,10 @@
 ghost use Rattle.std.specs.Prelude.{◌≡◌, ◌==◌, false, length, IfOk, All};
 ghost use Rattle.bpaf_doc.specs.Shape.{shape_of};
 ghost use Rattle.bpaf_laws.specs.Choice.{ChoiceDescribes, ChoiceOutcome};
-ghost use Rattle.bpaf_laws.specs.Choices.{ChoicesOutcome, Nested};
+ghost use Rattle.bpaf_laws.specs.Choices.{ChoicesOutcome, Nested, ChoicesReads, ChoicesDescribes};
+ghost use Rattle.bpaf_laws.specs.Choices.{LeftmostOfAll};
+ghost use Rattle.bpaf_laws.specs.{Spared.IsNotMemory, Spared.WithoutMemory, ShownNames.all_shorts};
+ghost use Rattle.bpaf_laws.proofs.{ChoicesLaws.choices_lawful, ShownNames.choices_show};
 
 use bpaf_core::{Branch, Parser, Start, is_want, or_meta, this_or_that};
 use bpaf_doc::{Meta, Text};
@@ -118,14 +121,6 @@ fn meta_from<T, P: Parser<T>>(first: &P, rest: &[P], alloc: Global) -> Result<Me
 /// with the state as before. Without parsers it is refused with ParseFail, or for want of memory
 /// for the message, and no place is current then.
 impl<T: Drop, P: Parser<T> + Drop> Parser<T> for ParseChoice<P> {
-    ghost use Rattle.std.specs.Prelude.{All};
-    ghost use Rattle.bpaf_laws.specs.Spared.{IsNotMemory, WithoutMemory};
-    ghost use Rattle.bpaf_laws.specs.Choices.{ChoicesOutcome, ChoicesReads};
-    ghost use Rattle.bpaf_laws.specs.Choices.{ChoicesDescribes, LeftmostOfAll};
-    ghost use Rattle.bpaf_laws.proofs.ChoicesLaws.{choices_lawful};
-    ghost use Rattle.bpaf_laws.specs.ShownNames.{all_shorts};
-    ghost use Rattle.bpaf_laws.proofs.ShownNames.{choices_show};
-
     ghost can_eval = { λ p. All P.can_eval p.parsers.items };
 
     ghost describes = { λ p. ChoicesDescribes P.describes p.parsers.items };

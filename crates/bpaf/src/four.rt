@@ -1,4 +1,7 @@
 //! Four fields of a product at once, for records of many fields.
+ghost use Rattle.bpaf_laws.proofs.ProductLaws.{both_lawful, fail_fast_lawful};
+ghost use Rattle.bpaf_laws.proofs.ProductSparing.{both_spares, fail_fast_spares};
+ghost use Rattle.bpaf_laws.proofs.ShownNames.{both_show};
 
 use crate::product::{Both, Fields};
 use bpaf_core::Parser;
@@ -40,10 +43,6 @@ impl<
     D: Parser<V>,
     R: Fields<W>,
 > Fields<FourValues<S, T, U, V, W>> for Four<A, B, C, D, R> {
-    ghost use Rattle.bpaf_laws.proofs.ProductLaws.{both_lawful, fail_fast_lawful};
-    ghost use Rattle.bpaf_laws.proofs.ProductSparing.{both_spares, fail_fast_spares};
-    ghost use Rattle.bpaf_laws.proofs.ShownNames.{both_show};
-
     ghost can_eval = { λ p.
         ⟦<FourFields<A, B, C, D, R> as Fields<FourValues<S, T, U, V, W>>>⟧.can_eval p.fields };
 

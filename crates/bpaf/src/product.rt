@@ -1,8 +1,18 @@
 //! Products: the fields of a record, read one after another.
-ghost use Rattle.std.specs.Prelude.{◌≡◌, OnOk, map};
-ghost use Rattle.bpaf_doc.specs.Shape.{shape_of};
-ghost use Rattle.bpaf_laws.specs.Product.{AppendsShapes};
-ghost use Rattle.bpaf.specs.WithoutValue.{IsErrorBefore};
+ghost use Rattle.std.specs.Prelude.{◌≡◌, OnOk, map, List};
+ghost use Rattle.bpaf_doc.specs.Shape.{shape_of, Shape};
+ghost use Rattle.bpaf_laws.specs.Product.{AppendsShapes, LastDescribes, BothOutcome, BothReads};
+ghost use Rattle.bpaf_laws.specs.Product.{BothDescribes, FailFastOutcome, ProductOutcome};
+ghost use Rattle.bpaf_laws.specs.Product.{ProductDescribes};
+ghost use Rattle.bpaf_laws.specs.Reading.{Outcome, Readings};
+ghost use Rattle.bpaf_laws.specs.ShownNames.{FieldsShowNames, joined_shorts};
+ghost use Rattle.bpaf_laws.specs.Spared.{Spares, WithoutMemory, IsNotMemory};
+ghost use Rattle.bpaf_laws.specs.{Laws.Lawful, Transform.MapReads};
+ghost use Rattle.bpaf.specs.WithoutValue.{IsErrorBefore, WithoutValue};
+ghost use Rattle.bpaf_words.specs.Spelling.{ShortNames};
+ghost use Rattle.bpaf_laws.proofs.ShownNames.{last_shows, both_show, product_shows};
+ghost use Rattle.bpaf_laws.proofs.ProductLaws.{both_lawful, fail_fast_lawful, product_lawful};
+ghost use Rattle.bpaf_laws.proofs.ProductSparing.{both_spares, fail_fast_spares};
 
 use bpaf_core::Parser;
 use bpaf_doc::Meta;
@@ -13,15 +23,6 @@ use std::marker::PhantomData;
 /// The fields of a product, in order: their values are nested pairs. bpaf has a closure in its
 /// place.
 pub trait Fields<V>: Sized {
-    ghost use Rattle.std.specs.Prelude.{List};
-    ghost use Rattle.bpaf_doc.specs.Shape.{Shape};
-    ghost use Rattle.bpaf_laws.specs.Reading.{Outcome, Readings};
-    ghost use Rattle.bpaf_laws.specs.Laws.{Lawful};
-    ghost use Rattle.bpaf_laws.specs.ShownNames.{FieldsShowNames};
-    ghost use Rattle.bpaf_words.specs.Spelling.{ShortNames};
-    ghost use Rattle.bpaf_laws.specs.Spared.{Spares};
-    ghost use Rattle.bpaf.specs.WithoutValue.{WithoutValue};
-
     /// Whether each field may be evaluated.
     ghost can_eval: { Self → Type 0 };
 
@@ -101,10 +102,6 @@ impl<A: Drop> Drop for Last<A> {
 }
 
 impl<T: Drop, A: Parser<T>> Fields<T> for Last<A> {
-    ghost use Rattle.bpaf_laws.specs.Product.{LastDescribes};
-    ghost use Rattle.bpaf_laws.specs.Spared.{WithoutMemory};
-    ghost use Rattle.bpaf_laws.proofs.ShownNames.{last_shows};
-
     ghost can_eval = { λ p. A.can_eval p.last };
 
     ghost describes = { λ p. LastDescribes (A.describes p.last) };
@@ -170,14 +167,6 @@ impl<A: Drop, R: Drop> Drop for Both<A, R> {
 }
 
 impl<T: Drop, V, A: Parser<T>, R: Fields<V>> Fields<(T, V)> for Both<A, R> {
-    ghost use Rattle.bpaf_laws.specs.Spared.{WithoutMemory};
-    ghost use Rattle.bpaf_laws.specs.Product.{BothOutcome, BothReads, BothDescribes};
-    ghost use Rattle.bpaf_laws.specs.Product.{FailFastOutcome};
-    ghost use Rattle.bpaf_laws.proofs.ProductLaws.{both_lawful, fail_fast_lawful};
-    ghost use Rattle.bpaf_laws.proofs.ProductSparing.{both_spares, fail_fast_spares};
-    ghost use Rattle.bpaf_laws.specs.ShownNames.{joined_shorts};
-    ghost use Rattle.bpaf_laws.proofs.ShownNames.{both_show};
-
     ghost can_eval = { λ p. A.can_eval p.first × R.can_eval p.rest };
 
     ghost describes = { λ p. BothDescribes (A.describes p.first) (R.describes p.rest) };
@@ -306,12 +295,6 @@ impl<V, P, F> ParseCon<V, P, F> {
 }
 
 impl<V, T, P: Fields<V>, F: Fn(V) -> T> Parser<T> for ParseCon<V, P, F> {
-    ghost use Rattle.bpaf_laws.specs.Spared.{IsNotMemory};
-    ghost use Rattle.bpaf_laws.specs.Product.{ProductOutcome, ProductDescribes};
-    ghost use Rattle.bpaf_laws.specs.Transform.{MapReads};
-    ghost use Rattle.bpaf_laws.proofs.ProductLaws.{product_lawful};
-    ghost use Rattle.bpaf_laws.proofs.ShownNames.{product_shows};
-
     ghost can_eval = { λ p. P.can_eval p.fields × F.IsAlwaysCallable p.make };
 
     ghost describes = { λ p. ProductDescribes (P.describes p.fields) };

@@ -1,6 +1,10 @@
 //! How often the keys for more and for less are given.
-ghost use Rattle.std.specs.Prelude.{◌≡◌, ◌∷◌, [], IfOk, IsTrue, None};
+ghost use Rattle.std.specs.Prelude.{◌≡◌, ◌∷◌, [], IfOk, IsTrue, None, ◌++◌};
 ghost use Rattle.bpaf_batteries.specs.Keys.{AreKeysApart, AreVerboseAndQuiet, IsCountedKey};
+ghost use Rattle.bpaf_batteries.specs.Verbosity.{CountsDescribe, CountsOutcome, CountsReads};
+ghost use Rattle.bpaf_batteries.specs.Verbosity.{CountsSpared, KeysAreCounted};
+ghost use Rattle.bpaf_batteries.specs.VerbosityLaws.{counts_lawful, counts_show};
+ghost use Rattle.bpaf_laws.specs.{Spared.IsNotMemory, ShownNames.of_flags};
 
 use bpaf::parsers::{ParseCount, ParseFlag};
 use bpaf::{Both, Doc, Error, Fields, Last, Meta, Parser, State, short};
@@ -52,13 +56,6 @@ pub(crate) fn verbose_and_quiet(alloc: Global) -> Result<KeyCounts, AllocError>
 
 /// Both counts; then no word is current.
 impl Parser<(usize, usize)> for KeyCounts {
-    ghost use Rattle.std.specs.Prelude.{IfOk, ◌++◌};
-    ghost use Rattle.bpaf_batteries.specs.Verbosity.{CountsDescribe, CountsOutcome, CountsReads};
-    ghost use Rattle.bpaf_batteries.specs.Verbosity.{CountsSpared, KeysAreCounted};
-    ghost use Rattle.bpaf_laws.specs.Spared.{IsNotMemory};
-    ghost use Rattle.bpaf_batteries.specs.VerbosityLaws.{counts_lawful, counts_show};
-    ghost use Rattle.bpaf_laws.specs.ShownNames.{of_flags};
-
     ghost can_eval = { λ p. Unit {0} };
 
     ghost describes = { λ p. CountsDescribe p.fields.first.inner p.fields.rest.last.inner };

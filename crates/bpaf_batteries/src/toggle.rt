@@ -1,6 +1,9 @@
 //! Two flags of which the last one given counts.
-ghost use Rattle.std.specs.Prelude.{◌≡◌, None, false};
-ghost use Rattle.bpaf_batteries.specs.Toggle.{IsLastOf};
+ghost use Rattle.std.specs.Prelude.{◌≡◌, None, false, IfOk, ◌++◌};
+ghost use Rattle.bpaf_batteries.specs.Toggle.{IsLastOf, LastToggleWins, ToggleDescribes};
+ghost use Rattle.bpaf_batteries.specs.Toggle.{ToggleOutcome, ToggleReads, ToggleSpared};
+ghost use Rattle.bpaf_batteries.specs.ToggleLaws.{toggle_lawful, toggle_shows};
+ghost use Rattle.bpaf_laws.specs.{Spared.IsNotMemory, ShownNames.of_flags};
 
 use bpaf::parsers::{ParseFlag, ParseMany, ParseOrElse};
 use bpaf::{Error, Meta, NamedArg, Parser, State};
@@ -39,13 +42,6 @@ pub fn toggle_flag<T: Clone + Drop>(a: NamedArg, val_a: T, b: NamedArg, val_b: T
 /// The last of the values of the two keys in the order of the line. Every refusal of the repeat is
 /// passed on; want of memory is refused.
 impl<T: Clone + Drop> Parser<Option<T>> for ToggleFlag<T> {
-    ghost use Rattle.std.specs.Prelude.{IfOk, ◌++◌};
-    ghost use Rattle.bpaf_batteries.specs.Toggle.{LastToggleWins, ToggleDescribes, ToggleOutcome};
-    ghost use Rattle.bpaf_batteries.specs.Toggle.{ToggleReads, ToggleSpared};
-    ghost use Rattle.bpaf_laws.specs.Spared.{IsNotMemory};
-    ghost use Rattle.bpaf_batteries.specs.ToggleLaws.{toggle_lawful, toggle_shows};
-    ghost use Rattle.bpaf_laws.specs.ShownNames.{of_flags};
-
     ghost can_eval = { λ p. Unit {0} };
 
     ghost describes = { λ p. ToggleDescribes p.toggles.inner.this p.toggles.inner.that };

@@ -1,8 +1,13 @@
 //! How much a program tells, as a number or as a member of a list.
-ghost use Rattle.std.specs.Prelude.{◌≡◌, ◌<◌, ◌≤◌, ◌≤ℤ◌, ◌-ℤ◌, IfOk, length, pos};
-ghost use Rattle.bpaf_batteries.specs.Keys.{AreVerboseAndQuiet};
-ghost use Rattle.bpaf_batteries.specs.Level.{IsLevelOf};
-ghost use Rattle.bpaf_batteries.specs.Verbosity.{PicksItem};
+ghost use Rattle.std.specs.Prelude.{◌≡◌, ◌<◌, ◌≤◌, ◌≤ℤ◌, ◌-ℤ◌, IfOk, length, pos, ℕ, ℤ, ◌++◌};
+ghost use Rattle.bpaf_batteries.specs.Verbosity.{PicksItem, CountsDescribe, CountsOutcome};
+ghost use Rattle.bpaf_batteries.specs.Verbosity.{CountsReads, CountsSpared, VerbosityCounts};
+ghost use Rattle.bpaf_batteries.specs.Verbosity.{PickOutcome, VerbosityPicks};
+ghost use Rattle.bpaf_batteries.specs.VerbosityLaws.{counts_lawful, counts_show, pick_lawful};
+ghost use Rattle.bpaf_batteries.specs.{Keys.AreVerboseAndQuiet, Level.IsLevelOf};
+ghost use Rattle.bpaf_laws.specs.Transform.{MapOutcome, MapReads};
+ghost use Rattle.bpaf_laws.specs.{Spared.IsNotMemory, ShownNames.of_flags};
+ghost use Rattle.bpaf_laws.proofs.TransformLaws.{map_lawful};
 
 use crate::counts::{KeyCounts, verbose_and_quiet};
 use bpaf::{Error, Meta, Parser, State};
@@ -64,15 +69,6 @@ fn level(offset: isize, min: isize, max: isize, more: usize, fewer: usize) -> is
 
 /// The level of both counts; a refusal of the keys is passed on.
 impl Parser<isize> for VerboseQuiet {
-    ghost use Rattle.std.specs.Prelude.{ℕ, ℤ, IfOk, ◌++◌};
-    ghost use Rattle.bpaf_laws.specs.Transform.{MapOutcome, MapReads};
-    ghost use Rattle.bpaf_laws.proofs.TransformLaws.{map_lawful};
-    ghost use Rattle.bpaf_batteries.specs.Verbosity.{CountsDescribe, CountsOutcome, CountsReads};
-    ghost use Rattle.bpaf_batteries.specs.Verbosity.{CountsSpared, VerbosityCounts};
-    ghost use Rattle.bpaf_laws.specs.Spared.{IsNotMemory};
-    ghost use Rattle.bpaf_batteries.specs.VerbosityLaws.{counts_lawful, counts_show};
-    ghost use Rattle.bpaf_laws.specs.ShownNames.{of_flags};
-
     ghost can_eval = { λ p. Unit {0} };
 
     ghost describes = { λ p. CountsDescribe
@@ -188,14 +184,6 @@ fn item_at<T: Clone + Drop>(
 /// The item at the level of both counts; a refusal of the keys is passed on, and memory for the
 /// item may be wanted.
 impl<T: Clone + Drop, const N: usize> Parser<T> for VerboseSlice<T, N> {
-    ghost use Rattle.std.specs.Prelude.{ℕ, IfOk, ◌++◌};
-    ghost use Rattle.bpaf_laws.specs.Transform.{MapReads};
-    ghost use Rattle.bpaf_batteries.specs.Verbosity.{CountsDescribe, CountsOutcome, CountsReads};
-    ghost use Rattle.bpaf_batteries.specs.Verbosity.{CountsSpared, PickOutcome, VerbosityPicks};
-    ghost use Rattle.bpaf_laws.specs.Spared.{IsNotMemory};
-    ghost use Rattle.bpaf_batteries.specs.VerbosityLaws.{counts_lawful, pick_lawful, counts_show};
-    ghost use Rattle.bpaf_laws.specs.ShownNames.{of_flags};
-
     ghost can_eval = { λ p. Unit {0} };
 
     ghost describes = { λ p. CountsDescribe

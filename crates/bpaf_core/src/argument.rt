@@ -1,4 +1,9 @@
 //! Arguments.
+ghost use Rattle.std.specs.{Prelude.◌≡◌, Result.IfErr};
+ghost use Rattle.bpaf_laws.specs.Argument.{ArgumentOutcome, ArgumentReads, argument_shape};
+ghost use Rattle.bpaf_laws.specs.{KeyFirst.KeyBeforeEnvironment, ShownNames.of_arguments};
+ghost use Rattle.bpaf_laws.proofs.{ArgumentLaws.argument_lawful, ShownNames.argument_shows};
+ghost use Rattle.bpaf_core.specs.Leaves.{FaultsTextAlone};
 use crate::parser::Parser;
 use bpaf_doc::Meta;
 use bpaf_keys::take_argument;
@@ -17,15 +22,6 @@ use std::alloc::{AllocError, Global};
 /// ParseFailed, its places taken, where the text that counts means no value; or for want of memory.
 /// A text of the environment leaves no place current.
 impl<T: FromText> Parser<T> for ParseArgument<T> {
-    ghost use Rattle.std.specs.Prelude.{◌≡◌};
-    ghost use Rattle.bpaf_laws.specs.Argument.{ArgumentOutcome, ArgumentReads, argument_shape};
-    ghost use Rattle.bpaf_laws.proofs.ArgumentLaws.{argument_lawful};
-    ghost use Rattle.bpaf_laws.specs.KeyFirst.{KeyBeforeEnvironment};
-    ghost use Rattle.std.specs.Result.{IfErr};
-    ghost use Rattle.bpaf_core.specs.Leaves.{FaultsTextAlone};
-    ghost use Rattle.bpaf_laws.specs.ShownNames.{of_arguments};
-    ghost use Rattle.bpaf_laws.proofs.ShownNames.{argument_shows};
-
     ghost can_eval = { λ p. Unit {0} };
 
     ghost describes = { λ p shape. shape ≡ argument_shape p };

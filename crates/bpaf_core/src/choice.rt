@@ -1,4 +1,8 @@
 //! A choice of two parsers.
+ghost use Rattle.bpaf_laws.specs.Choice.{ChoiceOutcome, ChoiceReads, ChoiceDescribes, LeftmostWins};
+ghost use Rattle.bpaf_laws.specs.Spared.{IsNotMemory, WithoutMemory};
+ghost use Rattle.bpaf_laws.specs.ShownNames.{joined_shorts};
+ghost use Rattle.bpaf_laws.proofs.{ChoiceLaws.choice_lawful, ShownNames.choice_shows};
 use crate::parser::Parser;
 use bpaf_doc::Meta;
 use bpaf_line::{Error, State};
@@ -15,13 +19,6 @@ pub struct ParseOrElse<A, B> {
 /// Both are evaluated, each from the same situation, the first one first; [`this_or_that`] tells
 /// which answer stands. Want of memory in either is refused at once, with the state as before.
 impl<T: Drop, A: Parser<T>, B: Parser<T>> Parser<T> for ParseOrElse<A, B> {
-    ghost use Rattle.bpaf_laws.specs.Choice.{ChoiceOutcome, ChoiceReads, ChoiceDescribes};
-    ghost use Rattle.bpaf_laws.specs.Choice.{LeftmostWins};
-    ghost use Rattle.bpaf_laws.proofs.ChoiceLaws.{choice_lawful};
-    ghost use Rattle.bpaf_laws.specs.Spared.{IsNotMemory, WithoutMemory};
-    ghost use Rattle.bpaf_laws.specs.ShownNames.{joined_shorts};
-    ghost use Rattle.bpaf_laws.proofs.ShownNames.{choice_shows};
-
     ghost can_eval = { λ p. A.can_eval p.this × B.can_eval p.that };
 
     ghost describes = { λ p. ChoiceDescribes (A.describes p.this) (B.describes p.that) };

@@ -1,6 +1,9 @@
 //! All values of a parser, in a collection of the caller's choice.
-ghost use Rattle.std.specs.Prelude.{◌≡◌, true};
-ghost use Rattle.bpaf_laws.specs.Repeat.{CollectOutcome};
+ghost use Rattle.std.specs.Prelude.{◌≡◌, true, List};
+ghost use Rattle.bpaf_laws.specs.Repeat.{CollectOutcome, ListReads, CollectIsBounded};
+ghost use Rattle.bpaf_laws.specs.Repeat.{ManyDescribes};
+ghost use Rattle.bpaf_laws.specs.{Transform.MapReads, Spared.IsNotMemory, Spared.WithoutMemory};
+ghost use Rattle.bpaf_laws.proofs.{RepeatLaws.collect_lawful, ShownNames.many_shows};
 
 use crate::parser::Parser;
 use crate::repeat::values_until_stop;
@@ -52,14 +55,6 @@ impl<P, C, T> ParseCollect<P, C, T> {
 /// As `many`, with what is filled from the list in its place; refused also where the collection
 /// wants memory.
 impl<T: Drop, C: FromList<T> + Drop, P: Parser<T>> Parser<C> for ParseCollect<P, C, T> {
-    ghost use Rattle.std.specs.Prelude.{List};
-    ghost use Rattle.bpaf_laws.specs.Repeat.{ListReads, CollectOutcome, CollectIsBounded};
-    ghost use Rattle.bpaf_laws.specs.Repeat.{ManyDescribes};
-    ghost use Rattle.bpaf_laws.specs.Transform.{MapReads};
-    ghost use Rattle.bpaf_laws.proofs.RepeatLaws.{collect_lawful};
-    ghost use Rattle.bpaf_laws.specs.Spared.{IsNotMemory, WithoutMemory};
-    ghost use Rattle.bpaf_laws.proofs.ShownNames.{many_shows};
-
     ghost can_eval = { λ p. P.can_eval p.inner };
 
     ghost describes = { λ p. ManyDescribes (P.describes p.inner) };

@@ -1,5 +1,10 @@
 //! How many values a parser gives, and the last of them.
-ghost use Rattle.bpaf_laws.specs.Repeat.{CountOutcome, LastOutcome};
+ghost use Rattle.bpaf_laws.specs.Repeat.{CountOutcome, LastOutcome, ListReads, ManyDescribes};
+ghost use Rattle.bpaf_laws.specs.Repeat.{SomeDescribes};
+ghost use Rattle.bpaf_laws.specs.{Transform.MapReads, Spared.IsNotMemory, Spared.WithoutMemory};
+ghost use Rattle.std.specs.Prelude.{◌≡◌, List, ℕ, length, [], ◌∷◌, ◌++◌};
+ghost use Rattle.bpaf_laws.proofs.RepeatLaws.{count_lawful, last_lawful};
+ghost use Rattle.bpaf_laws.proofs.ShownNames.{many_shows, some_shows};
 
 use crate::optional::parse_option;
 use crate::parser::Parser;
@@ -58,13 +63,6 @@ pub struct ParseCount<P, T> {
 /// The number of inner values, until a turn stops or a value took nothing, which is counted. Every
 /// error at which no turn stops is refused, with the state that it left; so is want of memory.
 impl<T: Drop, P: Parser<T>> Parser<usize> for ParseCount<P, T> {
-    ghost use Rattle.std.specs.Prelude.{◌≡◌, List, ℕ, length};
-    ghost use Rattle.bpaf_laws.specs.Repeat.{ListReads, CountOutcome, ManyDescribes};
-    ghost use Rattle.bpaf_laws.specs.Transform.{MapReads};
-    ghost use Rattle.bpaf_laws.proofs.RepeatLaws.{count_lawful};
-    ghost use Rattle.bpaf_laws.specs.Spared.{IsNotMemory, WithoutMemory};
-    ghost use Rattle.bpaf_laws.proofs.ShownNames.{many_shows};
-
     ghost can_eval = { λ p. P.can_eval p.inner };
 
     ghost describes = { λ p. ManyDescribes (P.describes p.inner) };
@@ -104,13 +102,6 @@ pub struct ParseLast<P> {
 /// parser is evaluated once more, and what it answers is the answer. Every error at which no turn
 /// stops is refused, with the state that it left; so is want of memory.
 impl<T: Drop, P: Parser<T>> Parser<T> for ParseLast<P> {
-    ghost use Rattle.std.specs.Prelude.{◌≡◌, List, [], ◌∷◌, ◌++◌};
-    ghost use Rattle.bpaf_laws.specs.Repeat.{ListReads, LastOutcome, SomeDescribes};
-    ghost use Rattle.bpaf_laws.specs.Transform.{MapReads};
-    ghost use Rattle.bpaf_laws.proofs.RepeatLaws.{last_lawful};
-    ghost use Rattle.bpaf_laws.specs.Spared.{IsNotMemory, WithoutMemory};
-    ghost use Rattle.bpaf_laws.proofs.ShownNames.{some_shows};
-
     ghost can_eval = { λ p. P.can_eval p.inner };
 
     ghost describes = { λ p. SomeDescribes (P.describes p.inner) };

@@ -1,4 +1,9 @@
 //! What a run may be asked for beside its value, as a parser.
+ghost use Rattle.std.specs.{Prelude.◌≡◌, Prelude.◌++◌, Result.IfErr, Option.option_map_or};
+ghost use Rattle.bpaf_core.specs.Leaves.{AsksForNeither};
+ghost use Rattle.bpaf_keys.specs.Extra.{ExtraOutcome, ExtraReads, extra_shape};
+ghost use Rattle.bpaf_keys.proofs.ExtraLaws.{extra_lawful, extra_shows};
+ghost use Rattle.bpaf_laws.specs.ShownNames.{of_flags};
 use crate::parser::Parser;
 use bpaf_doc::Meta;
 use bpaf_keys::{ExtraParams, Info};
@@ -11,14 +16,6 @@ use std::alloc::{AllocError, Global};
 /// Refused with ParseFail, where neither help nor the version is asked for; and for want of memory,
 /// which is told as nothing else.
 impl Parser<ExtraParams> for Info {
-    ghost use Rattle.std.specs.Prelude.{◌≡◌, ◌++◌};
-    ghost use Rattle.std.specs.Result.{IfErr};
-    ghost use Rattle.bpaf_core.specs.Leaves.{AsksForNeither};
-    ghost use Rattle.bpaf_keys.specs.Extra.{ExtraOutcome, ExtraReads, extra_shape};
-    ghost use Rattle.bpaf_keys.proofs.ExtraLaws.{extra_lawful, extra_shows};
-    ghost use Rattle.bpaf_laws.specs.ShownNames.{of_flags};
-    ghost use Rattle.std.specs.Option.{option_map_or};
-
     ghost can_eval = { λ info. Unit {0} };
 
     ghost describes = { λ info shape. shape ≡ extra_shape info };

@@ -1,8 +1,12 @@
 //! A value that stands in where a parser gives none.
-ghost use Rattle.std.specs.Prelude.{◌≡◌, IfOk};
-ghost use Rattle.std.specs.Fn.{FnReturnsAt};
+ghost use Rattle.std.specs.{Prelude.◌≡◌, Prelude.IfOk, Prelude.Ok, Fn.FnReturnsAt};
 ghost use Rattle.bpaf_laws.specs.Default.{AttemptOutcome, ShowsAnswer, ShowsDefault};
-ghost use Rattle.bpaf_laws.specs.Default.{ShowsFormatted};
+ghost use Rattle.bpaf_laws.specs.Default.{ShowsFormatted, FallbackOutcome, GivesClone};
+ghost use Rattle.bpaf_laws.specs.Default.{DefaultDescribes, GivesAnswer};
+ghost use Rattle.bpaf_laws.specs.Spared.{IsNotMemory, WithoutMemory, DefaultTakesNothing};
+ghost use Rattle.bpaf_laws.specs.{Choice.ChoiceReads, Pure.PureReads};
+ghost use Rattle.bpaf_laws.proofs.DefaultLaws.{fallback_lawful, names_answer};
+ghost use Rattle.bpaf_laws.proofs.{NamesAnswer.names_want, ShownNames.default_shows};
 
 use crate::parser::Parser;
 use bpaf_doc::{Doc, Meta};
@@ -102,14 +106,6 @@ impl<T: Drop, P: Drop> ParseFallback<P, T> {
 /// caught. Every other error is refused; so is want of memory. After all but an inner value the
 /// state is as before.
 impl<T: Clone, P: Parser<T>> Parser<T> for ParseFallback<P, T> {
-    ghost use Rattle.bpaf_laws.specs.Choice.{ChoiceReads};
-    ghost use Rattle.bpaf_laws.specs.Pure.{PureReads};
-    ghost use Rattle.bpaf_laws.specs.Default.{FallbackOutcome, GivesClone, DefaultDescribes};
-    ghost use Rattle.bpaf_laws.proofs.DefaultLaws.{fallback_lawful};
-    ghost use Rattle.bpaf_laws.proofs.NamesAnswer.{names_want};
-    ghost use Rattle.bpaf_laws.specs.Spared.{IsNotMemory, WithoutMemory, DefaultTakesNothing};
-    ghost use Rattle.bpaf_laws.proofs.ShownNames.{default_shows};
-
     ghost can_eval = { λ p. P.can_eval p.inner };
 
     ghost describes = { λ p. DefaultDescribes (P.describes p.inner) p.shown };
@@ -258,14 +254,6 @@ impl<T: Drop, P: Drop, F: Fn() -> Result<T, E> + Drop, E: Drop> ParseFallbackWit
 /// memory. After all but an inner value the state is as before.
 impl<T, E: Display + Drop, P: Parser<T>, F: Fn() -> Result<T, E>> Parser<T>
     for ParseFallbackWith<T, P, F, E> {
-    ghost use Rattle.std.specs.Prelude.{Ok};
-    ghost use Rattle.bpaf_laws.specs.Choice.{ChoiceReads};
-    ghost use Rattle.bpaf_laws.specs.Pure.{PureReads};
-    ghost use Rattle.bpaf_laws.specs.Default.{FallbackOutcome, GivesAnswer, DefaultDescribes};
-    ghost use Rattle.bpaf_laws.proofs.DefaultLaws.{fallback_lawful, names_answer};
-    ghost use Rattle.bpaf_laws.specs.Spared.{IsNotMemory, WithoutMemory, DefaultTakesNothing};
-    ghost use Rattle.bpaf_laws.proofs.ShownNames.{default_shows};
-
     ghost can_eval = { λ p. P.can_eval p.inner × F.IsAlwaysCallable p.fallback };
 
     ghost describes = { λ p. DefaultDescribes (P.describes p.inner) p.shown };

@@ -1,4 +1,9 @@
 //! Flags.
+ghost use Rattle.std.specs.{Prelude.◌≡◌, Result.IfErr};
+ghost use Rattle.bpaf_core.specs.Leaves.{ClonesNothing};
+ghost use Rattle.bpaf_laws.specs.Flag.{FlagOutcome, FlagReads, flag_shape};
+ghost use Rattle.bpaf_laws.specs.ShownNames.{of_flags};
+ghost use Rattle.bpaf_laws.proofs.{FlagLaws.flag_lawful, ShownNames.flag_shows};
 use crate::parser::Parser;
 use bpaf_doc::Meta;
 use bpaf_keys::{absence, is_present};
@@ -13,14 +18,6 @@ use std::alloc::{AllocError, Global};
 /// it has names in the environment alone. The value is a clone of the kept one, which may be
 /// refused for memory; that is told as nothing else.
 impl<T: Clone> Parser<T> for ParseFlag<T> {
-    ghost use Rattle.std.specs.Prelude.{◌≡◌};
-    ghost use Rattle.std.specs.Result.{IfErr};
-    ghost use Rattle.bpaf_core.specs.Leaves.{ClonesNothing};
-    ghost use Rattle.bpaf_laws.specs.Flag.{FlagOutcome, FlagReads, flag_shape};
-    ghost use Rattle.bpaf_laws.proofs.FlagLaws.{flag_lawful};
-    ghost use Rattle.bpaf_laws.specs.ShownNames.{of_flags};
-    ghost use Rattle.bpaf_laws.proofs.ShownNames.{flag_shows};
-
     ghost can_eval = { λ p. Unit {0} };
 
     ghost describes = { λ p shape. shape ≡ flag_shape p.named p.absent };

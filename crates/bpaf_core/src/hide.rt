@@ -1,4 +1,9 @@
 //! Parsers that are not shown.
+ghost use Rattle.std.specs.Prelude.{◌≡◌, refl};
+ghost use Rattle.bpaf_doc.specs.Shape.{Skip};
+ghost use Rattle.bpaf_laws.specs.Spared.{IsNotMemory, WithoutMemory};
+ghost use Rattle.bpaf_laws.specs.{Hide.HideOutcome, ShownNames.no_shorts};
+ghost use Rattle.bpaf_laws.proofs.{HideLaws.hide_lawful, ShownNames.one_shape};
 use crate::parser::Parser;
 use bpaf_doc::Meta;
 use bpaf_line::{Error, State};
@@ -13,14 +18,6 @@ pub struct ParseHide<P> {
 
 /// The inner answer, with the state that it left; but a refusal with Missing names no item.
 impl<T, P: Parser<T>> Parser<T> for ParseHide<P> {
-    ghost use Rattle.std.specs.Prelude.{◌≡◌, refl};
-    ghost use Rattle.bpaf_doc.specs.Shape.{Skip};
-    ghost use Rattle.bpaf_laws.specs.Hide.{HideOutcome};
-    ghost use Rattle.bpaf_laws.specs.Spared.{IsNotMemory, WithoutMemory};
-    ghost use Rattle.bpaf_laws.proofs.HideLaws.{hide_lawful};
-    ghost use Rattle.bpaf_laws.specs.ShownNames.{no_shorts};
-    ghost use Rattle.bpaf_laws.proofs.ShownNames.{one_shape};
-
     ghost can_eval = { λ p. P.can_eval p.inner };
 
     ghost describes = { λ p shape. shape ≡ Skip };

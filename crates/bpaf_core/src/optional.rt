@@ -1,6 +1,9 @@
 //! A value that may be missing.
 ghost use Rattle.std.specs.Prelude.{◌≡◌, true};
 ghost use Rattle.bpaf_laws.specs.Turn.{TurnOutcome};
+ghost use Rattle.bpaf_laws.specs.Default.{OptionalReads, OptionalDescribes};
+ghost use Rattle.bpaf_laws.specs.Spared.{IsNotMemory, WithoutMemory, NoneTakesNothing};
+ghost use Rattle.bpaf_laws.proofs.{DefaultLaws.optional_lawful, ShownNames.optional_shows};
 
 use crate::parser::Parser;
 use bpaf_doc::Meta;
@@ -71,12 +74,6 @@ impl<P> ParseOptional<P> {
 /// caught, or with `catch` any that isn't of wrong input; all is then as before. Every other error
 /// is refused, with the state that it left; so is want of memory.
 impl<T: Drop, P: Parser<T>> Parser<Option<T>> for ParseOptional<P> {
-    ghost use Rattle.std.specs.Prelude.{true};
-    ghost use Rattle.bpaf_laws.specs.Default.{OptionalReads, OptionalDescribes};
-    ghost use Rattle.bpaf_laws.specs.Spared.{IsNotMemory, WithoutMemory, NoneTakesNothing};
-    ghost use Rattle.bpaf_laws.proofs.DefaultLaws.{optional_lawful};
-    ghost use Rattle.bpaf_laws.proofs.ShownNames.{optional_shows};
-
     ghost can_eval = { λ p. P.can_eval p.inner };
 
     ghost describes = { λ p. OptionalDescribes (P.describes p.inner) };

@@ -1,14 +1,13 @@
 //! The trait of all parsers: what one answers, what it shows, and its laws.
 ghost use Rattle.std.specs.Prelude.{◌≡◌, IfOk, false, Some, None};
 ghost use Rattle.std.specs.Result.{IfErr};
-ghost use Rattle.bpaf_doc.specs.Shape.{shape_of};
-ghost use Rattle.bpaf_words.specs.Arguments.{given_of};
-ghost use Rattle.bpaf_laws.specs.Spared.{WithoutMemory};
-ghost use Rattle.bpaf_keys.specs.Info.{plain_info};
-ghost use Rattle.bpaf_keys.specs.KnownNames.{known_names};
-ghost use Rattle.bpaf_core.specs.Dealt.{IsDealtOut};
-ghost use Rattle.bpaf_core.specs.Refusals.{IsOneOfTwelve};
+ghost use Rattle.bpaf_doc.specs.Shape.{shape_of, Shape};
+ghost use Rattle.bpaf_words.specs.{Arguments.given_of, Spelling.ShortNames};
+ghost use Rattle.bpaf_laws.specs.Reading.{Outcome, Readings};
+ghost use Rattle.bpaf_laws.specs.{Spared.WithoutMemory, Laws.Lawful, ShownNames.ShowsNames};
+ghost use Rattle.bpaf_keys.specs.{Info.plain_info, KnownNames.known_names};
 ghost use Rattle.bpaf_core.specs.Run.{IsNotWant, RunsWords};
+ghost use Rattle.bpaf_core.specs.{Dealt.IsDealtOut, Refusals.IsOneOfTwelve};
 
 use crate::choice::ParseOrElse;
 use crate::collect::ParseCollect;
@@ -31,12 +30,6 @@ use std::marker::PhantomData;
 
 /// What reads a value off a line (bpaf's `Parser`).
 pub trait Parser<T>: Sized {
-    ghost use Rattle.bpaf_doc.specs.Shape.{Shape};
-    ghost use Rattle.bpaf_laws.specs.Reading.{Outcome, Readings};
-    ghost use Rattle.bpaf_laws.specs.Laws.{Lawful};
-    ghost use Rattle.bpaf_laws.specs.ShownNames.{ShowsNames};
-    ghost use Rattle.bpaf_words.specs.Spelling.{ShortNames};
-
     /// Whether it may be evaluated: its closures may be called on every value. `eval`, `meta` and a
     /// run ask for it; the combinators below don't, so a function that only joins parsers needs
     /// not.

@@ -1,6 +1,11 @@
 //! All values of a parser, in a list.
-ghost use Rattle.std.specs.Prelude.{◌≡◌, true};
-ghost use Rattle.bpaf_laws.specs.Repeat.{ManyOutcome, SomeOutcome};
+ghost use Rattle.std.specs.Prelude.{◌≡◌, true, IfOk, List, false};
+ghost use Rattle.std.specs.Global.{Vec};
+ghost use Rattle.bpaf_laws.specs.Repeat.{ManyOutcome, SomeOutcome, ListReads, ManyDescribes};
+ghost use Rattle.bpaf_laws.specs.Repeat.{IsBounded, SomeDescribes, is_nil};
+ghost use Rattle.bpaf_laws.specs.{Transform.MapReads, Spared.IsNotMemory, Spared.WithoutMemory};
+ghost use Rattle.bpaf_laws.proofs.RepeatLaws.{many_lawful, some_lawful};
+ghost use Rattle.bpaf_laws.proofs.ShownNames.{many_shows, some_shows};
 
 use crate::optional::parse_option;
 use crate::parser::Parser;
@@ -60,14 +65,6 @@ impl<P> ParseMany<P> {
 /// nothing, or another error that can be caught, or a value after the first that took nothing.
 /// Every other error is refused, with the state that it left; so is want of memory.
 impl<T: Drop, P: Parser<T>> Parser<Vec<T>> for ParseMany<P> {
-    ghost use Rattle.std.specs.Prelude.{IfOk, List};
-    ghost use Rattle.std.specs.Global.{Vec};
-    ghost use Rattle.bpaf_laws.specs.Repeat.{ListReads, ManyOutcome, ManyDescribes, IsBounded};
-    ghost use Rattle.bpaf_laws.specs.Transform.{MapReads};
-    ghost use Rattle.bpaf_laws.proofs.RepeatLaws.{many_lawful};
-    ghost use Rattle.bpaf_laws.specs.Spared.{IsNotMemory, WithoutMemory};
-    ghost use Rattle.bpaf_laws.proofs.ShownNames.{many_shows};
-
     ghost can_eval = { λ p. P.can_eval p.inner };
 
     ghost describes = { λ p. ManyDescribes (P.describes p.inner) };
@@ -145,15 +142,6 @@ impl<'m, P> ParseSome<'m, P> {
 
 /// As `many`; without a value it refuses with ParseSome and the message.
 impl<'m, T: Drop, P: Parser<T>> Parser<Vec<T>> for ParseSome<'m, P> {
-    ghost use Rattle.std.specs.Prelude.{false, IfOk, List};
-    ghost use Rattle.std.specs.Global.{Vec};
-    ghost use Rattle.bpaf_laws.specs.Repeat.{ListReads, SomeOutcome, SomeDescribes, IsBounded};
-    ghost use Rattle.bpaf_laws.specs.Repeat.{is_nil};
-    ghost use Rattle.bpaf_laws.specs.Transform.{MapReads};
-    ghost use Rattle.bpaf_laws.proofs.RepeatLaws.{some_lawful};
-    ghost use Rattle.bpaf_laws.specs.Spared.{IsNotMemory, WithoutMemory};
-    ghost use Rattle.bpaf_laws.proofs.ShownNames.{some_shows};
-
     ghost can_eval = { λ p. P.can_eval p.inner };
 
     ghost describes = { λ p. SomeDescribes (P.describes p.inner) };

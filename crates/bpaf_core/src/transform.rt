@@ -1,4 +1,8 @@
 //! What closures make of a parser's value, and the checks that they do.
+ghost use Rattle.bpaf_laws.specs.Spared.{IsNotMemory, WithoutMemory};
+ghost use Rattle.bpaf_laws.specs.Transform.{MapOutcome, MapReads, ParseOutcome, GuardOutcome};
+ghost use Rattle.bpaf_laws.proofs.TransformLaws.{map_lawful, parse_lawful, guard_lawful};
+ghost use Rattle.std.specs.{Prelude.Ok, Prelude.◌≡◌, Prelude.true, Fn.FnReturnsAt};
 use crate::parser::Parser;
 use bpaf_doc::{Meta, Text};
 use bpaf_line::{Error, Message, State};
@@ -18,10 +22,6 @@ pub struct ParseMap<T, P, F, R> {
 
 /// The state stays as the inner parser left it, and what that refuses is refused.
 impl<T, R, P: Parser<T>, F: Fn(T) -> R> Parser<R> for ParseMap<T, P, F, R> {
-    ghost use Rattle.bpaf_laws.specs.Spared.{IsNotMemory, WithoutMemory};
-    ghost use Rattle.bpaf_laws.specs.Transform.{MapOutcome, MapReads};
-    ghost use Rattle.bpaf_laws.proofs.TransformLaws.{map_lawful};
-
     ghost can_eval = { λ p. P.can_eval p.inner × F.IsAlwaysCallable p.map_fn };
 
     ghost describes = { λ p. P.describes p.inner };
@@ -69,11 +69,6 @@ pub struct ParseWith<T, P, F, E, R> {
 /// fault, with ParseFailed, which names the current place; or for want of memory.
 impl<T, R, E: Display + Drop, P: Parser<T>, F: Fn(T) -> Result<R, E>> Parser<R>
     for ParseWith<T, P, F, E, R> {
-    ghost use Rattle.std.specs.Prelude.{Ok};
-    ghost use Rattle.bpaf_laws.specs.Spared.{IsNotMemory, WithoutMemory};
-    ghost use Rattle.bpaf_laws.specs.Transform.{ParseOutcome, MapReads};
-    ghost use Rattle.bpaf_laws.proofs.TransformLaws.{parse_lawful};
-
     ghost can_eval = { λ p. P.can_eval p.inner × F.IsAlwaysCallable p.parse_fn };
 
     ghost describes = { λ p. P.describes p.inner };
@@ -127,12 +122,6 @@ pub struct ParseGuard<'m, P, F> {
 /// which the check is false, with GuardFailed, which names the current place; or for want of
 /// memory.
 impl<'m, T: Drop, P: Parser<T>, F: Fn(&T) -> bool> Parser<T> for ParseGuard<'m, P, F> {
-    ghost use Rattle.std.specs.Fn.{FnReturnsAt};
-    ghost use Rattle.std.specs.Prelude.{◌≡◌, true};
-    ghost use Rattle.bpaf_laws.specs.Spared.{IsNotMemory, WithoutMemory};
-    ghost use Rattle.bpaf_laws.specs.Transform.{GuardOutcome, MapReads};
-    ghost use Rattle.bpaf_laws.proofs.TransformLaws.{guard_lawful};
-
     ghost can_eval = { λ p. P.can_eval p.inner × F.IsAlwaysCallable p.check };
 
     ghost describes = { λ p. P.describes p.inner };

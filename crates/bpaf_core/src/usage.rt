@@ -1,4 +1,7 @@
 //! Parsers that answer as the inner one does, and are shown otherwise.
+ghost use Rattle.bpaf_laws.specs.Hide.{UsageDescribes, SectionDescribes, TitledDescribes};
+ghost use Rattle.bpaf_laws.specs.Spared.{IsNotMemory, WithoutMemory};
+ghost use Rattle.bpaf_laws.proofs.ShownNames.{usage_shows, section_shows, titled_shows};
 use crate::parser::Parser;
 use bpaf_doc::{Doc, Meta, MetaInfo};
 use bpaf_line::{Error, State};
@@ -14,10 +17,6 @@ pub struct ParseUsage<P> {
 
 /// The inner answer, with the state that it left.
 impl<T, P: Parser<T>> Parser<T> for ParseUsage<P> {
-    ghost use Rattle.bpaf_laws.specs.Hide.{UsageDescribes};
-    ghost use Rattle.bpaf_laws.specs.Spared.{IsNotMemory, WithoutMemory};
-    ghost use Rattle.bpaf_laws.proofs.ShownNames.{usage_shows};
-
     ghost can_eval = { λ p. P.can_eval p.inner };
 
     ghost describes = { λ p. UsageDescribes (P.describes p.inner) p.usage };
@@ -58,10 +57,6 @@ pub struct ParseGroupHelp<P> {
 
 /// The inner answer, with the state that it left.
 impl<T, P: Parser<T>> Parser<T> for ParseGroupHelp<P> {
-    ghost use Rattle.bpaf_laws.specs.Hide.{SectionDescribes};
-    ghost use Rattle.bpaf_laws.specs.Spared.{IsNotMemory, WithoutMemory};
-    ghost use Rattle.bpaf_laws.proofs.ShownNames.{section_shows};
-
     ghost can_eval = { λ p. P.can_eval p.inner };
 
     ghost describes = { λ p. SectionDescribes (P.describes p.inner) p.message };
@@ -102,10 +97,6 @@ pub struct ParseWithGroupHelp<P, F> {
 /// The inner answer, with the state that it left.
 impl<T, P: Parser<T>, F: Fn(MetaInfo<'_>) -> Result<Doc, AllocError>> Parser<T>
     for ParseWithGroupHelp<P, F> {
-    ghost use Rattle.bpaf_laws.specs.Hide.{TitledDescribes};
-    ghost use Rattle.bpaf_laws.specs.Spared.{IsNotMemory, WithoutMemory};
-    ghost use Rattle.bpaf_laws.proofs.ShownNames.{titled_shows};
-
     ghost can_eval = { λ p. P.can_eval p.inner × F.IsAlwaysCallable p.f };
 
     ghost describes = { λ p.

@@ -1,16 +1,18 @@
 //! A run of options whose parser is made in functions of the program's own.
-ghost use Rattle.std.specs.Prelude.{◌≡◌};
+ghost use Rattle.std.specs.Prelude.{◌≡◌, true};
+ghost use Rattle.bpaf_exact.specs.{Flat.Variables, ProgramForm.is_program};
+ghost use Rattle.bpaf_record.specs.Grammar.{Grammar, program_form};
+ghost use Rattle.bpaf_record.specs.Program.{AnswersAsProgram, IsProgramValueOf};
+ghost use Rattle.bpaf.specs.Refusals.{IsOneOfTwelve};
+ghost use Rattle.bpaf.specs.{Dealt.IsDealtOut, Known.known_names, Run.RunsWords};
+ghost use Rattle.bpaf_laws.specs.Spared.{WithoutMemory};
+ghost use Rattle.bpaf_program.specs.KnownParser.{IsKnownParser, shown_shorts};
 
 use bpaf::{Args, OptionParser, ParseFailure, Parser};
 use bpaf_record::CommandLine;
 
 /// What a program knows of the parser that it makes: of what it is made, and that this is a program.
 pub trait KnownProgram<T> {
-    ghost use Rattle.std.specs.Prelude.{true};
-    ghost use Rattle.bpaf_exact.specs.Flat.{Variables};
-    ghost use Rattle.bpaf_exact.specs.ProgramForm.{is_program};
-    ghost use Rattle.bpaf_record.specs.Grammar.{Grammar, program_form};
-
     /// Of what it is made.
     ghost grammar: { Grammar T };
 
@@ -37,16 +39,6 @@ pub struct KnownOptions<T, P, K> {
 }
 
 impl<T: Drop, P: Parser<T>, K: KnownProgram<T>> CommandLine<T> for KnownOptions<T, P, K> {
-    ghost use Rattle.bpaf.specs.Dealt.{IsDealtOut};
-    ghost use Rattle.bpaf.specs.Known.{known_names};
-    ghost use Rattle.bpaf.specs.Refusals.{IsOneOfTwelve};
-    ghost use Rattle.bpaf.specs.Run.{RunsWords};
-    ghost use Rattle.std.specs.Prelude.{true};
-    ghost use Rattle.bpaf_laws.specs.Spared.{WithoutMemory};
-    ghost use Rattle.bpaf_record.specs.Grammar.{program_form};
-    ghost use Rattle.bpaf_record.specs.Program.{AnswersAsProgram, IsProgramValueOf};
-    ghost use Rattle.bpaf_program.specs.KnownParser.{IsKnownParser, shown_shorts};
-
     ghost is_whole = { λ p variables. true };
 
     fn is_program(&self) -> bool {

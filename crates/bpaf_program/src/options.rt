@@ -1,10 +1,10 @@
 //! A run of a program's options, with its end.
-ghost use Rattle.std.specs.Prelude.{◌≡◌, IfOk, true};
-ghost use Rattle.std.specs.Result.{IfErr};
-ghost use Rattle.bpaf_words.specs.Arguments.{given_of};
-ghost use Rattle.bpaf.specs.Run.{IsNotWant};
-ghost use Rattle.bpaf_program.specs.Ending.{Ends};
-ghost use Rattle.bpaf_program.specs.Sink.{wrote};
+ghost use Rattle.std.specs.{Prelude.◌≡◌, Prelude.IfOk, Prelude.true, Prelude.Result, Result.IfErr};
+ghost use Rattle.bpaf_words.specs.Arguments.{given_of, Given};
+ghost use Rattle.bpaf.specs.Run.{IsNotWant, RunsWords};
+ghost use Rattle.bpaf.specs.{Dealt.IsDealtOut, Known.known_names, Refusals.IsOneOfTwelve};
+ghost use Rattle.bpaf_program.specs.{Ending.Ends, Sink.wrote};
+ghost use Rattle.bpaf_line.specs.declared.failure.ParseFailure.{ParseFailure};
 
 use crate::ending::end;
 use crate::sink::Sink;
@@ -13,10 +13,6 @@ use bpaf_record::{CommandLine, Record};
 
 /// Options that a program runs over its words.
 pub trait Program<T> {
-    ghost use Rattle.std.specs.Prelude.{Result};
-    ghost use Rattle.bpaf_line.specs.declared.failure.ParseFailure.{ParseFailure};
-    ghost use Rattle.bpaf_words.specs.Arguments.{Given};
-
     /// Whether they may run: their closures may be called on every value.
     ghost can_run: { Self → Type 0 };
 
@@ -41,11 +37,6 @@ pub trait Program<T> {
 }
 
 impl<T: Drop, P: Parser<T>> Program<T> for OptionParser<T, P> {
-    ghost use Rattle.bpaf.specs.Dealt.{IsDealtOut};
-    ghost use Rattle.bpaf.specs.Known.{known_names};
-    ghost use Rattle.bpaf.specs.Refusals.{IsOneOfTwelve};
-    ghost use Rattle.bpaf.specs.Run.{RunsWords};
-
     ghost can_run = { λ p. P.can_eval p.inner };
 
     ghost answers = { λ p given r.

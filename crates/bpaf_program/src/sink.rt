@@ -1,5 +1,6 @@
 //! Writers of whose writes a contract can speak.
-ghost use Rattle.bpaf_program.specs.Sink.{known_writer};
+ghost use Rattle.bpaf_program.specs.Sink.{known_writer, KnownSink};
+ghost use Rattle.std.specs.{Io.WritesAtMost, Io.KnownBytes.WriteAppends};
 
 use std::io;
 use std::io::Write;
@@ -7,10 +8,6 @@ use std::io::Write;
 /// A writer whose failures a contract can tell. Each [`Write`] is one, of whose failures nothing is
 /// known.
 pub trait Sink {
-    ghost use Rattle.std.specs.Io.{WritesAtMost};
-    ghost use Rattle.std.specs.Io.KnownBytes.{WriteAppends};
-    ghost use Rattle.bpaf_program.specs.Sink.{KnownSink};
-
     /// What is known of it.
     ghost known: { KnownSink Self };
 

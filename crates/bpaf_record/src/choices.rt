@@ -1,10 +1,13 @@
 //! Choices of fields, and of commands.
 ghost use Rattle.std.specs.Prelude.{◌≡◌, ◌≤◌, flat_map, length, take, true};
 ghost use Rattle.std.specs.List.{list_all};
-ghost use Rattle.bpaf_exact.specs.Flat.{Variables};
+ghost use Rattle.bpaf_exact.specs.ProgramSays.{said_choice, said_choices};
+ghost use Rattle.bpaf_exact.specs.{Flat.Variables, ProgramForm.EachAgrees};
 ghost use Rattle.bpaf_record.specs.Grammar.{choices_of, command_words, keys_of, program_form};
-ghost use Rattle.bpaf_record.specs.Grammar.{said_kind};
-ghost use Rattle.bpaf_record.specs.Part.{part_of};
+ghost use Rattle.bpaf_record.specs.Grammar.{said_kind, choice, only};
+ghost use Rattle.bpaf_record.specs.{Part.part_of, Nested.choices_law, Nested.choices_says};
+ghost use Rattle.bpaf_exact.proofs.ProgramForm.{program_choice_law};
+ghost use Rattle.bpaf_exact.proofs.ProgramSays.{program_choice_says};
 
 use crate::field::{FlatField, ProgramField};
 use crate::keys::{ApartFromField, KeyTest};
@@ -16,11 +19,6 @@ use std::marker::PhantomData;
 /// Of required flags and arguments alone, whose names are apart; or of commands alone, whose words
 /// are.
 impl<T: Drop, A: ProgramField<T>, B: ProgramField<T>> ProgramField<T> for ParseOrElse<A, B> {
-    ghost use Rattle.bpaf_exact.specs.ProgramSays.{said_choice};
-    ghost use Rattle.bpaf_exact.proofs.ProgramForm.{program_choice_law};
-    ghost use Rattle.bpaf_exact.proofs.ProgramSays.{program_choice_says};
-    ghost use Rattle.bpaf_record.specs.Grammar.{choice};
-
     ghost grammar = { λ p. choice (A.grammar p.this) (B.grammar p.that) };
 
     ghost says = { λ variables. said_choice (λ p. p.this) (λ p. p.that) (A.says variables)
@@ -143,11 +141,6 @@ fn join_all<T, P: ProgramField<T>>(parsers: &[P]) -> ProgramPart
 /// Of required flags and arguments alone, whose names are apart; or of commands alone, whose words
 /// are. A choice of none is nothing.
 impl<T: Drop, P: ProgramField<T> + Drop> ProgramField<T> for ParseChoice<P> {
-    ghost use Rattle.bpaf_exact.specs.ProgramForm.{EachAgrees};
-    ghost use Rattle.bpaf_exact.specs.ProgramSays.{said_choices};
-    ghost use Rattle.bpaf_record.specs.Grammar.{only};
-    ghost use Rattle.bpaf_record.specs.Nested.{choices_law, choices_says};
-
     ghost grammar = { λ p. only (choices_of P.grammar p.parsers.items) };
 
     ghost says = { λ variables. said_choices (λ p. p.parsers.items) (P.says variables) };

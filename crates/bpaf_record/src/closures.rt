@@ -1,6 +1,10 @@
 //! Fields and commands whose value a closure makes or checks.
-ghost use Rattle.std.specs.Prelude.{◌≡◌, true};
-ghost use Rattle.bpaf_record.specs.Grammar.{command_words, keys_of, program_form};
+ghost use Rattle.std.specs.{Prelude.◌≡◌, Prelude.true, Fn.FnReturnsAt};
+ghost use Rattle.bpaf_record.specs.Grammar.{command_words, keys_of, program_form, closed};
+ghost use Rattle.bpaf_exact.specs.Wrappers.{map_closure, parse_closure, guard_closure};
+ghost use Rattle.bpaf_exact.specs.{ProgramSays.said_closed, Flat.Variables, ProgramForm.Agrees};
+ghost use Rattle.bpaf_exact.proofs.ByTables.{map_law, parse_law, guard_law};
+ghost use Rattle.bpaf_exact.proofs.ProgramSays.{program_closed_says};
 
 use crate::field::{FlatField, ProgramField};
 use crate::keys::KeyTest;
@@ -11,12 +15,6 @@ use std::fmt::Display;
 
 /// A closure that never refuses needs no premise.
 impl<T, R, P: ProgramField<T>, F: Fn(T) -> R> ProgramField<R> for ParseMap<T, P, F, R> {
-    ghost use Rattle.bpaf_exact.specs.Wrappers.{map_closure};
-    ghost use Rattle.bpaf_exact.specs.ProgramSays.{said_closed};
-    ghost use Rattle.bpaf_exact.proofs.ByTables.{map_law};
-    ghost use Rattle.bpaf_exact.proofs.ProgramSays.{program_closed_says};
-    ghost use Rattle.bpaf_record.specs.Grammar.{closed};
-
     ghost grammar = { λ p. closed (map_closure (λ x y. F.post p.map_fn x y)) (P.grammar p.inner) };
 
     ghost says = { λ variables. said_closed (λ p. p.inner)
@@ -51,14 +49,6 @@ impl<T, R, P: FlatField<T>, F> FlatField<R> for ParseMap<T, P, F, R> {}
 /// present.
 impl<T, R, E: Display + Drop, P: ProgramField<T>, F: Fn(T) -> Result<R, E>> ProgramField<R>
     for ParseWith<T, P, F, E, R> {
-    ghost use Rattle.bpaf_exact.specs.Flat.{Variables};
-    ghost use Rattle.bpaf_exact.specs.Wrappers.{parse_closure};
-    ghost use Rattle.bpaf_exact.specs.ProgramForm.{Agrees};
-    ghost use Rattle.bpaf_exact.specs.ProgramSays.{said_closed};
-    ghost use Rattle.bpaf_exact.proofs.ByTables.{parse_law};
-    ghost use Rattle.bpaf_exact.proofs.ProgramSays.{program_closed_says};
-    ghost use Rattle.bpaf_record.specs.Grammar.{closed};
-
     ghost grammar = { λ p.
         closed (parse_closure (λ x y. F.post p.parse_fn x y)) (P.grammar p.inner) };
 
@@ -96,15 +86,6 @@ impl<T, R, E: Display + Drop, P: FlatField<T>, F> FlatField<R> for ParseWith<T, 
 /// Whether the check is true has to depend on the pieces alone, or round commands on what is
 /// present.
 impl<'m, T: Drop, P: ProgramField<T>, F: Fn(&T) -> bool> ProgramField<T> for ParseGuard<'m, P, F> {
-    ghost use Rattle.bpaf_exact.specs.Flat.{Variables};
-    ghost use Rattle.std.specs.Fn.{FnReturnsAt};
-    ghost use Rattle.bpaf_exact.specs.Wrappers.{guard_closure};
-    ghost use Rattle.bpaf_exact.specs.ProgramForm.{Agrees};
-    ghost use Rattle.bpaf_exact.specs.ProgramSays.{said_closed};
-    ghost use Rattle.bpaf_exact.proofs.ByTables.{guard_law};
-    ghost use Rattle.bpaf_exact.proofs.ProgramSays.{program_closed_says};
-    ghost use Rattle.bpaf_record.specs.Grammar.{closed};
-
     ghost grammar = { λ p. closed (guard_closure (FnReturnsAt F.Fn p.check)) (P.grammar p.inner) };
 
     ghost says = { λ variables. said_closed (λ p. p.inner)

@@ -1,7 +1,14 @@
 //! Whether options are a program, perhaps with commands, and the run of one.
-ghost use Rattle.std.specs.Prelude.{◌≡◌, Result, false, true};
-ghost use Rattle.bpaf_words.specs.Arguments.{given_of};
+ghost use Rattle.std.specs.Prelude.{◌≡◌, Result, false, true, Bool, IfOk};
+ghost use Rattle.std.specs.Result.{IfErr};
+ghost use Rattle.bpaf_words.specs.Arguments.{given_of, Given};
 ghost use Rattle.bpaf_record.specs.Grammar.{keys_of, program_form};
+ghost use Rattle.bpaf_record.specs.Program.{is_whole_program, AnswersAsProgram, TellsOfWords};
+ghost use Rattle.bpaf_line.specs.declared.failure.ParseFailure.{ParseFailure};
+ghost use Rattle.bpaf.specs.Run.{IsNotWant, RunsWords};
+ghost use Rattle.bpaf.specs.{Dealt.IsDealtOut, Known.known_names, Refusals.IsOneOfTwelve};
+ghost use Rattle.bpaf_exact.specs.{Flat.Variables, ProgramSays.cells_said};
+ghost use Rattle.bpaf_laws.specs.Spared.{WithoutMemory};
 
 use crate::field::ProgramField;
 use crate::usual::are_unusual;
@@ -9,13 +16,6 @@ use bpaf::{Args, OptionParser, ParseFailure};
 
 /// Options of a whole command line, which are a program where `is_program` says so.
 pub trait CommandLine<T> {
-    ghost use Rattle.std.specs.Prelude.{Bool, IfOk, Result};
-    ghost use Rattle.std.specs.Result.{IfErr};
-    ghost use Rattle.bpaf_line.specs.declared.failure.ParseFailure.{ParseFailure};
-    ghost use Rattle.bpaf_words.specs.Arguments.{Given};
-    ghost use Rattle.bpaf.specs.Run.{IsNotWant};
-    ghost use Rattle.bpaf_exact.specs.Flat.{Variables};
-
     /// Whether they are a program, where the environment has some variables.
     ghost is_whole: { Self → Variables → Bool };
 
@@ -92,14 +92,6 @@ pub trait CommandLine<T> {
 }
 
 impl<T: Drop, P: ProgramField<T>> CommandLine<T> for OptionParser<T, P> {
-    ghost use Rattle.bpaf_exact.specs.ProgramSays.{cells_said};
-    ghost use Rattle.bpaf_record.specs.Program.{is_whole_program, AnswersAsProgram, TellsOfWords};
-    ghost use Rattle.bpaf.specs.Dealt.{IsDealtOut};
-    ghost use Rattle.bpaf.specs.Known.{known_names};
-    ghost use Rattle.bpaf.specs.Refusals.{IsOneOfTwelve};
-    ghost use Rattle.bpaf.specs.Run.{RunsWords};
-    ghost use Rattle.bpaf_laws.specs.Spared.{WithoutMemory};
-
     ghost is_whole = { λ p variables. is_whole_program (program_form (P.grammar p.inner) variables)
         (keys_of (P.grammar p.inner) false) p.info };
 

@@ -1,6 +1,10 @@
 //! Commands of a program.
 ghost use Rattle.std.specs.Prelude.{◌≡◌, ◌&&◌, false, not, true};
-ghost use Rattle.bpaf_record.specs.Grammar.{command_words, keys_of, program_form};
+ghost use Rattle.bpaf_record.specs.Grammar.{command_words, keys_of, program_form, command};
+ghost use Rattle.bpaf_record.specs.{Commands.either_command_law, Record.are_unusual};
+ghost use Rattle.bpaf_laws.specs.Command.{CommandPart};
+ghost use Rattle.bpaf_exact.specs.ProgramSays.{said_command};
+ghost use Rattle.bpaf_exact.proofs.ProgramSays.{program_command_says};
 
 use crate::field::ProgramField;
 use crate::keys::KeyTest;
@@ -12,13 +16,6 @@ use bpaf::parsers::ParseCommand;
 /// A plain command over a program whose own keys are apart from those of its help and version. Its
 /// words aren't empty, and none begins with a dash. An adjacent command is nothing to a program.
 impl<T: Drop, P: ProgramField<T>> ProgramField<T> for ParseCommand<T, P> {
-    ghost use Rattle.bpaf_laws.specs.Command.{CommandPart};
-    ghost use Rattle.bpaf_exact.specs.ProgramSays.{said_command};
-    ghost use Rattle.bpaf_exact.proofs.ProgramSays.{program_command_says};
-    ghost use Rattle.bpaf_record.specs.Commands.{either_command_law};
-    ghost use Rattle.bpaf_record.specs.Record.{are_unusual};
-    ghost use Rattle.bpaf_record.specs.Grammar.{command};
-
     ghost grammar = { λ p. command p.adjacent p.names p.info (P.grammar p.inner) };
 
     ghost says = { λ variables. said_command (λ p. p.inner) (λ p. p.names)

@@ -1,6 +1,11 @@
 //! Fields that may be missing, and commands that may be left out.
 ghost use Rattle.std.specs.Prelude.{◌≡◌, true, Ok, Err};
-ghost use Rattle.bpaf_record.specs.Grammar.{command_words, keys_of, program_form};
+ghost use Rattle.bpaf_record.specs.Grammar.{command_words, keys_of, program_form, optional};
+ghost use Rattle.bpaf_record.specs.Grammar.{fallback};
+ghost use Rattle.bpaf_exact.specs.ProgramSays.{said_optional, said_fallback};
+ghost use Rattle.bpaf_exact.specs.Wrappers.{map_closure, answer_closure, parse_closure};
+ghost use Rattle.bpaf_exact.proofs.ByTables.{optional_law, fallback_law, fallback_with_law};
+ghost use Rattle.bpaf_exact.proofs.ProgramSays.{program_optional_says, program_fallback_says};
 
 use crate::field::{FlatField, ProgramField};
 use crate::keys::KeyTest;
@@ -11,11 +16,6 @@ use std::fmt::Display;
 
 /// With `catch` it is no flat field, nor optional commands.
 impl<T: Drop, P: ProgramField<T>> ProgramField<Option<T>> for ParseOptional<P> {
-    ghost use Rattle.bpaf_exact.specs.ProgramSays.{said_optional};
-    ghost use Rattle.bpaf_exact.proofs.ByTables.{optional_law};
-    ghost use Rattle.bpaf_exact.proofs.ProgramSays.{program_optional_says};
-    ghost use Rattle.bpaf_record.specs.Grammar.{optional};
-
     ghost grammar = { λ p. optional p.catch (P.grammar p.inner) };
 
     ghost says = { λ variables. said_optional (λ p. p.inner) (P.says variables) };
@@ -46,12 +46,6 @@ impl<T: Drop, P: ProgramField<T>> ProgramField<Option<T>> for ParseOptional<P> {
 impl<T: Drop, P: FlatField<T>> FlatField<Option<T>> for ParseOptional<P> {}
 
 impl<T: Clone, P: ProgramField<T>> ProgramField<T> for ParseFallback<P, T> {
-    ghost use Rattle.bpaf_exact.specs.Wrappers.{map_closure};
-    ghost use Rattle.bpaf_exact.specs.ProgramSays.{said_fallback};
-    ghost use Rattle.bpaf_exact.proofs.ByTables.{fallback_law};
-    ghost use Rattle.bpaf_exact.proofs.ProgramSays.{program_fallback_says};
-    ghost use Rattle.bpaf_record.specs.Grammar.{fallback};
-
     ghost grammar = { λ p. fallback (map_closure (λ u. T.is_clone p.value)) (P.grammar p.inner) };
 
     ghost says = { λ variables. said_fallback (λ p. p.inner)
@@ -85,12 +79,6 @@ impl<T: Clone, P: FlatField<T>> FlatField<T> for ParseFallback<P, T> {}
 /// The closure must not refuse where it may give a value.
 impl<T, E: Display + Drop, P: ProgramField<T>, F: Fn() -> Result<T, E>> ProgramField<T>
     for ParseFallbackWith<T, P, F, E> {
-    ghost use Rattle.bpaf_exact.specs.Wrappers.{answer_closure, parse_closure};
-    ghost use Rattle.bpaf_exact.specs.ProgramSays.{said_fallback};
-    ghost use Rattle.bpaf_exact.proofs.ByTables.{fallback_with_law};
-    ghost use Rattle.bpaf_exact.proofs.ProgramSays.{program_fallback_says};
-    ghost use Rattle.bpaf_record.specs.Grammar.{fallback};
-
     ghost grammar = { λ p.
         fallback (parse_closure (λ u r. F.post p.fallback r)) (P.grammar p.inner) };
 

@@ -1,6 +1,10 @@
 //! The traits of the parsers that may stand in a program, and of those that may in a flat record.
-ghost use Rattle.std.specs.Prelude.{◌≡◌};
-ghost use Rattle.std.specs.List.{list_all};
+ghost use Rattle.std.specs.{Prelude.◌≡◌, Prelude.true, List.list_all};
+ghost use Rattle.bpaf_exact.specs.ProgramSays.{ProgramSaid, ProgramSays, FieldsKeep};
+ghost use Rattle.bpaf_exact.specs.ProgramSays.{ProgramFieldsSaid};
+ghost use Rattle.bpaf_exact.specs.{ProgramForm.FormLaw, Flat.Variables};
+ghost use Rattle.bpaf_record.specs.{Grammar.Grammar, Grammar.command_words, Grammar.keys_of};
+ghost use Rattle.bpaf_record.specs.{Grammar.program_form, Grammar.said_kind, Part.part_of};
 
 use crate::keys::KeyTest;
 use crate::part::ProgramPart;
@@ -9,14 +13,6 @@ use bpaf::{Fields, Parser};
 
 /// A parser that may be a field of a program, a command, or a program itself.
 pub trait ProgramField<T>: Parser<T> {
-    ghost use Rattle.std.specs.Prelude.{true};
-    ghost use Rattle.bpaf_exact.specs.ProgramForm.{FormLaw};
-    ghost use Rattle.bpaf_exact.specs.ProgramSays.{ProgramSaid, ProgramSays};
-    ghost use Rattle.bpaf_exact.specs.Flat.{Variables};
-    ghost use Rattle.bpaf_record.specs.Grammar.{Grammar, command_words, keys_of, program_form};
-    ghost use Rattle.bpaf_record.specs.Grammar.{said_kind};
-    ghost use Rattle.bpaf_record.specs.Part.{part_of};
-
     /// Of what it is made: what it is by itself, or a step and the parsers inside. That tells its
     /// keys, the words of its commands and what it is to a program.
     ghost grammar: { Self → Grammar T };
@@ -60,12 +56,6 @@ pub trait FlatField<T> {}
 
 /// The fields of a program.
 pub trait ProgramFields<V>: Fields<V> {
-    ghost use Rattle.std.specs.Prelude.{true};
-    ghost use Rattle.bpaf_exact.specs.ProgramSays.{FieldsKeep, ProgramFieldsSaid};
-    ghost use Rattle.bpaf_exact.specs.Flat.{Variables};
-    ghost use Rattle.bpaf_record.specs.Grammar.{Grammar, keys_of, program_form};
-    ghost use Rattle.bpaf_record.specs.Part.{part_of};
-
     /// Of what they are made. That tells their keys and what they are to a program.
     ghost grammar: { Self → Grammar V };
 

@@ -1,6 +1,9 @@
 //! Four fields of a program at once.
 
 ghost use Rattle.bpaf_record.specs.Grammar.{command_words, keys_of, said_kind};
+ghost use Rattle.bpaf_exact.specs.ProgramSays.{fields_said_inside};
+ghost use Rattle.bpaf_exact.proofs.Keeping.{keep_before, keep_inside};
+ghost use Rattle.std.specs.Prelude.{true};
 
 use crate::field::{FlatField, FlatFields, ProgramField, ProgramFields};
 use crate::keys::KeyTest;
@@ -19,10 +22,6 @@ impl<
     D: ProgramField<V>,
     R: ProgramFields<W>,
 > ProgramFields<FourValues<S, T, U, V, W>> for Four<A, B, C, D, R> {
-    ghost use Rattle.bpaf_exact.specs.ProgramSays.{fields_said_inside};
-    ghost use Rattle.bpaf_exact.proofs.Keeping.{keep_before, keep_inside};
-    ghost use Rattle.std.specs.Prelude.{true};
-
     ghost grammar = { λ p.
         ⟦<FourFields<A, B, C, D, R> as ProgramFields<FourValues<S, T, U, V, W>>>⟧.grammar
         p.fields };

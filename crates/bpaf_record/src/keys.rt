@@ -1,10 +1,10 @@
 //! The names of fields, and whether they are apart.
-ghost use Rattle.std.specs.Prelude.{◌≡◌, false, not, true, ◌&&◌};
+ghost use Rattle.std.specs.Prelude.{◌≡◌, false, not, true, ◌&&◌, Bool, [], ◌∷◌};
 ghost use Rattle.std.specs.List.{list_all};
 ghost use Rattle.bpaf_base.specs.Items.{is_among, is_text_among};
 ghost use Rattle.bpaf_exact.specs.Names.{are_apart};
-ghost use Rattle.bpaf_record.specs.Keys.{has_no_short, has_no_long};
-ghost use Rattle.bpaf_record.specs.Grammar.{keys_of};
+ghost use Rattle.bpaf_record.specs.{Keys.has_no_short, Keys.has_no_long, Grammar.keys_of};
+ghost use Rattle.bpaf_doc.specs.Names.{Names};
 
 use crate::field::{ProgramField, ProgramFields};
 use bpaf::{NamedArg, Text};
@@ -12,9 +12,6 @@ use std::marker::PhantomData;
 
 /// A test of the names of a key.
 pub trait KeyTest {
-    ghost use Rattle.std.specs.Prelude.{Bool};
-    ghost use Rattle.bpaf_doc.specs.Names.{Names};
-
     /// Whether it is put to the keys inside commands too.
     ghost deep: { Self → Bool };
 
@@ -156,8 +153,6 @@ pub(crate) struct ApartFromUsual<'a> {
 }
 
 impl KeyTest for ApartFromUsual<'_> {
-    ghost use Rattle.std.specs.Prelude.{[], ◌∷◌};
-
     ghost deep = { λ t. false };
 
     fn is_deep(&self) -> bool {

@@ -1,5 +1,14 @@
 //! Flags, arguments and words as fields.
 ghost use Rattle.std.specs.Prelude.{◌≡◌, [], false, true};
+ghost use Rattle.bpaf_exact.specs.Says.{FlagSays, ArgumentSays, WordSays};
+ghost use Rattle.bpaf_exact.specs.ProgramSays.{of_pieces};
+ghost use Rattle.bpaf_exact.proofs.Says.{flag_says, argument_says, word_by_says};
+ghost use Rattle.bpaf_exact.proofs.Pure.{pure_field_law, pure_says};
+ghost use Rattle.bpaf_exact.proofs.{Flags.flag_field_law, Arguments.argument_field_law};
+ghost use Rattle.bpaf_laws.specs.Environment.{first_set};
+ghost use Rattle.bpaf_record.specs.Grammar.{flag, argument, word, kept};
+ghost use Rattle.bpaf_record.specs.Positional.{positional_law};
+ghost use Rattle.bpaf.specs.Positional.{accepts};
 
 use crate::field::{FlatField, ProgramField};
 use crate::keys::KeyTest;
@@ -10,13 +19,6 @@ use bpaf::{FromText, ParsePositional, Position};
 
 /// With a name in the environment it may stand in a program, but in no flat record.
 impl<T: Clone> ProgramField<T> for ParseFlag<T> {
-    ghost use Rattle.bpaf_exact.specs.Says.{FlagSays};
-    ghost use Rattle.bpaf_exact.proofs.Says.{flag_says};
-    ghost use Rattle.bpaf_exact.proofs.Flags.{flag_field_law};
-    ghost use Rattle.bpaf_laws.specs.Environment.{first_set};
-    ghost use Rattle.bpaf_exact.specs.ProgramSays.{of_pieces};
-    ghost use Rattle.bpaf_record.specs.Grammar.{flag};
-
     ghost grammar = { λ p. flag T.is_clone p.named p.present p.absent };
 
     ghost says = { λ variables. of_pieces (λ p.
@@ -54,13 +56,6 @@ impl<T: Clone> FlatField<T> for ParseFlag<T> {}
 /// With a name in the environment, or with `adjacent`, it may stand in a program, but in no flat
 /// record. With such a name or `take_last` it is a field by itself, and no alternative of a choice.
 impl<T: FromText> ProgramField<T> for ParseArgument<T> {
-    ghost use Rattle.bpaf_exact.specs.Says.{ArgumentSays};
-    ghost use Rattle.bpaf_exact.proofs.Says.{argument_says};
-    ghost use Rattle.bpaf_exact.proofs.Arguments.{argument_field_law};
-    ghost use Rattle.bpaf_laws.specs.Environment.{first_set};
-    ghost use Rattle.bpaf_exact.specs.ProgramSays.{of_pieces};
-    ghost use Rattle.bpaf_record.specs.Grammar.{argument};
-
     ghost grammar = { λ p. argument T.means p };
 
     ghost says = { λ variables. of_pieces (λ p.
@@ -97,13 +92,6 @@ impl<T: FromText> FlatField<T> for ParseArgument<T> {}
 /// With `strict` or `non_strict` it may stand in a program, but in no flat record. A repeat or a
 /// default of it with `non_strict` leaves words behind `--` to the fields after it.
 impl<T: FromText> ProgramField<T> for ParsePositional<T> {
-    ghost use Rattle.bpaf_exact.specs.Says.{WordSays};
-    ghost use Rattle.bpaf.specs.Positional.{accepts};
-    ghost use Rattle.bpaf_record.specs.Positional.{positional_law};
-    ghost use Rattle.bpaf_exact.specs.ProgramSays.{of_pieces};
-    ghost use Rattle.bpaf_exact.proofs.Says.{word_by_says};
-    ghost use Rattle.bpaf_record.specs.Grammar.{word};
-
     ghost grammar = { λ p. word T.means p.position };
 
     ghost says = { λ variables. of_pieces (λ p. WordSays (accepts p.position) T.means) };
@@ -135,10 +123,6 @@ impl<T: FromText> FlatField<T> for ParsePositional<T> {}
 
 /// A kept value may stand in a program, as a field that takes no piece, but in no flat record.
 impl<T: Clone> ProgramField<T> for ParsePure<T> {
-    ghost use Rattle.bpaf_exact.specs.ProgramSays.{of_pieces};
-    ghost use Rattle.bpaf_exact.proofs.Pure.{pure_field_law, pure_says};
-    ghost use Rattle.bpaf_record.specs.Grammar.{kept};
-
     ghost grammar = { λ p. kept (T.is_clone p.value) };
 
     ghost says = { λ variables. of_pieces (λ p os v. T.is_clone p.value v) };

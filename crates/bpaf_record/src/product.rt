@@ -1,6 +1,11 @@
 //! Products of fields.
 ghost use Rattle.std.specs.Prelude.{◌≡◌, true};
-ghost use Rattle.bpaf_record.specs.Grammar.{command_words, keys_of, program_form, said_kind};
+ghost use Rattle.bpaf_record.specs.Grammar.{command_words, keys_of, program_form, said_kind, alone};
+ghost use Rattle.bpaf_record.specs.Grammar.{both, product};
+ghost use Rattle.bpaf_exact.specs.ProgramSays.{said_alone, said_both, said_con};
+ghost use Rattle.bpaf_exact.specs.Wrappers.{map_closure};
+ghost use Rattle.bpaf_exact.proofs.Keeping.{keep_last, keep_before};
+ghost use Rattle.bpaf_exact.proofs.{ProgramForm.program_con_law, ProgramSays.program_con_says};
 
 use crate::field::{FlatField, FlatFields, ProgramField, ProgramFields};
 use crate::keys::{ApartFromFields, KeyTest, NoKey};
@@ -11,10 +16,6 @@ use bpaf::{Both, Last};
 use std::marker::PhantomData;
 
 impl<T: Drop, A: ProgramField<T>> ProgramFields<T> for Last<A> {
-    ghost use Rattle.bpaf_exact.specs.ProgramSays.{said_alone};
-    ghost use Rattle.bpaf_exact.proofs.Keeping.{keep_last};
-    ghost use Rattle.bpaf_record.specs.Grammar.{alone};
-
     ghost grammar = { λ p. alone (A.grammar p.last) };
 
     ghost says = { λ variables. said_alone (λ p. p.last) (λ q. said_kind (A.grammar q) variables)
@@ -42,10 +43,6 @@ impl<T: Drop, A: FlatField<T>> FlatFields<T> for Last<A> {}
 /// Where a named field stands behind a positional one, a positional one before commands, or two
 /// share a name, they are nothing.
 impl<T: Drop, V, A: ProgramField<T>, R: ProgramFields<V>> ProgramFields<(T, V)> for Both<A, R> {
-    ghost use Rattle.bpaf_exact.specs.ProgramSays.{said_both};
-    ghost use Rattle.bpaf_exact.proofs.Keeping.{keep_before};
-    ghost use Rattle.bpaf_record.specs.Grammar.{both};
-
     ghost grammar = { λ p. both (A.grammar p.first) (R.grammar p.rest) };
 
     ghost says = { λ variables. said_both (λ p. p.first) (λ p. p.rest)
@@ -81,12 +78,6 @@ impl<T: Drop, V, A: ProgramField<T>, R: ProgramFields<V>> ProgramFields<(T, V)> 
 impl<T: Drop, V, A: FlatField<T>, R: FlatFields<V>> FlatFields<(T, V)> for Both<A, R> {}
 
 impl<V, T, P: ProgramFields<V>, F: Fn(V) -> T> ProgramField<T> for ParseCon<V, P, F> {
-    ghost use Rattle.bpaf_exact.specs.ProgramSays.{said_con};
-    ghost use Rattle.bpaf_exact.specs.Wrappers.{map_closure};
-    ghost use Rattle.bpaf_exact.proofs.ProgramForm.{program_con_law};
-    ghost use Rattle.bpaf_exact.proofs.ProgramSays.{program_con_says};
-    ghost use Rattle.bpaf_record.specs.Grammar.{product};
-
     ghost grammar = { λ p. product (map_closure (λ x y. F.post p.make x y)) (P.grammar p.fields) };
 
     ghost says = { λ variables. said_con (λ p. p.fields) (λ q. keys_of (P.grammar q) true)

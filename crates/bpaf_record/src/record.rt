@@ -1,7 +1,12 @@
 //! Whether options are a flat record, and the run of one.
-ghost use Rattle.std.specs.Prelude.{◌≡◌, Result, false, true};
-ghost use Rattle.bpaf_words.specs.Arguments.{given_of};
+ghost use Rattle.std.specs.Prelude.{◌≡◌, Result, false, true, Bool, IfOk};
+ghost use Rattle.std.specs.Result.{IfErr};
+ghost use Rattle.bpaf_words.specs.Arguments.{given_of, Given};
 ghost use Rattle.bpaf_record.specs.Grammar.{keys_of, program_form};
+ghost use Rattle.bpaf_record.specs.Record.{is_flat_record, AnswersByFields};
+ghost use Rattle.bpaf_line.specs.declared.failure.ParseFailure.{ParseFailure};
+ghost use Rattle.bpaf.specs.{Run.IsNotWant, Known.known_names};
+ghost use Rattle.bpaf_exact.specs.Flat.{Variables};
 
 use crate::command_line::CommandLine;
 use crate::field::{FlatField, ProgramField};
@@ -10,13 +15,6 @@ use bpaf::{Args, OptionParser, ParseFailure};
 
 /// Options that are a flat record, where `is_record` says so.
 pub trait Record<T>: CommandLine<T> {
-    ghost use Rattle.std.specs.Prelude.{Bool, IfOk, Result};
-    ghost use Rattle.std.specs.Result.{IfErr};
-    ghost use Rattle.bpaf_line.specs.declared.failure.ParseFailure.{ParseFailure};
-    ghost use Rattle.bpaf_words.specs.Arguments.{Given};
-    ghost use Rattle.bpaf.specs.Run.{IsNotWant};
-    ghost use Rattle.bpaf_exact.specs.Flat.{Variables};
-
     /// Whether they are a flat record, where the environment has some variables.
     ghost is_flat: { Self → Variables → Bool };
 
@@ -71,9 +69,6 @@ pub trait Record<T>: CommandLine<T> {
 }
 
 impl<T: Drop, P: ProgramField<T> + FlatField<T>> Record<T> for OptionParser<T, P> {
-    ghost use Rattle.bpaf.specs.Known.{known_names};
-    ghost use Rattle.bpaf_record.specs.Record.{is_flat_record, AnswersByFields};
-
     ghost is_flat = { λ p variables. is_flat_record
         (program_form (P.grammar p.inner) variables) (keys_of (P.grammar p.inner) false) p.info };
 

@@ -1,6 +1,12 @@
 //! Fields that may be given again and again.
-ghost use Rattle.std.specs.Prelude.{◌≡◌, true};
-ghost use Rattle.bpaf_record.specs.Grammar.{command_words, keys_of, program_form};
+ghost use Rattle.std.specs.Prelude.{◌≡◌, true, length, false};
+ghost use Rattle.bpaf_record.specs.Grammar.{command_words, keys_of, program_form, repeat, last};
+ghost use Rattle.bpaf_exact.specs.Gathered.{list_closure, some_closure};
+ghost use Rattle.bpaf_exact.specs.ProgramSays.{said_repeat, said_last};
+ghost use Rattle.bpaf_exact.specs.Wrappers.{map_closure};
+ghost use Rattle.bpaf_exact.proofs.ByTables.{many_law, some_law, collect_law, count_law};
+ghost use Rattle.bpaf_exact.proofs.ProgramSays.{program_repeat_says, program_last_says};
+ghost use Rattle.bpaf_exact.proofs.ProgramForm.{program_last_law};
 
 use crate::field::{FlatField, ProgramField};
 use crate::keys::KeyTest;
@@ -11,12 +17,6 @@ use bpaf::parsers::{ParseCollect, ParseCount, ParseLast, ParseMany, ParseSome};
 
 /// With `catch` it is no flat field, nor round another repeat or a default.
 impl<T: Drop, P: ProgramField<T>> ProgramField<Vec<T>> for ParseMany<P> {
-    ghost use Rattle.bpaf_exact.specs.Gathered.{list_closure};
-    ghost use Rattle.bpaf_exact.specs.ProgramSays.{said_repeat};
-    ghost use Rattle.bpaf_exact.proofs.ByTables.{many_law};
-    ghost use Rattle.bpaf_exact.proofs.ProgramSays.{program_repeat_says};
-    ghost use Rattle.bpaf_record.specs.Grammar.{repeat};
-
     ghost grammar = { λ p. repeat p.catch (list_closure T) (P.grammar p.inner) };
 
     ghost says = { λ variables. said_repeat (λ p. p.inner) (list_closure T) (P.says variables) };
@@ -48,12 +48,6 @@ impl<T: Drop, P: FlatField<T>> FlatField<Vec<T>> for ParseMany<P> {}
 
 /// As `many`.
 impl<'m, T: Drop, P: ProgramField<T>> ProgramField<Vec<T>> for ParseSome<'m, P> {
-    ghost use Rattle.bpaf_exact.specs.Gathered.{some_closure};
-    ghost use Rattle.bpaf_exact.specs.ProgramSays.{said_repeat};
-    ghost use Rattle.bpaf_exact.proofs.ByTables.{some_law};
-    ghost use Rattle.bpaf_exact.proofs.ProgramSays.{program_repeat_says};
-    ghost use Rattle.bpaf_record.specs.Grammar.{repeat};
-
     ghost grammar = { λ p. repeat p.catch (some_closure T) (P.grammar p.inner) };
 
     ghost says = { λ variables. said_repeat (λ p. p.inner) (some_closure T) (P.says variables) };
@@ -85,12 +79,6 @@ impl<'m, T: Drop, P: FlatField<T>> FlatField<Vec<T>> for ParseSome<'m, P> {}
 
 /// As `many`.
 impl<T: Drop, C: FromList<T> + Drop, P: ProgramField<T>> ProgramField<C> for ParseCollect<P, C, T> {
-    ghost use Rattle.bpaf_exact.specs.Wrappers.{map_closure};
-    ghost use Rattle.bpaf_exact.specs.ProgramSays.{said_repeat};
-    ghost use Rattle.bpaf_exact.proofs.ByTables.{collect_law};
-    ghost use Rattle.bpaf_exact.proofs.ProgramSays.{program_repeat_says};
-    ghost use Rattle.bpaf_record.specs.Grammar.{repeat};
-
     ghost grammar = { λ p. repeat p.catch (map_closure C.fills) (P.grammar p.inner) };
 
     ghost says = { λ variables. said_repeat (λ p. p.inner) (map_closure C.fills)
@@ -123,13 +111,6 @@ impl<T: Drop, C: FromList<T> + Drop, P: ProgramField<T>> ProgramField<C> for Par
 impl<T: Drop, C: FromList<T> + Drop, P: FlatField<T>> FlatField<C> for ParseCollect<P, C, T> {}
 
 impl<T: Drop, P: ProgramField<T>> ProgramField<usize> for ParseCount<P, T> {
-    ghost use Rattle.std.specs.Prelude.{◌≡◌, length, false};
-    ghost use Rattle.bpaf_exact.specs.Wrappers.{map_closure};
-    ghost use Rattle.bpaf_exact.specs.ProgramSays.{said_repeat};
-    ghost use Rattle.bpaf_exact.proofs.ByTables.{count_law};
-    ghost use Rattle.bpaf_exact.proofs.ProgramSays.{program_repeat_says};
-    ghost use Rattle.bpaf_record.specs.Grammar.{repeat};
-
     ghost grammar = { λ p.
         repeat false (map_closure (λ values n. n ≡ length values)) (P.grammar p.inner) };
 
@@ -163,11 +144,6 @@ impl<T: Drop, P: ProgramField<T>> ProgramField<usize> for ParseCount<P, T> {
 impl<T: Drop, P: FlatField<T>> FlatField<usize> for ParseCount<P, T> {}
 
 impl<T: Drop, P: ProgramField<T>> ProgramField<T> for ParseLast<P> {
-    ghost use Rattle.bpaf_exact.specs.ProgramSays.{said_last};
-    ghost use Rattle.bpaf_exact.proofs.ProgramForm.{program_last_law};
-    ghost use Rattle.bpaf_exact.proofs.ProgramSays.{program_last_says};
-    ghost use Rattle.bpaf_record.specs.Grammar.{last};
-
     ghost grammar = { λ p. last (P.grammar p.inner) };
 
     ghost says = { λ variables. said_last (λ p. p.inner) (P.says variables) };

@@ -2,7 +2,10 @@
 //! of such. A product of flat fields with such a look round it may stand in a program, but is no
 //! flat record; one that ends in commands is no program then.
 ghost use Rattle.std.specs.Prelude.{◌≡◌, true};
-ghost use Rattle.bpaf_record.specs.Grammar.{command_words, keys_of, program_form};
+ghost use Rattle.bpaf_record.specs.Grammar.{command_words, keys_of, program_form, dressed};
+ghost use Rattle.bpaf_exact.specs.ProgramSays.{said_dressed};
+ghost use Rattle.bpaf_exact.proofs.ProgramSays.{program_dressed_says};
+ghost use Rattle.bpaf_exact.proofs.{ProgramForm.program_dressed_law, ByTables.hide_law};
 
 use crate::field::{FlatField, ProgramField};
 use crate::keys::KeyTest;
@@ -11,11 +14,6 @@ use crate::words::WordTest;
 use bpaf::parsers::{ParseGroupHelp, ParseHide, ParseUsage};
 
 impl<T, P: ProgramField<T>> ProgramField<T> for ParseUsage<P> {
-    ghost use Rattle.bpaf_exact.specs.ProgramSays.{said_dressed};
-    ghost use Rattle.bpaf_exact.proofs.ProgramForm.{program_dressed_law};
-    ghost use Rattle.bpaf_exact.proofs.ProgramSays.{program_dressed_says};
-    ghost use Rattle.bpaf_record.specs.Grammar.{dressed};
-
     ghost grammar = { λ p. dressed (P.grammar p.inner) };
 
     ghost says = { λ variables. said_dressed (λ p. p.inner) (P.says variables) };
@@ -46,11 +44,6 @@ impl<T, P: ProgramField<T>> ProgramField<T> for ParseUsage<P> {
 impl<T, P: FlatField<T>> FlatField<T> for ParseUsage<P> {}
 
 impl<T, P: ProgramField<T>> ProgramField<T> for ParseGroupHelp<P> {
-    ghost use Rattle.bpaf_exact.specs.ProgramSays.{said_dressed};
-    ghost use Rattle.bpaf_exact.proofs.ProgramForm.{program_dressed_law};
-    ghost use Rattle.bpaf_exact.proofs.ProgramSays.{program_dressed_says};
-    ghost use Rattle.bpaf_record.specs.Grammar.{dressed};
-
     ghost grammar = { λ p. dressed (P.grammar p.inner) };
 
     ghost says = { λ variables. said_dressed (λ p. p.inner) (P.says variables) };
@@ -83,11 +76,6 @@ impl<T, P: FlatField<T>> FlatField<T> for ParseGroupHelp<P> {}
 /// What isn't shown may stand in a program, with the values that it has, but in no flat record: its
 /// short names aren't known in joined words.
 impl<T, P: ProgramField<T>> ProgramField<T> for ParseHide<P> {
-    ghost use Rattle.bpaf_exact.specs.ProgramSays.{said_dressed};
-    ghost use Rattle.bpaf_exact.proofs.ByTables.{hide_law};
-    ghost use Rattle.bpaf_exact.proofs.ProgramSays.{program_dressed_says};
-    ghost use Rattle.bpaf_record.specs.Grammar.{dressed};
-
     ghost grammar = { λ p. dressed (P.grammar p.inner) };
 
     ghost says = { λ variables. said_dressed (λ p. p.inner) (P.says variables) };

@@ -1,5 +1,5 @@
 //! The words of commands, and whether they are apart.
-ghost use Rattle.std.specs.Prelude.{◌≡◌, ◌++◌, not, bytes_eq, encode_utf8, map};
+ghost use Rattle.std.specs.Prelude.{◌≡◌, ◌++◌, not, bytes_eq, encode_utf8, map, Bool, ℕ, List};
 ghost use Rattle.std.specs.List.{list_all};
 ghost use Rattle.bpaf_laws.specs.Command.{opening_words};
 ghost use Rattle.bpaf_exact.specs.Programs.{is_dashed};
@@ -12,8 +12,6 @@ use std::marker::PhantomData;
 
 /// A test of the word of a command.
 pub trait WordTest {
-    ghost use Rattle.std.specs.Prelude.{Bool, ℕ, List};
-
     /// Whether this word passes.
     ghost accepts: { Self → List ℕ → Bool };
 

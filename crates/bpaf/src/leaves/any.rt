@@ -1,8 +1,12 @@
 //! An item of any kind, as far as a check takes it.
-ghost use Rattle.std.specs.Prelude.{◌≡◌, ◌∷◌, [], IfOk, Some, None, true, false, List};
-ghost use Rattle.bpaf_doc.specs.declared.doc.Piece.{Piece};
+ghost use Rattle.std.specs.Prelude.{◌≡◌, ◌∷◌, [], IfOk, Some, None, true, false, List, refl};
+ghost use Rattle.std.specs.Result.{IfErr};
 ghost use Rattle.bpaf_doc.specs.Fold.{TextPieces};
-ghost use Rattle.bpaf_doc.specs.Print.{shown_as};
+ghost use Rattle.bpaf_doc.specs.{declared.doc.Piece.Piece, Print.shown_as, Shape.Shown, Shape.Any};
+ghost use Rattle.bpaf_laws.specs.Any.{ChecksText, AnyOutcome, AnyReads};
+ghost use Rattle.bpaf_laws.specs.ShownNames.{no_shorts};
+ghost use Rattle.bpaf.specs.Leaves.{PassesAll};
+ghost use Rattle.bpaf_laws.proofs.{AnyLaws.any_lawful, ShownNames.one_shape};
 
 use crate::leaves::look::{Look, any_item, take_match};
 use bpaf_core::Parser;
@@ -108,8 +112,6 @@ impl<I, T, F: Drop> ParseAny<I, T, F> {
 
 /// What the check answers on the text, read as an `I`; none where it is no `I`.
 impl<I: FromText, T, F: Fn(I) -> Option<T>> Look<T> for ParseAny<I, T, F> {
-    ghost use Rattle.bpaf_laws.specs.Any.{ChecksText};
-
     ghost can_look = { λ p. F.IsAlwaysCallable p.check };
 
     ghost looks = { λ p. ChecksText I.means (λ x v. F.post p.check x v) };
@@ -132,15 +134,6 @@ impl<I: FromText, T, F: Fn(I) -> Option<T>> Look<T> for ParseAny<I, T, F> {
 /// Refused with Missing where no item that is looked at is accepted, or for want of memory; then
 /// nothing is taken.
 impl<I: FromText, T: Drop, F: Fn(I) -> Option<T>> Parser<T> for ParseAny<I, T, F> {
-    ghost use Rattle.std.specs.Prelude.{◌≡◌, refl};
-    ghost use Rattle.bpaf_doc.specs.Shape.{Shown, Any};
-    ghost use Rattle.std.specs.Result.{IfErr};
-    ghost use Rattle.bpaf.specs.Leaves.{PassesAll};
-    ghost use Rattle.bpaf_laws.specs.Any.{AnyOutcome, AnyReads, ChecksText};
-    ghost use Rattle.bpaf_laws.proofs.AnyLaws.{any_lawful};
-    ghost use Rattle.bpaf_laws.specs.ShownNames.{no_shorts};
-    ghost use Rattle.bpaf_laws.proofs.ShownNames.{one_shape};
-
     ghost can_eval = { λ p. F.IsAlwaysCallable p.check };
 
     ghost describes = { λ p shape. shape ≡ Shown (Any p.metavar p.help p.anywhere) };

@@ -1,4 +1,10 @@
 //! The name under which a program runs.
+ghost use Rattle.std.specs.{Prelude.◌≡◌, Prelude.true, Prelude.refl, Result.IfErr};
+ghost use Rattle.bpaf_doc.specs.Shape.{Skip};
+ghost use Rattle.bpaf_line.specs.Messages.{is_memory};
+ghost use Rattle.bpaf_laws.specs.Appname.{AppnameOutcome, AppnameReads};
+ghost use Rattle.bpaf_laws.specs.ShownNames.{no_shorts};
+ghost use Rattle.bpaf_laws.proofs.{AppnameLaws.appname_lawful, ShownNames.one_shape};
 use bpaf_core::Parser;
 use bpaf_doc::Meta;
 use bpaf_line::{Error, State};
@@ -23,15 +29,6 @@ pub fn appname() -> ParseAppname {
 /// A copy of the first entry of the path, else of `app`; refused only for want of memory. Nothing
 /// changes, the current place neither.
 impl Parser<String> for ParseAppname {
-    ghost use Rattle.std.specs.Prelude.{◌≡◌, true, refl};
-    ghost use Rattle.std.specs.Result.{IfErr};
-    ghost use Rattle.bpaf_doc.specs.Shape.{Skip};
-    ghost use Rattle.bpaf_line.specs.Messages.{is_memory};
-    ghost use Rattle.bpaf_laws.specs.Appname.{AppnameOutcome, AppnameReads};
-    ghost use Rattle.bpaf_laws.proofs.AppnameLaws.{appname_lawful};
-    ghost use Rattle.bpaf_laws.specs.ShownNames.{no_shorts};
-    ghost use Rattle.bpaf_laws.proofs.ShownNames.{one_shape};
-
     ghost can_eval = { λ p. Unit {0} };
 
     ghost describes = { λ p shape. shape ≡ Skip };

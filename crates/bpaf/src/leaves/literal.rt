@@ -1,8 +1,12 @@
 //! A word that stands on the line as it is.
-ghost use Rattle.std.specs.Prelude.{◌≡◌, ◌∷◌, [], IfOk, Some, None, true, false, List};
-ghost use Rattle.bpaf_doc.specs.declared.doc.Piece.{Piece};
+ghost use Rattle.std.specs.Prelude.{◌≡◌, ◌∷◌, [], IfOk, Some, None, true, false, List, refl};
+ghost use Rattle.std.specs.Result.{IfErr};
 ghost use Rattle.bpaf_doc.specs.Fold.{TextPieces};
-ghost use Rattle.bpaf_doc.specs.Print.{shown_as};
+ghost use Rattle.bpaf_doc.specs.{declared.doc.Piece.Piece, Print.shown_as, Shape.Shown, Shape.Any};
+ghost use Rattle.bpaf_laws.specs.Any.{IsLiteral, AnyOutcome, AnyReads};
+ghost use Rattle.bpaf_laws.specs.ShownNames.{no_shorts};
+ghost use Rattle.bpaf.specs.Leaves.{PassesAll};
+ghost use Rattle.bpaf_laws.proofs.{AnyLaws.any_lawful, ShownNames.one_shape};
 
 use crate::leaves::look::{Look, any_item, take_match};
 use bpaf_core::Parser;
@@ -87,8 +91,6 @@ impl ParseLiteral {
 
 /// Whether the text is this one.
 impl Look<()> for ParseLiteral {
-    ghost use Rattle.bpaf_laws.specs.Any.{IsLiteral};
-
     ghost can_look = { λ p. Unit {0} };
 
     ghost looks = { λ p. IsLiteral p.text };
@@ -104,15 +106,6 @@ impl Look<()> for ParseLiteral {
 /// Refused with Missing where no item that is looked at has the text, or for want of memory; then
 /// nothing is taken.
 impl Parser<()> for ParseLiteral {
-    ghost use Rattle.std.specs.Prelude.{◌≡◌, refl};
-    ghost use Rattle.bpaf_doc.specs.Shape.{Shown, Any};
-    ghost use Rattle.std.specs.Result.{IfErr};
-    ghost use Rattle.bpaf.specs.Leaves.{PassesAll};
-    ghost use Rattle.bpaf_laws.specs.Any.{AnyOutcome, AnyReads, IsLiteral};
-    ghost use Rattle.bpaf_laws.proofs.AnyLaws.{any_lawful};
-    ghost use Rattle.bpaf_laws.specs.ShownNames.{no_shorts};
-    ghost use Rattle.bpaf_laws.proofs.ShownNames.{one_shape};
-
     ghost can_eval = { λ p. Unit {0} };
 
     ghost describes = { λ p shape. shape ≡ Shown (Any p.metavar p.help p.anywhere) };

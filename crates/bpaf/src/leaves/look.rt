@@ -2,7 +2,7 @@
 ghost use Rattle.std.specs.Prelude.{◌≡◌, true, IfOk, OnErr};
 ghost use Rattle.bpaf_doc.specs.Shape.{part_of, Any};
 ghost use Rattle.bpaf_line.specs.Situation.{is_open};
-ghost use Rattle.bpaf_laws.specs.Any.{TakesMatch, take_item};
+ghost use Rattle.bpaf_laws.specs.Any.{TakesMatch, take_item, Looks};
 ghost use Rattle.bpaf.specs.Matching.{FindsMatch};
 
 use bpaf_doc::{Doc, Item};
@@ -12,9 +12,6 @@ use std::alloc::{AllocError, Global};
 
 /// A look at a text: a value, where it matches.
 pub(crate) trait Look<T>: Sized {
-    ghost use Rattle.std.specs.Prelude.{IfOk};
-    ghost use Rattle.bpaf_laws.specs.Any.{Looks};
-
     /// Whether a look may be taken: its closures may be called on every value.
     ghost can_look: { Self → Type 0 };
 

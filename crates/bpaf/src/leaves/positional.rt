@@ -1,8 +1,12 @@
 //! A word of the line, by its place and not by a name.
 ghost use Rattle.std.specs.Prelude.{◌≡◌, IfOk, Some, None, List};
-ghost use Rattle.bpaf_doc.specs.declared.doc.Piece.{Piece};
-ghost use Rattle.bpaf_doc.specs.Fold.{TextPieces};
-ghost use Rattle.bpaf.specs.Positional.{accepts, misplaced};
+ghost use Rattle.std.specs.Result.{IfErr};
+ghost use Rattle.bpaf_doc.specs.{declared.doc.Piece.Piece, Fold.TextPieces};
+ghost use Rattle.bpaf.specs.Positional.{accepts, misplaced, PositionalOutcome, PositionalReads};
+ghost use Rattle.bpaf.specs.Positional.{positional_shape};
+ghost use Rattle.bpaf.specs.Leaves.{FaultsWordAlone};
+ghost use Rattle.bpaf.specs.PositionalLaws.{positional_lawful, positional_shows};
+ghost use Rattle.bpaf_laws.specs.ShownNames.{no_shorts};
 
 use bpaf_core::{Parser, value_or_refusal};
 use bpaf_doc::{Doc, Item, Meta, Metavar, Text};
@@ -161,13 +165,6 @@ fn misplaced(
 /// wrong side of `--`, with ParseFailed where its text means no value (in these three the word is
 /// taken); or for want of memory.
 impl<T: FromText> Parser<T> for ParsePositional<T> {
-    ghost use Rattle.std.specs.Prelude.{◌≡◌};
-    ghost use Rattle.std.specs.Result.{IfErr};
-    ghost use Rattle.bpaf.specs.Leaves.{FaultsWordAlone};
-    ghost use Rattle.bpaf.specs.Positional.{PositionalOutcome, PositionalReads, positional_shape};
-    ghost use Rattle.bpaf.specs.PositionalLaws.{positional_lawful, positional_shows};
-    ghost use Rattle.bpaf_laws.specs.ShownNames.{no_shorts};
-
     ghost can_eval = { λ p. Unit {0} };
 
     ghost describes = { λ p shape. shape ≡ positional_shape p.position p.metavar.0.now p.help };

@@ -1,5 +1,13 @@
 //! Parsers that look at no item: a value, a closure's value, a refusal.
-ghost use Rattle.std.specs.Prelude.{◌≡◌};
+ghost use Rattle.std.specs.{Prelude.◌≡◌, Prelude.refl, Prelude.true, Prelude.Ok, Result.IfErr};
+ghost use Rattle.bpaf_doc.specs.Shape.{Skip};
+ghost use Rattle.bpaf_line.specs.Messages.{is_memory};
+ghost use Rattle.bpaf_laws.specs.Pure.{PureOutcome, PureReads, PureWithOutcome, GivesRefusal};
+ghost use Rattle.bpaf_laws.specs.{Default.GivesClone, Default.GivesAnswer, ShownNames.no_shorts};
+ghost use Rattle.bpaf_laws.proofs.PureLaws.{pure_lawful, pure_with_lawful, refusal_lawful};
+ghost use Rattle.bpaf_laws.proofs.DefaultLaws.{names_answer};
+ghost use Rattle.bpaf_laws.proofs.{NamesAnswer.names_want, ShownNames.one_shape};
+ghost use Rattle.bpaf.specs.Leaves.{TellsAnswer, TellsWhole};
 
 use bpaf_core::{Parser, given_by};
 use bpaf_doc::{Meta, Text};
@@ -30,17 +38,6 @@ pub fn pure<T>(value: T) -> ParsePure<T>
 
 /// A clone of the kept value, refused only for want of memory. No place is current then.
 impl<T: Clone> Parser<T> for ParsePure<T> {
-    ghost use Rattle.std.specs.Prelude.{◌≡◌, refl, true};
-    ghost use Rattle.bpaf_doc.specs.Shape.{Skip};
-    ghost use Rattle.std.specs.Result.{IfErr};
-    ghost use Rattle.bpaf_line.specs.Messages.{is_memory};
-    ghost use Rattle.bpaf_laws.specs.Default.{GivesClone};
-    ghost use Rattle.bpaf_laws.specs.Pure.{PureOutcome, PureReads};
-    ghost use Rattle.bpaf_laws.proofs.NamesAnswer.{names_want};
-    ghost use Rattle.bpaf_laws.proofs.PureLaws.{pure_lawful};
-    ghost use Rattle.bpaf_laws.specs.ShownNames.{no_shorts};
-    ghost use Rattle.bpaf_laws.proofs.ShownNames.{one_shape};
-
     ghost can_eval = { λ p. Unit {0} };
 
     ghost describes = { λ p shape. shape ≡ Skip };
@@ -100,17 +97,6 @@ pub fn pure_with<T, F: Fn() -> Result<T, E>, E: Display>(f: F) -> ParsePureWith<
 /// The closure's value; its fault is refused with PureFailed, and so is want of memory for the text
 /// of that. Nothing changes, the current place neither: a check round it names the word before it.
 impl<T, F: Fn() -> Result<T, E>, E: Display + Drop> Parser<T> for ParsePureWith<T, F, E> {
-    ghost use Rattle.std.specs.Prelude.{◌≡◌, Ok, refl};
-    ghost use Rattle.bpaf_doc.specs.Shape.{Skip};
-    ghost use Rattle.std.specs.Result.{IfErr};
-    ghost use Rattle.bpaf_laws.specs.Default.{GivesAnswer};
-    ghost use Rattle.bpaf_laws.specs.Pure.{PureReads, PureWithOutcome};
-    ghost use Rattle.bpaf_laws.proofs.DefaultLaws.{names_answer};
-    ghost use Rattle.bpaf_laws.proofs.PureLaws.{pure_with_lawful};
-    ghost use Rattle.bpaf.specs.Leaves.{TellsAnswer};
-    ghost use Rattle.bpaf_laws.specs.ShownNames.{no_shorts};
-    ghost use Rattle.bpaf_laws.proofs.ShownNames.{one_shape};
-
     ghost can_eval = { λ p. F.IsAlwaysCallable p.f };
 
     ghost describes = { λ p shape. shape ≡ Skip };
@@ -167,15 +153,6 @@ pub fn fail<T>(message: &'static str) -> ParseFail<T>
 
 /// Refused with ParseFail, or for want of memory for the message. No place is current then.
 impl<T> Parser<T> for ParseFail<T> {
-    ghost use Rattle.std.specs.Prelude.{◌≡◌, refl};
-    ghost use Rattle.bpaf_doc.specs.Shape.{Skip};
-    ghost use Rattle.std.specs.Result.{IfErr};
-    ghost use Rattle.bpaf_laws.specs.Pure.{GivesRefusal, PureOutcome, PureReads};
-    ghost use Rattle.bpaf_laws.proofs.PureLaws.{refusal_lawful};
-    ghost use Rattle.bpaf.specs.Leaves.{TellsWhole};
-    ghost use Rattle.bpaf_laws.specs.ShownNames.{no_shorts};
-    ghost use Rattle.bpaf_laws.proofs.ShownNames.{one_shape};
-
     ghost can_eval = { λ p. Unit {0} };
 
     ghost describes = { λ p shape. shape ≡ Skip };

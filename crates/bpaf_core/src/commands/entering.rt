@@ -1,11 +1,15 @@
 //! What a command answers: its word is taken, and what runs inside it ends before or at the end of
 //! its scope.
-ghost use Rattle.std.specs.Prelude.{◌≡◌, ◌<◌, IfOk};
+ghost use Rattle.std.specs.Prelude.{◌≡◌, ◌<◌, IfOk, true, false};
 ghost use Rattle.bpaf_doc.specs.Shape.{part_of};
-ghost use Rattle.bpaf_laws.specs.Command.{CommandPart};
-ghost use Rattle.bpaf_core.specs.Adjacent.{Enters, RunsInside};
-ghost use Rattle.bpaf_core.specs.Command.{IsMissingPart};
-ghost use Rattle.bpaf_core.specs.Ending.{EndsRun};
+ghost use Rattle.bpaf_laws.specs.{Command.CommandPart, Command.CommandDescribes};
+ghost use Rattle.bpaf_laws.specs.{Command.LeavesNothing, Command.opening_words, Laws.newly};
+ghost use Rattle.bpaf_laws.specs.{OneStretch.IsStretch, Spared.IsNotMemory, Spared.WithoutMemory};
+ghost use Rattle.bpaf_core.specs.Adjacent.{Enters, RunsInside, OutcomeOfCommand};
+ghost use Rattle.bpaf_core.specs.Adjacent.{EitherCommandReads};
+ghost use Rattle.bpaf_core.specs.AdjacentLaws.{either_lawful};
+ghost use Rattle.bpaf_core.specs.{Command.IsMissingPart, Ending.EndsRun, EndingLaws.run_ending};
+ghost use Rattle.bpaf_laws.proofs.ShownNames.{command_shows};
 
 use crate::commands::ParseCommand;
 use crate::parser::Parser;
@@ -91,17 +95,6 @@ impl<T: Drop, P: Parser<T>> ParseCommand<T, P> {
 /// adjacent command runs over the unbroken stretch of present items behind its word, or over a part
 /// of it, and leaves what follows to others.
 impl<T: Drop, P: Parser<T>> Parser<T> for ParseCommand<T, P> {
-    ghost use Rattle.std.specs.Prelude.{◌≡◌, IfOk, true, false};
-    ghost use Rattle.bpaf_laws.specs.Command.{CommandDescribes, CommandPart, LeavesNothing};
-    ghost use Rattle.bpaf_laws.specs.Command.{opening_words};
-    ghost use Rattle.bpaf_laws.specs.Laws.{newly};
-    ghost use Rattle.bpaf_laws.specs.OneStretch.{IsStretch};
-    ghost use Rattle.bpaf_laws.specs.Spared.{IsNotMemory, WithoutMemory};
-    ghost use Rattle.bpaf_core.specs.Adjacent.{OutcomeOfCommand, EitherCommandReads};
-    ghost use Rattle.bpaf_core.specs.EndingLaws.{run_ending};
-    ghost use Rattle.bpaf_core.specs.AdjacentLaws.{either_lawful};
-    ghost use Rattle.bpaf_laws.proofs.ShownNames.{command_shows};
-
     ghost can_eval = { λ p. P.can_eval p.inner };
 
     ghost describes = { λ p. CommandDescribes p.names p.help (P.describes p.inner) };
