@@ -39,8 +39,8 @@
 /// bpaf's macro makes a closure over the parsers, and evaluates them in it. This one makes a
 /// product, [`ParseCon`](crate::ParseCon) over nested [`Both`](crate::Both) and
 /// [`Last`](crate::Last), of more than four fields [`Four`](crate::Four) at a time, and a closure
-/// for the constructor alone: so what the whole parses follows from what its fields do. The two
-/// have the same forms.
+/// for the constructor alone, which a tuple of two fields needs not: so what the whole parses
+/// follows from what its fields do. The two have the same forms.
 #[macro_export]
 macro_rules! construct {
     // construct!(Name {}) and construct!(Name())
@@ -80,6 +80,13 @@ macro_rules! construct {
     };
     // one field by itself
     (@fields [tuple] [$only:ident]) => { $only };
+    // two fields, whose values are that tuple
+    (@fields [tuple] [$first:ident $last:ident]) => {
+        $crate::ParseCon::new(
+            $crate::construct!(@product $first $last),
+            std::convert::identity,
+        )
+    };
     // a product
     (@fields $kind:tt [$($field:ident)+]) => {
         $crate::ParseCon::new(
