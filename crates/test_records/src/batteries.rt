@@ -1,14 +1,12 @@
 //! The batteries on worked lines.
-ghost use Rattle.std.specs.Prelude.{◌≤ℤ◌};
-
-use bpaf::{Args, Doc, ParseFailure, Parser, construct, long, positional, short};
+use bpaf::{Doc, Parser, construct, long, positional, short};
 use bpaf_batteries::{
     cargo_helper, get_usage, toggle_flag, verbose_and_quiet_by_number, verbose_by_slice,
 };
 use std::alloc::{AllocError, Global};
 use std::fmt::{self, Debug};
 use std::test::Fail;
-use test_support::reads;
+use test_support::{num, reads, walk};
 
 /// Levels of verbosity.
 #[derive(Clone, Copy)]
@@ -40,67 +38,27 @@ enum Select {
     NoBanana,
 }
 
-/// Appends an answer and a blank: Some value as Rust's Debug prints it, or None where the words are
-/// refused. Want of memory stays that.
-fn push_answer<T: Debug + Drop>(
-    answer: Result<T, ParseFailure>,
-    out: &mut String,
-) -> Result<(), AllocError> {
-    match answer {
-        Ok(value) => write!(out, "Some({value:?}) "),
-        Err(ParseFailure::Memory) => Err(AllocError),
-        Err(_) => out.push_str("None "),
-    }
-}
-
-/// The values of a parser on lines of words, each None where it is refused.
-fn values<T: Debug + Drop, P: Parser<T> + Drop>(
-    alloc: Global,
-    parser: P,
-    lines: &[&[&str]],
-) -> Result<String, AllocError>
-    requires { P.can_eval parser }
-{
-    let options = parser.to_options(alloc)?;
-    let mut out = String::new(alloc);
-    for words in lines {
-        push_answer(options.run_inner(Args::from(*words)), &mut out)?;
-    }
-    Ok(out)
-}
-
-/// Levels as numbers, on a line of one word.
-fn number(
-    alloc: Global,
-    offset: isize,
-    min: isize,
-    max: isize,
-    word: &str,
-) -> Result<String, AllocError>
-    requires { min ≤ℤ max }
-{
-    values(
-        alloc,
-        verbose_and_quiet_by_number(alloc, offset, min, max)?,
-        &[&[word]],
-    )
-}
-
 #[test]
 fn a_level_stays_within_its_bounds(rt: HostRuntime) -> Result<(), Fail> {
     let a = rt.alloc();
-    reads(
-        number(a, isize::MAX, 0, isize::MAX, "-v"),
-        "Some(9223372036854775807) ",
-    )?;
-    reads(
-        number(a, isize::MIN, isize::MIN, 0, "-q"),
-        "Some(-9223372036854775808) ",
-    )
+    let most = verbose_and_quiet_by_number(a, isize::MAX, 0, isize::MAX)?;
+    walk(a, most, "-v | ok 9223372036854775807")?;
+    let least = verbose_and_quiet_by_number(a, isize::MIN, isize::MIN, 0)?;
+    walk(a, least, "-q | ok -9223372036854775808")
 }
 
 /// The items of five levels.
-fn items(alloc: Global, lines: &[&[&str]]) -> Result<String, AllocError> {
+const LEVELS: &str = "
+ | ok Info
+-q | ok Warning
+-qqq | ok Error
+-qqqq | ok Error
+-vvvvq | ok Trace
+";
+
+#[test]
+fn a_level_picks_its_item(rt: HostRuntime) -> Result<(), Fail> {
+    let a = rt.alloc();
     let levels = [
         Level::Error,
         Level::Warning,
@@ -108,68 +66,48 @@ fn items(alloc: Global, lines: &[&[&str]]) -> Result<String, AllocError> {
         Level::Debug,
         Level::Trace,
     ];
-    values(alloc, verbose_by_slice(alloc, 2, levels)?, lines)
-}
-
-/// The item of two levels, far behind the last.
-fn last_item(alloc: Global) -> Result<String, AllocError> {
-    values(
-        alloc,
-        verbose_by_slice(alloc, usize::MAX, ['A', 'B'])?,
-        &[&[]],
-    )
-}
-
-#[test]
-fn a_level_picks_its_item(rt: HostRuntime) -> Result<(), Fail> {
-    let a = rt.alloc();
-    let found = items(a, &[&[], &["-q"], &["-qqq"], &["-qqqq"], &["-vvvvq"]]);
-    reads(
-        found,
-        "Some(Info) Some(Warning) Some(Error) Some(Error) Some(Trace) ",
-    )?;
-    reads(last_item(a), "Some('B') ")
+    walk(a, verbose_by_slice(a, 2, levels)?, LEVELS)?;
+    // two levels, far behind the last
+    walk(a, verbose_by_slice(a, usize::MAX, ['A', 'B'])?, " | ok 'B'")
 }
 
 /// What two keys select.
-fn selected(alloc: Global, lines: &[&[&str]]) -> Result<String, AllocError> {
-    let one = long(alloc, "banana")?;
-    let other = long(alloc, "no-banana")?;
-    values(
-        alloc,
-        toggle_flag(one, Select::Banana, other, Select::NoBanana),
-        lines,
-    )
-}
+const SELECTED: &str = "
+--banana --no-banana --banana --banana | ok Some(Banana)
+--banana --no-banana | ok Some(NoBanana)
+ | ok None
+";
 
 #[test]
 fn the_last_toggle_counts(rt: HostRuntime) -> Result<(), Fail> {
-    let words: [&str; 4] = ["--banana", "--no-banana", "--banana", "--banana"];
-    let off: [&str; 2] = ["--banana", "--no-banana"];
-    let found = selected(rt.alloc(), &[&words, &off, &[]]);
-    reads(found, "Some(Some(Banana)) Some(Some(NoBanana)) Some(None) ")
+    let a = rt.alloc();
+    let one = long(a, "banana")?;
+    let other = long(a, "no-banana")?;
+    let selected = toggle_flag(one, Select::Banana, other, Select::NoBanana);
+    walk(a, selected, SELECTED)
 }
 
 /// A number, perhaps behind the name of a subcommand.
-fn subcommand(alloc: Global, lines: &[&[&str]]) -> Result<String, AllocError> {
-    let num = short(alloc, 'n')?.argument::<u64>("NUM");
-    values(alloc, cargo_helper(alloc, "asm", num)?, lines)
-}
+const BEHIND_A_NAME: &str = "
+asm -n 3 | ok 3
+-n 3 | ok 3
+x -n 3 | refused
+";
 
 #[test]
 fn a_word_in_front_is_passed_over(rt: HostRuntime) -> Result<(), Fail> {
-    let found = subcommand(
-        rt.alloc(),
-        &[&["asm", "-n", "3"], &["-n", "3"], &["x", "-n", "3"]],
-    );
-    reads(found, "Some(3) Some(3) None ")
+    let a = rt.alloc();
+    walk(a, cargo_helper(a, "asm", num(a)?)?, BEHIND_A_NAME)
 }
 
-/// The help page of a parser, or nothing.
+/// The help page of a parser, or `None`.
 fn page<T: Drop, P: Parser<T> + Drop>(alloc: Global, parser: P) -> Result<String, AllocError>
     requires { P.can_eval parser }
 {
-    Ok(get_usage(parser.to_options(alloc)?)?.unwrap_or(String::new(alloc)))
+    match get_usage(parser.to_options(alloc)?)? {
+        Some(page) => Ok(page),
+        None => String::from_str(alloc, "None"),
+    }
 }
 
 /// The help page of a word.
@@ -185,7 +123,7 @@ const PAGE: &str = "Usage: FILE\n\n\
     Available options:\n    \
     -h, --help  Prints help information\n";
 
-/// Nothing, since the switch is named as the key for help.
+/// None, since the switch is named as the key for help.
 fn help_of_switch(alloc: Global) -> Result<String, AllocError> {
     page(alloc, long(alloc, "help")?.switch())
 }
@@ -206,7 +144,7 @@ const LEVEL_PAGE: &str = "Usage: [--verbose]... [--quiet]...\n\n\
 fn usage_is_told_where_help_is_shown(rt: HostRuntime) -> Result<(), Fail> {
     let a = rt.alloc();
     reads(help_of_word(a), PAGE)?;
-    reads(help_of_switch(a), "")?;
+    reads(help_of_switch(a), "None")?;
     reads(help_of_level(a), LEVEL_PAGE)
 }
 

@@ -1,9 +1,9 @@
 //! A worked row of options that a program knows, through `run_program`.
-use crate::record_rows::told;
 use bpaf::{Args, Parser, short};
 use bpaf_program::{KnownOptions, KnownProgram};
 use bpaf_record::CommandLine;
 use std::test::Fail;
+use test_support::fits;
 
 /// The program of a switch `-v`.
 #[derive(Drop)]
@@ -28,10 +28,5 @@ fn known_options_run_as_programs(rt: HostRuntime) -> Result<(), Fail> {
     if !options.is_program() {
         return Err(Fail::new("no program"));
     }
-    let found = told(alloc, options.run_program(Args::from(&["-v"])))?;
-    if found.as_str() == "ok true" {
-        Ok(())
-    } else {
-        Err(Fail::new(found))
-    }
+    fits(alloc, options.run_program(Args::from(&["-v"])), "ok true")
 }

@@ -1,5 +1,5 @@
 //! Negative numbers as words, through `run_record`.
-use crate::record_rows::{Row, compare, compare_options};
+use crate::record_rows::{compare, compare_options};
 use bpaf::{Parser, construct, positional, short};
 use bpaf_record::{FlatField, ProgramField};
 use std::alloc::Global;
@@ -10,7 +10,7 @@ use std::test::Fail;
 fn compare_numbers<T: Debug + Drop, P: ProgramField<T> + FlatField<T> + Drop>(
     alloc: Global,
     parser: P,
-    rows: &[Row<'_>],
+    rows: &str,
 ) -> Result<(), Fail>
     requires { P.can_eval parser }
 {
@@ -18,55 +18,29 @@ fn compare_numbers<T: Debug + Drop, P: ProgramField<T> + FlatField<T> + Drop>(
     compare_options(alloc, &options, rows)
 }
 
-/// The same of a product of two fields.
-fn compare_pair<
-    A: Debug + Drop,
-    B: Debug + Drop,
-    P: ProgramField<A> + FlatField<A> + Drop,
-    Q: ProgramField<B> + FlatField<B> + Drop,
->(alloc: Global, first: P, second: Q, rows: &[Row<'_>]) -> Result<(), Fail>
-    requires first { P.can_eval first }
-    requires second { Q.can_eval second }
-{
-    compare_numbers(alloc, construct!(first, second), rows)
-}
-
 /// Rows of a number behind a key.
-const BEHIND_KEY: &[Row<'static>] = &[
-    ("-n -5", "ok -5"),
-    ("-n=-5", "ok -5"),
-    ("-n5", "ok 5"),
-    ("-n -- -5", "err `-n` requires an argument `NUM`"),
-    (
-        "-n -5a",
-        "err couldn't parse `-5a`: not a whole number in range",
-    ),
-    (
-        "-n -a",
-        "err `-n` requires an argument `NUM`, got a flag `-a`, try `-n=-a` to use it as an argument",
-    ),
-];
+const BEHIND_KEY: &str = "
+-n -5 | ok -5
+-n=-5 | ok -5
+-n5 | ok 5
+-n -- -5 | err `-n` requires an argument `NUM`
+-n -5a | err couldn't parse `-5a`: not a whole number in range
+-n -a | err `-n` requires an argument `NUM`, got a flag `-a`, try `-n=-a` to use it as an argument
+";
 
 /// Rows of a number behind a key, where negative numbers are no words.
-const FLAGS: &[Row<'static>] = &[
-    (
-        "-n -5",
-        "err `-n` requires an argument `NUM`, got a flag `-5`, try \
-            `-n=-5` to use it as an argument",
-    ),
-    ("-n=-5", "ok -5"),
-];
+const FLAGS: &str = "
+-n -5 | err `-n` requires an argument `NUM`, got a flag `-5`, try `-n=-5` to use it as an argument
+-n=-5 | ok -5
+";
 
 /// Rows of a number behind a key and of any number of words.
-const BESIDE_WORDS: &[Row<'static>] = &[
-    ("-n -5 -1 2", "ok (-5, [-1, 2])"),
-    ("-1 -n -5 -- -2 3", "ok (-5, [-1, -2, 3])"),
-    (
-        "-n -5 -n -6",
-        "err argument `-n` cannot be used multiple times in this context",
-    ),
-    ("-n -5 -6=", "err `-6` is not expected in this context"),
-];
+const BESIDE_WORDS: &str = "
+-n -5 -1 2 | ok (-5, [-1, 2])
+-1 -n -5 -- -2 3 | ok (-5, [-1, -2, 3])
+-n -5 -n -6 | err argument `-n` cannot be used multiple times in this context
+-n -5 -6= | err `-6` is not expected in this context
+";
 
 #[test]
 fn negative_numbers_behind_a_key_run_as_records(rt: HostRuntime) -> Result<(), Fail> {
@@ -82,5 +56,5 @@ fn negative_numbers_as_words_run_as_records(rt: HostRuntime) -> Result<(), Fail>
     let a = rt.alloc();
     let num = short(a, 'n')?.argument::<i64>("NUM");
     let words = positional::<i64>("X").many();
-    compare_pair(a, num, words, BESIDE_WORDS)
+    compare_numbers(a, construct!(num, words), BESIDE_WORDS)
 }

@@ -1,6 +1,6 @@
 //! Worked rows through `run_program`, each with its value, or that it is refused or a text is shown.
 //! It runs as `run_inner` does, whose texts stand in rows.txt.
-use crate::record_rows::{Row, told, word};
+use crate::record_rows::word;
 use bpaf::params::{ParseArgument, ParseFlag};
 use bpaf::parsers::{ParseCommand, ParseOrElse};
 use bpaf::{Args, Doc, Parser, choice, construct, long, pure, short};
@@ -9,12 +9,7 @@ use std::alloc::{AllocError, Global};
 use std::collections::BTreeMap;
 use std::fmt::Debug;
 use std::test::Fail;
-use test_support::{number, switch};
-
-/// Whether an answer is that of a row: its text, or a message where it is refused.
-fn is_answer(found: &str, wanted: &str) -> bool {
-    found == wanted || (wanted == "refused" && found.starts_with("err "))
-}
+use test_support::{fits, number, rows_of, switch};
 
 /// An environment of these variables, each with its value.
 fn environment(
@@ -34,7 +29,7 @@ pub(crate) fn compare_in<T: Debug + Drop, P: ProgramField<T> + Drop>(
     alloc: Global,
     variables: &[(&str, &str)],
     parser: P,
-    rows: &[Row<'_>],
+    rows: &str,
 ) -> Result<(), Fail>
     requires { P.can_eval parser }
 {
@@ -43,14 +38,9 @@ pub(crate) fn compare_in<T: Debug + Drop, P: ProgramField<T> + Drop>(
     if !options.is_program() {
         return Err(Fail::new("no program"));
     }
-    for (words, wanted) in rows {
-        let line: Vec<&str> = words.split_whitespace().collect(alloc)?;
-        let args = Args::from(line.as_slice()).set_env(&variables);
-        let answer = options.run_program(args);
-        let found = told(alloc, answer)?;
-        if !is_answer(found.as_str(), wanted) {
-            return Err(Fail::new(found));
-        }
+    for row in rows_of(alloc, rows)? {
+        let args = Args::from(row.words.as_slice()).set_env(&variables);
+        fits(alloc, options.run_program(args), row.wanted)?;
     }
     Ok(())
 }
@@ -59,7 +49,7 @@ pub(crate) fn compare_in<T: Debug + Drop, P: ProgramField<T> + Drop>(
 fn compare<T: Debug + Drop, P: ProgramField<T> + Drop>(
     alloc: Global,
     parser: P,
-    rows: &[Row<'_>],
+    rows: &str,
 ) -> Result<(), Fail>
     requires { P.can_eval parser }
 {
@@ -72,7 +62,7 @@ fn compare_two<
     B: Debug + Drop,
     P: ProgramField<A> + Drop,
     Q: ProgramField<B> + Drop,
->(alloc: Global, first: P, last: Q, rows: &[Row<'_>]) -> Result<(), Fail>
+>(alloc: Global, first: P, last: Q, rows: &str) -> Result<(), Fail>
     requires first { P.can_eval first }
     requires last { Q.can_eval last }
 {
@@ -83,7 +73,7 @@ fn compare_two<
 fn compare_behind<T: Debug + Drop, P: ProgramField<T> + Drop>(
     alloc: Global,
     last: P,
-    rows: &[Row<'_>],
+    rows: &str,
 ) -> Result<(), Fail>
     requires { P.can_eval last }
 {
@@ -105,34 +95,34 @@ fn build_or_run(alloc: Global) -> Result<ParseOrElse<Counted, Counted>, AllocErr
     Ok(build(alloc)?.or_else(run))
 }
 
-const SWITCH_AND_COMMAND: &[Row<'static>] = &[
-    ("-v build -n 3", "ok (true, 3)"),
-    ("build -v -n 3", "ok (true, 3)"),
-    ("build -n 3 -v", "ok (true, 3)"),
-    ("build -vn3", "ok (true, 3)"),
-    ("b -n=3", "ok (false, 3)"),
-    ("build -n 3 --", "ok (false, 3)"),
-    ("-b -n 3", "refused"),
-    ("-v", "refused"),
-    ("", "refused"),
-    ("build", "refused"),
-    ("buil", "refused"),
-    ("x build -n 3", "refused"),
-    ("-n 3 build", "refused"),
-    ("-n build 3", "refused"),
-    ("build -n 3 x", "refused"),
-    ("build -n 3 build", "refused"),
-    ("build build -n 3", "refused"),
-    ("build -n 3 -n 4", "refused"),
-    ("build -n -v", "refused"),
-    ("-v build -v -n 3", "refused"),
-    ("-- build -n 3", "refused"),
-    ("build -- -n 3", "refused"),
-    ("build -n -- 3", "refused"),
-    ("build --help", "shown"),
-    ("build -n 3 --help", "shown"),
-    ("--help build -n 3", "shown"),
-];
+const SWITCH_AND_COMMAND: &str = "
+-v build -n 3 | ok (true, 3)
+build -v -n 3 | ok (true, 3)
+build -n 3 -v | ok (true, 3)
+build -vn3 | ok (true, 3)
+b -n=3 | ok (false, 3)
+build -n 3 -- | ok (false, 3)
+-b -n 3 | refused
+-v | refused
+ | refused
+build | refused
+buil | refused
+x build -n 3 | refused
+-n 3 build | refused
+-n build 3 | refused
+build -n 3 x | refused
+build -n 3 build | refused
+build build -n 3 | refused
+build -n 3 -n 4 | refused
+build -n -v | refused
+-v build -v -n 3 | refused
+-- build -n 3 | refused
+build -- -n 3 | refused
+build -n -- 3 | refused
+build --help | shown
+build -n 3 --help | shown
+--help build -n 3 | shown
+";
 
 #[test]
 fn a_switch_and_a_command_run_as_programs(rt: HostRuntime) -> Result<(), Fail> {
@@ -140,18 +130,18 @@ fn a_switch_and_a_command_run_as_programs(rt: HostRuntime) -> Result<(), Fail> {
     compare_behind(alloc, build(alloc)?, SWITCH_AND_COMMAND)
 }
 
-const COMMAND_LEFT_OUT: &[Row<'static>] = &[
-    ("", "ok (false, None)"),
-    ("-v", "ok (true, None)"),
-    ("--", "ok (false, None)"),
-    ("build -n 3 -v", "ok (true, Some(3))"),
-    ("build", "refused"),
-    ("build -n x", "refused"),
-    ("-n 3", "refused"),
-    ("-v x", "refused"),
-    ("x build -n 3", "refused"),
-    ("-- build", "refused"),
-];
+const COMMAND_LEFT_OUT: &str = "
+ | ok (false, None)
+-v | ok (true, None)
+-- | ok (false, None)
+build -n 3 -v | ok (true, Some(3))
+build | refused
+build -n x | refused
+-n 3 | refused
+-v x | refused
+x build -n 3 | refused
+-- build | refused
+";
 
 #[test]
 fn commands_left_out_run_as_programs(rt: HostRuntime) -> Result<(), Fail> {
@@ -159,14 +149,14 @@ fn commands_left_out_run_as_programs(rt: HostRuntime) -> Result<(), Fail> {
     compare_behind(alloc, build(alloc)?.optional(), COMMAND_LEFT_OUT)
 }
 
-const PRODUCT_WITH_COMMAND: &[Row<'static>] = &[
-    ("-v -q build -n 3", "ok (true, (true, 3))"),
-    ("build -q -n 3 -v", "ok (true, (true, 3))"),
-    ("build -n 3", "ok (false, (false, 3))"),
-    ("-v -q", "refused"),
-    ("-q build -n 3 -q", "refused"),
-    ("x build -n 3", "refused"),
-];
+const PRODUCT_WITH_COMMAND: &str = "
+-v -q build -n 3 | ok (true, (true, 3))
+build -q -n 3 -v | ok (true, (true, 3))
+build -n 3 | ok (false, (false, 3))
+-v -q | refused
+-q build -n 3 -q | refused
+x build -n 3 | refused
+";
 
 #[test]
 fn a_product_with_a_command_runs_inside_another(rt: HostRuntime) -> Result<(), Fail> {
@@ -176,20 +166,20 @@ fn a_product_with_a_command_runs_inside_another(rt: HostRuntime) -> Result<(), F
     compare_behind(alloc, construct!(quiet, build), PRODUCT_WITH_COMMAND)
 }
 
-const PRODUCT_WITH_WORDS: &[Row<'static>] = &[
-    ("-v a -q b", "ok (true, (true, [\"a\", \"b\"]))"),
-    ("a -- -v", "ok (false, (false, [\"a\", \"-v\"]))"),
-    ("", "ok (false, (false, []))"),
-    ("-v a -v", "refused"),
-    ("-q a -q", "refused"),
-    ("a --other", "refused"),
-];
+const PRODUCT_WITH_WORDS: &str = "
+-v a -q b | ok (true, (true, [\"a\", \"b\"]))
+a -- -v | ok (false, (false, [\"a\", \"-v\"]))
+ | ok (false, (false, []))
+-v a -v | refused
+-q a -q | refused
+a --other | refused
+";
 
-const WORDS_OF_PRODUCTS: &[Row<'static>] = &[
-    ("a b c d", "ok (\"a\", (\"b\", [\"c\", \"d\"]))"),
-    ("a b", "ok (\"a\", (\"b\", []))"),
-    ("a", "refused"),
-];
+const WORDS_OF_PRODUCTS: &str = "
+a b c d | ok (\"a\", (\"b\", [\"c\", \"d\"]))
+a b | ok (\"a\", (\"b\", []))
+a | refused
+";
 
 #[test]
 fn products_with_words_run_inside_others(rt: HostRuntime) -> Result<(), Fail> {
@@ -202,19 +192,19 @@ fn products_with_words_run_inside_others(rt: HostRuntime) -> Result<(), Fail> {
     compare_two(alloc, word(), construct!(second, files), WORDS_OF_PRODUCTS)
 }
 
-const COMMAND_CLOSED: &[Row<'static>] = &[
-    ("", "ok None"),
-    ("build -n 3", "ok Some(6)"),
-    ("build -n 12", "refused"),
-    ("build -n 5", "refused"),
-];
+const COMMAND_CLOSED: &str = "
+ | ok None
+build -n 3 | ok Some(6)
+build -n 12 | refused
+build -n 5 | refused
+";
 
 /// Compares the answers of a number below 10, twice, that isn't 10, or may be left out, in a section
 /// and without a usage.
 fn compare_doubled<P: ProgramField<u64> + Drop>(
     alloc: Global,
     parser: P,
-    rows: &[Row<'_>],
+    rows: &str,
 ) -> Result<(), Fail>
     requires { P.can_eval parser }
 {
@@ -233,12 +223,12 @@ fn closures_round_commands_run_as_programs(rt: HostRuntime) -> Result<(), Fail> 
     compare_doubled(rt.alloc(), build_or_run(rt.alloc())?, COMMAND_CLOSED)
 }
 
-const COMMANDS_ALONE: &[Row<'static>] = &[
-    ("build -n 3", "ok 3"),
-    ("", "refused"),
-    ("-n 3", "refused"),
-    ("build build", "refused"),
-];
+const COMMANDS_ALONE: &str = "
+build -n 3 | ok 3
+ | refused
+-n 3 | refused
+build build | refused
+";
 
 #[test]
 fn commands_alone_run_as_programs(rt: HostRuntime) -> Result<(), Fail> {
@@ -257,23 +247,23 @@ fn forced(
 }
 
 /// Compares the answers of `add [-f]` or `rm [-f]`.
-fn compare_tasks(alloc: Global, rows: &[Row<'_>]) -> Result<(), Fail> {
+fn compare_tasks(alloc: Global, rows: &str) -> Result<(), Fail> {
     let mut tasks = Vec::new(alloc);
     tasks.push(forced(alloc, "add", ('a', 'A'))?)?;
     tasks.push(forced(alloc, "rm", ('r', 'R'))?)?;
     compare(alloc, choice(tasks), rows)
 }
 
-const SHARED_KEY: &[Row<'static>] = &[
-    ("add -f", "ok 'A'"),
-    ("rm -f", "ok 'R'"),
-    ("add", "ok 'a'"),
-    ("rm", "ok 'r'"),
-    ("", "refused"),
-    ("-f add", "refused"),
-    ("add rm", "refused"),
-    ("add -f -f", "refused"),
-];
+const SHARED_KEY: &str = "
+add -f | ok 'A'
+rm -f | ok 'R'
+add | ok 'a'
+rm | ok 'r'
+ | refused
+-f add | refused
+add rm | refused
+add -f -f | refused
+";
 
 #[test]
 fn commands_that_share_a_key_run_as_programs(rt: HostRuntime) -> Result<(), Fail> {
@@ -285,25 +275,25 @@ fn compare_inside<T: Debug + Drop, P: ProgramField<T> + Drop>(
     alloc: Global,
     word: &str,
     parser: P,
-    rows: &[Row<'_>],
+    rows: &str,
 ) -> Result<(), Fail>
     requires { P.can_eval parser }
 {
     compare_behind(alloc, parser.to_options(alloc)?.command(word)?, rows)
 }
 
-const INSIDE_A_COMMAND: &[Row<'static>] = &[
-    ("tool build -n 3", "ok (false, 3)"),
-    ("-v tool run -n 3", "ok (true, 3)"),
-    ("tool -v run -n 3", "ok (true, 3)"),
-    ("tool run -n 3 -v", "ok (true, 3)"),
-    ("tool", "refused"),
-    ("build -n 3", "refused"),
-    ("tool -n 3 build", "refused"),
-    ("tool tool build -n 3", "refused"),
-    ("tool build -n 3 run", "refused"),
-    ("tool run --help", "shown"),
-];
+const INSIDE_A_COMMAND: &str = "
+tool build -n 3 | ok (false, 3)
+-v tool run -n 3 | ok (true, 3)
+tool -v run -n 3 | ok (true, 3)
+tool run -n 3 -v | ok (true, 3)
+tool | refused
+build -n 3 | refused
+tool -n 3 build | refused
+tool tool build -n 3 | refused
+tool build -n 3 run | refused
+tool run --help | shown
+";
 
 #[test]
 fn commands_of_a_command_run_as_programs(rt: HostRuntime) -> Result<(), Fail> {
@@ -311,17 +301,17 @@ fn commands_of_a_command_run_as_programs(rt: HostRuntime) -> Result<(), Fail> {
     compare_inside(alloc, "tool", build_or_run(alloc)?, INSIDE_A_COMMAND)
 }
 
-const WORDS_OF_A_COMMAND: &[Row<'static>] = &[
-    ("run", "ok (false, [])"),
-    ("run --", "ok (false, [])"),
-    ("run run x", "ok (false, [\"run\", \"x\"])"),
-    ("run x -v y", "ok (true, [\"x\", \"y\"])"),
-    ("run x -- -v --", "ok (false, [\"x\", \"-v\", \"--\"])"),
-    ("run -vq", "ok (false, [\"-vq\"])"),
-    ("run -q", "refused"),
-    ("-- run x", "refused"),
-    ("x run", "refused"),
-];
+const WORDS_OF_A_COMMAND: &str = "
+run | ok (false, [])
+run -- | ok (false, [])
+run run x | ok (false, [\"run\", \"x\"])
+run x -v y | ok (true, [\"x\", \"y\"])
+run x -- -v -- | ok (false, [\"x\", \"-v\", \"--\"])
+run -vq | ok (false, [\"-vq\"])
+run -q | refused
+-- run x | refused
+x run | refused
+";
 
 #[test]
 fn words_of_a_command_run_as_programs(rt: HostRuntime) -> Result<(), Fail> {
@@ -329,35 +319,35 @@ fn words_of_a_command_run_as_programs(rt: HostRuntime) -> Result<(), Fail> {
 }
 
 /// Compares the answers of `[-v] add [-h]`, where `--usage` asks for help of the command.
-fn compare_asked(alloc: Global, rows: &[Row<'_>]) -> Result<(), Fail> {
+fn compare_asked(alloc: Global, rows: &str) -> Result<(), Fail> {
     let usage = long(alloc, "usage")?;
     let options = switch(alloc, 'h')?.to_options(alloc)?.help_parser(usage);
     compare_behind(alloc, options.command("add")?, rows)
 }
 
-const NAMED_AS_HELP: &[Row<'static>] = &[
-    ("add -h", "ok (false, true)"),
-    ("add -v -h", "ok (true, true)"),
-    ("add --usage", "shown"),
-    ("-h add", "shown"),
-    ("add -h -h", "refused"),
-];
+const NAMED_AS_HELP: &str = "
+add -h | ok (false, true)
+add -v -h | ok (true, true)
+add --usage | shown
+-h add | shown
+add -h -h | refused
+";
 
 #[test]
 fn a_key_named_as_the_outer_help_runs_as_a_program(rt: HostRuntime) -> Result<(), Fail> {
     compare_asked(rt.alloc(), NAMED_AS_HELP)
 }
 
-const HIDDEN_AND_KEPT: &[Row<'static>] = &[
-    ("-n 3", "ok (3, None, 5)"),
-    ("-n=3", "ok (3, None, 5)"),
-    ("-w 4 -n 3", "ok (3, Some(4), 5)"),
-    ("-n3", "refused"),
-    ("-w4 -n 3", "refused"),
-    ("-n 3 -n 4", "refused"),
-    ("-n 3 x", "refused"),
-    ("", "refused"),
-];
+const HIDDEN_AND_KEPT: &str = "
+-n 3 | ok (3, None, 5)
+-n=3 | ok (3, None, 5)
+-w 4 -n 3 | ok (3, Some(4), 5)
+-n3 | refused
+-w4 -n 3 | refused
+-n 3 -n 4 | refused
+-n 3 x | refused
+ | refused
+";
 
 #[test]
 fn hidden_and_kept_values_run_as_programs(rt: HostRuntime) -> Result<(), Fail> {
@@ -368,11 +358,11 @@ fn hidden_and_kept_values_run_as_programs(rt: HostRuntime) -> Result<(), Fail> {
     compare(alloc, construct!(num, width, kept), HIDDEN_AND_KEPT)
 }
 
-const HIDDEN_COMMAND: &[Row<'static>] = &[
-    ("build -n 3", "ok (false, 3)"),
-    ("build -n 3 -v", "ok (true, 3)"),
-    ("-n 3", "refused"),
-];
+const HIDDEN_COMMAND: &str = "
+build -n 3 | ok (false, 3)
+build -n 3 -v | ok (true, 3)
+-n 3 | refused
+";
 
 #[test]
 fn a_hidden_command_runs_as_a_program(rt: HostRuntime) -> Result<(), Fail> {
@@ -380,36 +370,28 @@ fn a_hidden_command_runs_as_a_program(rt: HostRuntime) -> Result<(), Fail> {
     compare_behind(alloc, build(alloc)?.hide(), HIDDEN_COMMAND)
 }
 
-const STRICT_WORD: &[Row<'static>] = &[
-    ("a", "err expected `FILE` to be on the right side of `--`"),
-    ("-- a", "ok \"a\""),
-];
-
-const NON_STRICT_WORD: &[Row<'static>] = &[
-    ("a", "ok \"a\""),
-    ("-- a", "err expected `FILE` to be on the left side of `--`"),
-];
-
 #[test]
 fn words_on_one_side_run_as_programs(rt: HostRuntime) -> Result<(), Fail> {
     let alloc = rt.alloc();
-    compare(alloc, word().strict(), STRICT_WORD)?;
-    compare(alloc, word().non_strict(), NON_STRICT_WORD)
+    let rows = "a | err expected `FILE` to be on the right side of `--`\n-- a | ok \"a\"";
+    compare(alloc, word().strict(), rows)?;
+    let rows = "a | ok \"a\"\n-- a | err expected `FILE` to be on the left side of `--`";
+    compare(alloc, word().non_strict(), rows)
 }
 
-const WORDS_ON_BOTH_SIDES: &[Row<'static>] = &[
-    ("a b -- c -d", "ok ([\"a\", \"b\"], [\"c\", \"-d\"])"),
-    ("-- c", "ok ([], [\"c\"])"),
-    ("a", "ok ([\"a\"], [])"),
-    ("", "ok ([], [])"),
-];
+const WORDS_ON_BOTH_SIDES: &str = "
+a b -- c -d | ok ([\"a\", \"b\"], [\"c\", \"-d\"])
+-- c | ok ([], [\"c\"])
+a | ok ([\"a\"], [])
+ | ok ([], [])
+";
 
-const WORD_BEFORE_LEFT_OUT: &[Row<'static>] = &[
-    ("a -- b c", "ok (Some(\"a\"), [\"b\", \"c\"])"),
-    ("-- b", "ok (None, [\"b\"])"),
-    ("", "ok (None, [])"),
-    ("a b", "refused"),
-];
+const WORD_BEFORE_LEFT_OUT: &str = "
+a -- b c | ok (Some(\"a\"), [\"b\", \"c\"])
+-- b | ok (None, [\"b\"])
+ | ok (None, [])
+a b | refused
+";
 
 #[test]
 fn words_on_both_sides_run_as_programs(rt: HostRuntime) -> Result<(), Fail> {
@@ -420,12 +402,12 @@ fn words_on_both_sides_run_as_programs(rt: HostRuntime) -> Result<(), Fail> {
     compare_two(alloc, before, word().strict().many(), WORD_BEFORE_LEFT_OUT)
 }
 
-const ADJACENT: &[Row<'static>] = &[
-    ("-n3", "ok 3"),
-    ("-n=3", "ok 3"),
-    ("-n 3", "refused"),
-    ("-n3 -n=3", "refused"),
-];
+const ADJACENT: &str = "
+-n3 | ok 3
+-n=3 | ok 3
+-n 3 | refused
+-n3 -n=3 | refused
+";
 
 #[test]
 fn an_adjacent_argument_runs_as_a_program(rt: HostRuntime) -> Result<(), Fail> {
@@ -433,14 +415,14 @@ fn an_adjacent_argument_runs_as_a_program(rt: HostRuntime) -> Result<(), Fail> {
     compare(alloc, number(alloc, 'n')?.adjacent(), ADJACENT)
 }
 
-const GROUP: &[Row<'static>] = &[
-    ("a -v -n 3", "ok ((true, 3), \"a\")"),
-    ("-n3 a", "ok ((false, 3), \"a\")"),
-    ("-v -n 3", "refused"),
-    ("-n 3 -v -v a", "refused"),
-    ("-n a", "refused"),
-    ("-n 3 a b", "refused"),
-];
+const GROUP: &str = "
+a -v -n 3 | ok ((true, 3), \"a\")
+-n3 a | ok ((false, 3), \"a\")
+-v -n 3 | refused
+-n 3 -v -v a | refused
+-n a | refused
+-n 3 a b | refused
+";
 
 #[test]
 fn a_group_of_options_runs_as_a_program(rt: HostRuntime) -> Result<(), Fail> {

@@ -1,6 +1,5 @@
 //! Worked rows of keys with names in the environment through `run_program`.
 use crate::program_rows::compare_in;
-use crate::record_rows::Row;
 use bpaf::params::ParseArgument;
 use bpaf::{Parser, construct, env, short};
 use std::alloc::{AllocError, Global};
@@ -15,7 +14,7 @@ fn number(alloc: Global, name: char, variable: &str) -> Result<ParseArgument<u64
 }
 
 /// A number, one that may be left out, a repeat of one and a switch, each with this variable.
-fn compare_fields(alloc: Global, variable: &str, rows: &[Row<'_>]) -> Result<(), Fail> {
+fn compare_fields(alloc: Global, variable: &str, rows: &str) -> Result<(), Fail> {
     let num = number(alloc, 'n', variable)?;
     let width = number(alloc, 'w', variable)?.optional();
     let depths = number(alloc, 'd', variable)?.many();
@@ -28,24 +27,24 @@ fn compare_fields(alloc: Global, variable: &str, rows: &[Row<'_>]) -> Result<(),
     )
 }
 
-const SET: &[Row<'static>] = &[
-    ("", "ok (5, Some(5), [5], true)"),
-    ("-n 3", "ok (3, Some(5), [5], true)"),
-    ("-w 4 -d 1 -d 2 -v", "ok (5, Some(4), [1, 2], true)"),
-    ("-n 3 -n 4", "refused"),
-];
+const SET: &str = "
+ | ok (5, Some(5), [5], true)
+-n 3 | ok (3, Some(5), [5], true)
+-w 4 -d 1 -d 2 -v | ok (5, Some(4), [1, 2], true)
+-n 3 -n 4 | refused
+";
 
-const UNREADABLE: &[Row<'static>] = &[
-    ("", "refused"),
-    ("-n 3 -w 4", "refused"),
-    ("-n 3 -w 4 -d 1", "refused"),
-];
+const UNREADABLE: &str = "
+ | refused
+-n 3 -w 4 | refused
+-n 3 -w 4 -d 1 | refused
+";
 
-const UNSET: &[Row<'static>] = &[
-    ("", "refused"),
-    ("-n 3", "ok (3, None, [], false)"),
-    ("-n 3 -d 1 -v", "ok (3, None, [1], true)"),
-];
+const UNSET: &str = "
+ | refused
+-n 3 | ok (3, None, [], false)
+-n 3 -d 1 -v | ok (3, None, [1], true)
+";
 
 #[test]
 fn keys_with_variables_run_as_programs(rt: HostRuntime) -> Result<(), Fail> {
@@ -55,12 +54,12 @@ fn keys_with_variables_run_as_programs(rt: HostRuntime) -> Result<(), Fail> {
     compare_fields(alloc, "NONE", UNSET)
 }
 
-const UNREADABLE_ONCE: &[Row<'static>] = &[
-    ("", "refused"),
-    ("-n 3", "refused"),
-    ("-w 4", "refused"),
-    ("-n 3 -w 4", "ok (3, Some(4))"),
-];
+const UNREADABLE_ONCE: &str = "
+ | refused
+-n 3 | refused
+-w 4 | refused
+-n 3 -w 4 | ok (3, Some(4))
+";
 
 #[test]
 fn unreadable_variables_run_as_programs(rt: HostRuntime) -> Result<(), Fail> {
@@ -70,20 +69,17 @@ fn unreadable_variables_run_as_programs(rt: HostRuntime) -> Result<(), Fail> {
     compare_in(alloc, VARIABLES, construct!(num, width), UNREADABLE_ONCE)
 }
 
-const VARIABLES_ALONE: &[Row<'static>] = &[("", "ok (5, None)"), ("5", "refused")];
-
-const VARIABLE_UNSET: &[Row<'static>] = &[("", "err environment variable `K` is not set")];
-
 #[test]
 fn variables_alone_run_as_programs(rt: HostRuntime) -> Result<(), Fail> {
     let alloc = rt.alloc();
     let num = env(alloc, "NUM")?.argument::<u64>("NUM");
     let unset = env(alloc, "K")?.argument::<u64>("K").optional();
-    compare_in(alloc, VARIABLES, construct!(num, unset), VARIABLES_ALONE)?;
+    let rows = " | ok (5, None)\n5 | refused";
+    compare_in(alloc, VARIABLES, construct!(num, unset), rows)?;
     compare_in(
         alloc,
         VARIABLES,
         env(alloc, "K")?.argument::<u64>("K"),
-        VARIABLE_UNSET,
+        " | err environment variable `K` is not set",
     )
 }
