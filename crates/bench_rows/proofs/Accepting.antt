@@ -18,8 +18,7 @@ module _ {T : Type 0} (looks more : Looks T)
   -- items that are passed by are so by a look that allows more
   passed_more : (items : List (ℕ × Arg)) → ArePassed looks items → ArePassed more items
   passed_more items = All-weaker (λ placed. looks (item_text placed.1) None)
-      (λ placed. more (item_text placed.1) None)
-      (λ placed. allows (item_text placed.1) None) items
+      (λ placed. more (item_text placed.1) None) (λ placed. allows (item_text placed.1) None) items
 
   -- so is a refusal
   fails_more : (m : Message) → AnyFails looks part anywhere s m t
@@ -58,11 +57,9 @@ accepts_text : (wanted : String Global) (checks : String Global → Option Value
 accepts_text wanted checks by text (Some v) look =
     subst (λ bytes. AcceptsText (string_bytes wanted) bytes (Some v)) look.1
     (by look.0 (Some v) look.2)
-accepts_text wanted checks by text None look = ⊎_elim
-    (λ unread. λ same. unread wanted (sym same))
+accepts_text wanted checks by text None look = ⊎_elim (λ unread. λ same. unread wanted (sym same))
     (λ seen. subst (λ bytes. AcceptsText (string_bytes wanted) bytes None) seen.1
-    (by seen.0 None seen.2))
-    look
+    (by seen.0 None seen.2)) look
 
 -- what `any` answers by such a check, shown by an equal metavar
 pub accepted_by : (wanted : String Global) (checks : String Global → Option Value → Type 0)

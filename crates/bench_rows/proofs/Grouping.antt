@@ -69,8 +69,7 @@ IsSame {V} makes = (x y : V) → makes x y → y ≡ x
 -- a product by such a constructor
 same_product : {V : Type 0} (fast : Outcome V) (makes : V → V → Type 0) → IsSame makes
     → Allows (ProductOutcome fast makes) (ProductOutcome fast (λ x v. v ≡ x))
-same_product fast makes same s (Ok v) t ran =
-    (ran.0, ran.1, ran.2, same ran.1 v ran.3, ran.4)
+same_product fast makes same s (Ok v) t ran = (ran.0, ran.1, ran.2, same ran.1 v ran.3, ran.4)
 same_product fast makes same s (Err e) t ran = ran
 
 -- a group by such a constructor that begins with an item, told as one value

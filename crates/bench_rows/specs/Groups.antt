@@ -57,15 +57,13 @@ module _ {V : Type 0} {fast : Outcome V} {reads : Readings V} (describes : List 
   -- a value of a group is a reading
   grouped_ok : (v : Value) (t : Situation) → GroupedOutcome fast describes told s (Ok v) t
       → Reads Value (GroupedReads reads told) s v t
-  grouped_ok v t (begun item r t' shown ran) =
-      (begun_lawful told (part_of item) law).ok s t v ran
+  grouped_ok v t (begun item r t' shown ran) = (begun_lawful told (part_of item) law).ok s t v ran
   grouped_ok v t (headless r t' none refused) = absurd refused.0
 
   -- a refusal keeps all
   grouped_err : (e : Error) (t : Situation) → GroupedOutcome fast describes told s (Err e) t
       → Keeps s t
-  grouped_err e t (begun item r t' shown ran) =
-      (begun_lawful told (part_of item) law).err s t e ran
+  grouped_err e t (begun item r t' shown ran) = (begun_lawful told (part_of item) law).err s t e ran
   grouped_err e t (headless r t' none refused) =
       (refusal_lawful {T = Value} no_first_item).err s t e refused
   grouped_err e t (wanted e' memory) = keeps_refl s

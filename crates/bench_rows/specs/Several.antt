@@ -157,14 +157,12 @@ pub or_else_shows : {P : Type 0} (d : P → Describes) (n : P → ShortNames)
     → ((p : P) → ShowsNames (d p) (n p)) → (ps : List P)
     → ShowsNames (OrElseDescribes d ps) (or_else_shorts n ps)
 or_else_shows d n each (p ∷ q ∷ []) = choice_shows (each p) (each q)
-or_else_shows d n each (p ∷ q ∷ r ∷ []) =
-    choice_shows (choice_shows (each p) (each q)) (each r)
+or_else_shows d n each (p ∷ q ∷ r ∷ []) = choice_shows (choice_shows (each p) (each q)) (each r)
 or_else_shows d n each _ = one_shape refl
 
 -- it keeps to the laws where its parsers do
 pub or_else_lawful : {P : Type 0} (o : P → Outcome Value) (f : P → Readings Value) (ps : List P)
     → ((p : P) → Lawful Value (o p) (f p)) → Lawful Value (OrElseOutcome o ps) (OrElseReads f ps)
 or_else_lawful o f (p ∷ q ∷ []) each = choice_lawful (each p) (each q)
-or_else_lawful o f (p ∷ q ∷ r ∷ []) each =
-    choice_lawful (choice_lawful (each p) (each q)) (each r)
+or_else_lawful o f (p ∷ q ∷ r ∷ []) each = choice_lawful (choice_lawful (each p) (each q)) (each r)
 or_else_lawful o f _ each = refusal_lawful wrong_number

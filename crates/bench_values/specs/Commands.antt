@@ -31,8 +31,7 @@ CalledOutcome adjacent called inner describes s (Err e) t =
 
 -- what is read of it
 abbrev pub CalledReads : Bool → Called → Readings Value → Readings Value
-CalledReads adjacent called reads =
-    EitherCommandReads adjacent Value (opening_words called) reads
+CalledReads adjacent called reads = EitherCommandReads adjacent Value (opening_words called) reads
 
 -- it keeps to the laws where its parser does
 pub called_lawful : {inner : Outcome Value} {reads : Readings Value} (adjacent : Bool)
@@ -46,7 +45,6 @@ called_lawful adjacent called describes law =
       ok = λ s t v o. command.ok s t v o;
       err = λ s t e o.
           ⊎_elim (λ refused. command.err s t e refused) (λ wanted. keeps_same s t wanted.1) o;
-      named = λ s t e o.
-          ⊎_elim (λ refused. command.named s t e refused)
+      named = λ s t e o. ⊎_elim (λ refused. command.named s t e refused)
           (λ wanted. names_same e.0 Memory tt wanted.0) o;
     }

@@ -107,8 +107,7 @@ OverReads clones over.Map reads = MapReads Value Value reads IsHalf
 OverReads clones (over.Guard limit) reads = MapReads Value Value reads (λ x v. (v ≡ x)
     × Checks x true)
 OverReads clones (over.Parse limit) reads = AcceptReads reads
-OverReads clones (over.Fallback n) reads =
-    ChoiceReads reads (PureReads (clones (number_of n)))
+OverReads clones (over.Fallback n) reads = ChoiceReads reads (PureReads (clones (number_of n)))
 OverReads clones (over.FallbackWith number) reads =
     ChoiceReads reads (PureReads (λ v. GivesNumber number (Ok v)))
 OverReads clones over.Hide reads = reads

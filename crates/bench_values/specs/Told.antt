@@ -13,12 +13,10 @@ ToldOutcome {T} inner told s (Err e) t =
 
 -- it keeps to the laws where the inner parser does
 pub told_lawful : {T R : Type 0} {inner : Outcome T} {reads : Readings T} (told : T → R → Type 0)
-    → Lawful T inner reads
-    → Lawful R (ToldOutcome inner told) (MapReads T R reads told)
+    → Lawful T inner reads → Lawful R (ToldOutcome inner told) (MapReads T R reads told)
 told_lawful told law = record {
   ok = λ s t v o. (map_lawful law told).ok s t v o;
-  err = λ s t e o.
-      ⊎_elim (λ refused. law.err s t e refused)
+  err = λ s t e o. ⊎_elim (λ refused. law.err s t e refused)
       (λ wanted. (law.ok s t wanted.0 wanted.1).keeps) o;
   named = λ s t e o.
       ⊎_elim (λ refused. law.named s t e refused) (λ wanted. names_want e.0 wanted.2) o;

@@ -95,8 +95,7 @@ module _ (showing : Showing) where
       (is : e.0 ≡ inner_answer doc full) where
     -- what the fields behind the first one show was come to from the start
     rest_hands_on : Keeps s m → rest m (Err e) t → CameTo showing s doc full
-    rest_hands_on keeps o =
-        came_from showing s m doc full keeps (others.all m e t doc full o is)
+    rest_hands_on keeps o = came_from showing s m doc full keeps (others.all m e t doc full o is)
 
     -- fields that were all evaluated, and of which two failed, show what one of these does
     errors_hand_on : (second : Bool) (f g : Error) → first s (Err f) m → rest m (Err g) t
@@ -131,8 +130,7 @@ module _ (showing : Showing) where
         (λ each.
         fields_hand_on law one others s each.middle t e doc full is each.a each.b each.first_ran
         each.rest_ran each.answer)
-        (λ want. one.all s e t doc full want.0 is)
-        o;
+        (λ want. one.all s e t doc full want.0 is) o;
   }
 
   -- a product shows what its fields do
@@ -158,8 +156,7 @@ module _ (showing : Showing) where
           (λ failed.
           came_from showing s o.last doc full (steps_keep true s o.values o.last o.steps)
           (inside.all o.last e t doc full failed.0 is))
-          (λ want. absurd (true≢false (sym want.0 ∙ ap is_memory is)))
-          o.fails;
+          (λ want. absurd (true≢false (sym want.0 ∙ ap is_memory is))) o.fails;
     }
 
 module _ (describes : Shape → Type 0) (info : RunInfo) where
@@ -297,8 +294,7 @@ pub answer_asked : (describes : Shape → Type 0) (info : RunInfo) (known : Know
     → IfErr r (IfShown (WasAsked describes info known given))
 answer_asked describes info known given law nothing plain (Ok v) runs = tt
 answer_asked describes info known given law nothing plain (Err (failure.Stdout doc full)) runs =
-    words_also known given (RunShows describes info nothing_shown)
-    (IsAskedAt describes info)
+    words_also known given (RunShows describes info nothing_shown) (IsAskedAt describes info)
     (λ s d u. ⊎_elim (λ at. at) (λ none. absurd none)) doc full
     (answer_shows describes info law nothing_shown nothing plain known given
     (Err (failure.Stdout doc full)) runs)

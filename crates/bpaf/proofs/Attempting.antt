@@ -30,8 +30,7 @@ module _ (T : Type 0) (inner : Outcome T) (s b u : Situation) (place stop : ℕ)
 
   -- else the next one ends earlier
   pub left_narrows : (r : Result (AttemptEnd T) Error) (p : ℕ) → r ≡ Ok (ending.Left p)
-      → EndsAttempt T inner b place stop r u
-      → (u ≡ s) × Narrowed T inner s place p × (p < stop)
+      → EndsAttempt T inner b place stop r u → (u ≡ s) × Narrowed T inner s place p × (p < stop)
   left_narrows r p is ends =
       let at = from_start r (Ok (ending.Left p)) is ends in (
         at.4,

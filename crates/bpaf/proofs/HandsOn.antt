@@ -54,8 +54,7 @@ module _ (showing : Showing) {T : Type 0} {first second : Outcome T}
     -- a choice that answers what the first branch does shows what that does
     of_first : (a : Result T Error) (sa : Situation) → first s a sa → Err e ≡ a
         → CameTo showing s doc full
-    of_first a sa ran same =
-        one.all s e sa doc full (subst (λ r. first s r sa) (sym same) ran) is
+    of_first a sa ran same = one.all s e sa doc full (subst (λ r. first s r sa) (sym same) ran) is
 
     -- so it is of the second
     of_second : (b : Result T Error) (sb : Situation) → second s b sb → Err e ≡ b
@@ -93,8 +92,7 @@ module _ (showing : Showing) {T : Type 0} {first second : Outcome T}
         (λ ran.
         chosen_shows s t e doc full is ran.a ran.sa ran.b ran.sb ran.first_ran ran.second_ran
         (chosen_from s ran.a ran.sa ran.b ran.sb (Err e) t ran.chosen))
-        (λ want. absurd (true≢false (sym want.0 ∙ ap is_memory is)))
-        o;
+        (λ want. absurd (true≢false (sym want.0 ∙ ap is_memory is))) o;
   }
 
 -- an end of a run that is handed on as what is shown shows it
@@ -108,13 +106,11 @@ end_is_shown (failure.Stderr text) doc full is = cc
 missing_shows_nothing : (shows : Part → Type 0) (s : Situation) (m : Message) (doc : List Piece)
     (full : Bool) → IsMissingPart shows s m → ¬ (m ≡ inner_answer doc full)
 missing_shows_nothing shows s m doc full lacks is =
-    ⊎_elim (λ want. absurd cc)
-    (λ part. let other : m ≡ Missing part.1 = part.3 in absurd cc) lacks
+    ⊎_elim (λ want. absurd cc) (λ part. let other : m ≡ Missing part.1 = part.3 in absurd cc) lacks
 
 -- want of memory shows nothing
 want_shows_nothing : {A : Type 0} (m : Message) (doc : List Piece) (full : Bool) → m ≡ Memory
-    → m ≡ inner_answer doc full
-    → A
+    → m ≡ inner_answer doc full → A
 want_shows_nothing m doc full want is = cc
 
 -- nor is it a page at the end of a run
@@ -145,11 +141,9 @@ module _ (describes : Shape → Type 0) (info : RunInfo) {T : Type 0} {inner : O
 
     -- so does what follows it
     retry_shows : (end : ℕ) (f g : Failure) (t u : Situation) → IsStretchFrom s from end
-        → Attempt T inner Ends s from end (Err f) t
-        → Retry T inner Ends s from end f t (Err g) u → g ≡ failure.Stdout doc full
-        → CameTo Behind s doc full
-    retry_shows end f g t u run ran (nothing_left told taken) is =
-        attempt_shows end f t run ran is
+        → Attempt T inner Ends s from end (Err f) t → Retry T inner Ends s from end f t (Err g) u
+        → g ≡ failure.Stdout doc full → CameTo Behind s doc full
+    retry_shows end f g t u run ran (nothing_left told taken) is = attempt_shows end f t run ran is
     retry_shows end f g t u run ran (second_fails h stop w told left again other) is =
         attempt_shows end f t run ran is
     retry_shows end f g t u run ran wants_memory is = want_is_no_page doc full is
@@ -198,12 +192,10 @@ module _ (describes : Shape → Type 0) (info : RunInfo) {T : Type 0} {inner : O
         want_shows_nothing e.0 doc full same is
 
     -- so does each command
-    pub command_hands_on : (adjacent : Bool)
-        → HandsOn (BehindWord called Behind)
+    pub command_hands_on : (adjacent : Bool) → HandsOn (BehindWord called Behind)
         (EitherCommandOutcome adjacent T inner Ends called shows)
     command_hands_on true = record {
-      all = λ s e t doc full o is.
-          adjacent_shows s e t doc full o is;
+      all = λ s e t doc full o is. adjacent_shows s e t doc full o is;
     }
     command_hands_on false = record { all = λ s e t doc full o is. plain_shows s e t doc full o is }
 

@@ -85,8 +85,7 @@ module _ (T : Type 0) (inner : Outcome T) (s : Situation) (first : Part) where
       }
   one_more from place failures best r after t before known start (found v left probe tries) is =
       absurd cc
-  one_more from place failures best r after t before known start (no_memory e memory) is =
-      absurd cc
+  one_more from place failures best r after t before known start (no_memory e memory) is = absurd cc
 
   module _ (b : Situation) (same : b ≡ s) (from : ℕ) (best : Remembered) (vain : InVain from best)
       (width : ℕ) (wide : width ≡ place_count first) where
@@ -128,11 +127,7 @@ module _ (T : Type 0) (inner : Outcome T) (s : Situation) (first : Part) where
       vain_on is =
           let more = one_more from place vain.failures (failure_of s best) r (failure_of s after) t
           vain.tried vain.remembered starts tried_here is in
-          record {
-            failures = more.failures;
-            tried = more.tried;
-            remembered = more.remembered;
-          }
+          record { failures = more.failures; tried = more.tried; remembered = more.remembered }
 
       -- want of memory is the answer
       pub refused_at : (e : Error) → r ≡ Err e → GroupOutcome T inner first s (Err e) t
@@ -153,5 +148,4 @@ module _ (T : Type 0) (inner : Outcome T) (s : Situation) (first : Part) where
         (λ over. none_gave from vain.failures e t vain.tried none_here
         (subst (λ x. EndsWith s first x e t) vain.remembered over))
         (λ memory. subst (λ x. GroupOutcome T inner first s (Err e) x) (sym memory.1)
-        (wanted e memory.0))
-        (subst (λ x. IsEnd x first best e t) same ends)
+        (wanted e memory.0)) (subst (λ x. IsEnd x first best e t) same ends)

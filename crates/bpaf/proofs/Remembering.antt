@@ -105,10 +105,7 @@ module _ (s t : Situation) (keeps : Keeps s t) (best : Remembered) (e : Error)
             ap (λ x. Some (record { error = e; left = x })) again
             ∙ sym (ap (λ m. if m then Some (record { error = e; left = t }) else failure_of s best)
             yes);
-        sound = record {
-          left = ap (λ x. left + taken_count s x) again ∙ all;
-          redo = redo;
-        };
+        sound = record { left = ap (λ x. left + taken_count s x) again ∙ all; redo = redo };
       }
 
 -- a failure that took more is remembered by the steps since a mark

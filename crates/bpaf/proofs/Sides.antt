@@ -120,5 +120,4 @@ module _ (known : Known) (P : Arg → Type 0) where
   -- so do all items
   pub of_words : (words : List (List ℕ)) (items : List Arg) → SpellAll known words items
       → EachOf words → All P items
-  of_words words items s each =
-      subst (All P) (sym s.joined) (of_parts words s.parts s.spelled each)
+  of_words words items s each = subst (All P) (sym s.joined) (of_parts words s.parts s.spelled each)

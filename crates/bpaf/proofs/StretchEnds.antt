@@ -13,8 +13,7 @@ count_below-full f zero full q l = absurd (omega arith)
 count_below-full f (suc n) full q l =
     by_last (f n) refl full (λ all below. count_below-full f n all q below)
   where
-    by_last : (b : Bool) → f n ≡ b
-        → (if b then (count_below f n + 1) else count_below f n) ≡ suc n
+    by_last : (b : Bool) → f n ≡ b → (if b then (count_below f n + 1) else count_below f n) ≡ suc n
         → (count_below f n ≡ n → q < n → f q ≡ true) → f q ≡ true
     by_last true has more low =
         ⊎_elim (λ (below : q < n). low (omega arith) below)

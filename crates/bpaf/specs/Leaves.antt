@@ -22,6 +22,5 @@ TellsWhole message e = is_memory e.0 ≡ false → e.0 ≡ ParseFail message
 -- a refusal that isn't want of memory is of a fault that a closure answered, with its whole text
 abbrev pub TellsAnswer : {T E : Type 0} → (Result T E → Type 0) → (E → Option (List ℕ)) → Error
     → Type 0
-TellsAnswer {T} {E} answers shown e = is_memory e.0 ≡ false
-    → (fault : E) × answers (Err fault)
+TellsAnswer {T} {E} answers shown e = is_memory e.0 ≡ false → (fault : E) × answers (Err fault)
     × ((text : List ℕ) × (e.0 ≡ PureFailed text) × IfSome (shown fault) (λ bytes. text ≡ bytes))

@@ -16,5 +16,4 @@ pub data TriesAt (T : Type 0) (inner : Outcome T) (s : Situation) (place stop : 
       (longer s best (record { error = e; left = t })) s
   found : (v : T) (t : Situation) → Probe T inner s place stop HasPlace
       → Tries T inner s place (Ok v) t → TriesAt T inner s place stop best (Ok (Some v)) best t
-  no_memory : (e : Error) → is_memory e.0 ≡ true
-      → TriesAt T inner s place stop best (Err e) best s
+  no_memory : (e : Error) → is_memory e.0 ≡ true → TriesAt T inner s place stop best (Err e) best s

@@ -28,8 +28,7 @@ module _ (s : Situation) (place : ℕ) (strict : Bool) (text : List ℕ) (t : Si
   pub word_keeps : Keeps s t
   word_keeps = subst (Keeps s) (sym takes.taken) (keeps_take s place word_open)
 
-module _ (T : Type 0) (means : List ℕ → T → Type 0) (position : Position)
-    (metavar : List ℕ) where
+module _ (T : Type 0) (means : List ℕ → T → Type 0) (position : Position) (metavar : List ℕ) where
   -- what a positional reads
   abbrev reads_positional : Readings T
   reads_positional = PositionalReads T means position
@@ -64,8 +63,7 @@ module _ (T : Type 0) (means : List ℕ → T → Type 0) (position : Position)
       → PositionalFails means position metavar s m t → Keeps s t
   positional_refused s t (Missing items) fails = keeps_same s t fails.1
   positional_refused s t (StrictPos place m) fails = word_keeps s place _ fails.2.0 t fails.2.1
-  positional_refused s t (NonStrictPos place m) fails =
-      word_keeps s place _ fails.2.0 t fails.2.1
+  positional_refused s t (NonStrictPos place m) fails = word_keeps s place _ fails.2.0 t fails.2.1
   positional_refused s t (ParseFailed place fault) fails = some_keeps s t fails.0
   positional_refused s t Memory fails =
       ⊎_elim (λ same. keeps_same s t same) (λ taken. some_keeps s t taken) fails

@@ -33,8 +33,7 @@ pub record IsRemembered (s : Situation) (best : Remembered) : Type 0 where
 -- after a failure the one that took more places is remembered
 pub record TriesFrom (s : Situation) (best : Remembered) (e : Error) (t : Situation)
     (after : Remembered) : Type 0 where
-  pub longer : failure_of s after
-      ≡ longer s (failure_of s best) (record { error = e; left = t })
+  pub longer : failure_of s after ≡ longer s (failure_of s best) (record { error = e; left = t })
   pub sound : IsRemembered s after
 
 -- the first item is missing; or memory for that is wanted

@@ -70,10 +70,8 @@ module _ {T : Type 0} (clones : T → T → Type 0) (flag : ParseFlag T) (stands
   }
     where
       at_place : (p : ℕ) → (p == key) ≡ true → p ≡ key
-      at_place p e = ⊎_elim
-          (λ (same : p ≡ key). same)
-          (λ (other : p ≢ key). absurd (true≢false (sym e ∙ ne_eqb p key other)))
-          (cases_eq p key)
+      at_place p e = ⊎_elim (λ (same : p ≡ key). same)
+          (λ (other : p ≢ key). absurd (true≢false (sym e ∙ ne_eqb p key other))) (cases_eq p key)
   one_key share v (nowhere none kept) =
       absurd (subst (λ absent. IsSomeRelated clones absent v) stands.required
       (subst (λ envs. IsSomeRelated clones
@@ -81,9 +79,8 @@ module _ {T : Type 0} (clones : T → T → Type 0) (flag : ParseFlag T) (stands
       stands.on_the_line kept))
 
   -- one share of keys and another make a share of keys
-  more_keys : (own rest share : Share) (n : ℕ) → Joins own rest share
-      → AreKeys flag context own 1 → AreKeys flag context rest n
-      → AreKeys flag context share (n + 1)
+  more_keys : (own rest share : Share) (n : ℕ) → Joins own rest share → AreKeys flag context own 1
+      → AreKeys flag context rest n → AreKeys flag context share (n + 1)
   more_keys own rest share n joins one others = record {
     keys = λ p there. of_either p (own p) refl (sym (joins.all p) ∙ there);
     number =
@@ -96,8 +93,7 @@ module _ {T : Type 0} (clones : T → T → Type 0) (flag : ParseFlag T) (stands
       of_either : (p : ℕ) (b : Bool) → own p ≡ b → (own p || rest p) ≡ true
           → HasItem (is_key flag) context p
       of_either p true e there = one.keys p e
-      of_either p false e there =
-          others.keys p (subst (λ b. (b || rest p) ≡ true) e there)
+      of_either p false e there = others.keys p (subst (λ b. (b || rest p) ≡ true) e there)
 
   -- each of some values reads a key
   each_key : (share : Share) (values : List T) → EachReads reads_key context share values
@@ -145,8 +141,7 @@ is_false false never = refl
 module _ {T : Type 0} (clones : T → T → Type 0) (more fewer : ParseFlag T)
     (keys : AreKeysApart more fewer) (context : Context) (share : Share) where
   -- two counts are as many keys of each flag
-  pub counted : (counts : ℕ × ℕ)
-      → CountsReads clones more fewer context share counts
+  pub counted : (counts : ℕ × ℕ) → CountsReads clones more fewer context share counts
       → (counts.0 ≡ keys_in more context share) × (counts.1 ≡ keys_in fewer context share)
   counted counts read =
       let one = count_keys clones more keys.one_stands context read.first_share counts.0
@@ -157,8 +152,7 @@ module _ {T : Type 0} (clones : T → T → Type 0) (more fewer : ParseFlag T)
             (λ p. share p && option_map_or (is_key more) (item_in context p) false)
             read.first_share (length context.line)
             (λ p below. at_one (share p) (read.first_share p) (read.rest_share p)
-            (option_map_or (is_key more) (item_in context p) false) (read.joins.all p)
-            (one.keys p)
+            (option_map_or (is_key more) (item_in context p) false) (read.joins.all p) (one.keys p)
             (λ theirs. is_false (option_map_or (is_key more) (item_in context p) false)
             (λ mine. not_both (is_key more) (is_key fewer) (item_in context p) keys.apart mine
             (other.keys p theirs))))),
@@ -221,8 +215,7 @@ module _ {K : Type 0} (more fewer : ParseFlag K) (s t : Situation) (counts : ℕ
 
   -- and so is the item
   pub picks_counts : {T : Type 0} (clones : T → T → Type 0) (offset : ℕ) (items : List T) (v : T)
-      → PicksItem clones offset items counts v
-      → VerbosityPicks more fewer clones offset items s t v
+      → PicksItem clones offset items counts v → VerbosityPicks more fewer clones offset items s t v
   picks_counts clones offset items v picks =
       subst (λ n. PicksItem clones offset items (n, keys_taken fewer s t) v) are.0
       (subst (λ n. PicksItem clones offset items (counts.0, n) v) are.1 picks)

@@ -38,16 +38,13 @@ module _ {T : Type 0} (clones : T → T → Type 0) (flag : ParseFlag T) (stands
 
   -- nor is there an absent value
   not_absent : (v : T) → IsSomeRelated clones flag.absent v → ⊥
-  not_absent v value =
-      subst (λ absent. IsSomeRelated clones absent v) stands.required value
+  not_absent v value = subst (λ absent. IsSomeRelated clones absent v) stands.required value
 
   -- a flag that is present took its first key
   key_taken : (v : T) → IsFlagPresent flag.named s t → clones flag.present v
       → KeyEval clones flag s (Ok v) t
-  key_taken v present value = ⊎_elim
-      (λ takes. (takes.0, takes.1, takes.2, value))
-      (λ set. absurd (not_set set.1))
-      present
+  key_taken v present value = ⊎_elim (λ takes. (takes.0, takes.1, takes.2, value))
+      (λ set. absurd (not_set set.1)) present
 
   -- a refusal that isn't want of memory comes where there is no key
   key_missed : (m : Message) → FlagFails flag.named flag.absent s m t → is_memory m ≡ false
@@ -56,11 +53,8 @@ module _ {T : Type 0} (clones : T → T → Type 0) (flag : ParseFlag T) (stands
   key_missed other fails spared = (fails.0.0.0, fails.0.0.1)
 
   -- so a flag answers
-  pub key_ran : (r : Result T Error)
-      → FlagOutcome clones flag.named flag.present flag.absent s r t → IsNotMemory r
-      → KeyEval clones flag s r t
-  key_ran (Ok v) o spared = ⊎_elim
-      (λ here. key_taken v here.0 here.1)
-      (λ none. absurd (not_absent v none.1))
-      o
+  pub key_ran : (r : Result T Error) → FlagOutcome clones flag.named flag.present flag.absent s r t
+      → IsNotMemory r → KeyEval clones flag s r t
+  key_ran (Ok v) o spared = ⊎_elim (λ here. key_taken v here.0 here.1)
+      (λ none. absurd (not_absent v none.1)) o
   key_ran (Err e) o spared = key_missed e.0 o spared

@@ -103,16 +103,14 @@ module _ (s : Situation) (p q : ℕ) (there : is_open s p ≡ true) (here : is_o
   -- first, p is the leftmost of the two
   taken_first : (w : ℕ) → is_taken (take_place s p) w ≡ true → is_taken (take_place s q) w ≡ false
       → ((r : ℕ) → r < w → is_taken (take_place s p) r ≡ is_taken (take_place s q) r) → p < q
-  taken_first w mine theirs first = ⊎_elim
-      (λ (before : p < q). before)
+  taken_first w mine theirs first = ⊎_elim (λ (before : p < q). before)
       (λ (behind : q ≤ p). ⊎_elim
       (λ (at : w ≡ p). absurd (true≢false
       (sym (taken_here s q) ∙ (sym (first q (omega arith)) ∙ (taken_other s p q (λ e. apart (sym e))
       ∙ open_not_taken s q here)))))
       (λ (other : w ≢ p). absurd (true≢false
       (sym (taken_stays s q w (sym (taken_other s p w other) ∙ mine)) ∙ theirs)))
-      (cases_eq w p))
-      (cases_lt p q)
+      (cases_eq w p)) (cases_lt p q)
 
 -- a step of the choice: the leftmost key is taken, and its value is the answer
 record TookKey {T : Type 0} (clones : T → T → Type 0) (one other : ParseFlag T) (s : Situation)
@@ -125,8 +123,7 @@ record TookKey {T : Type 0} (clones : T → T → Type 0) (one other : ParseFlag
 module _ {T : Type 0} (clones : T → T → Type 0) (one other : ParseFlag T) where
   -- the first key of the one flag, where that of the other isn't before it, is the leftmost
   leftmost_one : (s : Situation) (p : ℕ) → IsFirst (is_key one) s p
-      → ((r : ℕ) → r < p → is_match (is_key other) s r ≡ false)
-      → IsFirst (is_either one other) s p
+      → ((r : ℕ) → r < p → is_match (is_key other) s r ≡ false) → IsFirst (is_either one other) s p
   leftmost_one s p mine none = record {
     matches = first_at (is_key one) (is_key other) (open_item s p) mine.matches;
     first = λ r before. neither_at (is_key one) (is_key other) (open_item s r)
@@ -135,8 +132,7 @@ module _ {T : Type 0} (clones : T → T → Type 0) (one other : ParseFlag T) wh
 
   -- so is that of the other one
   leftmost_other : (s : Situation) (p : ℕ) → IsFirst (is_key other) s p
-      → ((r : ℕ) → r < p → is_match (is_key one) s r ≡ false)
-      → IsFirst (is_either one other) s p
+      → ((r : ℕ) → r < p → is_match (is_key one) s r ≡ false) → IsFirst (is_either one other) s p
   leftmost_other s p theirs none = record {
     matches = second_at (is_key one) (is_key other) (open_item s p) theirs.matches;
     first = λ r before. neither_at (is_key one) (is_key other) (open_item s r)
@@ -203,8 +199,7 @@ module _ {T : Type 0} (clones : T → T → Type 0) (one other : ParseFlag T) (s
   ran_touched : (flag : ParseFlag T) (v : T) (t : Situation) → KeyEval clones flag s (Ok v) t
       → is_untouched s t ≡ false
   ran_touched flag v t o =
-      ap (is_untouched s) o.2
-      ∙ touched s o.0 (match_is_open (is_key flag) s o.0 o.1.matches)
+      ap (is_untouched s) o.2 ∙ touched s o.0 (match_is_open (is_key flag) s o.0 o.1.matches)
 
   module _ (apart : (item : Arg) → (is_key one item && is_key other item) ≡ false) where
     -- keys of the two flags stand at two places
@@ -215,10 +210,9 @@ module _ {T : Type 0} (clones : T → T → Type 0) (one other : ParseFlag T) (s
         (subst (λ z. is_match (is_key other) s z ≡ true) (sym same) theirs)
 
     -- both took a key: the one that wins took the leftmost of the two
-    won : (t : Situation) (p q : ℕ) (x y v : T)
-        → IsFirst (is_key one) s p → IsFirst (is_key other) s q
-        → clones one.present x → clones other.present y → (winner : Bool × Option ℕ)
-        → IsWinner (take_place s p) (take_place s q) winner
+    won : (t : Situation) (p q : ℕ) (x y v : T) → IsFirst (is_key one) s p
+        → IsFirst (is_key other) s q → clones one.present x → clones other.present y
+        → (winner : Bool × Option ℕ) → IsWinner (take_place s p) (take_place s q) winner
         → Winner (branch_of x (take_place s p)) (branch_of y (take_place s q)) winner (Ok v) t
         → TookKey clones one other s v t
     won t p q x y v mine theirs value_one value_other (here, None) winner result =
@@ -263,14 +257,12 @@ module _ {T : Type 0} (clones : T → T → Type 0) (one other : ParseFlag T) (s
     equal_took (Ok x) sa (Err e) sb v t f g (inr right) =
         let same : x ≡ v = let r = right.1.0 in cc in
         took_one clones one other s t f.0 v f.1 (λ r before. g.0 r)
-        (subst (clones one.present) same f.3)
-        (alike_same t (take_place s f.0) (right.1.1 ∙ f.2))
+        (subst (clones one.present) same f.3) (alike_same t (take_place s f.0) (right.1.1 ∙ f.2))
     equal_took (Err e) sa (Ok y) sb v t f g (inl wrong) = absurd (no_value v e wrong.1)
     equal_took (Err e) sa (Ok y) sb v t f g (inr right) =
         let same : y ≡ v = let r = right.1.0 in cc in
         took_other clones one other s t g.0 v g.1 (λ r before. f.0 r)
-        (subst (clones other.present) same g.3)
-        (alike_same t (take_place s g.0) (right.1.1 ∙ g.2))
+        (subst (clones other.present) same g.3) (alike_same t (take_place s g.0) (right.1.1 ∙ g.2))
     equal_took (Err e) sa (Err d) sb v t f g o = absurd (no_value v o.0.0 o.0.2)
 
   -- a refusal at equal depths comes where neither has a key
@@ -312,8 +304,7 @@ module _ {T : Type 0} (clones : T → T → Type 0) (one other : ParseFlag T)
 
   -- a refusal that isn't want of memory comes where there is no key
   choice_none : (s t : Situation) (e : Error) → EitherOutcome clones one other s (Err e) t
-      → is_memory e.0 ≡ false
-      → HasNone (is_either one other) s
+      → is_memory e.0 ≡ false → HasNone (is_either one other) s
   choice_none s t e o spared = ⊎_elim
       (λ ran.
       equal_none clones one other s ran.a ran.sa ran.b ran.sb e t
@@ -370,8 +361,7 @@ module _ {T : Type 0} (clones : T → T → Type 0) (one other : ParseFlag T)
       sym (match_other s m p took.alike (is_either one other) r other_place) ∙ there.matches in
       let behind : p ≤ r = ⊎_elim
       (λ (before : r < p). absurd (true≢false (sym matches ∙ took.first.first r before)))
-      (λ (at : p ≤ r). at)
-      (cases_lt r p) in
+      (λ (at : p ≤ r). at) (cases_lt r p) in
       record {
         matches = matches;
         last = λ q later.
@@ -394,14 +384,12 @@ module _ {T : Type 0} (clones : T → T → Type 0) (one other : ParseFlag T)
       → GivesValue clones one other m r w → GivesValue clones one other s r w
   gives_before s m v w took r gives = ⊎_elim
       (λ here. inl (key_before s m v took (is_key one) r here.0, here.1))
-      (λ here. inr (key_before s m v took (is_key other) r here.0, here.1))
-      gives
+      (λ here. inr (key_before s m v took (is_key other) r here.0, here.1)) gives
 
   -- the last step before there is no key took the rightmost one
   last_step : (catches first : Bool) (s : Situation) (before : List T) (v : T) (t : Situation)
       → Turns (EitherOutcome clones one other) catches first s (before ++ v ∷ []) t
-      → HasNone (is_either one other) t
-      → RightmostGives clones one other s (Some v)
+      → HasNone (is_either one other) t → RightmostGives clones one other s (Some v)
   last_step catches first s [] v t o none =
       let m = o.0 in
       let took = choice_took s m v o.1.0 in
@@ -433,8 +421,7 @@ module _ {T : Type 0} (clones : T → T → Type 0) (one other : ParseFlag T)
   last_wins catches s t values (Some v) run last =
       last_step catches true s last.0 v run.last
       (subst (λ vs. Turns (EitherOutcome clones one other) catches true s vs run.last) last.1
-      run.steps)
-      (stopped_none catches (is_nil values) run.last t run.stop)
+      run.steps) (stopped_none catches (is_nil values) run.last t run.stop)
   last_wins catches s t values None run last =
       let none = stopped_none catches (is_nil values) run.last t run.stop in
       let same : s ≡ run.last =

@@ -48,8 +48,7 @@ toggle_lawful {T} clones one other catches =
     }
 
 -- it shows the short names of both keys
-pub toggle_shows : {T : Type 0} (one other : ParseFlag T)
-    → ShowsNames (ToggleDescribes one other)
+pub toggle_shows : {T : Type 0} (one other : ParseFlag T) → ShowsNames (ToggleDescribes one other)
     (of_flags (one.named.names.shorts ++ other.named.names.shorts))
 toggle_shows one other =
     many_shows (choice_shows (flag_shows one.named one.absent)

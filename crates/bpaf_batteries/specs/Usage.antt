@@ -27,6 +27,5 @@ ShowsText (Err failure) text = TellsText failure text
 abbrev pub TellsUsage : {T : Type 0} → (Result T ParseFailure → Type 0)
     → Result (Option (String Global)) AllocError → Type 0
 TellsUsage {T} runs (Ok text) =
-    (answer : Result T ParseFailure) × runs answer
-    × ShowsText answer (option_map string_bytes text)
+    (answer : Result T ParseFailure) × runs answer × ShowsText answer (option_map string_bytes text)
 TellsUsage runs (Err e) = ⊤

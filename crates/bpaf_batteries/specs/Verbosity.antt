@@ -42,8 +42,7 @@ abbrev pub CountsSpared : {T : Type 0} → (T → T → Type 0) → ParseFlag T 
 CountsSpared clones more fewer =
     ProductOutcome
     (BothOutcome (WithoutMemory (CountOutcome (KeyOutcome clones more)))
-    (WithoutMemory (CountOutcome (KeyOutcome clones fewer))))
-    (λ counts v. v ≡ counts)
+    (WithoutMemory (CountOutcome (KeyOutcome clones fewer)))) (λ counts v. v ≡ counts)
 
 -- what they read: so many values of each key
 abbrev pub CountsReads : {T : Type 0} → (T → T → Type 0) → ParseFlag T → ParseFlag T

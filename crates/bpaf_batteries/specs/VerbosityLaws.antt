@@ -15,8 +15,7 @@ use Rattle.bpaf_batteries.specs.Verbosity.{CountsDescribe, CountsOutcome, Counts
 
 -- a parser that picks by the value of an inner one keeps to the laws where that does
 pub pick_lawful : {C T : Type 0} {inner : Outcome C} {reads : Readings C} → Lawful C inner reads
-    → (picks : C → T → Type 0)
-    → Lawful T (PickOutcome inner picks) (MapReads C T reads picks)
+    → (picks : C → T → Type 0) → Lawful T (PickOutcome inner picks) (MapReads C T reads picks)
 pick_lawful law picks = record {
   ok = λ s t v o. (map_lawful law picks).ok s t v o;
   err = λ s t e o. ⊎_elim (λ refused. law.err s t e refused)
@@ -27,8 +26,7 @@ pick_lawful law picks = record {
 
 module _ {T : Type 0} (clones : T → T → Type 0) (more fewer : ParseFlag T) where
   -- a counted key keeps to the laws
-  count_key_lawful : (flag : ParseFlag T)
-      → Lawful ℕ (CountOutcome (KeyOutcome clones flag))
+  count_key_lawful : (flag : ParseFlag T) → Lawful ℕ (CountOutcome (KeyOutcome clones flag))
       (MapReads (List T) ℕ (ListReads (KeyReads clones flag)) (λ values n. n ≡ length values))
   count_key_lawful flag = count_lawful (flag_lawful T clones flag.named flag.present flag.absent)
 
@@ -55,8 +53,7 @@ module _ {T : Type 0} (clones : T → T → Type 0) (more fewer : ParseFlag T) w
   }
 
 -- they show the short names of both keys
-pub counts_show : {T : Type 0} (more fewer : ParseFlag T)
-    → ShowsNames (CountsDescribe more fewer)
+pub counts_show : {T : Type 0} (more fewer : ParseFlag T) → ShowsNames (CountsDescribe more fewer)
     (of_flags (more.named.names.shorts ++ fewer.named.names.shorts))
 counts_show more fewer =
     product_shows (both_show (many_shows (flag_shows more.named more.absent))

@@ -90,8 +90,7 @@ module _ {T : Type 0} (inner : Outcome T) (ending : Ending) (s : Situation) (fro
         (subst (λ x. Retry T inner ending s from end f t (Err f) x) (sym (both.2 ∙ led))
         (second_fails g stop u told left
         (subst (λ x. Attempt T inner ending x from stop (Err g) u) back ran) both.0)))
-        (λ (wanted : (h ≡ failure.Memory) × (w ≡ o)).
-        memory_wanted h w wanted.0 (wanted.1 ∙ again))
+        (λ (wanted : (h ≡ failure.Memory) × (w ≡ o)). memory_wanted h w wanted.0 (wanted.1 ∙ again))
         gives
 
 -- the first attempt fails, and what follows begins where it did

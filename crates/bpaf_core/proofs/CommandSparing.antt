@@ -18,8 +18,7 @@ use Rattle.bpaf_core.specs.Run.{value as run_value}
 pub spared_run : {T : Type 0} {inner : Outcome T} {ending : Ending} → LawfulEnding ending
     → (s : Situation) (r : Result T ParseFailure) (t : Situation) → Runs T inner ending s r t
     → IsNotWant r → Runs T (WithoutMemory inner) ending s r t
-spared_run ends s r t (run_value v left answered none) spared =
-    run_value v left (answered, tt) none
+spared_run ends s r t (run_value v left answered none) spared = run_value v left (answered, tt) none
 spared_run ends s r t (leftover v left f u answered tells) spared =
     leftover v left f u (answered, tt) tells
 spared_run ends s r t (refused e left f u answered tells) spared =
@@ -35,8 +34,7 @@ spared_command ends called shows s t r (value v p left at run) spared =
 spared_command ends called shows s t r (ended f e p left at run is) spared =
     ended f e p left at
     (spared_run ends (inside called s p) (Err f) left run
-    (subst (λ m. is_memory m ≡ false) is spared))
-    is
+    (subst (λ m. is_memory m ≡ false) is spared)) is
 spared_command ends called shows s t r (missing e none is) spared = missing e none is
 spared_command ends called shows s t r (no_memory e p at is) spared = no_memory e p at is
 
@@ -83,8 +81,7 @@ spared_adjacent ends called shows s t r (counted v p u at runs) spared =
 spared_adjacent ends called shows s t r (failed f e p u at runs is) spared =
     failed f e p u at
     (spared_attempts ends (inside called s p) (p + 1) (Err f) u runs
-    (subst (λ m. is_memory m ≡ false) is spared))
-    is
+    (subst (λ m. is_memory m ≡ false) is spared)) is
 spared_adjacent ends called shows s t r (unnamed e none is) spared = unnamed e none is
 spared_adjacent ends called shows s t r (no_path e p at is) spared = no_path e p at is
 

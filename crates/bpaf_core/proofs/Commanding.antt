@@ -23,8 +23,7 @@ runs_plain inner ending false s r t plain run = run
 runs_plain inner ending true s r t plain run = absurd (true≢false plain)
 
 module _ {T : Type 0} (inner : Outcome T) (ending : Ending) (called : Called)
-    (shows : Part → Type 0)
-    (s : Situation) where
+    (shows : Part → Type 0) (s : Situation) where
   -- the word isn't there
   lacking : (adjacent : Bool) (e : Error) → IsNotOpened (opening_words called) s
       → IsMissingPart shows s e.0
@@ -50,8 +49,7 @@ module _ {T : Type 0} (inner : Outcome T) (ending : Ending) (called : Called)
       (λ (wants : (p : ℕ) × IsOpenedAt (opening_words called) s p × (e.0 ≡ message.Memory)
       × (t ≡ opened s p)).
       subst (EitherCommandOutcome adjacent T inner ending called shows s (Err e)) (sym wants.3)
-      (wanting adjacent e wants.0 wants.1 wants.2))
-      outside
+      (wanting adjacent e wants.0 wants.1 wants.2)) outside
 
   -- so it does where that refusal is handed on
   pub refused_inside : (adjacent : Bool) (e : Error) (r : Result T Error) (t : Situation)
@@ -59,8 +57,7 @@ module _ {T : Type 0} (inner : Outcome T) (ending : Ending) (called : Called)
       → EitherCommandOutcome adjacent T inner ending called shows s r t
   refused_inside adjacent e (Err given) t handed outside =
       subst (λ x. EitherCommandOutcome adjacent T inner ending called shows s (Err x) t)
-      (sym handed.1)
-      (not_inside adjacent e t outside)
+      (sym handed.1) (not_inside adjacent e t outside)
   refused_inside adjacent e (Ok v) t handed outside = absurd (true≢false (sym handed.0))
 
   module _ {U : Type 0} (u : U) (m t : Situation) (enters : Enters called shows s (Ok u) m) where

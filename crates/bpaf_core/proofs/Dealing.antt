@@ -64,8 +64,7 @@ all_newly context t keeps closed none =
 module _ {T : Type 0} {inner : Outcome T} {reads : Readings T} {describes : Shape → Type 0}
     {info : RunInfo} {known : Known} (given : Given) (law : Lawful T inner reads) where
   -- a value that a run over the words' line answers is dealt out of the words
-  dealt_from : (context : Context) (v : T) (t : Situation)
-      → IsContext known given context
+  dealt_from : (context : Context) (v : T) (t : Situation) → IsContext known given context
       → Runs T inner (EndsRun describes info) (beginning context) (Ok v) t
       → IsDealtOut T reads known given v
   dealt_from context v t is_context (value w left answered none) =

@@ -14,8 +14,7 @@ use Rattle.bpaf_core.specs.CommandLaws.{command_lawful, run_empty, runs_keeps}
 use Rattle.bpaf_core.specs.{Ending.Ending, EndingLaws.LawfulEnding}
 
 module _ {T : Type 0} {inner : Outcome T} {ending : Ending} {reads : Readings T}
-    (law : Lawful T inner reads)
-    (ends : LawfulEnding ending) where
+    (law : Lawful T inner reads) (ends : LawfulEnding ending) where
   -- attempts that answer a value leave the context
   pub attempts_context : (s : Situation) (from : ℕ) (v : T) (u : Situation)
       → Attempts T inner ending s from (Ok v) u → u.context ≡ s.context

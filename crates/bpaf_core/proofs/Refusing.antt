@@ -79,10 +79,8 @@ module _ {T : Type 0} (inner : Outcome T) (describes : Shape → Type 0) (info :
         wanting_is_named
     refused_is_named m e left f t ran is answers
         (ending.usage other before given after spared wanted shows) =
-        usage_is_named e left f ran
-        (subst (λ n. shows_usage info n s ≡ true) (sym is) wanted) shows
-    refused_is_named m e left f t ran is answers
-        (ending.passed_on given before after spared none) =
+        usage_is_named e left f ran (subst (λ n. shows_usage info n s ≡ true) (sym is) wanted) shows
+    refused_is_named m e left f t ran is answers (ending.passed_on given before after spared none) =
         (answers.0, name.handed_on answers.0 e left f ran is answers.1)
     refused_is_named m e left f t ran is answers
         (ending.refused other before middle given after spared none plain tells) =

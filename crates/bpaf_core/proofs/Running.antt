@@ -28,8 +28,7 @@ known_are : {describes : Shape → Type 0} {shorts : ShortNames} → ShowsNames 
     → numbers ≡ info.numbers → describes shape
     → flags ≡ (known_names info (shorts_of (parts shape))).names.flags
     → arguments ≡ (known_names info (shorts_of (parts shape))).names.arguments
-    → known_at numbers (record { flags = flags; arguments = arguments })
-    ≡ known_names info shorts
+    → known_at numbers (record { flags = flags; arguments = arguments }) ≡ known_names info shorts
 known_are shows info numbers flags arguments shape setting shown flags_are arguments_are =
     rw (setting, flags_are, arguments_are) (ap (known_names info) (shows.each shape shown))
 
@@ -58,12 +57,7 @@ pub starts_at : (known : Known) (given : Given) (words : List (List ℕ)) (line 
     })
     → Starts known given (Ok s)
 starts_at known given words line s same reads begun = (
-  record {
-    line = line.items.items;
-    marker = line.marker;
-    env = given.env;
-    name = given.name;
-  },
+  record { line = line.items.items; marker = line.marker; env = given.env; name = given.name },
   record {
     is_line = subst (λ xs. IsLine known xs line.items.items line.marker) same reads;
     env = refl;
@@ -88,8 +82,7 @@ module _ {T : Type 0} {inner : Outcome T} {describes : Shape → Type 0} {info :
     line_refused m f refuses tells = ⊎_elim
         (λ (wanted : f ≡ failure.Memory).
         subst (λ x. RunsWords T inner describes info known given (Err x)) (sym wanted) no_memory)
-        (λ told. told_line m f refuses told.0 told.1 told.2 told.3)
-        tells
+        (λ told. told_line m f refuses told.0 told.1 told.2 told.3) tells
       where
         -- a message of the line is told
         told_line : (m : Message) (f : ParseFailure) → Starts known given (Err m)

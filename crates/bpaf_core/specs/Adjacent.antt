@@ -26,8 +26,7 @@ Attempt T inner ending s from end = Runs T inner ending (with_scope s from end)
 -- a second one, over those before the first that it left. Where this fails too the first failure
 -- counts, with its situation. Want of memory is the answer at once
 pub data Retry (T : Type 0) (inner : Outcome T) (ending : Ending) (s : Situation) (from end : ℕ)
-    (f : ParseFailure)
-    (t : Situation) : Result T ParseFailure → Situation → Type 0 where
+    (f : ParseFailure) (t : Situation) : Result T ParseFailure → Situation → Type 0 where
   nothing_left : IsTold f → AllTaken t from end → Retry T inner ending s from end f t (Err f) t
   second_counts : (v : T) (stop : ℕ) (u : Situation) → IsTold f → IsFirstLeft t from end stop
       → Attempt T inner ending s from stop (Ok v) u → Retry T inner ending s from end f t (Ok v) u
@@ -48,8 +47,7 @@ pub data Attempts (T : Type 0) (inner : Outcome T) (ending : Ending) (s : Situat
 
 -- the attempts behind a word, from which on the scope runs; so it does again after a value
 abbrev pub AdjacentRuns : (T : Type 0) → Outcome T → Ending → Situation → Result T ParseFailure
-    → Situation
-    → Type 0
+    → Situation → Type 0
 AdjacentRuns T inner ending s (Ok v) t =
     (left : Situation) × Attempts T inner ending s (s.start + 1) (Ok v) left
     × (t ≡ with_scope left s.start s.end)
@@ -73,8 +71,7 @@ pub data AdjacentOutcome (T : Type 0) (inner : Outcome T) (ending : Ending) (cal
 
 -- what a command answers, adjacent or plain
 abbrev pub EitherCommandOutcome : Bool → (T : Type 0) → Outcome T → Ending → Called
-    → (Part → Type 0)
-    → Outcome T
+    → (Part → Type 0) → Outcome T
 EitherCommandOutcome true T inner ending called shows = AdjacentOutcome T inner ending called shows
 EitherCommandOutcome false T inner ending called shows = CommandOutcome T inner ending called shows
 

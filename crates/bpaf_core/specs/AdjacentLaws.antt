@@ -50,12 +50,10 @@ module _ {T : Type 0} {inner : Outcome T} {ending : Ending} (s : Situation) (fro
     present = run.present;
     ran = ran;
   }
-  attempts_counted v u (first_fails f end t r w run ran retry) =
-      retry_counted end f t v w run retry
+  attempts_counted v u (first_fails f end t r w run ran retry) = retry_counted end f t v w run retry
 
 module _ {T : Type 0} {inner : Outcome T} {ending : Ending} {reads : Readings T}
-    (law : Lawful T inner reads)
-    (ends : LawfulEnding ending) where
+    (law : Lawful T inner reads) (ends : LawfulEnding ending) where
   -- what an attempt over present places keeps
   attempt_keeps : (s : Situation) (from end : ℕ) (r : Result T ParseFailure) (t : Situation)
       → IsStretchFrom s from end → Attempt T inner ending s from end r t → Keeps s t
@@ -87,8 +85,7 @@ module _ {T : Type 0} {inner : Outcome T} {ending : Ending} {reads : Readings T}
   attempts_has_name s from g u
       (first_fails f end t r w run ran (second_fails h stop x told left again other)) =
       runs_has_name law ends (with_scope s from end) f t ran
-  attempts_has_name s from g u (first_fails f end t r w run ran wants_memory) =
-      (no_memory, wanting)
+  attempts_has_name s from g u (first_fails f end t r w run ran wants_memory) = (no_memory, wanting)
 
   module _ (called : Called) (shows : Part → Type 0) where
     -- what an adjacent command answers is a reading, whose share is one stretch

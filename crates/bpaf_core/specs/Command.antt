@@ -21,8 +21,7 @@ IsMissingPart shows s m =
 -- the word is there, and the inner run, from behind it on, answers a value, or refuses; or it isn't
 -- there, and the command's part is missing; or there is no memory for the path
 pub data CommandOutcome (T : Type 0) (inner : Outcome T) (ending : Ending) (called : Called)
-    (shows : Part → Type 0)
-    (s : Situation) : Result T Error → Situation → Type 0 where
+    (shows : Part → Type 0) (s : Situation) : Result T Error → Situation → Type 0 where
   value : (v : T) (p : ℕ) (t : Situation) → IsOpenedAt (opening_words called) s p
       → Runs T inner ending (inside called s p) (Ok v) t
       → CommandOutcome T inner ending called shows s (Ok v) t

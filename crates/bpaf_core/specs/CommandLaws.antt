@@ -20,8 +20,7 @@ use Rattle.bpaf_core.specs.Run.{value as run_value}
 
 -- after a value of a run nothing is present
 pub run_empty : {T : Type 0} {inner : Outcome T} {ending : Ending} (s : Situation) (v : T)
-    (t : Situation)
-    → Runs T inner ending s (Ok v) t → open_count t ≡ 0
+    (t : Situation) → Runs T inner ending s (Ok v) t → open_count t ≡ 0
 run_empty s v t (run_value w left answered none) = none
 
 -- the end of a run, told on as a message
@@ -38,15 +37,13 @@ names_missing shows s m lacks =
     lacks
 
 module _ {T : Type 0} {inner : Outcome T} {ending : Ending} {reads : Readings T}
-    (law : Lawful T inner reads)
-    (ends : LawfulEnding ending) where
+    (law : Lawful T inner reads) (ends : LawfulEnding ending) where
   -- what a run from a situation on keeps, whatever it answers
   pub runs_keeps : (s : Situation) (r : Result T ParseFailure) (t : Situation)
       → Runs T inner ending s r t → Keeps s t
   runs_keeps s r t (run_value v left answered none) = (law.ok s left v answered).keeps
   runs_keeps s r t (leftover v left f u answered tells) =
-      keeps_trans s left t (law.ok s left v answered).keeps
-      (ends.keeps None s left f t tells)
+      keeps_trans s left t (law.ok s left v answered).keeps (ends.keeps None s left f t tells)
   runs_keeps s r t (refused e left f u answered tells) =
       keeps_trans s left t (law.err s left e answered) (ends.keeps (Some e.0) s left f t tells)
 

@@ -74,8 +74,7 @@ pub data EndsRun (describes : Shape → Type 0) (info : RunInfo) : Option Messag
       → is_memory m ≡ false → shows_usage info m s ≡ false → is_answer m ≡ false
       → Tells describes info m left f t → EndsRun describes info (Some m) s left f t
   leftover : (m : Message) (s left : Situation) (f : ParseFailure) (t : Situation)
-      → IsLeftover left m → Tells describes info m left f t
-      → EndsRun describes info None s left f t
+      → IsLeftover left m → Tells describes info m left f t → EndsRun describes info None s left f t
 
 -- how a run ends whose parser refused, where it is known whether help stands in for a message
 abbrev pub EndsRefused : (Shape → Type 0) → RunInfo → Bool → Message → Situation → ParseFailure

@@ -9,8 +9,7 @@ use Rattle.bpaf_keys.specs.{Extra.IsNoVersion, Info.RunInfo}
 -- a refusal of a flag that isn't want of memory is of one that is absent and has no absent value:
 -- no clone was to be made
 abbrev pub ClonesNothing : {T : Type 0} → Named → Option T → Situation → Situation → Error → Type 0
-ClonesNothing named absent s t e =
-    is_memory e.0 ≡ false → IsFlagAbsent named s t × (absent ≡ None)
+ClonesNothing named absent s t e = is_memory e.0 ≡ false → IsFlagAbsent named s t × (absent ≡ None)
 
 -- a fault that is told of an argument's text is of one that means no value
 abbrev pub FaultsTextAlone : {T : Type 0} → (List ℕ → T → Type 0) → KeyWithValue → Situation

@@ -49,13 +49,11 @@ pub data IsNamed {T : Type 0} (inner : Outcome T) (describes : Shape → Type 0)
 -- their line, or of what is told where they have no line
 pub data IsOneOfTwelve {T : Type 0} (inner : Outcome T) (describes : Shape → Type 0)
     (info : RunInfo) (known : Known) (given : Given) : ParseFailure → Type 0 where
-  named : (context : Context) (name : Refusal) (f : ParseFailure)
-      → IsContext known given context
+  named : (context : Context) (name : Refusal) (f : ParseFailure) → IsContext known given context
       → IsNamed inner describes info (beginning context) name f
       → IsOneOfTwelve inner describes info known given f
   no_line : (word : List ℕ) (number : ℕ) (context : Context) (f : ParseFailure)
-      → HasNoLine known given.words word number
-      → context.line ≡ [] → context.name ≡ given.name
+      → HasNoLine known given.words word number → context.line ≡ [] → context.name ≡ given.name
       → Renders (message.Ambiguity word number) (beginning context) f
       → IsOneOfTwelve inner describes info known given f
   without_memory : IsOneOfTwelve inner describes info known given failure.Memory

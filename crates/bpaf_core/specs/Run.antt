@@ -37,8 +37,7 @@ pub data RunsWords (T : Type 0) (inner : Outcome T) (describes : Shape → Type 
       → Runs T inner (EndsRun describes info) (beginning context) r t
       → RunsWords T inner describes info known given r
   no_line : (word : List ℕ) (number : ℕ) (context : Context) (f : ParseFailure)
-      → HasNoLine known given.words word number
-      → context.line ≡ [] → context.name ≡ given.name
+      → HasNoLine known given.words word number → context.line ≡ [] → context.name ≡ given.name
       → Renders (message.Ambiguity word number) (beginning context) f
       → RunsWords T inner describes info known given (Err f)
   no_memory : RunsWords T inner describes info known given (Err failure.Memory)

@@ -4,6 +4,7 @@ ghost use Rattle.bpaf_laws.specs.Argument.{ArgumentOutcome, ArgumentReads, argum
 ghost use Rattle.bpaf_laws.specs.{KeyFirst.KeyBeforeEnvironment, ShownNames.of_arguments};
 ghost use Rattle.bpaf_laws.proofs.{ArgumentLaws.argument_lawful, ShownNames.argument_shows};
 ghost use Rattle.bpaf_core.specs.Leaves.{FaultsTextAlone};
+
 use crate::parser::Parser;
 use bpaf_doc::Meta;
 use bpaf_keys::take_argument;

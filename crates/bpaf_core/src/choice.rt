@@ -3,6 +3,7 @@ ghost use Rattle.bpaf_laws.specs.Choice.{ChoiceOutcome, ChoiceReads, ChoiceDescr
 ghost use Rattle.bpaf_laws.specs.Spared.{IsNotMemory, WithoutMemory};
 ghost use Rattle.bpaf_laws.specs.ShownNames.{joined_shorts};
 ghost use Rattle.bpaf_laws.proofs.{ChoiceLaws.choice_lawful, ShownNames.choice_shows};
+
 use crate::parser::Parser;
 use bpaf_doc::Meta;
 use bpaf_line::{Error, State};

@@ -4,6 +4,7 @@ ghost use Rattle.bpaf_core.specs.Leaves.{AsksForNeither};
 ghost use Rattle.bpaf_keys.specs.Extra.{ExtraOutcome, ExtraReads, extra_shape};
 ghost use Rattle.bpaf_keys.proofs.ExtraLaws.{extra_lawful, extra_shows};
 ghost use Rattle.bpaf_laws.specs.ShownNames.{of_flags};
+
 use crate::parser::Parser;
 use bpaf_doc::Meta;
 use bpaf_keys::{ExtraParams, Info};

@@ -4,6 +4,7 @@ ghost use Rattle.bpaf_core.specs.Leaves.{ClonesNothing};
 ghost use Rattle.bpaf_laws.specs.Flag.{FlagOutcome, FlagReads, flag_shape};
 ghost use Rattle.bpaf_laws.specs.ShownNames.{of_flags};
 ghost use Rattle.bpaf_laws.proofs.{FlagLaws.flag_lawful, ShownNames.flag_shows};
+
 use crate::parser::Parser;
 use bpaf_doc::Meta;
 use bpaf_keys::{absence, is_present};

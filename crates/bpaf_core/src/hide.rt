@@ -4,6 +4,7 @@ ghost use Rattle.bpaf_doc.specs.Shape.{Skip};
 ghost use Rattle.bpaf_laws.specs.Spared.{IsNotMemory, WithoutMemory};
 ghost use Rattle.bpaf_laws.specs.{Hide.HideOutcome, ShownNames.no_shorts};
 ghost use Rattle.bpaf_laws.proofs.{HideLaws.hide_lawful, ShownNames.one_shape};
+
 use crate::parser::Parser;
 use bpaf_doc::Meta;
 use bpaf_line::{Error, State};

@@ -3,6 +3,7 @@ ghost use Rattle.bpaf_laws.specs.Spared.{IsNotMemory, WithoutMemory};
 ghost use Rattle.bpaf_laws.specs.Transform.{MapOutcome, MapReads, ParseOutcome, GuardOutcome};
 ghost use Rattle.bpaf_laws.proofs.TransformLaws.{map_lawful, parse_lawful, guard_lawful};
 ghost use Rattle.std.specs.{Prelude.Ok, Prelude.◌≡◌, Prelude.true, Fn.FnReturnsAt};
+
 use crate::parser::Parser;
 use bpaf_doc::{Meta, Text};
 use bpaf_line::{Error, Message, State};

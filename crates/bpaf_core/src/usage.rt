@@ -2,6 +2,7 @@
 ghost use Rattle.bpaf_laws.specs.Hide.{UsageDescribes, SectionDescribes, TitledDescribes};
 ghost use Rattle.bpaf_laws.specs.Spared.{IsNotMemory, WithoutMemory};
 ghost use Rattle.bpaf_laws.proofs.ShownNames.{usage_shows, section_shows, titled_shows};
+
 use crate::parser::Parser;
 use bpaf_doc::{Doc, Meta, MetaInfo};
 use bpaf_line::{Error, State};

@@ -21,5 +21,4 @@ same_lines words =
     options_of lines
     (λ x y same. ap (λ (seen : Bool × (ℕ × List (List ℕ))).
     line (codes "verbose: " ++ truth seen.0) ++ line (codes "num: " ++ decimal seen.1.0)
-    ++ file_lines seen.1.1) same)))
-    program_known (program_given words)
+    ++ file_lines seen.1.1) same))) program_known (program_given words)

@@ -56,8 +56,7 @@ abbrev pub OptionsReads : Readings Options
 OptionsReads =
     MapReads FieldValues Options
     (BothReads Bool (ℕ × Vec String) (NamedSwitchReads verbose_names)
-    (BothReads ℕ (Vec String) NumReads FilesReads))
-    (λ x v. v ≡ options_of x)
+    (BothReads ℕ (Vec String) NumReads FilesReads)) (λ x v. v ≡ options_of x)
 
 -- all places of the words' line but the first `--` are dealt out to the switch, the number and the
 -- files, each used once

@@ -9,11 +9,8 @@ not_nil [] rest some = cc
 not_nil (c ∷ text) rest some = refl
 
 -- a document that has a piece of some text is not empty
-pub not_empty :
-    (pieces : List Piece) (i : ℕ) (piece : Piece)
-    → i < length pieces
-    → piece ≡ get_or pieces i piece
-    → (length piece.text == 0) ≡ false
+pub not_empty : (pieces : List Piece) (i : ℕ) (piece : Piece) → i < length pieces
+    → piece ≡ get_or pieces i piece → (length piece.text == 0) ≡ false
     → is_nil (printed true (drop i pieces)) ≡ false
 not_empty pieces i piece within here some =
     let opened : drop i pieces ≡ piece ∷ drop (suc i) pieces =

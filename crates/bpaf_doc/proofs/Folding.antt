@@ -11,9 +11,7 @@ use Rattle.bpaf_doc.specs.{declared.doc.Piece.Piece, Print.shown_as}
 use Rattle.bpaf_doc.specs.declared.doc.Style.TheVariants as style
 
 -- one character, where it is known whether it is a line break
-folded_character :
-    (after : Bool) (c : ℕ) (rest : List ℕ) (is_break : Bool)
-    → (c == 10) ≡ is_break
+folded_character : (after : Bool) (c : ℕ) (rest : List ℕ) (is_break : Bool) → (c == 10) ≡ is_break
     → folded_after after (c ∷ rest)
     ≡ (if is_break && not (after || keeps_break rest) then 32 else c) ∷ folded_after is_break rest
 folded_character after c rest is_break known =
@@ -28,24 +26,18 @@ no_break_head : (c : ℕ) (rest : List ℕ) → HasNoBreak (c ∷ rest) → (c =
 no_break_head c rest free = let differs : c ≢ 10 = free 0 (omega arith) in grind (arith, nat_tests)
 
 -- a text without line breaks stays as it is
-pub folded_plain :
-    (after : Bool) (text : List ℕ) → HasNoBreak text → folded_after after text ≡ text
+pub folded_plain : (after : Bool) (text : List ℕ) → HasNoBreak text → folded_after after text ≡ text
 folded_plain after [] free = refl
 folded_plain after (c ∷ rest) free =
     folded_character after c rest false (no_break_head c rest free)
     ∙ ap (λ x. c ∷ x) (folded_plain false rest (no_break_tail c rest free))
 
 -- a line that no line break stands before, and the line break behind it
-later_line :
-    (line more : List ℕ)
-    → HasNoBreak line
-    → folded_after false (line ++ 10 ∷ more)
+later_line : (line more : List ℕ) → HasNoBreak line → folded_after false (line ++ 10 ∷ more)
     ≡ line ++ break_or_space (keeps_break more) ∷ folded_after true more
 later_line [] more free = by_what_follows (keeps_break more)
   where
-    by_what_follows :
-        (keeps : Bool)
-        → (if not keeps then 32 else 10) ∷ folded_after true more
+    by_what_follows : (keeps : Bool) → (if not keeps then 32 else 10) ∷ folded_after true more
         ≡ break_or_space keeps ∷ folded_after true more
     by_what_follows true = refl
     by_what_follows false = refl
@@ -54,30 +46,25 @@ later_line (c ∷ line) more free =
     ∙ ap (λ x. c ∷ x) (later_line line more (no_break_tail c line free))
 
 -- behind a line that isn't empty a line break stays by what follows it alone
-break_behind_line :
-    (after : Bool) (c : ℕ) (line more : List ℕ)
+break_behind_line : (after : Bool) (c : ℕ) (line more : List ℕ)
     → break_between after (c ∷ line) more ≡ break_or_space (keeps_break more)
 break_behind_line after c line more =
     let some : (length (c ∷ line) == 0) ≡ false = grind (arith, nat_tests) in
     ap (λ x. break_or_space ((after && x) || keeps_break more)) some
     ∙ by_what_follows after (keeps_break more)
   where
-    by_what_follows :
-        (after keeps : Bool)
+    by_what_follows : (after keeps : Bool)
         → break_or_space ((after && false) || keeps) ≡ break_or_space keeps
     by_what_follows true keeps = refl
     by_what_follows false keeps = refl
 
 -- a line and the line break behind it
-pub folded_line :
-    (after : Bool) (line more : List ℕ)
-    → HasNoBreak line
+pub folded_line : (after : Bool) (line more : List ℕ) → HasNoBreak line
     → folded_after after (line ++ 10 ∷ more)
     ≡ line ++ break_between after line more ∷ folded_after true more
 folded_line after [] more free = by_its_neighbours after (keeps_break more)
   where
-    by_its_neighbours :
-        (after keeps : Bool)
+    by_its_neighbours : (after keeps : Bool)
         → (if not (after || keeps) then 32 else 10) ∷ folded_after true more
         ≡ break_or_space ((after && true) || keeps) ∷ folded_after true more
     by_its_neighbours true keeps = refl
@@ -89,30 +76,20 @@ folded_line after (c ∷ line) more free =
     ∙ ap (λ x. c ∷ (line ++ x ∷ folded_after true more)) (sym (break_behind_line after c line more))
 
 -- one line more is printed
-pub folded_more :
-    (out mid new full : List ℕ) (after : Bool) (rest line more : List ℕ)
-    → out ++ folded_after after rest ≡ full
-    → rest ≡ line ++ 10 ∷ more
-    → HasNoBreak line
-    → mid ≡ out ++ line
-    → new ≡ mid ++ break_between after line more ∷ []
+pub folded_more : (out mid new full : List ℕ) (after : Bool) (rest line more : List ℕ)
+    → out ++ folded_after after rest ≡ full → rest ≡ line ++ 10 ∷ more → HasNoBreak line
+    → mid ≡ out ++ line → new ≡ mid ++ break_between after line more ∷ []
     → new ++ folded_after true more ≡ full
 folded_more out mid new full after rest line more kept is_cut free put put_break =
     let between = break_between after line more in
     ap (λ x. x ++ folded_after true more) (put_break ∙ ap (λ x. x ++ between ∷ []) put)
-    ∙ append_assoc (out ++ line) _ _
-    ∙ append_assoc out line _
+    ∙ append_assoc (out ++ line) _ _ ∙ append_assoc out line _
     ∙ ap (λ x. out ++ x) (sym (folded_line after line more free))
-    ∙ ap (λ x. out ++ folded_after after x) (sym is_cut)
-    ∙ kept
+    ∙ ap (λ x. out ++ folded_after after x) (sym is_cut) ∙ kept
 
 -- the last line is printed
-pub folded_end :
-    (out new full : List ℕ) (after : Bool) (rest : List ℕ)
-    → out ++ folded_after after rest ≡ full
-    → HasNoBreak rest
-    → new ≡ out ++ rest
-    → new ≡ full
+pub folded_end : (out new full : List ℕ) (after : Bool) (rest : List ℕ)
+    → out ++ folded_after after rest ≡ full → HasNoBreak rest → new ≡ out ++ rest → new ≡ full
 folded_end out new full after rest kept free put =
     put ∙ ap (λ x. out ++ x) (sym (folded_plain after rest free)) ∙ kept
 
@@ -120,8 +97,7 @@ folded_end out new full after rest kept free put =
 no_empty_line : (text : List ℕ) → HasNoBreak text → (i : ℕ) → LacksTextAt empty_line text i
 no_empty_line [] free zero rest is = cc
 no_empty_line [] free (suc i) rest is = cc
-no_empty_line (c ∷ text) free zero rest is =
-    free 0 (omega arith) (ap (λ all. slice_index all 0) is)
+no_empty_line (c ∷ text) free zero rest is = free 0 (omega arith) (ap (λ all. slice_index all 0) is)
 no_empty_line (c ∷ text) free (suc i) rest is =
     no_empty_line text (no_break_tail c text free) i rest is
 
@@ -134,37 +110,26 @@ text_plain text pieces free are =
     (whole (λ i within. no_empty_line text free i))
 
 -- the one piece of a text without an empty line, put into an empty list
-pub text_whole :
-    (text shown : List ℕ) (none pieces : List Piece)
-    → ((i : ℕ) → i ≤ length text → LacksTextAt empty_line text i)
-    → shown ≡ folded text
-    → none ≡ []
-    → pieces ≡ none ++ shown_as style.Text shown ∷ []
-    → TextPieces text pieces
+pub text_whole : (text shown : List ℕ) (none pieces : List Piece)
+    → ((i : ℕ) → i ≤ length text → LacksTextAt empty_line text i) → shown ≡ folded text → none ≡ []
+    → pieces ≡ none ++ shown_as style.Text shown ∷ [] → TextPieces text pieces
 text_whole text shown none pieces lacks is_folded is_empty put =
     let are : pieces ≡ whole_pieces text =
-    put
-    ∙ ap (λ x. x ++ shown_as style.Text shown ∷ []) is_empty
+    put ∙ ap (λ x. x ++ shown_as style.Text shown ∷ []) is_empty
     ∙ ap (λ x. shown_as style.Text x ∷ []) is_folded in
     subst (TextPieces text) (sym are) (whole lacks)
 
 -- the two pieces of a text with an empty line, put into an empty list
 pub text_cut :
     (text before after shown shown_as_detail : List ℕ) (i : ℕ) (none one pieces : List Piece)
-    → text ≡ before ++ (empty_line ++ after)
-    → ((k : ℕ) → k < i → LacksTextAt empty_line text k)
-    → length before ≡ i
-    → shown ≡ folded before
-    → shown_as_detail ≡ 10 ∷ folded after
-    → none ≡ []
-    → one ≡ none ++ shown_as style.Text shown ∷ []
-    → pieces ≡ one ++ detail shown_as_detail ∷ []
+    → text ≡ before ++ (empty_line ++ after) → ((k : ℕ) → k < i → LacksTextAt empty_line text k)
+    → length before ≡ i → shown ≡ folded before → shown_as_detail ≡ 10 ∷ folded after → none ≡ []
+    → one ≡ none ++ shown_as style.Text shown ∷ [] → pieces ≡ one ++ detail shown_as_detail ∷ []
     → TextPieces text pieces
 text_cut text before after shown shown_as_detail i none one pieces
     is_cut lacks ends is_folded is_folded_too is_empty put put_detail =
     let are : pieces ≡ cut_pieces before after =
-    put_detail
-    ∙ ap (λ x. x ++ detail shown_as_detail ∷ [])
+    put_detail ∙ ap (λ x. x ++ detail shown_as_detail ∷ [])
     (put ∙ ap (λ x. x ++ shown_as style.Text shown ∷ []) is_empty)
     ∙ ap (λ x. shown_as style.Text x ∷ detail shown_as_detail ∷ []) is_folded
     ∙ ap (λ x. shown_as style.Text (folded before) ∷ detail x ∷ []) is_folded_too in

@@ -9,8 +9,7 @@ use Rattle.bpaf_doc.specs.{declared.meta.Meta.Meta, Walks.parts, Walks.parts_of_
 -- one member more: what was gathered before it, and what it and those after it give
 pub gathered_step :
     (shorts : Part → List ℕ) (all : List Meta) (i : ℕ) (member : Meta) (before new whole : List ℕ)
-    → i < length all
-    → member ≡ get_or all i member
+    → i < length all → member ≡ get_or all i member
     → before ++ flat_map shorts (parts_of_all (members_of (drop i all))) ≡ whole
     → new ≡ before ++ flat_map shorts (parts (shape_of member))
     → new ++ flat_map shorts (parts_of_all (members_of (drop (i + 1) all))) ≡ whole

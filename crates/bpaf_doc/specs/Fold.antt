@@ -60,12 +60,9 @@ cut_pieces before after =
 
 -- the pieces that a text gives, by whether it has an empty line; the first one counts
 pub data TextPieces (text : List ℕ) : List Piece → Type 0 where
-  whole :
-      ((i : ℕ) → i ≤ length text → LacksTextAt empty_line text i)
+  whole : ((i : ℕ) → i ≤ length text → LacksTextAt empty_line text i)
       → TextPieces text (whole_pieces text)
-  cut :
-      (before after : List ℕ)
-      → text ≡ before ++ (empty_line ++ after)
+  cut : (before after : List ℕ) → text ≡ before ++ (empty_line ++ after)
       → ((i : ℕ) → i < length before → LacksTextAt empty_line text i)
       → TextPieces text (cut_pieces before after)
 

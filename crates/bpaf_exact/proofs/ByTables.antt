@@ -46,8 +46,7 @@ map_law env A B inner answers names words s l =
 pub parse_law : (env : Variables) (A B E : Type 0) (inner : Outcome A)
     (answers : A → Result B E → Type 0) (shown : E → Option (List ℕ)) (names : List Names)
     (words : List (List ℕ)) (s : ProgramForm A) → Agrees (parse_closure answers) s
-    → FormLaw env inner names words s
-    → FormLaw env (ParseOutcome inner answers shown) names words
+    → FormLaw env inner names words s → FormLaw env (ParseOutcome inner answers shown) names words
     (program_closed (parse_closure answers) s)
 parse_law env A B E inner answers shown names words s g l =
     narrower_form env B _ _ (no_more by_answer) names words _
@@ -80,8 +79,7 @@ guard_law env A inner checks message names words s g l =
 -- optional
 pub optional_law : (env : Variables) (T : Type 0) (inner : Outcome T) (catch : Bool)
     (names : List Names) (words : List (List ℕ)) (s : ProgramForm T)
-    → FormLaw env inner names words s
-    → FormLaw env (TurnOutcome inner catch true) names []
+    → FormLaw env inner names words s → FormLaw env (TurnOutcome inner catch true) names []
     (program_if (not catch) (program_optional s))
 optional_law env T inner true names words s l = tt
 optional_law env T inner false names words s l =
@@ -135,8 +133,7 @@ many_law env T inner catch names words s =
 -- some
 pub some_law : (env : Variables) (T : Type 0) (inner : Outcome T) (catch : Bool)
     (message : List ℕ) (names : List Names) (words : List (List ℕ)) (s : ProgramForm T)
-    → FormLaw env inner names words s
-    → FormLaw env (SomeOutcome inner catch message) names []
+    → FormLaw env inner names words s → FormLaw env (SomeOutcome inner catch message) names []
     (repeated_form catch (some_closure T) s)
 some_law env T inner catch message names words s l =
     repeated_form_law env inner false catch (λ c. SomeOutcome inner c message) by_answer
@@ -199,8 +196,7 @@ fallback_form_law : (env : Variables) {T : Type 0} (inner : Outcome T) (gives : 
     (f : Closure (Unit {0}) T) → Decides f → ((v : T) → gives (Ok v) → f.yes tt v)
     → ((e : Error) → gives (Err e) → (class e ≡ OfMemory) ⊎ (f.no tt × (class e ≡ Caught)))
     → (names : List Names) (words : List (List ℕ)) (s : ProgramForm T)
-    → FormLaw env inner names words s
-    → FormLaw env (FallbackOutcome inner gives) names []
+    → FormLaw env inner names words s → FormLaw env (FallbackOutcome inner gives) names []
     (completed (λ k. k) (λ group gap. FallbackValue T group gap f) s)
 fallback_form_law env {T} inner gives f decides gave refused names words s l =
     narrower_form env T _ _ (no_more by_answer) names [] _

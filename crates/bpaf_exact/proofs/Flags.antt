@@ -66,8 +66,7 @@ module _ {T : Type 0} (clones : T → T → Type 0) (key : Key) (present : T)
 
   -- a flag that must be there
   flag_law : {env : Variables} → AlternativeLaw env T (FlagOutcome clones key present None)
-      (flag_roles key.names)
-      (FlagValue (clones present))
+      (flag_roles key.names) (FlagValue (clones present))
   flag_law = record {
     named = named clones key present;
     ok = λ s t v w o. ⊎_elim (λ here. ⊎_elim (λ takes. flag_found clones key present s takes here.1)

@@ -76,8 +76,7 @@ no_keys_left ByName q cs os e = e
 no_keys_left _ q cs os e = tt
 
 -- what a repeat takes, by whether it stops at the first piece
-pub each_front : (b : Bool) (o : LinePiece) (os : List LinePiece)
-    → front (EachWord b) (o ∷ os)
+pub each_front : (b : Bool) (o : LinePiece) (os : List LinePiece) → front (EachWord b) (o ∷ os)
     ≡ (if not (b && is_behind o) then (o ∷ front (EachWord b) os) else [])
 each_front false o os = refl
 each_front true o os = take_while-cons (λ o. not (is_behind o)) o os

@@ -41,9 +41,8 @@ pub keep_before : {env : Variables} {P Q R A B : Type 0} (first : R → P) (rest
     said more) r
 keep_before {env} {A} {B} first rest r outcome kind names words s said law says {behind} {others}
     {t} kept = record {
-      law = program_both_law env A B outcome behind (names (first r)) others words
-          (program_field s) t
-          (program_field_law env A outcome (names (first r)) words s law) kept.law;
+      law = program_both_law env A B outcome behind (names (first r)) others words (program_field s)
+          t (program_field_law env A outcome (names (first r)) words s law) kept.law;
       says = program_both_say first rest r outcome behind kind names words others env law kept.law
           says kept.says;
     }

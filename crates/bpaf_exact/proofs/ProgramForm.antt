@@ -178,8 +178,7 @@ words_apart words others apart k h = false_from_ne_true (is_one_of others k)
 -- a choice of two
 pub program_choice_law : (env : Variables) (T : Type 0) (a b : Outcome T) (own others : List Names)
     (words more : List (List ℕ)) (s t : ProgramForm T) → FormLaw env a own words s
-    → FormLaw env b others more t
-    → FormLaw env (ChoiceOutcome a b) (own ++ others) (words ++ more)
+    → FormLaw env b others more t → FormLaw env (ChoiceOutcome a b) (own ++ others) (words ++ more)
     (program_choice own others words more s t)
 program_choice_law env T a b own others words more (alternative wide q x) (alternative other r y) la
     lb =

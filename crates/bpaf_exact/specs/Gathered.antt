@@ -10,8 +10,7 @@ list_closure T = map_closure (λ values filled. filled.items ≡ values)
 
 -- some: the list, not empty
 abbrev pub some_closure : (T : Type 0) → Closure (List T) (Vec T)
-some_closure T =
-    record { yes = λ xs v. (v.items ≡ xs) × (xs ≡ [] → ⊥); no = λ xs. xs ≡ [] }
+some_closure T = record { yes = λ xs v. (v.items ≡ xs) × (xs ≡ [] → ⊥); no = λ xs. xs ≡ [] }
 
 -- it is the last of a list
 pub record IsLast (T : Type 0) (vs : List T) (v : T) : Type 0 where

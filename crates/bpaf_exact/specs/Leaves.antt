@@ -35,8 +35,7 @@ ArgumentValue means (One k) v = ⊥
 ArgumentValue means (Two k w) v = means (item_text w) v
 
 -- a word on a side of `--` that is accepted means what its text means; one on the other nothing
-abbrev pub WordValue : {T : Type 0} → (Bool → Bool) → (List ℕ → T → Type 0) → LinePiece → T
-    → Type 0
+abbrev pub WordValue : {T : Type 0} → (Bool → Bool) → (List ℕ → T → Type 0) → LinePiece → T → Type 0
 WordValue accepts means (One w) v = (accepts (stands_behind w) ≡ true) × means (item_text w) v
 WordValue accepts means (Two k w) v = ⊥
 
@@ -77,14 +76,12 @@ argument_field means argument variables =
     key_field (argument.adjacent || not (is_nil argument.named.envs))
     (is_nil argument.named.envs && not argument.last)
     (roles_of (is_argument_key argument.named.names argument.adjacent) WithNext)
-    (ArgumentValue means)
-    (argument_group means argument.last)
+    (ArgumentValue means) (argument_group means argument.last)
     (gap_of means (first_set variables argument.named.envs))
 
 -- a positional word on an accepted side, which stops before one behind `--` where that isn't one;
 -- where not both are it is wide
-abbrev pub word_by : {T : Type 0} → (Bool → Bool) → (List ℕ → T → Type 0)
-    → ProgramForm T
+abbrev pub word_by : {T : Type 0} → (Bool → Bool) → (List ℕ → T → Type 0) → ProgramForm T
 word_by {T = T} accepts means =
     single (not (accepts true && accepts false)) (OneWord (not (accepts true)))
     (roles_of is_positional Alone) (FrontOf T (WordValue accepts means)) (gap_of means None)

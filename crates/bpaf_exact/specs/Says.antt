@@ -186,8 +186,7 @@ FormSays {T = T} names (single wide k q group gap) kind said =
     × ((os rest : List LinePiece) (v : T) → group os v rest → FrontSays said os v rest)
     × ((v : T) → gap.absent v → said [] v)
 FormSays {T = T} names (complete wide k q value) kind said =
-    (kind ≡ of_kind k)
-    × ((os : List LinePiece) (v : T) → AllOwn k q os → value os v → said os v)
+    (kind ≡ of_kind k) × ((os : List LinePiece) (v : T) → AllOwn k q os → value os v → said os v)
 FormSays {T = T} names (product wide named r fields) kind said =
     (kind ≡ product_kind named)
     × ((whole os : List LinePiece) (v : T) → Fits names r whole → Fits names r os

@@ -63,9 +63,8 @@ pub record TookGroup (T : Type 0) (k : FieldKind) (q : Roles) (group : Groups T)
 pub data SingleOk (T : Type 0) (k : FieldKind) (q : Roles) (group : Groups T) (gap : Gap T)
     (s : Situation) (v : T) (t : Situation) : Type 0 where
   -- no piece: the absent value, and nothing is taken
-  gave_absent : gap.has ≡ true → front k (pieces q (cells s)) ≡ [] → gap.absent v → cells t ≡ cells
-      s
-      → Steady s t → SingleOk T k q group gap s v t
+  gave_absent : gap.has ≡ true → front k (pieces q (cells s)) ≡ [] → gap.absent v
+      → cells t ≡ cells s → Steady s t → SingleOk T k q group gap s v t
   -- the value of the first group
   took : TookGroup T k q group s v t → SingleOk T k q group gap s v t
 

@@ -26,8 +26,7 @@ has_bit_others words p w within same q other = ⊎_elim
     let inside : p / 64 < length words = omega arith in
     let apart : q % 64 ≢ p % 64 = λ e. other (omega arith) in
     let there : slice_index (slice_set words (p / 64) w) (q / 64) ≡ w = ap
-    (slice_index (slice_set words (p / 64) w)) here
-    ∙ get_or-set_same words (p / 64) w 0 inside in
+    (slice_index (slice_set words (p / 64) w)) here ∙ get_or-set_same words (p / 64) w 0 inside in
     ap (λ x. bit_at x (q % 64) == 1) there
     ∙ (ap (λ b. b == 1) (same (q % 64) (omega arith) apart)
     ∙ ap (λ k. bit_at (slice_index words k) (q % 64) == 1) (sym here)))
@@ -41,8 +40,7 @@ count_clear-none words low = count_below-none (is_clear_from words low) low
     (λ q below. and_left (nat_le low q) _ (lt-leb low q below))
 
 -- those of a part of one word are the clear bits of that part
-pub count_clear-word : (words : List ℕ) (low place wide : ℕ) → low ≤ place
-    → place % 64 + wide ≤ 64
+pub count_clear-word : (words : List ℕ) (low place wide : ℕ) → low ≤ place → place % 64 + wide ≤ 64
     → count_clear words low (place + wide) ≡ count_clear words low place
     + clear_within (slice_index words (place / 64)) (place % 64) wide
 count_clear-word words low place wide above inside =
@@ -69,11 +67,9 @@ has_bit_zero n p = ap (λ x. bit_at x (p % 64) == 1) (zero_at (p / 64))
     ∙ ap (λ b. b == 1) (bit_at-zero (p % 64))
   where
     zero_at : (i : ℕ) → slice_index (replicate n 0) i ≡ 0
-    zero_at i = ⊎_elim
-        (λ (within : i < n). get_or-replicate n i 0 0 within)
+    zero_at i = ⊎_elim (λ (within : i < n). get_or-replicate n i 0 0 within)
         (λ (past : n ≤ i). get_or_past (replicate n 0) i 0
-        (omega (arith, length-replicate {A = ℕ} n 0)))
-        (cases_lt i n)
+        (omega (arith, length-replicate {A = ℕ} n 0))) (cases_lt i n)
 
 -- in words that were 0 before one bit was set, that bit alone is set
 pub has_bit_one : (n m : ℕ) (words : List ℕ) → ChangesBit (replicate n 0) words m true → (p : ℕ)

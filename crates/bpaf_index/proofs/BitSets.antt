@@ -20,12 +20,10 @@ pub changes_more : (old words new places : List ℕ) (p : ℕ) (bit : Bool)
     → ChangesBits old new (places ++ p ∷ []) bit
 changes_more old words new places p bit h change = record {
   kept = change.kept ∙ h.kept;
-  here = λ q on. ⊎_elim
-      (λ (at : q ≡ p). ap (has_bit new) at ∙ change.here)
+  here = λ q on. ⊎_elim (λ (at : q ≡ p). ap (has_bit new) at ∙ change.here)
       (λ (other : q ≢ p). change.others q other ∙ h.here q (sym (on_others places p q other) ∙ on))
       (cases_eq q p);
-  others = λ q off. ⊎_elim
-      (λ (at : q ≡ p). absurd (true≢false (sym (on_itself q at) ∙ off)))
+  others = λ q off. ⊎_elim (λ (at : q ≡ p). absurd (true≢false (sym (on_itself q at) ∙ off)))
       (λ (other : q ≢ p). change.others q other
       ∙ h.others q (sym (on_others places p q other) ∙ off))
       (cases_eq q p);
@@ -63,18 +61,14 @@ pub least_skip : (words places : List ℕ) (p : ℕ) (bit : Bool) (found : Optio
 least_skip words places p bit None h off = λ q. ⊎_elim
     (λ (at : q ≡ p). ap (is_on_as words (places ++ p ∷ []) bit) at
     ∙ (on_as_here words places p bit ∙ off))
-    (λ (other : q ≢ p). on_as_more words places p bit q other ∙ h q)
-    (cases_eq q p)
+    (λ (other : q ≢ p). on_as_more words places p bit q other ∙ h q) (cases_eq q p)
 least_skip words places p bit (Some least) h off = (
-  ⊎_elim
-      (λ (at : least ≡ p). absurd (true≢false (sym h.0 ∙ without least at)))
-      (λ (other : least ≢ p). on_as_more words places p bit least other ∙ h.0)
-      (cases_eq least p),
+  ⊎_elim (λ (at : least ≡ p). absurd (true≢false (sym h.0 ∙ without least at)))
+      (λ (other : least ≢ p). on_as_more words places p bit least other ∙ h.0) (cases_eq least p),
   λ q below. ⊎_elim
       (λ (at : q ≡ p). ap (is_on_as words (places ++ p ∷ []) bit) at
       ∙ (on_as_here words places p bit ∙ off))
-      (λ (other : q ≢ p). on_as_more words places p bit q other ∙ h.1 q below)
-      (cases_eq q p),
+      (λ (other : q ≢ p). on_as_more words places p bit q other ∙ h.1 q below) (cases_eq q p),
 )
   where
     and_false : (b : Bool) → (b && false) ≡ false

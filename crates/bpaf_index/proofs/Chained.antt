@@ -99,8 +99,7 @@ headed_set classes heads class head headed inside there k within = ⊎_elim
     (subst (IsPlaceOf classes class) (sym (get_or-set_same heads class head 0 inside)) there))
     (λ (other : k ≢ class). subst (IsPlaceOf classes k)
     (sym (get_or-set_other heads class k head 0 other))
-    (headed k (omega (arith, length-set heads class head))))
-    (cases_eq k class)
+    (headed k (omega (arith, length-set heads class head)))) (cases_eq k class)
 
 -- the links stay right where the chain of a place's class begins at another of its places
 pub linked_passed : (s : Inside) (classes : List ℕ) (place from head : ℕ) → IsLinked s → classes
@@ -136,8 +135,7 @@ class_inside s classes place h same within =
 -- place
 pub linked_first : (s : Inside) (classes next heads : List ℕ) → rc_slice_items s.classes ≡ classes
     → rc_slice_items s.next ≡ next → s.heads.items ≡ heads → 128 < length heads → length next
-    ≡ length classes
-    → ((p : ℕ) → p < length classes → slice_index classes p < length heads)
+    ≡ length classes → ((p : ℕ) → p < length classes → slice_index classes p < length heads)
     → ((p : ℕ) → p < length classes → IsNextOf classes (slice_index classes p) (p + 1)
     (slice_index next p))
     → ((k : ℕ) → k < length heads → IsNextOf classes k 0 (slice_index heads k)) → IsLinked s
@@ -200,8 +198,7 @@ keyless_more line p item within read other h = record {
       (λ (at : q ≡ p). ap (named_at line names) at
       ∙ (ap (λ found. option_map_or (is_key_of names) found false)
       (slice_get_read line (length line) p item refl within read) ∙ no_key names item other))
-      (λ (behind : q ≢ p). h.none names q (omega (arith, behind)))
-      (cases_eq q p);
+      (λ (behind : q ≢ p). h.none names q (omega (arith, behind))) (cases_eq q p);
 }
 
 -- one of two is true, where the other isn't
@@ -242,8 +239,7 @@ pub behind_passed : (line : List Arg) (set : ℕ → Bool) (old : Chained) (plac
     → AreBehind line set old → place < length old.classes
     → slice_index old.classes place < length old.heads → from ≡ head_of old place
     → IsPlaceOf old.classes (slice_index old.classes place) from
-    → HasWalked old.classes set from head
-    → AreBehind line set
+    → HasWalked old.classes set from head → AreBehind line set
     (record old { heads = slice_set old.heads (slice_index old.classes place) head })
 behind_passed line set old place from head h within inside read headed walked =
     let class = slice_index old.classes place in

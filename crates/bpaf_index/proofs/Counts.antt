@@ -50,18 +50,15 @@ pub count_below-cut : (f : ℕ → Bool) (n m : ℕ) → n ≤ m → ((q : ℕ) 
     → count_below f m ≡ count_below f n
 count_below-cut f n zero within lacks = let at : n ≡ 0 = omega arith in rw at refl
 count_below-cut f n (suc m) within lacks =
-    ⊎_elim
-    (λ (below : m < n). let at : n ≡ suc m = omega arith in rw at refl)
+    ⊎_elim (λ (below : m < n). let at : n ≡ suc m = omega arith in rw at refl)
     (λ (above : n ≤ m). rw (lacks m above (omega arith))
-    (count_below-cut f n m above (λ q l h. lacks q l (omega arith))))
-    (cases_lt m n)
+    (count_below-cut f n m above (λ q l h. lacks q l (omega arith)))) (cases_lt m n)
 
 -- a set with a number below n has at least one
 pub count_below-some : (f : ℕ → Bool) (n p : ℕ) → p < n → f p ≡ true → 1 ≤ count_below f n
 count_below-some f zero p within has = absurd (omega arith)
 count_below-some f (suc n) p within has =
-    ⊎_elim
-    (λ (below : p < n). at_least (f n) (count_below f n) (count_below-some f n p below has))
+    ⊎_elim (λ (below : p < n). at_least (f n) (count_below f n) (count_below-some f n p below has))
     (λ (above : n ≤ p). let there : f n ≡ true = ap f (omega arith) ∙ has in rw there (omega arith))
     (cases_lt p n)
   where

@@ -125,14 +125,12 @@ follows_unless has class Other later first_new later_new f g =
     subst (λ x. Follows has class later (unless_other x later_new)) (sym (f.other refl)) g
 
 -- so changes the slot of a class, by the item of its owner
-follows_owner : (names : Names) (class : ℕ) (item : Arg) (found : Option Arg)
-    → found ≡ Some item → Follows (is_key_of names item) class (slot_by names class None)
-    (slot_by names class found)
+follows_owner : (names : Names) (class : ℕ) (item : Arg) (found : Option Arg) → found ≡ Some item
+    → Follows (is_key_of names item) class (slot_by names class None) (slot_by names class found)
 follows_owner names class item found is = record {
   own = λ k e. cc;
   other = λ e. cc;
-  gained = λ has e. ap (slot_by names class) is
-      ∙ ap (λ b. if b then Own class else Other) has;
+  gained = λ has e. ap (slot_by names class) is ∙ ap (λ b. if b then Own class else Other) has;
 }
 
 -- a class that isn't the one that is owned now stays as it was
@@ -310,8 +308,7 @@ owns_free line old new place class item name word attached long found is inside 
       inside = inside;
       free = free;
       owned = owned;
-      gives = λ count below.
-          ap (λ naming. class_in line naming count item) owned
+      gives = λ count below. ap (λ naming. class_in line naming count item) owned
           ∙ ap (class_in line (record old { owners = slice_set old.owners class place }) count) long
           ∙ owned_class line old count place class name word attached is inside free
           (found ∙ ap Some long) below;

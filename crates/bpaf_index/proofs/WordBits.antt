@@ -90,14 +90,12 @@ stretch_whole word low n inside none is = record {
 }
 
 -- else it goes to the lowest that is set
-run_part : (word low zeros n : ℕ) → word < 2 ^ 64 → low < 64
-    → bit_at (word / 2 ^ low) zeros ≡ 1
+run_part : (word low zeros n : ℕ) → word < 2 ^ 64 → low < 64 → bit_at (word / 2 ^ low) zeros ≡ 1
     → ((i : ℕ) → i < zeros → bit_at (word / 2 ^ low) i ≡ 0) → n ≡ min zeros (64 - low)
     → IsClearStretch word low n
 run_part word low zeros n fits inside set clear is =
     let there : bit_at word (low + zeros) ≡ 1 = sym (bit_shifted word low zeros) ∙ set in
-    let below : low + zeros < 64 = ⊎_elim
-    (λ (within : low + zeros < 64). within)
+    let below : low + zeros < 64 = ⊎_elim (λ (within : low + zeros < 64). within)
     (λ (past : 64 ≤ low + zeros). absurd
     (omega (arith, there, bit_at_above word 64 (low + zeros) fits past)))
     (cases_lt (low + zeros) 64) in

@@ -91,8 +91,7 @@ class_by naming count text Other =
 
 -- the class of a long name, of so many
 abbrev pub class_of_long : List Arg → Naming → ℕ → List ℕ → ℕ
-class_of_long line naming count name =
-    class_by naming count name (slot_of line naming.owners name)
+class_of_long line naming count name = class_by naming count name (slot_of line naming.owners name)
 
 -- the class of a short name, of so many; each of ASCII is alone in its own
 abbrev pub class_of_short : Naming → ℕ → ℕ → ℕ

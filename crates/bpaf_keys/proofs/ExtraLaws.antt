@@ -31,8 +31,7 @@ flag_read named s is t looked =
 -- what looking for a key keeps
 pub key_keeps : (named : Named) (s : Situation) (is : Bool) (t : Situation) → IsPresent named s is t
     → Keeps s t
-key_keeps named s is t looked =
-    (flag_read named s is t looked).keeps
+key_keeps named s is t looked = (flag_read named s is t looked).keeps
 
 -- two keys that are looked for one after the other are read as two switches
 keys_read : (first rest : Named) (s m t : Situation) (a b : Bool) → IsPresent first s a m
@@ -63,10 +62,8 @@ module _ (info : RunInfo) where
 
   -- what looking for the version in vain keeps
   pub no_version_keeps : (s t : Situation) → IsNoVersion info s t → Keeps s t
-  no_version_keeps s t none = ⊎_elim
-      (λ unset. keeps_same s t unset.1)
-      (λ absent. key_keeps info.version_arg s false t absent.2)
-      none
+  no_version_keeps s t none = ⊎_elim (λ unset. keeps_same s t unset.1)
+      (λ absent. key_keeps info.version_arg s false t absent.2) none
 
   -- what looking in vain keeps
   extra_refused : (s t : Situation) (e : Error) → ExtraOutcome info s (Err e) t → Keeps s t
@@ -88,8 +85,7 @@ module _ (info : RunInfo) where
   }
 
 -- and shows the short names of the keys that are looked for
-pub extra_shows : (info : RunInfo)
-    → ShowsNames (λ shape. shape ≡ extra_shape info)
+pub extra_shows : (info : RunInfo) → ShowsNames (λ shape. shape ≡ extra_shape info)
     (of_flags (option_map_or (λ text. info.help_arg.names.shorts ++ info.version_arg.names.shorts)
     info.version info.help_arg.names.shorts))
 extra_shows info = one_shape (of_version info.version info.help_arg info.version_arg)

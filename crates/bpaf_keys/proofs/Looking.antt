@@ -81,8 +81,7 @@ module _ (info : RunInfo) (s : Situation) where
         pub then_version : (found : Option (List Piece)) → LooksForVersion info t (Ok found) u
             → (text : List Piece) → found ≡ Some text
             → ExtraOutcome info s (Ok (extra.Version text)) u
-        then_version (Some one) found text is =
-            version text t u without_help (found.0 ∙ is) found.1
+        then_version (Some one) found text is = version text t u without_help (found.0 ∙ is) found.1
         then_version None found text is = cc
 
         -- nor is the version's
@@ -94,5 +93,4 @@ module _ (info : RunInfo) (s : Situation) where
             (keeps_trans s t u (key_keeps info.help_arg s false t without_help)
             (no_version_keeps info t u none)))
             (λ (is : e.0 ≡ message.ParseFail (codes "not a version or help")).
-            neither e t u without_help none is)
-            asked
+            neither e t u without_help none is) asked

@@ -36,8 +36,7 @@ module _ (a b : List (List ℕ)) (s : Situation) where
   -- where none of some words is taken, and then one of others, or none, it is so of all of them
   pub takes_behind : (m : Situation) (r : Option ℕ) (t : Situation) → TakesOpening a s None m
       → TakesOpening b m r t → TakesOpening (a ++ b) s r t
-  takes_behind m r t before takes = from r t
-      (subst (λ x. TakesOpening b x r t) before.1 takes)
+  takes_behind m r t before takes = from r t (subst (λ x. TakesOpening b x r t) before.1 takes)
     where
       from : (r : Option ℕ) (t : Situation) → TakesOpening b (with_current s None) r t
           → TakesOpening (a ++ b) s r t
@@ -50,8 +49,7 @@ module _ (a b : List (List ℕ)) (s : Situation) where
       )
       from (Some p) t found = (
         record {
-          first =
-              record { matches = found.0.first.matches; first = found.0.first.first };
+          first = record { matches = found.0.first.matches; first = found.0.first.first };
           named =
               one_of_both a b (item_at s p)
               ∙ second_holds (option_map_or (is_one_of a) (item_at s p) false)

@@ -19,8 +19,7 @@ IsNoVersion info s t =
 
 -- that neither is asked for; or memory for the text is wanted
 abbrev pub IsNotAsked : Message → Type 0
-IsNotAsked m =
-    (m ≡ message.Memory) ⊎ (m ≡ message.ParseFail (codes "not a version or help"))
+IsNotAsked m = (m ≡ message.Memory) ⊎ (m ≡ message.ParseFail (codes "not a version or help"))
 
 -- looking for the version: it is asked for, or it isn't; or memory is wanted
 abbrev pub LooksForVersion : RunInfo → Situation → Result (Option (List Piece)) Error → Situation
@@ -66,8 +65,7 @@ key_shape named = flag_shape {T = Bool} named None
 -- what is shown of them: help, and where a version is set that too
 abbrev pub extra_shape_of : Option (List Piece) → Named → Named → Shape
 extra_shape_of None first second = key_shape first
-extra_shape_of (Some text) first second =
-    And (members (key_shape first ∷ key_shape second ∷ []))
+extra_shape_of (Some text) first second = And (members (key_shape first ∷ key_shape second ∷ []))
 
 -- that of a run
 abbrev pub extra_shape : RunInfo → Shape

@@ -18,7 +18,6 @@ module _ {T : Type 0} (means : List ℕ → T → Type 0) (argument : KeyWithVal
 
   -- what reading the text of an argument answers
   pub value_read : (r : Result T Error) → GetsText argument s text t
-      → ReadsValue means text t.current r
-      → ArgumentOutcome means argument s r t
+      → ReadsValue means text t.current r → ArgumentOutcome means argument s r t
   value_read (Ok v) gets meant = (text, gets, meant)
   value_read (Err e) gets fault = fault_refused e.0 gets fault

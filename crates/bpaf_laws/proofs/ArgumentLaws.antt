@@ -70,16 +70,14 @@ module _ (T : Type 0) (means : List ℕ → T → Type 0) (argument : KeyWithVal
 
   -- a text of the line, which means the answer, is a reading of it
   argument_read : (s t : Situation) (v : T) (text : List ℕ)
-      → TakesOwnText argument.last argument s text t → means text v
-      → Reads T reads_argument s v t
+      → TakesOwnText argument.last argument s text t → means text v → Reads T reads_argument s v t
   argument_read s t v text takes meant =
       let got = got_text argument s text t argument.last takes in
       record { keeps = got.keeps; closed = got.closed; reading = inl (text, got.is, meant) }
 
   -- a text of the environment, which means the answer, is a reading of it
   variable_read : (s t : Situation) (v : T) (text : List ℕ) → ReadsVariable argument s text t
-      → means text v
-      → Reads T reads_argument s v t
+      → means text v → Reads T reads_argument s v t
   variable_read s t v text found meant =
       reads_unset reads_argument s t v found.left
       (inr (newly_none s, subst (λ set. IsSomeRelated means set v) (sym found.set) meant))
@@ -88,14 +86,12 @@ module _ (T : Type 0) (means : List ℕ → T → Type 0) (argument : KeyWithVal
   text_keeps : (s t : Situation) (text : List ℕ) → GetsText argument s text t → Keeps s t
   text_keeps s t text gets = ⊎_elim
       (λ takes. (got_text argument s text t argument.last takes).keeps)
-      (λ found. keeps_unset s t found.left)
-      gets
+      (λ found. keeps_unset s t found.left) gets
 
   -- what a refusal of an argument keeps
   argument_refused : (s t : Situation) (m : Message) → ArgumentFails means argument s m t
       → Keeps s t
-  argument_refused s t (NoArgument key name) fails =
-      before_keeps argument.last argument s t fails.1
+  argument_refused s t (NoArgument key name) fails = before_keeps argument.last argument s t fails.1
   argument_refused s t (ParseFailed place fault) fails = text_keeps s t fails.0 fails.1
   argument_refused s t Memory fails =
       ⊎_elim (λ before. before_keeps argument.last argument s t before)

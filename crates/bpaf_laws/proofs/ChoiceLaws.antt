@@ -126,8 +126,10 @@ module _ {T : Type 0} {first second : Outcome T} {rf rs : Readings T} (lf : Lawf
     came_answers r t (second_refused e is answer left) =
         rw (answer, left) (keeps_refl s, named_second e is)
     came_answers r t (both_refused e d both is other combined answer left) =
-        rw (answer, left) (keeps_refl s, names_combined e.0 d.0 both.0 (named_first e is)
-        (named_second d other) combined)
+        rw (answer, left) (
+          keeps_refl s,
+          names_combined e.0 d.0 both.0 (named_first e is) (named_second d other) combined,
+        )
 
   -- so is one of branches that were evaluated
   evaluated : (r : Result T Error) (t : Situation) → BranchesEval first second s r t

@@ -7,8 +7,7 @@ use Rattle.bpaf_laws.specs.{Reading.Readings, Reading.Outcome, Laws.Lawful}
 
 -- a choice of a lawful outcome and of lawful parsers is lawful
 pub from_lawful : {T P : Type 0} (outcome : P → Outcome T) (reads : P → Readings T)
-    (before : Outcome T)
-    (read : Readings T) (ps : List P)
+    (before : Outcome T) (read : Readings T) (ps : List P)
     → ((p : P) → Lawful T (outcome p) (reads p)) → Lawful T before read
     → Lawful T (Nested ChoiceOutcome outcome before ps) (Nested ChoiceReads reads read ps)
 from_lawful outcome reads before read [] each law = law

@@ -93,8 +93,7 @@ leftmost_of_other s other p h = record {
 -- where the second branch doesn't win against the first, the first one does
 pub first_wins : {T : Type 0} (first second : AnsweredBranch T) (place : ℕ) (t : Situation)
     → IsWinner second.left first.left (false, Some place)
-    → ConflictsSaved first.left second.left place t
-    → ValueOfWinner first second (Ok first.value) t
+    → ConflictsSaved first.left second.left place t → ValueOfWinner first second (Ok first.value) t
 first_wins first second place t winner saved =
     let left = leftmost_of_other second.left first.left place winner.0 in
     ((true, Some place), (left, left.differs ∙ ap not winner.1), (refl, saved))
@@ -102,8 +101,7 @@ first_wins first second place t winner saved =
 -- and where it wins, it is the winner
 pub second_wins : {T : Type 0} (first second : AnsweredBranch T) (place : ℕ) (t : Situation)
     → IsWinner second.left first.left (true, Some place)
-    → ConflictsSaved second.left first.left place t
-    → ValueOfWinner first second (Ok second.value) t
+    → ConflictsSaved second.left first.left place t → ValueOfWinner first second (Ok second.value) t
 second_wins first second place t winner saved =
     let left = leftmost_of_other second.left first.left place winner.0 in
     ((false, Some place), (left, left.differs ∙ ap not winner.1), (refl, saved))

@@ -102,8 +102,7 @@ from_spared outcome before (p ∷ ps) s t r o spared =
 
 -- nor does a choice of any number
 pub choices_spared : {T P : Type 0} (outcome : P → Outcome T) (ps : List P) (s t : Situation)
-    (r : Result T Error)
-    → ChoicesOutcome outcome ps s r t → IsNotMemory r
+    (r : Result T Error) → ChoicesOutcome outcome ps s r t → IsNotMemory r
     → ChoicesOutcome (λ p. WithoutMemory (outcome p)) ps s r t
 choices_spared outcome [] s t r o spared = o
 choices_spared outcome (p ∷ ps) s t r o spared = from_spared outcome (outcome p) ps s t r o spared

@@ -40,8 +40,7 @@ module _ (words : List (List ℕ)) (s : Situation) (p : ℕ) (at : IsOpenedAt wo
 
   -- what taking it keeps, and the scope behind it
   pub keeps_opened : Keeps s (opened s p)
-  keeps_opened =
-      keeps_scope s (take_place s p) p s.end (keeps_take s p word_is_open) scope_narrows
+  keeps_opened = keeps_scope s (take_place s p) p s.end (keeps_take s p word_is_open) scope_narrows
 
   -- a place of the old scope that isn't behind it stands before it
   stands_before : (q : ℕ) → in_scope s q ≡ true → in_scope (opened s p) q ≡ false → q < p
@@ -49,36 +48,31 @@ module _ (words : List (List ℕ)) (s : Situation) (p : ℕ) (at : IsOpenedAt wo
 
   -- and is taken, since the word is the first present item
   taken_before : (q : ℕ) → in_scope s q ≡ true → q < p → is_taken s q ≡ true
-  taken_before q within before = ⊎_elim
-      (λ (taken : is_taken s q ≡ true). taken)
+  taken_before q within before = ⊎_elim (λ (taken : is_taken s q ≡ true). taken)
       (λ (present : is_taken s q ≡ false). absurd (true≢false
       (sym (open_has_item s q
       (open_unless_taken (in_scope s q) (is_taken s q) within present))
-      ∙ at.first.first q before)))
-      (cases_Bool (is_taken s q))
+      ∙ at.first.first q before))) (cases_Bool (is_taken s q))
 
 -- where nothing is counted, nothing is open
 nothing_open : (t : Situation) → open_count t ≡ 0 → (q : ℕ) → is_open t q ≡ false
 nothing_open t none q = ⊎_elim
     (λ (there : is_open t q ≡ true). absurd (true≢false (sym there
     ∙ none_below (is_open t) (length t.context.line) none q (open_in_line t q there))))
-    (λ (closed : is_open t q ≡ false). closed)
-    (cases_Bool (is_open t q))
+    (λ (closed : is_open t q ≡ false). closed) (cases_Bool (is_open t q))
 
 -- where nothing is present any more in scope, all that was in scope is taken
 pub leaves_nothing : (s t : Situation) → Closes s t → open_count t ≡ 0 → LeavesNothing s t
 leaves_nothing s t closed none q within = ⊎_elim
     (λ (still : in_scope t q ≡ true).
     taken_unless_open (in_scope t q) (is_taken t q) still (nothing_open t none q))
-    (λ (outside : in_scope t q ≡ false). closed q within outside)
-    (cases_Bool (in_scope t q))
+    (λ (outside : in_scope t q ≡ false). closed q within outside) (cases_Bool (in_scope t q))
 
 module _ (called : Called) (s : Situation) (p : ℕ)
     (at : IsOpenedAt (opening_words called) s p) where
   -- what going inside a command keeps
   pub keeps_inside : Keeps s (inside called s p)
-  keeps_inside =
-      keeps_path s (opened s p) called.name (keeps_opened (opening_words called) s p at)
+  keeps_inside = keeps_path s (opened s p) called.name (keeps_opened (opening_words called) s p at)
 
   -- a place that is left outside it is taken
   pub closes_inside : Closes s (inside called s p)
@@ -102,8 +96,7 @@ module _ (called : Called) (s : Situation) (p : ℕ)
               first_share = newly s m;
               rest_share = newly m t;
               joins = newly_joins s m t keeps_inside read.keeps;
-              first_read =
-                  (at.named, newly_take s p (word_is_open (opening_words called) s p at));
+              first_read = (at.named, newly_take s p (word_is_open (opening_words called) s p at));
               rest_read = read.reading;
             };
           };

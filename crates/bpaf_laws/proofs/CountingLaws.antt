@@ -24,8 +24,7 @@ join_at false false false a b c p q e = e
 
 -- two sets that have no number in common have together as many as the set that they make
 pub count_below-joined : (whole f g : ℕ → Bool) (n : ℕ) → ((p : ℕ) → whole p ≡ (f p || g p))
-    → ((p : ℕ) → (f p && g p) ≡ false)
-    → count_below whole n ≡ count_below f n + count_below g n
+    → ((p : ℕ) → (f p && g p) ≡ false) → count_below whole n ≡ count_below f n + count_below g n
 count_below-joined whole f g zero all apart = refl
 count_below-joined whole f g (suc n) all apart =
     join_at (whole n) (f n) (g n) _ _ _ (all n) (apart n) (count_below-joined whole f g n all apart)
@@ -71,8 +70,7 @@ open_count-falls s t k c =
     let same : length t.context.line ≡ length s.context.line = ap (λ context. length context.line)
     k.context in
     count_below-joined (is_open s) (is_open t) (newly s t) (length s.context.line) joins.all
-    joins.apart
-    ∙ ap (λ n. count_below (is_open t) n + taken_count s t) (sym same)
+    joins.apart ∙ ap (λ n. count_below (is_open t) n + taken_count s t) (sym same)
 
 -- so it does for every parser that keeps to the laws
 pub lawful_falls : {T : Type 0} {outcome : Outcome T} {reads : Readings T} → Lawful T outcome reads
@@ -90,10 +88,8 @@ pub none_below : (set : ℕ → Bool) (n : ℕ) → count_below set n ≡ 0 → 
 none_below set zero e p within = absurd (omega arith)
 none_below set (suc n) e p within =
     let parts = none_at (set n) (count_below set n) e in
-    ⊎_elim
-    (λ (same : p ≡ n). subst (λ q. set q ≡ false) (sym same) parts.0)
-    (λ other. none_below set n parts.1 p (omega arith))
-    (cases_eq p n)
+    ⊎_elim (λ (same : p ≡ n). subst (λ q. set q ≡ false) (sym same) parts.0)
+    (λ other. none_below set n parts.1 p (omega arith)) (cases_eq p n)
 
 -- a set with some numbers below n has one
 some_below : (set : ℕ → Bool) (n : ℕ) → 0 < count_below set n → HasPlace set
@@ -118,8 +114,7 @@ pub same_took_none : (s t : Situation) → Keeps s t → Closes s t → open_cou
 same_took_none s t k c same p =
     let falls = open_count-falls s t k c in
     let none : taken_count s t ≡ 0 = omega arith in
-    ⊎_elim
-    (λ within. none_below (newly s t) (length s.context.line) none p within)
+    ⊎_elim (λ within. none_below (newly s t) (length s.context.line) none p within)
     (λ (beyond : length s.context.line ≤ p).
     false_from_ne_true (newly s t p)
     (λ new. let within = open_in_line s p (k.fresh p new) in absurd (omega arith)))

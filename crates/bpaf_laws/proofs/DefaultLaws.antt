@@ -15,8 +15,7 @@ use Rattle.bpaf_laws.proofs.NamesAnswer.{names_fault, names_want}
 -- a refusal by a closure is the answer of no run inside
 pub names_answer : {T E : Type 0} (answers : Result T E → Type 0) (shown : E → Option (List ℕ))
     → NamesGiven (GivesAnswer answers shown)
-names_answer answers shown e gives =
-    names_fault shown gives.0 PureFailed e.0 (λ text. tt) gives.2
+names_answer answers shown e gives = names_fault shown gives.0 PureFailed e.0 (λ text. tt) gives.2
 
 module _ {T : Type 0} {inner : Outcome T} {reads : Readings T} (law : Lawful T inner reads) where
   -- what a turn's error keeps, and that it names its answer

@@ -59,11 +59,9 @@ module _ (T : Type 0) (clones : T → T → Type 0) (named : Named) (present : T
   -- a flag that is present, with a clone of the present value, is a reading
   flag_present : (s t : Situation) (v : T) → IsFlagPresent named s t → clones present v
       → Reads T reads_flag s v t
-  flag_present s t v is value = ⊎_elim
-      (λ takes. flag_found s t v takes value)
+  flag_present s t v is value = ⊎_elim (λ takes. flag_found s t v takes value)
       (λ set. reads_same reads_flag s t v set.0.1
-      (nowhere (newly_none s) (kept_set (first_set s.context.env named.envs) v set.1 value)))
-      is
+      (nowhere (newly_none s) (kept_set (first_set s.context.env named.envs) v set.1 value))) is
 
   -- a flag that is absent, with a clone of the absent value, is a reading
   flag_absent : (s t : Situation) (v : T) → IsFlagAbsent named s t → IsSomeRelated clones absent v
@@ -74,10 +72,8 @@ module _ (T : Type 0) (clones : T → T → Type 0) (named : Named) (present : T
 
   -- what the test of a flag's key keeps
   present_keeps : (s t : Situation) (is : Bool) → IsPresent named s is t → Keeps s t
-  present_keeps s t true found = ⊎_elim
-      (λ takes. flag_keeps named.names s true t takes)
-      (λ set. flag_keeps named.names s false t set.0)
-      found
+  present_keeps s t true found = ⊎_elim (λ takes. flag_keeps named.names s true t takes)
+      (λ set. flag_keeps named.names s false t set.0) found
   present_keeps s t false none = flag_keeps named.names s false t none.0
 
   -- what a refusal of a flag keeps

@@ -198,8 +198,7 @@ keeps_path s t entry k =
                 ap (λ path. path ++ entry ∷ []) k.path.is
                 ∙ append_assoc s.path k.path.more (entry ∷ []);
           };
-      marks =
-          keeps_marks_trans s t (with_path t entry) k.marks (keeps_marks_path t entry);
+      marks = keeps_marks_trans s t (with_path t entry) k.marks (keeps_marks_path t entry);
     }
 
 -- where the situation is as before, all is kept
@@ -261,10 +260,8 @@ keeps_take s p there = record {
   stays = λ q taken. ⊎_elim
       (λ (same : q ≡ p). subst (λ x. is_taken (take_place s p) x ≡ true) (sym same)
       (taken_here s p))
-      (λ (other : q ≢ p). taken_other s p q other ∙ taken)
-      (cases_eq q p);
-  fresh = λ q new. ⊎_elim
-      (λ (same : q ≡ p). subst (λ x. is_open s x ≡ true) (sym same) there)
+      (λ (other : q ≢ p). taken_other s p q other ∙ taken) (cases_eq q p);
+  fresh = λ q new. ⊎_elim (λ (same : q ≡ p). subst (λ x. is_open s x ≡ true) (sym same) there)
       (λ (other : q ≢ p). absurd (true≢false
       (sym new ∙ same_new (is_taken (take_place s p) q) (is_taken s q)
       (taken_other s p q other))))

@@ -62,8 +62,7 @@ lacks_own : (argument : KeyWithValue) (s t : Situation) (key : ℕ) (metavar : L
 lacks_own argument s t key metavar false lacks same =
     subst
     (λ x. (is_match (is_key_with_value argument) x key ≡ true)
-    × LacksOwnText false argument x key metavar)
-    same (lacks.0.matches, lacks)
+    × LacksOwnText false argument x key metavar) same (lacks.0.matches, lacks)
 lacks_own argument s t key metavar true lacks before =
     let all = took_keys argument s t before.0 before.1 in
     let there = key_before argument s t all key lacks.0.matches in (
@@ -115,8 +114,7 @@ module _ {T : Type 0} (means : List ℕ → T → Type 0) (argument : KeyWithVal
           text,
           variable.set,
           fault.0,
-          fault.1
-              ∙ ap (λ (after : Situation). after.current) variable.left,
+          fault.1 ∙ ap (λ (after : Situation). after.current) variable.left,
         ))
         gets),
   )

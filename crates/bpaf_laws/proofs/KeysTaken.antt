@@ -204,8 +204,7 @@ module _ (argument : KeyWithValue) where
         scope = λ p. rest.scope p ∙ pair_scope argument s text m takes p;
         keys = λ p. p == takes.key || rest.keys p;
         are_keys = λ p key. either p (p == takes.key) refl key;
-        places = λ p.
-            (newly_joins s m t kept rest.keeps).all p
+        places = λ p. (newly_joins s m t kept rest.keeps).all p
             ∙ pairs_joined takes.key rest.keys p (newly s m p) (newly m t p)
             (pair_places argument s text m takes p) (rest.places p);
       }
@@ -246,8 +245,7 @@ module _ (argument : KeyWithValue) where
     -- a key that is there later was there at first
     pub key_before : (p : ℕ) → is_match test t p ≡ true → is_match test s p ≡ true
     key_before p there =
-        match_there test s p
-        (open_before s t p all.keeps (match_is_open test t p there))
+        match_there test s p (open_before s t p all.keeps (match_is_open test t p there))
         (ap (λ context. option_map_or test (item_in context p) false) (sym all.keeps.context)
         ∙ match_has_item test t p there)
 
@@ -314,8 +312,7 @@ module _ (argument : KeyWithValue) where
 
         own : all.keys p ≡ true → ⊥
         own key =
-            let new : newly s t p ≡ true =
-            all.places p ∙ ap (λ b. b || behind all.keys p) key in
+            let new : newly s t p ≡ true = all.places p ∙ ap (λ b. b || behind all.keys p) key in
             let free = open_not_taken t p (match_is_open test t p there) in
             let none : newly s t p ≡ false = ap (λ b. b && not (is_taken s p)) free in
             true≢false (sym new ∙ none)
@@ -397,15 +394,13 @@ module _ (argument : KeyWithValue) where
           ⊎_elim
           (λ (below : rest.greatest < takes.key).
           absurd (true≢false (sym there ∙ takes.first.first rest.greatest below)))
-          (λ (above : takes.key ≤ rest.greatest). omega arith)
-          (cases_lt rest.greatest takes.key)
+          (λ (above : takes.key ≤ rest.greatest). omega arith) (cases_lt rest.greatest takes.key)
       at_most p false e key = rest.no_greater p key
 
   -- texts taken in turn, of which this is the last
   took_texts : (s t : Situation) (text : List ℕ) (before : List (List ℕ))
       → TakesKeysWithTexts argument s (before ++ text ∷ []) t → TookLast argument s text t
-  took_texts s t text [] o =
-      subst (TookLast argument s text) (sym o.2) (last_one s o.0 text o.1)
+  took_texts s t text [] o = subst (TookLast argument s text) (sym o.2) (last_one s o.0 text o.1)
   took_texts s t text (x ∷ before) o =
       last_more s o.0 t x text o.1 (took_texts o.0 t text before o.2)
 

@@ -31,8 +31,7 @@ one_leftmost s other p q a b = ⊎_elim
     (λ (same : q ≡ p). same)
     (λ (apart : q ≢ p). absurd (differ (is_taken s q) (is_taken other q) b.differs
     (a.first q (omega arith))))
-    (cases_eq q p))
-    (cases_lt p q)
+    (cases_eq q p)) (cases_lt p q)
 
 -- the opposite of a test that is false
 not_false : (x y : Bool) → y ≡ false → y ≡ not x → x ≡ true
@@ -102,14 +101,12 @@ module _ {T : Type 0} {first second : Outcome T} {first_reads second_reads : Rea
 
   -- at equal depths the chosen one took the leftmost place
   equal_took : (a : Result T Error) (sa : Situation) (b : Result T Error) (sb : Situation)
-      → first s a sa → second s b sb
-      → EqualDepths s a sa b sb (Ok v) t → IsOk a → IsOk b → (p : ℕ) → IsLeftmost sa sb p
-      → TookAndIsChosen p a sa v t ⊎ TookAndIsChosen p b sb v t
+      → first s a sa → second s b sb → EqualDepths s a sa b sb (Ok v) t → IsOk a → IsOk b → (p : ℕ)
+      → IsLeftmost sa sb p → TookAndIsChosen p a sa v t ⊎ TookAndIsChosen p b sb v t
   equal_took (Ok x) sa (Ok y) sb first_ran second_ran chosen first_ok second_ok p left = ⊎_elim
       (λ neither. absurd (differ (is_taken sa p) (is_taken sb p) left.differs
       (none_differs x sa y sb first_ran second_ran neither.0 p)))
-      (λ won.
-      winner_took v t (branch_of x sa) (branch_of y sb) won.1.0 won.1.1 won.1.2 p left)
+      (λ won. winner_took v t (branch_of x sa) (branch_of y sb) won.1.0 won.1.1 won.1.2 p left)
       chosen
   equal_took (Ok x) sa (Err e) sb first_ran second_ran chosen first_ok second_ok p left =
       absurd (true≢false (sym second_ok))

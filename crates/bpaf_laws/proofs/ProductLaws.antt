@@ -12,8 +12,7 @@ use Rattle.bpaf_laws.specs.{Laws.newly, RefusalNames.NamesAnswer, Transform.MapR
 both_ok : (A B : Type 0) (first : Outcome A) (rest : Outcome B) (rf : Readings A) (rr : Readings B)
     → Lawful A first rf → Lawful B rest rr
     → (a : Result A Error) (b : Result B Error) (s m t : Situation) (v : A × B) → first s a m
-    → rest m b t → Ok v ≡ joined a b
-    → Reads (A × B) (BothReads A B rf rr) s v t
+    → rest m b t → Ok v ≡ joined a b → Reads (A × B) (BothReads A B rf rr) s v t
 both_ok A B first rest rf rr fa fb (Ok x) (Ok y) s m t v f r e =
     let ra = fa.ok s m x f in
     let rb = fb.ok m t y r in
@@ -61,8 +60,7 @@ joined_named A B first rest rf rr la lb (Err d) (Err c) s m t e f g is =
 
 -- fields that keep to the laws keep to them together
 pub both_lawful : {A B : Type 0} {first : Outcome A} {rest : Outcome B} {rf : Readings A}
-    {rr : Readings B}
-    → Lawful A first rf → Lawful B rest rr
+    {rr : Readings B} → Lawful A first rf → Lawful B rest rr
     → Lawful (A × B) (BothOutcome first rest) (BothReads A B rf rr)
 both_lawful {A = A} {B = B} {first = first} {rest = rest} {rf = rf} {rr = rr} la lb = record {
   ok =
@@ -82,21 +80,16 @@ both_lawful {A = A} {B = B} {first = first} {rest = rest} {rf = rf} {rr = rr} la
 
 -- so they do where a failing first field is the end
 pub fail_fast_lawful : {A B : Type 0} {first : Outcome A} {rest : Outcome B} {rf : Readings A}
-    {rr : Readings B}
-    → Lawful A first rf → Lawful B rest rr
+    {rr : Readings B} → Lawful A first rf → Lawful B rest rr
     → Lawful (A × B) (FailFastOutcome first rest) (BothReads A B rf rr)
 fail_fast_lawful {A = A} {B = B} {first = first} {rest = rest} {rf = rf} {rr = rr} la lb = record {
-  ok =
-      λ s t v o. both_ok A B first rest rf rr la lb (Ok v.0) (Ok v.1) s o.0 t v o.1 o.2 refl;
-  err = λ s t e o. ⊎_elim
-      (λ failed. la.err s t e failed)
+  ok = λ s t v o. both_ok A B first rest rf rr la lb (Ok v.0) (Ok v.1) s o.0 t v o.1 o.2 refl;
+  err = λ s t e o. ⊎_elim (λ failed. la.err s t e failed)
       (λ later. keeps_trans s later.1 t (la.ok s later.1 later.0 later.2).keeps
       (lb.err later.1 t e later.3))
       o;
-  named = λ s t e o. ⊎_elim
-      (λ failed. la.named s t e failed)
-      (λ later. lb.named later.1 t e later.3)
-      o;
+  named = λ s t e o. ⊎_elim (λ failed. la.named s t e failed)
+      (λ later. lb.named later.1 t e later.3) o;
 }
 
 -- a product keeps to the laws where its fields do

@@ -42,8 +42,7 @@ any_first inner catches s (v ∷ vs) t o = (o.0, (o.1.0, inl refl), o.2)
 
 -- one more turn at the end
 pub steps_more : {T : Type 0} (inner : Outcome T) (catches first : Bool) (s m : Situation)
-    (vs : List T) (v : T) (t : Situation)
-    → Turns inner catches first s vs m
+    (vs : List T) (v : T) (t : Situation) → Turns inner catches first s vs m
     → TurnOutcome inner catches (first && is_nil vs) m (Ok (Some v)) t
     → Turns inner catches first s (vs ++ v ∷ []) t
 steps_more inner catches true s m [] v t o step =
@@ -77,8 +76,7 @@ module _ {T : Type 0} {inner : Outcome T} {reads : Readings T} (law : Lawful T i
         closed = read.closed;
         none = same_took_none s t read.keeps read.closed dropped.3;
       })
-      (λ stopped. subst (TakesNothing s) (sym stopped.1) (nothing_taken s))
-      o
+      (λ stopped. subst (TakesNothing s) (sym stopped.1) (nothing_taken s)) o
 
   -- what turns keep
   steps_keep : (first : Bool) (s : Situation) (vs : List T) (t : Situation)
@@ -184,8 +182,7 @@ module _ {T : Type 0} {inner : Outcome T} {reads : Readings T} (law : Lawful T i
 
   -- collect keeps to the laws
   pub collect_lawful : {C : Type 0} (fills : List T → C → Type 0)
-      → Lawful C (CollectOutcome inner catches fills)
-      (MapReads (List T) C (ListReads reads) fills)
+      → Lawful C (CollectOutcome inner catches fills) (MapReads (List T) C (ListReads reads) fills)
   collect_lawful fills = record {
     ok = λ s t v o. made_read fills s t o.0 v o.1 o.2;
     err =

@@ -41,10 +41,8 @@ module _ {T : Type 0} (inner : Outcome T) where
   spared_some catches message s t (Ok values) o spared =
       (spared_list catches s t (Ok values.items) o.0 tt, o.1)
   spared_some catches message s t (Err e) o spared =
-      ⊎_elim
-      (λ failed. inl (spared_list catches s t (Err e) failed spared))
-      (λ none. inr (spared_list catches s t (Ok []) none.0 tt, none.1))
-      o
+      ⊎_elim (λ failed. inl (spared_list catches s t (Err e) failed spared))
+      (λ none. inr (spared_list catches s t (Ok []) none.0 tt, none.1)) o
 
   -- nor does collect
   pub spared_collect : {C : Type 0} (catches : Bool) (fills : List T → C → Type 0)
@@ -81,12 +79,8 @@ module _ {T : Type 0} (inner : Outcome T) where
   -- nor does last
   pub spared_last : CatchesNoMemory (λ outcome. LastOutcome outcome) inner
   spared_last s t (Ok v) o spared =
-      ⊎_elim
-      (λ run. inl (run.0, rest_spared s _ t run.1))
-      (λ again. inr (again.0, rest_spared s [] again.0 again.1, (again.2, tt)))
-      o
+      ⊎_elim (λ run. inl (run.0, rest_spared s _ t run.1))
+      (λ again. inr (again.0, rest_spared s [] again.0 again.1, (again.2, tt))) o
   spared_last s t (Err e) o spared =
-      ⊎_elim
-      (λ fault. inl (fault_spared s e t fault spared))
-      (λ again. inr (again.0, rest_spared s [] again.0 again.1, (again.2, spared)))
-      o
+      ⊎_elim (λ fault. inl (fault_spared s e t fault spared))
+      (λ again. inr (again.0, rest_spared s [] again.0 again.1, (again.2, spared))) o

@@ -49,8 +49,7 @@ steps_on inner catches s m vs b o v t steps nil step is =
 -- that the run of turns ends
 pub steps_end : {T : Type 0} {inner : Outcome T} {reads : Readings T} → Lawful T inner reads
     → (catches : Bool) (m : Situation) (vs : List T) (b : Bool) (o : Option T) (v : T)
-    (t : Situation)
-    → b ≡ is_nil vs → TurnOutcome inner catches b m (Ok o) t → o ≡ Some v
+    (t : Situation) → b ≡ is_nil vs → TurnOutcome inner catches b m (Ok o) t → o ≡ Some v
     → open_count t < open_count m + (if is_nil vs then 1 else 0)
 steps_end {inner = inner} law catches m vs b o v t nil step is =
     subst (λ w. open_count t < open_count m + (if w then 1 else 0)) nil

@@ -11,6 +11,5 @@ pub last_shape : (describes : Shape → Type 0) (old new : List Meta) (meta : Me
 last_shape describes old new meta appended shown = (
   shape_of meta ∷ [],
   (shape_of meta, shown, refl),
-  ap (map shape_of) appended ∙ map-append
-      shape_of old (meta ∷ []),
+  ap (map shape_of) appended ∙ map-append shape_of old (meta ∷ []),
 )

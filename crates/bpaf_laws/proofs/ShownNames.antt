@@ -107,16 +107,14 @@ module _ {inner : Shape → Type 0} {names : ShortNames} (inside : ShowsNames in
   pub command_shows : (called : Called) (help : Option (List Piece))
       → ShowsNames (CommandDescribes called help inner) names
   command_shows called help = record {
-    each = λ shape is.
-        ap (λ shape. shorts_of (parts shape)) (is.2 ∙ ap (λ part. Shown part) is.1.2)
+    each = λ shape is. ap (λ shape. shorts_of (parts shape)) (is.2 ∙ ap (λ part. Shown part) is.1.2)
         ∙ inside.each is.1.0 is.1.1;
   }
 
   -- the last field
   pub last_shows : FieldsShowNames (LastDescribes inner) names
   last_shows = record {
-    each = λ all is.
-        ap (λ shapes. shorts_of (parts_of_all (members shapes))) is.2
+    each = λ all is. ap (λ shapes. shorts_of (parts_of_all (members shapes))) is.2
         ∙ (ap shorts_of (append-nil (parts is.0)) ∙ inside.each is.0 is.1);
   }
 
@@ -132,8 +130,7 @@ pub both_show : {first : Shape → Type 0} {rest : List Shape → Type 0} {own o
     → ShowsNames first own → FieldsShowNames rest others
     → FieldsShowNames (BothDescribes first rest) (joined_shorts own others)
 both_show one more = record {
-  each = λ all is.
-      ap (λ shapes. shorts_of (parts_of_all (members shapes))) is.4
+  each = λ all is. ap (λ shapes. shorts_of (parts_of_all (members shapes))) is.4
       ∙ (of_joined (parts is.0) (parts_of_all (members is.1))
       ∙ ap₂ joined_shorts (one.each is.0 is.2) (more.each is.1 is.3));
 }
@@ -175,8 +172,7 @@ pub choice_shows : {first second : Shape → Type 0} {own others : ShortNames} �
     → ShowsNames second others
     → ShowsNames (ChoiceDescribes first second) (joined_shorts own others)
 choice_shows one other = record {
-  each = λ shape is.
-      ap (λ shape. shorts_of (parts shape)) is.4
+  each = λ shape is. ap (λ shape. shorts_of (parts shape)) is.4
       ∙ (ap shorts_of (either_parts is.0 is.1)
       ∙ (of_joined (parts is.0) (parts is.1)
       ∙ ap₂ joined_shorts (one.each is.0 is.2) (other.each is.1 is.3)));
@@ -186,8 +182,7 @@ module _ {P : Type 0} (describes : P → Shape → Type 0) (names : P → ShortN
     (each : (p : P) → ShowsNames (describes p) (names p)) where
   -- a choice, and others after it
   nested_shows : (before : Shape → Type 0) (own : ShortNames) → ShowsNames before own
-      → (ps : List P)
-      → ShowsNames (Nested ChoiceDescribes describes before ps)
+      → (ps : List P) → ShowsNames (Nested ChoiceDescribes describes before ps)
       (joined_shorts own (all_shorts names ps))
   nested_shows before own first [] = record {
     each = λ shape is. first.each shape is

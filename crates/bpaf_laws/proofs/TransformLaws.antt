@@ -41,8 +41,7 @@ module _ {T : Type 0} {inner : Outcome T} {reads : Readings T} (law : Lawful T i
       → Lawful T (GuardOutcome inner checks message)
       (MapReads T T reads (λ x v. (v ≡ x) × checks x true))
   guard_lawful checks message = record {
-    ok =
-        λ s t v o. map_read (λ x w. (w ≡ x) × checks x true) s t v v o.0 (refl, o.1);
+    ok = λ s t v o. map_read (λ x w. (w ≡ x) × checks x true) s t v v o.0 (refl, o.1);
     err =
         λ s t e o. ⊎_elim (λ refused. law.err s t e refused)
         (λ failed. (law.ok s t failed.0 failed.1).keeps) o;

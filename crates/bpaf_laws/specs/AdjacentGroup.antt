@@ -109,5 +109,4 @@ GroupOutcome T inner first s r t = Searches T inner s first r t
 
 -- a group shows its product, as what stands together
 abbrev pub GroupDescribes : (Shape → Type 0) → Shape → Type 0
-GroupDescribes product shape =
-    (within : Shape) × product within × (shape ≡ Adjacent within)
+GroupDescribes product shape = (within : Shape) × product within × (shape ≡ Adjacent within)

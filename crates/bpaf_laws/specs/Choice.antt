@@ -39,8 +39,7 @@ Stands branch r t = (r ≡ Ok branch.value) × (t ≡ branch.left)
 -- took has a conflict note that names the place
 abbrev pub WonBy : {T : Type 0} → AnsweredBranch T → AnsweredBranch T → ℕ → Result T Error
     → Situation → Type 0
-WonBy winner loser place r t =
-    (r ≡ Ok winner.value) × ConflictsSaved winner.left loser.left place t
+WonBy winner loser place r t = (r ≡ Ok winner.value) × ConflictsSaved winner.left loser.left place t
 
 -- the answer, by whether the first of two branches wins, and by which place; without one it stands
 abbrev pub Winner : {T : Type 0} → AnsweredBranch T → AnsweredBranch T → Bool × Option ℕ

@@ -86,8 +86,7 @@ IsFormatted writes v doc =
 -- such a document is shown
 abbrev pub ShowsFormatted : {T : Type 0} → (T → Result (String Global) AllocError → Type 0) → T
     → Option (List Piece) → Type 0
-ShowsFormatted writes v shown =
-    (doc : List Piece) × IsFormatted writes v doc × (shown ≡ Some doc)
+ShowsFormatted writes v shown = (doc : List Piece) × IsFormatted writes v doc × (shown ≡ Some doc)
 
 -- a closure's value is shown as the default; where it gives none, what was shown stays
 abbrev pub ShowsAnswer : {T E : Type 0} → (Result T E → Type 0)

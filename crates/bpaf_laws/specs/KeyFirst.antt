@@ -33,8 +33,7 @@ LacksOwnText true argument s key m = IsFirstBare argument s key × (m ≡ argume
 
 -- the value is what the text behind the key that counts means
 abbrev pub IsBehindKey : {T : Type 0} → (List ℕ → T → Type 0) → KeyWithValue → Situation → T
-    → Situation
-    → Type 0
+    → Situation → Type 0
 IsBehindKey means argument s v t =
     (text : List ℕ) × TakesOwnText argument.last argument s text t × means text v
 
@@ -50,8 +49,7 @@ MeansNothing {T} means text = (v : T) → ¬ (means text v)
 
 -- the text behind the key that counts means no value, and stands at this place
 pub record IsFaultAtKey {T : Type 0} (means : List ℕ → T → Type 0) (argument : KeyWithValue)
-    (s : Situation)
-    (place : Option ℕ) : Type 0 where
+    (s : Situation) (place : Option ℕ) : Type 0 where
   pub key : ℕ
   pub counts : Counts argument.last (is_key_with_value argument) s key
   pub text : List ℕ
@@ -71,8 +69,7 @@ FailsAtKey means argument s m = ⊥
 -- a refusal where no key is there: the text of the first name that is set means no value, and no
 -- place is named; or none is set; or want of memory
 abbrev pub FailsInVariable : {T : Type 0} → (List ℕ → T → Type 0) → KeyWithValue → Situation
-    → Message
-    → Type 0
+    → Message → Type 0
 FailsInVariable means argument s (ParseFailed place fault) =
     (text : List ℕ) × (first_set s.context.env argument.named.envs ≡ Some text)
     × MeansNothing means text × (place ≡ None)

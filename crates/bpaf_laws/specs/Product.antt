@@ -68,7 +68,6 @@ ProductDescribes fields shape =
 
 -- where a failing first field is the end: its error, else the others' error, else the values
 abbrev pub FailFastOutcome : {A B : Type 0} → Outcome A → Outcome B → Outcome (A × B)
-FailFastOutcome first rest s (Ok v) t =
-    (m : Situation) × first s (Ok v.0) m × rest m (Ok v.1) t
+FailFastOutcome first rest s (Ok v) t = (m : Situation) × first s (Ok v.0) m × rest m (Ok v.1) t
 FailFastOutcome {A} first rest s (Err e) t =
     first s (Err e) t ⊎ ((a : A) × (m : Situation) × first s (Ok a) m × rest m (Err e) t)

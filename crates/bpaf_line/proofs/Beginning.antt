@@ -86,19 +86,17 @@ chains_beginning context chains behind = behind_since context.line (λ p. false)
 -- right
 pub sound_beginning : (i : Inside) (context : Context) → situation_of i ≡ beginning context
     → IfSome context.marker (λ p. p < length context.line)
-    → length context.line ≤ 64 * length i.words.items →
-    ((p : ℕ) → has_bit i.words.items p ≡ is_marker context.marker p) → length context.line
-    ≤ vec_capacity i.trail
+    → length context.line ≤ 64 * length i.words.items
+    → ((p : ℕ) → has_bit i.words.items p ≡ is_marker context.marker p)
+    → length context.line ≤ vec_capacity i.trail
     → i.left ≡ length context.line - from_bool (is_some context.marker)
-    → IsFirstClear i.words.items 0 (length context.line) i.first
-    → HasNoKeyFrom context.line i.keys
-    → IfSome i.chains (AreBehind context.line (λ p. false))
-    → i.aside ≡ no_aside → i.behind ≡ i.keys → i.keys ≤ length context.line → IsSound i
+    → IsFirstClear i.words.items 0 (length context.line) i.first → HasNoKeyFrom context.line i.keys
+    → IfSome i.chains (AreBehind context.line (λ p. false)) → i.aside ≡ no_aside → i.behind ≡ i.keys
+    → i.keys ≤ length context.line → IsSound i
 sound_beginning i context e marker_inside worded bits room left clear keyless behind aside none
     within =
     let start = beginning context in
-    let size : length i.items.items ≡ length context.line = ap
-    (λ s. length s.context.line) e in
+    let size : length i.items.items ≡ length context.line = ap (λ s. length s.context.line) e in
     let set : BitsOf start i.words.items = bits_beginning context i.words.items bits in
     record {
       worded = omega arith;

@@ -24,8 +24,7 @@ use Rattle.bpaf_line.proofs.{Matches.open_item_there, Places.open_not_taken}
 module _ (test : Arg → Bool) (s : Situation) where
   -- what isn't open passes no test
   none_closed : (q : ℕ) → is_open s q ≡ false → is_match test s q ≡ false
-  none_closed q closed =
-      ap (λ b. option_map_or test (if b then item_at s q else None) false) closed
+  none_closed q closed = ap (λ b. option_map_or test (if b then item_at s q else None) false) closed
 
   -- nor does what is taken
   none_taken : (q : ℕ) → is_taken s q ≡ true → is_match test s q ≡ false
@@ -36,22 +35,17 @@ module _ (test : Arg → Bool) (s : Situation) where
   none_in_front p front q below = ⊎_elim
       (λ (before : q < s.start).
       none_closed q (and_left _ _ (and_left _ _ (lt-leb s.start q before))))
-      (λ (behind : s.start ≤ q). none_taken q (front.passed q behind below))
-      (cases_lt q s.start)
+      (λ (behind : s.start ≤ q). none_taken q (front.passed q behind below)) (cases_lt q s.start)
 
   -- nor one before a place, where none passes it before another, and all between are taken
-  pub none_past_taken : (p r : ℕ) → HasNoneBefore test s p → AreTaken s p r
-      → HasNoneBefore test s r
-  none_past_taken p r none taken q below = ⊎_elim
-      (λ (before : q < p). none q before)
-      (λ (behind : p ≤ q). none_taken q (taken q behind below))
-      (cases_lt q p)
+  pub none_past_taken : (p r : ℕ) → HasNoneBefore test s p → AreTaken s p r → HasNoneBefore test s r
+  none_past_taken p r none taken q below = ⊎_elim (λ (before : q < p). none q before)
+      (λ (behind : p ≤ q). none_taken q (taken q behind below)) (cases_lt q p)
 
   -- nor one before the next place, where none passes it up to here
   pub none_up_to : (p : ℕ) → HasNoneBefore test s p → is_match test s p ≡ false
       → HasNoneBefore test s (p + 1)
-  none_up_to p none here q below = ⊎_elim
-      (λ (before : q < p). none q before)
+  none_up_to p none here q below = ⊎_elim (λ (before : q < p). none q before)
       (λ (behind : p ≤ q). let at : q ≡ p = omega arith in ap (is_match test s) at ∙ here)
       (cases_lt q p)
 
@@ -112,8 +106,7 @@ none_before_start s chains key start q item h begins inside before there named =
 pub first_named : (test : Arg → Bool) (s : Situation) (chains : Chained) (key : Arg)
     (start end p : ℕ) → AreChainsOf s chains → end ≤ length chains.classes
     → IsChainStart chains (class_in s.context.line chains.names (length chains.heads) key) start
-    → IsFirstAlong test s chains.classes start end p
-    → IsFirstAmong test (names_of key) s end p
+    → IsFirstAlong test s chains.classes start end p → IsFirstAmong test (names_of key) s end p
 first_named test s chains key start end p h inside begins along = record {
   within = along.within;
   matches = along.matches;
@@ -207,10 +200,8 @@ among_more test names one s end p next old new = record {
 key_named : (names : Names) (adjacent : Bool) (item : Arg) → is_argument_key names adjacent item
     ≡ true → is_key_of (record { shorts = names.shorts; longs = [] }) item ≡ false
     → is_key_of (record { shorts = []; longs = names.longs }) item ≡ false → true ≡ false
-key_named names adjacent (Short c attached word) key short long =
-    sym (and_parts _ _ key).0 ∙ short
-key_named names adjacent (Long name attached word) key short long =
-    sym (and_parts _ _ key).0 ∙ long
+key_named names adjacent (Short c attached word) key short long = sym (and_parts _ _ key).0 ∙ short
+key_named names adjacent (Long name attached word) key short long = sym (and_parts _ _ key).0 ∙ long
 key_named names adjacent (ArgWord text) key short long = sym key
 key_named names adjacent (Word text) key short long = sym key
 key_named names adjacent (PosWord text) key short long = sym key
@@ -229,8 +220,7 @@ no_key_there names adjacent s low q h above = by_item (open_item s q) refl
         ∙ h.none names q above)
 
 -- no key is past the scope
-pub past_scope : (test : Arg → Bool) (s : Situation) (q : ℕ) → s.end ≤ q
-    → is_match test s q ≡ false
+pub past_scope : (test : Arg → Bool) (s : Situation) (q : ℕ) → s.end ≤ q → is_match test s q ≡ false
 past_scope test s q past = ap (λ b. option_map_or test (if b then item_at s q else None) false)
     (and_left (in_scope s q) _ (and_right _ _ (le-ltb q s.end past)))
 
@@ -245,8 +235,7 @@ none_past names adjacent s low end q h is past = ⊎_elim
 
 -- the first key of the short names and of the long ones is the first key, where none is behind
 pub key_found : (names : Names) (adjacent : Bool) (s : Situation) (end short place : ℕ)
-    (found : Option ℕ)
-    → ((q : ℕ) → end ≤ q → is_match (is_argument_key names adjacent) s q ≡ false)
+    (found : Option ℕ) → ((q : ℕ) → end ≤ q → is_match (is_argument_key names adjacent) s q ≡ false)
     → IsFirstAmong (is_argument_key names adjacent)
     (record { shorts = names.shorts; longs = [] }) s end short
     → IsFirstAmong (is_argument_key names adjacent)
@@ -268,8 +257,7 @@ key_found names adjacent s end short place found past_end shorts longs is =
         (λ (key : test item ≡ true). absurd (true≢false
         (key_named names adjacent item key (shorts.none q item
         (omega (arith, longs.within)) e key) (longs.none q item before e key))))
-        (λ (other : test item ≡ false). other)
-        (cases_Bool (test item))
+        (λ (other : test item ≡ false). other) (cases_Bool (test item))
 
     before_it : (q : ℕ) → q < place → is_match test s q ≡ false
     before_it q before = none_at q before (open_item s q) refl
@@ -279,11 +267,9 @@ key_found names adjacent s end short place found past_end shorts longs is =
     by_test true e =
         let below : place < end = ltb-true place end e in
         record {
-          matches = ⊎_elim
-              (λ (nearer : place < short). longs.matches nearer)
+          matches = ⊎_elim (λ (nearer : place < short). longs.matches nearer)
               (λ (past : short ≤ place). let at : place ≡ short = omega (arith, longs.within) in ap
-              (is_match test s) at ∙ shorts.matches (omega arith))
-              (cases_lt place short);
+              (is_match test s) at ∙ shorts.matches (omega arith)) (cases_lt place short);
           first = before_it;
         }
     by_test false e = λ q. ⊎_elim (λ (before : q < place). before_it q before)

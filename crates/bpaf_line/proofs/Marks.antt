@@ -24,8 +24,7 @@ rest_is k all xs ys is whole = is ∙ (take_rest xs k ∙ ap (drop k) whole)
 pub redone_undone : (mark : Mark) (s : Situation) → redone (steps_since mark s) (undone mark s) ≡ s
 redone_undone mark s = rw (
   take-append-drop mark.taken s.trail,
-  take-append-drop mark.conflicts
-      s.conflicts,
+  take-append-drop mark.conflicts s.conflicts,
   take-append-drop mark.depth s.path,
 ) refl
 
@@ -52,8 +51,7 @@ pub undone_cut : (mark : Mark) (s t : Situation) (n : ℕ) (conflicts : List (�
       path = path;
       start = mark.start;
       end = mark.end;
-      current =
-          mark.current;
+      current = mark.current;
     } ≡ undone mark s
 undone_cut mark s t n conflicts path cut at conflicts_cut path_cut = rw
     (conflicts_cut, path_cut, cut, at) refl
@@ -98,8 +96,7 @@ keeps_marks_take s p = record {
   fit = λ mark fits. record {
     reached = record {
       taken = longer mark.taken s.trail (p ∷ []) fits.reached.taken;
-      conflicts =
-          fits.reached.conflicts;
+      conflicts = fits.reached.conflicts;
       depth = fits.reached.depth;
     };
     ordered = fits.ordered;
@@ -117,8 +114,7 @@ keeps_marks_conflicts s pairs = record {
   fit = λ mark fits. record {
     reached = record {
       taken = fits.reached.taken;
-      conflicts = longer mark.conflicts s.conflicts
-          pairs fits.reached.conflicts;
+      conflicts = longer mark.conflicts s.conflicts pairs fits.reached.conflicts;
       depth = fits.reached.depth;
     };
     ordered = fits.ordered;
@@ -139,8 +135,7 @@ keeps_marks_current s t place keeps = record {
         reached = record {
           taken = there.reached.taken;
           conflicts = there.reached.conflicts;
-          depth =
-              there.reached.depth;
+          depth = there.reached.depth;
         };
         ordered = there.ordered;
         inside = there.inside;
@@ -194,10 +189,8 @@ pub fits_undone : (mark : Mark) (s : Situation) → Fits mark s → Fits mark (u
 fits_undone mark s fits = record {
   reached = record {
     taken = cut_reaches mark.taken s.trail fits.reached.taken;
-    conflicts =
-        cut_reaches mark.conflicts s.conflicts fits.reached.conflicts;
-    depth = cut_reaches mark.depth
-        s.path fits.reached.depth;
+    conflicts = cut_reaches mark.conflicts s.conflicts fits.reached.conflicts;
+    depth = cut_reaches mark.depth s.path fits.reached.depth;
   };
   ordered = fits.ordered;
   inside = fits.inside;
@@ -208,8 +201,6 @@ fits_undone mark s fits = record {
 pub undone_twice : (mark : Mark) (s : Situation) → undone mark (undone mark s) ≡ undone mark s
 undone_twice mark s = rw (
   take-take mark.taken mark.taken s.trail (omega arith),
-  take-take
-      mark.conflicts mark.conflicts s.conflicts (omega arith),
-  take-take mark.depth mark.depth s.path
-      (omega arith),
+  take-take mark.conflicts mark.conflicts s.conflicts (omega arith),
+  take-take mark.depth mark.depth s.path (omega arith),
 ) refl

@@ -44,8 +44,7 @@ open_has_item s p there =
     (slice_get s.context.line p) (get_or s.context.line p (ArgWord []))
     (slice_get-get_or s.context.line p (ArgWord []) (open_in_line s p there))
   where
-    not_marker : (within marker on : Bool) → (not within || (marker || on)) ≡ false
-        → marker ≡ false
+    not_marker : (within marker on : Bool) → (not within || (marker || on)) ≡ false → marker ≡ false
     not_marker within false on e = refl
     not_marker true true on e = cc
     not_marker false true on e = cc
@@ -73,7 +72,5 @@ value_is_open s p text value = of_test (is_open s (p + 1)) (item_at s (p + 1)) v
 pub none_more : (test : Arg → Bool) (s : Situation) (n : ℕ)
     → ((q : ℕ) → q < n → is_match test s q ≡ false) → is_match test s n ≡ false
     → (q : ℕ) → q < n + 1 → is_match test s q ≡ false
-none_more test s n none here q within = ⊎_elim
-    (λ (same : q ≡ n). ap (is_match test s) same ∙ here)
-    (λ (other : q ≢ n). none q (omega arith))
-    (cases_eq q n)
+none_more test s n none here q within = ⊎_elim (λ (same : q ≡ n). ap (is_match test s) same ∙ here)
+    (λ (other : q ≢ n). none q (omega arith)) (cases_eq q n)

@@ -32,8 +32,7 @@ items_past_closed s p closed = ⊎_elim
     (λ (within : p < length s.context.line). items_past s p within
     (ap (λ b. if b then item_at s p else None) closed))
     (λ (past : length s.context.line ≤ p). none_past_line s p past
-    ∙ sym (none_past_line s (p + 1) (omega arith)))
-    (cases_lt p (length s.context.line))
+    ∙ sym (none_past_line s (p + 1) (omega arith))) (cases_lt p (length s.context.line))
 
 -- nor are some places one after another that aren't
 items_past_all : (s : Situation) (n p : ℕ) → ((q : ℕ) → p ≤ q → q < p + n → is_open s q ≡ false)

@@ -83,8 +83,7 @@ in_turn_put s p turns free n within =
     (λ (below : n < length s.trail).
     rw (
       take-append-le n s.trail (p ∷ []) (omega arith),
-      get_or_append_left s.trail (p ∷ []) 0 n
-          below,
+      get_or_append_left s.trail (p ∷ []) 0 n below,
     ) (turns n below))
     (λ (past : length s.trail ≤ n).
     let last : n ≡ length s.trail = omega (arith, length_push s.trail p) in
@@ -129,10 +128,8 @@ room_on_trail s p turns free =
 
 -- what is taken stays so
 pub put_stays : (s : Situation) (p q : ℕ) → is_taken s q ≡ true → is_taken (put s p) q ≡ true
-put_stays s p q there = ⊎_elim
-    (λ (at : q ≡ p). ap (is_taken (put s p)) at ∙ put_here s p)
-    (λ (other : q ≢ p). put_other s p q other ∙ there)
-    (cases_eq q p)
+put_stays s p q there = ⊎_elim (λ (at : q ≡ p). ap (is_taken (put s p)) at ∙ put_here s p)
+    (λ (other : q ≢ p). put_other s p q other ∙ there) (cases_eq q p)
 
 -- without its last place the trail is that place's turn
 pub last_put : (s : Situation) → 0 < length s.trail
@@ -155,8 +152,7 @@ in_turn_cut s n turns inside k within =
 pub present_still : (s : Situation) (p q : ℕ) → is_taken (put s p) q ≡ false → is_taken s q ≡ false
 present_still s p q free = ⊎_elim
     (λ (taken : is_taken s q ≡ true). absurd (true≢false (sym (put_stays s p q taken) ∙ free)))
-    (λ (present : is_taken s q ≡ false). present)
-    (cases_Bool (is_taken s q))
+    (λ (present : is_taken s q ≡ false). present) (cases_Bool (is_taken s q))
 
 -- without the place that was put, the first present one is it or the old one
 pub first_without : (s : Situation) (p first : ℕ) → IsFirstPresent (put s p) first

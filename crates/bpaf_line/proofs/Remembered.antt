@@ -57,8 +57,7 @@ remembers_cut s n aside within h = by_test (nat_le aside.taken n) refl
     by_test false e = remembers_nothing (cut_to s n)
     by_test true e =
         let fewer : aside.taken ≤ n = leb-true aside.taken n e in
-        remembers_front s (cut_to s n) aside
-        (omega (arith, length-take-le n s.trail within))
+        remembers_front s (cut_to s n) aside (omega (arith, length-take-le n s.trail within))
         (ap (with_trail s) (take-take aside.taken n s.trail fewer)) h
 
 -- a scope that begins later, no later than the first present place, has the same present places
@@ -92,8 +91,7 @@ survey_narrowed s start end left first counted is_first same later in_front = re
 
 -- the scope that is left is remembered
 pub remembers_left : (s : Situation) (start end left first taken : ℕ) → left ≡ open_count s
-    → IsFirstPresent s first → taken ≡ length s.trail
-    → IsRemembered (with_scope s start end)
+    → IsFirstPresent s first → taken ≡ length s.trail → IsRemembered (with_scope s start end)
     (record { start = s.start; end = s.end; left = left; first = first; taken = taken })
 remembers_left s start end left first taken counted is_first all =
     let whole : take taken s.trail ≡ s.trail = take_all taken s.trail (omega arith) in
@@ -157,8 +155,7 @@ count_since s start end turns (suc d) n all =
 pub survey_since : (s : Situation) (aside : Aside) (start end gone left first : ℕ)
     → IsRemembered s aside → TakenInTurn s → aside.start ≡ start → aside.end ≡ end
     → gone ≡ count_within start end (drop aside.taken s.trail) → left ≡ aside.left - gone
-    → aside.first ≤ first → first ≤ end
-    → (first < end → is_taken s first ≡ false)
+    → aside.first ≤ first → first ≤ end → (first < end → is_taken s first ≡ false)
     → ((q : ℕ) → aside.first ≤ q → q < first → is_taken s q ≡ true)
     → IsSurvey s start end left first
 survey_since s aside start end gone left first h turns begins ends counted less from within present
@@ -178,7 +175,6 @@ survey_since s aside start end gone left first h turns begins ends counted less 
         passed = λ q lower upper. ⊎_elim
             (λ (early : q < aside.first). taken_since s aside.taken q
             (h.survey.first.passed q (omega arith) early))
-            (λ (late : aside.first ≤ q). passed q late upper)
-            (cases_lt q aside.first);
+            (λ (late : aside.first ≤ q). passed q late upper) (cases_lt q aside.first);
       };
     }

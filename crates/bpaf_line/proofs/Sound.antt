@@ -45,8 +45,7 @@ first_by_bits s words from p inside bits above passed first = record {
   from = omega (arith, first.from);
   within = first.within;
   present = λ below. sym (bits p (omega arith)) ∙ first.clear below;
-  passed = λ q lower upper. ⊎_elim
-      (λ (before : q < from). passed q lower before)
+  passed = λ q lower upper. ⊎_elim (λ (before : q < from). passed q lower before)
       (λ (behind : from ≤ q). sym (bits q (omega (arith, first.within))) ∙ first.set q behind upper)
       (cases_lt q from);
 }
@@ -101,10 +100,9 @@ chains_untake s p (Some old) (Some new) h back = record {
 pub chains_same : (s t : Situation) (chains : Option Chained) → t.context ≡ s.context
     → ((p : ℕ) → is_taken t p ≡ is_taken s p) → IfSome chains (AreChainsOf s)
     → IfSome chains (AreChainsOf t)
-chains_same s t chains context taken h = subst
-    (λ c. IfSome chains (AreBehind c.line (is_taken t))) (sym context)
-    (behind_since s.context.line (is_taken s) (is_taken t) chains
-    (λ q within set. taken q ∙ set) h)
+chains_same s t chains context taken h = subst (λ c. IfSome chains (AreBehind c.line (is_taken t)))
+    (sym context)
+    (behind_since s.context.line (is_taken s) (is_taken t) chains (λ q within set. taken q ∙ set) h)
 
 -- a state with other bits and another trail, counted anew
 abbrev pub with_parts : Inside → List ℕ → Vec ℕ Global → ℕ → ℕ → ℕ → Option Chained → Inside
@@ -194,16 +192,14 @@ room_for s p h free = omega (
   arith,
   s.trail.ok.0,
   h.room,
-  room_on_trail
-      (situation_of s) p h.in_turn free,
+  room_on_trail (situation_of s) p h.in_turn free,
 )
 
 -- so a place that was pushed is on it
 pub pushed_place : (s : Inside) (p : ℕ) (trail : Vec ℕ Global) (pushed : Bool) → IsSound s
-    → is_taken (situation_of s) p ≡ false
-    → (vec_len s.trail < vec_capacity s.trail → pushed ≡ true) → trail.items
-    ≡ (if pushed then s.trail.items ++ p ∷ [] else s.trail.items) → trail.items ≡ s.trail.items
-    ++ p ∷ []
+    → is_taken (situation_of s) p ≡ false → (vec_len s.trail < vec_capacity s.trail → pushed ≡ true)
+    → trail.items ≡ (if pushed then s.trail.items ++ p ∷ [] else s.trail.items)
+    → trail.items ≡ s.trail.items ++ p ∷ []
 pushed_place s p trail pushed h free succeeds is = is
     ∙ cond-true pushed _ _ (succeeds (room_for s p h free))
 
@@ -256,8 +252,7 @@ sound_untake s p words trail left first behind aside chains h some last change s
           ∙ sym (ap open_count means);
       first = subst (λ t. IsFirstPresent t first) (sym means) earlier;
       aside = subst (λ t. IsRemembered t aside) (sym means)
-          (subst (IsRemembered new) (sym kept)
-          (remembers_cut old n s.aside (omega arith) h.aside));
+          (subst (IsRemembered new) (sym kept) (remembers_cut old n s.aside (omega arith) h.aside));
       chained = subst (λ t. IfSome chains (AreChainsOf t)) (sym means)
           (chains_untake new p s.chains chains (subst (λ t. IfSome s.chains (AreChainsOf t))
           (sym before) h.chained) back);
@@ -271,9 +266,8 @@ sound_untake s p words trail left first behind aside chains h some last change s
       named = h.named;
     }
   where
-    passed_early : (keys was p behind q : ℕ)
-        → behind ≡ (if nat_le keys p then min was p else was) → keys ≤ q → q < behind
-        → (q < was) × (q ≢ p)
+    passed_early : (keys was p behind q : ℕ) → behind ≡ (if nat_le keys p then min was p else was)
+        → keys ≤ q → q < behind → (q < was) × (q ≢ p)
     passed_early keys was p behind q reached low high = ⊎_elim
         (λ (front : p < keys).
         let same = reached ∙ ap (λ b. if b then min was p else was) (lt-leb keys p front) in
@@ -310,8 +304,7 @@ left_below_count s p n h some last is =
       is,
       h.counted,
       open_count-put new p free,
-      count_below-most (is_open new)
-          (length s.items.items),
+      count_below-most (is_open new) (length s.items.items),
     )
 
 -- the places of a scope that are clear are those that are open in it
@@ -338,9 +331,8 @@ pub survey_counted : (s : Inside) (start end left first : ℕ) → IsSound s →
     → IsFirstClear s.words.items start end first → IsSurvey (situation_of s) start end left first
 survey_counted s start end left first h ordered inside counted clear = record {
   counted = counted ∙ count_clear-open (situation_of s) s.words.items start end h.bits inside;
-  first = first_by_bits
-      (with_scope (situation_of s) start end) s.words.items start first inside h.bits (omega arith)
-      (λ q lower upper. absurd (omega arith)) clear;
+  first = first_by_bits (with_scope (situation_of s) start end) s.words.items start first inside
+      h.bits (omega arith) (λ q lower upper. absurd (omega arith)) clear;
 }
 
 -- the scope that is remembered is the one asked for
@@ -365,8 +357,7 @@ gone_were_left s start end gone h same counted =
 
 -- what is remembered of it, without those, is so now
 pub survey_recalled : (s : Inside) (start end gone first : ℕ) → IsSound s
-    → end ≤ length s.items.items
-    → (s.aside.start == start && s.aside.end == end) ≡ true
+    → end ≤ length s.items.items → (s.aside.start == start && s.aside.end == end) ≡ true
     → gone ≡ count_within start end (drop s.aside.taken s.trail.items)
     → IsFirstClear s.words.items s.aside.first end first
     → IsSurvey (situation_of s) start end (s.aside.left - gone) first
@@ -378,9 +369,8 @@ survey_recalled s start end gone first h inside same counted clear =
     (λ q above below. sym (h.bits q (omega (arith, clear.within))) ∙ clear.set q above below)
 
 -- it is sound with another scope
-pub sound_scope : (s : Inside) (start end left first : ℕ) (aside : Aside) → IsSound s
-    → start ≤ end → end ≤ length s.items.items
-    → IsSurvey (situation_of s) start end left first
+pub sound_scope : (s : Inside) (start end left first : ℕ) (aside : Aside) → IsSound s → start ≤ end
+    → end ≤ length s.items.items → IsSurvey (situation_of s) start end left first
     → IsRemembered (with_scope (situation_of s) start end) aside
     → IsSound (record s { start = start; end = end; left = left; first = first; aside = aside })
 sound_scope s start end left first aside h ordered inside survey kept = record {
@@ -481,15 +471,8 @@ open_item_is s p xs item h same o there =
     let no_marker : is_marker s.marker p ≡ false = not_marker
     (not (nat_lt p (length s.items.items))) (is_marker s.marker p)
     (is_on s.trail.items p) (open_not_taken (situation_of s) p o) in
-    let at : item ≡ get_or s.items.items p item = there
-    ∙ ap (λ ys. get_or ys p item) same in
-    rw (
-      o,
-      no_marker,
-      slice_get-get_or s.items.items p item
-          (open_in_line s p h o),
-      ← at,
-    ) refl
+    let at : item ≡ get_or s.items.items p item = there ∙ ap (λ ys. get_or ys p item) same in
+    rw (o, no_marker, slice_get-get_or s.items.items p item (open_in_line s p h o), ← at) refl
   where
     not_marker : (past marker on : Bool) → (past || (marker || on)) ≡ false → marker ≡ false
     not_marker past false on e = refl
@@ -510,10 +493,9 @@ none_behind s from h past q lower = by_scope (in_scope (situation_of s) q) refl
 
 -- a state of the same situation, with equal bits and first place, is sound too
 pub sound_copy : (i j : Inside) → situation_of i ≡ situation_of j → i.keys ≡ j.keys
-    → i.behind ≡ j.behind → i.chains ≡ j.chains
-    → i.words.items ≡ j.words.items → i.left ≡ j.left → i.first ≡ j.first
-    → i.aside ≡ no_aside
-    → length i.items.items ≤ vec_capacity i.trail → IsSound j → IsSound i
+    → i.behind ≡ j.behind → i.chains ≡ j.chains → i.words.items ≡ j.words.items → i.left ≡ j.left
+    → i.first ≡ j.first → i.aside ≡ no_aside → length i.items.items ≤ vec_capacity i.trail
+    → IsSound j → IsSound i
 sound_copy i j same keys behind chains words left first aside room h =
     let count : length i.items.items ≡ length j.items.items = ap
     (λ s. length s.context.line) same in

@@ -116,8 +116,7 @@ module _ (s : Situation) (mark : Mark) (steps : Changes) where
 
     -- what only one of two trails from there has is taken with it alone
     only_one : (own others : List ℕ) → PresentInTurn (undone mark s) own → (q : ℕ)
-        → is_in_first own others q ≡ true
-        → ((is_taken (undone mark s) q || is_on own q) ≡ true)
+        → is_in_first own others q ≡ true → ((is_taken (undone mark s) q || is_on own q) ≡ true)
         × ((is_taken (undone mark s) q || is_on others q) ≡ false)
     only_one own others turn q alone =
         let parts = and_parts (is_on own q) (not (is_on others q)) alone in
@@ -167,8 +166,7 @@ module _ (s : Situation) (mark : Mark) (steps : Changes) where
         (λ q below. same_both q (mine q) (theirs.1 q below))
     winner_is (Some p) (Some r) mine theirs = by_order (nat_lt p r) refl
       where
-        by_order : (b : Bool) → nat_lt p r ≡ b
-            → IsWinner s (redone steps (undone mark s))
+        by_order : (b : Bool) → nat_lt p r ≡ b → IsWinner s (redone steps (undone mark s))
             (if b then (true, Some p) else (false, Some r))
         by_order true e = let order : p < r = ltb-true p r e in leftmost_here p mine.0
             (λ q below. same_both q (mine.1 q below) (theirs.1 q (omega arith)))
@@ -200,8 +198,7 @@ module _ (i : Inside) (s : Situation) (mark : Mark) (steps : Changes) (sound : I
     in_words q free = omega (
       arith,
       present_in_line (undone mark s) q free,
-      ap
-          (λ t. length t.context.line) view,
+      ap (λ t. length t.context.line) view,
       sound.worded,
     )
 
@@ -226,12 +223,10 @@ module _ (i : Inside) (s : Situation) (mark : Mark) (steps : Changes) (sound : I
         by_none true b e f = e
 
     -- also where they are known by other names
-    pub apart_as : (words own theirs : List ℕ) → words ≡ i.words.items → own
-        ≡ drop mark.taken s.trail
-        → theirs ≡ steps.taken → AreApart words own theirs
+    pub apart_as : (words own theirs : List ℕ) → words ≡ i.words.items
+        → own ≡ drop mark.taken s.trail → theirs ≡ steps.taken → AreApart words own theirs
     apart_as words own theirs same_words same_own same_theirs =
-        rw (same_words, same_own, same_theirs)
-        apart
+        rw (same_words, same_own, same_theirs) apart
 
     -- and the first of either tells the winner
     pub winner_as : (own theirs : List ℕ) → own ≡ drop mark.taken s.trail → theirs ≡ steps.taken
@@ -268,8 +263,7 @@ pairs_more s winner places pairs n h free p = ⊎_elim
     (is_on_push places n n ∙ or_right (is_on places n) _ (eq-eqb n n refl)))))
     (λ (other : p ≢ n). last_of_other pairs n p winner other
     ∙ (h p ∙ ap (λ b. if not (is_taken s p) && b then Some winner else None)
-    (sym (on_others places n p other))))
-    (cases_eq p n)
+    (sym (on_others places n p other)))) (cases_eq p n)
 
 -- and a taken one has none
 pub pairs_not : (s : Situation) (winner : ℕ) (places : List ℕ) (pairs : List (ℕ × ℕ)) (n : ℕ)

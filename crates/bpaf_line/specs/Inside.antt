@@ -18,12 +18,7 @@ shared_entries env = option_map_or rc_slice_items env []
 abbrev pub situation_of : Inside → Situation
 situation_of s = record {
   context =
-      record {
-        line = s.items.items;
-        marker = s.marker;
-        env = shared_entries s.env;
-        name = s.name;
-      };
+      record { line = s.items.items; marker = s.marker; env = shared_entries s.env; name = s.name };
   trail = s.trail.items;
   conflicts = s.conflicts.items;
   start = s.start;

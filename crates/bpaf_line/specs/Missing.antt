@@ -16,6 +16,5 @@ missed_of m = record {
   item = part_of m.item;
   position = m.position;
   start = m.scope.start;
-  «end» =
-      m.scope.«end»;
+  «end» = m.scope.«end»;
 }

@@ -8,8 +8,7 @@ use Rattle.bpaf_line.specs.Missing.{Missed}
 -- one item was looked for no less far on than another: from a later place, or from the same one in
 -- a scope that begins no earlier
 abbrev pub reaches : Missed → Missed → Bool
-reaches m n =
-    nat_lt n.position m.position || (m.position == n.position && nat_le n.start m.start)
+reaches m n = nat_lt n.position m.position || (m.position == n.position && nat_le n.start m.start)
 
 -- the item that was looked for furthest on, the last of equals
 abbrev pub furthest : Missed → List Missed → Missed

@@ -51,8 +51,7 @@ only_once_text s place =
 
 -- the character of a number with a dash before it; the dash alone, where there is none
 abbrev pub dashed : List ℕ → ℕ → List ℕ
-dashed letters number =
-    codes "-" ++ option_map_or encode_utf8 (slice_get letters number) []
+dashed letters number = codes "-" ++ option_map_or encode_utf8 (slice_get letters number) []
 
 -- the same with a value: the characters behind it
 abbrev pub dashed_with_rest : List ℕ → ℕ → List ℕ
@@ -128,8 +127,7 @@ message_text (StrictPos place metavar) s = side_text metavar (codes "right")
 message_text (NonStrictPos place metavar) s = side_text metavar (codes "left")
 message_text (ParseFailed place why) s =
     parse_failed_text (option_and_then (quoted_word s) place) why
-message_text (GuardFailed place why) s =
-    guard_failed_text (option_and_then (word_at s) place) why
+message_text (GuardFailed place why) s = guard_failed_text (option_and_then (word_at s) place) why
 message_text (NoArgument place metavar) s =
     no_argument_text (shown_item s place) metavar (key_behind s place)
 message_text (Unconsumed place) s =

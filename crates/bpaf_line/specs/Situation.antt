@@ -117,8 +117,7 @@ cut_to s n = with_trail s (take n s.trail)
 
 -- each place was present when it was taken
 abbrev pub TakenInTurn : Situation → Type 0
-TakenInTurn s =
-    (n : ℕ) → n < length s.trail → is_taken (cut_to s n) (slice_index s.trail n) ≡ false
+TakenInTurn s = (n : ℕ) → n < length s.trail → is_taken (cut_to s n) (slice_index s.trail n) ≡ false
 
 -- each of these places is present when those before it are taken
 abbrev pub PresentInTurn : Situation → List ℕ → Type 0

@@ -97,8 +97,7 @@ RefusesWord metavar s m = ⊥
 -- `positional_word`: the first word: its place, whether it is a PosWord, its text; or a refusal
 abbrev pub FindsWord : List ℕ → Situation → Result (ℕ × Bool × Bor (List ℕ)) Error → Type 0
 FindsWord metavar s (Ok r) =
-    IsFirst is_positional s r.0
-    × (option_and_then word_text (item_at s r.0) ≡ Some (r.1, r.2.now))
+    IsFirst is_positional s r.0 × (option_and_then word_text (item_at s r.0) ≡ Some (r.1, r.2.now))
 FindsWord metavar s (Err e) = RefusesWord metavar s e.0
 
 -- `take_positional_word`: the first word is taken: its place, whether it is a PosWord, its text; or

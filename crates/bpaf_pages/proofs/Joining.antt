@@ -8,25 +8,18 @@ pub shows : (text : Print) (doc : List Piece) → Prints text doc → prints doc
 shows text doc same = λ i full. same full i
 
 -- a text was put behind a document
-pub glued_behind :
-    (between : List ℕ) (first text : Print) (old more new : List Piece)
-    → prints old ≡ first
-    → Prints text more
-    → Prints (glued between (prints old) (prints more)) new
+pub glued_behind : (between : List ℕ) (first text : Print) (old more new : List Piece)
+    → prints old ≡ first → Prints text more → Prints (glued between (prints old) (prints more)) new
     → prints new ≡ glued between first text
 glued_behind between first text old more new begins told put =
-    shows _ new put
-    ∙ ap (glued between (prints old)) (shows text more told)
+    shows _ new put ∙ ap (glued between (prints old)) (shows text more told)
     ∙ ap (λ x. glued between x text) begins
 
 -- three texts were put behind a document
 pub three_behind :
     (between : List ℕ) (one two three : Print) (old first second third more most new : List Piece)
-    → Prints one first
-    → Prints (glued between (prints old) (prints first)) more
-    → Prints two second
-    → Prints (glued between (prints more) (prints second)) most
-    → Prints three third
+    → Prints one first → Prints (glued between (prints old) (prints first)) more → Prints two second
+    → Prints (glued between (prints more) (prints second)) most → Prints three third
     → Prints (glued between (prints most) (prints third)) new
     → Prints (joined_behind between (prints old) (one ∷ two ∷ three ∷ [])) new
 three_behind between one two three old first second third more most new

@@ -9,13 +9,9 @@ use Rattle.bpaf_pages.specs.{Lines.Line, Help.paragraphs, Help.page, Help.prints
 use Rattle.bpaf_pages.proofs.Joining.{shows, glued_behind}
 
 -- one section more
-pub section_step :
-    (width : ℕ) (all : List Line) (titles items : List (List Piece)) (i : ℕ)
-    (title before more new : List Piece) (whole : Print)
-    → items ≡ titles
-    → i < length items
-    → title ≡ get_or items i title
-    → Prints (section width all i title) more
+pub section_step : (width : ℕ) (all : List Line) (titles items : List (List Piece)) (i : ℕ)
+    (title before more new : List Piece) (whole : Print) → items ≡ titles → i < length items
+    → title ≡ get_or items i title → Prints (section width all i title) more
     → Prints (glued (codes "\n") (prints before) (prints more)) new
     → joined_behind (codes "\n") (prints before) (sections width all i (drop i titles)) ≡ whole
     → joined_behind (codes "\n") (prints new) (sections width all (i + 1) (drop (i + 1) titles))
@@ -33,25 +29,19 @@ section_step width all titles items i title before more new whole same within he
     ∙ kept
 
 -- some texts were put behind others
-group_behind :
-    (between : List ℕ) (before texts : List Print) (old new : List Piece)
-    → prints old ≡ joined between before
-    → Prints (joined_behind between (prints old) texts) new
+group_behind : (between : List ℕ) (before texts : List Print) (old new : List Piece)
+    → prints old ≡ joined between before → Prints (joined_behind between (prints old) texts) new
     → prints new ≡ joined between (before ++ texts)
 group_behind between before texts old new begins put =
-    shows _ new put
-    ∙ ap (λ x. joined_behind between x texts) begins
+    shows _ new put ∙ ap (λ x. joined_behind between x texts) begins
     ∙ sym (fold-append (glued between) nothing before texts)
 
 -- groups of texts were put behind each other
-joined_groups :
-    (between : List ℕ) (first second third : List Print) (last : Print)
-    (empty one two three more whole : List Piece)
-    → empty ≡ []
+joined_groups : (between : List ℕ) (first second third : List Print) (last : Print)
+    (empty one two three more whole : List Piece) → empty ≡ []
     → Prints (joined_behind between (prints empty) first) one
     → Prints (joined_behind between (prints one) second) two
-    → Prints (joined_behind between (prints two) third) three
-    → Prints last more
+    → Prints (joined_behind between (prints two) third) three → Prints last more
     → Prints (glued between (prints three) (prints more)) whole
     → Prints (joined between (first ++ (second ++ (third ++ last ∷ [])))) whole
 joined_groups between first second third last empty one two three more whole
@@ -67,13 +57,9 @@ joined_groups between first second third last empty one two three more whole
     λ full. ap (λ x. x full) (after_all ∙ ap (joined between) texts)
 
 -- all paragraphs of a page were put behind each other
-pub page_put :
-    (path : List (List ℕ)) (given : PageTexts) (usage : Print) (all lines : List Line)
+pub page_put : (path : List (List ℕ)) (given : PageTexts) (usage : Print) (all lines : List Line)
     (names titles : List (List Piece)) (width : ℕ) (empty one two three more whole : List Piece)
-    → all ≡ lines
-    → names ≡ titles
-    → width ≡ widest all
-    → empty ≡ []
+    → all ≡ lines → names ≡ titles → width ≡ widest all → empty ≡ []
     → Prints (joined_behind (codes "\n") (prints empty) (opening path given usage)) one
     → Prints (joined_behind (codes "\n") (prints one) (sections width all 0 names)) two
     → Prints (joined_behind (codes "\n") (prints two) (lists width all)) three
@@ -83,15 +69,13 @@ pub page_put :
 page_put path given usage all lines names titles width empty one two three more whole
     same_lines same_titles is_width is_empty begins goes_on ends told put =
     let same_sections : sections width all 0 names ≡ sections (widest lines) lines 0 titles =
-    ap (λ x. sections x all 0 names) is_width
-    ∙ ap (λ x. sections (widest x) x 0 names) same_lines
+    ap (λ x. sections x all 0 names) is_width ∙ ap (λ x. sections (widest x) x 0 names) same_lines
     ∙ ap (sections (widest lines) lines 0) same_titles in
     let same_lists : lists width all ≡ lists (widest lines) lines =
     ap (λ x. lists x all) is_width ∙ ap (λ x. lists (widest x) x) same_lines in
     let groups = joined_groups (codes "\n") in
     groups (opening path given usage) (sections (widest lines) lines 0 titles)
-    (lists (widest lines) lines) (paragraph (prints_of given.footer))
-    empty one two three more whole is_empty begins
+    (lists (widest lines) lines) (paragraph (prints_of given.footer)) empty one two three more whole
+    is_empty begins
     (subst (λ x. Prints (joined_behind (codes "\n") (prints one) x) two) same_sections goes_on)
-    (subst (λ x. Prints (joined_behind (codes "\n") (prints two) x) three) same_lists ends)
-    told put
+    (subst (λ x. Prints (joined_behind (codes "\n") (prints two) x) three) same_lists ends) told put

@@ -72,8 +72,7 @@ column width name = codes "    " ++ name ++ replicate (width - width_of name) sp
 -- the line of a name and what is said of it, which may be empty
 abbrev pub name_line : ℕ → List ℕ → Print → Print
 name_line width name help full =
-    if is_empty help
-    then codes "    " ++ name ++ codes "\n"
+    if is_empty help then codes "    " ++ name ++ codes "\n"
     else column width name ++ help full ++ codes "\n"
 
 -- a line where names have this width
@@ -119,18 +118,15 @@ sections width all number (title ∷ rest) =
 -- the paragraphs before the lists
 abbrev pub opening : List (List ℕ) → PageTexts → Print → List Print
 opening path given usage =
-    paragraph (prints_of given.descr)
-    ∷ usage_paragraph path given.usage usage
-    ∷ paragraph (prints_of given.header)
-    ∷ []
+    paragraph (prints_of given.descr) ∷ usage_paragraph path given.usage usage
+    ∷ paragraph (prints_of given.header) ∷ []
 
 -- the lists of all lines outside of sections
 abbrev pub lists : ℕ → List Line → List Print
 lists width all =
     list_below (codes "Available positional items:") (rows width (lines_at Positionals all))
     ∷ list_below (codes "Available options:") (rows width (lines_at Options all))
-    ∷ list_below (codes "Available commands:") (rows width (lines_at Commands all))
-    ∷ []
+    ∷ list_below (codes "Available commands:") (rows width (lines_at Commands all)) ∷ []
 
 -- all paragraphs of a page with these lines and titles
 abbrev pub paragraphs : List (List ℕ) → PageTexts → Print → List Line → List (List Piece)

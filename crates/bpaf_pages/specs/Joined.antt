@@ -21,5 +21,4 @@ joined between texts = joined_behind between nothing texts
 
 -- a text with something around it; nothing where it is empty
 abbrev pub around : List ℕ → List ℕ → Print → Print
-around before after text full =
-    if is_empty text then [] else before ++ text full ++ after
+around before after text full = if is_empty text then [] else before ++ text full ++ after

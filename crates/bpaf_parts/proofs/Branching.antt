@@ -23,9 +23,8 @@ module _ {s : Situation} {start : Start} (begins : IsStart start s)
 
   -- two evaluations from the start, one after the other: the second one begins where the first did
   pub second_keeps : {T : Type 0} {first second : Outcome T} {reads others : Readings T}
-      → Lawful T first reads → Lawful T second others → {a b : Result T Error}
-      {sa m sb : Situation} → first s a sa → m ≡ undone start.mark sa → second m b sb
-      → (m ≡ s) × KeepsMarks s sb
+      → Lawful T first reads → Lawful T second others → {a b : Result T Error} {sa m sb : Situation}
+      → first s a sa → m ≡ undone start.mark sa → second m b sb → (m ≡ s) × KeepsMarks s sb
   second_keeps {second = second} law other {a} {b} {sa} {m} {sb} ran gone then_ran =
       let again : m ≡ s = gone ∙ start_back (keeps_of law s a sa ran).marks in
       (again, (keeps_of other s b sb (subst (λ w. second w b sb) again then_ran)).marks)
@@ -41,8 +40,7 @@ module _ {s : Situation} {start : Start} (begins : IsStart start s)
     -- so what is chosen is chosen of where both led
     pub chosen_kept : {T : Type 0} (a b r : Result T Error) (u : Situation)
         → Chosen (start_of start t) a (end_of start branch t) b t r u
-        ⊎ IsWant (start_of start t) r u
-        → Chosen s a sa b t r u ⊎ IsWant s r u
+        ⊎ IsWant (start_of start t) r u → Chosen s a sa b t r u ⊎ IsWant s r u
     chosen_kept a b r u answer =
         subst (λ w. Chosen s a w b t r u ⊎ IsWant s r u) led.there
         (subst (λ o. Chosen o a (redone branch.steps o) b t r u ⊎ IsWant o r u)

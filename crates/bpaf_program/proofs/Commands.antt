@@ -44,19 +44,17 @@ hands_as {one = one} {other = other} also is = record {
 }
 
 module _ {T : Type 0} {inner : Outcome T} {reads wanted : Readings T}
-    {describes shapes : Shape → Type 0} (law : Lawful T inner reads)
-    (nothing : ShowsNothing inner) (also : IsAlso reads wanted)
-    (shows : (shape : Shape) → describes shape → shapes shape) {adjacent : Bool} {called : Called}
-    {help own : Option (List Piece)} (info : RunInfo) (plain : info.help_if_no_args ≡ false)
-    (name : List ℕ) (is_adjacent : adjacent ≡ true) (is_called : called ≡ named_only name)
-    (is_help : help ≡ own) where
+    {describes shapes : Shape → Type 0} (law : Lawful T inner reads) (nothing : ShowsNothing inner)
+    (also : IsAlso reads wanted) (shows : (shape : Shape) → describes shape → shapes shape)
+    {adjacent : Bool} {called : Called} {help own : Option (List Piece)} (info : RunInfo)
+    (plain : info.help_if_no_args ≡ false) (name : List ℕ) (is_adjacent : adjacent ≡ true)
+    (is_called : called ≡ named_only name) (is_help : help ≡ own) where
   -- an adjacent command of one name over a parser that shows nothing by itself hands on its page
   pub command_hands : Hands (BehindWord (named_only name) (IsAskedAt shapes info))
       (EitherCommandOutcome adjacent T inner (EndsRun describes info) called
       (CommandPart called help describes))
       (EitherCommandReads adjacent T (opening_words called) reads)
-      (CommandDescribes called help describes)
-      (StretchReads T (CommandReads T (name ∷ []) wanted))
+      (CommandDescribes called help describes) (StretchReads T (CommandReads T (name ∷ []) wanted))
       (CommandDescribes (named_only name) own shapes)
   command_hands = record {
     law = either_lawful law (run_ending describes info) called (CommandPart called help describes)
@@ -117,14 +115,12 @@ many_hands {showing = showing} catches is = record {
 }
 
 module _ {T : Type 0} {showing : Showing} {outcome : Outcome T} {reads wanted : Readings T}
-    {describes shapes : Shape → Type 0}
-    (is : Hands showing outcome reads describes wanted shapes) {known names : Known}
-    {given own : Given} where
+    {describes shapes : Shape → Type 0} (is : Hands showing outcome reads describes wanted shapes)
+    {known names : Known} {given own : Given} where
   -- what it shows in place of a value is a page that the words ask for
-  pub hands_asked : IsAlsoShown (IsAskedAt shapes plain_info) showing
-      → (r : Result T ParseFailure) → {info : RunInfo}
-      → RunsWords T outcome describes info known given r → info ≡ plain_info → known ≡ names
-      → given ≡ own → IfErr r (IfShown (WordsShow names own showing))
+  pub hands_asked : IsAlsoShown (IsAskedAt shapes plain_info) showing → (r : Result T ParseFailure)
+      → {info : RunInfo} → RunsWords T outcome describes info known given r → info ≡ plain_info
+      → known ≡ names → given ≡ own → IfErr r (IfShown (WordsShow names own showing))
   hands_asked asks (Err (failure.Stdout doc full)) {info} runs plain known_is same =
       let was : WordsShow known given (RunShows describes info showing) doc full =
       answer_shows describes info is.law showing is.hands
@@ -133,6 +129,5 @@ module _ {T : Type 0} {showing : Showing} {outcome : Outcome T} {reads wanted : 
       words_also names own (RunShows describes plain_info showing) showing
       (λ s d u. ⊎_elim
       (λ at. asks s d u (asked_at_also describes shapes plain_info is.shows s d u at))
-      (λ page. page))
-      doc full (rw (plain, known_is, same) at was)
+      (λ page. page)) doc full (rw (plain, known_is, same) at was)
   hands_asked asks _ runs plain known_is same = tt

@@ -93,8 +93,7 @@ word_known {T} means {position} {metavar} {text} {help} {word} is = record {
 -- so is a repeat of what is
 pub many_known : {T : Type 0} {outcome : Outcome T} {reads wanted : Readings T}
     {describes : Shape → Type 0} {shape : Shape} (catches : Bool)
-    → IsKnown outcome reads describes wanted shape
-    → IsKnown (ManyOutcome outcome catches)
+    → IsKnown outcome reads describes wanted shape → IsKnown (ManyOutcome outcome catches)
     (MapReads (List T) (Vec T) (ListReads reads) (λ values v. v.items ≡ values))
     (ManyDescribes describes)
     (MapReads (List T) (Vec T) (ListReads wanted) (λ values v. v.items ≡ values))
@@ -153,9 +152,8 @@ module _ {T : Type 0} {outcome : Outcome T} {reads wanted : Readings T}
     (is : IsKnown outcome reads describes wanted shape) {known names : Known} {given own : Given}
   where
     -- what it deals out is dealt out as is wanted
-    pub known_dealt : (r : Result T ParseFailure)
-        → IfOk r (λ v. IsDealtOut T reads known given v) → known ≡ names → given ≡ own
-        → IfOk r (λ v. IsDealtOut T wanted names own v)
+    pub known_dealt : (r : Result T ParseFailure) → IfOk r (λ v. IsDealtOut T reads known given v)
+        → known ≡ names → given ≡ own → IfOk r (λ v. IsDealtOut T wanted names own v)
     known_dealt = also_dealt is.also
 
     -- what it shows in place of a value is help that the words ask for

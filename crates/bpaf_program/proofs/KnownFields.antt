@@ -47,10 +47,7 @@ pub word_known : {T : Type 0} (means : List ℕ → T → Type 0) (place : Posit
     {position : Position} → position ≡ place → {metavar : List ℕ}
     → IsKnownParser (word means place) (PositionalOutcome means position metavar) no_shorts
 word_known {T} means place is {metavar} =
-    rw is (record {
-      law = λ env. positional_law env T means place metavar;
-      shown = refl;
-    })
+    rw is (record { law = λ env. positional_law env T means place metavar; shown = refl })
 
 module _ {T : Type 0} {known : Grammar T} {outcome : Outcome T} {shorts : ShortNames}
     (is : IsKnownParser known outcome shorts) where

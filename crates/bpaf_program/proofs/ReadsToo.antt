@@ -93,8 +93,7 @@ module _ {T : Type 0} {inner inner' : Readings T} (also : IsAlso inner inner') w
   many_also = made_also list_also (λ values v made. made)
 
   -- an adjacent command of one name
-  pub adjacent_also : (words : List (List ℕ))
-      → IsAlso (StretchReads T (CommandReads T words inner))
+  pub adjacent_also : (words : List (List ℕ)) → IsAlso (StretchReads T (CommandReads T words inner))
       (StretchReads T (CommandReads T words inner'))
   adjacent_also words context share v read = record {
     read = record {

@@ -16,8 +16,7 @@ use Rattle.bpaf_program.specs.{KnownParser.IsExactFor, Running.tells, Running.wr
 -- texts are in UTF-8
 pub are_texts : (words : List (String Global)) → All IsUtf8 (map string_bytes words)
 are_texts words =
-    All-map IsUtf8 string_bytes words
-    (λ k d within. IsUtf8-string_bytes (slice_index_or words k d))
+    All-map IsUtf8 string_bytes words (λ k d within. IsUtf8-string_bytes (slice_index_or words k d))
 
 -- what holds of each refusal that a step hands on holds of its answer
 pub handed_on : {A F : Type 0} {P : F → Type 0} (holds : Result A F → Type 0) (r : Result A F)
@@ -76,8 +75,7 @@ module _ (out err : Written) where
 
   -- an answer that is a text, or want of memory, is printed
   prints : (text : List ℕ) (r : Result (String Global) ParseFailure) (status : ℕ)
-      → IsPrinted out err string_bytes r status → IsTextOrWant text r
-      → Prints text out err status
+      → IsPrinted out err string_bytes r status → IsTextOrWant text r → Prints text out err status
   prints text r status (given is quiet) own =
       written (subst (λ bytes. IsShown out bytes status) own is) quiet
   prints text r status (told {f = f} {status = n} is) own = wants text f n is own

@@ -85,12 +85,10 @@ fields_seen one more = both_seen (field_seen one) more
 -- a command over a record, whose constructor makes this of the fields
 pub record_seen : {V T X Y : Type 0} {outcome : Outcome V} {see : V → X} {names : List Names}
     {fields : ProgramForm V} (word : List ℕ) (make : V → T) (look : T → Y)
-    → IsSeen outcome see names fields
-    → ((x y : V) → see x ≡ see y → look (make x) ≡ look (make y))
+    → IsSeen outcome see names fields → ((x y : V) → see x ≡ see y → look (make x) ≡ look (make y))
     → AreSeen look (word ∷ [])
     (CommandValue T (word ∷ []) (program_value (program_con (makes make) fields)))
-record_seen word make look is same =
-    command_seen word (values_look (con_seen is make look same))
+record_seen word make look is same = command_seen word (values_look (con_seen is make look same))
 
 module _ {T X B Y : Type 0} {see : T → X} (make : T → B) (look : B → Y)
     (same : (x y : T) → see x ≡ see y → look (make x) ≡ look (make y)) where
@@ -126,5 +124,4 @@ pub program_looks_one : {T X : Type 0} {see : T → X} {form : ProgramForm T}
 program_looks_one {form = form} one known given texts v w a b =
     one _ v w
     (subst (λ context. program_value form (line_cells context) v)
-    (same_context given texts known a.context b.context a.on_line b.on_line) a.read)
-    b.read
+    (same_context given texts known a.context b.context a.on_line b.on_line) a.read) b.read

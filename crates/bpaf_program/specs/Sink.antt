@@ -34,8 +34,7 @@ pub record Written : Type 1 where
 
 -- a sink of this type
 abbrev pub wrote : {S : Type 0} → KnownSink S → S → S → Written
-wrote {S} known before after =
-    record { Sink = S; known = known; before = before; after = after }
+wrote {S} known before after = record { Sink = S; known = known; before = before; after = after }
 
 -- nothing is written: it is as it was
 abbrev pub IsUntouched : Written → Type 0

@@ -41,8 +41,7 @@ module _ {words : List (List ℕ)} {key : Names} {os : List LinePiece} (own : Ow
 
   -- of an argument's value where no variable of its is set,
   pub argument_spelled : {A : Type 0} {means : List ℕ → A → Type 0} {last : Bool}
-      {set : Option (List ℕ)} {x : A} → ArgumentSays means last set os x → set ≡ None
-      → IsKeySpelled
+      {set : Option (List ℕ)} {x : A} → ArgumentSays means last set os x → set ≡ None → IsKeySpelled
   argument_spelled {A} {means} {last} {set} {x} so unset =
       value_spelled {x = x} (argument_needs {means = means} {last = last} unset) so
 
@@ -67,9 +66,8 @@ module _ {words : List (List ℕ)} {key : Names} {os : List LinePiece} (own : Ow
   flag_spelled (says_absent a none set kept is) required unset names same = absurd cc
 
   -- of an optional value that is Some,
-  pub optional_spelled : {A : Type 0} {inside : Said A} {o : Option A}
-      → NeedsPiece inside → OptionalSays inside os o → (value : Option A) → value ≡ o
-      → IsSome value → IsKeySpelled
+  pub optional_spelled : {A : Type 0} {inside : Said A} {o : Option A} → NeedsPiece inside
+      → OptionalSays inside os o → (value : Option A) → value ≡ o → IsSome value → IsKeySpelled
   optional_spelled needs (says_some x is so) value same some = value_spelled {x = x} needs so
   optional_spelled needs (says_none is none) value same some =
       let wrong : false ≡ true = subst IsSome (same ∙ is) some in
@@ -83,9 +81,8 @@ module _ {words : List (List ℕ)} {key : Names} {os : List LinePiece} (own : Ow
   fallback_spelled needs (says_kept none is) other = absurd (other is)
 
   -- and of a repeat that isn't empty.
-  pub repeat_spelled : {A : Type 0} {inside : Said A} {xs : List A}
-      → NeedsPiece inside → RepeatSays inside os xs → (values : List A) → values ≡ xs
-      → values ≢ [] → IsKeySpelled
+  pub repeat_spelled : {A : Type 0} {inside : Said A} {xs : List A} → NeedsPiece inside
+      → RepeatSays inside os xs → (values : List A) → values ≡ xs → values ≢ [] → IsKeySpelled
   repeat_spelled {A} {inside} {xs} needs so values same some =
       key_spelled (λ none. repeat_needs needs xs (λ empty. some (same ∙ empty))
       (subst (λ os. RepeatSays inside os xs) none so))
@@ -139,8 +136,7 @@ module _ {known : Known} {words : List (List ℕ)} {os : List LinePiece}
   -- so its switch is true,
   pub spelled_switch : {key : Names} {present : Bool} {absent : Option Bool}
       {set : Option (List ℕ)} {b : Bool}
-      → FlagSays (λ kept x. x ≡ kept) present absent set (keyed (key ∷ []) os) b
-      → present ≡ true
+      → FlagSays (λ kept x. x ≡ kept) present absent set (keyed (key ∷ []) os) b → present ≡ true
       → (switch : Bool) → switch ≡ b → IfKeySpelled key (switch ≡ true)
   spelled_switch (says_present k one is) on switch value names same texts spelled = cc
   spelled_switch (says_variable text none set is) on switch value names same texts

@@ -109,8 +109,7 @@ module _ (P : Arg → Type 0) {known : Known} {given : Given} {context : Context
       (slice_get_within context.line p item
       (in_line (is_marker context.marker p) (slice_get context.line p) at)) at)
     where
-      in_line : (b : Bool) (at : Option Arg) → (if b then None else at) ≡ Some item
-          → at ≡ Some item
+      in_line : (b : Bool) (at : Option Arg) → (if b then None else at) ≡ Some item → at ≡ Some item
       in_line true at e = cc
       in_line false at e = e
 

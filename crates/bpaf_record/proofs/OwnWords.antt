@@ -26,8 +26,7 @@ has_no_equals : (name : List ℕ) → is_long_name name ≡ true → HasNoEquals
 has_no_equals [] is i within same = absurd cc
 has_no_equals (b ∷ bs) is i within same =
     let pass = AllPass-from_list_all (λ byte. not (byte == 61)) (b ∷ bs) is i 0 within in
-    let fails : not (slice_index (b ∷ bs) i == 61) ≡ false =
-    ap (λ byte. not (byte == 61)) same in
+    let fails : not (slice_index (b ∷ bs) i == 61) ≡ false = ap (λ byte. not (byte == 61)) same in
     cc
 
 -- `--name` is no number

@@ -171,8 +171,7 @@ stands (EachWord stops) own (names ∷ others) = refl
 stands _ own [] = refl
 
 -- a field before others
-pub both_part_is : {A B : Type 0} (own others : List Names) (s : ProgramForm A)
-    (t : ProgramForm B)
+pub both_part_is : {A B : Type 0} (own others : List Names) (s : ProgramForm A) (t : ProgramForm B)
     → before_part (field_part (part_of s)) (part_of t) (are_all_apart own others)
     (list_all (λ names. false) others) ≡ part_of (program_both own others (program_field s) t)
 both_part_is {A} {B} own others s t =

@@ -28,8 +28,7 @@ module _ (T : Type 0) (outcome : Outcome T) (describes : Shape → Type 0) (info
   IsValue = IsProgramValueOf known form given
 
   -- an answer that is one of the values on this line, or want of memory
-  answer_on : (context : Context) → IsContext known given context
-      → (a : Result T ParseFailure)
+  answer_on : (context : Context) → IsContext known given context → (a : Result T ParseFailure)
       → IsAcceptedOrWant (program_value form (line_cells context)) (answer_of a)
       → IsValueOrWant IsValue a
   answer_on context is (Ok v) h = record { context = context; on_line = is; read = h }
@@ -38,8 +37,7 @@ module _ (T : Type 0) (outcome : Outcome T) (describes : Shape → Type 0) (info
   answer_on context is (Err failure.Memory) none = refl
 
   -- a value is one of the program's on this line
-  sound_on : (context : Context) → IsContext known given context
-      → (r : Result T ParseFailure)
+  sound_on : (context : Context) → IsContext known given context → (r : Result T ParseFailure)
       → ((v : T) → answer_of r ≡ Accepted v → program_value form (line_cells context) v)
       → IfOk r IsValue
   sound_on context is (Ok v) h = record { context = context; on_line = is; read = h v refl }

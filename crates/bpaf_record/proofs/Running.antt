@@ -92,8 +92,7 @@ module _ (T : Type 0) (outcome : Outcome T) (describes : Shape → Type 0) (info
     module _ (context : Context) (is : IsContext known given context)
         (r : Result T ParseFailure) (exact : IsExact T roles reading context (answer_of r)) where
       -- what is exact on the words' line is a value only where that is one of the record's
-      sound_on : (a : Result T ParseFailure) → r ≡ a
-          → IfOk a (HasWholeLine known form given)
+      sound_on : (a : Result T ParseFailure) → r ≡ a → IfOk a (HasWholeLine known form given)
       sound_on (Ok v) e = whole_line v
           (record { context = context; on_line = is; read = exact.sound v (ap answer_of e) })
       sound_on (Err f) e = tt
@@ -102,8 +101,7 @@ module _ (T : Type 0) (outcome : Outcome T) (describes : Shape → Type 0) (info
       answer_on : (a : Result T ParseFailure)
           → IsAcceptedOrWant (λ v. RecordValue roles reading.value context v) (answer_of a)
           → IsValueOrWant IsValue a
-      answer_on (Ok v) given_value =
-          record { context = context; on_line = is; read = given_value }
+      answer_on (Ok v) given_value = record { context = context; on_line = is; read = given_value }
       answer_on (Err (failure.Stdout doc full)) none = absurd none
       answer_on (Err (failure.Stderr doc)) none = absurd none
       answer_on (Err failure.Memory) none = refl
@@ -129,8 +127,7 @@ module _ (T : Type 0) (outcome : Outcome T) (describes : Shape → Type 0) (info
 
     -- each answer to words keeps to the fields
     pub answers_by_fields : (r : Result T ParseFailure)
-        → RunsWords T outcome describes info known given r
-        → AnswersByFields T known form given r
+        → RunsWords T outcome describes info known given r → AnswersByFields T known form given r
     answers_by_fields r (ran context answer t is run) =
         let here = subst (λ env. FormLaw env outcome names words form) (sym is.env) law in
         let exact = runs_exactly T outcome names words form flat context here (answer_of r)

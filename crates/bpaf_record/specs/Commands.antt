@@ -100,8 +100,7 @@ plain_command_law env T inner describes info called shows apart names words form
 pub either_command_law : (env : Variables) (T : Type 0) (inner : Outcome T)
     (describes : Shape → Type 0) (info : RunInfo) (called : Called) (shows : Part → Type 0)
     (adjacent apart : Bool) (names : List Names) (words : List (List ℕ)) (form : ProgramForm T)
-    → FormLaw env inner names words form
-    → FormLaw env
+    → FormLaw env inner names words form → FormLaw env
     (EitherCommandOutcome adjacent T inner (EndsRun describes info) called shows) names
     (opening_words called) (program_command adjacent apart called form)
 either_command_law env T inner describes info called shows true apart names words form l = tt

@@ -95,8 +95,7 @@ program_form (choice g h) variables =
     (program_form g variables) (program_form h variables)
 program_form (only g) variables = choice_only (program_form g variables)
 program_form (command adjacent called info g) variables =
-    program_command adjacent (are_unusual (keys_of g false) info) called
-    (program_form g variables)
+    program_command adjacent (are_unusual (keys_of g false) info) called (program_form g variables)
 program_form (alone g) variables = program_alone (program_field (program_form g variables))
 program_form (both g h) variables =
     program_both (keys_of g true) (keys_of h true) (program_field (program_form g variables))

@@ -47,8 +47,7 @@ module _ (T : Type 0) (means : List ℕ → T → Type 0) (position : Position) 
   refusals : (s t : Situation) (e : Error) (m : Message) → class e ≡ class_of m
       → PositionalFails means position metavar s m t → Reading s (Err e) t
   refusals s t e Memory c o = word_memory c
-  refusals s t e (Missing items) c o =
-      subst (Reading s (Err e)) (sym o.1) (word_missing o.0 c)
+  refusals s t e (Missing items) c o = subst (Reading s (Err e)) (sym o.1) (word_missing o.0 c)
   refusals s t e (StrictPos place m) c o = word_fault o.2.1 (λ stops. refl)
       (λ w v is y. true≢false (sym (of_value means w false o.2.0 is v position y).0 ∙ o.0)) c
   refusals s t e (NonStrictPos place m) c o = word_passed (ap not o.0) o.2.1 c

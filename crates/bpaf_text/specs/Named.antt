@@ -44,8 +44,7 @@ first_text (text ∷ texts) = Some text
 -- the part that a key without a value shows; none where it has no short and no long name
 abbrev pub flag_part : Named → Option Part
 flag_part named =
-    option_map
-    (λ name. Flag name named.names.shorts (first_text named.envs) named.help)
+    option_map (λ name. Flag name named.names.shorts (first_text named.envs) named.help)
     (shown_name named.names)
 
 -- a key with a value, as contracts see it: what the key holds, what stands for the value where the

@@ -32,8 +32,7 @@ line_by known words items n false e begun ends =
     let past : length words ≤ n = grind (arith, nat_tests) in
     let whole = take_whole words n past in
     rw (drop_whole words n past, append-nil items)
-    (without_marker items (rw whole at begun.without_marker)
-    (rw whole at begun.spelled))
+    (without_marker items (rw whole at begun.without_marker) (rw whole at begun.spelled))
 
 -- the line of words with a spelled front: its items, then the other words as PosWords
 pub line_of_front : (known : Known) (words : List (List ℕ)) (items : List Arg) (n : ℕ)

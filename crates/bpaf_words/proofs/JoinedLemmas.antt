@@ -123,8 +123,7 @@ ends names word letters old new count rest cs w e l =
 pub stops_both : (names : ShortNames) (word letters : List ℕ) (old new : List Arg) (count : ℕ)
     (rest : List ℕ) (c : ℕ) (after : List ℕ)
     → Walked names word letters old new count rest → rest ≡ encode_utf8 c ++ after
-    → IsKnownAs true true names c
-    → (cs : List ℕ) → letters ≡ encode_utf8_all cs
+    → IsKnownAs true true names c → (cs : List ℕ) → letters ≡ encode_utf8_all cs
     → SpellsJoined names word cs (Ambiguous (count + 1))
 stops_both names word letters old new count rest c after w e b cs l =
     let s = stopped names word letters old new count rest c after cs w e l in

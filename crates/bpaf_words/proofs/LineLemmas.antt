@@ -15,8 +15,7 @@ use Rattle.bpaf_words.proofs.Lists.{AllZip_push, take_next, drop_next, cut_at}
 -- a word of the rest goes over to the items
 pub rest_moved : (words : List (List ℕ)) (i : ℕ) (word : List ℕ) (old new all : List Arg)
     → slice_get words i ≡ Some word → old ++ map PosWord (drop i words) ≡ all
-    → new ≡ old ++ PosWord word ∷ []
-    → new ++ map PosWord (drop (i + 1) words) ≡ all
+    → new ≡ old ++ PosWord word ∷ [] → new ++ map PosWord (drop (i + 1) words) ≡ all
 rest_moved words i word old new all at e n =
     ap (λ z. z ++ map PosWord (drop (i + 1) words)) n
     ∙ (append_assoc old (PosWord word ∷ []) (map PosWord (drop (i + 1) words))

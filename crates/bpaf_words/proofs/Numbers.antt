@@ -16,11 +16,9 @@ digits_more d ds one more (suc k) within = more k (omega arith)
 
 -- a byte is a digit or none
 digit_or_not : (d : ℕ) → IsAsciiDigit d ⊎ ¬ (IsAsciiDigit d)
-digit_or_not d = ⊎_elim
-    (λ below. inr (λ is. omega (arith, is.0)))
+digit_or_not d = ⊎_elim (λ below. inr (λ is. omega (arith, is.0)))
     (λ above. ⊎_elim (λ small. inl (above, omega arith)) (λ large. inr (λ is. omega (arith, is.1)))
-    (cases_lt d 58))
-    (cases_lt d 48)
+    (cases_lt d 58)) (cases_lt d 48)
 
 -- bytes are digits, or not all of them are
 digits_or_not : (ds : List ℕ) → AreDigits ds ⊎ ¬ (AreDigits ds)
@@ -29,9 +27,7 @@ digits_or_not (d ∷ ds) = ⊎_elim
     (λ one. ⊎_elim
     (λ more. inl (digits_more d ds one more))
     (λ none. inr (λ all. none (λ k within. all (suc k) (omega arith))))
-    (digits_or_not ds))
-    (λ none. inr (λ all. none (all 0 (omega arith))))
-    (digit_or_not d)
+    (digits_or_not ds)) (λ none. inr (λ all. none (all 0 (omega arith)))) (digit_or_not d)
 
 -- a word of one byte and more is a number or none, by whether that byte is the dash
 number_by : (b : ℕ) (ds : List ℕ) (dash : Bool) → (b == 45) ≡ dash
@@ -60,8 +56,7 @@ by_setting : (numbers b : Bool) (word : List ℕ) → numbers ≡ b → IsNumber
     → IsNumberWord numbers word ⊎ ¬ (IsNumberWord numbers word)
 by_setting numbers true word e either =
     ⊎_elim (λ is. inl (e, is)) (λ none. inr (λ both. none both.1)) either
-by_setting numbers false word e either =
-    inr (λ both. let t : false ≡ true = sym e ∙ both.0 in cc)
+by_setting numbers false word e either = inr (λ both. let t : false ≡ true = sym e ∙ both.0 in cc)
 
 -- a word is a number that is a word, or none
 pub number_or_not : (numbers : Bool) (word : List ℕ)

@@ -22,8 +22,7 @@ pub record Rest (known : Known) (word : List ℕ) (words : List (List ℕ))
 
 -- the parts that words spell: those of the first word, then those of the others
 spell_rest : (known : Known) (word : List ℕ) (words : List (List ℕ)) (items : List Arg)
-    (parts : List (List Arg))
-    → AllZip (λ w xs. Spells known w (Items xs)) (word ∷ words) parts
+    (parts : List (List Arg)) → AllZip (λ w xs. Spells known w (Items xs)) (word ∷ words) parts
     → items ≡ flat_map (λ xs. xs) parts → Rest known word words items
 spell_rest known word words items [] z e = absurd z
 spell_rest known word words items (xs ∷ parts) z e =
@@ -347,8 +346,7 @@ by_marker known word words true e u o =
     inl (
       PosWord (codes "--") ∷ map PosWord words,
       Some 0,
-      with_marker [] words [] (ap (λ z. z ∷ words) w) (λ i d l. absurd (omega arith))
-          (empty known),
+      with_marker [] words [] (ap (λ z. z ∷ words) w) (λ i d l. absurd (omega arith)) (empty known),
     )
 by_marker known word words false e u o =
     let n : word ≢ codes "--" =

@@ -82,8 +82,7 @@ module _ (names : ShortNames) (word : List ℕ) where
       (JoinedWithBoth, Ambiguous (length fs + 1)) else walk_joined (fs ++ c ∷ []) cs)
       else (if is_among names.arguments c then (
         JoinedWithArgument,
-        Items (flags_of word fs
-            ++ argument_of word c (encode_utf8_all cs)),
+        Items (flags_of word fs ++ argument_of word c (encode_utf8_all cs)),
       ) else
       (JoinedWithNeither, Items (Word word ∷ [])))
 
@@ -352,8 +351,7 @@ one_by_dash names word u n =
       spells = found;
       only = λ s a. let e = walk_finds names word cs s w a in (
         ap (λ p. p.0) (sym e ∙ own),
-        sym (ap
-            (λ p. p.1) e),
+        sym (ap (λ p. p.1) e),
       );
     }
 

@@ -34,9 +34,8 @@ other_than_dash rest tail c none e d =
 
 -- a word `-c=v` or `-cr=v` spells its key and the value that was chosen
 pub with_value : (names : ShortNames) (word rest tail name value chosen : List ℕ) (c : ℕ)
-    → word ≡ 45 ∷ rest → rest ≡ encode_utf8 c ++ tail → c ≢ 45
-    → tail ≡ name ++ 61 ∷ value → HasNoEquals name → (length name ≡ 0 → chosen ≡ value)
-    → (length name ≢ 0 → chosen ≡ tail)
+    → word ≡ 45 ∷ rest → rest ≡ encode_utf8 c ++ tail → c ≢ 45 → tail ≡ name ++ 61 ∷ value
+    → HasNoEquals name → (length name ≡ 0 → chosen ≡ value) → (length name ≢ 0 → chosen ≡ tail)
     → SpellsByDash names word (Items (Short c true word ∷ ArgWord chosen ∷ []))
 with_value names word rest tail [] value chosen c w r d t n f g =
     rw (f refl) (short_value c value
@@ -98,8 +97,7 @@ joined_word known word letters old between result new other are same answers =
 -- what is answered of a word behind a dash that isn't a number is answered of it by any setting
 pub alone_by_any : (numbers : Bool) (word : List ℕ)
     (result : Result (Option (Bor (List ℕ))) AllocError) (old new : List Arg)
-    → ¬ (IsNumberWord numbers word)
-    → IfOk result (λ joined. SplitsDashed word old joined new)
+    → ¬ (IsNumberWord numbers word) → IfOk result (λ joined. SplitsDashed word old joined new)
     → IfOk result (λ joined. SplitsAlone numbers word old joined new)
 alone_by_any numbers word (Ok None) old new other spells = λ names.
     let spelled = spells names in (spelled.0, by_dash (Items spelled.0) other spelled.1, spelled.2)

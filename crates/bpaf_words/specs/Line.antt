@@ -20,8 +20,7 @@ pub data IsLine (known : Known) (words : List (List ℕ)) : List Arg → Option 
   without_marker : (items : List Arg) → HasNoMarker words → SpellAll known words items
       → IsLine known words items None
   with_marker : (before after : List (List ℕ)) (items : List Arg)
-      → words ≡ before ++ codes "--" ∷ after
-      → HasNoMarker before → SpellAll known before items
+      → words ≡ before ++ codes "--" ∷ after → HasNoMarker before → SpellAll known before items
       → IsLine known words (items ++ PosWord (codes "--") ∷ map PosWord after) (Some (length items))
 
 -- words without a line: the first ambiguous one before a `--`, and the number of its ambiguous

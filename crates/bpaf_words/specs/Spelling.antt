@@ -86,8 +86,7 @@ pub data SpellsByDash (names : ShortNames) (word : List ℕ) : Spelling → Type
       → SpellsByDash names word (Items (Short c false word ∷ []))
   -- `-c=v`
   short_value : (c : ℕ) (v : List ℕ) → word ≡ codes "-" ++ (encode_utf8 c ++ (codes "=" ++ v))
-      → c ≢ dash_char
-      → SpellsByDash names word (Items (Short c true word ∷ ArgWord v ∷ []))
+      → c ≢ dash_char → SpellsByDash names word (Items (Short c true word ∷ ArgWord v ∷ []))
   -- `-cr=v`
   short_long_value : (c : ℕ) (r v : List ℕ)
       → word ≡ codes "-" ++ (encode_utf8 c ++ (r ++ (codes "=" ++ v))) → c ≢ dash_char → r ≢ []

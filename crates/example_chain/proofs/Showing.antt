@@ -27,8 +27,7 @@ module _ {P : Type 0} (outcome : P → Outcome Step) (reads : P → Readings Ste
   Chained title parser command =
       Hands (IsCommandPage title)
       (OutcomeOfCommand command (outcome command.inner) (describes command.inner))
-      (EitherCommandReads command.adjacent Step (opening_words command.names)
-      (reads command.inner))
+      (EitherCommandReads command.adjacent Step (opening_words command.names) (reads command.inner))
       (CommandDescribes command.names command.help (describes command.inner))
       (ChainedReads title.name (reads parser)) (IsCommandShape title)
 

@@ -12,8 +12,7 @@ turn_line left degrees =
 
 -- the line of a step
 abbrev pub step_line : Step → List ℕ
-step_line (Move dx dy) =
-    line (codes "move " ++ signed_decimal dx ++ codes " " ++ signed_decimal dy)
+step_line (Move dx dy) = line (codes "move " ++ signed_decimal dx ++ codes " " ++ signed_decimal dy)
 step_line (Turn left degrees) = turn_line left degrees
 step_line (Repeat times) = line (codes "repeat " ++ decimal times)
 

@@ -100,5 +100,4 @@ pub data IsPage (s : Situation) (doc : List Piece) (full : Bool) : Type 0 where
 
 -- the words ask for this help page
 abbrev pub IsHelpAsked : List (List ℕ) → List Piece → Bool → Type 0
-IsHelpAsked words doc full =
-    WordsShow program_known (program_given words) IsPage doc full
+IsHelpAsked words doc full = WordsShow program_known (program_given words) IsPage doc full

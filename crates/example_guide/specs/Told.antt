@@ -8,5 +8,4 @@ use Rattle.bpaf_record.specs.Spelled.{WasSpelled}
 pub data TellsFiles (begins : List ℕ) (names : Names) (words : List (List ℕ)) (text : List ℕ)
     : Type 0 where
   lines : (front : List ℕ) (files : List (List ℕ)) → text ≡ line_each front files
-      → (front ≡ begins → WasSpelled names words)
-      → TellsFiles begins names words text
+      → (front ≡ begins → WasSpelled names words) → TellsFiles begins names words text

@@ -20,8 +20,7 @@ use Rattle.bpaf_exact.proofs.{Says.listed_says, Says.word_by_says, Says.word_say
 -- what the name says of its piece
 name_says : (os : List LinePiece) (v : String)
     → SingleValue String (FrontOf String (WordValue (accepts NonStrict) MeansText))
-    (gap_of MeansText None) os v
-    → WordSays (accepts NonStrict) MeansText os v
+    (gap_of MeansText None) os v → WordSays (accepts NonStrict) MeansText os v
 name_says os v (inl g) = subst (λ os. WordSays (accepts NonStrict) MeansText os v) (sym g.1)
     (word_says (accepts NonStrict) MeansText g.0 v g.2)
 name_says os v (inr e) = absurd e.1

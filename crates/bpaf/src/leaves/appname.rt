@@ -5,6 +5,7 @@ ghost use Rattle.bpaf_line.specs.Messages.{is_memory};
 ghost use Rattle.bpaf_laws.specs.Appname.{AppnameOutcome, AppnameReads};
 ghost use Rattle.bpaf_laws.specs.ShownNames.{no_shorts};
 ghost use Rattle.bpaf_laws.proofs.{AppnameLaws.appname_lawful, ShownNames.one_shape};
+
 use bpaf_core::Parser;
 use bpaf_doc::Meta;
 use bpaf_line::{Error, State};

@@ -12,8 +12,7 @@ returns-in-Ok g c =
     (rw c.in-Ok.ensures.inner at c.tell.ensures) (λ x y e. search rules))
 
 pub returns-in-Err-NoFirstItem : goal.returns-in-Err-NoFirstItem
-returns-in-Err-NoFirstItem g c =
-    headless _ _ (search rules) (search rules)
+returns-in-Err-NoFirstItem g c = headless _ _ (search rules) (search rules)
 
 pub returns-in-Err-Memory : goal.returns-in-Err-Memory
 returns-in-Err-Memory g c = wanted _ (search rules)

@@ -122,8 +122,7 @@ this_or_that-answer-requires-clause-this g c =
     g.met.P.Parser.lawful (g.met.P.Parser.lawful c.args.first.now) in
     let both = second_keeps begins back law (g.met.P.Parser.lawful c.parser-item.result)
     c.loop-parser.invariant c.leave.ensures.back c.eval-other.ensures in
-    let led = subst (λ o. LedTo c.in-Ok.this o c.loop-parser.state) both.0
-    c.in-Ok.ensures.left in
+    let led = subst (λ o. LedTo c.in-Ok.this o c.loop-parser.state) both.0 c.in-Ok.ensures.left in
     branch_kept begins back led both.1
 
 pub loop-parser-preserved : goal.loop-parser-preserved
@@ -136,8 +135,7 @@ loop-parser-preserved g c =
     g.met.P.Parser.lawful (g.met.P.Parser.lawful c.args.first.now) in
     let both = second_keeps begins back law (g.met.P.Parser.lawful c.parser-item.result)
     c.loop-parser.invariant c.leave.ensures.back c.eval-other.ensures in
-    let led = subst (λ o. LedTo c.in-Ok.this o c.loop-parser.state) both.0
-    c.in-Ok.ensures.left in
+    let led = subst (λ o. LedTo c.in-Ok.this o c.loop-parser.state) both.0 c.in-Ok.ensures.left in
     let i = c.loop-parser.parser-index in
     let more : take (i + 1) c.args.rest.now ≡ take i c.args.rest.now ++ c.parser-item.result ∷ [] =
     take_more c.args.rest.now i c.parser-item.result c.loop-parser-test.true
@@ -147,8 +145,7 @@ loop-parser-preserved g c =
     c.eval-other.new.state)
     both.0 c.eval-other.ensures in
     let chosen = chosen_kept begins back led both.1 c.loop-parser.answer c.eval-other.result
-    c.this_or_that-answer.result
-    c.this_or_that-answer.new.state c.this_or_that-answer.ensures in
+    c.this_or_that-answer.result c.this_or_that-answer.new.state c.this_or_that-answer.ensures in
     let all =
     one_more g.P.Parser.outcome (g.P.Parser.outcome c.args.first.now) (take i c.args.rest.now)
     c.parser-item.result c.args.state.now c.loop-parser.answer c.loop-parser.state

@@ -54,5 +54,4 @@ returns-in-None g c =
     let ends = subst (EndsIn run.0.0) c.in-None.is run.0.2 in
     last_answers (g.P.Parser.outcome c.args.parser.now) c.args.state.now c.parse_option.new.state
     (subst (λ values. UntilRest (g.P.Parser.outcome c.args.parser.now) c.args.state.now values
-    c.parse_option.new.state) ends stopped)
-    c.eval.result c.eval.new.state c.eval.ensures
+    c.parse_option.new.state) ends stopped) c.eval.result c.eval.new.state c.eval.ensures

@@ -20,13 +20,11 @@ loop-place-preserved c =
     subst (λ ps. IsLeastIn (is_on_as c.args.words.now ps c.args.bit) c.if-is_set-bit.least)
     (sym (take_more places i 0 c.loop-place-test.true))
     (elim c.if-is_set-bit.branch [
-      | then-is_set-bit w ↦
-          subst (IsLeastIn (is_on_as words more c.args.bit))
+      | then-is_set-bit w ↦ subst (IsLeastIn (is_on_as words more c.args.bit))
           (sym (w.least-is ∙ ap Some w.lesser.ensures))
           (least_take words (take i places) p c.args.bit c.loop-place.least c.loop-place.invariant
           (sym tested ∙ w.if-is_set-bit.true))
-      | else-is_set-bit w ↦
-          subst (IsLeastIn (is_on_as words more c.args.bit)) (sym w.least-is)
+      | else-is_set-bit w ↦ subst (IsLeastIn (is_on_as words more c.args.bit)) (sym w.least-is)
           (least_skip words (take i places) p c.args.bit c.loop-place.least c.loop-place.invariant
           (sym tested ∙ w.if-is_set-bit.false))
     ])

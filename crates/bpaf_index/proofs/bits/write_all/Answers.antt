@@ -8,8 +8,7 @@ pub write-requires : goal.write-requires
 write-requires c = omega (
   arith,
   c.loop-place.invariant.kept,
-  c.requires _
-      (on_at c.args.places.now c.loop-place.place-index c.loop-place-test.true),
+  c.requires _ (on_at c.args.places.now c.loop-place.place-index c.loop-place-test.true),
 )
 
 pub loop-place-preserved : goal.loop-place-preserved

@@ -4,11 +4,9 @@ use Rattle.bpaf_pages.specs.{Joined.joined, Joined.joined_behind, Usage.usage_te
 use Rattle.bpaf_pages.proofs.usage.+usage.Given as goal
 
 -- the usage texts so far, and those of the others behind them, are those of all
-abbrev pub invariant-usage_of_all-loop-member :
-    goal.invariant-usage_of_all-loop-member
+abbrev pub invariant-usage_of_all-loop-member : goal.invariant-usage_of_all-loop-member
 invariant-usage_of_all-loop-member l =
     let others = usage_texts (members_of (drop l.member-index l.all)) in
     let all = usage_texts (members_of l.all) in
     (joined_behind l.between (prints l.doc) others ≡ joined l.between all)
-    × (l.shown + how_many others ≡ how_many all)
-    × (l.shown ≤ l.member-index)
+    × (l.shown + how_many others ≡ how_many all) × (l.shown ≤ l.member-index)

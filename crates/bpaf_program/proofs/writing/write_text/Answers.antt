@@ -19,8 +19,7 @@ returns-in-Ok-eq0-clause-part g c =
     })
 
 pub loop-rest-preserved : goal.loop-rest-preserved
-loop-rest-preserved g c =
-    written_on _ _ _ _ _ c.loop-rest.invariant _ c.in-Ok.ensures.bytes
+loop-rest-preserved g c = written_on _ _ _ _ _ c.loop-rest.invariant _ c.in-Ok.ensures.bytes
 
 pub returns-in-Err-clause-part : goal.returns-in-Err-clause-part
 returns-in-Err-clause-part g c =

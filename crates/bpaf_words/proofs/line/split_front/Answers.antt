@@ -21,8 +21,7 @@ returns-in-Some c names = subst
     (λ items. Begins (known_at c.args.numbers names) (words_in c.args.words) items
     c.loop-index.index)
     (sym (with_names c.args.numbers c.at-word.result.now c.in_ok-_letters.field-0 _ _
-    c.in-Some._letters c.in-Some.is c.in_ok-_letters.ensures).2)
-    (c.loop-index.invariant names)
+    c.in-Some._letters c.in-Some.is c.in_ok-_letters.ensures).2) (c.loop-index.invariant names)
 
 pub returns : goal.returns
 returns c names = subst

@@ -9,10 +9,7 @@ use Rattle.bpaf_words.proofs.split.split_behind_dash.Goals.{else-numbers-via-els
 pub returns-then-is_number : goal.returns-then-is_number
 returns-then-is_number c names = (
   Word c.args.word.now ∷ [],
-  number_word (
-    c.if-numbers.true,
-    subst IsNumber (sym c.requires.dashed) c.if-is_number.ensures,
-  ),
+  number_word (c.if-numbers.true, subst IsNumber (sym c.requires.dashed) c.if-is_number.ensures),
   c.in_ok-push_word.ensures,
 )
 

@@ -18,8 +18,7 @@ returns-in_ok-new-in-Some-2 c =
     let parts = at_equals c.args.name.now c.in-Some.front c.in-Some.value c.in-Some.ensures.cases in
     on_ok_weaker c.push_attached.result
     (λ e names. (
-      Long c.in-Some.front.now true c.args.word.now ∷ ArgWord c.in-Some.value.now
-          ∷ [],
+      Long c.in-Some.front.now true c.args.word.now ∷ ArgWord c.in-Some.value.now ∷ [],
       long_value c.in-Some.front.now c.in-Some.value.now
           (c.requires.word ∙ ap (λ x. codes "--" ++ x) parts.0) parts.1,
       search rules,

@@ -4,8 +4,7 @@ use Rattle.bpaf_words.proofs.split.split_word.Goals as goal
 
 pub returns-in-None : goal.returns-in-None
 returns-in-None c = alone c.args.numbers c.args.word.now c.in_ok-split_alone.field-0 _ _
-    c.in-None.is
-    c.in_ok-split_alone.ensures
+    c.in-None.is c.in_ok-split_alone.ensures
     (record { flags = c.args.flags.now; arguments = c.args.arguments.now })
 
 pub returns-in-Some : goal.returns-in-Some

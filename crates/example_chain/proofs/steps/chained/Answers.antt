@@ -10,8 +10,7 @@ returns-clause-help g c =
 
 pub returns-clause-described : goal.returns-clause-described
 returns-clause-described g c =
-    let with_descr : RunInfo → RunInfo =
-    λ info. record info { descr = Some c.in_ok-descr.descr } in
+    let with_descr : RunInfo → RunInfo = λ info. record info { descr = Some c.in_ok-descr.descr } in
     record {
       descr = c.in_ok-descr.descr;
       told = c.in_ok-descr.ensures;

@@ -23,8 +23,7 @@ returns c =
     let verbose = fields.1.1.1.1.1.1.0 in
     record {
       agreed = (search rules, agreed.1);
-      out = argument_spelled (of_line line) fields.1.0 (search rules) archive.out
-          (search rules);
+      out = argument_spelled (of_line line) fields.1.0 (search rules) archive.out (search rules);
       root = value_spelled (of_line line) (last_needs (argument_needs (search rules)))
           fields.1.1.0 archive.root (search rules);
       level = λ some. optional_spelled (of_line line) (made_needs (argument_needs (search rules)))

@@ -19,8 +19,7 @@ returns c =
     let parts = c.construct-launch.result.fields in
     let positionals = parts.rest.rest in
     let verbose : HasSwitch verbose_names (codes "Print more") parts.first = search rules in
-    let dry_run : HasSwitch dry_run_names (codes "Start nothing") parts.rest.first =
-    search rules in
+    let dry_run : HasSwitch dry_run_names (codes "Start nothing") parts.rest.first = search rules in
     let name : HasWord NonStrict (codes "NAME") (codes "Program to start") positionals.first =
     search rules in
     let passed : HasWord Strict (codes "WORD") (codes "Words to pass on")
@@ -51,8 +50,7 @@ returns c =
       exact = exact;
       launch = launch_asked _ _
           (dealt.known_dealt (dealt.product_known (λ x v e. search rules) known) _
-          c.run_once.ensures.dealt (rw (verbose.1.named_is, dry_run.1.named_is) refl) given)
-          exact;
+          c.run_once.ensures.dealt (rw (verbose.1.named_is, dry_run.1.named_is) refl) given) exact;
       asked = dealt.known_asked (dealt.product_known (λ x v e. e) known) IsProgramShape
           (record {
             verbose = verbose.0;

@@ -11,9 +11,8 @@ loop-value-init g c =
 pub returns-in-Err : goal.returns-in-Err
 returns-in-Err g c =
     error_answers g.row.T.Denot (g.P.Parser.outcome c.args.parser.now) c.args.state.now
-    c.loop-value.state c.attempt.new.state c.args.place c.loop-value.end
-    c.loop-value.invariant.same c.loop-value.invariant.narrowed c.attempt.result c.in-Err.error
-    c.in-Err.is c.attempt.ensures
+    c.loop-value.state c.attempt.new.state c.args.place c.loop-value.end c.loop-value.invariant.same
+    c.loop-value.invariant.narrowed c.attempt.result c.in-Err.error c.in-Err.is c.attempt.ensures
 
 pub returns-in-Ok-Whole : goal.returns-in-Ok-Whole
 returns-in-Ok-Whole g c =

@@ -105,11 +105,10 @@ returns-in_ok-kept-in-Err-clause-tried g c =
     c.keep-kept.new.self) back.back c.in_ok-kept-in-Err.ensures.ok in
     failed_at g.row.T.Denot (g.P.Parser.outcome c.args.parser.now) c.args.state.now c.args.place
     c.args.end (failure_of c.args.state.now c.args.best.now) c.takes_item.new.state
-    c.attempts.new.state c.undo.new.self c.in_ok-takes_item.field-0 c.attempts.result
-    c.in-Err.error c.takes_item.ensures.same c.if-not-branch.false
-    c.in_ok-takes_item.ensures.takes c.in-Err.is c.attempts.ensures
-    c.in_ok-kept-in-Err.ensures.told (failure_of c.args.state.now c.keep-kept.new.self)
-    kept.longer left
+    c.attempts.new.state c.undo.new.self c.in_ok-takes_item.field-0 c.attempts.result c.in-Err.error
+    c.takes_item.ensures.same c.if-not-branch.false c.in_ok-takes_item.ensures.takes c.in-Err.is
+    c.attempts.ensures c.in_ok-kept-in-Err.ensures.told
+    (failure_of c.args.state.now c.keep-kept.new.self) kept.longer left
 
 pub returns-in_ok-kept-in-Err-clause-sound : goal.returns-in_ok-kept-in-Err-clause-sound
 returns-in_ok-kept-in-Err-clause-sound g c =

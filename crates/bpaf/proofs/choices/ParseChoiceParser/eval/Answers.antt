@@ -10,5 +10,4 @@ returns-clause-leftmost_wins g c =
 pub returns-clause-memory_is_never_caught : goal.returns-clause-memory_is_never_caught
 returns-clause-memory_is_never_caught g c =
     choices_spared g.P.Parser.outcome c.args.self.now.parsers.items c.args.state.now
-    c.choose.new.state c.choose.result
-    (rw c.as_slice.ensures.value at c.choose.ensures)
+    c.choose.new.state c.choose.result (rw c.as_slice.ensures.value at c.choose.ensures)

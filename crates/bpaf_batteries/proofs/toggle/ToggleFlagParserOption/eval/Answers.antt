@@ -7,7 +7,6 @@ returns-in-Ok-clause-last_toggle_wins g c =
     toggle_wins g.T.Clone.is_clone p.inner.this p.inner.that p.catch c.args.state.now
     c.eval.new.state c.last_of.result (c.in-Ok.values, c.in-Ok.ensures.outcome, c.last_of.ensures)
 
-pub returns-in-Ok-clause-memory_is_never_caught
-    : goal.returns-in-Ok-clause-memory_is_never_caught
+pub returns-in-Ok-clause-memory_is_never_caught : goal.returns-in-Ok-clause-memory_is_never_caught
 returns-in-Ok-clause-memory_is_never_caught g c spared =
     (c.in-Ok.values, c.in-Ok.ensures.memory_is_never_caught tt, c.last_of.ensures)

@@ -24,8 +24,6 @@ pub returns-in_err-text-clause-key_before_environment :
 returns-in_err-text-clause-key_before_environment g c =
     handed_on
     (λ r. KeyBeforeEnvironment g.T.FromText.means c.args.self.now c.args.state.now r
-    c.take_argument.new.state)
-    c.in_err-text.field-0.0
+    c.take_argument.new.state) c.in_err-text.field-0.0
     (refused_first g.T.FromText.means c.args.self.now c.args.state.now c.take_argument.new.state
-    c.in_err-text.field-0.0.0 c.in_err-text.ensures)
-    c.from_residual.result c.from_residual.ensures
+    c.in_err-text.field-0.0.0 c.in_err-text.ensures) c.from_residual.result c.from_residual.ensures

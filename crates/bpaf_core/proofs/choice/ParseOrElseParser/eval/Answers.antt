@@ -15,18 +15,16 @@ returns-then-is_want-clause-outcome g c =
     c.eval-first.result c.eval-first.new.state c.eval-first.ensures in
     want_outcome (g.A.Parser.outcome c.args.self.now.this) (g.B.Parser.outcome c.args.self.now.that)
     c.args.state.now c.eval-first.result c.undo.new.self (sym c.is_want.ensures ∙ c.if-is_want.true)
-    (c.undo.ensures.undone ∙ start_back c.of-start.ensures.start c.of-start.ensures.back
-    kept.marks)
+    (c.undo.ensures.undone ∙ start_back c.of-start.ensures.start c.of-start.ensures.back kept.marks)
 
 pub returns-then-is_want-clause-leftmost_wins : goal.returns-then-is_want-clause-leftmost_wins
 returns-then-is_want-clause-leftmost_wins g c =
     let kept = keeps_of (g.met.A.Parser.lawful c.args.self.now.this) c.args.state.now
     c.eval-first.result c.eval-first.new.state c.eval-first.ensures in
     want_leftmost (g.A.Parser.outcome c.args.self.now.this)
-    (g.B.Parser.outcome c.args.self.now.that)
-    c.args.state.now c.eval-first.result c.undo.new.self (sym c.is_want.ensures ∙ c.if-is_want.true)
-    (c.undo.ensures.undone ∙ start_back c.of-start.ensures.start c.of-start.ensures.back
-    kept.marks)
+    (g.B.Parser.outcome c.args.self.now.that) c.args.state.now c.eval-first.result c.undo.new.self
+    (sym c.is_want.ensures ∙ c.if-is_want.true)
+    (c.undo.ensures.undone ∙ start_back c.of-start.ensures.start c.of-start.ensures.back kept.marks)
 
 pub returns-then-is_want-clause-memory_is_never_caught :
     goal.returns-then-is_want-clause-memory_is_never_caught
@@ -42,8 +40,7 @@ returns-in-Err-clause-outcome g c =
     c.eval-first.result c.eval-first.new.state c.eval-first.ensures in
     inr (
       ap is_memory c.from.ensures,
-      c.leave.ensures.back ∙ start_back c.of-start.ensures.start c.of-start.ensures.back
-          kept.marks,
+      c.leave.ensures.back ∙ start_back c.of-start.ensures.start c.of-start.ensures.back kept.marks,
     )
 
 pub returns-in-Err-clause-leftmost_wins : goal.returns-in-Err-clause-leftmost_wins
@@ -52,8 +49,7 @@ returns-in-Err-clause-leftmost_wins g c =
     c.eval-first.result c.eval-first.new.state c.eval-first.ensures in
     inr (
       ap is_memory c.from.ensures,
-      c.leave.ensures.back ∙ start_back c.of-start.ensures.start c.of-start.ensures.back
-          kept.marks,
+      c.leave.ensures.back ∙ start_back c.of-start.ensures.start c.of-start.ensures.back kept.marks,
     )
 
 pub undo-requires-then-is_want-2 : goal.undo-requires-then-is_want-2
@@ -75,11 +71,9 @@ returns-then-is_want-2-clause-outcome g c =
     want_outcome (g.A.Parser.outcome c.args.self.now.this) (g.B.Parser.outcome c.args.self.now.that)
     c.args.state.now c.eval-second.result c.undo-then-is_want-2.new.self
     (sym c.is_want-2.ensures ∙ c.if-is_want-2.true)
-    (c.undo-then-is_want-2.ensures.undone
-    ∙ start_back begins back both.1)
+    (c.undo-then-is_want-2.ensures.undone ∙ start_back begins back both.1)
 
-pub returns-then-is_want-2-clause-leftmost_wins :
-    goal.returns-then-is_want-2-clause-leftmost_wins
+pub returns-then-is_want-2-clause-leftmost_wins : goal.returns-then-is_want-2-clause-leftmost_wins
 returns-then-is_want-2-clause-leftmost_wins g c =
     let begins = c.of-start.ensures.start in
     let back = c.of-start.ensures.back in
@@ -87,11 +81,9 @@ returns-then-is_want-2-clause-leftmost_wins g c =
     (g.met.B.Parser.lawful c.args.self.now.that) c.eval-first.ensures c.leave.ensures.back
     c.eval-second.ensures in
     want_leftmost (g.A.Parser.outcome c.args.self.now.this)
-    (g.B.Parser.outcome c.args.self.now.that)
-    c.args.state.now c.eval-second.result c.undo-then-is_want-2.new.self
-    (sym c.is_want-2.ensures ∙ c.if-is_want-2.true)
-    (c.undo-then-is_want-2.ensures.undone
-    ∙ start_back begins back both.1)
+    (g.B.Parser.outcome c.args.self.now.that) c.args.state.now c.eval-second.result
+    c.undo-then-is_want-2.new.self (sym c.is_want-2.ensures ∙ c.if-is_want-2.true)
+    (c.undo-then-is_want-2.ensures.undone ∙ start_back begins back both.1)
 
 pub returns-then-is_want-2-clause-memory_is_never_caught :
     goal.returns-then-is_want-2-clause-memory_is_never_caught
@@ -135,12 +127,10 @@ ran g c =
     c.in-Ok.ensures.left in
     ran_outcome (g.A.Parser.outcome c.args.self.now.this) (g.B.Parser.outcome c.args.self.now.that)
     c.args.state.now c.eval-first.result c.eval-first.new.state c.eval-second.result
-    c.eval-second.new.state
-    c.this_or_that.result c.this_or_that.new.state c.eval-first.ensures
+    c.eval-second.new.state c.this_or_that.result c.this_or_that.new.state c.eval-first.ensures
     (subst (λ w. g.B.Parser.outcome c.args.self.now.that w c.eval-second.result
     c.eval-second.new.state) both.0 c.eval-second.ensures)
-    (sym c.is_want.ensures ∙ c.if-is_want.false)
-    (sym c.is_want-2.ensures ∙ c.if-is_want-2.false)
+    (sym c.is_want.ensures ∙ c.if-is_want.false) (sym c.is_want-2.ensures ∙ c.if-is_want-2.false)
     (chosen_kept begins back led both.1 c.eval-first.result c.eval-second.result
     c.this_or_that.result c.this_or_that.new.state c.this_or_that.ensures)
 

@@ -5,8 +5,7 @@ use Rattle.bpaf_core.proofs.Running.{read_by_shown}
 use Rattle.bpaf_core.proofs.options.OptionParser.line.Goals as goal
 
 pub is_whole-requires : goal.is_whole-requires
-is_whole-requires g c =
-    (c.in_ok-front.ensures.front (record { flags = []; arguments = [] })).bound
+is_whole-requires g c = (c.in_ok-front.ensures.front (record { flags = []; arguments = [] })).bound
 
 pub returns : goal.returns
 returns g c =
@@ -17,6 +16,5 @@ returns g c =
     c.in_ok-front.front.numbers c.in_ok-flags.flags.items c.in_ok-flags.arguments.items shape _
     (c.in_ok-front.ensures.setting ∙ ap (λ options. options.info.numbers) same)
     (subst (λ options. g.P.Parser.describes options.inner shape) same c.in_ok-meta.ensures)
-    (search rules)
-    (search rules)
+    (search rules) (search rules)
     (rw (c.deref.ensures.value, c.deref-2.ensures.value) at c.line_by.ensures.answer)

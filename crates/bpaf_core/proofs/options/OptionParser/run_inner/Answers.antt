@@ -5,8 +5,7 @@ use Rattle.bpaf_core.proofs.options.OptionParser.run_inner.Goals as goal
 
 pub returns-in-Ok-clause-outcome : goal.returns-in-Ok-clause-outcome
 returns-in-Ok-clause-outcome g c =
-    started (given_of c.args.args) _ _ _ c.in-Ok.ensures
-    c.run_from.ensures
+    started (given_of c.args.args) _ _ _ c.in-Ok.ensures c.run_from.ensures
 
 pub returns-in-Err-clause-outcome : goal.returns-in-Err-clause-outcome
 returns-in-Err-clause-outcome g c =
@@ -27,8 +26,7 @@ returns-in-Err-clause-named g c =
     words_are_named _ _ _ (g.met.P.Parser.lawful c.args.self.now.inner) _ (given_of c.args.args) _
     (returns-in-Err-clause-outcome g c)
 
-pub returns-in-Ok-clause-memory_is_never_caught
-    : goal.returns-in-Ok-clause-memory_is_never_caught
+pub returns-in-Ok-clause-memory_is_never_caught : goal.returns-in-Ok-clause-memory_is_never_caught
 returns-in-Ok-clause-memory_is_never_caught g c =
     words_spared _ _ _ _ (given_of c.args.args) _ (returns-in-Ok-clause-outcome g c)
 

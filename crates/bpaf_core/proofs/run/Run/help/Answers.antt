@@ -13,8 +13,7 @@ returns-in-Ok-page g c =
         shown = c.in-Ok.ensures;
         prints = subst
             (λ path. Prints (help_text path (page_texts info) shape (extra_shape info))
-            c.in-Ok-page.doc)
-            c.path.ensures.path c.in-Ok-page.ensures;
+            c.in-Ok-page.doc) c.path.ensures.path c.in-Ok-page.ensures;
       },
       refl,
     )

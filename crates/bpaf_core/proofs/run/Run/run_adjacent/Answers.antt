@@ -8,5 +8,4 @@ set_scope-requires-clause-inside g c =
     (attempts_context (g.met.P.Parser.lawful c.args.self.now.inner.now)
     (run_ending (g.P.Parser.describes c.args.self.now.inner.now) c.args.self.now.info.now)
     c.args.state.now
-    _ c.in-Ok.value c.attempts.new.state c.in-Ok.ensures)
-    c.scope-scope.ensures.inside
+    _ c.in-Ok.value c.attempts.new.state c.in-Ok.ensures) c.scope-scope.ensures.inside

@@ -4,11 +4,7 @@ use Rattle.bpaf_core.proofs.transform.ParseGuardParser.eval.Goals as goal
 pub returns-then-check-clause-outcome : goal.returns-then-check-clause-outcome
 returns-then-check-clause-outcome g c = (
   c.in_ok-value.ensures,
-  record {
-    shown = _;
-    shows = refl;
-    says = record { met = c.if-check.ensures };
-  },
+  record { shown = _; shows = refl; says = record { met = c.if-check.ensures } },
 )
 
 pub returns-then-check-clause-memory_is_never_caught :

@@ -9,8 +9,7 @@ invariant_of-self c =
     c.first_clear-first.result c.self.invariant c.as_slice.ensures.value
     (omega (
       arith,
-      ap (λ t.
-          length t.classes) c.self.view_is,
+      ap (λ t. length t.classes) c.self.view_is,
       c.len.ensures,
       c.if-place-len.true,
     )) c.index-head.ensures
@@ -26,8 +25,7 @@ returns-then-place-len c =
     c.as_slice.ensures.value
     (omega (
       arith,
-      ap (λ t.
-          length t.classes) c.self.view_is,
+      ap (λ t. length t.classes) c.self.view_is,
       c.len.ensures,
       c.if-place-len.true,
     )) c.index-head.ensures

@@ -14,8 +14,7 @@ loop-place-preserved c =
           w.in-Some.class c.loop-place.classes.items _ c.item-item.result c.loop-place.invariant
           c.loop-place-test.true c.item-item.is c.class_or_own.ensures.kept
           c.class_or_own.ensures.owners w.in-Some.ensures.class w.in-Some.ensures.known w.in_ok-push-in-Some.ensures.items)
-      | in-None+in_ok-note-in-None w ↦
-          rw (w.self-is, w.from-is, w.count-is, w.classes-is)
+      | in-None+in_ok-note-in-None w ↦ rw (w.self-is, w.from-is, w.count-is, w.classes-is)
           (noted_anew c.args.items.now items _ _ place _ w.count-count-in-None.ensures.some
           w.count-count-in-None.ensures.owners c.loop-place-test.true w.clear.ensures.items)
     ]

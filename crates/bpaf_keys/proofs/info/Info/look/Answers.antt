@@ -14,9 +14,8 @@ returns-then-is_present c =
 pub returns-in_err-version : goal.returns-in_err-version
 returns-in_err-version c =
     version_refused c.args.self.now c.args.state.now c.in_ok-help.help c.is_present.result
-    c.is_present.new.state c.is_present.ensures c.in_ok-help.ensures
-    c.if-is_present.false c.version.new.state _ c.in_err-version.ensures _
-    c.from_residual-in_err-version.ensures
+    c.is_present.new.state c.is_present.ensures c.in_ok-help.ensures c.if-is_present.false
+    c.version.new.state _ c.in_err-version.ensures _ c.from_residual-in_err-version.ensures
 
 pub returns-in-Some : goal.returns-in-Some
 returns-in-Some c =
@@ -28,7 +27,6 @@ returns-in-Some c =
 pub returns : goal.returns
 returns c =
     then_neither c.args.self.now c.args.state.now c.in_ok-help.help c.is_present.result
-    c.is_present.new.state c.is_present.ensures c.in_ok-help.ensures
-    c.if-is_present.false c.version.new.state c.in_ok-version.field-0
-    c.in_ok-version.ensures c.in-None.is _
+    c.is_present.new.state c.is_present.ensures c.in_ok-help.ensures c.if-is_present.false
+    c.version.new.state c.in_ok-version.field-0 c.in_ok-version.ensures c.in-None.is _
     c.not_asked.ensures

@@ -28,8 +28,7 @@ returns-clause-answer c = (
     is_line = subst
         (λ words. IsLine (known_at c.args.numbers
         (record { flags = c.args.short_flags.now; arguments = c.args.short_args.now })) words
-        (context_is c).line (context_is c).marker)
-        c.words.ensures c.in_ok-line.ensures.answer;
+        (context_is c).line (context_is c).marker) c.words.ensures c.in_ok-line.ensures.answer;
     env = refl;
     name = refl;
   },

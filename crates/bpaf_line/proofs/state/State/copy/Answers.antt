@@ -16,14 +16,7 @@ invariant_of-result c =
     let path : map string_bytes c.in_ok-path.path.items ≡ map string_bytes s.path.items =
     c.in_ok-path.ensures ∙ ap (map string_bytes) c.as_slice-5.ensures.value in
     sound_copy _ s
-    (rw (
-      items,
-      c.in_ok-env.ensures,
-      trail,
-      conflicts,
-      path,
-      c.in_ok-name.ensures,
-    ) refl)
+    (rw (items, c.in_ok-env.ensures, trail, conflicts, path, c.in_ok-name.ensures) refl)
     refl refl c.in_ok-chains.ensures (c.in_ok-words.ensures.items ∙ c.as_slice-2.ensures.value)
     refl refl c.nothing.ensures
     (omega (

@@ -11,8 +11,7 @@ pub loop-place-preserved : goal.loop-place-preserved
 loop-place-preserved c =
     let chains = c.args.chains.now in
     walked_more chains.classes _ c.args.start c.loop-place.place c.after-place.result
-    c.loop-place.invariant
-    (omega (arith, c.loop-place-test.true, c.requires.inside))
+    c.loop-place.invariant (omega (arith, c.loop-place-test.true, c.requires.inside))
     (ap not (sym c.is_key_at.ensures ∙ c.if-is_key_at.false)) c.after-place.ensures
 
 pub returns-then-is_key_at : goal.returns-then-is_key_at
@@ -22,5 +21,4 @@ returns-then-is_key_at c =
       longs = c.args.longs.now;
     }) c.args.adjacent) c.args.self.now c.args.chains.now.classes c.args.start c.args.end
     c.loop-place.place c.loop-place.place c.loop-place.invariant (omega arith)
-    (omega (arith, c.loop-place-test.true))
-    (λ below. sym c.is_key_at.ensures ∙ c.if-is_key_at.true)
+    (omega (arith, c.loop-place-test.true)) (λ below. sym c.is_key_at.ensures ∙ c.if-is_key_at.true)

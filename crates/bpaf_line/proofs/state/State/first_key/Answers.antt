@@ -16,11 +16,7 @@ returns-then-is_key_at c =
 
 pub returns : goal.returns
 returns c =
-    let names : Names = record {
-      shorts = c.args.shorts.now;
-      longs =
-          c.args.longs.now;
-    } in
+    let names : Names = record { shorts = c.args.shorts.now; longs = c.args.longs.now } in
     let s = c.args.self.now in
     let low = length c.in-Some.chains.now.classes in
     let least : c.min-end.result ≡ min s.end low = c.min-end.ensures
@@ -28,5 +24,4 @@ returns c =
     key_found names c.args.adjacent s c.min-end.result c.first_short_key-place.result
     c.first_long_key-place.result c.then_some.result
     (λ q past. none_past names c.args.adjacent s low c.min-end.result q c.in-Some.ensures.keyless
-    least past)
-    c.first_short_key-place.ensures c.first_long_key-place.ensures c.then_some.ensures
+    least past) c.first_short_key-place.ensures c.first_long_key-place.ensures c.then_some.ensures

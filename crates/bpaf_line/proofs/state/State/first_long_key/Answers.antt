@@ -10,8 +10,7 @@ pub loop-long-preserved : goal.loop-long-preserved
 loop-long-preserved c =
     let test = is_argument_key (record {
       shorts = c.args.shorts.now;
-      longs =
-          c.args.longs.now;
+      longs = c.args.longs.now;
     }) c.args.adjacent in
     let longs = c.args.longs.now in
     let i = c.loop-long.long-index in

@@ -9,8 +9,7 @@ pub loop-short-preserved : goal.loop-short-preserved
 loop-short-preserved c =
     let test = is_argument_key (record {
       shorts = c.args.shorts.now;
-      longs =
-          c.args.longs.now;
+      longs = c.args.longs.now;
     }) c.args.adjacent in
     let shorts = c.args.shorts.now in
     let i = c.loop-short.short-index in

@@ -15,8 +15,7 @@ returns-clause-next c =
     let open_here = ap (λ s. is_open s c.in_ok-place.place) c.self.view_is
     ∙ c.in_ok-place.ensures.present in (
       c.in_ok-place.ensures,
-      subst (λ s. open_item s c.in_ok-place.place ≡ Some c.index.result.now)
-          c.self.view_is
+      subst (λ s. open_item s c.in_ok-place.place ≡ Some c.index.result.now) c.self.view_is
           (open_item_is c.self.inside c.in_ok-place.place c.self.inside.items.items
           c.index.result.now c.self.invariant refl open_here c.index.ensures),
     )

@@ -47,18 +47,16 @@ size c = c.len-end.ensures ∙ c.args.line.items.ok.0
 -- it is at the beginning of that line
 start : (c : After-nothing) → situation_of (inside c) ≡ beginning (context_is c)
 unfolding inside context_is
-start c = begins (inside c) (context_is c) refl refl
-    (c.in_ok-env.ensures ∙ c.env.ensures)
-    (c.in_ok-path.ensures.name ∙ c.name.ensures)
-    c.in_ok-with_capacity.ensures.items c.new.ensures.items refl (size c)
-    (c.in_ok-path.ensures.path ∙ ap option_to_list c.name.ensures) refl
+start c = begins (inside c) (context_is c) refl refl (c.in_ok-env.ensures ∙ c.env.ensures)
+    (c.in_ok-path.ensures.name ∙ c.name.ensures) c.in_ok-with_capacity.ensures.items
+    c.new.ensures.items refl (size c) (c.in_ok-path.ensures.path ∙ ap option_to_list c.name.ensures)
+    refl
 
 pub invariant_of-result : goal.invariant_of-result
 unfolding context_is inside
 invariant_of-result c =
     let n = length c.args.line.items.items in
-    sound_beginning (inside c) (context_is c) (start c)
-    c.requires
+    sound_beginning (inside c) (context_is c) (start c) c.requires
     (omega (arith, size c, c.in_ok-words.ensures.room)) c.in_ok-words.ensures.bits
     (omega (arith, size c, c.in_ok-with_capacity.ensures.capacity))
     (ap (λ k. c.len-end.result - k) (c.from.ensures ∙ ap from_bool c.is_some.ensures)

@@ -26,16 +26,13 @@ invariant_of-self c =
     omega (arith, c.len-last.ensures, s.trail.ok.0) in
     let last = last_read s _ _ c.len-last.ensures some c.index-place.ensures in
     sound_untake s p c.clear.new.words c.truncate.new.self _ _ _ c.up_to-self-inside.result
-    c.reach_back.new.chains
-    c.self.invariant some last
+    c.reach_back.new.chains c.self.invariant some last
     (subst (λ old. ChangesBit old c.clear.new.words p false) c.deref_mut.ensures.value
-    c.clear.ensures)
-    (c.truncate.ensures.items ∙ ap (λ n. take n s.trail.items) shorter)
+    c.clear.ensures) (c.truncate.ensures.items ∙ ap (λ n. take n s.trail.items) shorter)
     (omega (arith, c.truncate.ensures.capacity))
     (ap (λ n. s.left + n) (c.from.ensures ∙ ap from_bool c.lies_within-within.ensures))
     (c.earlier-self-inside.ensures ∙ ap (λ b.
     if b then min s.first p else s.first) c.lies_within-within.ensures)
     c.earlier-self-inside-2.ensures
     (c.up_to-self-inside.ensures ∙ ap
-    (λ n. if nat_le s.aside.taken n then s.aside else no_aside) shorter)
-    c.reach_back.ensures
+    (λ n. if nat_le s.aside.taken n then s.aside else no_aside) shorter) c.reach_back.ensures

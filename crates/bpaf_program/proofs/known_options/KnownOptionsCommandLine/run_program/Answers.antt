@@ -12,14 +12,12 @@ returns-clause-each_exact g c known r o =
     let grammar = g.K.KnownProgram.grammar in
     let given = given_of c.args.args in
     answers_as_program g.row.T.Denot (g.P.Parser.outcome parser) (g.P.Parser.describes parser)
-    c.args.self.now.options.info
-    (known_names c.args.self.now.options.info (shown_shorts grammar)) (keys_of grammar true)
-    (command_words grammar) (program_form grammar given.env) given (known.law given.env)
-    (g.K.KnownProgram.whole given.env) r (rw known.shown at o)
+    c.args.self.now.options.info (known_names c.args.self.now.options.info (shown_shorts grammar))
+    (keys_of grammar true) (command_words grammar) (program_form grammar given.env) given
+    (known.law given.env) (g.K.KnownProgram.whole given.env) r (rw known.shown at o)
 
 pub returns-clause-exact : goal.returns-clause-exact
-returns-clause-exact g c known =
-    returns-clause-each_exact g c known _ c.run_inner.ensures.outcome
+returns-clause-exact g c known = returns-clause-each_exact g c known _ c.run_inner.ensures.outcome
 
 pub returns-clause-fields : goal.returns-clause-fields
 returns-clause-fields g c known = (returns-clause-exact g c known).sound

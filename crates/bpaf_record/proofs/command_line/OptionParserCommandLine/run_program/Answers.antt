@@ -18,8 +18,7 @@ returns-clause-each_exact g c agrees r o =
     (is_program_form form (keys_of grammar false) c.args.self.now.info c.requires.program) r o
 
 pub returns-clause-exact : goal.returns-clause-exact
-returns-clause-exact g c agrees =
-    returns-clause-each_exact g c agrees _ c.run_inner.ensures.outcome
+returns-clause-exact g c agrees = returns-clause-each_exact g c agrees _ c.run_inner.ensures.outcome
 
 pub returns-clause-fields : goal.returns-clause-fields
 returns-clause-fields g c agrees =
@@ -30,5 +29,4 @@ returns-clause-fields g c agrees =
     (g.met.P.ProgramField.law parser agrees given.env)
     (g.met.P.ProgramField.said parser agrees given.env)
     (is_program_form (program_form grammar given.env) (keys_of grammar false)
-    c.args.self.now.info c.requires.program) _
-    (returns-clause-exact g c agrees)
+    c.args.self.now.info c.requires.program) _ (returns-clause-exact g c agrees)

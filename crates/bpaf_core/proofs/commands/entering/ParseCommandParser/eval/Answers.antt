@@ -9,11 +9,10 @@ use Rattle.bpaf_core.proofs.commands.entering.ParseCommandParser.eval.Goals as g
 pub returns-in_err-enter-clause-outcome : goal.returns-in_err-enter-clause-outcome
 returns-in_err-enter-clause-outcome g c =
     let p = c.args.self.now in
-    refused_inside (g.P.Parser.outcome p.inner)
-    (EndsRun (g.P.Parser.describes p.inner) p.info) p.names
-    (CommandPart p.names p.help (g.P.Parser.describes p.inner)) c.args.state.now
-    p.adjacent c.in_err-enter.field-0.0 c.from_residual.result c.enter.new.state
-    c.from_residual.ensures c.in_err-enter.ensures
+    refused_inside (g.P.Parser.outcome p.inner) (EndsRun (g.P.Parser.describes p.inner) p.info)
+    p.names (CommandPart p.names p.help (g.P.Parser.describes p.inner)) c.args.state.now p.adjacent
+    c.in_err-enter.field-0.0 c.from_residual.result c.enter.new.state c.from_residual.ensures
+    c.in_err-enter.ensures
 
 pub returns-in_err-enter-clause-memory_is_never_caught :
     goal.returns-in_err-enter-clause-memory_is_never_caught
@@ -27,11 +26,10 @@ returns-in_err-enter-clause-memory_is_never_caught g c = λ spared.
 pub returns-in-Ok-clause-outcome : goal.returns-in-Ok-clause-outcome
 returns-in-Ok-clause-outcome g c =
     let p = c.args.self.now in
-    inside_answers (g.P.Parser.outcome p.inner)
-    (EndsRun (g.P.Parser.describes p.inner) p.info) p.names
-    (CommandPart p.names p.help (g.P.Parser.describes p.inner)) c.args.state.now
-    c.in_ok-enter.field-0 c.enter.new.state c.run_inside.new.state c.in_ok-enter.ensures
-    p.adjacent c.in-Ok.value c.in-Ok.ensures
+    inside_answers (g.P.Parser.outcome p.inner) (EndsRun (g.P.Parser.describes p.inner) p.info)
+    p.names (CommandPart p.names p.help (g.P.Parser.describes p.inner)) c.args.state.now
+    c.in_ok-enter.field-0 c.enter.new.state c.run_inside.new.state c.in_ok-enter.ensures p.adjacent
+    c.in-Ok.value c.in-Ok.ensures
 
 pub returns-in-Ok-clause-command_leaves_nothing : goal.returns-in-Ok-clause-command_leaves_nothing
 returns-in-Ok-clause-command_leaves_nothing g c =
@@ -60,15 +58,12 @@ returns-in-Ok-clause-memory_is_never_caught g c = λ spared.
 pub returns-in-Err-clause-outcome : goal.returns-in-Err-clause-outcome
 returns-in-Err-clause-outcome g c =
     let p = c.args.self.now in
-    inside_refuses (g.P.Parser.outcome p.inner)
-    (EndsRun (g.P.Parser.describes p.inner) p.info) p.names
-    (CommandPart p.names p.help (g.P.Parser.describes p.inner)) c.args.state.now
-    c.in_ok-enter.field-0 c.enter.new.state c.run_inside.new.state c.in_ok-enter.ensures
-    p.adjacent c.in-Err.failure (record { 0 = c.end_message.result }) c.in-Err.ensures
-    c.end_message.ensures
+    inside_refuses (g.P.Parser.outcome p.inner) (EndsRun (g.P.Parser.describes p.inner) p.info)
+    p.names (CommandPart p.names p.help (g.P.Parser.describes p.inner)) c.args.state.now
+    c.in_ok-enter.field-0 c.enter.new.state c.run_inside.new.state c.in_ok-enter.ensures p.adjacent
+    c.in-Err.failure (record { 0 = c.end_message.result }) c.in-Err.ensures c.end_message.ensures
 
-pub returns-in-Err-clause-memory_is_never_caught :
-    goal.returns-in-Err-clause-memory_is_never_caught
+pub returns-in-Err-clause-memory_is_never_caught : goal.returns-in-Err-clause-memory_is_never_caught
 returns-in-Err-clause-memory_is_never_caught g c = λ spared.
     let p = c.args.self.now in
     spared_either (g.P.Parser.outcome p.inner) (EndsRun (g.P.Parser.describes p.inner) p.info)
