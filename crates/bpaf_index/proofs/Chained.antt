@@ -1,21 +1,17 @@
 -- Chains: how a line's places are linked, and how a walk along the links goes.
-use Rattle.std.proofs.Common.{◌-◌, ◌≡◌, ◌≢◌, ℕ, zero, suc, refl, ◌+◌, ◌<◌, ◌≤◌, true, false, Bool}
-use Rattle.std.proofs.Common.{List, [], ◌∷◌, ◌||◌, length, map, take, ap, sym, ◌∙◌, subst, arith}
-use Rattle.std.proofs.Common.{⊎_elim, get_or, slice_index, slice_index_or, slice_set, nat_lt}
-use Rattle.std.proofs.Common.{if◌then◌else◌, min, length-set, get_or-set_same, get_or-set_other}
-use Rattle.std.specs.{BTreeMap.is_at, Map.lookup, Option.option_map_or, Option.unwrap_or}
-use Rattle.std.specs.{Ordering.nat_cmp, Rc.rc_slice_items, Vec.with_item}
-use Rattle.std.proofs.lemmas.Bool.{cases_lt, cases_eq, ltb-true, eqb-true}
-use Rattle.std.proofs.lemmas.List.{get_or_read, length-map, length-take, length-take-le}
+use Rattle.std.proofs.Common.{◌≡◌, ◌≢◌, ℕ, refl, ◌+◌, ◌<◌, ◌≤◌, true, false, Bool, List, []}
+use Rattle.std.proofs.Common.{◌||◌, Option, Some, length, ap, sym, ◌∙◌, subst, arith, ⊎_elim}
+use Rattle.std.proofs.Common.{get_or, slice_index, slice_set, length-set, get_or-set_same}
+use Rattle.std.proofs.Common.{get_or-set_other}
+use Rattle.std.specs.Option.{option_map_or}
+use Rattle.std.proofs.lemmas.Bool.{cases_lt, cases_eq, eqb-true}
 use Rattle.std.proofs.{lemmas.Slice.Eq.bytes_eq-Decides, lemmas.Option.slice_get_read}
 use Rattle.bpaf_base.specs.declared.arg.Arg.TheVariants.{Short, Long, ArgWord, Word, PosWord}
 use Rattle.bpaf_base.specs.{Names.Names, declared.arg.Arg.Arg, Items.is_key_of}
-use Rattle.bpaf_index.specs.declared.classes.Slot.TheVariants.{Own, Free, Other}
-use Rattle.bpaf_index.specs.Chained.{Chained, IsNextOf, IsPlaceOf, IsChainStart, HasWalked}
-use Rattle.bpaf_index.specs.Chained.{AreBehind, Naming, class_by, slot_of, class_of_short}
-use Rattle.bpaf_index.specs.Chained.{class_of_long, class_in, head_of, names_of, named_at, is_key}
-use Rattle.bpaf_index.specs.{declared.chains.Chains.TheInside.Inside, declared.classes.Slot.Slot}
-use Rattle.bpaf_index.specs.{Chained.HasNoKeyFrom, InsideChains.chained_of, InsideChains.IsLinked}
+use Rattle.bpaf_index.specs.Chained.{Chained, IsNextOf, IsPlaceOf, IsChainStartOf, HasWalked}
+use Rattle.bpaf_index.specs.Chained.{AreBehind, head_of, names_of, named_at, is_key, HasNoKeyFrom}
+use Rattle.bpaf_index.specs.Classes.{Naming, class_of, AreClassesOf}
+use Rattle.bpaf_index.specs.InsideChains.{IsLinked}
 
 -- the places from one on are linked, and each class to its first place from there on
 pub record IsLinkedFrom (classes next heads : List ℕ) (low : ℕ) : Type 0 where
@@ -50,43 +46,6 @@ walked_more classes passes from p next walked below set link = record {
       (cases_lt q p);
 }
 
--- the class of a long name is one of so many
-long_below : (naming : Naming) (count : ℕ) (name : List ℕ) (slot : Slot) → 0 < count
-    → class_by naming count name slot < count
-long_below naming count name (Own class) some = omega arith
-long_below naming count name (Free class) some = omega arith
-long_below naming count name Other some = omega arith
-
--- that of a short name
-short_below : (naming : Naming) (count name : ℕ) → 128 < count
-    → class_of_short naming count name < count
-short_below naming count name some = by_test (nat_lt name 128) refl
-  where
-    by_test : (b : Bool) → nat_lt name 128 ≡ b → (if b then name
-        else min (unwrap_or (lookup (is_at (nat_cmp name)) naming.wide) (count - 1)) (count - 1))
-        < count
-    by_test true e = let own : name < 128 = ltb-true name 128 e in omega arith
-    by_test false e = omega arith
-
--- and so is that of an item
-item_below : (line : List Arg) (naming : Naming) (count : ℕ) (item : Arg) → 128 < count
-    → class_in line naming count item < count
-item_below line naming count (Short c _ _) some = short_below naming count c some
-item_below line naming count (Long name _ _) some =
-    long_below naming count name (slot_of line naming.owners name) (omega arith)
-item_below line naming count (ArgWord _) some = omega arith
-item_below line naming count (Word _) some = omega arith
-item_below line naming count (PosWord _) some = omega arith
-
--- and those of all items
-pub class_below : (line items : List Arg) (naming : Naming) (count : ℕ) → 128 < count → (p : ℕ)
-    → p < length items → slice_index (map (class_in line naming count) items) p < count
-class_below line [] naming count some p within = absurd (omega arith)
-class_below line (item ∷ items) naming count some zero within =
-    item_below line naming count item some
-class_below line (item ∷ items) naming count some (suc p) within =
-    class_below line items naming count some p (omega arith)
-
 -- a beginning that is written is a place of its class, where the new one is
 headed_set : (classes heads : List ℕ) (class head : ℕ)
     → ((k : ℕ) → k < length heads → IsPlaceOf classes k (slice_index heads k)) → class
@@ -102,84 +61,20 @@ headed_set classes heads class head headed inside there k within = ⊎_elim
     (headed k (omega (arith, length-set heads class head)))) (cases_eq k class)
 
 -- the links stay right where the chain of a place's class begins at another of its places
-pub linked_passed : (s : Inside) (classes : List ℕ) (place from head : ℕ) → IsLinked s → classes
-    ≡ rc_slice_items s.classes → place < length (rc_slice_items s.classes)
-    → from ≡ get_or s.heads.items (slice_index_or classes place 0) from
-    → ((k : ℕ) → IsPlaceOf (rc_slice_items s.classes) k from
-    → IsPlaceOf (rc_slice_items s.classes) k head)
-    → IsLinked (record s { heads = with_item s.heads (slice_index_or classes place 0) head })
-linked_passed s classes place from head h same within read walked =
-    let class = slice_index_or classes place 0 in
-    let inside : class < length s.heads.items = subst
-    (λ xs. slice_index xs place < length s.heads.items) (sym same) (h.numbered place within) in
-    let begins = get_or_read s.heads.items class from inside read 0 in
-    let size = length-set s.heads.items class head in
+pub linked_passed : {classes next heads : List ℕ} {class place from head : ℕ}
+    → IsLinked classes next heads → place < length classes → class ≡ slice_index classes place
+    → from ≡ slice_index heads class
+    → ((k : ℕ) → IsPlaceOf classes k from → IsPlaceOf classes k head)
+    → IsLinked classes next (slice_set heads class head)
+linked_passed {classes} {next} {heads} {class} {place} {from} {head} h within of begins walked =
+    let inside : class < length heads = omega (arith, of, h.numbered place within) in
     record {
-      some = omega (arith, h.some, size);
       whole = h.whole;
       linked = h.linked;
-      numbered = λ q below. omega (arith, h.numbered q below, size);
-      headed = headed_set (rc_slice_items s.classes) s.heads.items class head h.headed inside
-          (walked class (subst (IsPlaceOf (rc_slice_items s.classes) class) (sym begins)
-          (h.headed class inside)));
+      numbered = λ q below. omega (arith, h.numbered q below, length-set heads class head);
+      headed = headed_set classes heads class head h.headed inside
+          (walked class (subst (IsPlaceOf classes class) (sym begins) (h.headed class inside)));
     }
-
--- the class of a place is one of them
-pub class_inside : (s : Inside) (classes : List ℕ) (place : ℕ) → IsLinked s
-    → classes ≡ rc_slice_items s.classes → place < length (rc_slice_items s.classes)
-    → slice_index_or classes place 0 < length s.heads.items
-class_inside s classes place h same within =
-    subst (λ xs. slice_index xs place < length s.heads.items) (sym same) (h.numbered place within)
-
--- the links are right where they are those of a line's places, and each chain begins at its first
--- place
-pub linked_first : (s : Inside) (classes next heads : List ℕ) → rc_slice_items s.classes ≡ classes
-    → rc_slice_items s.next ≡ next → s.heads.items ≡ heads → 128 < length heads → length next
-    ≡ length classes → ((p : ℕ) → p < length classes → slice_index classes p < length heads)
-    → ((p : ℕ) → p < length classes → IsNextOf classes (slice_index classes p) (p + 1)
-    (slice_index next p))
-    → ((k : ℕ) → k < length heads → IsNextOf classes k 0 (slice_index heads k)) → IsLinked s
-linked_first s classes next heads same follow begin some whole numbered linked first = record {
-  some = omega (arith, ap length begin);
-  whole = omega (arith, ap length same, ap length follow);
-  linked = λ p within. rw (same, follow) (linked p (omega (arith, ap length same)));
-  numbered = λ p within. rw (same, begin) (numbered p (omega (arith, ap length same)));
-  headed = λ k within. rw (same, begin) (first k (omega (arith, ap length begin))).same;
-}
-
--- a chain that begins at its first place begins at no place behind one of its own
-pub first_not_behind : (classes heads : List ℕ) (p : ℕ)
-    → IsNextOf classes (slice_index classes p) 0 (slice_index heads (slice_index classes p))
-    → slice_index heads (slice_index classes p) ≤ p
-first_not_behind classes heads p first = ⊎_elim
-    (λ (before : p < slice_index heads (slice_index classes p)). absurd
-    (first.between p (omega arith) before refl))
-    (λ (at : slice_index heads (slice_index classes p) ≤ p). at)
-    (cases_lt p (slice_index heads (slice_index classes p)))
-
--- the classes of a line's items are as many as those
-pub classes_size : (line items : List Arg) (classes : List ℕ) (naming : Naming) (count : ℕ)
-    → classes ≡ map (class_in line naming count) items → length classes ≡ length items
-classes_size line items classes naming count are =
-    ap length are ∙ length-map items (class_in line naming count)
-
--- and below their number
-pub classes_below : (line items : List Arg) (classes : List ℕ) (naming : Naming) (count : ℕ)
-    → classes ≡ map (class_in line naming count) items
-    → 128 < count → (p : ℕ) → p < length classes → slice_index classes p < count
-classes_below line items classes naming count are some p within =
-    subst (λ xs. slice_index xs p < count) (sym are)
-    (class_below line items naming count some p
-    (omega (arith, classes_size line items classes naming count are)))
-
--- the chains have no more places than the line
-pub behind_within : (line : List Arg) (set : ℕ → Bool) (chains : Chained)
-    → AreBehind line set chains → length chains.classes ≤ length line
-behind_within line set chains h =
-    let size = classes_size line (take (length chains.classes) line) chains.classes chains.names
-    (length chains.heads) h.classes in
-    let cut = length-take (length chains.classes) line in
-    omega (arith, size, cut)
 
 -- an item that is no key has none of the names
 no_key : (names : Names) (item : Arg) → is_key item ≡ false → is_key_of names item ≡ false
@@ -215,115 +110,68 @@ nameless (Word _) e = cc
 nameless (PosWord _) e = cc
 
 -- a key with the name of an item has its class
-pub same_class : (line : List Arg) (naming : Naming) (count : ℕ) (key item : Arg)
-    → is_key_of (names_of key) item ≡ true
-    → class_in line naming count item ≡ class_in line naming count key
-same_class line naming count (Short d _ _) (Short c _ _) e =
-    ap (class_of_short naming count) (sym (eqb-true d c (one_of _ e)))
-same_class line naming count (Short d _ _) (Long name _ _) e = cc
-same_class line naming count (Short d _ _) (ArgWord _) e = cc
-same_class line naming count (Short d _ _) (Word _) e = cc
-same_class line naming count (Short d _ _) (PosWord _) e = cc
-same_class line naming count (Long text _ _) (Long name _ _) e =
-    ap (class_of_long line naming count) (sym ((bytes_eq-Decides text name).0 (one_of _ e)))
-same_class line naming count (Long text _ _) (Short c _ _) e = cc
-same_class line naming count (Long text _ _) (ArgWord _) e = cc
-same_class line naming count (Long text _ _) (Word _) e = cc
-same_class line naming count (Long text _ _) (PosWord _) e = cc
-same_class line naming count (ArgWord _) item e = absurd (nameless item e)
-same_class line naming count (Word _) item e = absurd (nameless item e)
-same_class line naming count (PosWord _) item e = absurd (nameless item e)
+pub same_class : (names : Naming) (key item : Arg) → is_key_of (names_of key) item ≡ true
+    → class_of names item ≡ class_of names key
+same_class names (Short d _ _) (Short c word attached) e =
+    ap (λ x. class_of names (Short x word attached)) (sym (eqb-true d c (one_of _ e)))
+same_class names (Short d _ _) (Long name _ _) e = cc
+same_class names (Short d _ _) (ArgWord _) e = cc
+same_class names (Short d _ _) (Word _) e = cc
+same_class names (Short d _ _) (PosWord _) e = cc
+same_class names (Long text _ _) (Long name word attached) e =
+    ap (λ x. class_of names (Long x word attached))
+    (sym ((bytes_eq-Decides text name).0 (one_of _ e)))
+same_class names (Long text _ _) (Short c _ _) e = cc
+same_class names (Long text _ _) (ArgWord _) e = cc
+same_class names (Long text _ _) (Word _) e = cc
+same_class names (Long text _ _) (PosWord _) e = cc
+same_class names (ArgWord _) item e = absurd (nameless item e)
+same_class names (Word _) item e = absurd (nameless item e)
+same_class names (PosWord _) item e = absurd (nameless item e)
 
 -- what is passed stays so, where the chain of a place's class begins behind places of the set
-pub behind_passed : (line : List Arg) (set : ℕ → Bool) (old : Chained) (place from head : ℕ)
-    → AreBehind line set old → place < length old.classes
-    → slice_index old.classes place < length old.heads → from ≡ head_of old place
-    → IsPlaceOf old.classes (slice_index old.classes place) from
-    → HasWalked old.classes set from head → AreBehind line set
-    (record old { heads = slice_set old.heads (slice_index old.classes place) head })
-behind_passed line set old place from head h within inside read headed walked =
-    let class = slice_index old.classes place in
+pub behind_passed : {line : List Arg} {set : ℕ → Bool} {old : Chained} {class from head : ℕ}
+    → AreBehind line set old → class < length old.heads → from ≡ slice_index old.heads class
+    → IsPlaceOf old.classes class from → HasWalked old.classes set from head
+    → AreBehind line set (record old { heads = slice_set old.heads class head })
+behind_passed {line} {set} {old} {class} {from} {head} h inside begins headed walked =
     let heads = slice_set old.heads class head in
     record {
-      classes = h.classes
-          ∙ ap (λ n. map (class_in line old.names n) (take (length old.classes) line))
-          (sym (length-set old.heads class head));
+      within = h.within;
+      classes = h.classes;
       keyless = h.keyless;
       passed = λ p below before. ⊎_elim
           (λ (at : slice_index old.classes p ≡ class). ⊎_elim
-          (λ (early : p < from). h.passed p below (let begin : head_of old p ≡ from =
-          ap (slice_index old.heads) at ∙ sym read in omega arith))
+          (λ (early : p < from). h.passed p below
+          (omega (arith, early, begins, ap (slice_index old.heads) at)))
           (λ (behind : from ≤ p). walked.passed class p headed behind
-          (let now : slice_index heads (slice_index old.classes p) ≡ head =
-          ap (slice_index heads) at ∙ get_or-set_same old.heads class head 0 inside in omega arith)
-          at)
+          (omega (
+            arith,
+            before,
+            ap (slice_index heads) at,
+            get_or-set_same old.heads class head 0 inside,
+          )) at)
           (cases_lt p from))
-          (λ (other : slice_index old.classes p ≢ class). h.passed p below
-          (let same : slice_index heads (slice_index old.classes p) ≡ head_of old p =
-          get_or-set_other old.heads class (slice_index old.classes p) head 0 other in omega arith))
+          (λ (other : slice_index old.classes p ≢ class). h.passed p below (omega
+          (arith, before, get_or-set_other old.heads class (slice_index old.classes p) head 0 other)))
           (cases_eq (slice_index old.classes p) class);
     }
 
 -- what stands before the beginning of its chain is in the set
-pub early_set : (line : List Arg) (set : ℕ → Bool) (chains : Chained) (class from p : ℕ)
-    → AreBehind line set chains → IsChainStart chains class from → p < length chains.classes
-    → slice_index chains.classes p ≡ class → p < from → set p ≡ true
-early_set line set chains class from p h start below at early = h.passed p below
-    (let begin : head_of chains p ≡ from =
-    ap (slice_index chains.heads) at ∙ sym start.begins in
-    omega arith)
-
--- and so of what chains are kept as
-pub behind_passed_read : (s : Inside) (line : List Arg) (set : ℕ → Bool) (classes : List ℕ)
-    (place from head : ℕ) → IsLinked s → classes ≡ rc_slice_items s.classes
-    → place < length (rc_slice_items s.classes)
-    → from ≡ get_or s.heads.items (slice_index_or classes place 0) from
-    → AreBehind line set (chained_of s) → HasWalked (rc_slice_items s.classes) set from head
-    → AreBehind line set (chained_of
-    (record s { heads = with_item s.heads (slice_index_or classes place 0) head }))
-behind_passed_read s line set classes place from head h same within read behind walked =
-    let class = slice_index_or classes place 0 in
-    let inside = class_inside s classes place h same within in
-    let at : slice_index (rc_slice_items s.classes) place ≡ class =
-    ap (λ xs. slice_index xs place) (sym same) in
-    let begins = get_or_read s.heads.items class from inside read 0 in
-    subst (λ k. AreBehind line set (record
-    (chained_of s) { heads = slice_set s.heads.items k head }))
-    at (behind_passed line set (chained_of s) place from head behind within
-    (h.numbered place within) (begins ∙ ap (slice_index s.heads.items) (sym at))
-    (subst (IsPlaceOf (rc_slice_items s.classes) (slice_index (rc_slice_items s.classes) place))
-    (ap (slice_index s.heads.items) at ∙ sym begins)
-    (h.headed (slice_index (rc_slice_items s.classes) place) (h.numbered place within))) walked)
+pub early_set : {line : List Arg} {set : ℕ → Bool} {chains : Chained} {class : Option ℕ}
+    {from p : ℕ} → AreBehind line set chains → IsChainStartOf chains class from
+    → p < length chains.classes → class ≡ Some (slice_index chains.classes p) → p < from
+    → set p ≡ true
+early_set {p} h start below at early = h.passed p below (omega (arith, early, start.begins p below at))
 
 -- chains that begin at their first places stand behind nothing
-pub behind_nothing : (chains : Chained) (line : List Arg) (keys : ℕ) (classes heads : List ℕ)
-    (naming : Naming) (count : ℕ) → chains.classes ≡ classes
-    → chains.heads ≡ heads → chains.names ≡ naming → length heads ≡ count → keys ≤ length line
-    → HasNoKeyFrom line keys → classes ≡ map (class_in line naming count) (take keys line)
-    → 128 < count → ((k : ℕ) → k < length heads → IsNextOf classes k 0 (slice_index heads k))
-    → AreBehind line (λ p. false) chains
-behind_nothing chains line keys classes heads naming count same begin named size short keyless are
-    some first =
-    let count_is : length chains.heads ≡ count = ap length begin ∙ size in
-    let keys_is : length chains.classes ≡ keys = ap length same
-    ∙ (classes_size line (take keys line) classes naming count are
-    ∙ length-take-le keys line short) in
-    record {
-      classes = same ∙ (are
-          ∙ (ap (λ n. map (class_in line naming n) (take keys line)) (sym count_is)
-          ∙ (ap (λ ns. map (class_in line ns (length chains.heads)) (take keys line)) (sym named)
-          ∙ ap (λ k. map (class_in line chains.names (length chains.heads)) (take k line))
-          (sym keys_is))));
-      keyless = subst (HasNoKeyFrom line) (sym keys_is) keyless;
-      passed = λ p within before.
-          let inside : p < length classes = omega (arith, ap length same) in
-          let low = first_not_behind classes heads p (first (slice_index classes p)
-          (omega (
-            arith,
-            classes_below line (take keys line) classes naming count are some p inside,
-          ))) in
-          let begins : head_of chains p ≡ slice_index heads (slice_index classes p) =
-          ap (λ xs. slice_index xs (slice_index chains.classes p)) begin
-          ∙ ap (λ xs. slice_index heads (slice_index xs p)) same in
-          absurd (omega arith);
-    }
+pub behind_nothing : (chains : Chained) (line : List Arg) → length chains.classes ≤ length line
+    → AreClassesOf chains.names line chains.classes → HasNoKeyFrom line (length chains.classes)
+    → ((p : ℕ) → p < length chains.classes → IsNextOf chains.classes
+    (slice_index chains.classes p) 0 (head_of chains p)) → AreBehind line (λ p. false) chains
+behind_nothing chains line within classes keyless first = record {
+  within = within;
+  classes = classes;
+  keyless = keyless;
+  passed = λ p below before. absurd ((first p below).between p (omega arith) before refl);
+}

@@ -4,4 +4,4 @@ pub mod WordBits
 pub mod BitLemmas
 pub mod BitSets
 pub mod Chained
-pub mod Noted
+pub mod Noting

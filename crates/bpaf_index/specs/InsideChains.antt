@@ -1,26 +1,17 @@
 -- What `Chains` are kept as.
-use Rattle.std.specs.Prelude.{ℕ, ◌≡◌, ◌+◌, ◌<◌, length, slice_index}
-use Rattle.std.specs.Rc.{rc_slice_items}
+use Rattle.std.specs.Prelude.{ℕ, ◌≡◌, ◌+◌, ◌<◌, List, length, slice_index}
 use Rattle.bpaf_index.specs.declared.chains.Chains.TheInside.{Inside}
 use Rattle.bpaf_index.specs.Chained.{Chained, IsNextOf, IsPlaceOf}
 
 -- the classes, the beginnings and the names
 abbrev pub chained_of : Inside → Chained
-chained_of s = record {
-  classes = rc_slice_items s.classes;
-  heads = s.heads.items;
-  names = s.names.value;
-}
+chained_of s = record { classes = s.classes.items; heads = s.heads.items; names = s.names }
 
--- each place has its next one, each class is one of them, and each chain begins at one of its
--- places
-pub record IsLinked (s : Inside) : Type 0 where
-  pub some : 128 < length s.heads.items
-  pub whole : length (rc_slice_items s.next) ≡ length (rc_slice_items s.classes)
-  pub linked : (p : ℕ) → p < length (rc_slice_items s.classes)
-      → IsNextOf (rc_slice_items s.classes) (slice_index (rc_slice_items s.classes) p) (p + 1)
-      (slice_index (rc_slice_items s.next) p)
-  pub numbered : (p : ℕ) → p < length (rc_slice_items s.classes)
-      → slice_index (rc_slice_items s.classes) p < length s.heads.items
-  pub headed : (k : ℕ) → k < length s.heads.items → IsPlaceOf (rc_slice_items s.classes) k
-      (slice_index s.heads.items k)
+-- each place has its next one, each class is one of those that have a beginning, and each chain
+-- begins at one of its places
+pub record IsLinked (classes next heads : List ℕ) : Type 0 where
+  pub whole : length next ≡ length classes
+  pub linked : (p : ℕ) → p < length classes
+      → IsNextOf classes (slice_index classes p) (p + 1) (slice_index next p)
+  pub numbered : (p : ℕ) → p < length classes → slice_index classes p < length heads
+  pub headed : (k : ℕ) → k < length heads → IsPlaceOf classes k (slice_index heads k)

@@ -1,4 +1,5 @@
 pub mod Places
 pub mod Bits
+pub mod Classes
 pub mod Chained
 pub mod InsideChains

@@ -1,19 +1,19 @@
 //! The places of a line, chained by the names of their items.
-ghost use Rattle.std.specs.Prelude.{ℕ, ◌≡◌, ◌*◌, ◌+◌, ◌<◌, ◌≤◌, IfOk, IfSome};
+ghost use Rattle.std.specs.Prelude.{ℕ, ◌≡◌, ◌*◌, ◌+◌, ◌<◌, ◌≤◌, IfOk, IfSome, [], Some};
 ghost use Rattle.std.specs.Prelude.{length, slice_get, slice_index, ◌-◌, false, true};
 ghost use Rattle.std.specs.Option.{option_map_or};
 ghost use Rattle.bpaf_base.specs.declared.arg.Arg.{Arg};
+ghost use Rattle.bpaf_base.specs.declared.arg.Arg.TheVariants.{Short, Long, Word};
 ghost use Rattle.bpaf_index.specs.Bits.{has_bit};
-ghost use Rattle.bpaf_index.specs.Chained.{is_key, class_of_short, class_of_long};
-ghost use Rattle.bpaf_index.specs.Chained.{IsNextOf, IsChainStart, HasWalked, AreBehind};
-ghost use Rattle.bpaf_index.specs.Chained.{ReachBack, IfChained, HasNoKeyFrom};
+ghost use Rattle.bpaf_index.specs.Classes.{class_of};
+ghost use Rattle.bpaf_index.specs.Chained.{is_key, IsNextOf, IsChainStart, HasWalked, AreBehind};
+ghost use Rattle.bpaf_index.specs.Chained.{IsChainStartOf, ReachBack, IfChained, HasNoKeyFrom};
 
 use crate::bits;
-use crate::classes::{NameClasses, PlaceClasses, is_key};
+use crate::classes::{NameClasses, OWN_CLASSES};
 use bpaf_base::{Arg, Text};
 use std::alloc::{AllocError, Global};
 use std::marker::Model;
-use std::rc::{Rc, RcSlice};
 
 /// A line with no more places up to its last key has no chains: to look at all of them costs less.
 const SHORT_LINE: usize = 32;
@@ -24,9 +24,9 @@ const SHORT_LINE: usize = 32;
 ///
 /// Contracts see the classes, the beginnings and the names (`Chained`).
 pub struct Chains {
-    classes: RcSlice<usize>,
-    next: RcSlice<usize>,
-    names: Rc<NameClasses>,
+    names: NameClasses,
+    classes: Vec<usize>,
+    next: Vec<usize>,
     heads: Vec<usize>,
 }
 
@@ -34,9 +34,9 @@ pub struct Chains {
 impl Drop for Chains {
     fn drop(self) {
         let Chains {
+            names: _names,
             classes: _classes,
             next: _next,
-            names: _names,
             heads: _heads,
         } = self;
     }
@@ -51,7 +51,7 @@ impl Model for Chains {
 
     ghost view = { chained_of };
 
-    ghost invariant = { IsLinked };
+    ghost invariant = { λ s. IsLinked s.classes.items s.next.items s.heads.items };
 }
 
 impl Chains {
@@ -76,65 +76,47 @@ impl Chains {
         requires keyless { HasNoKeyFrom items.now keys }
         ensures { IfOk result (AreBehind items.now (λ p. false)) }
     {
-        let PlaceClasses {
-            names,
-            count,
-            classes,
-        } = NameClasses::of_line(alloc, items, keys)?;
+        let (names, classes) = NameClasses::of_items(alloc, &items[..keys])?;
         let mut next = vec![in alloc; keys; keys]?;
-        let mut heads = vec![in alloc; keys; count]?;
+        let mut heads = vec![in alloc; keys; OWN_CLASSES + keys]?;
         link(&classes, &mut next, &mut heads);
         Ok(Chains {
-            classes: RcSlice::from_vec(classes)?,
-            next: RcSlice::from_vec(next)?,
-            names: Rc::new(alloc, names)?,
+            names,
+            classes,
+            next,
             heads,
         })
     }
 
-    /// Equal chains, which share the links and the names; refused only for want of memory.
-    pub(crate) fn copy(&self) -> Result<Chains, AllocError>
-        ensures { IfOk result (λ chains. chains ≡ self.now) }
-    {
-        Ok(Chains {
-            classes: self.classes.clone()?,
-            next: self.next.clone()?,
-            names: self.names.clone()?,
-            heads: Vec::from_slice(*self.heads.allocator(), self.heads.as_slice())?,
-        })
-    }
-
-    /// Equal chains, where there are some; refused only for want of memory.
-    pub fn copy_of(chains: &Option<Chains>) -> Result<Option<Chains>, AllocError>
-        ensures { IfOk result (λ copy. copy ≡ chains.now) }
-    {
-        match chains {
-            Some(chains) => Ok(Some(chains.copy()?)),
-            None => Ok(None),
-        }
-    }
-
     /// The place at which to begin to look for a short name.
     pub fn first_short(&self, name: char) -> usize
-        ensures { IsChainStart self.now
-            (class_of_short self.now.names (length self.now.heads) name) result }
+        ensures { IsChainStart self.now (Short name false []) result }
     {
-        self.heads[self.names.class_of_short(name, self.heads.len())]
+        self.first_of(self.names.class_of_short(name))
     }
 
     /// The place at which to begin to look for a long name.
-    pub fn first_long(&self, items: &[Arg], name: &Text) -> usize
-        ensures { IsChainStart self.now
-            (class_of_long items.now self.now.names (length self.now.heads) name.now) result }
+    pub fn first_long(&self, name: &Text) -> usize
+        ensures { IsChainStart self.now (Long name.now false []) result }
     {
-        self.heads[self.names.class_of_long(items, name, self.heads.len())]
+        self.first_of(self.names.class_of_long(name))
     }
 
     /// The place at which to begin to look for a word.
     pub fn first_word(&self) -> usize
-        ensures { IsChainStart self.now 0 result }
+        ensures { IsChainStart self.now (Word []) result }
     {
-        self.heads[0]
+        self.first_of(Some(0))
+    }
+
+    /// The place at which the chain of a class begins; the number of places, where there is none.
+    fn first_of(&self, class: Option<usize>) -> usize
+        ensures { IsChainStartOf self.now class result }
+    {
+        match class {
+            Some(class) if class < self.heads.len() => self.heads[class],
+            _ => self.len(),
+        }
     }
 
     /// The next place of a place's class.
@@ -143,14 +125,14 @@ impl Chains {
         ensures { IsNextOf self.now.classes (slice_index self.now.classes place) (place + 1)
             result }
     {
-        self.next.as_slice()[place]
+        self.next[place]
     }
 
     /// How many places there are.
     pub fn len(&self) -> usize
         ensures { result ≡ length self.now.classes }
     {
-        self.classes.as_slice().len()
+        self.classes.len()
     }
 
     /// The first place from one on along its chain whose bit is not set.
@@ -173,7 +155,7 @@ impl Chains {
         ensures { AreBehind items.now (has_bit words.now) self.new }
     {
         if place < self.len() {
-            let class = self.classes.as_slice()[place];
+            let class = self.classes[place];
             let head = self.heads[class];
             let first = self.first_clear(words, head);
             self.heads[class] = first;
@@ -188,7 +170,7 @@ impl Chains {
         if place >= self.len() {
             return;
         }
-        let class = self.classes.as_slice()[place];
+        let class = self.classes[place];
         let head = self.heads[class].min(place);
         self.heads[class] = head;
     }
@@ -248,5 +230,15 @@ fn link(classes: &[usize], next: &mut [usize], heads: &mut [usize])
         let class = classes[place];
         next[place] = heads[class];
         heads[class] = place;
+    }
+}
+
+/// Whether an item is a key.
+fn is_key(item: &Arg) -> bool
+    ensures { result ≡ is_key item.now }
+{
+    match item {
+        Arg::Short(..) | Arg::Long(..) => true,
+        Arg::ArgWord(_) | Arg::Word(_) | Arg::PosWord(_) => false,
     }
 }

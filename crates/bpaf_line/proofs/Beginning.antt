@@ -9,11 +9,11 @@ use Rattle.bpaf_line.specs.Remembered.{no_aside, IsRemembered}
 use Rattle.bpaf_index.specs.Bits.{has_bit, IsFirstClear}
 use Rattle.bpaf_line.specs.Situation.{Situation, Context, beginning, open_count, is_open, is_taken}
 use Rattle.bpaf_line.specs.Situation.{is_marker, is_dealt_place, TakenInTurn, IsFirstPresent}
-use Rattle.bpaf_index.specs.Chained.{Chained, AreBehind, HasNoKeyFrom}
+use Rattle.bpaf_index.specs.Chained.{AreBehind, HasNoKeyFrom}
 use Rattle.bpaf_line.specs.Inside.{situation_of, BitsOf, IsSound, shared_entries}
-use Rattle.bpaf_line.specs.{declared.state.State.TheInside.Inside, Chaining.AreChainsOf}
+use Rattle.bpaf_line.specs.declared.state.State.TheInside.{Inside}
 use Rattle.bpaf_index.proofs.Counts.{count_below-all, count_below-fewer}
-use Rattle.bpaf_line.proofs.{Remembered.remembers_nothing, Sound.first_by_bits, Sound.behind_since}
+use Rattle.bpaf_line.proofs.{Remembered.remembers_nothing, Sound.first_by_bits, Sound.chains_anew}
 
 -- at the beginning of a run all places of the line are present but that of the marker
 pub taken_at_beginning : (context : Context) (p : ℕ) → is_taken (beginning context) p
@@ -75,13 +75,6 @@ path_begins : (name : Option (List ℕ)) → IfSome name
 path_begins None = tt
 path_begins (Some n) = refl
 
--- no place stands before the chains of a run that begins
-chains_beginning : (context : Context) (chains : Option Chained)
-    → IfSome chains (AreBehind context.line (λ p. false))
-    → IfSome chains (AreChainsOf (beginning context))
-chains_beginning context chains behind = behind_since context.line (λ p. false)
-    (is_taken (beginning context)) chains (λ q within e. cc) behind
-
 -- a state at the beginning is sound, where its bits, its count of open places and the first are
 -- right
 pub sound_beginning : (i : Inside) (context : Context) → situation_of i ≡ beginning context
@@ -112,8 +105,8 @@ sound_beginning i context e marker_inside worded bits room left clear keyless be
           (λ q lower upper. absurd (omega arith)) clear);
       aside = subst (IsRemembered (situation_of i)) (sym aside)
           (remembers_nothing (situation_of i));
-      chained = subst (λ s. IfSome i.chains (AreChainsOf s)) (sym e)
-          (chains_beginning context i.chains behind);
+      chained = chains_anew (situation_of i) i.chains
+          (subst (λ s. IfSome i.chains (AreBehind s.context.line (λ p. false))) (sym e) behind);
       keyless = subst (λ s. HasNoKeyFrom s.context.line i.keys) (sym e) keyless;
       behind = λ q low high. absurd (omega (arith, none));
       behind_inside = omega (arith, none, within);

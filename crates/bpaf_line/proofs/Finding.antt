@@ -2,23 +2,22 @@
 use Rattle.std.proofs.Common.{◌≡◌, ℕ, ◌+◌, ◌<◌, ◌≤◌, ◌==◌, Bool, true, false, not, ◌||◌, List, []}
 use Rattle.std.proofs.Common.{◌++◌, Option, Some, None, length, refl, ap, sym, ◌∙◌, subst, arith}
 use Rattle.std.proofs.Common.{⊎_elim, if◌then◌else◌, nat_lt, slice_get, slice_index, bytes_eq}
-use Rattle.std.proofs.Common.{MatchOption, take, min}
+use Rattle.std.proofs.Common.{MatchOption, min}
 use Rattle.std.specs.{Bool.then_some, Option.option_map_or}
 use Rattle.std.proofs.lemmas.Bool.{cases_lt, cases_Bool, true≢false, ltb-true, ltb-false, le-ltb}
 use Rattle.std.proofs.lemmas.Bool.{lt-leb, not-true, and_left, and_right, and_parts}
-use Rattle.std.proofs.lemmas.List.{get_or-map, get_or-take, length-take-le}
-use Rattle.std.proofs.{lemmas.List.Folds.list_any-append, lemmas.Option.get_or_from_slice_get}
+use Rattle.std.proofs.{lemmas.List.Folds.list_any-append}
 use Rattle.bpaf_doc.specs.Names.{Names}
 use Rattle.bpaf_base.specs.declared.arg.Arg.{Arg}
 use Rattle.bpaf_base.specs.declared.arg.Arg.TheVariants.{Short, Long, ArgWord, Word, PosWord}
 use Rattle.bpaf_base.specs.Items.{is_key_of, is_argument_key, is_positional}
-use Rattle.bpaf_index.specs.Chained.{Chained, names_of, class_in, IsChainStart, HasWalked}
-use Rattle.bpaf_index.specs.Chained.{HasNoKeyFrom}
+use Rattle.bpaf_index.specs.Chained.{Chained, names_of, IsChainStart, IsChainStartOf, HasWalked}
+use Rattle.bpaf_index.specs.{Chained.HasNoKeyFrom, Classes.class_of}
 use Rattle.bpaf_line.specs.Finding.{HasNoneBefore, IsFirstAmong, IsFirstAlong}
 use Rattle.bpaf_line.specs.Situation.{Situation, is_marker, in_scope, is_open, is_taken, item_at}
 use Rattle.bpaf_line.specs.Taking.{open_item, is_match, HasNone, IsFirst}
 use Rattle.bpaf_line.specs.{Chaining.AreChainsOf, Situation.AreTaken, Situation.IsFirstPresent}
-use Rattle.bpaf_index.proofs.Chained.{behind_within, same_class, early_set}
+use Rattle.bpaf_index.proofs.Chained.{same_class, early_set}
 use Rattle.bpaf_line.proofs.{Matches.open_item_there, Places.open_not_taken}
 
 module _ (test : Arg → Bool) (s : Situation) where
@@ -67,57 +66,39 @@ item_of_line s p item there = of_test (is_marker s.context.marker p) (slice_get 
     of_test false at e = e
     of_test true at e = cc
 
--- its class is that of its name
-class_at : (s : Situation) (chains : Chained) (p : ℕ) (item : Arg) → AreChainsOf s chains
-    → p < length chains.classes → open_item s p ≡ Some item
-    → slice_index chains.classes p ≡ class_in s.context.line chains.names (length chains.heads) item
-class_at s chains p item h inside there =
-    let class = class_in s.context.line chains.names (length chains.heads) in
-    let at = item_of_line s p item there in
-    let size = length-take-le (length chains.classes) s.context.line
-    (behind_within s.context.line (is_taken s) chains h) in
-    ap (λ xs. slice_index xs p) h.classes
-    ∙ (get_or-map class (take (length chains.classes) s.context.line) p
-    item 0 (omega (arith, size, inside)) ∙ ap class
-    (get_or-take (length chains.classes) s.context.line p item inside
-    ∙ get_or_from_slice_get s.context.line p item item at))
-
 -- the class of an open item with the name of a key is that of the key
 class_named : (s : Situation) (chains : Chained) (key : Arg) (q : ℕ) (item : Arg)
     → AreChainsOf s chains → q < length chains.classes → open_item s q ≡ Some item
     → is_key_of (names_of key) item ≡ true
-    → slice_index chains.classes q ≡ class_in s.context.line chains.names (length chains.heads) key
-class_named s chains key q item h inside there named = class_at s chains q item h inside there
-    ∙ same_class s.context.line chains.names (length chains.heads) key item named
+    → class_of chains.names key ≡ Some (slice_index chains.classes q)
+class_named s chains key q item h inside there named =
+    sym (same_class chains.names key item named)
+    ∙ h.classes q item inside (item_of_line s q item there)
 
--- no open item with a name stands before the beginning of its chain
-none_before_start : (s : Situation) (chains : Chained) (key : Arg) (start q : ℕ) (item : Arg)
-    → AreChainsOf s chains
-    → IsChainStart chains (class_in s.context.line chains.names (length chains.heads) key) start
-    → q < length chains.classes → q < start → open_item s q ≡ Some item
-    → is_key_of (names_of key) item ≡ true → true ≡ false
-none_before_start s chains key start q item h begins inside before there named =
-    sym (early_set s.context.line (is_taken s) chains
-    (class_in s.context.line chains.names (length chains.heads) key) start q h begins inside
-    (class_named s chains key q item h inside there named) before)
-    ∙ open_not_taken s q (open_item_there s q item there).0
+-- no open item of a class stands before the beginning of its chain
+open_behind : (s : Situation) (chains : Chained) (class : Option ℕ) (start q : ℕ) (item : Arg)
+    → AreChainsOf s chains → IsChainStartOf chains class start → q < length chains.classes
+    → class ≡ Some (slice_index chains.classes q) → open_item s q ≡ Some item → start ≤ q
+open_behind s chains class start q item h begins inside at there = ⊎_elim
+    (λ (early : q < start). absurd (true≢false (sym (early_set h begins inside at early)
+    ∙ open_not_taken s q (open_item_there s q item there).0)))
+    (λ (behind : start ≤ q). behind) (cases_lt q start)
 
 -- the first along the chain from that start on is the first with the name
 pub first_named : (test : Arg → Bool) (s : Situation) (chains : Chained) (key : Arg)
     (start end p : ℕ) → AreChainsOf s chains → end ≤ length chains.classes
-    → IsChainStart chains (class_in s.context.line chains.names (length chains.heads) key) start
-    → IsFirstAlong test s chains.classes start end p → IsFirstAmong test (names_of key) s end p
+    → IsChainStart chains key start → IsFirstAlong test s chains.classes start end p
+    → IsFirstAmong test (names_of key) s end p
 first_named test s chains key start end p h inside begins along = record {
   within = along.within;
   matches = along.matches;
   none = λ q item before there passes. ⊎_elim
-      (λ (named : is_key_of (names_of key) item ≡ true). absurd (true≢false (⊎_elim
-      (λ (early : q < start). none_before_start s chains key start q item h begins
-      (omega (arith, along.within)) early there named)
-      (λ (behind : start ≤ q). sym (ap (λ found. option_map_or test found false) there ∙ passes)
-      ∙ along.none (class_in s.context.line chains.names (length chains.heads) key) q begins.place behind before
-      (class_named s chains key q item h (omega (arith, along.within)) there named))
-      (cases_lt q start))))
+      (λ (named : is_key_of (names_of key) item ≡ true).
+      let within : q < length chains.classes = omega (arith, along.within) in
+      let class = class_named s chains key q item h within there named in
+      absurd (true≢false (sym (ap (λ found. option_map_or test found false) there ∙ passes)
+      ∙ along.none (slice_index chains.classes q) q (begins.place _ class)
+      (open_behind s chains _ start q item h begins within class there) before refl)))
       (λ (other : is_key_of (names_of key) item ≡ false). other)
       (cases_Bool (is_key_of (names_of key) item));
 }
@@ -133,23 +114,9 @@ first_along test s classes low end p q walked before within matches = record {
 }
 
 module _ (s : Situation) (chains : Chained) (start p : ℕ) (h : AreChainsOf s chains)
-    (begins : IsChainStart chains 0 start)
+    (begins : IsChainStart chains (Word []) start)
     (walked : HasWalked chains.classes (λ r. not (is_match is_positional s r)) start p) where
-  -- a walk along the chain of words passed no open item of their class
-  none_of_words : (q : ℕ) (item : Arg) → q < length chains.classes → q < p
-      → open_item s q ≡ Some item
-      → class_in s.context.line chains.names (length chains.heads) item ≡ 0
-      → is_match is_positional s q ≡ false
-  none_of_words q item inside below there word =
-      let class = class_at s chains q item h inside there ∙ word in
-      ⊎_elim
-      (λ (early : q < start). absurd (true≢false
-      (sym (early_set s.context.line (is_taken s) chains 0 start q h begins inside class early)
-      ∙ open_not_taken s q (open_item_there s q item there).0)))
-      (λ (behind : start ≤ q). not-true _ (walked.passed 0 q begins.place behind below class))
-      (cases_lt q start)
-
-  -- so it passed no word
+  -- a walk along the chain of words passed no word
   pub no_word_passed : (q : ℕ) → q < length chains.classes → q < p
       → is_match is_positional s q ≡ false
   no_word_passed q inside below = by_item (open_item s q) refl
@@ -158,13 +125,20 @@ module _ (s : Situation) (chains : Chained) (start p : ℕ) (h : AreChainsOf s c
           → is_match is_positional s q ≡ false
       none at e other = ap (λ found. option_map_or is_positional found false) e ∙ other
 
+      word : (item : Arg) → open_item s q ≡ Some item → class_of chains.names item ≡ Some 0
+          → is_match is_positional s q ≡ false
+      word item there class =
+          let at = sym class ∙ h.classes q item inside (item_of_line s q item there) in
+          not-true _ (walked.passed (slice_index chains.classes q) q (begins.place _ at)
+          (open_behind s chains _ start q item h begins inside at there) below refl)
+
       by_item : (at : Option Arg) → open_item s q ≡ at → is_match is_positional s q ≡ false
       by_item None e = none None e refl
       by_item (Some (Short c attached text)) e = none _ e refl
       by_item (Some (Long name attached text)) e = none _ e refl
       by_item (Some (ArgWord text)) e = none _ e refl
-      by_item (Some (Word text)) e = none_of_words q (Word text) inside below e refl
-      by_item (Some (PosWord text)) e = none_of_words q (PosWord text) inside below e refl
+      by_item (Some (Word text)) e = word _ e refl
+      by_item (Some (PosWord text)) e = word _ e refl
 
 -- a key with the names of two has those of one or of the other
 key_of_more : (a b : Names) (item : Arg)

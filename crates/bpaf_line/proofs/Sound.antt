@@ -13,7 +13,7 @@ use Rattle.bpaf_base.specs.declared.arg.Arg.{Arg}
 use Rattle.bpaf_line.specs.declared.state.State.TheInside.{Inside}
 use Rattle.bpaf_line.specs.Remembered.{no_aside, count_within, IsSurvey, IsRemembered}
 use Rattle.bpaf_index.specs.Bits.{has_bit, is_clear_from, count_clear, ChangesBit, IsFirstClear}
-use Rattle.bpaf_index.specs.Chained.{Chained, class_in, head_of, AreBehind, ReachBack, IfChained}
+use Rattle.bpaf_index.specs.Chained.{Chained, head_of, AreBehind, ReachBack, IfChained}
 use Rattle.bpaf_index.specs.Chained.{HasNoKeyFrom}
 use Rattle.bpaf_line.specs.Inside.{situation_of, BitsOf, IsSound}
 use Rattle.bpaf_line.specs.Situation.{Situation, with_trail, with_scope, cut_to, is_open, is_marker}
@@ -26,7 +26,6 @@ use Rattle.bpaf_line.proofs.Places.{put, put_here, put_other, put_stays, open_co
 use Rattle.bpaf_line.proofs.Places.{in_turn_put, room_on_trail, last_put, in_turn_cut}
 use Rattle.bpaf_line.proofs.Places.{first_without, open_in_scope, open_not_taken}
 use Rattle.bpaf_index.proofs.Counts.{count_below-same, count_below-cut, count_below-most}
-use Rattle.bpaf_index.proofs.Chained.{behind_within}
 
 -- the bits of a situation with one place more
 pub bits_put : (s : Situation) (old new : List ℕ) (p : ℕ) → BitsOf s old
@@ -55,13 +54,18 @@ pub behind_since : (line : List Arg) (old new : ℕ → Bool) (chains : Option C
     → ((q : ℕ) → q < length line → old q ≡ true → new q ≡ true)
     → IfSome chains (AreBehind line old) → IfSome chains (AreBehind line new)
 behind_since line old new None grown h = tt
-behind_since line old new (Some chains) grown h =
-    let size = behind_within line old chains h in
-    record {
-      classes = h.classes;
-      keyless = h.keyless;
-      passed = λ q within before. grown q (omega arith) (h.passed q within before);
-    }
+behind_since line old new (Some chains) grown h = record {
+  within = h.within;
+  classes = h.classes;
+  keyless = h.keyless;
+  passed = λ q inside before. grown q (omega (arith, inside, h.within)) (h.passed q inside before);
+}
+
+-- chains that stand behind nothing are those of any situation on the line
+pub chains_anew : (s : Situation) (chains : Option Chained)
+    → IfSome chains (AreBehind s.context.line (λ p. false)) → IfSome chains (AreChainsOf s)
+chains_anew s chains h =
+    behind_since s.context.line (λ p. false) (is_taken s) chains (λ q within e. cc) h
 
 -- the bits of what chains passed are set, where one place more is taken
 pub behind_bits : (s : Situation) (p : ℕ) (words : List ℕ) (chains : Option Chained)
@@ -79,13 +83,9 @@ chains_untake s p None None h back = tt
 chains_untake s p None (Some new) h back = absurd back
 chains_untake s p (Some old) None h back = tt
 chains_untake s p (Some old) (Some new) h back = record {
-  classes = back.classes ∙ (h.classes
-      ∙ (ap (λ n. map (class_in s.context.line old.names n)
-      (take (length old.classes) s.context.line)) (sym back.count)
-      ∙ (ap (λ ns. map (class_in s.context.line ns (length new.heads))
-      (take (length old.classes) s.context.line)) (sym back.names)
-      ∙ ap (λ k. map (class_in s.context.line new.names (length new.heads))
-      (take k s.context.line)) (sym (ap length back.classes)))));
+  within = omega (arith, h.within, ap length back.classes);
+  classes = λ q item inside found. rw (back.classes, back.names)
+      (h.classes q item (omega (arith, inside, ap length back.classes)) found);
   keyless = subst (HasNoKeyFrom s.context.line) (sym (ap length back.classes)) h.keyless;
   passed = λ q within before. let inside : q < length old.classes = omega
       (arith, ap length back.classes) in ⊎_elim
@@ -493,9 +493,9 @@ none_behind s from h past q lower = by_scope (in_scope (situation_of s) q) refl
 
 -- a state of the same situation, with equal bits and first place, is sound too
 pub sound_copy : (i j : Inside) → situation_of i ≡ situation_of j → i.keys ≡ j.keys
-    → i.behind ≡ j.behind → i.chains ≡ j.chains → i.words.items ≡ j.words.items → i.left ≡ j.left
-    → i.first ≡ j.first → i.aside ≡ no_aside → length i.items.items ≤ vec_capacity i.trail
-    → IsSound j → IsSound i
+    → i.behind ≡ j.behind → IfSome i.chains (AreBehind i.items.items (λ p. false))
+    → i.words.items ≡ j.words.items → i.left ≡ j.left → i.first ≡ j.first → i.aside ≡ no_aside
+    → length i.items.items ≤ vec_capacity i.trail → IsSound j → IsSound i
 sound_copy i j same keys behind chains words left first aside room h =
     let count : length i.items.items ≡ length j.items.items = ap
     (λ s. length s.context.line) same in
@@ -514,8 +514,7 @@ sound_copy i j same keys behind chains words left first aside room h =
           (subst (λ s. IsFirstPresent s j.first) (sym same) h.first);
       aside = subst (IsRemembered (situation_of i)) (sym aside)
           (remembers_nothing (situation_of i));
-      chained = subst (λ c. IfSome c (AreChainsOf (situation_of i))) (sym chains)
-          (subst (λ s. IfSome j.chains (AreChainsOf s)) (sym same) h.chained);
+      chained = chains_anew (situation_of i) i.chains chains;
       keyless = subst (HasNoKeyFrom i.items.items) (sym keys)
           (subst (λ s. HasNoKeyFrom s.context.line j.keys) (sym same) h.keyless);
       behind = λ q low high. ap (λ s. is_taken s q) same ∙ h.behind q (omega arith) (omega arith);

@@ -132,7 +132,7 @@ impl State {
         let alloc = self.alloc();
         let items = copy_items(alloc, self.items.as_slice())?;
         let env = share_env(&self.env)?;
-        let chains = Chains::copy_of(&self.chains)?;
+        let chains = Chains::of_line(alloc, &items, count_to_last_key(&items))?;
         let words = Vec::from_slice(alloc, self.words.as_slice())?;
         let mut trail = Vec::with_capacity(alloc, self.items.len())?;
         trail.extend_from_slice(self.trail.as_slice())?;

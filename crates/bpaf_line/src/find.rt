@@ -178,7 +178,7 @@ impl State {
     {
         let mut place = end;
         for long in longs {
-            let start = chains.first_long(&self.items, long);
+            let start = chains.first_long(long);
             place = self.first_along(chains, start, place, shorts, longs, adjacent);
         }
         place

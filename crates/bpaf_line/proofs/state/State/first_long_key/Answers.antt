@@ -1,7 +1,6 @@
-use Rattle.std.proofs.Common.{◌++◌, ◌∷◌, [], ◌∙◌, ap, sym, subst, take, false, arith, length}
+use Rattle.std.proofs.Common.{◌++◌, ◌∷◌, [], ◌∙◌, ap, sym, subst, take, false, arith}
 use Rattle.std.proofs.lemmas.List.{take_more}
 use Rattle.bpaf_base.specs.{declared.arg.Arg.TheVariants.Long, Items.is_argument_key}
-use Rattle.bpaf_index.specs.Chained.{class_of_long, IsChainStart}
 use Rattle.bpaf_line.specs.Finding.{IsFirstAmong}
 use Rattle.bpaf_line.proofs.Finding.{among_more, first_named}
 use Rattle.bpaf_line.proofs.state.State.first_long_key.Goals as goal
@@ -18,10 +17,6 @@ loop-long-preserved c =
     let key = Long name false [] in
     let s = c.args.self.now in
     let chains = c.args.chains.now in
-    let line = c.deref.ensures.value ∙ ap (λ t. t.context.line) c.self.view_is in
-    let begins = subst (λ items. IsChainStart chains
-    (class_of_long items chains.names (length chains.heads) name) c.first_long-start.result) line
-    c.first_long-start.ensures in
     subst (λ ns. IsFirstAmong test (record { shorts = []; longs = ns }) s c.args.end
     c.first_along-place.result) (sym (take_more longs i name c.loop-long-test.true
     ∙ ap (λ n. take i longs ++ n ∷ []) (sym c.long-item.is)))
@@ -30,5 +25,5 @@ loop-long-preserved c =
     c.first_along-place.result c.loop-long.invariant
     (first_named test s chains key c.first_long-start.result
     c.loop-long.place c.first_along-place.result c.requires.chains
-    (omega (arith, c.loop-long.invariant.within, c.requires.inside)) begins
+    (omega (arith, c.loop-long.invariant.within, c.requires.inside)) c.first_long-start.ensures
     c.first_along-place.ensures))
