@@ -10,6 +10,7 @@ import crates
 from places import text_of
 
 WORD = re.compile(r"(?<![\w.'])[^\W\d]\w*'*")
+BEHIND = re.compile(r"(?<![\w.'])([^\W\d]\w*)\.([^\W\d]\w*'*)")
 USE = re.compile(r"(?m)^ *(?:pub |ghost )?use Rattle\.([\w.]+?)(?:\.\{(.*?)\})?(?: as (\w+))?;?$")
 HEAD = r"(?m)^{}(?:(?:abbrev|unfoldable|pub|record|data) )*([^\W\d]\w*'*)(?= [({{:])(?![^:]* =)"
 INSIDE = re.compile(r"(?m)^ +(?:pub )?((?:[^\W\d]\w*'* )*◌?\w+◌? ):(?= |$)")
@@ -96,15 +97,18 @@ def of_path(path):
 def meant(path, name):
     """The definition or the type that a name is which stands at a path; none of std."""
     there = of_path(path)
-    if not isinstance(there, File):
-        return there
+    if not isinstance(there, File) or name is None:
+        return there if isinstance(there, RustType) else None
     return there.names[name] if name in there.names else meant(*there.uses[name])
 
 
 def cited(code, uses, names=()):
     """The definitions and the types that a piece of code names."""
     words = dict.fromkeys(WORD.findall(code))
-    found = (names[it] if it in names else meant(*uses[it]) for it in words if it in names or it in uses)
+    found = [names[it] if it in names else meant(*uses[it]) for it in words if it in names or it in uses]
+    for file, name in dict.fromkeys(BEHIND.findall(code)):
+        there = of_path(uses[file][0]) if file in uses and uses[file][1] is None else None
+        found.append(there.names.get(name) if isinstance(there, File) else None)
     return [it for it in found if it]
 
 
