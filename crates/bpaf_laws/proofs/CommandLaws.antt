@@ -1,31 +1,23 @@
 -- Behind the word of a command: what opening its scope keeps, and what is read there.
-use Rattle.std.proofs.Common.{◌≡◌, ℕ, ◌<◌, Bool, true, false, not, ◌&&◌, List, length, ⊎_elim, refl}
+use Rattle.std.proofs.Common.{◌≡◌, ℕ, ◌<◌, Bool, true, false, not, ◌&&◌, List, length, ⊎_elim}
 use Rattle.std.proofs.Common.{sym, ◌∙◌, arith, true≢false}
-use Rattle.std.proofs.{lemmas.Bool.cases_Bool, lemmas.Bool.Decides.nat_tests}
+use Rattle.std.proofs.lemmas.Bool.{cases_Bool, false_from_ne_true, Decides.nat_tests}
 use Rattle.bpaf_base.specs.Items.{any_item}
 use Rattle.bpaf_line.specs.Situation.{Situation, in_scope, is_open, is_taken, open_count}
 use Rattle.bpaf_line.specs.Situation.{take_place}
 use Rattle.bpaf_line.proofs.Places.{open_in_line, open_in_scope, taken_stays}
 use Rattle.bpaf_line.proofs.Matches.{match_is_open, open_has_item}
-use Rattle.bpaf_laws.specs.Laws.{Keeps, Closes, Reads, newly}
+use Rattle.bpaf_laws.specs.Laws.{Keeps, Closes, Reads}
 use Rattle.bpaf_laws.specs.Command.{Called, CommandReads, IsOpenedAt, LeavesNothing, inside, opened}
-use Rattle.bpaf_laws.specs.{Reading.Readings, Command.opening_words}
-use Rattle.bpaf_laws.proofs.Keeping.{closes_trans, keeps_path, keeps_scope, keeps_take, keeps_trans}
-use Rattle.bpaf_laws.proofs.{CountingLaws.none_below, Keeping.newly_joins, Keeping.newly_take}
-
--- what is in scope and isn't taken is open
-open_unless_taken : (within taken : Bool) → within ≡ true → taken ≡ false
-    → (within && not taken) ≡ true
-open_unless_taken true false here present = refl
-open_unless_taken true true here present = absurd (true≢false present)
-open_unless_taken false taken here present = absurd (true≢false (sym here))
+use Rattle.bpaf_laws.specs.Reading.{Readings, HasItem, IsPlace}
+use Rattle.bpaf_laws.specs.Command.{is_one_of, opening_words}
+use Rattle.bpaf_laws.proofs.Keeping.{keeps_path, keeps_scope, keeps_take, newly_take, reads_as}
+use Rattle.bpaf_laws.proofs.{CountingLaws.none_below, Keeping.reads_both}
 
 -- what is in scope and isn't open is taken
-taken_unless_open : (within taken : Bool) → within ≡ true → (within && not taken) ≡ false
+pub taken_unless_open : (within taken : Bool) → within ≡ true → (within && not taken) ≡ false
     → taken ≡ true
-taken_unless_open true true here closed = refl
-taken_unless_open true false here closed = absurd (true≢false closed)
-taken_unless_open false taken here closed = absurd (true≢false (sym here))
+taken_unless_open within taken here closed = grind arith
 
 module _ (words : List (List ℕ)) (s : Situation) (p : ℕ) (at : IsOpenedAt words s p) where
   -- the word is present, and in scope
@@ -48,18 +40,14 @@ module _ (words : List (List ℕ)) (s : Situation) (p : ℕ) (at : IsOpenedAt wo
 
   -- and is taken, since the word is the first present item
   taken_before : (q : ℕ) → in_scope s q ≡ true → q < p → is_taken s q ≡ true
-  taken_before q within before = ⊎_elim (λ (taken : is_taken s q ≡ true). taken)
-      (λ (present : is_taken s q ≡ false). absurd (true≢false
-      (sym (open_has_item s q
-      (open_unless_taken (in_scope s q) (is_taken s q) within present))
-      ∙ at.first.first q before))) (cases_Bool (is_taken s q))
+  taken_before q within before = taken_unless_open (in_scope s q) (is_taken s q) within
+      (false_from_ne_true (is_open s q) (λ there.
+      true≢false (sym (open_has_item s q there) ∙ at.first.first q before)))
 
 -- where nothing is counted, nothing is open
 nothing_open : (t : Situation) → open_count t ≡ 0 → (q : ℕ) → is_open t q ≡ false
-nothing_open t none q = ⊎_elim
-    (λ (there : is_open t q ≡ true). absurd (true≢false (sym there
-    ∙ none_below (is_open t) (length t.context.line) none q (open_in_line t q there))))
-    (λ (closed : is_open t q ≡ false). closed) (cases_Bool (is_open t q))
+nothing_open t none q = false_from_ne_true (is_open t q) (λ there. true≢false
+    (sym there ∙ none_below (is_open t) (length t.context.line) none q (open_in_line t q there)))
 
 -- where nothing is present any more in scope, all that was in scope is taken
 pub leaves_nothing : (s t : Situation) → Closes s t → open_count t ≡ 0 → LeavesNothing s t
@@ -86,18 +74,11 @@ module _ (called : Called) (s : Situation) (p : ℕ)
     -- what is read inside a command is a reading of the command
     pub inside_read : Reads T (CommandReads T (opening_words called) reads) s v t
     inside_read =
-        let m : Situation = inside called s p in
-        record {
-          keeps = keeps_trans s m t keeps_inside read.keeps;
-          closed = closes_trans s m t read.keeps closes_inside read.closed;
-          reading = record {
-            name = p;
-            read = record {
-              first_share = newly s m;
-              rest_share = newly m t;
-              joins = newly_joins s m t keeps_inside read.keeps;
-              first_read = (at.named, newly_take s p (word_is_open (opening_words called) s p at));
-              rest_read = read.reading;
-            };
-          };
-        }
+        let words = opening_words called in
+        let word : Reads ℕ (λ line own q. HasItem (is_one_of words) line q × IsPlace q own) s p
+        (inside called s p) = record {
+          keeps = keeps_inside;
+          closed = closes_inside;
+          reading = (at.named, newly_take s p (word_is_open words s p at));
+        } in
+        reads_as (reads_both word read) (λ both. record { name = p; read = both })

@@ -1,7 +1,7 @@
 -- What a parser takes that reads a stretch of present places, and leaves none of them.
-use Rattle.std.proofs.Common.{◌≡◌, ℕ, ◌<◌, ◌≤◌, Bool, true, false, not, ◌&&◌, nat_le, nat_lt, refl}
+use Rattle.std.proofs.Common.{◌≡◌, ℕ, ◌<◌, ◌≤◌, Bool, true, false, not, ◌&&◌, nat_le, nat_lt}
 use Rattle.std.proofs.lemmas.Bool.Decides.{nat_tests}
-use Rattle.std.proofs.{Common.sym, Common.arith, lemmas.Bool.and_parts}
+use Rattle.std.proofs.{Common.arith, lemmas.Bool.and_parts}
 use Rattle.bpaf_line.specs.Situation.{Situation, in_scope, is_open, is_taken, open_count}
 use Rattle.bpaf_line.specs.Situation.{with_scope}
 use Rattle.bpaf_line.proofs.Places.{open_not_taken}
@@ -12,11 +12,7 @@ use Rattle.bpaf_laws.proofs.{CommandLaws.leaves_nothing, Keeping.keeps_refl, Kee
 pub new_in_stretch : (taken before inside : Bool)
     → (inside ≡ true → (taken ≡ true) × (before ≡ false))
     → ((taken && not before) ≡ true → inside ≡ true) → (taken && not before) ≡ inside
-new_in_stretch true true true all only = let there : true ≡ false = (all refl).1 in cc
-new_in_stretch true true false all only = refl
-new_in_stretch true false inside all only = sym (only refl)
-new_in_stretch false before true all only = let there : false ≡ true = (all refl).0 in cc
-new_in_stretch false before false all only = refl
+new_in_stretch taken before inside all only = grind arith
 
 -- a place of a stretch lies between its ends
 pub between : (from end p : ℕ) → (nat_le from p && nat_lt p end) ≡ true → (from ≤ p) × (p < end)

@@ -124,8 +124,12 @@ module _ {T : Type 0} {inner : Outcome T} {reads : Readings T} (law : Lawful T i
   -- a turn stopped
   pub stops_here : o ≡ None → UntilRest inner s vs t
   stops_here is =
-      stops m steps (subst (λ w. TurnOutcome inner false w m (Ok None) t) nil
-      (subst (λ w. TurnOutcome inner false b m (Ok w) t) is step))
+      stops (record {
+        last = m;
+        steps = steps;
+        stop = subst (λ w. TurnOutcome inner false w m (Ok None) t) nil
+            (subst (λ w. TurnOutcome inner false b m (Ok w) t) is step);
+      })
 
   -- there are no more values than items present at the start, or there was none before this one
   pub fits_more : (v : T) → o ≡ Some v → (length vs ≡ 0) ⊎ (length vs + 1 ≤ open_count s)
