@@ -63,22 +63,23 @@ module _ (called : Called) (s : Situation) (p : ℕ)
   keeps_inside = keeps_path s (opened s p) called.name (keeps_opened (opening_words called) s p at)
 
   -- a place that is left outside it is taken
-  pub closes_inside : Closes s (inside called s p)
+  closes_inside : Closes s (inside called s p)
   closes_inside q within outside =
       let words = opening_words called in
       taken_stays s p q (taken_before words s p at q within
       (stands_before words s p at q within outside))
 
-  module _ {T : Type 0} {reads : Readings T} (v : T) (t : Situation)
-      (read : Reads T reads (inside called s p) v t) where
-    -- what is read inside a command is a reading of the command
-    pub inside_read : Reads T (CommandReads T (opening_words called) reads) s v t
-    inside_read =
-        let words = opening_words called in
-        let word : Reads ℕ (λ line own q. HasItem (is_one_of words) line q × IsPlace q own) s p
-        (inside called s p) = record {
-          keeps = keeps_inside;
-          closed = closes_inside;
-          reading = (at.named, newly_take s p (word_is_open words s p at));
-        } in
-        reads_as (reads_both word read) (λ both. record { name = p; read = both })
+  -- so the word is read
+  pub word_read : Reads ℕ (λ line own q. HasItem (is_one_of (opening_words called)) line q
+      × IsPlace q own) s p (inside called s p)
+  word_read = record {
+    keeps = keeps_inside;
+    closed = closes_inside;
+    reading = (at.named, newly_take s p (word_is_open (opening_words called) s p at));
+  }
+
+  -- what is read inside a command is a reading of the command
+  pub inside_read : {T : Type 0} {reads : Readings T} (v : T) (t : Situation)
+      → Reads T reads (inside called s p) v t
+      → Reads T (CommandReads T (opening_words called) reads) s v t
+  inside_read v t read = reads_as (reads_both word_read read) (λ both. record { name = p; read = both })

@@ -71,20 +71,8 @@ names_combined first second both one other o =
 
 -- each message but the answer of an inner run has a name
 pub name_of : (m : Message) → is_answer m ≡ false → (name : Refusal) × (refusal_of m ≡ Some name)
-name_of Memory other = (no_memory, refl)
-name_of (Ambiguity word number) other = (ambiguous_word, refl)
-name_of (Missing items) other = (missing_item, refl)
-name_of (Expected items place) other = (missing_item, refl)
-name_of (NoArgument place metavar) other = (missing_value, refl)
-name_of (StrictPos place metavar) other = (wrong_side, refl)
-name_of (NonStrictPos place metavar) other = (wrong_side, refl)
-name_of (ParseFailed place fault) other = (unreadable_text, refl)
-name_of (GuardFailed place text) other = (refused_value, refl)
-name_of (Conflict winner place) other = (conflict, refl)
-name_of (OnlyOnce earlier place) other = (repeated_key, refl)
-name_of (Unconsumed place) other = (unexpected_item, refl)
 name_of (ParseFailure inner) other = absurd (true≢false other)
-name_of _ other = (no_value, refl)
+name_of m other = (_, refl)
 
 -- no message but the answer of an inner run shows something
 pub shows_nothing : (m : Message) (s : Situation) (doc : List Piece) (full : Bool)

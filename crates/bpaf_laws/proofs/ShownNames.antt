@@ -1,6 +1,6 @@
 -- Which short names each type shows, by those that its inner parsers show.
 use Rattle.std.proofs.Common.{◌≡◌, List, [], ◌∷◌, ◌++◌, ℕ, Option, Some, None, refl, sym, ap, ap₂}
-use Rattle.std.proofs.Common.{Result, ◌∙◌, append_assoc, append-nil, flat_map}
+use Rattle.std.proofs.Common.{Result, ◌∙◌, append_assoc, append-nil, flat_map, arith}
 use Rattle.std.specs.declared.alloc.AllocError.{AllocError}
 use Rattle.std.proofs.lemmas.List.Concat.{flat_map-append}
 use Rattle.bpaf_doc.specs.Shape.{Adjacent, Shown, Shape, Shapes, Or, Optional, Required, Many, Part}
@@ -33,13 +33,7 @@ flag_shows {T} named absent = one_shape (of_names named.names.shorts named.names
     of_names : (shorts : List ℕ) (longs : List (List ℕ)) (absent : Option T)
         → let names : Names = record { shorts = shorts; longs = longs } in
         shorts_of (parts (flag_shape (record named { names = names }) absent)) ≡ of_flags shorts
-    of_names [] [] absent = refl
-    of_names [] (long ∷ longs) None = refl
-    of_names [] (long ∷ longs) (Some kept) = refl
-    of_names (short ∷ shorts) [] None = ap of_flags (append-nil _)
-    of_names (short ∷ shorts) [] (Some kept) = ap of_flags (append-nil _)
-    of_names (short ∷ shorts) (long ∷ longs) None = ap of_flags (append-nil _)
-    of_names (short ∷ shorts) (long ∷ longs) (Some kept) = ap of_flags (append-nil _)
+    of_names shorts longs absent = grind (arith, append-nil {A = ℕ})
 
 -- an argument
 pub argument_shows : (key : KeyWithValue)
