@@ -1,7 +1,7 @@
 -- Flags keep to the laws.
-use Rattle.std.specs.Prelude.{◌≡◌, ℕ, Bool, true, false, List, Option, Some, None, Result, Ok, Err}
+use Rattle.std.specs.Prelude.{◌≡◌, ℕ, Bool, true, false, List, Option, Result, Ok, Err}
 use Rattle.std.specs.Option.{is_some, IsSomeRelated}
-use Rattle.std.proofs.Common.{sym, subst, inl, inr}
+use Rattle.std.proofs.Common.{sym, subst, inl, inr, arith}
 use Rattle.bpaf_doc.specs.Names.{Names}
 use Rattle.bpaf_text.specs.Named.{Named, flag_part}
 use Rattle.bpaf_line.specs.Situation.{Situation, is_open}
@@ -49,14 +49,12 @@ module _ (T : Type 0) (clones : T → T → Type 0) (named : Named) (present : T
   -- where a variable is set the present value stands for no key
   kept_set : (set : Option (List ℕ)) (v : T) → is_some set ≡ true → clones present v
       → IsSomeRelated clones (value_without_key present absent set) v
-  kept_set (Some text) v is value = value
-  kept_set None v is value = cc
+  kept_set set v is value = grind arith
 
   -- else the absent one does
   kept_unset : (set : Option (List ℕ)) (v : T) → is_some set ≡ false → IsSomeRelated clones absent v
       → IsSomeRelated clones (value_without_key present absent set) v
-  kept_unset (Some text) v is value = cc
-  kept_unset None v is value = value
+  kept_unset set v is value = grind arith
 
   -- what the test of a flag's key keeps
   present_keeps : (s t : Situation) (is : Bool) → IsPresent named s is t → Keeps s t

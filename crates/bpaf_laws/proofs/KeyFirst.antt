@@ -1,6 +1,6 @@
 -- A key comes before the environment.
 use Rattle.std.proofs.Common.{◌≡◌, ℕ, ◌+◌, Bool, true, false, List, Result, Ok, Err, Option}
-use Rattle.std.proofs.Common.{Some, None, ⊎_elim, sym, ◌∙◌, ap, subst, true≢false, arith, [], ◌∷◌}
+use Rattle.std.proofs.Common.{Some, ⊎_elim, sym, ◌∙◌, ap, subst, true≢false, arith, [], ◌∷◌}
 use Rattle.std.proofs.Common.{◌++◌}
 use Rattle.std.proofs.lemmas.Bool.{cases_Bool, false_from_ne_true}
 use Rattle.bpaf_doc.specs.Shape.{Part}
@@ -113,9 +113,7 @@ module _ (argument : KeyWithValue) where
 -- that a key is nowhere is no fault of a text
 absence_is_no_fault : (s : Situation) (part : Option Part) (envs : List (List ℕ))
     (place : Option ℕ) (words : List ℕ) → ¬ (IsAbsence s part envs (ParseFailed place words))
-absence_is_no_fault s (Some part) envs place words absent = absent
-absence_is_no_fault s None [] place words absent = absent
-absence_is_no_fault s None (name ∷ names) place words absent = absent
+absence_is_no_fault s part envs place words absent = grind arith
 
 module _ {T : Type 0} (means : List ℕ → T → Type 0) (argument : KeyWithValue)
     (s t : Situation) where

@@ -1,13 +1,12 @@
 -- What taking a key with the text behind it takes, and what taking all of them does.
 use Rattle.std.specs.Prelude.{◌≡◌, ◌≢◌, ◌⊎◌, ℕ, zero, suc, ◌+◌, ◌<◌, ◌≤◌, ◌==◌, Bool, true, false}
-use Rattle.std.specs.Prelude.{not, ◌&&◌, ◌||◌, List, [], ◌∷◌, ◌++◌, Option, Some, None, refl}
+use Rattle.std.specs.Prelude.{not, ◌&&◌, ◌||◌, List, [], ◌∷◌, ◌++◌, Option, None, refl}
 use Rattle.std.specs.Prelude.{option_and_then, if◌then◌else◌}
 use Rattle.std.specs.Option.{option_map_or}
 use Rattle.std.proofs.Common.{sym, subst, ap, ◌∙◌, inl, inr, ⊎_elim, arith, true≢false}
 use Rattle.std.proofs.lemmas.Bool.{cases_eq, cases_lt, eqb-true, or_cases, or_left}
 use Rattle.std.proofs.lemmas.Bool.{or_right, Decides.nat_tests}
 use Rattle.bpaf_text.specs.Named.{KeyWithValue}
-use Rattle.bpaf_base.specs.declared.arg.Arg.TheVariants.{Short}
 use Rattle.bpaf_base.specs.{declared.arg.Arg.Arg, Items.value_text}
 use Rattle.bpaf_line.specs.Situation.{Situation, is_open, is_taken, in_scope, item_at, take_place}
 use Rattle.bpaf_line.specs.Situation.{open_count}
@@ -26,9 +25,7 @@ use Rattle.bpaf_laws.proofs.CountingLaws.{same_took_none}
 key_is_no_value : (argument : KeyWithValue) (item : Option Arg)
     → option_map_or (is_key_with_value argument) item false ≡ true
     → option_and_then value_text item ≡ None
-key_is_no_value argument None key = refl
-key_is_no_value argument (Some (Short c attached word)) key = refl
-key_is_no_value argument (Some _) key = cc
+key_is_no_value argument item key = grind arith
 
 -- where an item of an open place passes the test, there is a match
 match_there : (test : Arg → Bool) (s : Situation) (p : ℕ) → is_open s p ≡ true
