@@ -51,11 +51,3 @@ letter_v = 118
 -- the letter `q`
 abbrev pub letter_q : ℕ
 letter_q = 113
-
--- the keys `-v`, `--verbose` and `-q`, `--quiet`
-abbrev pub AreVerboseAndQuiet : ParseFlag (Unit {0}) → ParseFlag (Unit {0}) → Type 0
-AreVerboseAndQuiet more fewer =
-    IsCountedKey letter_v (codes "verbose")
-    (codes "Increase output verbosity, can be used several times") more
-    × IsCountedKey letter_q (codes "quiet")
-    (codes "Decrease output verbosity, can be used several times") fewer

@@ -92,7 +92,7 @@ want_leftmost first second s (Ok v) t want same = absurd (true≢false (sym want
 want_leftmost first second s (Err e) t want same = inr (want, same)
 
 -- of two situations the leftmost place of the one is that of the other
-leftmost_of_other : (s other : Situation) (p : ℕ) → IsLeftmost s other p → IsLeftmost other s p
+pub leftmost_of_other : (s other : Situation) (p : ℕ) → IsLeftmost s other p → IsLeftmost other s p
 leftmost_of_other s other p h = record {
   differs = turned (is_taken s p) (is_taken other p) h.differs;
   first = λ q below. sym (h.first q below);

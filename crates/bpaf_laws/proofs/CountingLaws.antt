@@ -30,7 +30,7 @@ open_at : (ts tt is it : Bool) → (ts ≡ true → tt ≡ true)
 open_at ts tt is it a b c d = grind arith
 
 -- what is present at first is present still, or newly taken
-open_joins : (s t : Situation) → Keeps s t → Closes s t → Joins (is_open t) (newly s t) (is_open s)
+pub open_joins : (s t : Situation) → Keeps s t → Closes s t → Joins (is_open t) (newly s t) (is_open s)
 open_joins s t k c =
     let at = λ (p : ℕ). open_at (is_taken s p) (is_taken t p) (in_scope s p) (in_scope t p) (k.stays p)
     (k.fresh p) (k.narrows p) (c p) in

@@ -6,13 +6,13 @@ use Rattle.std.specs.Prelude.{◌∷◌, ◌++◌, Result, Ok, Err, Option, None
 use Rattle.std.proofs.Common.{sym, ◌∙◌, ap, subst, append_assoc, append-nil, arith, ⊎_elim}
 use Rattle.std.proofs.Common.{true≢false}
 use Rattle.std.proofs.lemmas.Bool.{cases_eq, or_left, Decides.nat_tests}
-use Rattle.bpaf_line.specs.Situation.{Situation, is_taken, is_open, in_scope, take_place}
+use Rattle.bpaf_line.specs.Situation.{Situation, Context, is_taken, is_open, in_scope, take_place}
 use Rattle.bpaf_line.specs.Situation.{with_scope, with_path, with_current}
 use Rattle.bpaf_line.proofs.Marks.{keeps_marks_refl, keeps_marks_trans, keeps_marks_take}
 use Rattle.bpaf_line.proofs.Marks.{keeps_marks_scope, keeps_marks_path, keeps_marks_current}
 use Rattle.bpaf_line.proofs.Places.{taken_here, taken_other, taken_stays, open_not_taken}
 use Rattle.bpaf_line.specs.{Conflicts.ConflictsSaved, declared.error.Error.Error}
-use Rattle.bpaf_laws.specs.Reading.{Readings, Outcome, Joins, IsEmptyShare, IsPlace, IsPair}
+use Rattle.bpaf_laws.specs.Reading.{Share, Readings, Outcome, Joins, IsEmptyShare, IsPlace, IsPair}
 use Rattle.bpaf_laws.specs.Laws.{Keeps, Closes, Extends, Reads, Lawful, newly}
 use Rattle.bpaf_laws.specs.{RefusalNames.NamesAnswer, Product.BothReads}
 
@@ -54,6 +54,17 @@ reads_as read also = record {
   keeps = read.keeps;
   closed = read.closed;
   reading = also read.reading;
+}
+
+-- a parser keeps to the laws with what it reads said in another way
+pub lawful_as : {T : Type 0} {outcome : Outcome T} {reads others : Readings T}
+    → Lawful T outcome reads
+    → ((context : Context) (share : Share) (v : T) → reads context share v → others context share v)
+    → Lawful T outcome others
+lawful_as law also = record {
+  ok = λ s t v o. reads_as (law.ok s t v o) (also s.context (newly s t) v);
+  err = law.err;
+  named = law.named;
 }
 
 -- nothing is newly taken since the same situation

@@ -36,7 +36,7 @@ IsLeftmostChosen a sa b sb v t =
 
 module _ {T : Type 0} (v : T) (t : Situation) where
   -- a branch that stands is chosen
-  stands : (branch : AnsweredBranch T) → Stands branch (Ok v) t
+  pub stands : (branch : AnsweredBranch T) → Stands branch (Ok v) t
       → IsChosen (Ok branch.value) branch.left v t
   stands branch answer = record {
     answer = sym answer.0;
@@ -77,7 +77,7 @@ module _ {T : Type 0} (v : T) (t : Situation) where
       not_false x y here opposite = grind arith
 
 -- what answered a value and left as many items took nothing
-took_nothing : {T : Type 0} {outcome : Outcome T} {reads : Readings T} → Lawful T outcome reads
+pub took_nothing : {T : Type 0} {outcome : Outcome T} {reads : Readings T} → Lawful T outcome reads
     → (s t : Situation) (v : T) → outcome s (Ok v) t → is_untouched s t ≡ true → TakeTheSame t s
 took_nothing law s t v ran untouched p =
     let read = law.ok s t v ran in
