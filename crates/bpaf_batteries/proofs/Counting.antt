@@ -1,5 +1,5 @@
 -- Counted keys: what two counts read are as many keys of each flag.
-use Rattle.std.proofs.Common.{◌≡◌, ℕ, ◌+◌, ◌<◌, ◌==◌, ◌&&◌, ◌||◌, Bool, true, false, List, [], ◌∷◌}
+use Rattle.std.proofs.Common.{◌≡◌, ℕ, ◌+◌, ◌<◌, ◌&&◌, ◌||◌, Bool, true, false, List, [], ◌∷◌}
 use Rattle.std.proofs.Common.{length, slice_get, Result, Ok, Err, IfOk, Option, Some, None, refl}
 use Rattle.std.proofs.Common.{sym, ◌∙◌, subst, arith, ⊎_elim, true≢false, if◌then◌else◌}
 use Rattle.std.proofs.lemmas.Bool.{eq-eqb, eqb-true, false_from_ne_true, ne_eqb, or_cases}
@@ -11,11 +11,11 @@ use Rattle.bpaf_index.proofs.Counts.{count_below-same, count_below-fewer, count_
 use Rattle.bpaf_line.specs.Situation.{Situation, Context, item_in, is_marker, count_below}
 use Rattle.bpaf_line.specs.{declared.error.Error.Error, Situation.with_current}
 use Rattle.bpaf_laws.proofs.CountingLaws.{count_below-joined}
-use Rattle.bpaf_laws.specs.Flag.{FlagReads, at_key, nowhere, value_without_key}
-use Rattle.bpaf_laws.specs.Reading.{Outcome, Share, Readings, HasItem, IsPlace, Joins}
+use Rattle.bpaf_laws.specs.Flag.{at_key, nowhere, value_without_key}
+use Rattle.bpaf_laws.specs.Reading.{Outcome, Share, HasItem, IsPlace, Joins}
 use Rattle.bpaf_laws.specs.Repeat.{EachReads, ListReads, CountOutcome}
 use Rattle.bpaf_batteries.proofs.Keys.{not_both}
-use Rattle.bpaf_batteries.specs.declared.counts.KeyCounts.{KeyCounts}
+use Rattle.bpaf_batteries.specs.declared.pair.KeyCounts.{KeyCounts}
 use Rattle.bpaf_batteries.specs.Keys.{is_key, MustStand, KeyOutcome, KeyReads}
 use Rattle.bpaf_laws.specs.{Environment.first_set, Laws.newly, Product.BothOutcome}
 use Rattle.bpaf_laws.specs.Spared.{IsNotMemory, WithoutMemory}

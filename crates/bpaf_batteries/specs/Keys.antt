@@ -1,5 +1,5 @@
 -- Required flags as the batteries have them, of which only keys on the line count.
-use Rattle.std.specs.Prelude.{◌≡◌, ℕ, List, [], Bool, false, ◌&&◌, ◌||◌, None, codes}
+use Rattle.std.specs.Prelude.{◌≡◌, ℕ, List, [], Bool, false, ◌&&◌, ◌||◌, None}
 use Rattle.bpaf_doc.specs.{Fold.TextPieces, declared.doc.Piece.Piece}
 use Rattle.bpaf_text.specs.Named.{nothing_named, with_help, with_long, with_short}
 use Rattle.bpaf_text.specs.declared.params.ParseFlag.{ParseFlag}

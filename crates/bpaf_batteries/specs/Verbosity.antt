@@ -15,7 +15,7 @@ use Rattle.bpaf_words.specs.Spelling.{ShortNames}
 use Rattle.bpaf_laws.specs.ShownNames.{of_flags}
 use Rattle.bpaf_batteries.specs.Keys.{IsCountedKey, KeyOutcome, KeyReads, is_key, letter_q, letter_v}
 use Rattle.bpaf_batteries.specs.Level.{IsLevelOf}
-use Rattle.bpaf_batteries.specs.declared.counts.KeyCounts.{KeyCounts}
+use Rattle.bpaf_batteries.specs.declared.pair.KeyCounts.{KeyCounts}
 
 -- the key for more
 abbrev pub more_of : KeyCounts → ParseFlag (Unit {0})

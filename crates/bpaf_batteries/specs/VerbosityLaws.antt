@@ -11,7 +11,7 @@ use Rattle.bpaf_laws.proofs.TransformLaws.{made_lawful}
 use Rattle.bpaf_laws.proofs.{FlagLaws.flag_lawful, RepeatLaws.count_lawful, NamesAnswer.names_want}
 use Rattle.bpaf_laws.specs.{Laws.Lawful, Reading.Outcome, Reading.Readings}
 use Rattle.bpaf_laws.specs.{Repeat.CountOutcome, Transform.MapReads}
-use Rattle.bpaf_batteries.specs.declared.counts.KeyCounts.{KeyCounts}
+use Rattle.bpaf_batteries.specs.declared.pair.KeyCounts.{KeyCounts}
 use Rattle.bpaf_batteries.specs.Keys.{KeyOutcome}
 use Rattle.bpaf_batteries.specs.Verbosity.{CountReads, CountsDescribe, CountsOutcome, CountsReads}
 use Rattle.bpaf_batteries.specs.Verbosity.{PickOutcome, counted_shorts, fewer_of, more_of}

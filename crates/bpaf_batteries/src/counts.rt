@@ -1,23 +1,16 @@
 //! How often the keys for more and for less are given.
 ghost use Rattle.std.specs.Prelude.{◌≡◌, ◌∷◌, [], IfOk, IsTrue, None};
-ghost use Rattle.bpaf_batteries.specs.Keys.{AreKeysApart, IsCountedKey};
+ghost use Rattle.bpaf_batteries.specs.Keys.{IsCountedKey};
 ghost use Rattle.bpaf_batteries.specs.Verbosity.{AreVerboseAndQuiet, CountsDescribe, CountsOutcome};
 ghost use Rattle.bpaf_batteries.specs.Verbosity.{CountsReads, CountsSpared, KeysAreCounted};
 ghost use Rattle.bpaf_batteries.specs.Verbosity.{counted_shorts};
 ghost use Rattle.bpaf_batteries.specs.VerbosityLaws.{counts_lawful, counts_show};
 ghost use Rattle.bpaf_laws.specs.{Spared.IsNotMemory};
 
+use crate::pair::KeyCounts;
 use bpaf::parsers::{ParseCount, ParseFlag};
 use bpaf::{Both, Doc, Error, Fields, Last, Meta, Parser, State, short};
 use std::alloc::{AllocError, Global};
-
-/// Two keys that may each stand any number of times, counted.
-#[derive(Drop)]
-pub struct KeyCounts {
-    /// The counts of the two keys.
-    pub fields: Both<ParseCount<ParseFlag<()>, ()>, Last<ParseCount<ParseFlag<()>, ()>>>,
-    pub ghost apart: { AreKeysApart fields.first.inner fields.rest.last.inner },
-}
 
 /// How often a key of these names and this help stands on the line; refused only for want of
 /// memory.

@@ -9,7 +9,8 @@ ghost use Rattle.bpaf_laws.specs.Transform.{MapOutcome, MapReads};
 ghost use Rattle.bpaf_laws.specs.{Spared.IsNotMemory};
 ghost use Rattle.bpaf_laws.proofs.TransformLaws.{map_lawful};
 
-use crate::counts::{KeyCounts, verbose_and_quiet};
+use crate::counts::verbose_and_quiet;
+use crate::pair::KeyCounts;
 use bpaf::{Error, Meta, Parser, State};
 use std::alloc::{AllocError, Global};
 

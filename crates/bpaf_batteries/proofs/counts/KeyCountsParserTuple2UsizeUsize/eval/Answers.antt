@@ -1,5 +1,4 @@
 use Rattle.std.specs.contracts.prelude.UnitClone.TheImpl.{is_clone-value}
-use Rattle.bpaf_batteries.specs.Verbosity.{CountsOutcome}
 use Rattle.bpaf_batteries.proofs.Counting.{counts_ran, counts_spared, keys_counted}
 use Rattle.bpaf_batteries.proofs.counts.KeyCountsParserTuple2UsizeUsize.eval.Goals as goal
 
