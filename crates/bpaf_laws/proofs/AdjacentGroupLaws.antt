@@ -15,7 +15,7 @@ use Rattle.bpaf_laws.specs.AdjacentGroup.{none_tried, not_taken, all_failed, Sea
 use Rattle.bpaf_laws.specs.AdjacentGroup.{none_gave, wanted, GroupOutcome, EndsWith}
 use Rattle.bpaf_laws.specs.{RefusalNames.NamesAnswer, Spared.IsNotMemory, Spared.Spares}
 use Rattle.bpaf_laws.specs.{OneStretch.IsStretch, OneStretch.StretchReads, Counting.taken_count}
-use Rattle.bpaf_laws.proofs.Keeping.{LawfulAnswer, lawful_by, keeps_of, keeps_refl, keeps_same}
+use Rattle.bpaf_laws.proofs.Keeping.{AnswersLawfully, LawfulAnswer, lawful_by, keeps_of, keeps_refl, keeps_same}
 use Rattle.bpaf_laws.proofs.Keeping.{keeps_trans, keeps_scope}
 use Rattle.bpaf_laws.proofs.OneStretch.{between, new_in_stretch, keeps_stretch}
 use Rattle.bpaf_laws.proofs.{NamesAnswer.names_same, NamesAnswer.names_want}
@@ -118,8 +118,7 @@ pub group_lawful : {T : Type 0} {inner : Outcome T} {reads : Readings T} (first 
     → Lawful T inner reads → Lawful T (GroupOutcome T inner first) (StretchReads T reads)
 group_lawful {T} {inner} {reads} first law = lawful_by answers
   where
-    answers : (s : Situation) (r : Result T Error) (t : Situation)
-        → GroupOutcome T inner first s r t → LawfulAnswer T (StretchReads T reads) s r t
+    answers : AnswersLawfully (GroupOutcome T inner first) (StretchReads T reads)
     answers s r t (gave from a failures v left before start probe tries) =
         tries_answer law s a (Ok v) left tries
     answers s r t (none_gave from failures e left before none ends) =

@@ -1,14 +1,13 @@
 -- Arguments keep to the laws.
-use Rattle.std.specs.Prelude.{ℕ, Bool, true, false, List, Result, Ok, Err}
+use Rattle.std.specs.Prelude.{ℕ, Bool, true, false, List, Ok, Err}
 use Rattle.std.proofs.Common.{sym, subst, ⊎_elim, inl, inr}
 use Rattle.bpaf_text.specs.Named.{KeyWithValue, argument_part}
 use Rattle.bpaf_line.specs.declared.error.Message.TheVariants.{Memory, ParseFailed, ParseFailure}
 use Rattle.bpaf_line.specs.declared.error.Message.TheVariants.{NoArgument}
 use Rattle.bpaf_line.specs.{Situation.Situation, declared.error.Message.Message}
-use Rattle.bpaf_line.specs.declared.error.Error.{Error}
 use Rattle.std.specs.Option.{IsSomeRelated}
 use Rattle.bpaf_laws.specs.Laws.{Keeps, Reads, Lawful}
-use Rattle.bpaf_laws.proofs.Keeping.{LawfulAnswer, lawful_by, keeps_same, keeps_unset, newly_none}
+use Rattle.bpaf_laws.proofs.Keeping.{AnswersLawfully, lawful_by, keeps_same, keeps_unset, newly_none}
 use Rattle.bpaf_laws.proofs.Keeping.{reads_as, reads_unset}
 use Rattle.bpaf_laws.proofs.KeysTaken.{key_read, keys_keep, keys_read}
 use Rattle.bpaf_laws.proofs.NamesAnswer.{names_absence}
@@ -60,8 +59,7 @@ module _ (T : Type 0) (means : List ℕ → T → Type 0) (argument : KeyWithVal
   pub argument_lawful : Lawful T (ArgumentOutcome means argument) reads_argument
   argument_lawful = lawful_by answers
     where
-      answers : (s : Situation) (r : Result T Error) (t : Situation)
-          → ArgumentOutcome means argument s r t → LawfulAnswer T reads_argument s r t
+      answers : AnswersLawfully (ArgumentOutcome means argument) reads_argument
       answers s (Ok v) t (text, inl takes, meant) =
           reads_as (got_text argument s text t argument.last takes)
           (λ own. inl (text, own, meant))

@@ -4,7 +4,8 @@ use Rattle.std.proofs.Common.{arith, sym, inl, inr}
 use Rattle.bpaf_line.specs.declared.error.Error.{Error}
 use Rattle.bpaf_line.specs.{Situation.Situation, Conflicts.ConflictsSaved, Combining.Combines}
 use Rattle.bpaf_laws.proofs.NamesAnswer.{names_combined, names_want}
-use Rattle.bpaf_laws.proofs.Keeping.{LawfulAnswer, lawful_answer, lawful_by, keeps_refl, keeps_same}
+use Rattle.bpaf_laws.proofs.Keeping.{AnswersLawfully, LawfulAnswer, lawful_answer, lawful_by}
+use Rattle.bpaf_laws.proofs.Keeping.{keeps_refl, keeps_same}
 use Rattle.bpaf_laws.proofs.Keeping.{reads_as, reads_conflicts}
 use Rattle.bpaf_laws.specs.Choice.{AnsweredBranch, branch_of, depth, Winner, EqualDepths, Chosen}
 use Rattle.bpaf_laws.specs.Choice.{BranchesEval, ChoiceOutcome, ChoiceReads}
@@ -71,25 +72,20 @@ chosen_at_equal s a sa b sb r t same (inr (inr equal)) = equal.1
 
 module _ {T : Type 0} {first second : Outcome T} {rf rs : Readings T} (lf : Lawful T first rf)
     (ls : Lawful T second rs) where
-  -- what the laws say of an answer of the choice
-  abbrev IsLawful : Situation → Result T Error → Situation → Type 0
-  IsLawful = LawfulAnswer T (ChoiceReads rf rs)
-
   -- what the first branch may answer the choice may
-  of_first : (s : Situation) (r : Result T Error) (t : Situation) → first s r t → IsLawful s r t
+  of_first : AnswersLawfully first (ChoiceReads rf rs)
   of_first s (Ok v) t o = reads_as (lf.ok s t v o) inl
   of_first s (Err e) t o = lawful_answer lf s (Err e) t o
 
   -- so it is with the second
-  of_second : (s : Situation) (r : Result T Error) (t : Situation) → second s r t → IsLawful s r t
+  of_second : AnswersLawfully second (ChoiceReads rf rs)
   of_second s (Ok v) t o = reads_as (ls.ok s t v o) inr
   of_second s (Err e) t o = lawful_answer ls s (Err e) t o
 
   -- so is the answer of branches that were evaluated
-  evaluated : (s : Situation) (r : Result T Error) (t : Situation)
-      → BranchesEval first second s r t → IsLawful s r t
+  evaluated : AnswersLawfully (BranchesEval first second) (ChoiceReads rf rs)
   evaluated s r t o =
-      of_chosen s (IsLawful s)
+      of_chosen s (LawfulAnswer T (ChoiceReads rf rs) s)
       (λ v m loser place t saved read.
       reads_conflicts (ChoiceReads rf rs) s m loser place v t saved read)
       (λ e m refused. (keeps_refl s, refused.1))
@@ -102,8 +98,7 @@ module _ {T : Type 0} {first second : Outcome T} {rf rs : Readings T} (lf : Lawf
   pub choice_lawful : Lawful T (ChoiceOutcome first second) (ChoiceReads rf rs)
   choice_lawful = lawful_by answers
     where
-      answers : (s : Situation) (r : Result T Error) (t : Situation)
-          → ChoiceOutcome first second s r t → IsLawful s r t
+      answers : AnswersLawfully (ChoiceOutcome first second) (ChoiceReads rf rs)
       answers s (Ok v) t o = evaluated s (Ok v) t o
       answers s (Err e) t (inl o) = evaluated s (Err e) t o
       answers s (Err e) t (inr want) = (keeps_same s t want.1, names_want e.0 want.0)

@@ -1,5 +1,5 @@
 -- Flags keep to the laws.
-use Rattle.std.specs.Prelude.{◌≡◌, ℕ, Bool, true, false, List, Option, Result, Ok, Err}
+use Rattle.std.specs.Prelude.{◌≡◌, ℕ, Bool, true, false, List, Option, Ok, Err}
 use Rattle.std.specs.Option.{is_some, IsSomeRelated}
 use Rattle.std.proofs.Common.{sym, subst, inl, inr, arith}
 use Rattle.bpaf_doc.specs.Names.{Names}
@@ -10,9 +10,8 @@ use Rattle.bpaf_line.proofs.Matches.{match_is_open, match_has_item}
 use Rattle.bpaf_line.specs.declared.error.Message.TheVariants.{Memory, ParseFailure}
 use Rattle.bpaf_line.specs.{Taking.TakesFlag, declared.error.Message.Message}
 use Rattle.bpaf_laws.specs.Laws.{Keeps, Reads, Lawful}
-use Rattle.bpaf_laws.proofs.Keeping.{LawfulAnswer, lawful_by, keeps_same, keeps_take, reads_same}
+use Rattle.bpaf_laws.proofs.Keeping.{AnswersLawfully, lawful_by, keeps_same, keeps_take, reads_same}
 use Rattle.bpaf_laws.proofs.Keeping.{closes_take, newly_none}
-use Rattle.bpaf_line.specs.declared.error.Error.{Error}
 use Rattle.bpaf_laws.proofs.{NamesAnswer.names_absence, Keeping.newly_take}
 use Rattle.bpaf_laws.specs.Flag.{FlagReads, at_key, nowhere, value_without_key, FlagOutcome}
 use Rattle.bpaf_laws.specs.Flag.{FlagFails, IsPresent}
@@ -76,8 +75,7 @@ module _ (T : Type 0) (clones : T → T → Type 0) (named : Named) (present : T
   pub flag_lawful : Lawful T (FlagOutcome clones named present absent) reads_flag
   flag_lawful = lawful_by answers
     where
-      answers : (s : Situation) (r : Result T Error) (t : Situation)
-          → FlagOutcome clones named present absent s r t → LawfulAnswer T reads_flag s r t
+      answers : AnswersLawfully (FlagOutcome clones named present absent) reads_flag
       answers s (Ok v) t (inl (inl takes, value)) = flag_found s t v takes value
       answers s (Ok v) t (inl (inr set, value)) = reads_same reads_flag s t v set.0.1
           (nowhere (newly_none s) (kept_set (first_set s.context.env named.envs) v set.1 value))

@@ -28,21 +28,23 @@ abbrev pub LawfulAnswer : (T : Type 0) → Readings T → Situation → Result T
 LawfulAnswer T reads s (Ok v) t = Reads T reads s v t
 LawfulAnswer T reads s (Err e) t = Keeps s t × NamesAnswer e.0
 
--- they hold where each answer is as they say
+-- each answer is as they say
+abbrev pub AnswersLawfully : {T : Type 0} → Outcome T → Readings T → Type 0
+AnswersLawfully {T} outcome reads = (s : Situation) (r : Result T Error) (t : Situation)
+    → outcome s r t → LawfulAnswer T reads s r t
+
+-- then they hold
 pub lawful_by : {T : Type 0} {outcome : Outcome T} {reads : Readings T}
-    → ((s : Situation) (r : Result T Error) (t : Situation) → outcome s r t
-    → LawfulAnswer T reads s r t)
-    → Lawful T outcome reads
+    → AnswersLawfully outcome reads → Lawful T outcome reads
 lawful_by answers = record {
   ok = λ s t v o. answers s (Ok v) t o;
   err = λ s t e o. (answers s (Err e) t o).0;
   named = λ s t e o. (answers s (Err e) t o).1;
 }
 
--- and then each is
+-- and where they hold each answer is so
 pub lawful_answer : {T : Type 0} {outcome : Outcome T} {reads : Readings T}
-    → Lawful T outcome reads → (s : Situation) (r : Result T Error) (t : Situation)
-    → outcome s r t → LawfulAnswer T reads s r t
+    → Lawful T outcome reads → AnswersLawfully outcome reads
 lawful_answer law s (Ok v) t o = law.ok s t v o
 lawful_answer law s (Err e) t o = (law.err s t e o, law.named s t e o)
 

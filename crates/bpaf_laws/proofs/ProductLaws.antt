@@ -1,8 +1,8 @@
 -- Products keep to the laws where their fields do.
 use Rattle.std.specs.Prelude.{true, false, Result, Ok, Err, None, if◌then◌else◌}
-use Rattle.std.proofs.Common.{sym, subst, inl, inr}
+use Rattle.std.proofs.Common.{inl, inr}
 use Rattle.bpaf_line.specs.{Situation.Situation, Messages.is_memory, declared.error.Error.Error}
-use Rattle.bpaf_laws.proofs.Keeping.{LawfulAnswer, lawful_answer, lawful_by, reads_both}
+use Rattle.bpaf_laws.proofs.Keeping.{AnswersLawfully, LawfulAnswer, lawful_answer, lawful_by, reads_both}
 use Rattle.bpaf_laws.proofs.Keeping.{keeps_trans, keeps_current}
 use Rattle.bpaf_laws.specs.Product.{BothReads, BothEval, BothOutcome, FailFastOutcome, joined}
 use Rattle.bpaf_laws.specs.{Product.ProductOutcome, Laws.Lawful, Transform.MapReads}
@@ -10,13 +10,9 @@ use Rattle.bpaf_laws.specs.Reading.{Readings, Outcome}
 
 module _ {A B : Type 0} {first : Outcome A} {rest : Outcome B} {rf : Readings A} {rr : Readings B}
     (la : Lawful A first rf) (lb : Lawful B rest rr) where
-  -- what the laws say of an answer of both
-  abbrev BothAnswers : Situation → Result (A × B) Error → Situation → Type 0
-  BothAnswers = LawfulAnswer (A × B) (BothReads A B rf rr)
-
   -- the answers of fields that were evaluated one after the other are one of both
   joined_answers : (s m t : Situation) (a : Result A Error) (b : Result B Error) → first s a m
-      → rest m b t → BothAnswers s (joined a b) t
+      → rest m b t → LawfulAnswer (A × B) (BothReads A B rf rr) s (joined a b) t
   joined_answers s m t (Ok x) (Ok y) f g = reads_both (la.ok s m x f) (lb.ok m t y g)
   joined_answers s m t (Ok x) (Err e) f g =
       (keeps_trans s m t (la.ok s m x f).keeps (lb.err m t e g), lb.named m t e g)
@@ -24,19 +20,16 @@ module _ {A B : Type 0} {first : Outcome A} {rest : Outcome B} {rf : Readings A}
       (keeps_trans s m t (la.err s m d f) (lb.ok m t y g).keeps, la.named s m d f)
   joined_answers s m t (Err d) (Err e) f g =
       let kept = keeps_trans s m t (la.err s m d f) (lb.err m t e g) in
-      elim (is_memory e.0) as (λ z. BothAnswers s (if z then Err e else Err d) t)
+      elim (is_memory e.0)
+      as (λ z. LawfulAnswer (A × B) (BothReads A B rf rr) s (if z then Err e else Err d) t)
       [ true ↦ (kept, lb.named m t e g) | false ↦ (kept, la.named s m d f) ]
 
   -- so is that of an evaluation of both
-  both_ran : (s : Situation) (r : Result (A × B) Error) (t : Situation)
-      → BothEval A B first rest s r t → BothAnswers s r t
-  both_ran s r t o =
-      subst (λ x. BothAnswers s x t) (sym o.answer)
-      (joined_answers s o.middle t o.a o.b o.first_ran o.rest_ran)
+  both_ran : AnswersLawfully (BothEval A B first rest) (BothReads A B rf rr)
+  both_ran s r t o = rw o.answer (joined_answers s o.middle t o.a o.b o.first_ran o.rest_ran)
 
   -- also where want of memory is the answer at once
-  both_answers : (s : Situation) (r : Result (A × B) Error) (t : Situation)
-      → BothOutcome first rest s r t → BothAnswers s r t
+  both_answers : AnswersLawfully (BothOutcome first rest) (BothReads A B rf rr)
   both_answers s (Ok v) t o = both_ran s (Ok v) t o
   both_answers s (Err e) t (inl o) = both_ran s (Err e) t o
   both_answers s (Err e) t (inr stopped) = lawful_answer la s (Err e) t stopped.0
@@ -46,8 +39,7 @@ module _ {A B : Type 0} {first : Outcome A} {rest : Outcome B} {rf : Readings A}
   both_lawful = lawful_by both_answers
 
   -- an answer where a failing first field is the end
-  fail_fast_answers : (s : Situation) (r : Result (A × B) Error) (t : Situation)
-      → FailFastOutcome first rest s r t → BothAnswers s r t
+  fail_fast_answers : AnswersLawfully (FailFastOutcome first rest) (BothReads A B rf rr)
   fail_fast_answers s (Ok v) t o = joined_answers s o.0 t (Ok v.0) (Ok v.1) o.1 o.2
   fail_fast_answers s (Err e) t (inl failed) = lawful_answer la s (Err e) t failed
   fail_fast_answers s (Err e) t (inr o) = joined_answers s o.1 t (Ok o.0) (Err e) o.2 o.3
@@ -62,8 +54,7 @@ pub product_lawful : {V T : Type 0} {fields : Outcome V} {reads : Readings V}
     → Lawful T (ProductOutcome fields makes) (MapReads V T reads makes)
 product_lawful {V} {T} {fields} {reads} makes l = lawful_by answers
   where
-    answers : (s : Situation) (r : Result T Error) (t : Situation)
-        → ProductOutcome fields makes s r t → LawfulAnswer T (MapReads V T reads makes) s r t
+    answers : AnswersLawfully (ProductOutcome fields makes) (MapReads V T reads makes)
     answers s (Ok v) t o =
         let r = l.ok s o.0 o.1 o.2 in
         rw o.4 (record {

@@ -1,17 +1,17 @@
 -- Repeats keep to the laws where the inner parser does, and are bounded.
 use Rattle.std.specs.Prelude.{◌≡◌, ℕ, ◌+◌, ◌<◌, ◌≤◌, Bool, true, false, ◌&&◌, if◌then◌else◌, List}
-use Rattle.std.specs.Prelude.{[], ◌∷◌, ◌++◌, length, Result, Ok, Err, Some, None, refl}
+use Rattle.std.specs.Prelude.{[], ◌∷◌, ◌++◌, length, Ok, Err, Some, None, refl}
 use Rattle.std.specs.Global.{Vec}
 use Rattle.std.proofs.Common.{sym, ◌∙◌, ap, subst, ⊎_elim, inl, inr, arith, true≢false}
 use Rattle.bpaf_laws.specs.Reading.{Readings, Outcome, HasPlace}
 use Rattle.bpaf_laws.specs.Laws.{Keeps, Reads, Lawful}
-use Rattle.bpaf_laws.proofs.Keeping.{LawfulAnswer, lawful_answer, lawful_by, keeps_refl, keeps_trans}
+use Rattle.bpaf_laws.proofs.Keeping.{AnswersLawfully, lawful_answer, lawful_by, keeps_refl, keeps_trans}
 use Rattle.bpaf_laws.proofs.Keeping.{reads_as, reads_both, reads_same, newly_none}
 use Rattle.bpaf_laws.proofs.CountingLaws.{open_count-falls, fewer_took, same_took_none}
 use Rattle.bpaf_laws.proofs.{DefaultLaws.step_refuses, TransformLaws.made_lawful}
 use Rattle.bpaf_laws.proofs.NamesAnswer.{names_same, names_want}
 use Rattle.bpaf_line.specs.declared.error.Message.TheVariants.{Memory, ParseSome}
-use Rattle.bpaf_line.specs.{Situation.Situation, Situation.open_count, declared.error.Error.Error}
+use Rattle.bpaf_line.specs.{Situation.Situation, Situation.open_count}
 use Rattle.bpaf_laws.specs.Repeat.{is_nil, Turns, UntilRest, UntilFault}
 use Rattle.bpaf_laws.specs.Repeat.{stops, rests, ListOutcome, EachReads, ListReads, ManyOutcome}
 use Rattle.bpaf_laws.specs.Repeat.{SomeOutcome, CollectOutcome, CountOutcome, LastOutcome}
@@ -98,8 +98,7 @@ module _ {T : Type 0} {inner : Outcome T} {reads : Readings T} (law : Lawful T i
   list_lawful : Lawful (List T) (ListOutcome inner catches) (ListReads reads)
   list_lawful = lawful_by answers
     where
-      answers : (s : Situation) (r : Result (List T) Error) (t : Situation)
-          → ListOutcome inner catches s r t → LawfulAnswer (List T) (ListReads reads) s r t
+      answers : AnswersLawfully (ListOutcome inner catches) (ListReads reads)
       answers s (Ok []) t run =
           subst (λ w. Reads (List T) (ListReads reads) w [] t) (sym run.steps)
           (reads_as (stop_reads true run.last t run.stop) (λ none. none))
@@ -203,8 +202,7 @@ module _ {T : Type 0} {inner : Outcome T} {reads : Readings T} (law : Lawful T i
   rest_lawful : Lawful (List T) RestOutcome (ListReads reads)
   rest_lawful = lawful_by answers
     where
-      answers : (s : Situation) (r : Result (List T) Error) (t : Situation) → RestOutcome s r t
-          → LawfulAnswer (List T) (ListReads reads) s r t
+      answers : AnswersLawfully RestOutcome (ListReads reads)
       answers s (Ok vs) t (stops run) = (list_lawful law false).ok s t vs (record {
         last = run.last;
         steps = any_first inner false s vs run.last run.steps;
@@ -230,9 +228,8 @@ module _ {T : Type 0} {inner : Outcome T} {reads : Readings T} (law : Lawful T i
       (λ values v. (before : List T) × (values ≡ before ++ v ∷ [])))
   last_lawful = lawful_by answers
     where
-      answers : (s : Situation) (r : Result T Error) (t : Situation) → LastOutcome inner s r t
-          → LawfulAnswer T (MapReads (List T) T (ListReads reads)
-          (λ values w. (before : List T) × (values ≡ before ++ w ∷ []))) s r t
+      answers : AnswersLawfully (LastOutcome inner) (MapReads (List T) T (ListReads reads)
+          (λ values w. (before : List T) × (values ≡ before ++ w ∷ [])))
       answers s (Ok v) t (inl run) = reads_as (rest_lawful.ok s t (run.0 ++ v ∷ []) run.1)
           (λ read. record { from = run.0 ++ v ∷ []; read = read; made = (run.0, refl) })
       answers s (Ok v) t (inr again) =

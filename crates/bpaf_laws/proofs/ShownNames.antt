@@ -1,6 +1,6 @@
 -- Which short names each type shows, by those that its inner parsers show.
 use Rattle.std.proofs.Common.{◌≡◌, List, [], ◌∷◌, ◌++◌, ℕ, Option, Some, None, refl, sym, ap, ap₂}
-use Rattle.std.proofs.Common.{Result, ◌∙◌, append_assoc, append-nil, flat_map, arith}
+use Rattle.std.proofs.Common.{Result, ◌∙◌, append_assoc, append-nil, arith}
 use Rattle.std.specs.declared.alloc.AllocError.{AllocError}
 use Rattle.std.proofs.lemmas.List.Concat.{flat_map-append}
 use Rattle.bpaf_doc.specs.Shape.{Adjacent, Shown, Shape, Shapes, Or, Optional, Required, Many, Part}
@@ -165,19 +165,13 @@ module _ {P : Type 0} (describes : P → Shape → Type 0) (names : P → ShortN
       → (ps : List P) → ShowsNames (Nested ChoiceDescribes describes before ps)
       (joined_shorts own (all_shorts names ps))
   nested_shows before own first [] = record {
-    each = λ shape is. first.each shape is
-        ∙ ap₂ (λ flags arguments. record { flags = flags; arguments = arguments })
-        (sym (append-nil own.flags)) (sym (append-nil own.arguments));
+    each = λ shape is. first.each shape is ∙ grind (arith, append-nil {A = ℕ});
   }
   nested_shows before own first (p ∷ ps) =
       let more = nested_shows (ChoiceDescribes before (describes p)) (joined_shorts own (names p))
       (choice_shows first (each p)) ps in
       record {
-        each = λ shape is. more.each shape is
-            ∙ ap₂ (λ flags arguments. record { flags = flags; arguments = arguments })
-            (append_assoc own.flags (names p).flags (flat_map (λ p. (names p).flags) ps))
-            (append_assoc own.arguments (names p).arguments
-            (flat_map (λ p. (names p).arguments) ps));
+        each = λ shape is. more.each shape is ∙ grind (arith, append_assoc {A = ℕ});
       }
 
   -- a choice of any number
