@@ -127,11 +127,7 @@ keeps_trans s m t a b = record {
 
 -- a place left outside by either is taken after both
 pub closes_trans : (s m t : Situation) → Keeps m t → Closes s m → Closes m t → Closes s t
-closes_trans s m t k a b p inside outside = closes_at (in_scope m p) refl
-  where
-    closes_at : (x : Bool) → in_scope m p ≡ x → is_taken t p ≡ true
-    closes_at true e = b p e outside
-    closes_at false e = k.stays p (a p inside e)
+closes_trans s m t k a b p inside outside = grind (arith, k.stays, a, b)
 
 -- at one place: what is newly taken in two steps is newly taken in one of them, and not in both
 joined_at : (x y z : Bool) → (x ≡ true → y ≡ true) → (y ≡ true → z ≡ true)
@@ -210,13 +206,7 @@ reads_unset {T} reads s t v unset read =
 
 -- after a place was taken it is that place that is taken, or what was
 taken_after : (s : Situation) (p q : ℕ) → is_taken (take_place s p) q ≡ (q == p || is_taken s q)
-taken_after s p q = ⊎_elim
-    (λ (same : q ≡ p).
-    rw same (taken_here s p ∙ sym (or_left (p == p) (is_taken s p) (grind (arith, nat_tests)))))
-    (λ (other : q ≢ p).
-    let elsewhere : (q == p) ≡ false = grind (arith, nat_tests) in
-    taken_other s p q other ∙ ap (λ b. b || is_taken s q) (sym elsewhere))
-    (cases_eq q p)
+taken_after s p q = grind (arith, nat_tests, taken_here, taken_other)
 
 -- a present place of the scope is taken: that place is newly taken, and no other
 pub newly_take : (s : Situation) (p : ℕ) → is_open s p ≡ true → IsPlace p (newly s (take_place s p))

@@ -111,8 +111,7 @@ module _ (argument : KeyWithValue) (s : Situation) (text : List ℕ) (t : Situat
 
   -- a key that is there later is none of these
   is_left : (p : ℕ) → is_match test t p ≡ true → (p ≡ takes.key) ⊎ (p ≡ takes.key + 1) → ⊥
-  is_left p there at =
-      true≢false (sym there ∙ ap (λ item. option_map_or test item false) (none_left p at))
+  is_left p there at = let none = none_left p at in grind arith
 
   -- and was there at first
   pub key_before : (p : ℕ) → is_match test t p ≡ true → is_match test s p ≡ true
@@ -152,10 +151,7 @@ texts_more argument s m t (x ∷ texts) text o takes =
 -- the places behind one place, and behind others: the next one, and those
 behind_more : (key : ℕ) (keys : Share) (p : ℕ)
     → behind (λ q. q == key || keys q) p ≡ (p == key + 1 || behind keys p)
-behind_more key keys zero = grind (arith, nat_tests)
-behind_more key keys (suc p) =
-    let next : (suc p == key + 1) ≡ (p == key) = grind (arith, nat_tests) in
-    rw next refl
+behind_more key keys p = grind (arith, nat_tests)
 
 -- at one place: a pair and pairs of others are pairs of all of them
 pairs_joined : (key : ℕ) (keys : Share) (p : ℕ) (first rest : Bool)

@@ -17,14 +17,7 @@ differ x y opposite same = grind arith
 
 -- there is one leftmost place at most
 one_leftmost : (s other : Situation) (p q : ℕ) → IsLeftmost s other p → IsLeftmost s other q → q ≡ p
-one_leftmost s other p q a b = ⊎_elim
-    (λ (before : p < q). absurd (differ (is_taken s p) (is_taken other p) a.differs
-    (b.first p before)))
-    (λ (behind : q ≤ p). ⊎_elim
-    (λ (same : q ≡ p). same)
-    (λ (apart : q ≢ p). absurd (differ (is_taken s q) (is_taken other q) b.differs
-    (a.first q (omega arith))))
-    (cases_eq q p)) (cases_lt p q)
+one_leftmost s other p q a b = grind (arith, a.first, b.first)
 
 -- the chosen one of two answers took the leftmost place taken by only one of them; without one the
 -- first is chosen

@@ -21,8 +21,7 @@ use Rattle.bpaf_laws.specs.{Turn.TurnOutcome, Transform.MapReads}
 -- a value after the first took an item
 pub took_item : {T : Type 0} (inner : Outcome T) (catches : Bool) (s m : Situation) (v : T)
     → TurnOutcome inner catches false s (Ok (Some v)) m → open_count m < open_count s
-took_item inner catches s m v o =
-    ⊎_elim (λ is_first. absurd (true≢false (sym is_first))) (λ fewer. fewer) o.1
+took_item inner catches s m v o = grind arith
 
 -- turns of which each took an item are turns of a repeat
 pub any_first : {T : Type 0} (inner : Outcome T) (catches : Bool) (s : Situation) (vs : List T)
@@ -180,11 +179,10 @@ module _ {T : Type 0} {inner : Outcome T} {reads : Readings T} (law : Lawful T i
   pub step_falls : (first : Bool) (s : Situation) (v : T) (t : Situation)
       → TurnOutcome inner catches first s (Ok (Some v)) t
       → open_count t < open_count s + (if first then 1 else 0)
-  step_falls true s v t o =
+  step_falls first s v t o =
       let here = law.ok s t v o.0 in
       let falls = open_count-falls s t here.keeps here.closed in
-      omega arith
-  step_falls false s v t o = let fewer = took_item inner catches s t v o in omega arith
+      grind arith
 
 module _ {T : Type 0} {inner : Outcome T} {reads : Readings T} (law : Lawful T inner reads) where
   -- one value, and then nothing
