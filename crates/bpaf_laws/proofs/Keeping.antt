@@ -1,11 +1,11 @@
 -- How what evaluations keep is put together. No combinator builds a `Keeps` of its own: it goes
 -- through these lemmas and one for each call of a state, so that a clause can be added to the laws
 -- here.
-use Rattle.std.specs.Prelude.{◌≡◌, ◌≢◌, ℕ, ◌+◌, ◌==◌, Bool, true, false, not, ◌&&◌, ◌||◌, List, []}
+use Rattle.std.specs.Prelude.{◌≡◌, ℕ, ◌+◌, ◌==◌, Bool, true, false, not, ◌&&◌, ◌||◌, List, []}
 use Rattle.std.specs.Prelude.{◌∷◌, ◌++◌, Result, Ok, Err, Option, None, refl}
-use Rattle.std.proofs.Common.{sym, ◌∙◌, ap, subst, append_assoc, append-nil, arith, ⊎_elim}
+use Rattle.std.proofs.Common.{sym, ◌∙◌, ap, subst, append_assoc, append-nil, arith}
 use Rattle.std.proofs.Common.{true≢false}
-use Rattle.std.proofs.lemmas.Bool.{cases_eq, or_left, Decides.nat_tests}
+use Rattle.std.proofs.lemmas.Bool.{Decides.nat_tests}
 use Rattle.bpaf_line.specs.Situation.{Situation, Context, is_taken, is_open, in_scope, take_place}
 use Rattle.bpaf_line.specs.Situation.{with_scope, with_path, with_current}
 use Rattle.bpaf_line.proofs.Marks.{keeps_marks_refl, keeps_marks_trans, keeps_marks_take}
@@ -71,10 +71,7 @@ lawful_as law also = record {
 
 -- nothing is newly taken since the same situation
 pub newly_none : (s : Situation) → IsEmptyShare (newly s s)
-newly_none s p = never (is_taken s p)
-  where
-    never : (x : Bool) → (x && not x) ≡ false
-    never x = grind arith
+newly_none s p = grind arith
 
 -- nothing changes
 pub keeps_refl : (s : Situation) → Keeps s s

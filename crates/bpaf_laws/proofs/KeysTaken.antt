@@ -30,15 +30,11 @@ key_is_no_value argument item key = grind arith
 -- where an item of an open place passes the test, there is a match
 match_there : (test : Arg → Bool) (s : Situation) (p : ℕ) → is_open s p ≡ true
     → HasItem test s.context p → is_match test s p ≡ true
-match_there test s p there has =
-    ap (λ b. option_map_or test (if b then item_at s p else None) false) there ∙ has
+match_there test s p there has = grind arith
 
 -- at a taken place no item is present
 none_open : (s : Situation) (p : ℕ) → is_taken s p ≡ true → open_item s p ≡ None
-none_open s p taken = closed (in_scope s p) (is_taken s p) (item_at s p) taken
-  where
-    closed : (a b : Bool) (at : Option Arg) → b ≡ true → (if a && not b then at else None) ≡ None
-    closed a b at taken = grind arith
+none_open s p taken = grind arith
 
 module _ (argument : KeyWithValue) (s : Situation) (text : List ℕ) (t : Situation)
     (takes : TakesKeyWithText argument s text t) where
@@ -115,8 +111,7 @@ module _ (argument : KeyWithValue) (s : Situation) (text : List ℕ) (t : Situat
 
   -- and was there at first
   pub key_before : (p : ℕ) → is_match test t p ≡ true → is_match test s p ≡ true
-  key_before p there = ⊎_elim (λ at. absurd (is_left p there at))
-      (λ same. ap (λ item. option_map_or test item false) (sym same) ∙ there) (one_of_two p)
+  key_before p there = let step = one_of_two p in grind (arith, is_left p there)
 
   -- with the text behind it that it has
   pub value_before : (p : ℕ) → is_match test t p ≡ true → value_after s p ≡ value_after t p
@@ -130,14 +125,11 @@ module _ (argument : KeyWithValue) (s : Situation) (text : List ℕ) (t : Situat
 
   -- a key that is gone later is the one that was taken
   pub gone_key : (p : ℕ) → is_match test s p ≡ true → is_match test t p ≡ false → p ≡ takes.key
-  gone_key p there gone = ⊎_elim
-      (λ at. ⊎_elim (λ key. key) (λ behind.
-      let none = key_is_no_value argument (open_item s (takes.key + 1))
-      (ap (is_match test s) (sym behind) ∙ there) in
+  gone_key p there gone =
+      let step = one_of_two p in
+      let none = key_is_no_value argument (open_item s (takes.key + 1)) in
       let value = takes.value in
-      absurd cc) at)
-      (λ same. absurd (true≢false
-      (sym there ∙ (ap (λ item. option_map_or test item false) (sym same) ∙ gone)))) (one_of_two p)
+      grind arith
 
 -- one key more, behind those that were taken
 pub texts_more : (argument : KeyWithValue) (s m t : Situation) (texts : List (List ℕ))
@@ -157,12 +149,7 @@ behind_more key keys p = grind (arith, nat_tests)
 pairs_joined : (key : ℕ) (keys : Share) (p : ℕ) (first rest : Bool)
     → first ≡ (p == key || p == key + 1) → rest ≡ (keys p || behind keys p)
     → (first || rest) ≡ ((p == key || keys p) || behind (λ q. q == key || keys q) p)
-pairs_joined key keys p first rest a b =
-    rw (a, b, behind_more key keys p)
-    (other_order (p == key) (p == key + 1) (keys p) (behind keys p))
-  where
-    other_order : (a b c d : Bool) → ((a || b) || (c || d)) ≡ ((a || c) || (b || d))
-    other_order a b c d = grind arith
+pairs_joined key keys p first rest a b = let more = behind_more key keys p in grind arith
 
 module _ (argument : KeyWithValue) where
   -- what was read of one key

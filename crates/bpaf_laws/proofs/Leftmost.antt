@@ -1,5 +1,5 @@
 -- The leftmost place that only one of two branches took belongs to the chosen one.
-use Rattle.std.proofs.Common.{◌≡◌, ◌≢◌, ◌⊎◌, ℕ, ◌<◌, ◌≤◌, Bool, true, false, not, ◌&&◌, Result, Ok}
+use Rattle.std.proofs.Common.{◌≡◌, ◌⊎◌, ℕ, ◌≤◌, Bool, true, false, not, ◌&&◌, Result, Ok}
 use Rattle.std.proofs.Common.{Err, Option, Some, None, IsOk, sym, ◌∙◌, ap, arith, inl, inr}
 use Rattle.bpaf_line.specs.Conflicts.{IsLeftmost, TakeTheSame, IsWinner}
 use Rattle.bpaf_line.specs.Situation.{Situation, is_taken, open_count}
@@ -8,7 +8,7 @@ use Rattle.bpaf_laws.specs.Choice.{AnsweredBranch, branch_of, depth, Stands, Win
 use Rattle.bpaf_laws.specs.Choice.{IsChosen, TookAndIsChosen, ChoiceOutcome, LeftmostWins}
 use Rattle.bpaf_laws.specs.{Reading.Readings, Reading.Outcome, Laws.Lawful, Turn.is_untouched}
 use Rattle.bpaf_laws.proofs.{ChoiceLaws.chosen_at_equal, CountingLaws.same_took_none}
-use Rattle.std.proofs.{Common.⊎_elim, Common.true≢false, lemmas.Bool.cases_lt, lemmas.Bool.cases_eq}
+use Rattle.std.proofs.{Common.true≢false}
 use Rattle.std.proofs.lemmas.Bool.{and_parts, Decides.nat_tests}
 
 -- a test doesn't agree with its opposite

@@ -1,7 +1,7 @@
 -- Messages that are the answer of no run inside, or of one whose answer has a name.
 use Rattle.std.specs.Prelude.{◌≡◌, ℕ, Bool, true, false, List, Option, Some}
 use Rattle.std.specs.Prelude.{if◌then◌else◌, refl}
-use Rattle.std.proofs.Common.{sym, subst, ⊎_elim, true≢false, arith}
+use Rattle.std.proofs.Common.{sym, subst, ⊎_elim, true≢false, arith, arith}
 use Rattle.bpaf_doc.specs.{declared.doc.Piece.Piece, Shape.Part}
 use Rattle.bpaf_line.specs.declared.error.Message.TheVariants.{Memory, Missing, ParseFailure}
 use Rattle.bpaf_line.specs.Combining.{Combines, CombinesSpared}
@@ -69,9 +69,7 @@ name_of m other = (_, refl)
 -- no message but the answer of an inner run shows something
 pub shows_nothing : (m : Message) (s : Situation) (doc : List Piece) (full : Bool)
     → is_answer m ≡ false → ¬ (Renders m s (failure.Stdout doc full))
-shows_nothing Memory s doc full other tells = cc
-shows_nothing (ParseFailure inner) s doc full other tells = absurd (true≢false other)
-shows_nothing m s doc full other tells = tells
+shows_nothing m s doc full other tells = grind arith
 
 -- so has what is told of it
 pub told_has_name : (m : Message) (s : Situation) (f : Failure) → is_answer m ≡ false

@@ -1,11 +1,11 @@
 -- A turn catches no want of memory, and where it stops it takes nothing.
-use Rattle.std.proofs.Common.{◌≡◌, Bool, true, false, not, Result, Ok, Err, Option, Some, None, inl}
-use Rattle.std.proofs.Common.{inr, true≢false}
-use Rattle.std.proofs.lemmas.Bool.{and_parts, both_ways, not-true}
+use Rattle.std.proofs.Common.{◌≡◌, Bool, true, false, Result, Ok, Err, Option, Some, None, inl}
+use Rattle.std.proofs.Common.{inr, true≢false, arith}
+use Rattle.std.proofs.lemmas.Bool.{both_ways}
 use Rattle.bpaf_line.specs.declared.error.Message.{Message}
 use Rattle.bpaf_line.specs.{declared.error.Error.Error, Messages.is_memory, Situation.Situation}
 use Rattle.bpaf_laws.specs.Spared.{Spares, WithoutMemory, NoneTakesNothing}
-use Rattle.bpaf_laws.specs.{Reading.Outcome, Turn.TurnOutcome, Turn.stops_step, Turn.stops_spared}
+use Rattle.bpaf_laws.specs.{Reading.Outcome, Turn.TurnOutcome, Turn.stops_step}
 
 -- what isn't want of memory comes of an inner answer that isn't want of memory either
 abbrev pub CatchesNoMemory : {T R : Type 0} → (Outcome T → Outcome R) → Outcome T → Type 0
@@ -14,9 +14,7 @@ CatchesNoMemory combined inner = Spares (combined inner) (combined (WithoutMemor
 -- an error at which a turn stops isn't want of memory
 pub stop_spared : (catches : Bool) (m : Message) (untouched : Bool)
     → stops_step catches m untouched ≡ true → is_memory m ≡ false
-stop_spared catches m untouched stops =
-    not-true (is_memory m) (and_parts (not (is_memory m))
-    (stops_spared catches m untouched) stops).0
+stop_spared catches m untouched stops = grind arith
 
 module _ {T : Type 0} (inner : Outcome T) where
   -- a turn catches no want of memory
