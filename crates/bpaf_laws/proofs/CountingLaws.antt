@@ -1,40 +1,30 @@
 -- Counting what an evaluation newly took.
-use Rattle.std.proofs.Common.{◌≡◌, ℕ, zero, suc, ◌+◌, ◌<◌, ◌≤◌, Bool, true, false, not, ◌&&◌, ◌||◌}
+use Rattle.std.proofs.Common.{◌≡◌, ℕ, zero, suc, ◌+◌, ◌<◌, ◌≤◌, Bool, true, false, ◌&&◌, ◌||◌}
 use Rattle.std.proofs.Common.{if◌then◌else◌, length, refl, sym, ap, ◌∙◌, ⊎_elim, arith}
 use Rattle.std.proofs.lemmas.Bool.{cases_eq, cases_lt, false_from_ne_true}
-use Rattle.bpaf_line.specs.Situation.{Situation, is_taken, is_open, in_scope, count_below}
+use Rattle.bpaf_line.specs.Situation.{Situation, is_open, count_below}
 use Rattle.bpaf_line.specs.Situation.{open_count}
 use Rattle.bpaf_line.proofs.Places.{open_in_line}
 use Rattle.bpaf_laws.specs.Reading.{Outcome, Readings, Joins, IsEmptyShare, HasPlace}
 use Rattle.bpaf_laws.specs.Laws.{Keeps, Closes, Lawful, newly}
 use Rattle.bpaf_laws.specs.Counting.{taken_count, CountFalls}
 
--- with one number more, two sets apart still have together as many as the whole
-join_at : (w x y : Bool) (a b c : ℕ) → w ≡ (x || y) → (x && y) ≡ false → a ≡ b + c
-    → (if w then (a + 1) else a) ≡ (if x then (b + 1) else b) + (if y then (c + 1) else c)
-join_at w x y a b c p q e = grind arith
-
 -- two sets that have no number in common have together as many as the set that they make
 pub count_below-joined : (whole f g : ℕ → Bool) (n : ℕ) → ((p : ℕ) → whole p ≡ (f p || g p))
     → ((p : ℕ) → (f p && g p) ≡ false) → count_below whole n ≡ count_below f n + count_below g n
 count_below-joined whole f g zero all apart = refl
 count_below-joined whole f g (suc n) all apart =
-    join_at (whole n) (f n) (g n) _ _ _ (all n) (apart n) (count_below-joined whole f g n all apart)
-
--- at one place: what is present at first is present still, or newly taken, and not both
-open_at : (ts tt is it : Bool) → (ts ≡ true → tt ≡ true)
-    → ((tt && not ts) ≡ true → (is && not ts) ≡ true) → (it ≡ true → is ≡ true)
-    → (is ≡ true → it ≡ false → tt ≡ true)
-    → ((is && not ts) ≡ ((it && not tt) || (tt && not ts)))
-    × (((it && not tt) && (tt && not ts)) ≡ false)
-open_at ts tt is it a b c d = grind arith
+    let here = all n in
+    let not_both = apart n in
+    let before = count_below-joined whole f g n all apart in
+    grind arith
 
 -- what is present at first is present still, or newly taken
 pub open_joins : (s t : Situation) → Keeps s t → Closes s t → Joins (is_open t) (newly s t) (is_open s)
-open_joins s t k c =
-    let at = λ (p : ℕ). open_at (is_taken s p) (is_taken t p) (in_scope s p) (in_scope t p) (k.stays p)
-    (k.fresh p) (k.narrows p) (c p) in
-    record { all = λ p. (at p).0; apart = λ p. (at p).1 }
+open_joins s t k c = record {
+  all = λ p. grind (arith, k.stays p, k.fresh p, k.narrows p, c p);
+  apart = λ p. grind arith;
+}
 
 -- the count of present places falls by the number of newly taken ones
 pub open_count-falls : (s t : Situation) → Keeps s t → Closes s t

@@ -1,7 +1,7 @@
 -- How what evaluations keep is put together. No combinator builds a `Keeps` of its own: it goes
 -- through these lemmas and one for each call of a state, so that a clause can be added to the laws
 -- here.
-use Rattle.std.specs.Prelude.{◌≡◌, ℕ, ◌+◌, ◌==◌, Bool, true, false, not, ◌&&◌, ◌||◌, List, []}
+use Rattle.std.specs.Prelude.{◌≡◌, ℕ, ◌+◌, ◌==◌, true, not, ◌&&◌, ◌||◌, List, []}
 use Rattle.std.specs.Prelude.{◌∷◌, ◌++◌, Result, Ok, Err, Option, None, refl}
 use Rattle.std.proofs.Common.{sym, ◌∙◌, ap, subst, append_assoc, append-nil, arith}
 use Rattle.std.proofs.Common.{true≢false}
@@ -96,20 +96,12 @@ closes_take s p q within outside = absurd (true≢false (sym within ∙ outside)
 pub closes_take_both : (s : Situation) (p q : ℕ) → Closes s (take_place (take_place s p) q)
 closes_take_both s p q r within outside = absurd (true≢false (sym within ∙ outside))
 
--- at one place: what is newly taken in two steps was open at first
-fresh_at : (ts tm tt ss sm : Bool) → ((tm && not ts) ≡ true → (ss && not ts) ≡ true)
-    → ((tt && not tm) ≡ true → (sm && not tm) ≡ true)
-    → (sm ≡ true → ss ≡ true) → (tt && not ts) ≡ true → (ss && not ts) ≡ true
-fresh_at ts tm tt ss sm first second narrows new = grind arith
-
 -- one evaluation after another
 pub keeps_trans : (s m t : Situation) → Keeps s m → Keeps m t → Keeps s t
 keeps_trans s m t a b = record {
   context = b.context ∙ a.context;
   stays = λ p taken. b.stays p (a.stays p taken);
-  fresh =
-      λ p. fresh_at (is_taken s p) (is_taken m p) (is_taken t p) (in_scope s p) (in_scope m p)
-      (a.fresh p) (b.fresh p) (a.narrows p);
+  fresh = λ p new. grind (arith, a.fresh p, b.fresh p, a.narrows p);
   narrows = λ p within. a.narrows p (b.narrows p within);
   path =
       record {
@@ -126,17 +118,14 @@ keeps_trans s m t a b = record {
 pub closes_trans : (s m t : Situation) → Keeps m t → Closes s m → Closes m t → Closes s t
 closes_trans s m t k a b p inside outside = grind (arith, k.stays, a, b)
 
--- at one place: what is newly taken in two steps is newly taken in one of them, and not in both
-joined_at : (x y z : Bool) → (x ≡ true → y ≡ true) → (y ≡ true → z ≡ true)
-    → ((z && not x) ≡ ((y && not x) || (z && not y))) × (((y && not x) && (z && not y)) ≡ false)
-joined_at x y z f g = grind arith
-
 -- what two evaluations take, one after the other, is what both take together
 pub newly_joins : (s m t : Situation) → Keeps s m → Keeps m t
     → Joins (newly s m) (newly m t) (newly s t)
 newly_joins s m t a b =
-    let at = λ (p : ℕ). joined_at (is_taken s p) (is_taken m p) (is_taken t p) (a.stays p) (b.stays p) in
-    record { all = λ p. (at p).0; apart = λ p. (at p).1 }
+    record {
+      all = λ p. grind (arith, a.stays p, b.stays p);
+      apart = λ p. grind (arith, a.stays p, b.stays p);
+    }
 
 -- what is read by one evaluation after another is read by both
 pub reads_both : {A B : Type 0} {first : Readings A} {rest : Readings B} {s m t : Situation} {x : A}
@@ -208,13 +197,7 @@ taken_after s p q = grind (arith, nat_tests, taken_here, taken_other)
 -- a present place of the scope is taken: that place is newly taken, and no other
 pub newly_take : (s : Situation) (p : ℕ) → is_open s p ≡ true → IsPlace p (newly s (take_place s p))
 newly_take s p there q =
-    ap (λ taken. taken && not (is_taken s q)) (taken_after s p q)
-    ∙ alone (q == p) (is_taken s q) (λ at.
-    let same : q ≡ p = grind (arith, nat_tests) in
-    ap (is_taken s) same ∙ open_not_taken s p there)
-  where
-    alone : (b x : Bool) → (b ≡ true → x ≡ false) → ((b || x) && not x) ≡ b
-    alone b x free = grind arith
+    let free = open_not_taken s p there in grind (arith, nat_tests, taken_after s p q)
 
 -- and all else is kept
 pub keeps_take : (s : Situation) (p : ℕ) → is_open s p ≡ true → Keeps s (take_place s p)
