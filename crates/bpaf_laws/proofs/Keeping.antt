@@ -204,10 +204,7 @@ pub keeps_take : (s : Situation) (p : ℕ) → is_open s p ≡ true → Keeps s 
 keeps_take s p there = record {
   context = refl;
   stays = λ q taken. taken_stays s p q taken;
-  fresh = λ q new.
-      let at : (q == p) ≡ true = sym (newly_take s p there q) ∙ new in
-      let same : q ≡ p = grind (arith, nat_tests) in
-      ap (is_open s) same ∙ there;
+  fresh = λ q new. grind (arith, nat_tests, taken_after s p q);
   narrows = λ q within. within;
   path = record { more = []; is = sym (append-nil s.path) };
   marks = keeps_marks_take s p;
@@ -219,9 +216,9 @@ pub newly_take_both : (s : Situation) (p : ℕ) → is_open s p ≡ true
     → IsPair p (newly s (take_place (take_place s p) (p + 1)))
 newly_take_both s p first second q =
     let m = take_place s p in
-    (newly_joins s m (take_place m (p + 1)) (keeps_take s p first)
-    (keeps_take m (p + 1) second)).all q
-    ∙ rw (newly_take s p first q, newly_take m (p + 1) second q) refl
+    let free = open_not_taken s p first in
+    let next = open_not_taken m (p + 1) second in
+    grind (arith, nat_tests, taken_after s p q, taken_after m (p + 1) q, taken_after s p (p + 1))
 
 module _ {T : Type 0} (reads : Readings T) (s m loser : Situation) (winner : ℕ) (v : T)
     (t : Situation) (saved : ConflictsSaved m loser winner t) (read : Reads T reads s v m) where

@@ -1,14 +1,14 @@
 -- What taking a key with the text behind it takes, and what taking all of them does.
-use Rattle.std.specs.Prelude.{◌≡◌, ◌≢◌, ◌⊎◌, ℕ, zero, suc, ◌+◌, ◌<◌, ◌≤◌, ◌==◌, Bool, true, false}
-use Rattle.std.specs.Prelude.{not, ◌&&◌, ◌||◌, List, [], ◌∷◌, ◌++◌, Option, None, refl}
-use Rattle.std.specs.Prelude.{option_and_then, if◌then◌else◌}
+use Rattle.std.specs.Prelude.{◌≡◌, ◌⊎◌, ℕ, zero, suc, ◌+◌, ◌<◌, ◌≤◌, ◌==◌, Bool, true, false}
+use Rattle.std.specs.Prelude.{◌||◌, List, [], ◌∷◌, ◌++◌, Option, None, refl}
+use Rattle.std.specs.Prelude.{option_and_then}
 use Rattle.std.specs.Option.{option_map_or}
-use Rattle.std.proofs.Common.{sym, subst, ap, ◌∙◌, inl, inr, ⊎_elim, arith, true≢false}
-use Rattle.std.proofs.lemmas.Bool.{cases_eq, cases_lt, eqb-true, or_cases, or_left}
+use Rattle.std.proofs.Common.{sym, subst, ◌∙◌, ⊎_elim, arith, true≢false}
+use Rattle.std.proofs.lemmas.Bool.{cases_lt, eqb-true, or_cases, or_left}
 use Rattle.std.proofs.lemmas.Bool.{or_right, Decides.nat_tests}
 use Rattle.bpaf_text.specs.Named.{KeyWithValue}
 use Rattle.bpaf_base.specs.{declared.arg.Arg.Arg, Items.value_text}
-use Rattle.bpaf_line.specs.Situation.{Situation, is_open, is_taken, in_scope, item_at, take_place}
+use Rattle.bpaf_line.specs.Situation.{Situation, is_open, is_taken, take_place}
 use Rattle.bpaf_line.specs.Situation.{open_count}
 use Rattle.bpaf_line.specs.Taking.{is_match, open_item, value_after}
 use Rattle.bpaf_line.proofs.Places.{taken_here, taken_other, taken_stays}
@@ -49,10 +49,9 @@ module _ (argument : KeyWithValue) (s : Situation) (text : List ℕ) (t : Situat
   -- so did the place behind it, also when the key is taken
   value_open : is_open (take_place s takes.key) (takes.key + 1) ≡ true
   value_open =
-      let other : takes.key + 1 ≢ takes.key = (λ e. absurd (omega arith)) in
-      ap (λ taken. in_scope s (takes.key + 1) && not taken)
-      (taken_other s takes.key (takes.key + 1) other)
-      ∙ (value_is_open s takes.key text takes.value).0
+      let there = value_is_open s takes.key text takes.value in
+      let other = taken_other s takes.key (takes.key + 1) (λ e. absurd (omega arith)) in
+      grind arith
 
   -- the key, behind which the text stands, and the place behind it are newly taken
   pub key_read : Reads (List ℕ) (λ context share own. IsKeyBefore argument context takes.key own
@@ -74,36 +73,25 @@ module _ (argument : KeyWithValue) (s : Situation) (text : List ℕ) (t : Situat
 
   -- one item fewer at least is present in scope
   pub pair_fewer : open_count t < open_count s
-  pair_fewer = ⊎_elim
-      (λ (fewer : open_count t < open_count s). fewer)
-      (λ (same : open_count s ≤ open_count t).
-      let none = same_took_none s t key_read.keeps key_read.closed same takes.key in
-      absurd (true≢false (sym there ∙ none)))
-      (cases_lt (open_count t) (open_count s))
-    where
-      there : newly s t takes.key ≡ true
-      there = key_read.reading.1 takes.key
-          ∙ or_left (takes.key == takes.key) (takes.key == takes.key + 1) (grind (arith, nat_tests))
+  pair_fewer =
+      let here = key_read.reading.1 takes.key in
+      let none = λ (same : open_count s ≤ open_count t).
+      same_took_none s t key_read.keeps key_read.closed same takes.key in
+      grind (arith, nat_tests)
 
   -- nothing is present any more at these two places
   none_left : (p : ℕ) → (p ≡ takes.key) ⊎ (p ≡ takes.key + 1) → open_item t p ≡ None
   none_left p at =
       let m = take_place s takes.key in
-      let after = take_place m (takes.key + 1) in
-      ap (λ t. open_item t p) takes.taken
-      ∙ none_open after p (⊎_elim
-      (λ same. ap (is_taken after) same
-      ∙ taken_stays m (takes.key + 1) takes.key (taken_here s takes.key))
-      (λ same. ap (is_taken after) same ∙ taken_here m (takes.key + 1)) at)
+      let value = taken_here m (takes.key + 1) in
+      let key = taken_stays m (takes.key + 1) takes.key (taken_here s takes.key) in
+      rw takes.taken (none_open (take_place m (takes.key + 1)) p (grind arith))
 
   -- each place is one of these, or is as it was
   one_of_two : (p : ℕ) → ((p ≡ takes.key) ⊎ (p ≡ takes.key + 1)) ⊎ (open_item t p ≡ open_item s p)
-  one_of_two p = ⊎_elim (λ at. inl (inl at)) (λ no_key. ⊎_elim (λ at. inl (inr at))
-      (λ no_value. inr (ap (λ t. open_item t p) takes.taken
-      ∙ ap (λ taken. if in_scope s p && not taken then item_at s p else None)
-      (taken_other (take_place s takes.key) (takes.key + 1) p no_value
-      ∙ taken_other s takes.key p no_key)))
-      (cases_eq p (takes.key + 1))) (cases_eq p takes.key)
+  one_of_two p =
+      let m = take_place s takes.key in
+      rw takes.taken (grind (arith, taken_other s takes.key p, taken_other m (takes.key + 1) p))
 
   -- a key that is there later is none of these
   is_left : (p : ℕ) → is_match test t p ≡ true → (p ≡ takes.key) ⊎ (p ≡ takes.key + 1) → ⊥
@@ -115,13 +103,15 @@ module _ (argument : KeyWithValue) (s : Situation) (text : List ℕ) (t : Situat
 
   -- with the text behind it that it has
   pub value_before : (p : ℕ) → is_match test t p ≡ true → value_after s p ≡ value_after t p
-  value_before p there = ⊎_elim
-      (λ at. ⊎_elim
-      (λ (key : p + 1 ≡ takes.key).
-      key_is_no_value argument (open_item s (p + 1)) (ap (is_match test s) key ∙ takes.first.matches))
-      (λ (value : p + 1 ≡ takes.key + 1). absurd (is_left p there (inl (omega arith)))) at
-      ∙ sym (ap (option_and_then value_text) (none_left (p + 1) at)))
-      (λ same. ap (option_and_then value_text) (sym same)) (one_of_two (p + 1))
+  value_before p there =
+      let step = one_of_two (p + 1) in
+      let first = takes.first.matches in
+      grind (
+        arith,
+        is_left p there,
+        none_left (p + 1),
+        key_is_no_value argument (open_item s (p + 1)),
+      )
 
   -- a key that is gone later is the one that was taken
   pub gone_key : (p : ℕ) → is_match test s p ≡ true → is_match test t p ≡ false → p ≡ takes.key
