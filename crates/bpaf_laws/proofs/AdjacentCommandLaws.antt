@@ -1,5 +1,5 @@
 -- Behind the word of an adjacent command: what is read there is one stretch.
-use Rattle.std.proofs.Common.{◌≡◌, ℕ, ◌+◌, ◌<◌, ◌≤◌, ◌==◌, true, ◌&&◌, ◌||◌, nat_le, nat_lt, ap}
+use Rattle.std.proofs.Common.{◌≡◌, ℕ, ◌+◌, ◌<◌, ◌≤◌, ◌==◌, true, ◌&&◌, ◌||◌, nat_le, nat_lt}
 use Rattle.std.proofs.Common.{◌∙◌, arith, sym, true≢false}
 use Rattle.std.proofs.lemmas.Bool.Decides.{nat_tests}
 use Rattle.bpaf_line.specs.Situation.{Situation, is_open, open_count, with_scope}
@@ -34,11 +34,13 @@ module _ (called : Called) (s : Situation) (p : ℕ) (at : IsOpenedAt (opening_w
         let m : Situation = inside called s p in
         let word = newly_take s p (word_is_open (opening_words called) s p at) in
         let joins = newly_joins s m t (keeps_inside called s p at) kept_inside in
-        joins.all q
-        ∙ (ap (λ x. x || newly m t q) (word q)
-        ∙ (ap (λ x. q == p || x)
-        (newly_stretch m (p + 1) end present t read.keeps read.closed none q)
-        ∙ one_more p end q ordered))
+        grind (
+          arith,
+          nat_tests,
+          joins.all q,
+          word q,
+          newly_stretch m (p + 1) end present t read.keeps read.closed none q,
+        )
 
     -- what is read over a stretch of present places behind the word is a reading, with the scope
     -- from the word on

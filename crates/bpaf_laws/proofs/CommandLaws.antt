@@ -1,9 +1,9 @@
 -- Behind the word of a command: what opening its scope keeps, and what is read there.
-use Rattle.std.proofs.Common.{◌≡◌, ℕ, ◌<◌, Bool, true, false, not, ◌&&◌, List, length, ⊎_elim}
-use Rattle.std.proofs.Common.{sym, ◌∙◌, arith, true≢false}
-use Rattle.std.proofs.lemmas.Bool.{cases_Bool, false_from_ne_true, Decides.nat_tests}
+use Rattle.std.proofs.Common.{◌≡◌, ℕ, Bool, true, false, not, ◌&&◌, List, length}
+use Rattle.std.proofs.Common.{arith}
+use Rattle.std.proofs.lemmas.Bool.{Decides.nat_tests}
 use Rattle.bpaf_base.specs.Items.{any_item}
-use Rattle.bpaf_line.specs.Situation.{Situation, in_scope, is_open, is_taken, open_count}
+use Rattle.bpaf_line.specs.Situation.{Situation, in_scope, is_open, open_count}
 use Rattle.bpaf_line.specs.Situation.{take_place}
 use Rattle.bpaf_line.proofs.Places.{open_in_line, open_in_scope, taken_stays}
 use Rattle.bpaf_line.proofs.Matches.{match_is_open, open_has_item}
@@ -34,27 +34,14 @@ module _ (words : List (List ℕ)) (s : Situation) (p : ℕ) (at : IsOpenedAt wo
   pub keeps_opened : Keeps s (opened s p)
   keeps_opened = keeps_scope s (take_place s p) p s.end (keeps_take s p word_is_open) scope_narrows
 
-  -- a place of the old scope that isn't behind it stands before it
-  stands_before : (q : ℕ) → in_scope s q ≡ true → in_scope (opened s p) q ≡ false → q < p
-  stands_before q within outside = grind (arith, nat_tests)
-
-  -- and is taken, since the word is the first present item
-  taken_before : (q : ℕ) → in_scope s q ≡ true → q < p → is_taken s q ≡ true
-  taken_before q within before = taken_unless_open (in_scope s q) (is_taken s q) within
-      (false_from_ne_true (is_open s q) (λ there.
-      true≢false (sym (open_has_item s q there) ∙ at.first.first q before)))
-
 -- where nothing is counted, nothing is open
 nothing_open : (t : Situation) → open_count t ≡ 0 → (q : ℕ) → is_open t q ≡ false
-nothing_open t none q = false_from_ne_true (is_open t q) (λ there. true≢false
-    (sym there ∙ none_below (is_open t) (length t.context.line) none q (open_in_line t q there)))
+nothing_open t none q =
+    grind (arith, open_in_line t q, none_below (is_open t) (length t.context.line) none q)
 
 -- where nothing is present any more in scope, all that was in scope is taken
 pub leaves_nothing : (s t : Situation) → Closes s t → open_count t ≡ 0 → LeavesNothing s t
-leaves_nothing s t closed none q within = ⊎_elim
-    (λ (still : in_scope t q ≡ true).
-    taken_unless_open (in_scope t q) (is_taken t q) still (nothing_open t none q))
-    (λ (outside : in_scope t q ≡ false). closed q within outside) (cases_Bool (in_scope t q))
+leaves_nothing s t closed none q within = grind (arith, nothing_open t none q, closed q within)
 
 module _ (called : Called) (s : Situation) (p : ℕ)
     (at : IsOpenedAt (opening_words called) s p) where
@@ -65,9 +52,7 @@ module _ (called : Called) (s : Situation) (p : ℕ)
   -- a place that is left outside it is taken
   closes_inside : Closes s (inside called s p)
   closes_inside q within outside =
-      let words = opening_words called in
-      taken_stays s p q (taken_before words s p at q within
-      (stands_before words s p at q within outside))
+      grind (arith, nat_tests, taken_stays s p q, open_has_item s q, at.first.first q)
 
   -- so the word is read
   pub word_read : Reads ℕ (λ line own q. HasItem (is_one_of (opening_words called)) line q

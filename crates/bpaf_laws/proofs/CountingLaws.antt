@@ -1,7 +1,6 @@
 -- Counting what an evaluation newly took.
 use Rattle.std.proofs.Common.{◌≡◌, ℕ, zero, suc, ◌+◌, ◌<◌, ◌≤◌, Bool, true, false, ◌&&◌, ◌||◌}
-use Rattle.std.proofs.Common.{if◌then◌else◌, length, refl, sym, ap, ◌∙◌, ⊎_elim, arith}
-use Rattle.std.proofs.lemmas.Bool.{cases_eq, cases_lt, false_from_ne_true}
+use Rattle.std.proofs.Common.{if◌then◌else◌, length, refl, sym, ap, ◌∙◌, arith}
 use Rattle.bpaf_line.specs.Situation.{Situation, is_open, count_below}
 use Rattle.bpaf_line.specs.Situation.{open_count}
 use Rattle.bpaf_line.proofs.Places.{open_in_line}
@@ -45,13 +44,7 @@ lawful_falls law s t v answered =
 -- a set without numbers below n lacks each of them
 pub none_below : (set : ℕ → Bool) (n : ℕ) → count_below set n ≡ 0 → (p : ℕ) → p < n → set p ≡ false
 none_below set zero e p within = absurd (omega arith)
-none_below set (suc n) e p within =
-    let parts = none_at (set n) (count_below set n) e in
-    ⊎_elim (λ (same : p ≡ n). ap set same ∙ parts.0)
-    (λ other. none_below set n parts.1 p (omega arith)) (cases_eq p n)
-  where
-    none_at : (b : Bool) (n : ℕ) → (if b then (n + 1) else n) ≡ 0 → (b ≡ false) × (n ≡ 0)
-    none_at b n e = grind arith
+none_below set (suc n) e p within = grind (arith, none_below set n)
 
 -- a set with some numbers below n has one
 some_below : (set : ℕ → Bool) (n : ℕ) → 0 < count_below set n → HasPlace set
@@ -75,9 +68,4 @@ pub same_took_none : (s t : Situation) → Keeps s t → Closes s t → open_cou
     → IsEmptyShare (newly s t)
 same_took_none s t k c same p =
     let falls = open_count-falls s t k c in
-    let none : taken_count s t ≡ 0 = omega arith in
-    ⊎_elim (λ within. none_below (newly s t) (length s.context.line) none p within)
-    (λ (beyond : length s.context.line ≤ p).
-    false_from_ne_true (newly s t p)
-    (λ new. let within = open_in_line s p (k.fresh p new) in absurd (omega arith)))
-    (cases_lt p (length s.context.line))
+    grind (arith, none_below (newly s t) (length s.context.line), open_in_line s p, k.fresh p)
