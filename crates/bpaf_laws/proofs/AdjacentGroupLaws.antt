@@ -1,10 +1,10 @@
 -- Adjacent groups keep to the laws where their products do.
-use Rattle.std.specs.Prelude.{IfOk, ◌≡◌, ℕ, ◌<◌, ◌≤◌, true, false, not, ◌&&◌, nat_le, nat_lt}
+use Rattle.std.specs.Prelude.{IfOk, ◌≡◌, ℕ, ◌<◌, ◌≤◌, true, false, nat_lt}
 use Rattle.std.specs.Prelude.{List, Result, Ok, Err, Option, Some, None, if◌then◌else◌}
 use Rattle.std.proofs.Common.{arith, sym, ◌∙◌, true≢false}
-use Rattle.std.proofs.lemmas.Bool.{and_parts, both_ways}
+use Rattle.std.proofs.lemmas.Bool.{both_ways, Decides.nat_tests}
 use Rattle.bpaf_doc.specs.Shape.{Part}
-use Rattle.bpaf_line.specs.Situation.{Situation, is_taken, is_open, with_scope}
+use Rattle.bpaf_line.specs.Situation.{Situation, is_open, with_scope}
 use Rattle.bpaf_line.specs.{declared.error.Error.Error, declared.error.Message.TheVariants.Missing}
 use Rattle.bpaf_line.proofs.Places.{open_in_scope, open_not_taken}
 use Rattle.bpaf_laws.specs.Reading.{Readings, Outcome, Share}
@@ -17,9 +17,8 @@ use Rattle.bpaf_laws.specs.{RefusalNames.NamesAnswer, Spared.IsNotMemory, Spared
 use Rattle.bpaf_laws.specs.{OneStretch.IsStretch, OneStretch.StretchReads, Counting.taken_count}
 use Rattle.bpaf_laws.proofs.Keeping.{AnswersLawfully, LawfulAnswer, lawful_by, keeps_of, keeps_refl, keeps_same}
 use Rattle.bpaf_laws.proofs.Keeping.{keeps_trans, keeps_scope}
-use Rattle.bpaf_laws.proofs.OneStretch.{between, new_in_stretch, keeps_stretch}
+use Rattle.bpaf_laws.proofs.OneStretch.{keeps_stretch}
 use Rattle.bpaf_laws.proofs.{NamesAnswer.names_same, NamesAnswer.names_want}
-use Rattle.bpaf_laws.proofs.CommandLaws.{taken_unless_open}
 use Rattle.bpaf_line.specs.Messages.{is_memory}
 
 -- places that are present in scope
@@ -71,15 +70,14 @@ module _ {T : Type 0} {inner : Outcome T} {reads : Readings T} (law : Lawful T i
           stretch = record {
             from = a;
             to = stop;
-            is = λ p.
-                let range = nat_le a p && nat_lt p stop in
-                new_in_stretch (is_taken left p) (is_taken s p) range
-                (λ within.
-                let inside = between a stop p within in (
-                  taken_unless_open range (is_taken left p) within (none p inside.0),
-                  open_not_taken s p (opened.1 p inside.0 inside.1),
-                ))
-                (λ new. (and_parts range (not (is_taken s p)) (read.keeps.fresh p new)).0);
+            is = λ p. grind (
+              arith,
+              nat_tests,
+              none p,
+              opened.1 p,
+              open_not_taken s p,
+              read.keeps.fresh p,
+            );
           };
         };
       }

@@ -1,5 +1,5 @@
 -- Behind the word of a command: what opening its scope keeps, and what is read there.
-use Rattle.std.proofs.Common.{◌≡◌, ℕ, Bool, true, false, not, ◌&&◌, List, length}
+use Rattle.std.proofs.Common.{◌≡◌, ℕ, true, false, List, length}
 use Rattle.std.proofs.Common.{arith}
 use Rattle.std.proofs.lemmas.Bool.{Decides.nat_tests}
 use Rattle.bpaf_base.specs.Items.{any_item}
@@ -13,11 +13,6 @@ use Rattle.bpaf_laws.specs.Reading.{Readings, HasItem, IsPlace}
 use Rattle.bpaf_laws.specs.Command.{is_one_of, opening_words}
 use Rattle.bpaf_laws.proofs.Keeping.{keeps_path, keeps_scope, keeps_take, newly_take, reads_as}
 use Rattle.bpaf_laws.proofs.{CountingLaws.none_below, Keeping.reads_both}
-
--- what is in scope and isn't open is taken
-pub taken_unless_open : (within taken : Bool) → within ≡ true → (within && not taken) ≡ false
-    → taken ≡ true
-taken_unless_open within taken here closed = grind arith
 
 module _ (words : List (List ℕ)) (s : Situation) (p : ℕ) (at : IsOpenedAt words s p) where
   -- the word is present, and in scope

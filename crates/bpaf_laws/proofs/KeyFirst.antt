@@ -2,7 +2,7 @@
 use Rattle.std.proofs.Common.{◌≡◌, ℕ, ◌+◌, Bool, true, false, List, Result, Ok, Err, Option}
 use Rattle.std.proofs.Common.{Some, ⊎_elim, sym, ◌∙◌, ap, subst, true≢false, arith, [], ◌∷◌}
 use Rattle.std.proofs.Common.{◌++◌}
-use Rattle.std.proofs.lemmas.Bool.{cases_Bool, false_from_ne_true}
+use Rattle.std.proofs.lemmas.Bool.{cases_Bool}
 use Rattle.bpaf_doc.specs.Shape.{Part}
 use Rattle.bpaf_base.specs.declared.arg.Arg.{Arg}
 use Rattle.bpaf_text.specs.Named.{KeyWithValue, argument_part}
@@ -40,10 +40,9 @@ module _ (argument : KeyWithValue) where
     matches = takes.first.matches;
     counts = record {
       matches = takes.first.matches;
-      last = λ q above. false_from_ne_true (is_match test s q) (λ there.
-          let at = gone_key argument s text m takes q there
-          (ap (λ t. is_match test t q) (sym same) ∙ none q) in
-          omega arith);
+      last = λ q above.
+          let gone = ap (λ t. is_match test t q) (sym same) ∙ none q in
+          grind (arith, gone_key argument s text m takes q);
     };
     behind = takes.value;
     current = ap (λ (t : Situation). t.current) (same ∙ takes.taken);
@@ -56,9 +55,12 @@ module _ (argument : KeyWithValue) where
         matches = there;
         counts = record {
           matches = there;
-          last = λ q above. false_from_ne_true (is_match test s q) (λ here.
-              let at = gone_key argument s x m takes q here (later.counts.last q above) in
-              true≢false (sym there ∙ takes.first.first later.key (omega arith)));
+          last = λ q above. grind (
+            arith,
+            gone_key argument s x m takes q,
+            later.counts.last q,
+            takes.first.first later.key,
+          );
         };
         behind = value_before argument s x m takes later.key later.matches ∙ later.behind;
         current = later.current;
@@ -106,7 +108,7 @@ module _ (argument : KeyWithValue) where
       let bare = bare_before s t before.0 before.1 key (record {
         matches = lacks.0.matches;
         bare = lacks.1;
-        first = λ q above here. absurd (true≢false (sym here ∙ lacks.0.first q above));
+        first = λ q before here. absurd (grind (arith, lacks.0.first q));
       }) in
       (bare.matches, (bare, lacks.2))
 

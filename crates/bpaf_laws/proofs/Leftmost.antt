@@ -41,8 +41,7 @@ module _ {T : Type 0} (v : T) (t : Situation) where
       → IsWinner first.left second.left winner → Winner first second winner (Ok v) t
       → IsLeftmostChosen (Ok first.value) first.left (Ok second.value) second.left v t
   winner_chosen first second (wins, None) decided won = (
-    (λ p left.
-        absurd (differ (is_taken first.left p) (is_taken second.left p) left.differs (decided.0 p))),
+    (λ p left. let same = decided.0 p in absurd (grind (arith, left.differs))),
     (λ same. stands first won),
   )
   winner_chosen first second (true, Some place) decided won = (

@@ -1,5 +1,5 @@
 -- What a parser takes that reads a stretch of present places, and leaves none of them.
-use Rattle.std.proofs.Common.{◌≡◌, ℕ, ◌<◌, ◌≤◌, Bool, true, false, not, ◌&&◌, nat_le, nat_lt}
+use Rattle.std.proofs.Common.{◌≡◌, ℕ, ◌<◌, ◌≤◌, true, ◌&&◌, nat_le, nat_lt}
 use Rattle.std.proofs.lemmas.Bool.Decides.{nat_tests}
 use Rattle.std.proofs.{Common.arith}
 use Rattle.bpaf_line.specs.Situation.{Situation, is_open, open_count}
@@ -7,16 +7,6 @@ use Rattle.bpaf_line.specs.Situation.{with_scope}
 use Rattle.bpaf_line.proofs.Places.{open_not_taken}
 use Rattle.bpaf_laws.specs.Laws.{Keeps, Closes, newly}
 use Rattle.bpaf_laws.proofs.{CommandLaws.leaves_nothing, Keeping.keeps_refl, Keeping.keeps_scope}
-
--- at one place: what is newly taken is what lies in the stretch
-pub new_in_stretch : (taken before inside : Bool)
-    → (inside ≡ true → (taken ≡ true) × (before ≡ false))
-    → ((taken && not before) ≡ true → inside ≡ true) → (taken && not before) ≡ inside
-new_in_stretch taken before inside all only = grind arith
-
--- a place of a stretch lies between its ends
-pub between : (from end p : ℕ) → (nat_le from p && nat_lt p end) ≡ true → (from ≤ p) × (p < end)
-between from end p inside = grind (arith, nat_tests)
 
 module _ (s : Situation) (from end : ℕ)
     (present : (p : ℕ) → from ≤ p → p < end → is_open s p ≡ true) where
