@@ -7,9 +7,8 @@ use Rattle.bpaf_line.specs.Combining.{Combines, CombinesSpared}
 use Rattle.bpaf_line.specs.Situation.{Situation, with_scope}
 use Rattle.bpaf_line.specs.{declared.error.Error.Error, declared.error.Message.Message}
 use Rattle.bpaf_line.specs.{Messages.can_catch, Messages.is_memory, Stretches.IsStretchFrom}
-use Rattle.bpaf_laws.proofs.ChoiceLaws.{ComesFrom, first_stands, second_stands, first_won, second_won}
-use Rattle.bpaf_laws.proofs.ChoiceLaws.{first_refused, second_refused, both_refused, chosen_from}
-use Rattle.bpaf_laws.specs.Choice.{ChoiceOutcome}
+use Rattle.bpaf_laws.proofs.ChoiceLaws.{of_chosen}
+use Rattle.bpaf_laws.specs.Choice.{BranchesEval, ChoiceOutcome}
 use Rattle.bpaf_laws.specs.Command.{Called, IsOpenedAt, inside, opening_words}
 use Rattle.bpaf_laws.specs.{Laws.Lawful, Reading.Outcome, Reading.Readings}
 use Rattle.bpaf_laws.proofs.{Keeping.keeps_refl, OneStretch.keeps_stretch}
@@ -49,49 +48,32 @@ combined_shows first second both doc full o is =
 
 module _ (showing : Showing) {T : Type 0} {first second : Outcome T}
     (one : HandsOn showing first) (other : HandsOn showing second) where
-  module _ (s t : Situation) (e : Error) (doc : List Piece) (full : Bool)
-      (is : e.0 ≡ inner_answer doc full) where
-    -- a choice that answers what the first branch does shows what that does
-    of_first : (a : Result T Error) (sa : Situation) → first s a sa → Err e ≡ a
-        → CameTo showing s doc full
-    of_first a sa ran same = one.all s e sa doc full (subst (λ r. first s r sa) (sym same) ran) is
+  module _ (s : Situation) (doc : List Piece) (full : Bool) where
+    -- an answer that hands on what was shown came to it
+    abbrev Shows : Result T Error → Situation → Type 0
+    Shows (Ok v) t = Unit {0}
+    Shows (Err e) t = e.0 ≡ inner_answer doc full → CameTo showing s doc full
 
-    -- so it is of the second
-    of_second : (b : Result T Error) (sb : Situation) → second s b sb → Err e ≡ b
-        → CameTo showing s doc full
-    of_second b sb ran same =
-        other.all s e sb doc full (subst (λ r. second s r sb) (sym same) ran) is
+    -- so does that of a branch
+    branch_shows : {branch : Outcome T} → HandsOn showing branch → (r : Result T Error)
+        (t : Situation) → branch s r t → Shows r t
+    branch_shows branch (Ok v) t ran = tt
+    branch_shows branch (Err e) t ran = branch.all s e t doc full ran
 
-    -- of two branches that both failed one shows what both do
-    of_both : (f g both : Error) (sa sb : Situation) → first s (Err f) sa → second s (Err g) sb
-        → Combines f.0 g.0 both.0 → both.0 ≡ inner_answer doc full → CameTo showing s doc full
-    of_both f g both sa sb ran ran' combines same =
-        ⊎_elim (λ here. one.all s f sa doc full ran here)
-        (λ there. other.all s g sb doc full ran' there)
-        (combined_shows f.0 g.0 both.0 doc full combines same)
-
-    -- so do branches of any depths
-    chosen_shows : (a : Result T Error) (sa : Situation) (b : Result T Error) (sb : Situation)
-        → first s a sa → second s b sb → ComesFrom s a sa b sb (Err e) t → CameTo showing s doc full
-    chosen_shows a sa b sb f g (first_stands same left) = of_first a sa f same
-    chosen_shows a sa b sb f g (second_stands same left) = of_second b sb g same
-    chosen_shows a sa b sb f g (first_won v place same answer saved) = absurd cc
-    chosen_shows a sa b sb f g (second_won v place same answer saved) = absurd cc
-    chosen_shows a sa b sb f g (first_refused d same answer left) =
-        of_first a sa f (answer ∙ sym same)
-    chosen_shows a sa b sb f g (second_refused d same answer left) =
-        of_second b sb g (answer ∙ sym same)
-    chosen_shows a sa b sb f g (both_refused d c both one other combined answer left) =
-        of_both d c both sa sb (subst (λ r. first s r sa) one f)
-        (subst (λ r. second s r sb) other g) combined cc
+    -- so does the one chosen of two
+    chosen_shows : (r : Result T Error) (t : Situation) → BranchesEval first second s r t
+        → Shows r t
+    chosen_shows r t ran =
+        of_chosen s Shows (λ v m loser place t saved it. tt) (λ e m shows. shows)
+        (λ f g both m n combined here there is.
+        ⊎_elim here there (combined_shows f.0 g.0 both.0 doc full combined is))
+        ran.a ran.sa ran.b ran.sb r t ran.chosen (branch_shows one ran.a ran.sa ran.first_ran)
+        (branch_shows other ran.b ran.sb ran.second_ran)
 
   -- a choice of two shows what one of them does
   pub choice_hands_on : HandsOn showing (ChoiceOutcome first second)
   choice_hands_on = record {
-    all = λ s e t doc full o is. ⊎_elim
-        (λ ran.
-        chosen_shows s t e doc full is ran.a ran.sa ran.b ran.sb ran.first_ran ran.second_ran
-        (chosen_from s ran.a ran.sa ran.b ran.sb (Err e) t ran.chosen))
+    all = λ s e t doc full o is. ⊎_elim (λ ran. chosen_shows s doc full (Err e) t ran is)
         (λ want. absurd (true≢false (sym want.0 ∙ ap is_memory is))) o;
   }
 

@@ -1,5 +1,5 @@
 -- Required flags as the batteries have them, of which only keys on the line count.
-use Rattle.std.specs.Prelude.{◌≡◌, ℕ, List, [], Bool, false, ◌&&◌, ◌||◌, None, codes}
+use Rattle.std.specs.Prelude.{◌≡◌, ℕ, List, [], Bool, false, ◌&&◌, ◌||◌, None}
 use Rattle.bpaf_doc.specs.{Fold.TextPieces, declared.doc.Piece.Piece}
 use Rattle.bpaf_text.specs.Named.{nothing_named, with_help, with_long, with_short}
 use Rattle.bpaf_text.specs.declared.params.ParseFlag.{ParseFlag}
@@ -51,11 +51,3 @@ letter_v = 118
 -- the letter `q`
 abbrev pub letter_q : ℕ
 letter_q = 113
-
--- the keys `-v`, `--verbose` and `-q`, `--quiet`
-abbrev pub AreVerboseAndQuiet : ParseFlag (Unit {0}) → ParseFlag (Unit {0}) → Type 0
-AreVerboseAndQuiet more fewer =
-    IsCountedKey letter_v (codes "verbose")
-    (codes "Increase output verbosity, can be used several times") more
-    × IsCountedKey letter_q (codes "quiet")
-    (codes "Decrease output verbosity, can be used several times") fewer

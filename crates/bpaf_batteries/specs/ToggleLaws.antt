@@ -4,7 +4,7 @@ use Rattle.std.specs.List.{last_or}
 use Rattle.std.proofs.Common.{ap, subst, sym, ◌∙◌}
 use Rattle.bpaf_text.specs.declared.params.ParseFlag.{ParseFlag}
 use Rattle.bpaf_laws.proofs.ShownNames.{choice_shows, flag_shows, many_shows}
-use Rattle.bpaf_laws.proofs.TransformLaws.{map_lawful}
+use Rattle.bpaf_laws.proofs.{Keeping.lawful_as, TransformLaws.map_lawful}
 use Rattle.bpaf_laws.proofs.{ChoiceLaws.choice_lawful, FlagLaws.flag_lawful, RepeatLaws.many_lawful}
 use Rattle.bpaf_laws.specs.{ShownNames.ShowsNames, ShownNames.of_flags, Laws.Lawful}
 use Rattle.bpaf_batteries.specs.Toggle.{IsLastOf, ToggleDescribes, ToggleOutcome, ToggleReads}
@@ -30,22 +30,12 @@ toggle_lawful {T} clones one other catches =
     (many_lawful (choice_lawful (flag_lawful T clones one.named one.present one.absent)
     (flag_lawful T clones other.named other.present other.absent)) catches)
     (λ values v. IsLastOf values.items v) in
-    record {
-      ok = λ s t v o.
-          let read = law.ok s t v o in
-          record {
-            keeps = read.keeps;
-            closed = read.closed;
-            reading = record {
-              from = read.reading.read.from;
-              read = read.reading.read.read;
-              made = is_last read.reading.read.from v
-                  (subst (λ values. IsLastOf values v) read.reading.read.made read.reading.made);
-            };
-          };
-      err = λ s t e o. law.err s t e o;
-      named = λ s t e o. law.named s t e o;
-    }
+    lawful_as law (λ context share v read. record {
+      from = read.read.from;
+      read = read.read.read;
+      made = is_last read.read.from v
+          (subst (λ values. IsLastOf values v) read.read.made read.made);
+    })
 
 -- it shows the short names of both keys
 pub toggle_shows : {T : Type 0} (one other : ParseFlag T) → ShowsNames (ToggleDescribes one other)

@@ -1,5 +1,6 @@
 -- A level from two counted keys.
 use Rattle.std.specs.Prelude.{◌≡◌, ◌⊎◌, ◌&&◌, ℕ, ℤ, pos, false, true, ◌-ℤ◌, List, length, slice_get}
+use Rattle.std.specs.Prelude.{◌++◌, codes}
 use Rattle.std.specs.{Prelude.Some, Prelude.Ok, Prelude.Err, Option.option_map_or}
 use Rattle.bpaf_doc.specs.Shape.{Shape}
 use Rattle.bpaf_text.specs.declared.params.ParseFlag.{ParseFlag}
@@ -10,7 +11,32 @@ use Rattle.bpaf_laws.specs.Product.{ProductDescribes, ProductOutcome}
 use Rattle.bpaf_laws.specs.Reading.{Share, Outcome, Readings}
 use Rattle.bpaf_laws.specs.Repeat.{CountOutcome, ListReads, ManyDescribes}
 use Rattle.bpaf_laws.specs.{Laws.newly, Flag.flag_shape, Transform.MapReads, Spared.WithoutMemory}
-use Rattle.bpaf_batteries.specs.{Level.IsLevelOf, Keys.is_key, Keys.KeyOutcome, Keys.KeyReads}
+use Rattle.bpaf_words.specs.Spelling.{ShortNames}
+use Rattle.bpaf_laws.specs.ShownNames.{of_flags}
+use Rattle.bpaf_batteries.specs.Keys.{IsCountedKey, KeyOutcome, KeyReads, is_key, letter_q, letter_v}
+use Rattle.bpaf_batteries.specs.Level.{IsLevelOf}
+use Rattle.bpaf_batteries.specs.declared.pair.KeyCounts.{KeyCounts}
+
+-- the key for more
+abbrev pub more_of : KeyCounts → ParseFlag (Unit {0})
+more_of keys = keys.fields.first.inner
+
+-- the key for less
+abbrev pub fewer_of : KeyCounts → ParseFlag (Unit {0})
+fewer_of keys = keys.fields.rest.last.inner
+
+-- the keys are `-v`, `--verbose` and `-q`, `--quiet`
+abbrev pub AreVerboseAndQuiet : KeyCounts → Type 0
+AreVerboseAndQuiet keys =
+    IsCountedKey letter_v (codes "verbose")
+    (codes "Increase output verbosity, can be used several times") (more_of keys)
+    × IsCountedKey letter_q (codes "quiet")
+    (codes "Decrease output verbosity, can be used several times") (fewer_of keys)
+
+-- the short names of both
+abbrev pub counted_shorts : KeyCounts → ShortNames
+counted_shorts keys =
+    of_flags ((more_of keys).named.names.shorts ++ (fewer_of keys).named.names.shorts)
 
 -- how many places of a share have a key of a flag
 abbrev pub keys_in : {T : Type 0} → ParseFlag T → Context → Share → ℕ
@@ -22,50 +48,48 @@ keys_in flag context share =
 abbrev pub keys_taken : {T : Type 0} → ParseFlag T → Situation → Situation → ℕ
 keys_taken flag s t = keys_in flag s.context (newly s t)
 
--- two counts are of the keys of each flag that were newly taken
-abbrev pub KeysAreCounted : {T : Type 0} → ParseFlag T → ParseFlag T → Situation → Situation → ℕ × ℕ
-    → Type 0
-KeysAreCounted more fewer s t counts =
-    (counts.0 ≡ keys_taken more s t) × (counts.1 ≡ keys_taken fewer s t)
+-- two counts are of the keys that were newly taken
+abbrev pub KeysAreCounted : KeyCounts → Situation → Situation → ℕ × ℕ → Type 0
+KeysAreCounted keys s t counts =
+    (counts.0 ≡ keys_taken (more_of keys) s t) × (counts.1 ≡ keys_taken (fewer_of keys) s t)
 
 -- what two counted keys answer: both counts
-abbrev pub CountsOutcome : {T : Type 0} → (T → T → Type 0) → ParseFlag T → ParseFlag T
-    → Outcome (ℕ × ℕ)
-CountsOutcome clones more fewer =
+abbrev pub CountsOutcome : (Unit {0} → Unit {0} → Type 0) → KeyCounts → Outcome (ℕ × ℕ)
+CountsOutcome clones keys =
     ProductOutcome
-    (BothOutcome (CountOutcome (KeyOutcome clones more)) (CountOutcome (KeyOutcome clones fewer)))
-    (λ counts v. v ≡ counts)
+    (BothOutcome (CountOutcome (KeyOutcome clones (more_of keys)))
+    (CountOutcome (KeyOutcome clones (fewer_of keys)))) (λ counts v. v ≡ counts)
 
 -- and where neither count wanted memory
-abbrev pub CountsSpared : {T : Type 0} → (T → T → Type 0) → ParseFlag T → ParseFlag T
-    → Outcome (ℕ × ℕ)
-CountsSpared clones more fewer =
+abbrev pub CountsSpared : (Unit {0} → Unit {0} → Type 0) → KeyCounts → Outcome (ℕ × ℕ)
+CountsSpared clones keys =
     ProductOutcome
-    (BothOutcome (WithoutMemory (CountOutcome (KeyOutcome clones more)))
-    (WithoutMemory (CountOutcome (KeyOutcome clones fewer)))) (λ counts v. v ≡ counts)
+    (BothOutcome (WithoutMemory (CountOutcome (KeyOutcome clones (more_of keys))))
+    (WithoutMemory (CountOutcome (KeyOutcome clones (fewer_of keys))))) (λ counts v. v ≡ counts)
 
--- what they read: so many values of each key
-abbrev pub CountsReads : {T : Type 0} → (T → T → Type 0) → ParseFlag T → ParseFlag T
-    → Readings (ℕ × ℕ)
-CountsReads {T} clones more fewer =
-    BothReads ℕ ℕ
-    (MapReads (List T) ℕ (ListReads (KeyReads clones more)) (λ values n. n ≡ length values))
-    (MapReads (List T) ℕ (ListReads (KeyReads clones fewer)) (λ values n. n ≡ length values))
+-- what a counted key reads: so many values
+abbrev pub CountReads : {T : Type 0} → (T → T → Type 0) → ParseFlag T → Readings ℕ
+CountReads {T} clones flag =
+    MapReads (List T) ℕ (ListReads (KeyReads clones flag)) (λ values n. n ≡ length values)
+
+-- and what both read
+abbrev pub CountsReads : (Unit {0} → Unit {0} → Type 0) → KeyCounts → Readings (ℕ × ℕ)
+CountsReads clones keys =
+    BothReads ℕ ℕ (CountReads clones (more_of keys)) (CountReads clones (fewer_of keys))
 
 -- what a counted key shows: its item, which may stand any number of times
 abbrev pub CountShows : {T : Type 0} → ParseFlag T → Shape → Type 0
 CountShows flag = ManyDescribes (λ shape. shape ≡ flag_shape flag.named flag.absent)
 
 -- what both show
-abbrev pub CountsDescribe : {T : Type 0} → ParseFlag T → ParseFlag T → Shape → Type 0
-CountsDescribe more fewer =
-    ProductDescribes (BothDescribes (CountShows more) (LastDescribes (CountShows fewer)))
+abbrev pub CountsDescribe : KeyCounts → Shape → Type 0
+CountsDescribe keys = ProductDescribes
+    (BothDescribes (CountShows (more_of keys)) (LastDescribes (CountShows (fewer_of keys))))
 
 -- a number is the level of the keys that were newly taken
-abbrev pub VerbosityCounts : {T : Type 0} → ParseFlag T → ParseFlag T → (offset min max : ℤ)
-    → Situation → Situation → ℤ → Type 0
-VerbosityCounts more fewer offset min max s t v =
-    IsLevelOf offset min max (keys_taken more s t, keys_taken fewer s t) v
+abbrev pub VerbosityCounts : KeyCounts → (offset min max : ℤ) → Situation → Situation → ℤ → Type 0
+VerbosityCounts keys offset min max s t v =
+    IsLevelOf offset min max (keys_taken (more_of keys) s t, keys_taken (fewer_of keys) s t) v
 
 -- a clone of the item at the level of two counts, from the first to the last
 abbrev pub PicksItem : {T : Type 0} → (T → T → Type 0) → ℕ → List T → ℕ × ℕ → T → Type 0
@@ -75,10 +99,11 @@ PicksItem {T} clones offset items counts v =
     × (slice_get items place ≡ Some item) × clones item v
 
 -- the item at the level of the keys that were newly taken
-abbrev pub VerbosityPicks : {K T : Type 0} → ParseFlag K → ParseFlag K → (T → T → Type 0) → ℕ
-    → List T → Situation → Situation → T → Type 0
-VerbosityPicks more fewer clones offset items s t v =
-    PicksItem clones offset items (keys_taken more s t, keys_taken fewer s t) v
+abbrev pub VerbosityPicks : {T : Type 0} → KeyCounts → (T → T → Type 0) → ℕ → List T → Situation
+    → Situation → T → Type 0
+VerbosityPicks keys clones offset items s t v =
+    PicksItem clones offset items
+    (keys_taken (more_of keys) s t, keys_taken (fewer_of keys) s t) v
 
 -- an item that is picked by the inner value; an inner refusal is passed on, or memory for the item
 -- is wanted

@@ -1,22 +1,16 @@
 //! How often the keys for more and for less are given.
-ghost use Rattle.std.specs.Prelude.{◌≡◌, ◌∷◌, [], IfOk, IsTrue, None, ◌++◌};
-ghost use Rattle.bpaf_batteries.specs.Keys.{AreKeysApart, AreVerboseAndQuiet, IsCountedKey};
-ghost use Rattle.bpaf_batteries.specs.Verbosity.{CountsDescribe, CountsOutcome, CountsReads};
-ghost use Rattle.bpaf_batteries.specs.Verbosity.{CountsSpared, KeysAreCounted};
+ghost use Rattle.std.specs.Prelude.{◌≡◌, ◌∷◌, [], IfOk, IsTrue, None};
+ghost use Rattle.bpaf_batteries.specs.Keys.{IsCountedKey};
+ghost use Rattle.bpaf_batteries.specs.Verbosity.{AreVerboseAndQuiet, CountsDescribe, CountsOutcome};
+ghost use Rattle.bpaf_batteries.specs.Verbosity.{CountsReads, CountsSpared, KeysAreCounted};
+ghost use Rattle.bpaf_batteries.specs.Verbosity.{counted_shorts};
 ghost use Rattle.bpaf_batteries.specs.VerbosityLaws.{counts_lawful, counts_show};
-ghost use Rattle.bpaf_laws.specs.{Spared.IsNotMemory, ShownNames.of_flags};
+ghost use Rattle.bpaf_laws.specs.{Spared.IsNotMemory};
 
+use crate::pair::KeyCounts;
 use bpaf::parsers::{ParseCount, ParseFlag};
 use bpaf::{Both, Doc, Error, Fields, Last, Meta, Parser, State, short};
 use std::alloc::{AllocError, Global};
-
-/// Two keys that may each stand any number of times, counted.
-#[derive(Drop)]
-pub struct KeyCounts {
-    /// The counts of the two keys.
-    pub fields: Both<ParseCount<ParseFlag<()>, ()>, Last<ParseCount<ParseFlag<()>, ()>>>,
-    pub ghost apart: { AreKeysApart fields.first.inner fields.rest.last.inner },
-}
 
 /// How often a key of these names and this help stands on the line; refused only for want of
 /// memory.
@@ -40,7 +34,7 @@ fn counted(
 
 /// The keys `-v`, `--verbose` and `-q`, `--quiet`; refused only for want of memory.
 pub(crate) fn verbose_and_quiet(alloc: Global) -> Result<KeyCounts, AllocError>
-    ensures { IfOk result (λ p. AreVerboseAndQuiet p.fields.first.inner p.fields.rest.last.inner) }
+    ensures { IfOk result AreVerboseAndQuiet }
 {
     let help = "Increase output verbosity, can be used several times";
     let first = counted(alloc, 'v', "verbose", help)?;
@@ -58,25 +52,19 @@ pub(crate) fn verbose_and_quiet(alloc: Global) -> Result<KeyCounts, AllocError>
 impl Parser<(usize, usize)> for KeyCounts {
     ghost can_eval = { λ p. Unit {0} };
 
-    ghost describes = { λ p. CountsDescribe p.fields.first.inner p.fields.rest.last.inner };
+    ghost describes = { CountsDescribe };
 
-    ghost shorts = { λ p. of_flags (p.fields.first.inner.named.names.shorts
-        ++ p.fields.rest.last.inner.named.names.shorts) };
+    ghost shorts = { counted_shorts };
 
-    ghost reads = { λ p.
-        CountsReads ⟦<() as Clone>⟧.is_clone p.fields.first.inner p.fields.rest.last.inner };
+    ghost reads = { CountsReads ⟦<() as Clone>⟧.is_clone };
 
-    ghost outcome = { λ p.
-        CountsOutcome ⟦<() as Clone>⟧.is_clone p.fields.first.inner p.fields.rest.last.inner };
+    ghost outcome = { CountsOutcome ⟦<() as Clone>⟧.is_clone };
 
     fn eval(&self, state: &mut State) -> Result<(usize, usize), Error>
-        ensures outcome { CountsOutcome ⟦<() as Clone>⟧.is_clone self.now.fields.first.inner
-            self.now.fields.rest.last.inner state.old result state.new }
-        ensures keys_are_counted { IfOk result (KeysAreCounted self.now.fields.first.inner
-            self.now.fields.rest.last.inner state.old state.new) }
+        ensures outcome { CountsOutcome ⟦<() as Clone>⟧.is_clone self.now state.old result state.new }
+        ensures keys_are_counted { IfOk result (KeysAreCounted self.now state.old state.new) }
         ensures memory_is_never_caught { IsNotMemory result → CountsSpared
-            ⟦<() as Clone>⟧.is_clone self.now.fields.first.inner
-            self.now.fields.rest.last.inner state.old result state.new }
+            ⟦<() as Clone>⟧.is_clone self.now state.old result state.new }
     {
         let counts = self.fields.eval_fields(state);
         state.set_current(None);
@@ -89,8 +77,7 @@ impl Parser<(usize, usize)> for KeyCounts {
         Ok(Meta::And(metas))
     }
 
-    ghost lawful = { λ p.
-        counts_lawful ⟦<() as Clone>⟧.is_clone p.fields.first.inner p.fields.rest.last.inner };
+    ghost lawful = { counts_lawful ⟦<() as Clone>⟧.is_clone };
 
-    ghost shows = { λ p. counts_show p.fields.first.inner p.fields.rest.last.inner };
+    ghost shows = { counts_show };
 }

@@ -16,12 +16,13 @@
 #![tactic(auto)]
 
 mod counts;
+mod pair;
 mod toggle;
 mod usage;
 mod verbosity;
 
 pub use bpaf::{CargoHelper, cargo_helper};
-pub use counts::KeyCounts;
+pub use pair::KeyCounts;
 pub use toggle::{ToggleFlag, toggle_flag};
 pub use usage::get_usage;
 pub use verbosity::{VerboseQuiet, VerboseSlice, verbose_and_quiet_by_number, verbose_by_slice};

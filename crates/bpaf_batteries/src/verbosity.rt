@@ -1,15 +1,16 @@
 //! How much a program tells, as a number or as a member of a list.
-ghost use Rattle.std.specs.Prelude.{◌≡◌, ◌<◌, ◌≤◌, ◌≤ℤ◌, ◌-ℤ◌, IfOk, length, pos, ℕ, ℤ, ◌++◌};
-ghost use Rattle.bpaf_batteries.specs.Verbosity.{PicksItem, CountsDescribe, CountsOutcome};
-ghost use Rattle.bpaf_batteries.specs.Verbosity.{CountsReads, CountsSpared, VerbosityCounts};
-ghost use Rattle.bpaf_batteries.specs.Verbosity.{PickOutcome, VerbosityPicks};
+ghost use Rattle.std.specs.Prelude.{◌≡◌, ◌<◌, ◌≤◌, ◌≤ℤ◌, ◌-ℤ◌, IfOk, length, pos, ℕ, ℤ};
+ghost use Rattle.bpaf_batteries.specs.Verbosity.{AreVerboseAndQuiet, CountsDescribe, CountsOutcome};
+ghost use Rattle.bpaf_batteries.specs.Verbosity.{CountsReads, CountsSpared, PickOutcome, PicksItem};
+ghost use Rattle.bpaf_batteries.specs.Verbosity.{VerbosityCounts, VerbosityPicks, counted_shorts};
 ghost use Rattle.bpaf_batteries.specs.VerbosityLaws.{counts_lawful, counts_show, pick_lawful};
-ghost use Rattle.bpaf_batteries.specs.{Keys.AreVerboseAndQuiet, Level.IsLevelOf};
+ghost use Rattle.bpaf_batteries.specs.Level.{IsLevelOf};
 ghost use Rattle.bpaf_laws.specs.Transform.{MapOutcome, MapReads};
-ghost use Rattle.bpaf_laws.specs.{Spared.IsNotMemory, ShownNames.of_flags};
+ghost use Rattle.bpaf_laws.specs.{Spared.IsNotMemory};
 ghost use Rattle.bpaf_laws.proofs.TransformLaws.{map_lawful};
 
-use crate::counts::{KeyCounts, verbose_and_quiet};
+use crate::counts::verbose_and_quiet;
+use crate::pair::KeyCounts;
 use bpaf::{Error, Meta, Parser, State};
 use std::alloc::{AllocError, Global};
 
@@ -44,8 +45,7 @@ pub fn verbose_and_quiet_by_number(
     max: isize,
 ) -> Result<VerboseQuiet, AllocError>
     requires { min ≤ℤ max }
-    ensures keys { IfOk result (λ p. AreVerboseAndQuiet p.counts.fields.first.inner
-        p.counts.fields.rest.last.inner) }
+    ensures keys { IfOk result (λ p. AreVerboseAndQuiet p.counts) }
     ensures offset { IfOk result (λ p. p.offset ≡ offset) }
     ensures min { IfOk result (λ p. p.min ≡ min) }
     ensures max { IfOk result (λ p. p.max ≡ max) }
@@ -71,30 +71,23 @@ fn level(offset: isize, min: isize, max: isize, more: usize, fewer: usize) -> is
 impl Parser<isize> for VerboseQuiet {
     ghost can_eval = { λ p. Unit {0} };
 
-    ghost describes = { λ p. CountsDescribe
-        p.counts.fields.first.inner p.counts.fields.rest.last.inner };
+    ghost describes = { λ p. CountsDescribe p.counts };
 
-    ghost shorts = { λ p. of_flags (p.counts.fields.first.inner.named.names.shorts
-        ++ p.counts.fields.rest.last.inner.named.names.shorts) };
+    ghost shorts = { λ p. counted_shorts p.counts };
 
-    ghost reads = { λ p. MapReads (ℕ × ℕ) ℤ (CountsReads ⟦<() as Clone>⟧.is_clone
-        p.counts.fields.first.inner p.counts.fields.rest.last.inner)
+    ghost reads = { λ p. MapReads (ℕ × ℕ) ℤ (CountsReads ⟦<() as Clone>⟧.is_clone p.counts)
         (IsLevelOf p.offset p.min p.max) };
 
-    ghost outcome = { λ p. MapOutcome (CountsOutcome ⟦<() as Clone>⟧.is_clone
-        p.counts.fields.first.inner p.counts.fields.rest.last.inner)
+    ghost outcome = { λ p. MapOutcome (CountsOutcome ⟦<() as Clone>⟧.is_clone p.counts)
         (IsLevelOf p.offset p.min p.max) };
 
     fn eval(&self, state: &mut State) -> Result<isize, Error>
-        ensures outcome { MapOutcome (CountsOutcome ⟦<() as Clone>⟧.is_clone
-            self.now.counts.fields.first.inner self.now.counts.fields.rest.last.inner)
+        ensures outcome { MapOutcome (CountsOutcome ⟦<() as Clone>⟧.is_clone self.now.counts)
             (IsLevelOf self.now.offset self.now.min self.now.max) state.old result state.new }
-        ensures verbosity_counts { IfOk result (VerbosityCounts
-            self.now.counts.fields.first.inner self.now.counts.fields.rest.last.inner
+        ensures verbosity_counts { IfOk result (VerbosityCounts self.now.counts
             self.now.offset self.now.min self.now.max state.old state.new) }
         ensures memory_is_never_caught { IsNotMemory result → MapOutcome (CountsSpared
-            ⟦<() as Clone>⟧.is_clone self.now.counts.fields.first.inner
-            self.now.counts.fields.rest.last.inner)
+            ⟦<() as Clone>⟧.is_clone self.now.counts)
             (IsLevelOf self.now.offset self.now.min self.now.max) state.old result state.new }
     {
         match self.counts.eval(state) {
@@ -107,12 +100,10 @@ impl Parser<isize> for VerboseQuiet {
         self.counts.meta(alloc)
     }
 
-    ghost lawful = { λ p. map_lawful (counts_lawful ⟦<() as Clone>⟧.is_clone
-        p.counts.fields.first.inner p.counts.fields.rest.last.inner)
+    ghost lawful = { λ p. map_lawful (counts_lawful ⟦<() as Clone>⟧.is_clone p.counts)
         (IsLevelOf p.offset p.min p.max) };
 
-    ghost shows = { λ p. counts_show
-        p.counts.fields.first.inner p.counts.fields.rest.last.inner };
+    ghost shows = { λ p. counts_show p.counts };
 }
 
 /// A level of verbosity as the item of an array (bpaf's `verbose_by_slice` answers an
@@ -144,8 +135,7 @@ pub fn verbose_by_slice<T: Drop, const N: usize>(
     items: [T; N],
 ) -> Result<VerboseSlice<T, N>, AllocError>
     requires { 1 ≤ N }
-    ensures keys { IfOk result (λ p. AreVerboseAndQuiet p.counts.fields.first.inner
-        p.counts.fields.rest.last.inner) }
+    ensures keys { IfOk result (λ p. AreVerboseAndQuiet p.counts) }
     ensures offset { IfOk result (λ p. p.offset ≡ offset) }
     ensures items { IfOk result (λ p. p.items ≡ items) }
 {
@@ -186,30 +176,23 @@ fn item_at<T: Clone + Drop>(
 impl<T: Clone + Drop, const N: usize> Parser<T> for VerboseSlice<T, N> {
     ghost can_eval = { λ p. Unit {0} };
 
-    ghost describes = { λ p. CountsDescribe
-        p.counts.fields.first.inner p.counts.fields.rest.last.inner };
+    ghost describes = { λ p. CountsDescribe p.counts };
 
-    ghost shorts = { λ p. of_flags (p.counts.fields.first.inner.named.names.shorts
-        ++ p.counts.fields.rest.last.inner.named.names.shorts) };
+    ghost shorts = { λ p. counted_shorts p.counts };
 
-    ghost reads = { λ p. MapReads (ℕ × ℕ) T (CountsReads ⟦<() as Clone>⟧.is_clone
-        p.counts.fields.first.inner p.counts.fields.rest.last.inner)
+    ghost reads = { λ p. MapReads (ℕ × ℕ) T (CountsReads ⟦<() as Clone>⟧.is_clone p.counts)
         (PicksItem T.is_clone p.offset p.items) };
 
-    ghost outcome = { λ p. PickOutcome (CountsOutcome ⟦<() as Clone>⟧.is_clone
-        p.counts.fields.first.inner p.counts.fields.rest.last.inner)
+    ghost outcome = { λ p. PickOutcome (CountsOutcome ⟦<() as Clone>⟧.is_clone p.counts)
         (PicksItem T.is_clone p.offset p.items) };
 
     fn eval(&self, state: &mut State) -> Result<T, Error>
-        ensures outcome { PickOutcome (CountsOutcome ⟦<() as Clone>⟧.is_clone
-            self.now.counts.fields.first.inner self.now.counts.fields.rest.last.inner)
+        ensures outcome { PickOutcome (CountsOutcome ⟦<() as Clone>⟧.is_clone self.now.counts)
             (PicksItem T.is_clone self.now.offset self.now.items) state.old result state.new }
-        ensures verbosity_counts { IfOk result (VerbosityPicks
-            self.now.counts.fields.first.inner self.now.counts.fields.rest.last.inner
-            T.is_clone self.now.offset self.now.items state.old state.new) }
+        ensures verbosity_counts { IfOk result (VerbosityPicks self.now.counts T.is_clone
+            self.now.offset self.now.items state.old state.new) }
         ensures memory_is_never_caught { IsNotMemory result → PickOutcome (CountsSpared
-            ⟦<() as Clone>⟧.is_clone self.now.counts.fields.first.inner
-            self.now.counts.fields.rest.last.inner)
+            ⟦<() as Clone>⟧.is_clone self.now.counts)
             (PicksItem T.is_clone self.now.offset self.now.items) state.old result state.new }
     {
         match self.counts.eval(state) {
@@ -222,10 +205,8 @@ impl<T: Clone + Drop, const N: usize> Parser<T> for VerboseSlice<T, N> {
         self.counts.meta(alloc)
     }
 
-    ghost lawful = { λ p. pick_lawful (counts_lawful ⟦<() as Clone>⟧.is_clone
-        p.counts.fields.first.inner p.counts.fields.rest.last.inner)
+    ghost lawful = { λ p. pick_lawful (counts_lawful ⟦<() as Clone>⟧.is_clone p.counts)
         (PicksItem T.is_clone p.offset p.items) };
 
-    ghost shows = { λ p. counts_show
-        p.counts.fields.first.inner p.counts.fields.rest.last.inner };
+    ghost shows = { λ p. counts_show p.counts };
 }

@@ -280,7 +280,7 @@ module _ {env : Variables} {T : Type 0} {inner : Outcome T} {k : FieldKind} {q :
   pub repeat_took : (idle : Bool) {s t : Situation} {vs : List T} → IsWholeIn env s
       → RepeatOutcome inner idle s (Ok vs) t → RepeatTook s vs t
   repeat_took false {vs} w o = turns_took true vs w o.steps o.stop
-  repeat_took true {vs} w (stops m turns stop) = turns_took false vs w turns stop
+  repeat_took true {vs} w (stops run) = turns_took false vs w run.steps run.stop
   repeat_took true {s} {t} w (rests v e ran same) = rw e (first_idle s t w same (l.ok s t v w ran))
 
   -- Where the pieces can be read a refusal comes for want of memory alone.

@@ -1,13 +1,14 @@
 -- Behind the word of an adjacent command: what is read there is one stretch.
-use Rattle.std.proofs.Common.{◌≡◌, ℕ, ◌+◌, ◌<◌, ◌≤◌, ◌==◌, true, ◌&&◌, ◌||◌, nat_le, nat_lt, ap}
-use Rattle.std.proofs.Common.{◌∙◌, arith}
+use Rattle.std.proofs.Common.{◌≡◌, ℕ, ◌+◌, ◌<◌, ◌≤◌, ◌==◌, true, ◌&&◌, ◌||◌, nat_le, nat_lt}
+use Rattle.std.proofs.Common.{◌∙◌, arith, sym, true≢false}
 use Rattle.std.proofs.lemmas.Bool.Decides.{nat_tests}
 use Rattle.bpaf_line.specs.Situation.{Situation, is_open, open_count, with_scope}
 use Rattle.bpaf_laws.specs.Laws.{Keeps, Reads, newly}
 use Rattle.bpaf_laws.specs.Command.{Called, CommandReads, IsOpenedAt, inside, opening_words}
 use Rattle.bpaf_laws.specs.{Reading.Readings, OneStretch.StretchReads}
-use Rattle.bpaf_laws.proofs.CommandLaws.{closes_inside, keeps_inside, word_is_open}
+use Rattle.bpaf_laws.proofs.CommandLaws.{keeps_inside, word_is_open, word_read}
 use Rattle.bpaf_laws.proofs.Keeping.{keeps_scope, keeps_trans, newly_joins, newly_take}
+use Rattle.bpaf_laws.proofs.Keeping.{reads_as, reads_both}
 use Rattle.bpaf_laws.proofs.OneStretch.{keeps_stretch, newly_stretch}
 
 -- a place and the stretch behind it are one stretch
@@ -33,11 +34,13 @@ module _ (called : Called) (s : Situation) (p : ℕ) (at : IsOpenedAt (opening_w
         let m : Situation = inside called s p in
         let word = newly_take s p (word_is_open (opening_words called) s p at) in
         let joins = newly_joins s m t (keeps_inside called s p at) kept_inside in
-        joins.all q
-        ∙ (ap (λ x. x || newly m t q) (word q)
-        ∙ (ap (λ x. q == p || x)
-        (newly_stretch m (p + 1) end present t read.keeps read.closed none q)
-        ∙ one_more p end q ordered))
+        grind (
+          arith,
+          nat_tests,
+          joins.all q,
+          word q,
+          newly_stretch m (p + 1) end present t read.keeps read.closed none q,
+        )
 
     -- what is read over a stretch of present places behind the word is a reading, with the scope
     -- from the word on
@@ -45,24 +48,12 @@ module _ (called : Called) (s : Situation) (p : ℕ) (at : IsOpenedAt (opening_w
         (with_scope t p s.end)
     adjacent_read =
         let m : Situation = inside called s p in
-        let entered = keeps_inside called s p at in
-        record {
-          keeps = keeps_scope s t p s.end (keeps_trans s m t entered kept_inside)
-              (λ q within. entered.narrows q within);
-          closed = λ q within outside.
-              kept_inside.stays q (closes_inside called s p at q within outside);
-          reading = record {
-            read = record {
-              name = p;
-              read = record {
-                first_share = newly s m;
-                rest_share = newly m t;
-                joins = newly_joins s m t entered kept_inside;
-                first_read =
-                    (at.named, newly_take s p (word_is_open (opening_words called) s p at));
-                rest_read = read.reading;
-              };
-            };
-            stretch = record { from = p; to = end; is = one_stretch };
-          };
-        }
+        let inner : Reads T reads m v (with_scope t p s.end) = record {
+          keeps = keeps_scope m t p s.end kept_inside (λ q within. within);
+          closed = λ q within outside. absurd (true≢false (sym within ∙ outside));
+          reading = read.reading;
+        } in
+        reads_as (reads_both (word_read called s p at) inner) (λ both. record {
+          read = record { name = p; read = both };
+          stretch = record { from = p; to = end; is = one_stretch };
+        })

@@ -1,29 +1,25 @@
 -- Adjacent groups keep to the laws where their products do.
-use Rattle.std.specs.Prelude.{IfOk, ◌≡◌, ℕ, ◌<◌, ◌≤◌, Bool, true, false, not, ◌&&◌, nat_le, nat_lt}
-use Rattle.std.specs.Prelude.{List, Result, Ok, Err, Option, Some, None, if◌then◌else◌, refl}
-use Rattle.std.proofs.Common.{ap, sym, subst, ◌∙◌, ◌+◌, arith, true≢false}
-use Rattle.std.proofs.lemmas.Bool.{and_parts}
+use Rattle.std.specs.Prelude.{IfOk, ◌≡◌, ℕ, ◌<◌, ◌≤◌, true, false, nat_lt}
+use Rattle.std.specs.Prelude.{List, Result, Ok, Err, Option, Some, None, if◌then◌else◌}
+use Rattle.std.proofs.Common.{arith, sym, ◌∙◌, true≢false}
+use Rattle.std.proofs.lemmas.Bool.{both_ways, Decides.nat_tests}
 use Rattle.bpaf_doc.specs.Shape.{Part}
-use Rattle.bpaf_line.specs.Situation.{Situation, is_taken, is_open, with_scope}
+use Rattle.bpaf_line.specs.Situation.{Situation, is_open, with_scope}
 use Rattle.bpaf_line.specs.{declared.error.Error.Error, declared.error.Message.TheVariants.Missing}
 use Rattle.bpaf_line.proofs.Places.{open_in_scope, open_not_taken}
-use Rattle.bpaf_laws.specs.Reading.{Readings, Outcome, Share, IsEmptyShare, HasPlace}
-use Rattle.bpaf_laws.specs.Laws.{Keeps, Reads, Lawful, newly}
+use Rattle.bpaf_laws.specs.Reading.{Readings, Outcome, Share}
+use Rattle.bpaf_laws.specs.Laws.{Keeps, Lawful, newly}
 use Rattle.bpaf_laws.specs.AdjacentGroup.{Failure, longer, longest, taken_by, Probe, Narrowed}
 use Rattle.bpaf_laws.specs.AdjacentGroup.{whole, again, Tries, answered, refused, TriedInVain}
 use Rattle.bpaf_laws.specs.AdjacentGroup.{none_tried, not_taken, all_failed, Searches, gave}
-use Rattle.bpaf_laws.specs.AdjacentGroup.{none_gave, wanted, GroupOutcome, EndsWith, place_count}
+use Rattle.bpaf_laws.specs.AdjacentGroup.{none_gave, wanted, GroupOutcome, EndsWith}
 use Rattle.bpaf_laws.specs.{RefusalNames.NamesAnswer, Spared.IsNotMemory, Spared.Spares}
 use Rattle.bpaf_laws.specs.{OneStretch.IsStretch, OneStretch.StretchReads, Counting.taken_count}
-use Rattle.bpaf_laws.proofs.Keeping.{keeps_of, keeps_refl, keeps_same, keeps_trans, keeps_scope}
-use Rattle.bpaf_laws.proofs.OneStretch.{between, new_in_stretch, keeps_stretch}
-use Rattle.bpaf_laws.proofs.{NamesAnswer.names_same, NamesAnswer.names_want, Sparing.not_both}
-
--- at one place: what isn't present in a scope in which it lies is taken
-taken_of : (x y : Bool) → (x && not y) ≡ false → x ≡ true → y ≡ true
-taken_of true true h e = refl
-taken_of true false h e = cc
-taken_of false y h e = cc
+use Rattle.bpaf_laws.proofs.Keeping.{AnswersLawfully, LawfulAnswer, lawful_by, keeps_of, keeps_refl, keeps_same}
+use Rattle.bpaf_laws.proofs.Keeping.{keeps_trans, keeps_scope}
+use Rattle.bpaf_laws.proofs.OneStretch.{keeps_stretch}
+use Rattle.bpaf_laws.proofs.{NamesAnswer.names_same, NamesAnswer.names_want}
+use Rattle.bpaf_line.specs.Messages.{is_memory}
 
 -- places that are present in scope
 abbrev AllOpen : Situation → ℕ → ℕ → Type 0
@@ -56,33 +52,32 @@ module _ {T : Type 0} {inner : Outcome T} {reads : Readings T} (law : Lawful T i
   tries_keep a r t (refused stop e left narrowed ran) =
       attempt_keeps a stop (Err e) left narrowed ran
 
-  -- their error names its answer
-  tries_named : (a : ℕ) (e : Error) (t : Situation) → Tries T inner s a (Err e) t → NamesAnswer e.0
-  tries_named a e t (refused stop d left narrowed ran) = law.named (with_scope s a stop) left d ran
-
-  -- a value of theirs is read off one stretch
-  tries_read : (a : ℕ) (v : T) (t : Situation) → Tries T inner s a (Ok v) t
-      → Reads T (StretchReads T reads) s v t
-  tries_read a v t (answered stop v' left narrowed ran none) =
+  -- a value of theirs is read off one stretch, and an error names its answer
+  tries_answer : (a : ℕ) (r : Result T Error) (t : Situation) → Tries T inner s a r t
+      → LawfulAnswer T (StretchReads T reads) s r t
+  tries_answer a r t (refused stop e left narrowed ran) = (
+    attempt_keeps a stop (Err e) left narrowed ran,
+    law.named (with_scope s a stop) left e ran,
+  )
+  tries_answer a r t (answered stop v left narrowed ran none) =
       let opened = narrowed_open inner s a stop narrowed in
-      let read = law.ok (with_scope s a stop) left v' ran in
+      let read = law.ok (with_scope s a stop) left v ran in
       record {
-        keeps = tries_keep a (Ok v') _ (answered stop v' left narrowed ran none);
+        keeps = tries_keep a (Ok v) _ (answered stop v left narrowed ran none);
         closed = λ p within outside. absurd (true≢false (sym within ∙ outside));
         reading = record {
           read = read.reading;
           stretch = record {
             from = a;
             to = stop;
-            is = λ p.
-                let range = nat_le a p && nat_lt p stop in
-                new_in_stretch (is_taken left p) (is_taken s p) range
-                (λ within.
-                let inside = between a stop p within in (
-                  taken_of range (is_taken left p) (none p inside.0) within,
-                  open_not_taken s p (opened.1 p inside.0 inside.1),
-                ))
-                (λ new. (and_parts range (not (is_taken s p)) (read.keeps.fresh p new)).0);
+            is = λ p. grind (
+              arith,
+              nat_tests,
+              none p,
+              opened.1 p,
+              open_not_taken s p,
+              read.keeps.fresh p,
+            );
           };
         };
       }
@@ -101,49 +96,32 @@ module _ {T : Type 0} {inner : Outcome T} {reads : Readings T} (law : Lawful T i
       [ true ↦ now | false ↦ before ]
 
   -- so does the longest failure of places that were tried in vain
-  vain_keeps : (first : Part) (from : ℕ) (failures : List Failure)
+  vain_keeps : {first : Part} {from : ℕ} {failures : List Failure}
       → TriedInVain T inner s first from failures → BestKeeps (longest s failures)
-  vain_keeps first from failures none_tried = tt
-  vain_keeps first from failures (not_taken from' a failures' before start probe) =
-      vain_keeps first from' failures' before
-  vain_keeps first from failures
-      (all_failed from' a failures' e t before start probe tries spared) =
-      longer_keeps (longest s failures') (record { error = e; left = t })
-      (vain_keeps first from' failures' before)
-      (tries_keep a (Err e) t tries, tries_named a e t tries)
+  vain_keeps none_tried = tt
+  vain_keeps (not_taken from a failures before start probe) = vain_keeps before
+  vain_keeps (all_failed from a failures e t before start probe tries spared) =
+      longer_keeps (longest s failures) (record { error = e; left = t }) (vain_keeps before)
+      (tries_answer a (Err e) t tries)
 
-  -- what the laws say of an answer
-  abbrev IsGood : Result T Error → Situation → Type 0
-  IsGood (Ok v) t = Reads T (StretchReads T reads) s v t
-  IsGood (Err e) t = Keeps s t × NamesAnswer e.0
-
-  -- the longest failure is a good end; so is that there is none
+  -- and the end of a search without a value
   end_keeps : (first : Part) (best : Option Failure) (e : Error) (t : Situation) → BestKeeps best
-      → EndsWith s first best e t → IsGood (Err e) t
+      → EndsWith s first best e t → Keeps s t × NamesAnswer e.0
   end_keeps first None e t before ends =
       (keeps_same s t ends.3, names_same e.0 (Missing ends.0) tt ends.1)
-  end_keeps first (Some failure) e t before ends = (
-    subst (Keeps s) (sym ends.1) before.0,
-    names_same e.0 failure.error.0 before.1 (ap (λ d. d.0) ends.0),
-  )
-
-  -- a search keeps to the laws
-  searches_good : (first : Part) (r : Result T Error) (t : Situation)
-      → Searches T inner s first r t → IsGood r t
-  searches_good first r t (gave from a failures v t' before start probe tries) =
-      tries_read a v t' tries
-  searches_good first r t (none_gave from failures e t' before none ends) =
-      end_keeps first (longest s failures) e t' (vain_keeps first from failures before) ends
-  searches_good first r t (wanted e memory) = (keeps_refl s, names_want e.0 memory)
+  end_keeps first (Some failure) e t before ends = rw (ends.0, ends.1) before
 
 -- adjacent groups keep to the laws
 pub group_lawful : {T : Type 0} {inner : Outcome T} {reads : Readings T} (first : Part)
     → Lawful T inner reads → Lawful T (GroupOutcome T inner first) (StretchReads T reads)
-group_lawful first law = record {
-  ok = λ s t v o. searches_good law s first (Ok v) t o;
-  err = λ s t e o. (searches_good law s first (Err e) t o).0;
-  named = λ s t e o. (searches_good law s first (Err e) t o).1;
-}
+group_lawful {T} {inner} {reads} first law = lawful_by answers
+  where
+    answers : AnswersLawfully (GroupOutcome T inner first) (StretchReads T reads)
+    answers s r t (gave from a failures v left before start probe tries) =
+        tries_answer law s a (Ok v) left tries
+    answers s r t (none_gave from failures e left before none ends) =
+        end_keeps law s first (longest s failures) e left (vain_keeps law s before) ends
+    answers s r t (wanted e memory) = (keeps_refl s, names_want e.0 memory)
 
 -- a value of theirs newly took one stretch
 pub group_takes_stretch : {T : Type 0} {inner : Outcome T} {reads : Readings T} (first : Part)
@@ -155,26 +133,26 @@ group_takes_stretch first law s (Err e) t o = tt
 module _ {T : Type 0} (inner without : Outcome T) (spares : Spares inner without)
     (s : Situation) where
   -- what ended an attempt with a value isn't want of memory
-  narrowed_spared : (a b : ℕ) → Narrowed T inner s a b → Narrowed T without s a b
-  narrowed_spared a b (whole stop run) = whole stop run
-  narrowed_spared a b (again stop left v t before ran next) =
-      again stop left v t (narrowed_spared a stop before)
+  narrowed_spared : {a b : ℕ} → Narrowed T inner s a b → Narrowed T without s a b
+  narrowed_spared (whole stop run) = whole stop run
+  narrowed_spared {a} (again stop left v t before ran next) =
+      again stop left v t (narrowed_spared before)
       (spares (with_scope s a stop) t (Ok v) ran tt) next
 
   -- attempts catch no want of memory
-  tries_spared : (a : ℕ) (r : Result T Error) (t : Situation) → IsNotMemory r
+  tries_spared : {a : ℕ} {r : Result T Error} {t : Situation} → IsNotMemory r
       → Tries T inner s a r t → Tries T without s a r t
-  tries_spared a r t spared (answered stop v left narrowed ran none) =
-      answered stop v left (narrowed_spared a stop narrowed)
+  tries_spared {a} spared (answered stop v left narrowed ran none) =
+      answered stop v left (narrowed_spared narrowed)
       (spares (with_scope s a stop) left (Ok v) ran tt) none
-  tries_spared a r t spared (refused stop e left narrowed ran) =
-      refused stop e left (narrowed_spared a stop narrowed)
+  tries_spared {a} spared (refused stop e left narrowed ran) =
+      refused stop e left (narrowed_spared narrowed)
       (spares (with_scope s a stop) left (Err e) ran spared)
 
   -- nor do probes
-  probe_spared : (a stop : ℕ) (Takes : Share → Type 0) → Probe T inner s a stop Takes
+  probe_spared : {a stop : ℕ} {Takes : Share → Type 0} → Probe T inner s a stop Takes
       → Probe T without s a stop Takes
-  probe_spared a stop Takes probe = record {
+  probe_spared {a} {stop} probe = record {
     answer = probe.answer;
     left = probe.left;
     ran = spares (with_scope s a stop) probe.left probe.answer probe.ran probe.spared;
@@ -183,24 +161,22 @@ module _ {T : Type 0} (inner without : Outcome T) (spares : Spares inner without
   }
 
   -- nor do places that were tried in vain
-  vain_spared : (first : Part) (from : ℕ) (failures : List Failure)
+  vain_spared : {first : Part} {from : ℕ} {failures : List Failure}
       → TriedInVain T inner s first from failures → TriedInVain T without s first from failures
-  vain_spared first from failures none_tried = none_tried
-  vain_spared first from failures (not_taken from' a failures' before start probe) =
-      not_taken from' a failures' (vain_spared first from' failures' before) start
-      (probe_spared a (a + place_count first) IsEmptyShare probe)
-  vain_spared first from failures
-      (all_failed from' a failures' e t before start probe tries spared) =
-      all_failed from' a failures' e t (vain_spared first from' failures' before) start
-      (probe_spared a (a + place_count first) HasPlace probe)
-      (tries_spared a (Err e) t spared tries) spared
+  vain_spared none_tried = none_tried
+  vain_spared (not_taken from a failures before start probe) =
+      not_taken from a failures (vain_spared before) start (probe_spared probe)
+  vain_spared (all_failed from a failures e t before start probe tries spared) =
+      all_failed from a failures e t (vain_spared before) start (probe_spared probe)
+      (tries_spared spared tries) spared
 
   -- so an adjacent group catches none
   pub spared_group : (first : Part) (r : Result T Error) (t : Situation)
       → Searches T inner s first r t → IsNotMemory r → Searches T without s first r t
-  spared_group first r t (gave from a failures v t' before start probe tries) spared =
-      gave from a failures v t' (vain_spared first from failures before) start
-      (probe_spared a (a + place_count first) HasPlace probe) (tries_spared a (Ok v) t' tt tries)
-  spared_group first r t (none_gave from failures e t' before none ends) spared =
-      none_gave from failures e t' (vain_spared first from failures before) none ends
-  spared_group first r t (wanted e memory) spared = absurd (not_both e.0 spared memory)
+  spared_group first r t (gave from a failures v left before start probe tries) spared =
+      gave from a failures v left (vain_spared before) start (probe_spared probe)
+      (tries_spared tt tries)
+  spared_group first r t (none_gave from failures e left before none ends) spared =
+      none_gave from failures e left (vain_spared before) none ends
+  spared_group first r t (wanted e memory) spared =
+      absurd (both_ways (is_memory e.0) spared memory)

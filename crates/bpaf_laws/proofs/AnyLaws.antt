@@ -1,5 +1,5 @@
 -- Items that a look matches: what is read of them keeps to the laws.
-use Rattle.std.proofs.Common.{◌≡◌, ℕ, ◌+◌, Bool, true, false, List, [], ◌∷◌, refl, sym, subst, inl}
+use Rattle.std.proofs.Common.{◌≡◌, ℕ, ◌+◌, Bool, true, false, List, [], ◌∷◌, refl, sym, subst, inl, ◌⊎◌}
 use Rattle.std.proofs.Common.{inr, arith, Option, Some, None, option_map, if◌then◌else◌}
 use Rattle.std.specs.{Prelude.All, Prelude.Contains, List.filter_map, List.cons_option}
 use Rattle.std.proofs.lemmas.List.Elements.{All-nil, All-cons, All-take, All-contains}
@@ -7,10 +7,11 @@ use Rattle.std.proofs.lemmas.List.Elements.{Contains-append_right}
 use Rattle.bpaf_doc.specs.Shape.{Part}
 use Rattle.bpaf_base.specs.{declared.arg.Arg.Arg, Items.is_attached}
 use Rattle.bpaf_line.specs.Situation.{Situation, is_open, item_at, take_place}
-use Rattle.bpaf_line.specs.declared.error.Message.TheVariants.{Memory, Missing, ParseFailure}
+use Rattle.bpaf_line.specs.declared.error.Message.TheVariants.{Memory, Missing}
 use Rattle.bpaf_line.specs.{OpenItems.placed_item, Taking.open_item, declared.error.Message.Message}
 use Rattle.bpaf_line.proofs.Matches.{open_item_there}
 use Rattle.bpaf_laws.specs.Laws.{Keeps, Reads, Lawful}
+use Rattle.bpaf_laws.specs.Reading.{Share, IsPair, IsPlace}
 use Rattle.bpaf_laws.specs.Any.{Looks, AnyReads, AnyOutcome, AnyFails, FirstMatch, looked_at}
 use Rattle.bpaf_laws.specs.{RefusalNames.NamesAnswer, Any.take_item}
 use Rattle.bpaf_laws.proofs.Keeping.{keeps_same, keeps_take, keeps_trans, closes_take}
@@ -54,70 +55,57 @@ module _ {T : Type 0} (looks : Looks T) (anywhere : Bool) (s : Situation) (place
       (All-contains (IsPlaced s) (looked_at anywhere s) (place, item) (looked_placed s anywhere)
       match_is_looked_at)
 
-  -- the place alone is taken
-  place_read : Reads T (AnyReads T looks) s v (take_place s place)
-  place_read = record {
-    keeps = keeps_take s place match_placed.0;
-    closed = closes_take s place;
-    reading = record {
-      place = place;
-      item = item;
-      there = match_placed.1;
-      matched = found.matched;
-      places = inl (newly_take s place match_placed.0);
-    };
+  -- the situation in which its place is taken
+  abbrev m : Situation
+  m = take_place s place
+
+  -- places that are taken are read
+  is_read : {share : Share} → IsPlace place share ⊎ ((is_attached item ≡ true) × IsPair place share)
+      → AnyReads T looks s.context share v
+  is_read places = record {
+    place = place;
+    item = item;
+    there = match_placed.1;
+    matched = found.matched;
+    places = places;
   }
 
-  -- the place of an attached key and the next one are taken
-  pair_read : is_attached item ≡ true → is_open (take_place s place) (place + 1) ≡ true
-      → Reads T (AnyReads T looks) s v (take_place (take_place s place) (place + 1))
-  pair_read attached next =
-      let m = take_place s place in
-      record {
-        keeps =
-            keeps_trans s m (take_place m (place + 1)) (keeps_take s place match_placed.0)
+  -- so is the place alone
+  alone : Reads T (AnyReads T looks) s v m
+  alone = record {
+    keeps = keeps_take s place match_placed.0;
+    closed = closes_take s place;
+    reading = is_read (inl (newly_take s place match_placed.0));
+  }
+
+  -- and the match, whatever stands behind it
+  pub match_read : Reads T (AnyReads T looks) s v (take_item s place (is_attached item))
+  match_read = taken (is_attached item) (is_open m (place + 1)) refl refl
+    where
+      taken : (attached next : Bool) → is_attached item ≡ attached → is_open m (place + 1) ≡ next
+          → Reads T (AnyReads T looks) s v
+          (if attached then (if next then take_place m (place + 1) else m) else m)
+      taken true true attached next = record {
+        keeps = keeps_trans s m (take_place m (place + 1)) (keeps_take s place match_placed.0)
             (keeps_take m (place + 1) next);
         closed = closes_take_both s place (place + 1);
-        reading = record {
-          place = place;
-          item = item;
-          there = match_placed.1;
-          matched = found.matched;
-          places = inr (attached, newly_take_both s place match_placed.0 next);
-        };
+        reading = is_read (inr (attached, newly_take_both s place match_placed.0 next));
       }
-
-  -- the match is taken, whatever stands behind it
-  taken_read : (attached next : Bool) → is_attached item ≡ attached
-      → is_open (take_place s place) (place + 1) ≡ next
-      → Reads T (AnyReads T looks) s v (if attached then
-      (if next then take_place (take_place s place) (place + 1) else take_place s place)
-      else take_place s place)
-  taken_read true true attached next = pair_read attached next
-  taken_read true false attached next = place_read
-  taken_read false next attached is = place_read
-
-  -- a match that is taken is a reading
-  pub match_read : Reads T (AnyReads T looks) s v (take_item s place (is_attached item))
-  match_read = taken_read (is_attached item) (is_open (take_place s place) (place + 1)) refl refl
+      taken true false attached next = alone
+      taken false next attached is = alone
 
 module _ (T : Type 0) (looks : Looks T) (part : Part) (anywhere : Bool) where
-  -- what a refusal keeps
-  any_refused : (s t : Situation) (m : Message) → AnyFails looks part anywhere s m t → Keeps s t
-  any_refused s t (Missing items) fails = keeps_same s t fails.0.1
-  any_refused s t Memory fails = keeps_same s t fails
+  -- what a refusal keeps, and that it isn't the answer of a run inside
+  any_refused : (s t : Situation) (m : Message) → AnyFails looks part anywhere s m t
+      → Keeps s t × NamesAnswer m
+  any_refused s t (Missing items) fails = (keeps_same s t fails.0.1, tt)
+  any_refused s t Memory fails = (keeps_same s t fails, tt)
   any_refused s t other fails = absurd fails
-
-  -- no refusal is the answer of a run inside
-  any_named : (s t : Situation) (m : Message) → AnyFails looks part anywhere s m t → NamesAnswer m
-  any_named s t (ParseFailure f) fails = absurd fails
-  any_named s t other fails = tt
 
   -- the parser of any item keeps to the laws
   pub any_lawful : Lawful T (AnyOutcome looks part anywhere) (AnyReads T looks)
   any_lawful = record {
-    ok = λ s t v o. subst (Reads T (AnyReads T looks) s v) (sym o.3)
-        (match_read looks anywhere s o.0 o.1 v o.2);
-    err = λ s t e o. any_refused s t e.0 o;
-    named = λ s t e o. any_named s t e.0 o;
+    ok = λ s t v o. rw o.3 (match_read looks anywhere s o.0 o.1 v o.2);
+    err = λ s t e o. (any_refused s t e.0 o).0;
+    named = λ s t e o. (any_refused s t e.0 o).1;
   }

@@ -1,5 +1,5 @@
 -- The name by which a program is called keeps to the laws.
-use Rattle.std.proofs.Common.{◌≡◌, ℕ, List, [], ◌∷◌, Option, Some, None, IfSome, slice_get}
+use Rattle.std.proofs.Common.{◌≡◌, ℕ, List, Option, Some, IfSome, slice_get, arith}
 use Rattle.std.proofs.Common.{string_bytes, String}
 use Rattle.std.specs.declared.alloc.Global.{Global}
 use Rattle.bpaf_line.specs.declared.error.Message.TheVariants.{Memory}
@@ -12,9 +12,7 @@ use Rattle.bpaf_laws.proofs.Keeping.{keeps_same, newly_none, reads_same}
 first_is_name : (path : List (List ℕ)) (name : Option (List ℕ)) (text : List ℕ)
     → text ≡ first_entry path → IfSome name (λ n. slice_get path 0 ≡ Some n)
     → IfSome name (λ n. text ≡ n)
-first_is_name path None text is begins = tt
-first_is_name [] (Some n) text is begins = cc
-first_is_name (entry ∷ entries) (Some n) text is begins = cc
+first_is_name path name text is begins = grind arith
 
 -- it keeps to the laws
 pub appname_lawful : Lawful (String Global) AppnameOutcome AppnameReads

@@ -1,12 +1,12 @@
 -- Choices of any number of parsers: one parser after another.
 use Rattle.std.proofs.Common.{◌≡◌, true, false, List, [], ◌∷◌, ◌++◌, Result, Ok, Err, length, ◌==◌}
-use Rattle.std.proofs.Common.{◌⊎◌, refl, sym, subst, inl, inr, ⊎_elim, true≢false}
+use Rattle.std.proofs.Common.{◌⊎◌, refl, sym, subst, inr, true≢false}
 use Rattle.bpaf_doc.specs.Shape.{Shape}
 use Rattle.bpaf_line.specs.{Messages.is_memory, Situation.Situation, declared.error.Error.Error}
-use Rattle.bpaf_laws.specs.Spared.{IsNotMemory, WithoutMemory}
-use Rattle.bpaf_laws.specs.Choice.{is_want, IsWant, Chosen, BranchesEval, ChoiceOutcome}
+use Rattle.bpaf_laws.specs.Spared.{IsNotMemory, Spares, WithoutMemory}
+use Rattle.bpaf_laws.specs.Choice.{is_want, IsWant, Chosen, ChoiceOutcome}
 use Rattle.bpaf_laws.specs.Choice.{ChoiceDescribes, either_shape}
-use Rattle.bpaf_laws.proofs.Choosing.{ran_outcome, choice_spared}
+use Rattle.bpaf_laws.proofs.Choosing.{choice_within, ran_outcome}
 use Rattle.bpaf_laws.specs.{Reading.Outcome, Choices.Nested, Choices.ChoicesOutcome}
 
 -- one more parser at the end
@@ -55,54 +55,22 @@ one_more_shown describes before ps p a b shape first last is =
     subst (λ shows. shows shape) (sym (nested_more ChoiceDescribes describes before ps p))
     (a, b, first, last, is)
 
-module _ {T : Type 0} (before less second : Outcome T)
-    (within : (s t : Situation) (r : Result T Error) → before s r t → less s r t) where
-  -- fewer answers before give fewer runs of two branches
-  abbrev pub ran_fewer : (s t : Situation) (r : Result T Error) → BranchesEval before second s r t
-      → BranchesEval less second s r t
-  ran_fewer s t r o = record {
-    a = o.a;
-    sa = o.sa;
-    b = o.b;
-    sb = o.sb;
-    first_ran = within s o.sa o.a o.first_ran;
-    second_ran = o.second_ran;
-    first_spared = o.first_spared;
-    second_spared = o.second_spared;
-    chosen = o.chosen;
-  }
+-- fewer answers of parsers that aren't want of memory give fewer of a choice of many
+nested_spares : {T P : Type 0} (outcome without : P → Outcome T) (before less : Outcome T)
+    (ps : List P) → Spares before less → ((p : P) → Spares (outcome p) (without p))
+    → Spares (Nested ChoiceOutcome outcome before ps) (Nested ChoiceOutcome without less ps)
+nested_spares outcome without before less [] fewer each = fewer
+nested_spares outcome without before less (p ∷ ps) fewer each =
+    nested_spares outcome without (ChoiceOutcome before (outcome p))
+    (ChoiceOutcome less (without p)) ps
+    (λ s t r ran spared.
+    choice_within before (outcome p) less (without p) fewer (each p) s t r ran) each
 
-  -- and fewer answers of a choice
-  pub choice_fewer : (s t : Situation) (r : Result T Error) → ChoiceOutcome before second s r t
-      → ChoiceOutcome less second s r t
-  choice_fewer s t (Ok v) o = ran_fewer s t (Ok v) o
-  choice_fewer s t (Err e) o = ⊎_elim (λ ran. inl (ran_fewer s t (Err e) ran)) (λ want. inr want) o
-
--- so it is of many
-from_fewer : {T P : Type 0} (outcome : P → Outcome T) (before less : Outcome T) (ps : List P)
-    → ((s t : Situation) (r : Result T Error) → before s r t → less s r t)
-    → (s t : Situation) (r : Result T Error) → Nested ChoiceOutcome outcome before ps s r t
-    → Nested ChoiceOutcome outcome less ps s r t
-from_fewer outcome before less [] within s t r o = within s t r o
-from_fewer outcome before less (p ∷ ps) within s t r o =
-    from_fewer outcome (ChoiceOutcome before (outcome p)) (ChoiceOutcome less (outcome p)) ps
-    (choice_fewer before less (outcome p) within) s t r o
-
--- a choice of many catches no want of memory
-from_spared : {T P : Type 0} (outcome : P → Outcome T) (before : Outcome T) (ps : List P)
-    (s t : Situation) (r : Result T Error)
-    → Nested ChoiceOutcome outcome before ps s r t → IsNotMemory r
-    → Nested ChoiceOutcome (λ p. WithoutMemory (outcome p)) (WithoutMemory before) ps s r t
-from_spared outcome before [] s t r o spared = (o, spared)
-from_spared outcome before (p ∷ ps) s t r o spared =
-    from_fewer (λ q. WithoutMemory (outcome q)) (WithoutMemory (ChoiceOutcome before (outcome p)))
-    (ChoiceOutcome (WithoutMemory before) (WithoutMemory (outcome p))) ps
-    (λ m n answer answered. choice_spared before (outcome p) m n answer answered.0 answered.1) s t r
-    (from_spared outcome (ChoiceOutcome before (outcome p)) ps s t r o spared)
-
--- nor does a choice of any number
+-- so a choice of any number catches no want of memory
 pub choices_spared : {T P : Type 0} (outcome : P → Outcome T) (ps : List P) (s t : Situation)
     (r : Result T Error) → ChoicesOutcome outcome ps s r t → IsNotMemory r
     → ChoicesOutcome (λ p. WithoutMemory (outcome p)) ps s r t
 choices_spared outcome [] s t r o spared = o
-choices_spared outcome (p ∷ ps) s t r o spared = from_spared outcome (outcome p) ps s t r o spared
+choices_spared outcome (p ∷ ps) s t r o spared =
+    nested_spares outcome (λ q. WithoutMemory (outcome q)) (outcome p) (WithoutMemory (outcome p)) ps
+    (λ s t r ran spared. (ran, spared)) (λ q s t r ran spared. (ran, spared)) s t r o spared

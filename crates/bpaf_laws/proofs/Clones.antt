@@ -1,6 +1,6 @@
 -- Where clones equal what they are made of, what is given out of a kept value is that value.
-use Rattle.std.specs.Prelude.{◌≡◌, Result, Ok, Err, Option, Some, None}
-use Rattle.std.proofs.Common.{⊎_elim, inl, inr}
+use Rattle.std.specs.Prelude.{◌≡◌, Result, Ok, Err, Option}
+use Rattle.std.proofs.Common.{⊎_elim, inl, inr, arith}
 use Rattle.bpaf_text.specs.Named.{Named}
 use Rattle.bpaf_line.specs.{Situation.Situation, declared.error.Error.Error}
 use Rattle.bpaf_laws.specs.Default.{FallbackOutcome, GivesClone}
@@ -20,8 +20,7 @@ module _ {T : Type 0} {clones : T → T → Type 0}
   -- the absent value of a flag, where it keeps one, is that
   absent_kept : (absent : Option T) (v : T) → IsSomeRelated clones absent v
       → IsSomeRelated IsKept absent v
-  absent_kept (Some kept) v is = equal kept v is
-  absent_kept None v is = is
+  absent_kept absent v is = grind (arith, equal)
 
   -- so a flag answers one of the two that it keeps
   pub flag_kept : (named : Named) (present : T) (absent : Option T) (s : Situation)

@@ -1,31 +1,18 @@
 -- Behind the word of a command: what opening its scope keeps, and what is read there.
-use Rattle.std.proofs.Common.{◌≡◌, ℕ, ◌<◌, Bool, true, false, not, ◌&&◌, List, length, ⊎_elim, refl}
-use Rattle.std.proofs.Common.{sym, ◌∙◌, arith, true≢false}
-use Rattle.std.proofs.{lemmas.Bool.cases_Bool, lemmas.Bool.Decides.nat_tests}
+use Rattle.std.proofs.Common.{◌≡◌, ℕ, true, false, List, length}
+use Rattle.std.proofs.Common.{arith}
+use Rattle.std.proofs.lemmas.Bool.{Decides.nat_tests}
 use Rattle.bpaf_base.specs.Items.{any_item}
-use Rattle.bpaf_line.specs.Situation.{Situation, in_scope, is_open, is_taken, open_count}
+use Rattle.bpaf_line.specs.Situation.{Situation, in_scope, is_open, open_count}
 use Rattle.bpaf_line.specs.Situation.{take_place}
 use Rattle.bpaf_line.proofs.Places.{open_in_line, open_in_scope, taken_stays}
 use Rattle.bpaf_line.proofs.Matches.{match_is_open, open_has_item}
-use Rattle.bpaf_laws.specs.Laws.{Keeps, Closes, Reads, newly}
+use Rattle.bpaf_laws.specs.Laws.{Keeps, Closes, Reads}
 use Rattle.bpaf_laws.specs.Command.{Called, CommandReads, IsOpenedAt, LeavesNothing, inside, opened}
-use Rattle.bpaf_laws.specs.{Reading.Readings, Command.opening_words}
-use Rattle.bpaf_laws.proofs.Keeping.{closes_trans, keeps_path, keeps_scope, keeps_take, keeps_trans}
-use Rattle.bpaf_laws.proofs.{CountingLaws.none_below, Keeping.newly_joins, Keeping.newly_take}
-
--- what is in scope and isn't taken is open
-open_unless_taken : (within taken : Bool) → within ≡ true → taken ≡ false
-    → (within && not taken) ≡ true
-open_unless_taken true false here present = refl
-open_unless_taken true true here present = absurd (true≢false present)
-open_unless_taken false taken here present = absurd (true≢false (sym here))
-
--- what is in scope and isn't open is taken
-taken_unless_open : (within taken : Bool) → within ≡ true → (within && not taken) ≡ false
-    → taken ≡ true
-taken_unless_open true true here closed = refl
-taken_unless_open true false here closed = absurd (true≢false closed)
-taken_unless_open false taken here closed = absurd (true≢false (sym here))
+use Rattle.bpaf_laws.specs.Reading.{Readings, HasItem, IsPlace}
+use Rattle.bpaf_laws.specs.Command.{is_one_of, opening_words}
+use Rattle.bpaf_laws.proofs.Keeping.{keeps_path, keeps_scope, keeps_take, newly_take, reads_as}
+use Rattle.bpaf_laws.proofs.{CountingLaws.none_below, Keeping.reads_both}
 
 module _ (words : List (List ℕ)) (s : Situation) (p : ℕ) (at : IsOpenedAt words s p) where
   -- the word is present, and in scope
@@ -42,31 +29,14 @@ module _ (words : List (List ℕ)) (s : Situation) (p : ℕ) (at : IsOpenedAt wo
   pub keeps_opened : Keeps s (opened s p)
   keeps_opened = keeps_scope s (take_place s p) p s.end (keeps_take s p word_is_open) scope_narrows
 
-  -- a place of the old scope that isn't behind it stands before it
-  stands_before : (q : ℕ) → in_scope s q ≡ true → in_scope (opened s p) q ≡ false → q < p
-  stands_before q within outside = grind (arith, nat_tests)
-
-  -- and is taken, since the word is the first present item
-  taken_before : (q : ℕ) → in_scope s q ≡ true → q < p → is_taken s q ≡ true
-  taken_before q within before = ⊎_elim (λ (taken : is_taken s q ≡ true). taken)
-      (λ (present : is_taken s q ≡ false). absurd (true≢false
-      (sym (open_has_item s q
-      (open_unless_taken (in_scope s q) (is_taken s q) within present))
-      ∙ at.first.first q before))) (cases_Bool (is_taken s q))
-
 -- where nothing is counted, nothing is open
 nothing_open : (t : Situation) → open_count t ≡ 0 → (q : ℕ) → is_open t q ≡ false
-nothing_open t none q = ⊎_elim
-    (λ (there : is_open t q ≡ true). absurd (true≢false (sym there
-    ∙ none_below (is_open t) (length t.context.line) none q (open_in_line t q there))))
-    (λ (closed : is_open t q ≡ false). closed) (cases_Bool (is_open t q))
+nothing_open t none q =
+    grind (arith, open_in_line t q, none_below (is_open t) (length t.context.line) none q)
 
 -- where nothing is present any more in scope, all that was in scope is taken
 pub leaves_nothing : (s t : Situation) → Closes s t → open_count t ≡ 0 → LeavesNothing s t
-leaves_nothing s t closed none q within = ⊎_elim
-    (λ (still : in_scope t q ≡ true).
-    taken_unless_open (in_scope t q) (is_taken t q) still (nothing_open t none q))
-    (λ (outside : in_scope t q ≡ false). closed q within outside) (cases_Bool (in_scope t q))
+leaves_nothing s t closed none q within = grind (arith, nothing_open t none q, closed q within)
 
 module _ (called : Called) (s : Situation) (p : ℕ)
     (at : IsOpenedAt (opening_words called) s p) where
@@ -75,29 +45,21 @@ module _ (called : Called) (s : Situation) (p : ℕ)
   keeps_inside = keeps_path s (opened s p) called.name (keeps_opened (opening_words called) s p at)
 
   -- a place that is left outside it is taken
-  pub closes_inside : Closes s (inside called s p)
+  closes_inside : Closes s (inside called s p)
   closes_inside q within outside =
-      let words = opening_words called in
-      taken_stays s p q (taken_before words s p at q within
-      (stands_before words s p at q within outside))
+      grind (arith, nat_tests, taken_stays s p q, open_has_item s q, at.first.first q)
 
-  module _ {T : Type 0} {reads : Readings T} (v : T) (t : Situation)
-      (read : Reads T reads (inside called s p) v t) where
-    -- what is read inside a command is a reading of the command
-    pub inside_read : Reads T (CommandReads T (opening_words called) reads) s v t
-    inside_read =
-        let m : Situation = inside called s p in
-        record {
-          keeps = keeps_trans s m t keeps_inside read.keeps;
-          closed = closes_trans s m t read.keeps closes_inside read.closed;
-          reading = record {
-            name = p;
-            read = record {
-              first_share = newly s m;
-              rest_share = newly m t;
-              joins = newly_joins s m t keeps_inside read.keeps;
-              first_read = (at.named, newly_take s p (word_is_open (opening_words called) s p at));
-              rest_read = read.reading;
-            };
-          };
-        }
+  -- so the word is read
+  pub word_read : Reads ℕ (λ line own q. HasItem (is_one_of (opening_words called)) line q
+      × IsPlace q own) s p (inside called s p)
+  word_read = record {
+    keeps = keeps_inside;
+    closed = closes_inside;
+    reading = (at.named, newly_take s p (word_is_open (opening_words called) s p at));
+  }
+
+  -- what is read inside a command is a reading of the command
+  pub inside_read : {T : Type 0} {reads : Readings T} (v : T) (t : Situation)
+      → Reads T reads (inside called s p) v t
+      → Reads T (CommandReads T (opening_words called) reads) s v t
+  inside_read v t read = reads_as (reads_both word_read read) (λ both. record { name = p; read = both })

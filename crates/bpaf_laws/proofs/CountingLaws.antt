@@ -1,65 +1,28 @@
 -- Counting what an evaluation newly took.
-use Rattle.std.proofs.Common.{◌≡◌, ℕ, zero, suc, ◌+◌, ◌<◌, ◌≤◌, Bool, true, false, not, ◌&&◌, ◌||◌}
-use Rattle.std.proofs.Common.{if◌then◌else◌, length, refl, sym, subst, ap, ◌∙◌, ⊎_elim, arith}
-use Rattle.std.proofs.Common.{true≢false}
-use Rattle.std.proofs.lemmas.Bool.{cases_eq, cases_lt, false_from_ne_true}
-use Rattle.bpaf_line.specs.Situation.{Situation, is_taken, is_open, in_scope, count_below}
+use Rattle.std.proofs.Common.{◌≡◌, ℕ, zero, suc, ◌+◌, ◌<◌, ◌≤◌, Bool, true, false, ◌&&◌, ◌||◌}
+use Rattle.std.proofs.Common.{if◌then◌else◌, length, refl, sym, ap, ◌∙◌, arith}
+use Rattle.bpaf_line.specs.Situation.{Situation, is_open, count_below}
 use Rattle.bpaf_line.specs.Situation.{open_count}
 use Rattle.bpaf_line.proofs.Places.{open_in_line}
 use Rattle.bpaf_laws.specs.Reading.{Outcome, Readings, Joins, IsEmptyShare, HasPlace}
 use Rattle.bpaf_laws.specs.Laws.{Keeps, Closes, Lawful, newly}
 use Rattle.bpaf_laws.specs.Counting.{taken_count, CountFalls}
 
--- with one number more, two sets apart still have together as many as the whole
-join_at : (w x y : Bool) (a b c : ℕ) → w ≡ (x || y) → (x && y) ≡ false → a ≡ b + c
-    → (if w then (a + 1) else a) ≡ (if x then (b + 1) else b) + (if y then (c + 1) else c)
-join_at true true true a b c p q e = absurd (true≢false q)
-join_at true true false a b c p q e = omega arith
-join_at true false true a b c p q e = omega arith
-join_at true false false a b c p q e = absurd (true≢false p)
-join_at false true true a b c p q e = absurd (true≢false q)
-join_at false true false a b c p q e = absurd (true≢false (sym p))
-join_at false false true a b c p q e = absurd (true≢false (sym p))
-join_at false false false a b c p q e = e
-
 -- two sets that have no number in common have together as many as the set that they make
 pub count_below-joined : (whole f g : ℕ → Bool) (n : ℕ) → ((p : ℕ) → whole p ≡ (f p || g p))
     → ((p : ℕ) → (f p && g p) ≡ false) → count_below whole n ≡ count_below f n + count_below g n
 count_below-joined whole f g zero all apart = refl
 count_below-joined whole f g (suc n) all apart =
-    join_at (whole n) (f n) (g n) _ _ _ (all n) (apart n) (count_below-joined whole f g n all apart)
-
--- at one place: what is present at first is present still, or newly taken
-open_at : (ts tt is it : Bool) → (ts ≡ true → tt ≡ true)
-    → ((tt && not ts) ≡ true → (is && not ts) ≡ true) → (it ≡ true → is ≡ true)
-    → (is ≡ true → it ≡ false → tt ≡ true) → (is && not ts) ≡ ((it && not tt) || (tt && not ts))
-open_at true true true true a b c d = refl
-open_at true true true false a b c d = refl
-open_at true true false true a b c d = refl
-open_at true true false false a b c d = refl
-open_at true false is it a b c d = absurd (true≢false (sym (a refl)))
-open_at false true true true a b c d = refl
-open_at false true true false a b c d = refl
-open_at false true false it a b c d = absurd (true≢false (sym (b refl)))
-open_at false false true true a b c d = refl
-open_at false false true false a b c d = absurd (true≢false (sym (d refl refl)))
-open_at false false false true a b c d = absurd (true≢false (sym (c refl)))
-open_at false false false false a b c d = refl
-
--- at one place: what is present still isn't newly taken
-open_apart_at : (ts tt it : Bool) → ((it && not tt) && (tt && not ts)) ≡ false
-open_apart_at ts true true = refl
-open_apart_at ts true false = refl
-open_apart_at ts false true = refl
-open_apart_at ts false false = refl
+    let here = all n in
+    let not_both = apart n in
+    let before = count_below-joined whole f g n all apart in
+    grind arith
 
 -- what is present at first is present still, or newly taken
-open_joins : (s t : Situation) → Keeps s t → Closes s t → Joins (is_open t) (newly s t) (is_open s)
+pub open_joins : (s t : Situation) → Keeps s t → Closes s t → Joins (is_open t) (newly s t) (is_open s)
 open_joins s t k c = record {
-  all =
-      λ p. open_at (is_taken s p) (is_taken t p) (in_scope s p) (in_scope t p) (k.stays p)
-      (k.fresh p) (k.narrows p) (c p);
-  apart = λ p. open_apart_at (is_taken s p) (is_taken t p) (in_scope t p);
+  all = λ p. grind (arith, k.stays p, k.fresh p, k.narrows p, c p);
+  apart = λ p. grind arith;
 }
 
 -- the count of present places falls by the number of newly taken ones
@@ -78,23 +41,15 @@ pub lawful_falls : {T : Type 0} {outcome : Outcome T} {reads : Readings T} → L
 lawful_falls law s t v answered =
     let read = law.ok s t v answered in open_count-falls s t read.keeps read.closed
 
--- a count of nothing counts neither this number nor any before it
-none_at : (b : Bool) (n : ℕ) → (if b then (n + 1) else n) ≡ 0 → (b ≡ false) × (n ≡ 0)
-none_at true n e = absurd (omega arith)
-none_at false n e = (refl, e)
-
 -- a set without numbers below n lacks each of them
 pub none_below : (set : ℕ → Bool) (n : ℕ) → count_below set n ≡ 0 → (p : ℕ) → p < n → set p ≡ false
 none_below set zero e p within = absurd (omega arith)
-none_below set (suc n) e p within =
-    let parts = none_at (set n) (count_below set n) e in
-    ⊎_elim (λ (same : p ≡ n). subst (λ q. set q ≡ false) (sym same) parts.0)
-    (λ other. none_below set n parts.1 p (omega arith)) (cases_eq p n)
+none_below set (suc n) e p within = grind (arith, none_below set n)
 
 -- a set with some numbers below n has one
 some_below : (set : ℕ → Bool) (n : ℕ) → 0 < count_below set n → HasPlace set
 some_below set zero some = absurd (omega arith)
-some_below set (suc n) some = at (set n) refl some (λ fewer. some_below set n fewer)
+some_below set (suc n) some = at (set n) refl some (some_below set n)
   where
     at : (b : Bool) → set n ≡ b → 0 < (if b then (count_below set n + 1) else (count_below set n))
         → (0 < count_below set n → HasPlace set) → HasPlace set
@@ -113,9 +68,4 @@ pub same_took_none : (s t : Situation) → Keeps s t → Closes s t → open_cou
     → IsEmptyShare (newly s t)
 same_took_none s t k c same p =
     let falls = open_count-falls s t k c in
-    let none : taken_count s t ≡ 0 = omega arith in
-    ⊎_elim (λ within. none_below (newly s t) (length s.context.line) none p within)
-    (λ (beyond : length s.context.line ≤ p).
-    false_from_ne_true (newly s t p)
-    (λ new. let within = open_in_line s p (k.fresh p new) in absurd (omega arith)))
-    (cases_lt p (length s.context.line))
+    grind (arith, none_below (newly s t) (length s.context.line), open_in_line s p, k.fresh p)

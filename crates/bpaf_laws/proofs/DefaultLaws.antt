@@ -5,7 +5,7 @@ use Rattle.std.proofs.Common.{⊎_elim, inl, inr, true≢false}
 use Rattle.bpaf_line.specs.declared.error.Message.TheVariants.{PureFailed}
 use Rattle.bpaf_line.specs.{Situation.Situation, declared.error.Error.Error}
 use Rattle.bpaf_laws.specs.Laws.{Keeps, Lawful}
-use Rattle.bpaf_laws.proofs.Keeping.{LawfulAnswer, lawful_answer, lawful_by, keeps_same, reads_as}
+use Rattle.bpaf_laws.proofs.Keeping.{AnswersLawfully, lawful_answer, lawful_by, keeps_same, reads_as}
 use Rattle.bpaf_laws.proofs.Keeping.{newly_none, reads_same}
 use Rattle.bpaf_laws.specs.Default.{Gives, NamesGiven, OptionalReads, FallbackOutcome, GivesAnswer}
 use Rattle.bpaf_laws.specs.{Reading.Readings, Reading.Outcome, Turn.TurnOutcome, Choice.ChoiceReads}
@@ -24,35 +24,31 @@ module _ {T : Type 0} {inner : Outcome T} {reads : Readings T} (law : Lawful T i
   step_refuses catches first s t e (inl failed) = lawful_answer law s (Err e) t failed.0
   step_refuses catches first s t e (inr memory) = (keeps_same s t memory.1, names_want e.0 memory.0)
 
-  -- an answer of an optional value
-  optional_answers : (catches : Bool) (s : Situation) (r : Result (Option T) Error) (t : Situation)
-      → TurnOutcome inner catches true s r t → LawfulAnswer (Option T) (OptionalReads reads) s r t
-  optional_answers catches s (Ok (Some v)) t o = reads_as (law.ok s t v o.0) (λ read. read)
-  optional_answers catches s (Ok None) t (inl dropped) = absurd (true≢false dropped.2)
-  optional_answers catches s (Ok None) t (inr stopped) =
-      reads_same (OptionalReads reads) s t None stopped.1 (newly_none s)
-  optional_answers catches s (Err e) t o = step_refuses catches true s t e o
-
   -- optional values keep to the laws
   pub optional_lawful : (catches : Bool)
       → Lawful (Option T) (TurnOutcome inner catches true) (OptionalReads reads)
-  optional_lawful catches = lawful_by (optional_answers catches)
+  optional_lawful catches = lawful_by answers
+    where
+      answers : AnswersLawfully (TurnOutcome inner catches true) (OptionalReads reads)
+      answers s (Ok (Some v)) t o = reads_as (law.ok s t v o.0) (λ read. read)
+      answers s (Ok None) t (inl dropped) = absurd (true≢false dropped.2)
+      answers s (Ok None) t (inr stopped) =
+          reads_same (OptionalReads reads) s t None stopped.1 (newly_none s)
+      answers s (Err e) t o = step_refuses catches true s t e o
 
-  -- an answer of a fallback
-  fallback_answers : (gives : Gives T) → NamesGiven gives → (s : Situation) (r : Result T Error)
-      (t : Situation) → FallbackOutcome inner gives s r t
-      → LawfulAnswer T (ChoiceReads reads (PureReads (λ w. gives (Ok w)))) s r t
-  fallback_answers gives names s (Ok v) t (inl ran) = reads_as (law.ok s t v ran) inl
-  fallback_answers gives names s (Ok v) t (inr fell) =
-      reads_same (ChoiceReads reads (PureReads (λ w. gives (Ok w)))) s t v fell.0.1
-      (inr (newly_none s, fell.1))
-  fallback_answers gives names s (Err e) t (inl refused) = (
-    keeps_same s t refused.1,
-    ⊎_elim (λ ran. law.named s ran.0 e ran.1) (names_want e.0) refused.0,
-  )
-  fallback_answers gives names s (Err e) t (inr fell) = (keeps_same s t fell.0.1, names e fell.1)
-
-  -- fallbacks keep to the laws
+  -- so do fallbacks
   pub fallback_lawful : (gives : Gives T) → NamesGiven gives
       → Lawful T (FallbackOutcome inner gives) (ChoiceReads reads (PureReads (λ w. gives (Ok w))))
-  fallback_lawful gives names = lawful_by (fallback_answers gives names)
+  fallback_lawful gives names = lawful_by answers
+    where
+      answers : AnswersLawfully (FallbackOutcome inner gives)
+          (ChoiceReads reads (PureReads (λ w. gives (Ok w))))
+      answers s (Ok v) t (inl ran) = reads_as (law.ok s t v ran) inl
+      answers s (Ok v) t (inr fell) =
+          reads_same (ChoiceReads reads (PureReads (λ w. gives (Ok w)))) s t v fell.0.1
+          (inr (newly_none s, fell.1))
+      answers s (Err e) t (inl refused) = (
+        keeps_same s t refused.1,
+        ⊎_elim (λ ran. law.named s ran.0 e ran.1) (names_want e.0) refused.0,
+      )
+      answers s (Err e) t (inr fell) = (keeps_same s t fell.0.1, names e fell.1)

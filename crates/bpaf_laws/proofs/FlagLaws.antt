@@ -1,7 +1,7 @@
 -- Flags keep to the laws.
-use Rattle.std.specs.Prelude.{◌≡◌, ℕ, Bool, true, false, List, Option, Some, None}
+use Rattle.std.specs.Prelude.{◌≡◌, ℕ, Bool, true, false, List, Option, Ok, Err}
 use Rattle.std.specs.Option.{is_some, IsSomeRelated}
-use Rattle.std.proofs.Common.{sym, subst, ⊎_elim, true≢false}
+use Rattle.std.proofs.Common.{sym, subst, inl, inr, arith}
 use Rattle.bpaf_doc.specs.Names.{Names}
 use Rattle.bpaf_text.specs.Named.{Named, flag_part}
 use Rattle.bpaf_line.specs.Situation.{Situation, is_open}
@@ -10,10 +10,11 @@ use Rattle.bpaf_line.proofs.Matches.{match_is_open, match_has_item}
 use Rattle.bpaf_line.specs.declared.error.Message.TheVariants.{Memory, ParseFailure}
 use Rattle.bpaf_line.specs.{Taking.TakesFlag, declared.error.Message.Message}
 use Rattle.bpaf_laws.specs.Laws.{Keeps, Reads, Lawful}
-use Rattle.bpaf_laws.proofs.Keeping.{keeps_same, reads_same, closes_take, newly_none, keeps_take}
+use Rattle.bpaf_laws.proofs.Keeping.{AnswersLawfully, lawful_by, keeps_same, keeps_take, reads_same}
+use Rattle.bpaf_laws.proofs.Keeping.{closes_take, newly_none}
 use Rattle.bpaf_laws.proofs.{NamesAnswer.names_absence, Keeping.newly_take}
 use Rattle.bpaf_laws.specs.Flag.{FlagReads, at_key, nowhere, value_without_key, FlagOutcome}
-use Rattle.bpaf_laws.specs.Flag.{FlagFails, IsFlagPresent, IsFlagAbsent, IsPresent}
+use Rattle.bpaf_laws.specs.Flag.{FlagFails, IsPresent}
 use Rattle.bpaf_laws.specs.{Environment.first_set, Reading.Readings, RefusalNames.NamesAnswer}
 
 -- what looking for a flag keeps
@@ -36,7 +37,7 @@ module _ (T : Type 0) (clones : T → T → Type 0) (named : Named) (present : T
   flag_found s t v takes value =
       let there : is_open s takes.0 ≡ true = match_is_open (is_key_of named.names) s takes.0
       takes.1.matches in
-      subst (λ w. Reads T reads_flag s v w) (sym takes.2) (record {
+      rw takes.2 (record {
         keeps = keeps_take s takes.0 there;
         closed = closes_take s takes.0;
         reading =
@@ -47,53 +48,37 @@ module _ (T : Type 0) (clones : T → T → Type 0) (named : Named) (present : T
   -- where a variable is set the present value stands for no key
   kept_set : (set : Option (List ℕ)) (v : T) → is_some set ≡ true → clones present v
       → IsSomeRelated clones (value_without_key present absent set) v
-  kept_set (Some text) v is value = value
-  kept_set None v is value = absurd (true≢false (sym is))
+  kept_set set v is value = grind arith
 
   -- else the absent one does
   kept_unset : (set : Option (List ℕ)) (v : T) → is_some set ≡ false → IsSomeRelated clones absent v
       → IsSomeRelated clones (value_without_key present absent set) v
-  kept_unset (Some text) v is value = absurd (true≢false is)
-  kept_unset None v is value = value
-
-  -- a flag that is present, with a clone of the present value, is a reading
-  flag_present : (s t : Situation) (v : T) → IsFlagPresent named s t → clones present v
-      → Reads T reads_flag s v t
-  flag_present s t v is value = ⊎_elim (λ takes. flag_found s t v takes value)
-      (λ set. reads_same reads_flag s t v set.0.1
-      (nowhere (newly_none s) (kept_set (first_set s.context.env named.envs) v set.1 value))) is
-
-  -- a flag that is absent, with a clone of the absent value, is a reading
-  flag_absent : (s t : Situation) (v : T) → IsFlagAbsent named s t → IsSomeRelated clones absent v
-      → Reads T reads_flag s v t
-  flag_absent s t v is value =
-      reads_same reads_flag s t v is.0.1
-      (nowhere (newly_none s) (kept_unset (first_set s.context.env named.envs) v is.1 value))
+  kept_unset set v is value = grind arith
 
   -- what the test of a flag's key keeps
   present_keeps : (s t : Situation) (is : Bool) → IsPresent named s is t → Keeps s t
-  present_keeps s t true found = ⊎_elim (λ takes. flag_keeps named.names s true t takes)
-      (λ set. flag_keeps named.names s false t set.0) found
+  present_keeps s t true (inl takes) = flag_keeps named.names s true t takes
+  present_keeps s t true (inr set) = flag_keeps named.names s false t set.0
   present_keeps s t false none = flag_keeps named.names s false t none.0
 
-  -- what a refusal of a flag keeps
-  flag_refused : (s t : Situation) (m : Message) → FlagFails named absent s m t → Keeps s t
-  flag_refused s t Memory fails = present_keeps s t fails.0 fails.1
-  flag_refused s t other fails = flag_keeps named.names s false t fails.0.0
-
-  -- no refusal of a flag is the answer of a run inside
-  flag_named : (s t : Situation) (m : Message) → FlagFails named absent s m t → NamesAnswer m
-  flag_named s t Memory fails = tt
-  flag_named s t (ParseFailure f) fails =
-      names_absence s (flag_part named) named.envs (ParseFailure f) fails.2
-  flag_named s t other fails = tt
+  -- what a refusal of a flag keeps, and that it isn't the answer of a run inside
+  flag_refused : (s t : Situation) (m : Message) → FlagFails named absent s m t
+      → Keeps s t × NamesAnswer m
+  flag_refused s t Memory fails = (present_keeps s t fails.0 fails.1, tt)
+  flag_refused s t (ParseFailure f) fails = (
+    flag_keeps named.names s false t fails.0.0,
+    names_absence s (flag_part named) named.envs (ParseFailure f) fails.2,
+  )
+  flag_refused s t other fails = (flag_keeps named.names s false t fails.0.0, tt)
 
   -- flags keep to the laws
   pub flag_lawful : Lawful T (FlagOutcome clones named present absent) reads_flag
-  flag_lawful = record {
-    ok =
-        λ s t v o. ⊎_elim (λ here. flag_present s t v here.0 here.1)
-        (λ none. flag_absent s t v none.0 none.1) o;
-    err = λ s t e o. flag_refused s t e.0 o;
-    named = λ s t e o. flag_named s t e.0 o;
-  }
+  flag_lawful = lawful_by answers
+    where
+      answers : AnswersLawfully (FlagOutcome clones named present absent) reads_flag
+      answers s (Ok v) t (inl (inl takes, value)) = flag_found s t v takes value
+      answers s (Ok v) t (inl (inr set, value)) = reads_same reads_flag s t v set.0.1
+          (nowhere (newly_none s) (kept_set (first_set s.context.env named.envs) v set.1 value))
+      answers s (Ok v) t (inr (none, value)) = reads_same reads_flag s t v none.0.1
+          (nowhere (newly_none s) (kept_unset (first_set s.context.env named.envs) v none.1 value))
+      answers s (Err e) t fails = flag_refused s t e.0 fails

@@ -1,19 +1,20 @@
 -- How what evaluations keep is put together. No combinator builds a `Keeps` of its own: it goes
 -- through these lemmas and one for each call of a state, so that a clause can be added to the laws
 -- here.
-use Rattle.std.specs.Prelude.{◌≡◌, ◌≢◌, ℕ, ◌+◌, ◌==◌, Bool, true, false, not, ◌&&◌, ◌||◌, List, []}
+use Rattle.std.specs.Prelude.{◌≡◌, ℕ, ◌+◌, ◌==◌, true, not, ◌&&◌, ◌||◌, List, []}
 use Rattle.std.specs.Prelude.{◌∷◌, ◌++◌, Result, Ok, Err, Option, None, refl}
-use Rattle.std.proofs.Common.{sym, ◌∙◌, ap, subst, append_assoc, append-nil, arith, ⊎_elim}
-use Rattle.std.proofs.{Common.true≢false, lemmas.Bool.cases_eq, lemmas.Bool.Decides.nat_tests}
-use Rattle.bpaf_line.specs.Situation.{Situation, is_taken, is_open, in_scope, take_place}
+use Rattle.std.proofs.Common.{sym, ◌∙◌, ap, subst, append_assoc, append-nil, arith}
+use Rattle.std.proofs.Common.{true≢false}
+use Rattle.std.proofs.lemmas.Bool.{Decides.nat_tests}
+use Rattle.bpaf_line.specs.Situation.{Situation, Context, is_taken, is_open, in_scope, take_place}
 use Rattle.bpaf_line.specs.Situation.{with_scope, with_path, with_current}
 use Rattle.bpaf_line.proofs.Marks.{keeps_marks_refl, keeps_marks_trans, keeps_marks_take}
 use Rattle.bpaf_line.proofs.Marks.{keeps_marks_scope, keeps_marks_path, keeps_marks_current}
-use Rattle.bpaf_line.proofs.Places.{taken_here, taken_other, open_not_taken}
+use Rattle.bpaf_line.proofs.Places.{taken_here, taken_other, taken_stays, open_not_taken}
 use Rattle.bpaf_line.specs.{Conflicts.ConflictsSaved, declared.error.Error.Error}
-use Rattle.bpaf_laws.specs.Reading.{Readings, Outcome, Joins, IsEmptyShare, IsPlace, IsPair}
-use Rattle.bpaf_laws.specs.Laws.{Keeps, Closes, Reads, Lawful, newly}
-use Rattle.bpaf_laws.specs.RefusalNames.{NamesAnswer}
+use Rattle.bpaf_laws.specs.Reading.{Share, Readings, Outcome, Joins, IsEmptyShare, IsPlace, IsPair}
+use Rattle.bpaf_laws.specs.Laws.{Keeps, Closes, Extends, Reads, Lawful, newly}
+use Rattle.bpaf_laws.specs.{RefusalNames.NamesAnswer, Product.BothReads}
 
 -- what an evaluation keeps, whatever it answers
 pub keeps_of : {T : Type 0} {outcome : Outcome T} {reads : Readings T} → Lawful T outcome reads
@@ -27,21 +28,23 @@ abbrev pub LawfulAnswer : (T : Type 0) → Readings T → Situation → Result T
 LawfulAnswer T reads s (Ok v) t = Reads T reads s v t
 LawfulAnswer T reads s (Err e) t = Keeps s t × NamesAnswer e.0
 
--- they hold where each answer is as they say
+-- each answer is as they say
+abbrev pub AnswersLawfully : {T : Type 0} → Outcome T → Readings T → Type 0
+AnswersLawfully {T} outcome reads = (s : Situation) (r : Result T Error) (t : Situation)
+    → outcome s r t → LawfulAnswer T reads s r t
+
+-- then they hold
 pub lawful_by : {T : Type 0} {outcome : Outcome T} {reads : Readings T}
-    → ((s : Situation) (r : Result T Error) (t : Situation) → outcome s r t
-    → LawfulAnswer T reads s r t)
-    → Lawful T outcome reads
+    → AnswersLawfully outcome reads → Lawful T outcome reads
 lawful_by answers = record {
   ok = λ s t v o. answers s (Ok v) t o;
   err = λ s t e o. (answers s (Err e) t o).0;
   named = λ s t e o. (answers s (Err e) t o).1;
 }
 
--- and then each is
+-- and where they hold each answer is so
 pub lawful_answer : {T : Type 0} {outcome : Outcome T} {reads : Readings T}
-    → Lawful T outcome reads → (s : Situation) (r : Result T Error) (t : Situation)
-    → outcome s r t → LawfulAnswer T reads s r t
+    → Lawful T outcome reads → AnswersLawfully outcome reads
 lawful_answer law s (Ok v) t o = law.ok s t v o
 lawful_answer law s (Err e) t o = (law.err s t e o, law.named s t e o)
 
@@ -55,13 +58,20 @@ reads_as read also = record {
   reading = also read.reading;
 }
 
+-- a parser keeps to the laws with what it reads said in another way
+pub lawful_as : {T : Type 0} {outcome : Outcome T} {reads others : Readings T}
+    → Lawful T outcome reads
+    → ((context : Context) (share : Share) (v : T) → reads context share v → others context share v)
+    → Lawful T outcome others
+lawful_as law also = record {
+  ok = λ s t v o. reads_as (law.ok s t v o) (also s.context (newly s t) v);
+  err = law.err;
+  named = law.named;
+}
+
 -- nothing is newly taken since the same situation
 pub newly_none : (s : Situation) → IsEmptyShare (newly s s)
-newly_none s p = never (is_taken s p)
-  where
-    never : (x : Bool) → (x && not x) ≡ false
-    never true = refl
-    never false = refl
+newly_none s p = grind arith
 
 -- nothing changes
 pub keeps_refl : (s : Situation) → Keeps s s
@@ -86,26 +96,12 @@ closes_take s p q within outside = absurd (true≢false (sym within ∙ outside)
 pub closes_take_both : (s : Situation) (p q : ℕ) → Closes s (take_place (take_place s p) q)
 closes_take_both s p q r within outside = absurd (true≢false (sym within ∙ outside))
 
--- at one place: what is newly taken in two steps was open at first
-fresh_at : (ts tm tt ss sm : Bool) → ((tm && not ts) ≡ true → (ss && not ts) ≡ true)
-    → ((tt && not tm) ≡ true → (sm && not tm) ≡ true)
-    → (sm ≡ true → ss ≡ true) → (tt && not ts) ≡ true → (ss && not ts) ≡ true
-fresh_at true tm true ss sm first second narrows new = cc
-fresh_at true tm false ss sm first second narrows new = cc
-fresh_at false true tt ss sm first second narrows new = first refl
-fresh_at false false true true sm first second narrows new = refl
-fresh_at false false true false true first second narrows new = narrows refl
-fresh_at false false true false false first second narrows new = second refl
-fresh_at false false false ss sm first second narrows new = cc
-
 -- one evaluation after another
 pub keeps_trans : (s m t : Situation) → Keeps s m → Keeps m t → Keeps s t
 keeps_trans s m t a b = record {
   context = b.context ∙ a.context;
   stays = λ p taken. b.stays p (a.stays p taken);
-  fresh =
-      λ p. fresh_at (is_taken s p) (is_taken m p) (is_taken t p) (in_scope s p) (in_scope m p)
-      (a.fresh p) (b.fresh p) (a.narrows p);
+  fresh = λ p new. grind (arith, a.fresh p, b.fresh p, a.narrows p);
   narrows = λ p within. a.narrows p (b.narrows p within);
   path =
       record {
@@ -120,86 +116,58 @@ keeps_trans s m t a b = record {
 
 -- a place left outside by either is taken after both
 pub closes_trans : (s m t : Situation) → Keeps m t → Closes s m → Closes m t → Closes s t
-closes_trans s m t k a b p inside outside = closes_at (in_scope m p) refl
-  where
-    closes_at : (x : Bool) → in_scope m p ≡ x → is_taken t p ≡ true
-    closes_at true e = b p e outside
-    closes_at false e = k.stays p (a p inside e)
-
--- at one place: what is newly taken in two steps is newly taken in one of them
-joined_at : (x y z : Bool) → (x ≡ true → y ≡ true) → (y ≡ true → z ≡ true)
-    → (z && not x) ≡ ((y && not x) || (z && not y))
-joined_at true true true f g = refl
-joined_at true true false f g = refl
-joined_at true false z f g = absurd (true≢false (sym (f refl)))
-joined_at false true true f g = refl
-joined_at false true false f g = absurd (true≢false (sym (g refl)))
-joined_at false false true f g = refl
-joined_at false false false f g = refl
-
--- at one place: what the first of two steps newly takes, the second doesn't
-apart_at : (x y z : Bool) → ((y && not x) && (z && not y)) ≡ false
-apart_at true true true = refl
-apart_at true true false = refl
-apart_at true false true = refl
-apart_at true false false = refl
-apart_at false true true = refl
-apart_at false true false = refl
-apart_at false false true = refl
-apart_at false false false = refl
+closes_trans s m t k a b p inside outside = grind (arith, k.stays, a, b)
 
 -- what two evaluations take, one after the other, is what both take together
 pub newly_joins : (s m t : Situation) → Keeps s m → Keeps m t
     → Joins (newly s m) (newly m t) (newly s t)
-newly_joins s m t a b = record {
-  all = λ p. joined_at (is_taken s p) (is_taken m p) (is_taken t p) (a.stays p) (b.stays p);
-  apart = λ p. apart_at (is_taken s p) (is_taken m p) (is_taken t p);
+newly_joins s m t a b =
+    record {
+      all = λ p. grind (arith, a.stays p, b.stays p);
+      apart = λ p. grind (arith, a.stays p, b.stays p);
+    }
+
+-- what is read by one evaluation after another is read by both
+pub reads_both : {A B : Type 0} {first : Readings A} {rest : Readings B} {s m t : Situation} {x : A}
+    {y : B} → Reads A first s x m → Reads B rest m y t
+    → Reads (A × B) (BothReads A B first rest) s (x, y) t
+reads_both {rest = rest} {s = s} {m = m} {t = t} {y = y} one other = record {
+  keeps = keeps_trans s m t one.keeps other.keeps;
+  closed = closes_trans s m t other.keeps one.closed other.closed;
+  reading = record {
+    first_share = newly s m;
+    rest_share = newly m t;
+    joins = newly_joins s m t one.keeps other.keeps;
+    first_read = one.reading;
+    rest_read = subst (λ context. rest context (newly m t) y) one.keeps.context other.reading;
+  };
 }
 
 -- what the current place is doesn't matter
 pub keeps_current : (s t : Situation) (place : Option ℕ) → Keeps s t
     → Keeps s (with_current t place)
-keeps_current s t place k =
-    record {
-      context = k.context;
-      stays = k.stays;
-      fresh = k.fresh;
-      narrows = k.narrows;
-      path = k.path;
-      marks = keeps_marks_current s t place k.marks;
-    }
+keeps_current s t place k = assumption (keeps_marks_current s t place k.marks)
 
 -- a scope inside the old one keeps all
 pub keeps_scope : (s t : Situation) (start end : ℕ) → Keeps s t
     → ((p : ℕ) → in_scope (with_scope t start end) p ≡ true → in_scope s p ≡ true)
     → Keeps s (with_scope t start end)
-keeps_scope s t start end k narrows =
-    record {
-      context = k.context;
-      stays = k.stays;
-      fresh = k.fresh;
-      narrows = narrows;
-      path = k.path;
-      marks = keeps_marks_scope s t start end k.marks;
-    }
+keeps_scope s t start end k narrows = assumption (keeps_marks_scope s t start end k.marks)
 
 -- so does a name at the end of the path
 pub keeps_path : (s t : Situation) (entry : List ℕ) → Keeps s t → Keeps s (with_path t entry)
 keeps_path s t entry k =
-    record {
-      context = k.context;
-      stays = k.stays;
-      fresh = k.fresh;
-      narrows = k.narrows;
-      path =
-          record {
-            more = k.path.more ++ entry ∷ [];
-            is =
-                ap (λ path. path ++ entry ∷ []) k.path.is
-                ∙ append_assoc s.path k.path.more (entry ∷ []);
-          };
-      marks = keeps_marks_trans s t (with_path t entry) k.marks (keeps_marks_path t entry);
-    }
+    let marks = keeps_marks_trans s t (with_path t entry) k.marks (keeps_marks_path t entry) in
+    let path : Extends s.path (with_path t entry).path = record {
+      more = k.path.more ++ entry ∷ [];
+      is = ap (λ path. path ++ entry ∷ []) k.path.is
+          ∙ append_assoc s.path k.path.more (entry ∷ []);
+    } in
+    assumption
+
+-- where no place is current any more, all is kept
+pub keeps_unset : (s t : Situation) → t ≡ with_current s None → Keeps s t
+keeps_unset s t unset = subst (Keeps s) (sym unset) (keeps_current s s None (keeps_refl s))
 
 -- where the situation is as before, all is kept
 pub keeps_same : (s t : Situation) → t ≡ s → Keeps s t
@@ -212,60 +180,31 @@ reads_same {T} reads s t v same read =
     subst (Reads T reads s v) (sym same)
     (record { keeps = keeps_refl s; closed = closes_refl s; reading = read })
 
--- where no place is current any more, all is kept
-pub keeps_unset : (s t : Situation) → t ≡ with_current s None → Keeps s t
-keeps_unset s t unset = subst (Keeps s) (sym unset) (keeps_current s s None (keeps_refl s))
-
--- and a value that may be read off no place is read
+-- so it is where no place is current any more
 pub reads_unset : {T : Type 0} (reads : Readings T) (s t : Situation) (v : T)
     → t ≡ with_current s None → reads s.context (newly s s) v → Reads T reads s v t
 reads_unset {T} reads s t v unset read =
-    subst (Reads T reads s v) (sym unset)
-    (record {
+    subst (Reads T reads s v) (sym unset) (record {
       keeps = keeps_current s s None (keeps_refl s);
       closed = closes_refl s;
       reading = read;
     })
 
--- at one place: what is as it was isn't newly taken
-same_new : (x y : Bool) → x ≡ y → (x && not y) ≡ false
-same_new true true e = refl
-same_new true false e = cc
-same_new false y e = refl
-
--- at one place: what is taken, and wasn't before, is newly taken
-first_new : (x y : Bool) → x ≡ true → y ≡ false → (x && not y) ≡ true
-first_new true false a b = refl
-first_new true true a b = cc
-first_new false y a b = cc
+-- after a place was taken it is that place that is taken, or what was
+taken_after : (s : Situation) (p q : ℕ) → is_taken (take_place s p) q ≡ (q == p || is_taken s q)
+taken_after s p q = grind (arith, nat_tests, taken_here, taken_other)
 
 -- a present place of the scope is taken: that place is newly taken, and no other
 pub newly_take : (s : Situation) (p : ℕ) → is_open s p ≡ true → IsPlace p (newly s (take_place s p))
 newly_take s p there q =
-    ⊎_elim
-    (λ (same : q ≡ p).
-    let here : (p == p) ≡ true = grind (arith, nat_tests) in
-    subst (λ x. newly s (take_place s p) x ≡ (x == p)) (sym same)
-    (first_new (is_taken (take_place s p) p) (is_taken s p) (taken_here s p)
-    (open_not_taken s p there) ∙ sym here))
-    (λ (other : q ≢ p).
-    let elsewhere : (q == p) ≡ false = grind (arith, nat_tests) in
-    same_new (is_taken (take_place s p) q) (is_taken s q) (taken_other s p q other) ∙ sym elsewhere)
-    (cases_eq q p)
+    let free = open_not_taken s p there in grind (arith, nat_tests, taken_after s p q)
 
 -- and all else is kept
 pub keeps_take : (s : Situation) (p : ℕ) → is_open s p ≡ true → Keeps s (take_place s p)
 keeps_take s p there = record {
   context = refl;
-  stays = λ q taken. ⊎_elim
-      (λ (same : q ≡ p). subst (λ x. is_taken (take_place s p) x ≡ true) (sym same)
-      (taken_here s p))
-      (λ (other : q ≢ p). taken_other s p q other ∙ taken) (cases_eq q p);
-  fresh = λ q new. ⊎_elim (λ (same : q ≡ p). subst (λ x. is_open s x ≡ true) (sym same) there)
-      (λ (other : q ≢ p). absurd (true≢false
-      (sym new ∙ same_new (is_taken (take_place s p) q) (is_taken s q)
-      (taken_other s p q other))))
-      (cases_eq q p);
+  stays = λ q taken. taken_stays s p q taken;
+  fresh = λ q new. grind (arith, nat_tests, taken_after s p q);
   narrows = λ q within. within;
   path = record { more = []; is = sym (append-nil s.path) };
   marks = keeps_marks_take s p;
@@ -277,36 +216,34 @@ pub newly_take_both : (s : Situation) (p : ℕ) → is_open s p ≡ true
     → IsPair p (newly s (take_place (take_place s p) (p + 1)))
 newly_take_both s p first second q =
     let m = take_place s p in
-    let joins = newly_joins s m (take_place m (p + 1)) (keeps_take s p first)
-    (keeps_take m (p + 1) second) in
-    joins.all q ∙ both_are (newly s m q) (q == p) (newly m (take_place m (p + 1)) q) (q == p + 1)
-    (newly_take s p first q) (newly_take m (p + 1) second q)
-  where
-    both_are : (a b c d : Bool) → a ≡ b → c ≡ d → (a || c) ≡ (b || d)
-    both_are a b c d e f = rw (e, f) refl
+    let free = open_not_taken s p first in
+    let next = open_not_taken m (p + 1) second in
+    grind (arith, nat_tests, taken_after s p q, taken_after m (p + 1) q, taken_after s p (p + 1))
 
-module _ (s m loser : Situation) (winner : ℕ) (t : Situation)
-    (saved : ConflictsSaved m loser winner t) where
+module _ {T : Type 0} (reads : Readings T) (s m loser : Situation) (winner : ℕ) (v : T)
+    (t : Situation) (saved : ConflictsSaved m loser winner t) (read : Reads T reads s v m) where
   -- conflict notes leave the scope
   scope_conflicts : (p : ℕ) → in_scope t p ≡ in_scope m p
   scope_conflicts p = rw (saved.start, saved.end) refl
 
   -- they take nothing
-  pub newly_conflicts : newly s t ≡ newly s m
+  newly_conflicts : newly s t ≡ newly s m
   newly_conflicts = λ i p. ap (λ taken. taken && not (is_taken s p)) (saved.taken p) i
 
-  -- they leave what is kept
-  pub keeps_conflicts : Keeps s m → Keeps s t
-  keeps_conflicts k = record {
-    context = saved.context ∙ k.context;
-    stays = λ p taken. saved.taken p ∙ k.stays p taken;
-    fresh = λ p new. k.fresh p (sym (ap (λ share. share p) newly_conflicts) ∙ new);
-    narrows = λ p within. k.narrows p (sym (scope_conflicts p) ∙ within);
-    path = record { more = k.path.more; is = saved.path ∙ k.path.is };
-    marks = keeps_marks_trans s m t k.marks saved.marks;
-  }
-
-  -- and open nothing
-  pub closes_conflicts : Closes s m → Closes s t
-  closes_conflicts closed p inside outside =
-      saved.taken p ∙ closed p inside (sym (scope_conflicts p) ∙ outside)
+  -- so what was read is read under them too
+  pub reads_conflicts : Reads T reads s v t
+  reads_conflicts =
+      let k = read.keeps in
+      record {
+        keeps = record {
+          context = saved.context ∙ k.context;
+          stays = λ p taken. saved.taken p ∙ k.stays p taken;
+          fresh = λ p new. k.fresh p (sym (ap (λ share. share p) newly_conflicts) ∙ new);
+          narrows = λ p within. k.narrows p (sym (scope_conflicts p) ∙ within);
+          path = record { more = k.path.more; is = saved.path ∙ k.path.is };
+          marks = keeps_marks_trans s m t k.marks saved.marks;
+        };
+        closed = λ p inside outside.
+            saved.taken p ∙ read.closed p inside (sym (scope_conflicts p) ∙ outside);
+        reading = subst (λ share. reads s.context share v) (sym newly_conflicts) read.reading;
+      }

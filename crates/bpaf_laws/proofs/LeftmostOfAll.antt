@@ -4,7 +4,7 @@ use Rattle.bpaf_line.specs.{Situation.Situation, declared.error.Error.Error}
 use Rattle.bpaf_laws.specs.Choice.{ChoiceOutcome, ChoiceReads, LeftmostWins}
 use Rattle.bpaf_laws.specs.Choices.{Nested, ChoicesOutcome, LeftmostOfAll}
 use Rattle.bpaf_laws.specs.{Reading.Readings, Reading.Outcome, Laws.Lawful}
-use Rattle.bpaf_laws.proofs.ChoosingAll.{ran_fewer, choice_fewer}
+use Rattle.bpaf_laws.proofs.Choosing.{branches_within, choice_within}
 use Rattle.bpaf_laws.proofs.{ChoiceLaws.choice_lawful, Leftmost.leftmost_is_chosen}
 
 -- one choice more in which the leftmost wins
@@ -14,12 +14,14 @@ choice_leftmost : {T : Type 0} {before second : Outcome T} {before_reads second_
     → (s t : Situation) (r : Result T Error) → ChoiceOutcome before second s r t
     → LeftmostWins less second s r t
 choice_leftmost {before = before} {second = second} less before_law second_law within s t (Err e)
-    ran = choice_fewer before less second within s t (Err e) ran
+    ran = choice_within before second less second (λ s t r ran spared. within s t r ran)
+    (λ s t r ran spared. ran) s t (Err e) ran
 choice_leftmost {before = before} {second = second} less before_law second_law within s t (Ok v)
     ran =
     let chosen = leftmost_is_chosen before_law second_law s t (Ok v) ran in
     record {
-      ran = ran_fewer before less second within s t (Ok v) chosen.ran;
+      ran = branches_within before second less second (λ s t r ran spared. within s t r ran)
+          (λ s t r ran spared. ran) s t (Ok v) chosen.ran;
       leftmost = chosen.leftmost;
       else_first = chosen.else_first;
     }

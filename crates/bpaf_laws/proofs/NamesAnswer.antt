@@ -1,20 +1,15 @@
 -- Messages that are the answer of no run inside, or of one whose answer has a name.
-use Rattle.std.specs.Prelude.{◌≡◌, ℕ, Bool, true, false, List, [], ◌∷◌, Option, Some, None}
+use Rattle.std.specs.Prelude.{◌≡◌, ℕ, Bool, true, false, List, Option, Some}
 use Rattle.std.specs.Prelude.{if◌then◌else◌, refl}
-use Rattle.std.proofs.Common.{sym, subst, ⊎_elim, true≢false}
+use Rattle.std.proofs.Common.{sym, subst, ⊎_elim, true≢false, arith, arith}
 use Rattle.bpaf_doc.specs.{declared.doc.Piece.Piece, Shape.Part}
 use Rattle.bpaf_line.specs.declared.error.Message.TheVariants.{Memory, Missing, ParseFailure}
-use Rattle.bpaf_line.specs.declared.error.Message.TheVariants.{StrictPos, NonStrictPos, NoArgument}
-use Rattle.bpaf_line.specs.declared.error.Message.TheVariants.{ParseFailed, GuardFailed, Conflict}
-use Rattle.bpaf_line.specs.declared.error.Message.TheVariants.{Unconsumed, Ambiguity, Expected}
-use Rattle.bpaf_line.specs.declared.error.Message.TheVariants.{OnlyOnce}
 use Rattle.bpaf_line.specs.Combining.{Combines, CombinesSpared}
 use Rattle.bpaf_line.specs.Messages.{can_catch, is_answer, is_memory}
 use Rattle.bpaf_line.specs.{Situation.Situation, declared.error.Message.Message, Rendering.Renders}
 use Rattle.bpaf_laws.specs.RefusalNames.{HasSomeName, NamesAnswer, Refusal, refusal_of, told}
-use Rattle.bpaf_laws.specs.RefusalNames.{no_memory, ambiguous_word, missing_item, missing_value}
-use Rattle.bpaf_laws.specs.RefusalNames.{wrong_side, unreadable_text, refused_value, no_value}
-use Rattle.bpaf_laws.specs.RefusalNames.{conflict, repeated_key, unexpected_item, wanting}
+use Rattle.bpaf_laws.specs.RefusalNames.{no_memory}
+use Rattle.bpaf_laws.specs.RefusalNames.{wanting}
 use Rattle.bpaf_laws.specs.{Environment.IsAbsence, Transform.TellsFault}
 use Rattle.bpaf_line.specs.declared.failure.ParseFailure.{ParseFailure as Failure}
 use Rattle.bpaf_line.specs.declared.failure.ParseFailure.TheVariants as failure
@@ -41,10 +36,7 @@ names_fault shown fault refusal m names tells =
 -- the refusal of a key that is nowhere
 pub names_absence : (s : Situation) (part : Option Part) (envs : List (List ℕ)) (m : Message)
     → IsAbsence s part envs m → NamesAnswer m
-names_absence s (Some part) envs (ParseFailure f) absent = absurd absent
-names_absence s None [] (ParseFailure f) absent = absurd absent
-names_absence s None (name ∷ envs) (ParseFailure f) absent = absurd absent
-names_absence s part envs m absent = tt
+names_absence s part envs m absent = grind arith
 
 -- one of two, by a test
 names_either : (caught : Bool) (first second : Message) → NamesAnswer first → NamesAnswer second
@@ -71,27 +63,13 @@ names_combined first second both one other o =
 
 -- each message but the answer of an inner run has a name
 pub name_of : (m : Message) → is_answer m ≡ false → (name : Refusal) × (refusal_of m ≡ Some name)
-name_of Memory other = (no_memory, refl)
-name_of (Ambiguity word number) other = (ambiguous_word, refl)
-name_of (Missing items) other = (missing_item, refl)
-name_of (Expected items place) other = (missing_item, refl)
-name_of (NoArgument place metavar) other = (missing_value, refl)
-name_of (StrictPos place metavar) other = (wrong_side, refl)
-name_of (NonStrictPos place metavar) other = (wrong_side, refl)
-name_of (ParseFailed place fault) other = (unreadable_text, refl)
-name_of (GuardFailed place text) other = (refused_value, refl)
-name_of (Conflict winner place) other = (conflict, refl)
-name_of (OnlyOnce earlier place) other = (repeated_key, refl)
-name_of (Unconsumed place) other = (unexpected_item, refl)
 name_of (ParseFailure inner) other = absurd (true≢false other)
-name_of _ other = (no_value, refl)
+name_of m other = (_, refl)
 
 -- no message but the answer of an inner run shows something
 pub shows_nothing : (m : Message) (s : Situation) (doc : List Piece) (full : Bool)
     → is_answer m ≡ false → ¬ (Renders m s (failure.Stdout doc full))
-shows_nothing Memory s doc full other tells = cc
-shows_nothing (ParseFailure inner) s doc full other tells = absurd (true≢false other)
-shows_nothing m s doc full other tells = tells
+shows_nothing m s doc full other tells = grind arith
 
 -- so has what is told of it
 pub told_has_name : (m : Message) (s : Situation) (f : Failure) → is_answer m ≡ false

@@ -17,8 +17,7 @@ not_zero n above = grind (arith, nat_tests)
 
 -- a list without values is one of length nothing
 pub length_nil : {T : Type 0} (xs : List T) → (length xs == 0) ≡ is_nil xs
-length_nil [] = refl
-length_nil (x ∷ xs) = not_zero (length (x ∷ xs)) (omega arith)
+length_nil xs = grind (arith, nat_tests)
 
 -- what `is_empty` answers of a list
 pub vec_nil : {T : Type 0} (values : Vec T) → (vec_len values == 0) ≡ is_nil values.items
@@ -77,10 +76,7 @@ EndsIn {T} values (Some v) = (before : List T) × (values ≡ before ++ v ∷ []
 
 -- what `is_none` answers
 none_if : {T : Type 0} (o : Option T) (b : Bool) → is_some o ≡ not b → b ≡ is_none o
-none_if None true e = refl
-none_if None false e = cc
-none_if (Some v) true e = cc
-none_if (Some v) false e = refl
+none_if o b e = grind arith
 
 -- there is no last value where there is no value
 pub none_nil : {T : Type 0} (values : List T) (o : Option T) (b : Bool) → is_some o ≡ not b
@@ -124,8 +120,12 @@ module _ {T : Type 0} {inner : Outcome T} {reads : Readings T} (law : Lawful T i
   -- a turn stopped
   pub stops_here : o ≡ None → UntilRest inner s vs t
   stops_here is =
-      stops m steps (subst (λ w. TurnOutcome inner false w m (Ok None) t) nil
-      (subst (λ w. TurnOutcome inner false b m (Ok w) t) is step))
+      stops (record {
+        last = m;
+        steps = steps;
+        stop = subst (λ w. TurnOutcome inner false w m (Ok None) t) nil
+            (subst (λ w. TurnOutcome inner false b m (Ok w) t) is step);
+      })
 
   -- there are no more values than items present at the start, or there was none before this one
   pub fits_more : (v : T) → o ≡ Some v → (length vs ≡ 0) ⊎ (length vs + 1 ≤ open_count s)

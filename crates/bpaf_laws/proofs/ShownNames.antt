@@ -1,13 +1,13 @@
 -- Which short names each type shows, by those that its inner parsers show.
 use Rattle.std.proofs.Common.{◌≡◌, List, [], ◌∷◌, ◌++◌, ℕ, Option, Some, None, refl, sym, ap, ap₂}
-use Rattle.std.proofs.Common.{Result, ◌∙◌, append_assoc, append-nil, flat_map}
+use Rattle.std.proofs.Common.{Result, ◌∙◌, append_assoc, append-nil, arith}
 use Rattle.std.specs.declared.alloc.AllocError.{AllocError}
 use Rattle.std.proofs.lemmas.List.Concat.{flat_map-append}
 use Rattle.bpaf_doc.specs.Shape.{Adjacent, Shown, Shape, Shapes, Or, Optional, Required, Many, Part}
 use Rattle.bpaf_doc.specs.Shape.{Suffix, Subsection, CustomUsage, none, ◌then◌, members, shape_of}
 use Rattle.bpaf_doc.specs.Shape.{alternatives, shapes_of}
 use Rattle.bpaf_doc.specs.Walks.{parts, parts_of_all, shorts_of_argument, shorts_of_flag}
-use Rattle.bpaf_doc.specs.{Names.Names, declared.meta.MetaInfo.MetaInfo, declared.doc.Piece.Piece}
+use Rattle.bpaf_doc.specs.{declared.meta.MetaInfo.MetaInfo, declared.doc.Piece.Piece}
 use Rattle.bpaf_words.specs.Spelling.{ShortNames}
 use Rattle.bpaf_text.specs.Named.{KeyWithValue, Named}
 use Rattle.bpaf_laws.specs.Choice.{ChoiceDescribes, either_shape}
@@ -28,32 +28,12 @@ one_shape are = record { each = λ shown is. ap (λ shape. shorts_of (parts shap
 -- a flag
 pub flag_shows : {T : Type 0} (named : Named) (absent : Option T)
     → ShowsNames (λ shown. shown ≡ flag_shape named absent) (of_flags named.names.shorts)
-flag_shows {T} named absent = one_shape (of_names named.names.shorts named.names.longs absent)
-  where
-    of_names : (shorts : List ℕ) (longs : List (List ℕ)) (absent : Option T)
-        → let names : Names = record { shorts = shorts; longs = longs } in
-        shorts_of (parts (flag_shape (record named { names = names }) absent)) ≡ of_flags shorts
-    of_names [] [] absent = refl
-    of_names [] (long ∷ longs) None = refl
-    of_names [] (long ∷ longs) (Some kept) = refl
-    of_names (short ∷ shorts) [] None = ap of_flags (append-nil _)
-    of_names (short ∷ shorts) [] (Some kept) = ap of_flags (append-nil _)
-    of_names (short ∷ shorts) (long ∷ longs) None = ap of_flags (append-nil _)
-    of_names (short ∷ shorts) (long ∷ longs) (Some kept) = ap of_flags (append-nil _)
+flag_shows named absent = one_shape (grind (arith, append-nil {A = ℕ}))
 
 -- an argument
 pub argument_shows : (key : KeyWithValue)
     → ShowsNames (λ shown. shown ≡ argument_shape key) (of_arguments key.named.names.shorts)
-argument_shows key = one_shape (of_names key.named.names.shorts key.named.names.longs)
-  where
-    of_names : (shorts : List ℕ) (longs : List (List ℕ))
-        → let names : Names = record { shorts = shorts; longs = longs } in
-        let named : Named = record key.named { names = names } in
-        shorts_of (parts (argument_shape (record key { named = named }))) ≡ of_arguments shorts
-    of_names [] [] = refl
-    of_names [] (long ∷ longs) = refl
-    of_names (short ∷ shorts) [] = ap of_arguments (append-nil _)
-    of_names (short ∷ shorts) (long ∷ longs) = ap of_arguments (append-nil _)
+argument_shows key = one_shape (grind (arith, append-nil {A = ℕ}))
 
 module _ {inner : Shape → Type 0} {names : ShortNames} (inside : ShowsNames inner names) where
   -- a wrapper whose parts are those inside it
@@ -185,19 +165,13 @@ module _ {P : Type 0} (describes : P → Shape → Type 0) (names : P → ShortN
       → (ps : List P) → ShowsNames (Nested ChoiceDescribes describes before ps)
       (joined_shorts own (all_shorts names ps))
   nested_shows before own first [] = record {
-    each = λ shape is. first.each shape is
-        ∙ ap₂ (λ flags arguments. record { flags = flags; arguments = arguments })
-        (sym (append-nil own.flags)) (sym (append-nil own.arguments));
+    each = λ shape is. first.each shape is ∙ grind (arith, append-nil {A = ℕ});
   }
   nested_shows before own first (p ∷ ps) =
       let more = nested_shows (ChoiceDescribes before (describes p)) (joined_shorts own (names p))
       (choice_shows first (each p)) ps in
       record {
-        each = λ shape is. more.each shape is
-            ∙ ap₂ (λ flags arguments. record { flags = flags; arguments = arguments })
-            (append_assoc own.flags (names p).flags (flat_map (λ p. (names p).flags) ps))
-            (append_assoc own.arguments (names p).arguments
-            (flat_map (λ p. (names p).arguments) ps));
+        each = λ shape is. more.each shape is ∙ grind (arith, append_assoc {A = ℕ});
       }
 
   -- a choice of any number

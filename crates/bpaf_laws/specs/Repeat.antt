@@ -21,25 +21,25 @@ Turns inner catches first s (v ∷ vs) t =
     (m : Situation) × TurnOutcome inner catches first s (Ok (Some v)) m
     × Turns inner catches false m vs t
 
--- turns until one stops
-pub record UntilStop {T : Type 0} (inner : Outcome T) (catches : Bool) (s : Situation)
+-- turns until one stops; `first` as above
+pub record UntilStop {T : Type 0} (inner : Outcome T) (catches first : Bool) (s : Situation)
     (values : List T) (t : Situation) : Type 0 where
   pub last : Situation
-  pub steps : Turns inner catches true s values last
+  pub steps : Turns inner catches first s values last
   pub stop : TurnOutcome inner catches (is_nil values) last (Ok None) t
 
 -- turns until one fails
-pub record UntilError {T : Type 0} (inner : Outcome T) (catches : Bool) (s : Situation) (e : Error)
-    (t : Situation) : Type 0 where
+pub record UntilError {T : Type 0} (inner : Outcome T) (catches first : Bool) (s : Situation)
+    (e : Error) (t : Situation) : Type 0 where
   pub values : List T
   pub last : Situation
-  pub steps : Turns inner catches true s values last
+  pub steps : Turns inner catches first s values last
   pub fails : TurnOutcome inner catches (is_nil values) last (Err e) t
 
 -- all values until a turn stops, as a list
 abbrev pub ListOutcome : {T : Type 0} → Outcome T → Bool → Outcome (List T)
-ListOutcome inner catches s (Ok values) t = UntilStop inner catches s values t
-ListOutcome inner catches s (Err e) t = UntilError inner catches s e t
+ListOutcome inner catches s (Ok values) t = UntilStop inner catches true s values t
+ListOutcome inner catches s (Err e) t = UntilError inner catches true s e t
 
 -- inner readings with shares joined, each share not empty
 abbrev pub EachReads : {T : Type 0} → Readings T → Readings (List T)
@@ -79,18 +79,13 @@ CollectOutcome {T} inner catches fills s (Err e) t =
 -- turns that each took an item, until one stops; or one value alone, that took nothing
 pub data UntilRest {T : Type 0} (inner : Outcome T) (s : Situation) (values : List T)
     (t : Situation) : Type 0 where
-  stops : (m : Situation) → Turns inner false false s values m
-      → TurnOutcome inner false (is_nil values) m (Ok None) t → UntilRest inner s values t
+  stops : UntilStop inner false false s values t → UntilRest inner s values t
   rests : (v : T) → values ≡ v ∷ [] → inner s (Ok v) t → open_count s ≤ open_count t
       → UntilRest inner s values t
 
 -- turns that each took an item, until one fails
-pub record UntilFault {T : Type 0} (inner : Outcome T) (s : Situation) (e : Error)
-    (t : Situation) : Type 0 where
-  pub values : List T
-  pub last : Situation
-  pub steps : Turns inner false false s values last
-  pub fails : TurnOutcome inner false (is_nil values) last (Err e) t
+abbrev pub UntilFault : {T : Type 0} → Outcome T → Situation → Error → Situation → Type 0
+UntilFault inner s e t = UntilError inner false false s e t
 
 -- count: how many values there are, until one takes nothing or a turn stops
 abbrev pub CountOutcome : {T : Type 0} → Outcome T → Outcome ℕ

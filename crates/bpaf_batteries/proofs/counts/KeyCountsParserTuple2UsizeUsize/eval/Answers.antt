@@ -4,25 +4,16 @@ use Rattle.bpaf_batteries.proofs.counts.KeyCountsParserTuple2UsizeUsize.eval.Goa
 
 pub returns-clause-outcome : goal.returns-clause-outcome
 returns-clause-outcome c =
-    let p = c.args.self.now in
-    counts_ran is_clone-value.it p.fields.first.inner p.fields.rest.last.inner c.args.state.now
-    c.eval_fields-counts.new.state c.set_current.new.self c.set_current.ensures.current
-    c.eval_fields-counts.result c.eval_fields-counts.ensures
+    counts_ran is_clone-value.it c.args.self.now c.args.state.now c.eval_fields-counts.new.state
+    c.set_current.new.self c.set_current.ensures.current c.eval_fields-counts.result
+    c.eval_fields-counts.ensures
 
 pub returns-clause-keys_are_counted : goal.returns-clause-keys_are_counted
 returns-clause-keys_are_counted c =
-    let p = c.args.self.now in
-    keys_counted is_clone-value.it p.fields.first.inner p.fields.rest.last.inner p.apart
-    c.args.state.now c.set_current.new.self c.eval_fields-counts.result
-    (counts_ran is_clone-value.it p.fields.first.inner p.fields.rest.last.inner c.args.state.now
-    c.eval_fields-counts.new.state c.set_current.new.self c.set_current.ensures.current
-    c.eval_fields-counts.result c.eval_fields-counts.ensures)
+    keys_counted is_clone-value.it c.args.self.now c.args.state.now c.set_current.new.self
+    c.eval_fields-counts.result (returns-clause-outcome c)
 
 pub returns-clause-memory_is_never_caught : goal.returns-clause-memory_is_never_caught
 returns-clause-memory_is_never_caught c =
-    let p = c.args.self.now in
-    counts_spared is_clone-value.it p.fields.first.inner p.fields.rest.last.inner c.args.state.now
-    c.set_current.new.self c.eval_fields-counts.result
-    (counts_ran is_clone-value.it p.fields.first.inner p.fields.rest.last.inner c.args.state.now
-    c.eval_fields-counts.new.state c.set_current.new.self c.set_current.ensures.current
-    c.eval_fields-counts.result c.eval_fields-counts.ensures)
+    counts_spared is_clone-value.it c.args.self.now c.args.state.now c.set_current.new.self
+    c.eval_fields-counts.result (returns-clause-outcome c)
