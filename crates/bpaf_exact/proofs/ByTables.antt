@@ -181,12 +181,12 @@ count_law env T inner names words s =
 -- Defaults.
 
 -- what can be caught
-can_catch_of : {e : Error} → can_catch e.0 ≡ true → CanCatch e
-can_catch_of {e} h =
+can_catch_of : (e : Error) → can_catch e.0 ≡ true → CanCatch (class e)
+can_catch_of e h =
     ⊎_elim (λ missing. catch_missing missing) (λ other. catch_other other) (caught_class e.0 h)
 
 -- what can't be caught
-not_catch_of : (e : Error) → can_catch e.0 ≡ false → CanCatch e → ⊥
+not_catch_of : (e : Error) → can_catch e.0 ≡ false → CanCatch (class e) → ⊥
 not_catch_of e h (catch_missing c) = kept_class e.0 h (inl c)
 not_catch_of e h (catch_other c) = kept_class e.0 h (inr c)
 
@@ -206,12 +206,12 @@ fallback_form_law env {T} inner gives f decides gave refused names words s l =
         → FallbackEval T inner f s r t
     by_answer s t (Ok v) (inl o) = fallback_ok o
     by_answer s t (Ok v) (inr o) =
-        rw o.0.1 (fallback_given o.0.0.2 (can_catch_of o.0.0.3) (gave v o.1))
+        rw o.0.1 (fallback_given o.0.0.2 (can_catch_of _ o.0.0.3) (gave v o.1))
     by_answer s t (Err e) (inl o) = rw o.1
         (⊎_elim (λ kept. fallback_err kept.1 (not_catch_of e kept.2))
         (λ memory. fallback_memory (memory_class e.0 memory)) o.0)
     by_answer s t (Err e) (inr o) = rw o.0.1 (⊎_elim (λ memory. fallback_memory memory)
-        (λ told. fallback_no o.0.0.2 (can_catch_of o.0.0.3) told.0 told.1) (refused e o.1))
+        (λ told. fallback_no o.0.0.2 (can_catch_of _ o.0.0.3) told.0 told.1) (refused e o.1))
 
 -- a kept value
 pub fallback_law : (env : Variables) (T : Type 0) (inner : Outcome T) (clones : T → T → Type 0)

@@ -135,8 +135,13 @@ pieces_of_cut {q} r n (word {w} {cs} h c) =
 
 -- The other way: a piece given back to its place.
 
+-- an item that isn't the one's has the role that it has to the other
+pub either_right : (x : Role) {y : Role} → x ≡ Foreign → either_role x y ≡ y
+either_right Foreign e = refl
+either_right _ e = absurd cc
+
 -- an item of the one is of the same role to both
-either_own : (x y z : Role) → x ≡ z → is_own_role z ≡ true → either_role x y ≡ z
+pub either_own : (x y z : Role) → x ≡ z → is_own_role z ≡ true → either_role x y ≡ z
 either_own Foreign y Foreign e h = cc
 either_own Foreign y _ e h = cc
 either_own _ y z e h = e

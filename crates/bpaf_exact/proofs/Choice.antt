@@ -19,7 +19,7 @@ use Rattle.bpaf_exact.specs.Flat.{OfMemory, OfMissing, Refused, class, cells, fi
 use Rattle.bpaf_exact.specs.Alternative.{TakesFirst, HasBad, AlternativeOk, AlternativeErr}
 use Rattle.bpaf_exact.specs.Alternative.{alternative_memory, alternative_missing}
 use Rattle.bpaf_exact.specs.Alternative.{alternative_refused, AlternativeLaw, either_value}
-use Rattle.bpaf_exact.specs.Flat.{IsWholeIn, Steady, Variables}
+use Rattle.bpaf_exact.specs.Flat.{ErrorClass, IsWholeIn, Steady, Variables}
 use Rattle.std.specs.{Option.option_map_or, Prelude.MatchBool}
 use Rattle.bpaf_exact.proofs.First.{Union, swap_union, either_union, union_named, takes_left}
 use Rattle.bpaf_exact.proofs.First.{bad_given_back, bad_left, HeadOf, owner, first_mine}
@@ -240,25 +240,25 @@ module _ {env : Variables} (T : Type 0) (a b : Outcome T) (qa qb : Roles)
   second_won {s} {n} {t} {y} o h st e = won T (swap_union u) vb vr same_second same_first o h st e
 
   -- the other branch refused
-  err_other : {q : Roles} {v : LinePiece → T → Type 0} {s n : Situation} {cm : Cells} {e : Error}
-      → is_memory e.0 ≡ false → AlternativeErr T q v s e n → Other T q v (cells s) cm
-  err_other {e} h (alternative_memory c) = absurd (not_memory e.0 h c)
-  err_other h (alternative_missing c p same st) = other_missing p
-  err_other h (alternative_refused c p b g) = other_refused b g
+  err_other : {q : Roles} {v : LinePiece → T → Type 0} {s n : Situation} {cm : Cells} (e : Error)
+      → is_memory e.0 ≡ false → AlternativeErr T q v s (class e) n → Other T q v (cells s) cm
+  err_other e h (alternative_memory c) = absurd (not_memory e.0 h c)
+  err_other e h (alternative_missing c p same st) = other_missing p
+  err_other e h (alternative_refused c p b g) = other_refused b g
 
   -- both branches leave the path as it was
-  err_path : {q : Roles} {v : LinePiece → T → Type 0} {s n : Situation} {e : Error}
-      → is_memory e.0 ≡ false → AlternativeErr T q v s e n → n.path ≡ s.path
-  err_path {e} h (alternative_memory c) = absurd (not_memory e.0 h c)
-  err_path h (alternative_missing c p same st) = st.path
-  err_path h (alternative_refused c p b g) = p
+  err_path : {q : Roles} {v : LinePiece → T → Type 0} {s n : Situation} (e : Error)
+      → is_memory e.0 ≡ false → AlternativeErr T q v s (class e) n → n.path ≡ s.path
+  err_path e h (alternative_memory c) = absurd (not_memory e.0 h c)
+  err_path e h (alternative_missing c p same st) = st.path
+  err_path e h (alternative_refused c p b g) = p
 
   -- an alternative leaves the path as it was
   law_path : {z : Outcome T} {q : Roles} {v : LinePiece → T → Type 0} → AlternativeLaw env T z q v
       → (s : Situation) {n : Situation} (r : Result T Error) → IsWholeIn env s → z s r n
       → IsNotMemory r → n.path ≡ s.path
-  law_path l s {n} (Ok x) w o h = (l.ok s n x w o).steady.path
-  law_path l s {n} (Err e) w o h = err_path h (l.err s n e w o)
+  law_path l s {n} (Ok x) w o h = (l.keeps.ok s n x w o).steady.path
+  law_path l s {n} (Err e) w o h = err_path e h (l.keeps.err s n e w o)
 
   -- and both are equally deep
   equally_deep : {s t : Situation} {r : Result T Error} → IsWholeIn env s
@@ -315,14 +315,14 @@ module _ {env : Variables} (T : Type 0) (a b : Outcome T) (qa qb : Roles)
       → a s x sa → b s y sb → IsNotMemory x → IsNotMemory y → EqualDepths s x sa y sb (Ok v) t
       → AlternativeOk T (either qa qb) vr s v t
   equal_ok s sa sb (Ok x) (Ok y) w f g hf hg (inl o) =
-      absurd (never_untouched (la.ok s sa x w f)
+      absurd (never_untouched (la.keeps.ok s sa x w f)
       (and_parts (is_untouched s sa) (is_untouched s sb) o.0).0)
   equal_ok s sa sb {t} {v} (Ok x) (Ok y) w f g hf hg (inr o) =
-      winner_ok v o.1.0 w (la.ok s sa x w f) (lb.ok s sb y w g) o.1.1 o.1.2
+      winner_ok v o.1.0 w (la.keeps.ok s sa x w f) (lb.keeps.ok s sb y w g) o.1.1 o.1.2
   equal_ok s sa sb (Ok x) (Err e) w f g hf hg o =
-      alone_ok (first_won (la.ok s sa x w f) (err_other hg (lb.err s sb e w g)) steady_refl refl) o
+      alone_ok (first_won (la.keeps.ok s sa x w f) (err_other e hg (lb.keeps.err s sb e w g)) steady_refl refl) o
   equal_ok s sa sb (Err e) (Ok y) w f g hf hg o =
-      alone_ok (second_won (lb.ok s sb y w g) (err_other hf (la.err s sa e w f)) steady_refl refl) o
+      alone_ok (second_won (lb.keeps.ok s sb y w g) (err_other e hf (la.keeps.err s sa e w f)) steady_refl refl) o
   equal_ok s sa sb (Err e) (Err d) w f g hf hg o = let i = o.0.2 in absurd cc
 
   -- both fail
@@ -343,22 +343,22 @@ module _ {env : Variables} (T : Type 0) (a b : Outcome T) (qa qb : Roles)
       by_owner (inr i) = g o i.0 w i.1 (rw (← same_second o w i.2) x)
 
   -- with a refusal of either class
-  by_class : {s : Situation} {g : Error} → (class g ≡ OfMemory) ⊎ (class g ≡ Refused)
+  by_class : {s : Situation} {c : ErrorClass} → (c ≡ OfMemory) ⊎ (c ≡ Refused)
       → HasBad T vr (pieces (either qa qb) (cells s)) → Unread (either qa qb) vr s
-      → AlternativeErr T (either qa qb) vr s g s
+      → AlternativeErr T (either qa qb) vr s c s
   by_class (inl c) h n = alternative_memory c
   by_class (inr c) h n = alternative_refused c refl h n
 
   -- where neither has a piece, the choice has none
-  both_missing : {s : Situation} {g : Error} → (class g ≡ OfMissing) ⊎ (class g ≡ OfMemory)
-      → pieces (either qa qb) (cells s) ≡ [] → AlternativeErr T (either qa qb) vr s g s
+  both_missing : {s : Situation} {c : ErrorClass} → (c ≡ OfMissing) ⊎ (c ≡ OfMemory)
+      → pieces (either qa qb) (cells s) ≡ [] → AlternativeErr T (either qa qb) vr s c s
   both_missing (inl c) h = alternative_missing c h refl steady_refl
   both_missing (inr c) h = alternative_memory c
 
   -- both branches refused
   both_failed : (s : Situation) {m n : Situation} (e f : Error) {g : Error} → is_memory e.0 ≡ false
-      → is_memory f.0 ≡ false → Combines e.0 f.0 g.0 → AlternativeErr T qa va s e m
-      → AlternativeErr T qb vb s f n → AlternativeErr T (either qa qb) vr s g s
+      → is_memory f.0 ≡ false → Combines e.0 f.0 g.0 → AlternativeErr T qa va s (class e) m
+      → AlternativeErr T qb vb s (class f) n → AlternativeErr T (either qa qb) vr s (class g) s
   both_failed s e f x y c (alternative_memory p) j = absurd (not_memory e.0 x p)
   both_failed s e f x y c i (alternative_memory q) = absurd (not_memory f.0 y q)
   both_failed s e f x y c (alternative_missing p i same st) (alternative_missing q j alike steady) =
@@ -381,24 +381,24 @@ module _ {env : Variables} (T : Type 0) (a b : Outcome T) (qa qb : Roles)
   one_no_refusal i (inr o) = let h = o.1.0 in cc
 
   -- the refusal where both paths are equally deep
-  equal_err : (s : Situation) {sa sb t : Situation} {g : Error} (x y : Result T Error)
+  equal_err : (s : Situation) {sa sb t : Situation} (g : Error) (x y : Result T Error)
       → IsWholeIn env s → a s x sa → b s y sb → IsNotMemory x → IsNotMemory y
-      → EqualDepths s x sa y sb (Err g) t → AlternativeErr T (either qa qb) vr s g t
-  equal_err s (Ok x) (Ok y) w f h hf hg (inl o) = let i = o.1.0 in absurd cc
-  equal_err s {sa} {sb} {t} {g} (Ok x) (Ok y) w f h hf hg (inr o) =
+      → EqualDepths s x sa y sb (Err g) t → AlternativeErr T (either qa qb) vr s (class g) t
+  equal_err s g (Ok x) (Ok y) w f h hf hg (inl o) = let i = o.1.0 in absurd cc
+  equal_err s {sa} {sb} {t} g (Ok x) (Ok y) w f h hf hg (inr o) =
       absurd (not_winner (branch_of x sa) (branch_of y sb) o.1.0 g t o.1.2)
-  equal_err s {sa} (Ok x) (Err e) w f h hf hg o = absurd (one_no_refusal (la.ok s sa x w f) o)
-  equal_err s {sb} (Err e) (Ok y) w f h hf hg o = absurd (one_no_refusal (lb.ok s sb y w h) o)
-  equal_err s {sa} {sb} {g} (Err e) (Err d) w f h hf hg o =
+  equal_err s {sa} g (Ok x) (Err e) w f h hf hg o = absurd (one_no_refusal (la.keeps.ok s sa x w f) o)
+  equal_err s {sb} g (Err e) (Ok y) w f h hf hg o = absurd (one_no_refusal (lb.keeps.ok s sb y w h) o)
+  equal_err s {sa} {sb} g (Err e) (Err d) w f h hf hg o =
       let given = o.0.2 in
       let same : o.0.0 ≡ g = cc in
-      rw (o.1, ← same) (both_failed s e d hf hg o.0.1 (la.err s sa e w f) (lb.err s sb d w h))
+      rw (o.1, ← same) (both_failed s e d hf hg o.0.1 (la.keeps.err s sa e w f) (lb.keeps.err s sb d w h))
 
   -- a refusal of the choice is that of an alternative
   choice_err : (s t : Situation) (e : Error) → IsWholeIn env s → ChoiceOutcome a b s (Err e) t
-      → AlternativeErr T (either qa qb) vr s e t
+      → AlternativeErr T (either qa qb) vr s (class e) t
   choice_err s t e w (inl o) =
-      equal_err s o.a o.b w o.first_ran o.second_ran o.first_spared o.second_spared
+      equal_err s e o.a o.b w o.first_ran o.second_ran o.first_spared o.second_spared
       (equally_deep w o)
   choice_err s t e w (inr o) = alternative_memory (memory_class e.0 o.0)
 
@@ -406,8 +406,10 @@ module _ {env : Variables} (T : Type 0) (a b : Outcome T) (qa qb : Roles)
   pub choice_law : AlternativeLaw env T (ChoiceOutcome a b) (either qa qb) (either_value qa va vb)
   choice_law = record {
     named = union_named u;
-    ok = λ s t v w o.
-        equal_ok s o.sa o.sb o.a o.b w o.first_ran o.second_ran o.first_spared o.second_spared
-        (equally_deep w o);
-    err = choice_err;
+    keeps = record {
+      ok = λ s t v w o.
+          equal_ok s o.sa o.sb o.a o.b w o.first_ran o.second_ran o.first_spared o.second_spared
+          (equally_deep w o);
+      err = choice_err;
+    };
   }

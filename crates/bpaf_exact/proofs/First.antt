@@ -4,12 +4,12 @@ use Rattle.std.proofs.Common.{refl, sym, ap, ◌∙◌, inl, inr, ◌⊎◌, if�
 use Rattle.bpaf_base.specs.declared.arg.Arg.{Arg}
 use Rattle.bpaf_exact.specs.Pieces.{Cells, Role, Foreign, Alone, WithNext, Roles, LinePiece, One}
 use Rattle.bpaf_exact.specs.Pieces.{Two, is_value, is_own_role, is_own, IsNamed, Apart, either}
-use Rattle.bpaf_exact.specs.Pieces.{either_role, with_next, begin_piece, pieces, TakesPiece}
+use Rattle.bpaf_exact.specs.Pieces.{with_next, begin_piece, pieces, TakesPiece}
 use Rattle.bpaf_exact.specs.Pieces.{takes_one, takes_two, takes_later}
 use Rattle.bpaf_exact.specs.Alternative.{TakesFirst, first_one, first_two, first_later, HasBad}
 use Rattle.bpaf_exact.specs.Alternative.{bad_here, bad_later}
 use Rattle.bpaf_exact.proofs.Cells.{value_foreign, nil_rest, nil_foreign, keeps_other, same_next}
-use Rattle.bpaf_exact.proofs.Cells.{begin_at}
+use Rattle.bpaf_exact.proofs.Cells.{begin_at, either_own, either_right}
 
 -- taking the first piece is taking one
 pub first_takes : {q : Roles} {cs ds : Cells} {o : LinePiece} → TakesFirst q cs o ds
@@ -98,16 +98,6 @@ swap_union u = record {
   none = λ k a b. u.none k b a;
 }
 
--- an item of the first is of the same role to both
-either_left : (x y : Role) → is_own_role x ≡ true → either_role x y ≡ x
-either_left Foreign y e = absurd cc
-either_left _ y e = refl
-
--- so is one of the second
-either_right : (x : Role) {y : Role} → x ≡ Foreign → either_role x y ≡ y
-either_right Foreign e = refl
-either_right _ e = absurd cc
-
 -- the items of two fields that share none
 pub either_union : {qa qb : Roles} → IsNamed qa → IsNamed qb → Apart qa qb
     → Union qa qb (either qa qb)
@@ -115,7 +105,7 @@ either_union {qa} {qb} na nb a = record {
   apart = a;
   named_left = na;
   named_right = nb;
-  left = λ k e. either_left (qa k) (qb k) e;
+  left = λ k e. either_own (qa k) (qb k) (qa k) refl e;
   right = λ k e. either_right (qa k) (a.right k e);
   none = λ k e f. either_right (qa k) e ∙ f;
 }

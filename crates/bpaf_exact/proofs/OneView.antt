@@ -10,7 +10,7 @@ use Rattle.bpaf_laws.specs.{Environment.first_set, Reading.Outcome, Repeat.is_ni
 use Rattle.bpaf_exact.specs.Flat.{FieldsLaw, FieldsReading, FieldKind, ByName, ReadOff, Variables}
 use Rattle.bpaf_exact.specs.Single.{Groups, Gap, FrontOf, Own, own_none, own_more, SingleLaw}
 use Rattle.bpaf_exact.specs.Single.{SingleValue, OwnList, listed, listed_and_absent, only_absent}
-use Rattle.bpaf_exact.specs.Wrappers.{Closure, OptionalValue, FallbackValue}
+use Rattle.bpaf_exact.specs.Wrappers.{ClosedValue, Closure, OptionalValue, FallbackValue}
 use Rattle.bpaf_exact.specs.Leaves.{FlagValue, ArgumentValue, WordValue, flag_field}
 use Rattle.bpaf_exact.specs.Leaves.{argument_field, argument_group, argument_roles, flag_roles}
 use Rattle.bpaf_exact.specs.Record.{RunAnswer, Accepted, NoMemory, Refusal, RecordValue, IsExact}
@@ -35,27 +35,29 @@ use Rattle.bpaf_text.specs.Named.{Named as Key, KeyWithValue}
 
 module _ (A B X Y : Type 0) (see : A → X) (look : B → Y) (f : Closure A B)
     (respects : Respects A B X Y see look f) where
-  -- What a closure that can't tell apart what looks alike makes of such values looks alike again.
+  -- What a closure that can't tell apart what looks alike makes of such values looks alike again:
+  -- of the same pieces or cells,
+  made_view : {Z : Type 0} (value : Z → A → Type 0) → ((z : Z) → Alike see (value z)) → (z : Z)
+      → Alike look (ClosedValue value f z)
+  made_view value u z v w a b =
+      respects.same a.from b.from v w (u z a.from b.from a.read b.read) a.made b.made
+
+  -- and of a field, or of commands
   pub closed_view : (s : ProgramForm A) → HasOneView see s → HasOneView look (program_closed f s)
-  closed_view (alternative wide q value) u =
-      λ o v w a b. respects.same a.from b.from v w (u o a.from b.from a.read b.read) a.made b.made
+  closed_view (alternative wide q value) u = made_view value u
   closed_view (single wide k q group gap) u = (
     λ os rest others v w a b. let d = u.0 os rest others a.from b.from a.read b.read in
         (respects.same a.from b.from v w d.0 a.made b.made, d.1),
     λ v w a b. respects.same a.0 b.0 v w (u.1 a.0 b.0 a.1 b.1) a.2 b.2,
   )
-  closed_view (complete wide k q value) u =
-      λ os v w a b. respects.same a.from b.from v w (u os a.from b.from a.read b.read) a.made b.made
-  closed_view (commands optional value) u =
-      λ cs v w a b. respects.same a.from b.from v w (u cs a.from b.from a.read b.read) a.made b.made
+  closed_view (complete wide k q value) u = made_view value u
+  closed_view (commands optional value) u = made_view value u
   closed_view _ u = tt
 
   -- what a constructor makes of values that look alike looks alike
   pub con_view : (s : ProgramForm A) → HasOneView see s → HasOneView look (program_con f s)
-  con_view (product wide named q fields) u =
-      λ os v w a b. respects.same a.from b.from v w (u os a.from b.from a.read b.read) a.made b.made
-  con_view (before_commands value) u =
-      λ cs v w a b. respects.same a.from b.from v w (u cs a.from b.from a.read b.read) a.made b.made
+  con_view (product wide named q fields) u = made_view fields.value u
+  con_view (before_commands value) u = made_view value u
   con_view _ u = tt
 
 -- Leaves.

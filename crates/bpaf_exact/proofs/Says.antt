@@ -45,6 +45,16 @@ front_says : {T : Type 0} (value : LinePiece → T → Type 0) {said : Said T}
 front_says value each os rest v h =
     record { part = h.0 ∷ []; is = h.1; some = λ e. cc; told = each h.0 v h.2 }
 
+-- a key, where each of its pieces, its groups and what stands for none say so
+key_says : {T : Type 0} {said : Said T} {names : List Names} (wide may_choose : Bool) (q : Roles)
+    {each : LinePiece → T → Type 0} {group : Groups T} (gap : Gap T)
+    → ((o : LinePiece) (v : T) → each o v → said (o ∷ []) v)
+    → ((os rest : List LinePiece) (v : T) → group os v rest → FrontSays said os v rest)
+    → ((v : T) → gap.absent v → said [] v)
+    → Says names (key_field wide may_choose q each group gap) (of_kind ByName) said
+key_says wide true q gap piece groups none = record { by = (refl, piece) }
+key_says wide false q gap piece groups none = record { by = (refl, groups, none) }
+
 -- a flag
 module _ {T : Type 0} (clones : T → T → Type 0) (present : T) where
   -- its key
@@ -61,24 +71,14 @@ module _ {T : Type 0} (clones : T → T → Type 0) (present : T) where
   flag_gap_says (Some a) None v m = says_absent a refl refl refl m
   flag_gap_says absent (Some text) v m = says_variable text refl refl m
 
-  -- whichever it may be
-  key_says : {names : List Names} (wide may_choose : Bool) (key : Key) {absent : Option T}
-      {set : Option (List ℕ)}
-      → Says names (key_field wide may_choose (flag_roles key.names) (FlagValue (clones present))
-      (FrontOf T (FlagValue (clones present)))
-      (gap_of clones (value_without_key present absent set))) (of_kind ByName)
-      (FlagSays clones present absent set)
-  key_says wide true key = record { by = (refl, present_piece) }
-  key_says wide false key {absent} {set} = record {
-    by = (refl, front_says (FlagValue (clones present)) present_piece, flag_gap_says absent set);
-  }
-
   -- so it is with its field
   pub flag_says : {names : List Names} (key : Key) (absent : Option T) (variables : Variables)
       → Says names (flag_field clones key present absent variables) (of_kind ByName)
       (FlagSays clones present absent (first_set variables key.envs))
   flag_says key absent variables =
-      key_says (not (is_nil key.envs)) (is_nil key.envs && is_none absent) key
+      key_says (not (is_nil key.envs)) (is_nil key.envs && is_none absent) (flag_roles key.names) _
+      present_piece (front_says (FlagValue (clones present)) present_piece)
+      (flag_gap_says absent (first_set variables key.envs))
 
 -- an argument
 module _ {T : Type 0} (means : List ℕ → T → Type 0) where
@@ -105,23 +105,16 @@ module _ {T : Type 0} (means : List ℕ → T → Type 0) where
   argument_gap_says None v m = absurd m
   argument_gap_says (Some text) v m = says_variable_text text refl refl m
 
-  -- whichever it may be
-  option_says : {names : List Names} (wide may_choose : Bool) (argument : KeyWithValue)
-      {set : Option (List ℕ)}
-      → Says names (key_field wide may_choose (argument_roles argument.adjacent
-      argument.named.names) (ArgumentValue means) (argument_group means argument.last)
-      (gap_of means set)) (of_kind ByName) (ArgumentSays means argument.last set)
-  option_says wide true argument = record { by = (refl, pair_piece) }
-  option_says wide false argument {set} =
-      record { by = (refl, argument_group_says argument.last, argument_gap_says set) }
-
   -- so it is with its field
   pub argument_says : {names : List Names} (argument : KeyWithValue) (variables : Variables)
       → Says names (argument_field means argument variables) (of_kind ByName)
       (ArgumentSays means argument.last (first_set variables argument.named.envs))
   argument_says argument variables =
-      option_says (argument.adjacent || not (is_nil argument.named.envs))
-      (is_nil argument.named.envs && not argument.last) argument
+      key_says (argument.adjacent || not (is_nil argument.named.envs))
+      (is_nil argument.named.envs && not argument.last)
+      (argument_roles argument.adjacent argument.named.names) _ pair_piece
+      (argument_group_says argument.last)
+      (argument_gap_says (first_set variables argument.named.envs))
 
 -- what the value of a word by itself says
 pub word_says : {T : Type 0} (accepts : Bool → Bool) (means : List ℕ → T → Type 0) (o : LinePiece)
@@ -252,15 +245,17 @@ whole_form_says : {T B : Type 0} {kind : FieldKind → FieldKind} (lift : SaidKi
     → ((group : Groups T) (gap : Gap T) → ((os rest : List LinePiece) (v : T) → group os v rest
     → FrontSays said os v rest) → ((v : T) → gap.absent v
     → said [] v) → (os : List LinePiece) (v : B) → value group gap os v → whole os v)
-    → (names : List Names) (j : SaidKind) (s : ProgramForm T) → FormSays names s j said
-    → FormSays names (completed kind value s) (lift j) whole
-whole_form_says lift lifts value whole each names j (alternative wide q one) h = (
-  ap lift h.0 ∙ lifts ByName,
-  λ os v all. each _ _ (front_says one h.1) (λ v none. absurd none) os v,
-)
-whole_form_says lift lifts value whole each names j (single wide k q group gap) h =
-    (ap lift h.0 ∙ lifts k, λ os v all. each group gap h.1 h.2 os v)
-whole_form_says lift lifts value whole each names j _ h = tt
+    → {names : List Names} {j : SaidKind} {s : ProgramForm T} → Says names s j said
+    → Says names (completed kind value s) (lift j) whole
+whole_form_says lift lifts value whole each {s = alternative wide q one} h = record {
+  by = (
+    ap lift h.by.0 ∙ lifts ByName,
+    λ os v all. each _ _ (front_says one h.by.1) (λ v none. absurd none) os v,
+  );
+}
+whole_form_says lift lifts value whole each {s = single wide k q group gap} h =
+    record { by = (ap lift h.by.0 ∙ lifts k, λ os v all. each group gap h.by.1 h.by.2 os v) }
+whole_form_says lift lifts value whole each h = record { by = tt }
 
 -- own items are those with one of these names
 abbrev pub FormOwns : {T : Type 0} → List Names → ProgramForm T → Type 0
@@ -295,60 +290,46 @@ field_says {s = product wide true q fields} {names} own h = record {
 field_says {s = product wide false q fields} own h = record { by = h.by }
 field_says {s = commands optional value} own h = absurd h.by
 field_says {s = before_commands value} own h = absurd h.by
-field_says {T} {s} {kind} {names} {said} own h = record {
-  by = whole_form_says (λ j. j) (λ k. refl) (SingleValue T) said (whole_says said)
-      names kind s h.by;
-}
+field_says {T} {said} own h =
+    whole_form_says (λ j. j) (λ k. refl) (SingleValue T) said (whole_says said) h
 
 -- under `optional`
 pub optional_says : {T : Type 0} {s : ProgramForm T} {kind : SaidKind} {names : List Names}
     {said : Said T} → Says names s kind said → Says names (program_optional s) kind
     (OptionalSays said)
 optional_says {s = commands optional value} h = absurd h.by
-optional_says {T} {s} {kind} {names} {said} h = record {
-  by = whole_form_says (λ j. j) (λ k. refl) (OptionalValue T) (OptionalSays said)
-      (optional_by said) names kind s h.by;
-}
+optional_says {T} {said} h =
+    whole_form_says (λ j. j) (λ k. refl) (OptionalValue T) (OptionalSays said) (optional_by said) h
 
 -- under a fallback
 pub fallback_says : {T : Type 0} (f : Closure (Unit {0}) T) {s : ProgramForm T} {kind : SaidKind}
     {names : List Names} {said : Said T} → Says names s kind said
     → Says names (completed (λ k. k) (λ group gap. FallbackValue T group gap f) s) kind
     (FallbackSays said (f.yes tt))
-fallback_says {T} f {s} {said} h = record {
-  by = whole_form_says (λ j. j) (λ k. refl) (λ group gap. FallbackValue T group gap f)
-      (FallbackSays said (f.yes tt))
-      (λ group gap fronts absent. fallback_by said group gap fronts absent f) _ _ s h.by;
-}
-
--- under a repeat, as a list
-repeat_says : {T : Type 0} {s : ProgramForm T} {kind : SaidKind} {names : List Names}
-    {said : Said T} → Says names s kind said
-    → Says names (completed repeated (OwnList T) s) (repeated_kind kind) (RepeatSays said)
-repeat_says {T} {s} {said} h = record {
-  by = whole_form_says repeated_kind (λ k. refl) (OwnList T) (RepeatSays said)
-      (list_says said) _ _ s h.by;
-}
+fallback_says {T} f {said} h =
+    whole_form_says (λ j. j) (λ k. refl) (λ group gap. FallbackValue T group gap f)
+    (FallbackSays said (f.yes tt))
+    (λ group gap fronts absent. fallback_by said group gap fronts absent f) h
 
 -- under `many`, `some`, `collect` or `count`
 pub listed_says : {T B : Type 0} (f : Closure (List T) B) {s : ProgramForm T} {kind : SaidKind}
     {names : List Names} {said : Said T} → Says names s kind said
     → Says names (program_closed f (completed repeated (OwnList T) s)) (repeated_kind kind)
     (MadeSays (RepeatSays said) f)
-listed_says f h = closed_says (repeat_says h)
+listed_says {T} f {said} h = closed_says (whole_form_says repeated_kind (λ k. refl) (OwnList T)
+    (RepeatSays said) (list_says said) h)
 
 -- under `last`
 pub last_says : {T : Type 0} {s : ProgramForm T} {kind : SaidKind} {names : List Names}
     {said : Said T} → Says names s kind said
     → Says names (completed repeated (LastOf T) s) (repeated_kind kind) (LastSays said)
-last_says {T} {s} {said} h = record {
-  by = whole_form_says repeated_kind (λ k. refl) (LastOf T) (LastSays said)
-      (λ group gap fronts absent os v m. record {
-        values = m.0 ++ v ∷ [];
-        told = list_says said group gap fronts absent os (m.0 ++ v ∷ []) m.1;
-        is = record { before = m.0; is = refl };
-      }) _ _ s h.by;
-}
+last_says {T} {said} h =
+    whole_form_says repeated_kind (λ k. refl) (LastOf T) (LastSays said)
+    (λ group gap fronts absent os v m. record {
+      values = m.0 ++ v ∷ [];
+      told = list_says said group gap fronts absent os (m.0 ++ v ∷ []) m.1;
+      is = record { before = m.0; is = refl };
+    }) h
 
 -- without `catch`
 pub unless_says : {T : Type 0} (catch : Bool) {s : ProgramForm T} {kind : SaidKind}

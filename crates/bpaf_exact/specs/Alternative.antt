@@ -1,12 +1,12 @@
 -- Required flags and arguments, and choices of them: each piece has its value by itself.
-use Rattle.std.specs.Prelude.{◌≡◌, true, List, [], ◌∷◌, Option, Some, None, Ok, Err, ◌⊎◌, MatchBool}
+use Rattle.std.specs.Prelude.{◌≡◌, true, List, [], ◌∷◌, Option, Some, None, ◌⊎◌, MatchBool}
 use Rattle.bpaf_base.specs.declared.arg.Arg.{Arg}
-use Rattle.bpaf_line.specs.{declared.error.Error.Error, Situation.Situation}
+use Rattle.bpaf_line.specs.Situation.{Situation}
 use Rattle.bpaf_laws.specs.Reading.{Outcome}
 use Rattle.bpaf_exact.specs.Pieces.{Cells, Roles, Foreign, Alone, WithNext, LinePiece, One, Two}
 use Rattle.bpaf_exact.specs.Pieces.{is_value, is_own, pieces, TakesPiece, IsNamed}
-use Rattle.bpaf_exact.specs.Flat.{OfMemory, OfMissing, Refused, class, cells, IsWholeIn, Steady}
-use Rattle.bpaf_exact.specs.Flat.{Variables}
+use Rattle.bpaf_exact.specs.Flat.{ErrorClass, OfMemory, OfMissing, Refused, cells, Steady}
+use Rattle.bpaf_exact.specs.Flat.{Variables, Keeps}
 
 -- no item of the field's own
 abbrev pub NotOwn : Roles → Option Arg → Type 0
@@ -42,24 +42,21 @@ pub record AlternativeOk (T : Type 0) (q : Roles) (value : LinePiece → T → T
 
 -- a refusal of an alternative
 pub data AlternativeErr (T : Type 0) (q : Roles) (value : LinePiece → T → Type 0) (s : Situation)
-    (e : Error) (t : Situation) : Type 0 where
-  alternative_memory : class e ≡ OfMemory → AlternativeErr T q value s e t
-  alternative_missing : class e ≡ OfMissing → pieces q (cells s) ≡ [] → cells t ≡ cells s
-      → Steady s t → AlternativeErr T q value s e t
+    (c : ErrorClass) (t : Situation) : Type 0 where
+  alternative_memory : c ≡ OfMemory → AlternativeErr T q value s c t
+  alternative_missing : c ≡ OfMissing → pieces q (cells s) ≡ [] → cells t ≡ cells s
+      → Steady s t → AlternativeErr T q value s c t
   -- the first piece can't be read
-  alternative_refused : class e ≡ Refused → t.path ≡ s.path → HasBad T value (pieces q (cells s))
+  alternative_refused : c ≡ Refused → t.path ≡ s.path → HasBad T value (pieces q (cells s))
       → ((o : LinePiece) (os : List LinePiece) (w : T) → pieces q (cells s) ≡ o ∷ os → value o w
       → ⊥)
-      → AlternativeErr T q value s e t
+      → AlternativeErr T q value s c t
 
 -- the laws of a required flag or argument, or of a choice of them
 pub record AlternativeLaw (variables : Variables) (T : Type 0) (outcome : Outcome T) (q : Roles)
     (value : LinePiece → T → Type 0) : Type 0 where
   pub named : IsNamed q
-  pub ok : (s t : Situation) (v : T) → IsWholeIn variables s → outcome s (Ok v) t
-      → AlternativeOk T q value s v t
-  pub err : (s t : Situation) (e : Error) → IsWholeIn variables s → outcome s (Err e) t
-      → AlternativeErr T q value s e t
+  pub keeps : Keeps variables T outcome (AlternativeOk T q value) (AlternativeErr T q value)
 
 -- a piece has the value that the alternative gives that it belongs to
 abbrev pub either_value : {T : Type 0} → Roles → (LinePiece → T → Type 0) → (LinePiece → T → Type 0)
