@@ -137,22 +137,16 @@ module _ (argument : KeyWithValue) where
 
   module _ {T : Type 0} (means : List ℕ → T → Type 0)
       (all : argument.last ≡ true) (variables : Variables) where
-    -- keys that were taken with their texts are the first pieces
-    record TookSome (s t : Situation) : Type 0 where
-      pairs : List LinePiece
-      is : pieces q (cells s) ≡ pairs ++ pieces q (cells t)
-
-    -- some keys with their texts
+    -- some keys that were taken with their texts are the first pieces
     took_some : (s t : Situation) (texts : List (List ℕ)) → TakesKeysWithTexts argument s texts t
-        → TookSome s t
-    took_some s t [] same = record { pairs = []; is = ap (λ z. pieces q (cells z)) (sym same) }
+        → (some : List LinePiece) × (pieces q (cells s) ≡ some ++ pieces q (cells t))
+    took_some s t [] same = ([], ap (λ z. pieces q (cells z)) (sym same))
     took_some s t (text ∷ texts) o =
         let m = took_pair s o.0 text o.1 in
-        let rest = took_some o.0 t texts o.2 in
-        record {
-          pairs = Two m.key m.word ∷ rest.pairs;
-          is = first_pieces q named m.takes ∙ ap (λ z. Two m.key m.word ∷ z) rest.is;
-        }
+        let rest = took_some o.0 t texts o.2 in (
+          Two m.key m.word ∷ rest.0,
+          first_pieces q named m.takes ∙ ap (λ z. Two m.key m.word ∷ z) rest.1,
+        )
 
     -- all of them are the pieces, and this is the text of the last one
     record TookAll (s t : Situation) (text : List ℕ) : Type 0 where
@@ -206,69 +200,58 @@ module _ (argument : KeyWithValue) where
     took_texts s t text (x ∷ before) o =
         all_more s o.0 t x text (took_pair s o.0 x o.1) (took_texts o.0 t text before o.2)
 
-    -- the text of an argument is that of the last of its pieces, of which none is left
-    record GotAll (s t : Situation) (text : List ℕ) : Type 0 where
-      pieces_are : TookAll s t text
-      none : pieces q (cells t) ≡ []
-
-    -- all its keys were taken
+    -- all its keys were taken, and none is left
     takes_all : {s t : Situation} {text : List ℕ} → TakesOwnText argument.last argument s text t
-        → GotAll s t text
+        → TookAll s t text × (pieces q (cells t) ≡ [])
     takes_all {s} {t} {text} takes =
         let last = subst (λ b. TakesOwnText b argument s text t) all takes in
-        record {
-          pieces_are = took_texts s t text last.before last.taken;
-          none = no_key t last.no_more;
-        }
+        (took_texts s t text last.before last.taken, no_key t last.no_more)
 
-    -- the pieces of a text, up to the last one
-    whole : {s t : Situation} {text : List ℕ} (got : GotAll s t text)
-        → pieces q (cells s) ≡ pairs got.pieces_are.before ++ Two got.pieces_are.key
-        got.pieces_are.word ∷ []
-    whole got =
-        let a = got.pieces_are in
-        a.is ∙ ap (λ z. pairs a.before ++ Two a.key a.word ∷ z) got.none
+    -- the pieces, up to the last one
+    whole : {s t : Situation} {text : List ℕ} (a : TookAll s t text) → pieces q (cells t) ≡ []
+        → pieces q (cells s) ≡ pairs a.before ++ Two a.key a.word ∷ []
+    whole a none = a.is ∙ ap (λ z. pairs a.before ++ Two a.key a.word ∷ z) none
 
     -- a value is that of the last piece
-    last_read : (s t : Situation) {text : List ℕ} (v : T) → GotAll s t text → means text v
+    last_read : {s t : Situation} {text : List ℕ} (v : T) (a : TookAll s t text)
+        → pieces q (cells t) ≡ [] → means text v
         → SingleOk T ByName q (LastGroup T means) (gap means variables) s v t
-    last_read s t v got m =
-        let a = got.pieces_are in
+    last_read {s} {t} v a none m =
         let group : (rest : List LinePiece) → rest ≡ []
-        → LastGroup T means (pieces q (cells s)) v rest = (λ rest none. (
+        → LastGroup T means (pieces q (cells s)) v rest = (λ rest ends. (
           a.before,
           (a.key, a.word),
-          whole got,
+          whole a none,
           rw a.text_is m,
-          none,
+          ends,
         )) in
         took (record {
           steady = a.steady;
           takes = a.any;
           found = takes_nonempty a.any.one;
-          read = λ r. group (pieces q (cells t)) got.none;
-          readable = λ x rest g. (group rest g.4, got.none ∙ sym g.4);
+          read = λ r. group (pieces q (cells t)) none;
+          readable = λ x rest g. (group rest g.4, none ∙ sym g.4);
         })
 
     -- where a last text means no value, the pieces have none
-    fault_group : {s t : Situation} {text : List ℕ} → GotAll s t text → ((v : T) → means text v → ⊥)
+    fault_group : {s t : Situation} {text : List ℕ} (a : TookAll s t text)
+        → pieces q (cells t) ≡ [] → ((v : T) → means text v → ⊥)
         → (v : T) (rest : List LinePiece) → LastGroup T means (pieces q (cells s)) v rest → ⊥
-    fault_group got nothing v rest g =
-        let a = got.pieces_are in
+    fault_group a none nothing v rest g =
         let same : Two g.1.0 g.1.1 ≡ Two a.key a.word = last_same (pairs g.0) (pairs a.before)
-        (sym g.2 ∙ whole got) in
+        (sym g.2 ∙ whole a none) in
         let word : g.1.1 ≡ a.word = cc in
         nothing v (rw (← ap item_text word ∙ a.text_is) g.3)
 
     -- where a key has no value, the pieces have none
     bare_refused : (s : Situation) {t : Situation} {c : ErrorClass} {k : Arg} {tail : List LinePiece}
-        → c ≡ Refused → TookSome s t → pieces q (cells t) ≡ One k ∷ tail
+        → c ≡ Refused → (some : List LinePiece) → pieces q (cells s) ≡ some ++ pieces q (cells t)
+        → pieces q (cells t) ≡ One k ∷ tail
         → SingleErr T ByName q (LastGroup T means) (gap means variables) s c t
-    bare_refused s {k} {tail} c some is =
-        let there : pieces q (cells s) ≡ some.pairs ++ One k ∷ tail =
-        some.is ∙ ap (λ z. some.pairs ++ z) is in
-        of_piece c (λ none. never_nil some.pairs (One k) tail (sym there ∙ none))
-        (λ v rest g. bare_spoils some.pairs tail g.0 k g.1.0 g.1.1 (sym there ∙ g.2))
+    bare_refused s {k} {tail} c some first is =
+        let there : pieces q (cells s) ≡ some ++ One k ∷ tail = first ∙ ap (λ z. some ++ z) is in
+        of_piece c (λ none. never_nil some (One k) tail (sym there ∙ none))
+        (λ v rest g. bare_spoils some tail g.0 k g.1.0 g.1.1 (sym there ∙ g.2))
 
     -- a refusal: no piece, one without a value, or a last one that means none
     last_err : {s t : Situation} (e : Error) (m : Message) → class e ≡ class_of m
@@ -276,13 +259,14 @@ module _ (argument : KeyWithValue) where
         → SingleErr T ByName q (LastGroup T means) (gap means variables) s (class e) t
     last_err e Memory c same o = of_memory c
     last_err {s} e (ParseFailed place fault) c same o = ⊎_elim (λ takes. let got = takes_all takes in
-        of_piece c (takes_nonempty got.pieces_are.any.one) (fault_group got o.2.0))
+        of_piece c (takes_nonempty got.0.any.one) (fault_group got.0 got.1 o.2.0))
         (λ read. none_err (no_key s read.no_key) (variable_fault means variables same read c o.2.0))
         o.1
     last_err {s} {t} e (NoArgument key metavar) c same o =
         let before = subst (λ b. TakesBefore b argument s t) all o.1 in
         let m = match_of (is_key_with_value argument) t key o.0.0.matches in
-        bare_refused s c (took_some s t before.0 before.1) (bare_taken test o.0.0 m o.0.1).is
+        let some = took_some s t before.0 before.1 in
+        bare_refused s c some.0 some.1 (bare_taken test o.0.0 m o.0.1).is
     last_err {s} e other c same o =
         none_err (no_key s o.0) (nowhere means variables other c same o.1 o.2)
 
@@ -295,7 +279,7 @@ module _ (argument : KeyWithValue) where
       starts = λ v rest g. never_nil (pairs g.0) (Two g.1.0 g.1.1) [] (sym g.2);
       no_absent = gap_empty means _;
       keeps = record {
-        ok = λ s t v w o. ⊎_elim (λ takes. last_read s t v (takes_all takes) o.2)
+        ok = λ s t v w o. ⊎_elim (λ takes. let got = takes_all takes in last_read v got.0 got.1 o.2)
             (λ read. none_ok (no_key s read.no_key)
             (variable_read means variables w.environment read o.2)) o.1;
         err = λ s t e w o. last_err e e.0 refl w.environment o;

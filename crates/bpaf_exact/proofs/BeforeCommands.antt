@@ -16,27 +16,9 @@ use Rattle.bpaf_exact.specs.Pieces.{either, either_role}
 use Rattle.bpaf_exact.proofs.Product.{none_outside_after, values_of_both, refused_both}
 use Rattle.bpaf_exact.proofs.Cells.{nil_rest, nil_foreign, value_foreign, begin_at}
 use Rattle.bpaf_exact.proofs.{Sharing.second_within, Sharing.first_within, Programs.cells_spelled}
-use Rattle.bpaf_exact.proofs.Records.{con_keeps}
+use Rattle.bpaf_exact.proofs.{Records.con_keeps, Cuts.one_take}
 
 -- What is taken, and what is left.
-
--- the pieces taken and what is left are told by the cells
-pub one_take : {q : Roles} {cs ds es : Cells} {os ps : List LinePiece} → Takes q cs os ds
-    → Takes q cs ps es → (os ≡ ps) × (ds ≡ es)
-one_take no_cells no_cells = (refl, refl)
-one_take (empty_stays t) (empty_stays u) = let i = one_take t u in (i.0, ap (λ z. None ∷ z) i.1)
-one_take (other_stays {k} e t) (other_stays f u) =
-    let i = one_take t u in (i.0, ap (λ z. Some k ∷ z) i.1)
-one_take (takes_flag {k} e t) (takes_flag f u) =
-    let i = one_take t u in (ap (λ z. One k ∷ z) i.0, ap (λ z. None ∷ z) i.1)
-one_take (takes_argument {k} {w} e v t) (takes_argument f y u) =
-    let i = one_take t u in (ap (λ z. Two k w ∷ z) i.0, ap (λ z. None ∷ (None ∷ z)) i.1)
-one_take (other_stays e t) (takes_flag f u) = absurd cc
-one_take (other_stays e t) (takes_argument f y u) = absurd cc
-one_take (takes_flag e t) (other_stays f u) = absurd cc
-one_take (takes_flag e t) (takes_argument f y u) = absurd cc
-one_take (takes_argument e v t) (other_stays f u) = absurd cc
-one_take (takes_argument e v t) (takes_flag f u) = absurd cc
 
 -- those taken are all own pieces
 taken_pieces : {q : Roles} {cs ds : Cells} {os : List LinePiece} → IsNamed q → Takes q cs os ds

@@ -1,5 +1,5 @@
 -- The classes of refusals, and of what two refusals together are.
-use Rattle.std.proofs.Common.{◌≡◌, Bool, true, false, not, ◌&&◌, if◌then◌else◌, refl, sym, ap, ap₂}
+use Rattle.std.proofs.Common.{◌≡◌, Bool, true, false, not, ◌&&◌, if◌then◌else◌, refl, sym, ap}
 use Rattle.std.proofs.Common.{◌∙◌, inl, inr, ◌⊎◌, ⊎_elim, true≢false}
 use Rattle.std.proofs.lemmas.Bool.{eqb-true, eq-eqb}
 use Rattle.bpaf_line.specs.declared.error.Message.TheVariants.{Memory, Missing, ParseFailure}
@@ -33,10 +33,6 @@ pub missing_caught : (m : Message) → is_missing m ≡ true
     → (is_memory m ≡ false) × (can_catch m ≡ true)
 missing_caught (Missing items) e = (refl, refl)
 missing_caught other e = absurd cc
-
--- and is of its class
-pub missing_class : (m : Message) → is_missing m ≡ true → class_of m ≡ OfMissing
-missing_class m e = ap₂ (λ a b. class_of_tests a b (can_catch m)) (missing_caught m e).0 e
 
 -- want of memory can't be caught
 memory_kept : (m : Message) → is_memory m ≡ true → can_catch m ≡ false

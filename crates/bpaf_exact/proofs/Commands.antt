@@ -347,20 +347,11 @@ module _ {env : Variables} (T : Type 0) (a b : Outcome T) (ra rb : Roles) (wa wb
   pub choice_commands : CommandsLaw env T (ChoiceOutcome a b) (either ra rb) (wa ++ wb) value
   choice_commands = record {
     program = record {
-      others = λ q n p cs v s h. by_others q
-          (λ u g. la.program.others q n (apart_first rb p) cs u s g)
-          (λ u g. lb.program.others q n (apart_second ra p) cs u s g) h;
+      others = λ q n p cs v s h. ⊎_elim (λ g. la.program.others q n (apart_first rb p) cs v s g)
+          (λ g. lb.program.others q n (apart_second ra p) cs v s g) h;
       keeps = record { ok = λ s t v w o. choice_took w (branch_ok o); err = choice_refuses };
     };
-    opened = λ cs v h. by_opened h;
+    opened = λ cs v h. ⊎_elim (λ g. let o = la.opened cs v g in (o.0, opens_left wa wb o.1))
+        (λ g. let o = lb.opened cs v g in (o.0, opens_right wa wb o.1)) h;
     none = record { ok = λ s t v w o n. none_branch w n (branch_ok o); err = choice_none };
   }
-    where
-      by_others : (q : Roles) {cs : Cells} {v : T} → ((u : T) → va cs u → pieces q cs ≡ [])
-          → ((u : T) → vb cs u → pieces q cs ≡ []) → value cs v → pieces q cs ≡ []
-      by_others q {v} f g (inl h) = f v h
-      by_others q {v} f g (inr h) = g v h
-
-      by_opened : {cs : Cells} {v : T} → value cs v → (ds : Cells) × Opens (wa ++ wb) cs ds
-      by_opened {cs} {v} (inl h) = let o = la.opened cs v h in (o.0, opens_left wa wb o.1)
-      by_opened {cs} {v} (inr h) = let o = lb.opened cs v h in (o.0, opens_right wa wb o.1)

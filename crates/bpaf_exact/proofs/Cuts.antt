@@ -11,20 +11,23 @@ use Rattle.bpaf_exact.specs.Pieces.{takes_one, takes_two, takes_later, TakesPiec
 use Rattle.bpaf_exact.specs.Pieces.{takes_more}
 use Rattle.bpaf_exact.proofs.Cells.{word_foreign, begin_at}
 
--- two cuts of the same cells are one
-pub one_cut : {r : Roles} {cs : Cells} {os ps : List LinePiece} → IsNamed r → Cut r cs os
-    → Cut r cs ps → os ≡ ps
-one_cut n at_end at_end = refl
-one_cut n (passed c) (passed d) = one_cut n c d
-one_cut n (flag {k} e c) (flag f d) = ap (λ z. One k ∷ z) (one_cut n c d)
-one_cut n (flag e c) (argument f v d) = cc
-one_cut n (flag e c) (word h d) = let f = word_foreign n h in cc
-one_cut n (argument e v c) (flag f d) = cc
-one_cut n (argument {k} {w} e v c) (argument f u d) = ap (λ z. Two k w ∷ z) (one_cut n c d)
-one_cut n (argument e v c) (word h d) = let f = word_foreign n h in cc
-one_cut n (word h c) (flag e d) = let f = word_foreign n h in cc
-one_cut n (word h c) (argument e v d) = let f = word_foreign n h in cc
-one_cut n (word {w} h c) (word g d) = ap (λ z. One w ∷ z) (one_cut n c d)
+-- the pieces taken and what is left are told by the cells
+pub one_take : {q : Roles} {cs ds es : Cells} {os ps : List LinePiece} → Takes q cs os ds
+    → Takes q cs ps es → (os ≡ ps) × (ds ≡ es)
+one_take no_cells no_cells = (refl, refl)
+one_take (empty_stays t) (empty_stays u) = let i = one_take t u in (i.0, ap (λ z. None ∷ z) i.1)
+one_take (other_stays {k} e t) (other_stays f u) =
+    let i = one_take t u in (i.0, ap (λ z. Some k ∷ z) i.1)
+one_take (takes_flag {k} e t) (takes_flag f u) =
+    let i = one_take t u in (ap (λ z. One k ∷ z) i.0, ap (λ z. None ∷ z) i.1)
+one_take (takes_argument {k} {w} e v t) (takes_argument f y u) =
+    let i = one_take t u in (ap (λ z. Two k w ∷ z) i.0, ap (λ z. None ∷ (None ∷ z)) i.1)
+one_take (other_stays e t) (takes_flag f u) = absurd cc
+one_take (other_stays e t) (takes_argument f y u) = absurd cc
+one_take (takes_flag e t) (other_stays f u) = absurd cc
+one_take (takes_flag e t) (takes_argument f y u) = absurd cc
+one_take (takes_argument e v t) (other_stays f u) = absurd cc
+one_take (takes_argument e v t) (takes_flag f u) = absurd cc
 
 -- where nothing is left, the pieces taken are those of a cut
 cut_of : {r : Roles} {cs ds : Cells} {os : List LinePiece} → Takes (either r word_roles) cs os ds
@@ -80,6 +83,11 @@ taken_of n (word {w} h c) =
           ∙ ap (λ b. if b then Alone else Foreign) h) i.1,
       none_here i.2,
     )
+
+-- two cuts of the same cells are one
+pub one_cut : {r : Roles} {cs : Cells} {os ps : List LinePiece} → IsNamed r → Cut r cs os
+    → Cut r cs ps → os ≡ ps
+one_cut n c d = (one_take (taken_of n c).1 (taken_of n d).1).0
 
 -- what is meant by the pieces of a cut is read off
 pub read_off : {V : Type 0} {r : Roles} (value : List LinePiece → V → Type 0) {cs : Cells}

@@ -27,7 +27,7 @@ use Rattle.bpaf_exact.specs.{Gathered.list_closure, Names.are_all_apart, Record.
 use Rattle.bpaf_exact.specs.{OneView.RunsToOne, Single.repeated}
 use Rattle.bpaf_exact.proofs.ProgramForm.{record_law, whole_law, runs_exactly}
 use Rattle.bpaf_exact.proofs.{Wrappers.alternative_single, Cuts.one_cut, Cuts.read_cut}
-use Rattle.bpaf_exact.proofs.{BeforeCommands.one_take, Arguments.last_same, Commands.none_opens}
+use Rattle.bpaf_exact.proofs.{Cuts.one_take, Arguments.last_same, Commands.none_opens}
 use Rattle.bpaf_exact.proofs.Repeat.{own_nil}
 use Rattle.bpaf_text.specs.Named.{Named as Key, KeyWithValue}
 

@@ -60,28 +60,24 @@ others_all : (q : Roles) {o : LinePiece} {os : List LinePiece} → is_own q o �
     → others q os ≡ os → others q (o ∷ os) ≡ o ∷ os
 others_all q {o} {os} h e = others_foreign q os h ∙ ap (λ z. o ∷ z) e
 
--- a cut whose pieces are all of others
-record OthersCut (q r : Roles) (cs : Cells) (os : List LinePiece) : Type 0 where
-  cut : Cut r cs os
-  all : others q os ≡ os
-
--- where a field has no piece, a cut by some keys is one by others that differ in its own alone
+-- where a field has no piece, a cut by some keys is one by others that differ in its own alone, and
+-- its pieces are all of others
 recut : {q r : Roles} (p : Roles) {cs : Cells} {os : List LinePiece} → IsNamed q
-    → ((k : Arg) → q k ≡ Foreign → p k ≡ r k) → pieces q cs ≡ [] → Cut r cs os → OthersCut q p cs os
-recut p n f none at_end = record { cut = at_end; all = refl }
-recut p n f none (passed c) =
-    let i = recut p n f none c in record { cut = passed i.cut; all = i.all }
+    → ((k : Arg) → q k ≡ Foreign → p k ≡ r k) → pieces q cs ≡ [] → Cut r cs os
+    → Cut p cs os × (others q os ≡ os)
+recut p n f none at_end = (at_end, refl)
+recut p n f none (passed c) = let i = recut p n f none c in (passed i.0, i.1)
 recut {q} p n f none (flag {k} {cs} e c) =
     let g = nil_foreign (q k) k cs (pieces q cs) none in
     let i = recut p n f (nil_rest (q k) k cs none) c in
-    record { cut = flag (f k g ∙ e) i.cut; all = others_all q (ap is_own_role g) i.all }
+    (flag (f k g ∙ e) i.0, others_all q (ap is_own_role g) i.1)
 recut {q} p n f none (argument {k} {w} {cs} e v c) =
     let g = nil_foreign (q k) k (Some w ∷ cs) (pieces q (Some w ∷ cs)) none in
     let i = recut p n f (nil_rest (q w) w cs (nil_rest (q k) k (Some w ∷ cs) none)) c in
-    record { cut = argument (f k g ∙ e) v i.cut; all = others_all q (ap is_own_role g) i.all }
+    (argument (f k g ∙ e) v i.0, others_all q (ap is_own_role g) i.1)
 recut {q} p n f none (word {w} {cs} h c) =
     let i = recut p n f (nil_rest (q w) w cs none) c in
-    record { cut = word h i.cut; all = others_all q (ap is_own_role (word_foreign n h)) i.all }
+    (word h i.0, others_all q (ap is_own_role (word_foreign n h)) i.1)
 
 -- What is read off the pieces, seen from before a field was evaluated.
 
@@ -99,8 +95,8 @@ pub step_back : (k : FieldKind) {q r : Roles} {T : Type 0} (value : List LinePie
     → FieldTook T k q value s v m → Cut r (cells m) os → StepBack k q r (cells s) os
 step_back ByName {q} {r} value n b f c =
     let w = recut (either q r) n (λ k g. either_right (q k) g) (no_own_in_cut n b c) c in
-    let p = put_back_some r f.takes w.cut in
-    record { before = p.now; cut = p.cut; leaves = p.alike ∙ w.all; own = pieces_of_cut r n p.cut }
+    let p = put_back_some r f.takes w.0 in
+    record { before = p.now; cut = p.cut; leaves = p.alike ∙ w.1; own = pieces_of_cut r n p.cut }
 step_back k value n b f c =
     let p = put_words_back n b f.takes c in
     let all = words_of_cut n b p.cut in
@@ -132,7 +128,7 @@ pub step_on : (k : FieldKind) {q r : Roles} {cs ds : Cells} {os : List LinePiece
 step_on ByName {q} {r} n b t e c =
     let p = take_some_from r n t c in
     let i = recut r n (λ k g. sym (either_right (q k) g)) e p.cut in
-    subst (Cut r _) (sym i.all ∙ p.alike) i.cut
+    subst (Cut r _) (sym i.1 ∙ p.alike) i.0
 step_on k {r} n b t e c =
     let p = take_words_from n b t c in
     subst (Cut r _) (sym (words_of_cut n b p.cut) ∙ (e ∙ ap (back k) (words_of_cut n b c))) p.cut

@@ -46,13 +46,10 @@ opens_one words (opens_here h) (opens_here i) = refl
 opens_one words (opens_later o) (opens_later p) = ap (λ z. None ∷ z) (opens_one words o p)
 
 -- where the first thing stands that is a word
-record FirstWord (words : List (List ℕ)) (at : ℕ → Option Arg) (n : ℕ) : Type 0 where
-  place : ℕ
-  item : Arg
-  within : place < n
-  is : at place ≡ Some item
-  named : is_one_of words item ≡ true
-  before : (q : ℕ) → q < place → at q ≡ None
+abbrev FirstWord : List (List ℕ) → (ℕ → Option Arg) → ℕ → Type 0
+FirstWord words at n =
+    (p : ℕ) × (k : Arg) × (p < n) × (at p ≡ Some k) × (is_one_of words k ≡ true)
+    × ((q : ℕ) → q < p → at q ≡ None)
 
 -- cells that a word opens have it as their first thing
 word_of : {words : List (List ℕ)} {at : ℕ → Option Arg} (n : ℕ) {ds : Cells}
@@ -64,24 +61,12 @@ word_of {words} {at} (suc n) o = by_head (at zero) refl o (λ fs. word_of n)
         → Opens words (c ∷ first_cells (λ q. at (suc q)) n) es
         → ((fs : Cells) → Opens words (first_cells (λ q. at (suc q)) n) fs → FirstWord words
         (λ q. at (suc q)) n) → FirstWord words at (suc n)
-    by_head (Some k) e (opens_here h) behind = record {
-      place = zero;
-      item = k;
-      within = omega arith;
-      is = e;
-      named = h;
-      before = λ q l. absurd (omega arith);
-    }
+    by_head (Some k) e (opens_here h) behind =
+        (zero, k, omega arith, e, h, λ q l. absurd (omega arith))
     by_head None e (opens_later {ds = fs} o) behind =
         let w = behind fs o in
-        record {
-          place = suc w.place;
-          item = w.item;
-          within = let l = w.within in omega arith;
-          is = w.is;
-          named = w.named;
-          before = later w.before;
-        }
+        let l = w.2 in
+        (suc w.0, w.1, omega arith, w.3, w.4, later w.5)
       where
         later : {p : ℕ} → ((q : ℕ) → q < p → at (suc q) ≡ None) → (q : ℕ) → q < suc p → at q ≡ None
         later before zero l = e
@@ -217,11 +202,11 @@ pub opens_none : {words : List (List ℕ)} (s : Situation) → IsNotOpened words
 unfolding cells
 opens_none {words} s none ds o =
     let w = word_of (length s.context.line) o in
-    let there = open_item_there s w.place w.item w.is in
-    true≢false (sym (ap (λ z. option_map_or (is_one_of words) z false) there.1 ∙ w.named)
-    ∙ none w.place (record {
-      matches = ap (λ z. option_map_or any_item z false) w.is;
-      first = λ q l. ap (λ z. option_map_or any_item z false) (w.before q l);
+    let there = open_item_there s w.0 w.1 w.3 in
+    true≢false (sym (ap (λ z. option_map_or (is_one_of words) z false) there.1 ∙ w.4)
+    ∙ none w.0 (record {
+      matches = ap (λ z. option_map_or any_item z false) w.3;
+      first = λ q l. ap (λ z. option_map_or any_item z false) (w.5 q l);
     }))
 
 -- A command keeps to the laws, where its program does.

@@ -396,21 +396,16 @@ module _ {env : Variables} {A B : Type 0} {inner : Outcome A} {k : FieldKind} {q
   abbrev closed_group : Groups B
   closed_group os v rest = ClosedValue (λ x a. group x a rest) f os v
 
-  -- a list of inner values of the pieces
-  record InnerList (os : List LinePiece) : Type 0 where
-    list : List A
-    own : Own A group os list
-
   -- what can be read through a closure can be read without it
-  inner_list : {os : List LinePiece} {vs : List B} → Own B closed_group os vs → InnerList os
-  inner_list own_none = record { list = []; own = own_none }
-  inner_list (own_more g o) = let i = inner_list o in
-      record { list = g.from ∷ i.list; own = own_more g.read i.own }
+  inner_list : {os : List LinePiece} {vs : List B} → Own B closed_group os vs
+      → (us : List A) × Own A group os us
+  inner_list own_none = ([], own_none)
+  inner_list (own_more g o) = let i = inner_list o in (g.from ∷ i.0, own_more g.read i.1)
 
   -- the same, by the kind of the field
   inner_readable : (z : FieldKind) (os : List LinePiece) → Readable z closed_group os
       → Readable z group os
-  inner_readable ByName os r = let i = inner_list r.1 in (i.list, i.own)
+  inner_readable ByName os r = inner_list r.1
   inner_readable _ os r = tt
 
   -- with a closure a field reads words as before
