@@ -5,13 +5,13 @@ use Rattle.std.proofs.Common.{not}
 use Rattle.std.specs.Global.{Vec}
 use Rattle.bpaf_doc.specs.Names.{Names}
 use Rattle.bpaf_line.specs.{declared.error.Message.TheVariants.Missing, declared.error.Error.Error}
-use Rattle.bpaf_line.specs.{declared.error.Message.Message, Situation.Situation, Messages.can_catch}
+use Rattle.bpaf_line.specs.{declared.error.Message.Message, Situation.Situation}
 use Rattle.bpaf_laws.specs.Repeat.{ManyOutcome, SomeOutcome, CollectOutcome, CountOutcome, is_nil}
 use Rattle.bpaf_laws.specs.Default.{Gives, GivesClone, GivesAnswer, FallbackOutcome}
 use Rattle.bpaf_laws.specs.Transform.{MapOutcome, ParseOutcome, GuardOutcome}
 use Rattle.bpaf_laws.specs.{Hide.HideOutcome, Hide.hidden, Turn.TurnOutcome, Reading.Outcome}
 use Rattle.bpaf_exact.specs.Flat.{OfMemory, Caught, Refused, class, class_of, Variables, ErrorClass}
-use Rattle.bpaf_exact.specs.Single.{CanCatch, RepeatOutcome, catch_missing, catch_other, OwnList}
+use Rattle.bpaf_exact.specs.Single.{RepeatOutcome, OwnList}
 use Rattle.bpaf_exact.specs.Wrappers.{Closure, Decides, map_closure, parse_closure, guard_closure}
 use Rattle.bpaf_exact.specs.Wrappers.{answer_closure, ClosedEval, closed_yes, closed_no}
 use Rattle.bpaf_exact.specs.Wrappers.{closed_memory, closed_err, OptionalEval, optional_some}
@@ -180,16 +180,6 @@ count_law env T inner names words s =
 
 -- Defaults.
 
--- what can be caught
-can_catch_of : (e : Error) → can_catch e.0 ≡ true → CanCatch (class e)
-can_catch_of e h =
-    ⊎_elim (λ missing. catch_missing missing) (λ other. catch_other other) (caught_class e.0 h)
-
--- what can't be caught
-not_catch_of : (e : Error) → can_catch e.0 ≡ false → CanCatch (class e) → ⊥
-not_catch_of e h (catch_missing c) = kept_class e.0 h (inl c)
-not_catch_of e h (catch_other c) = kept_class e.0 h (inr c)
-
 -- what gives a value in place of an inner one, as a closure on nothing does, keeps to the laws of
 -- its form
 fallback_form_law : (env : Variables) {T : Type 0} (inner : Outcome T) (gives : Gives T)
@@ -206,12 +196,12 @@ fallback_form_law env {T} inner gives f decides gave refused names words s l =
         → FallbackEval T inner f s r t
     by_answer s t (Ok v) (inl o) = fallback_ok o
     by_answer s t (Ok v) (inr o) =
-        rw o.0.1 (fallback_given o.0.0.2 (can_catch_of _ o.0.0.3) (gave v o.1))
+        rw o.0.1 (fallback_given o.0.0.2 (caught_class o.0.0.0.0 o.0.0.3) (gave v o.1))
     by_answer s t (Err e) (inl o) = rw o.1
-        (⊎_elim (λ kept. fallback_err kept.1 (not_catch_of e kept.2))
+        (⊎_elim (λ kept. fallback_err kept.1 (kept_class e.0 kept.2))
         (λ memory. fallback_memory (memory_class e.0 memory)) o.0)
     by_answer s t (Err e) (inr o) = rw o.0.1 (⊎_elim (λ memory. fallback_memory memory)
-        (λ told. fallback_no o.0.0.2 (can_catch_of _ o.0.0.3) told.0 told.1) (refused e o.1))
+        (λ told. fallback_no o.0.0.2 (caught_class o.0.0.0.0 o.0.0.3) told.0 told.1) (refused e o.1))
 
 -- a kept value
 pub fallback_law : (env : Variables) (T : Type 0) (inner : Outcome T) (clones : T → T → Type 0)
