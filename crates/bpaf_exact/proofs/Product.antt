@@ -15,7 +15,8 @@ use Rattle.bpaf_base.specs.declared.arg.Arg.{Arg}
 use Rattle.bpaf_exact.proofs.Cells.{either_right, value_foreign, word_foreign, nil_rest}
 use Rattle.bpaf_exact.proofs.Cells.{nil_foreign}
 use Rattle.bpaf_exact.proofs.Cells.{pieces_of_cut, others_foreign, put_back_some, take_some_from}
-use Rattle.bpaf_exact.proofs.Cuts.{put_words_back, take_words_from, words_of_cut, read_cut}
+use Rattle.bpaf_exact.proofs.Cells.{named_cuts}
+use Rattle.bpaf_exact.proofs.Cuts.{words_cut, words_of_cut, read_cut}
 use Rattle.bpaf_exact.proofs.{Classes.memory_class, Classes.not_memory, Cells.begin_at}
 use Rattle.bpaf_exact.proofs.Cuts.{read_off}
 
@@ -95,13 +96,13 @@ pub step_back : (k : FieldKind) {q r : Roles} {T : Type 0} (value : List LinePie
     → FieldTook T k q value s v m → Cut r (cells m) os → StepBack k q r (cells s) os
 step_back ByName {q} {r} value n b f c =
     let w = recut (either q r) n (λ k g. either_right (q k) g) (no_own_in_cut n b c) c in
-    let p = put_back_some r f.takes w.0 in
+    let p = put_back_some (named_cuts r n) f.takes w.0 in
     record { before = p.now; cut = p.cut; leaves = p.alike ∙ w.1; own = pieces_of_cut r n p.cut }
 step_back k value n b f c =
-    let p = put_words_back n b f.takes c in
+    let p = put_back_some (words_cut n b) f.takes c in
     let all = words_of_cut n b p.cut in
     record {
-      before = p.words;
+      before = p.now;
       cut = p.cut;
       leaves = ap (back k) (sym all) ∙ (sym (f.rest tt) ∙ words_of_cut n b c);
       own = ap (front k) all;
@@ -126,11 +127,11 @@ pub step_on : (k : FieldKind) {q r : Roles} {cs ds : Cells} {os : List LinePiece
     → Before k q r → TakesPieces q cs ds → pieces q ds ≡ back k (pieces q cs)
     → Cut (either (keys k q) r) cs os → Cut r ds (left k q os)
 step_on ByName {q} {r} n b t e c =
-    let p = take_some_from r n t c in
+    let p = take_some_from (named_cuts r n) t c in
     let i = recut r n (λ k g. sym (either_right (q k) g)) e p.cut in
     subst (Cut r _) (sym i.1 ∙ p.alike) i.0
 step_on k {r} n b t e c =
-    let p = take_words_from n b t c in
+    let p = take_some_from (words_cut n b) t c in
     subst (Cut r _) (sym (words_of_cut n b p.cut) ∙ (e ∙ ap (back k) (words_of_cut n b c))) p.cut
 
 -- Fields before others keep to the laws.
