@@ -1,6 +1,7 @@
 -- Arguments keep to the laws.
 use Rattle.std.proofs.Common.{◌≡◌, ℕ, true, List, [], ◌∷◌, Some, None, refl, sym, ap, subst, ◌∙◌}
 use Rattle.std.proofs.Common.{◌++◌, ⊎_elim, map, Bool, false, ◌&&◌, ◌||◌, not, Result, Ok, Err}
+use Rattle.std.proofs.Common.{add-one}
 use Rattle.std.proofs.lemmas.Bool.{and_parts}
 use Rattle.std.specs.Option.{is_some}
 use Rattle.bpaf_text.specs.Named.{KeyWithValue, argument_part}
@@ -20,7 +21,8 @@ use Rattle.bpaf_exact.specs.{Leaves.argument_group, Leaves.key_field, Alternativ
 use Rattle.bpaf_exact.specs.{Pieces.takes_none, Pieces.takes_more, ProgramForm.FormLaw, Names.Owns}
 use Rattle.bpaf_exact.specs.{Single.of_piece, Single.SingleLaw, Flat.ErrorClass}
 use Rattle.bpaf_exact.proofs.Matching.{match_of, ByTest, by_test, test_named, test_owns, behind_of}
-use Rattle.bpaf_exact.proofs.Matching.{pair_is, two_taken, two_steady, no_pieces, absence_class}
+use Rattle.bpaf_exact.proofs.Matching.{two_taken, no_pieces, absence_class}
+use Rattle.bpaf_exact.proofs.Places.{take_steady}
 use Rattle.bpaf_exact.proofs.Matching.{bare_taken, FirstRead, NoneRead, key_field_law, none_absent}
 use Rattle.bpaf_exact.proofs.Matching.{none_err, none_missing, none_named, none_ok, none_refused}
 use Rattle.bpaf_exact.proofs.Matching.{read_fault, read_first, read_memory, read_none}
@@ -85,12 +87,12 @@ module _ (argument : KeyWithValue) where
   took_pair s t text takes =
       let m = match_of (is_key_with_value argument) s takes.key takes.first.matches in
       let b = behind_of s takes.value in
-      rw (takes.taken ∙ pair_is s) (record {
+      rw (takes.taken, add-one) (record {
         key = m.item;
         word = b.item;
         text_is = b.text_is;
         takes = two_taken s test takes.first m b;
-        steady = two_steady;
+        steady = steady_trans take_steady take_steady;
       })
 
   -- no key: there is no piece

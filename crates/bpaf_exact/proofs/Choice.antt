@@ -2,14 +2,15 @@
 use Rattle.std.proofs.Common.{◌≡◌, ℕ, suc, zero, ◌<◌, Bool, true, false, not, ◌&&◌, List, [], ◌∷◌}
 use Rattle.std.proofs.Common.{length, Option, Some, None, Result, Ok, Err, refl, sym, ap, ap₂, ◌∙◌}
 use Rattle.std.proofs.Common.{◌≤◌, subst, inl, inr, ◌⊎◌, ⊎_elim, arith, true≢false, nat_le, nat_lt}
-use Rattle.std.proofs.lemmas.Bool.{eqb-true, le-leb, lt-ltb, and_parts, cases_lt}
+use Rattle.std.proofs.lemmas.Bool.{eqb-true, le-leb, lt-ltb, and_parts, cases_lt, not-true}
+use Rattle.std.proofs.lemmas.Bool.{not-false}
 use Rattle.bpaf_base.specs.{declared.arg.Arg.Arg, Items.any_item}
 use Rattle.bpaf_line.specs.Situation.{Situation, is_taken, item_in, open_count}
 use Rattle.bpaf_line.specs.{Conflicts.IsWinner, Conflicts.ConflictsSaved, Combining.Combines}
 use Rattle.bpaf_line.specs.{Messages.is_memory, Messages.is_wrong_input, declared.error.Error.Error}
 use Rattle.bpaf_line.specs.Taking.{open_item}
 use Rattle.bpaf_line.proofs.{Places.present_in_line, Matches.open_has_item}
-use Rattle.bpaf_laws.proofs.ChoiceLaws.{not_winner}
+use Rattle.bpaf_laws.proofs.ChoiceLaws.{chosen_at_equal, not_winner}
 use Rattle.bpaf_laws.specs.Choice.{branch_of, ChoiceOutcome, EqualDepths, OneOk, Winner}
 use Rattle.bpaf_laws.specs.{Choice.BranchesEval, Spared.IsNotMemory, Turn.is_untouched}
 use Rattle.bpaf_laws.specs.Reading.{Outcome}
@@ -114,16 +115,6 @@ left_of {m} {n} {p} w a b took free same =
     (first_cells (open_item n) (length n.context.line))) (sym st.context)
     (left_cells (open_item n) (length n.context.line) p
     (present_in_line n p free) (closed_item m p took) i.is (λ q l. steady_item st q (same q l)))
-
--- of two tests that differ the second fails where the first holds
-differ : {a : Bool} (b : Bool) → a ≡ not b → a ≡ true → b ≡ false
-differ true e f = absurd (true≢false (sym f ∙ e))
-differ false e f = refl
-
--- and holds where the first fails
-differ_not : {a : Bool} (b : Bool) → a ≡ not b → a ≡ false → b ≡ true
-differ_not true e f = refl
-differ_not false e f = absurd (true≢false (sym e ∙ f))
 
 -- conflict notes change nothing that is taken
 pub saved_steady : {s : Situation} (other : Situation) {t : Situation} {place : ℕ}
@@ -266,9 +257,7 @@ module _ {env : Variables} (T : Type 0) (a b : Outcome T) (qa qb : Roles)
   equally_deep {s} w o =
       let pa = law_path la s o.a w o.first_ran o.first_spared in
       let pb = law_path lb s o.b w o.second_ran o.second_spared in
-      ⊎_elim (λ deeper. absurd (let c = ap length (pa ∙ sym pb) in omega arith))
-      (λ other. ⊎_elim (λ deeper. absurd (let c = ap length (pb ∙ sym pa) in omega arith))
-      (λ equal. equal.1) other) o.chosen
+      chosen_at_equal s o.a o.sa o.b o.sb _ _ (ap length (pa ∙ sym pb)) o.chosen
 
   -- an alternative that answered took something
   never_untouched : {q : Roles} {v : LinePiece → T → Type 0} {s m : Situation} {x : T}
@@ -289,13 +278,13 @@ module _ {env : Variables} (T : Type 0) (a b : Outcome T) (qa qb : Roles)
       absurd (never_same u i.takes j.takes (cells_same (steady_both i.steady j.steady) win.0))
   winner_ok {sb} {x} v (true, Some p) w i j win k =
       let d : x ≡ v = cc in
-      let free = differ (is_taken sb p) win.0.differs win.1 in
+      let free = not-true (is_taken sb p) (sym win.0.differs ∙ win.1) in
       rw (← d) (first_won i
       (other_took j.takes (left_of w i.steady j.steady win.1 free win.0.first) j.first j.readable)
       (saved_steady sb k.1) (cells_same (same_scope (saved_steady sb k.1)) k.1.taken))
   winner_ok {sa} {sb} {y} v (false, Some p) w i j win k =
       let d : y ≡ v = cc in
-      let here = differ_not (is_taken sb p) win.0.differs win.1 in
+      let here = not-false (is_taken sb p) (sym win.0.differs ∙ win.1) in
       rw (← d) (second_won j
       (other_took i.takes (left_of w j.steady i.steady here win.1 (λ q l. sym (win.0.first q l)))
       i.first i.readable) (saved_steady sa k.1)
@@ -320,9 +309,11 @@ module _ {env : Variables} (T : Type 0) (a b : Outcome T) (qa qb : Roles)
   equal_ok s sa sb {t} {v} (Ok x) (Ok y) w f g hf hg (inr o) =
       winner_ok v o.1.0 w (la.keeps.ok s sa x w f) (lb.keeps.ok s sb y w g) o.1.1 o.1.2
   equal_ok s sa sb (Ok x) (Err e) w f g hf hg o =
-      alone_ok (first_won (la.keeps.ok s sa x w f) (err_other e hg (lb.keeps.err s sb e w g)) steady_refl refl) o
+      let other = err_other e hg (lb.keeps.err s sb e w g) in
+      alone_ok (first_won (la.keeps.ok s sa x w f) other steady_refl refl) o
   equal_ok s sa sb (Err e) (Ok y) w f g hf hg o =
-      alone_ok (second_won (lb.keeps.ok s sb y w g) (err_other e hf (la.keeps.err s sa e w f)) steady_refl refl) o
+      let other = err_other e hf (la.keeps.err s sa e w f) in
+      alone_ok (second_won (lb.keeps.ok s sb y w g) other steady_refl refl) o
   equal_ok s sa sb (Err e) (Err d) w f g hf hg o = let i = o.0.2 in absurd cc
 
   -- both fail

@@ -327,7 +327,7 @@ module _ {env : Variables} (T : Type 0) (a b : Outcome T) (ra rb : Roles) (wa wb
           (λ missing. inr (ap class (sym same) ∙ missing, ap cells o.1, ap (λ z. z.path) o.1))
           (λ memory. inl (ap class (sym same) ∙ memory)) (combined_missing d.0 e.0 k.0 l.0 o.0.1)
 
-  -- no branch has a value
+  -- where no word opens anything no branch has a value
   none_branch : {s t : Situation} {v : T} → IsWholeIn env s → OpensNone (wa ++ wb) (cells s)
       → BranchOk s v t → ⊥
   none_branch {s} {v} w n (of_first {m} i e) =

@@ -1,5 +1,5 @@
 -- From what the calls of a state take to pieces.
-use Rattle.std.proofs.Common.{◌≡◌, ℕ, suc, ◌+◌, ◌<◌, Bool, true, false, List, [], ◌∷◌, length}
+use Rattle.std.proofs.Common.{◌≡◌, ℕ, suc, ◌<◌, Bool, true, false, List, [], ◌∷◌, length}
 use Rattle.std.proofs.Common.{Option, Some, None, refl, sym, ap, ◌∙◌, inl, inr, if◌then◌else◌, ◌||◌}
 use Rattle.std.proofs.Common.{option_and_then, add-one, Result, Ok, Err, ◌⊎◌, ⊎_elim}
 use Rattle.std.specs.Option.{option_map_or, is_some}
@@ -25,9 +25,9 @@ use Rattle.bpaf_exact.specs.Alternative.{NotOwn, TakesFirst, bad_here, Alternati
 use Rattle.bpaf_exact.specs.Alternative.{AlternativeErr, alternative_memory, alternative_missing}
 use Rattle.bpaf_exact.specs.Alternative.{alternative_refused}
 use Rattle.bpaf_exact.specs.{Names.Owns, ProgramForm.FormLaw, Leaves.key_field}
-use Rattle.bpaf_exact.proofs.Places.{take_steady, NoneBefore, take_one, take_two, none_present}
+use Rattle.bpaf_exact.proofs.Places.{NoneBefore, take_one, take_two, none_present}
 use Rattle.bpaf_exact.proofs.Places.{BareHead, bare_first, open_one, open_two}
-use Rattle.bpaf_exact.proofs.Product.{steady_refl, steady_trans}
+use Rattle.bpaf_exact.proofs.Product.{steady_refl}
 use Rattle.bpaf_exact.proofs.{First.first_takes, Names.named_key, Wrappers.took_front}
 
 -- the item of a match
@@ -153,10 +153,6 @@ none_behind s p e w f v =
 abbrev pub taken_pair : Situation → ℕ → Situation
 taken_pair s p = take_place (take_place s p) (suc p)
 
--- a place and the next, in two spellings
-pub pair_is : (s : Situation) {p : ℕ} → take_place (take_place s p) (p + 1) ≡ taken_pair s p
-pair_is s {p} = ap (λ q. take_place (take_place s p) q) (add-one p)
-
 -- the first match, taken with the value behind it
 pub two_taken : {test : Arg → Bool} {r : Roles} (s : Situation) {p : ℕ} {text : List ℕ}
     → ByTest test r WithNext → IsFirst test s p → (m : Match test s p) (b : Behind s p text)
@@ -165,10 +161,6 @@ unfolding cells
 two_taken s {p} t f m b =
     take_two (length s.context.line) p b.in_line m.is b.is (t.yes m.item m.passes) b.value
     (none_before t f) (open_two s p)
-
--- taking both changes what is taken and the current place alone
-pub two_steady : {s : Situation} {p : ℕ} → Steady s (taken_pair s p)
-two_steady = steady_trans take_steady take_steady
 
 -- the first match heads the pieces as it stands, where no value is behind it
 pub bare_taken : {test : Arg → Bool} {r : Roles} {s : Situation} {p : ℕ} → ByTest test r WithNext

@@ -26,7 +26,9 @@ use Rattle.bpaf_exact.specs.{Flat.ByName, Flat.Variables, Flat.FieldKind, Progra
 use Rattle.bpaf_exact.specs.{Names.are_all_apart, Pieces.LinePiece, Gathered.LastOf}
 use Rattle.bpaf_exact.proofs.Says.{alone_says, both_say, choice_into, choice_says, closed_says}
 use Rattle.bpaf_exact.proofs.Says.{con_says, field_owned, field_says, optional_says, owned}
-use Rattle.bpaf_exact.proofs.Says.{record_says, unless_says, fallback_says, OwnsKeys, last_says}
+use Rattle.bpaf_exact.proofs.Says.{record_says, unless_says, OwnsKeys, fallback_by, list_says}
+use Rattle.bpaf_exact.proofs.Says.{whole_form_says}
+use Rattle.bpaf_exact.specs.Says.{FallbackSays, LastSays}
 use Rattle.bpaf_exact.proofs.{Sharing.cut_fit, Sharing.taken_own, Says.listed_says, Says.WholeSays}
 use Rattle.bpaf_exact.proofs.{ProgramForm.whole_law, Cuts.read_cut}
 
@@ -89,7 +91,14 @@ module _ {P Q T : Type 0} (inside : Q → P) (q : Q) {s : ProgramForm T} where
       → ProgramSays names s kind said (inside q)
       → ProgramSays names (completed repeated (LastOf T) s) (repeated_kind kind)
       (said_last inside said) q
-  program_last_says {said = of_pieces said} h = record { by = last_says h.by }
+  program_last_says {said = of_pieces said} h = record {
+    by = whole_form_says repeated_kind (λ k. refl) (LastOf T) (LastSays (said (inside q)))
+        (λ group gap fronts absent os v m. record {
+          values = m.0 ++ v ∷ [];
+          told = list_says (said (inside q)) group gap fronts absent os (m.0 ++ v ∷ []) m.1;
+          is = record { before = m.0; is = refl };
+        }) h.by;
+  }
   program_last_says {said = of_cells said} h =
       record { by = completed_cells repeated (LastOf T) s (said (inside q)) (λ cs v. ⊥) h.by }
 
@@ -98,7 +107,11 @@ module _ {P Q T : Type 0} (inside : Q → P) (q : Q) {s : ProgramForm T} where
       → ProgramSays names s kind said (inside q) → (f : Q → Closure (Unit {0}) T)
       → ProgramSays names (completed (λ k. k) (λ group gap. FallbackValue T group gap (f q)) s) kind
       (said_fallback inside f said) q
-  program_fallback_says {said = of_pieces said} h f = record { by = fallback_says (f q) h.by }
+  program_fallback_says {said = of_pieces said} h f = record {
+    by = whole_form_says (λ j. j) (λ k. refl) (λ group gap. FallbackValue T group gap (f q))
+        (FallbackSays (said (inside q)) ((f q).yes tt)) (λ group gap fronts absent.
+        fallback_by (said (inside q)) group gap fronts absent (f q)) h.by;
+  }
   program_fallback_says {said = of_cells said} h f = record {
     by = completed_cells (λ k. k) (λ group gap. FallbackValue T group gap (f q)) s
         (said (inside q)) (λ cs v. ⊥) h.by;

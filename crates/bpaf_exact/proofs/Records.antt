@@ -127,64 +127,59 @@ con_law makes l = record {
 
 -- The pieces of two fields together.
 
--- What a test keeps of the pieces that begin with an item.
-module _ (q : Roles) (test : LinePiece → Bool) (k : Arg) (cs : Cells) (os : List LinePiece) where
-  -- a piece that passes it is kept
-  kept_begin : (x : Role) → ((o : LinePiece) → is_own q o ≡ is_own_role (q k) → test o ≡ true)
-      → filter test (begin_piece x k cs os) ≡ begin_piece x k cs (filter test os)
-  kept_begin Foreign h = refl
-  kept_begin Alone h =
-      ap (λ b. if b then (One k ∷ filter test os) else filter test os) (h (One k) refl)
-  kept_begin WithNext h = ap (λ b. if b then (with_next k cs ∷ filter test os) else filter test os)
-      (h (with_next k cs) (own_next q k cs))
+-- Where a test keeps the pieces of some items, that have the same role to a field, and of no others,
+-- those are the field's.
+module _ (p q r : Roles) (test : LinePiece → Bool) where
+  -- what it makes of the pieces that begin with an item
+  data Kept (k : Arg) : Type 0 where
+    kept : r k ≡ q k → ((o : LinePiece) → is_own p o ≡ is_own_role (p k) → test o ≡ true) → Kept k
+    passed_by : q k ≡ Foreign → ((o : LinePiece) → is_own p o ≡ is_own_role (p k) → test o ≡ false)
+        → Kept k
 
-  -- another isn't
-  passed_begin : (x : Role) → ((o : LinePiece) → is_own q o ≡ is_own_role (q k) → test o ≡ false)
-      → filter test (begin_piece x k cs os) ≡ filter test os
-  passed_begin Foreign h = refl
-  passed_begin Alone h =
-      ap (λ b. if b then (One k ∷ filter test os) else filter test os) (h (One k) refl)
-  passed_begin WithNext h = ap (λ b. if b then (with_next k cs ∷ filter test os) else filter test
-      os) (h (with_next k cs) (own_next q k cs))
+  -- the pieces from an item on
+  kept_begin : (x : Role) (k : Arg) (cs : Cells) (os : List LinePiece) (b : Bool)
+      → ((o : LinePiece) → is_own p o ≡ is_own_role (p k) → test o ≡ b)
+      → filter test (begin_piece x k cs os)
+      ≡ (if b then begin_piece x k cs (filter test os) else filter test os)
+  kept_begin Foreign k cs os true h = refl
+  kept_begin Foreign k cs os false h = refl
+  kept_begin Alone k cs os b h =
+      ap (λ c. if c then (One k ∷ filter test os) else filter test os) (h (One k) refl)
+  kept_begin WithNext k cs os b h =
+      ap (λ c. if c then (with_next k cs ∷ filter test os) else filter test os)
+      (h (with_next k cs) (own_next p k cs))
+
+  -- and all
+  kept_pieces : ((k : Arg) → Kept k) → (cs : Cells) → filter test (pieces r cs) ≡ pieces q cs
+  kept_pieces each [] = refl
+  kept_pieces each (None ∷ cs) = kept_pieces each cs
+  kept_pieces each (Some k ∷ cs) = by_item (each k) (kept_pieces each cs)
+    where
+      by_item : Kept k → filter test (pieces r cs) ≡ pieces q cs
+          → filter test (pieces r (Some k ∷ cs)) ≡ pieces q (Some k ∷ cs)
+      by_item (kept e h) behind = kept_begin (r k) k cs (pieces r cs) true h
+          ∙ ap₂ (λ x os. begin_piece x k cs os) e behind
+      by_item (passed_by e h) behind = kept_begin (r k) k cs (pieces r cs) false h
+          ∙ (behind ∙ sym (begin_at k cs (pieces q cs) e))
 
 module _ {p q r : Roles} (u : Union p q r) where
   -- of the pieces of both the first one's are its own,
   pub mine_of_both : (cs : Cells) → mine p (pieces r cs) ≡ pieces p cs
-  mine_of_both [] = refl
-  mine_of_both (None ∷ cs) = mine_of_both cs
-  mine_of_both (Some k ∷ cs) = by_owner (belongs u) (mine_of_both cs)
+  mine_of_both = kept_pieces p p r (is_own p) (λ k. by_owner (belongs u))
     where
-      by_owner : Belongs p q r k → mine p (pieces r cs) ≡ pieces p cs
-          → mine p (pieces r (Some k ∷ cs)) ≡ pieces p (Some k ∷ cs)
-      by_owner (to_first h g f) behind =
-          kept_begin p (is_own p) k cs (pieces r cs) (r k) (λ o e. e ∙ h)
-          ∙ ap₂ (λ x os. begin_piece x k cs os) g behind
-      by_owner (to_second h g f) behind =
-          passed_begin p (is_own p) k cs (pieces r cs) (r k) (λ o e. e ∙ ap is_own_role f)
-          ∙ (behind ∙ sym (begin_at k cs (pieces p cs) f))
-      by_owner (to_none f g h) behind =
-          passed_begin p (is_own p) k cs (pieces r cs) (r k) (λ o e. e ∙ ap is_own_role f)
-          ∙ (behind ∙ sym (begin_at k cs (pieces p cs) f))
+      by_owner : {k : Arg} → Belongs p q r k → Kept p p r (is_own p) k
+      by_owner (to_first h g f) = kept g (λ o e. e ∙ h)
+      by_owner (to_second h g f) = passed_by f (λ o e. e ∙ ap is_own_role f)
+      by_owner (to_none f g h) = passed_by f (λ o e. e ∙ ap is_own_role f)
 
   -- and the others the second one's
   pub others_of_both : (cs : Cells) → others p (pieces r cs) ≡ pieces q cs
-  others_of_both [] = refl
-  others_of_both (None ∷ cs) = others_of_both cs
-  others_of_both (Some k ∷ cs) = by_owner (belongs u) (others_of_both cs)
+  others_of_both = kept_pieces p q r (λ o. not (is_own p o)) (λ k. by_owner (belongs u))
     where
-      others_begin : is_own_role (p k) ≡ false → r k ≡ q k → others p (pieces r cs) ≡ pieces q cs
-          → others p (pieces r (Some k ∷ cs)) ≡ pieces q (Some k ∷ cs)
-      others_begin h g behind =
-          kept_begin p (λ o. not (is_own p o)) k cs (pieces r cs) (r k) (λ o e. ap not (e ∙ h))
-          ∙ ap₂ (λ x os. begin_piece x k cs os) g behind
-
-      by_owner : Belongs p q r k → others p (pieces r cs) ≡ pieces q cs
-          → others p (pieces r (Some k ∷ cs)) ≡ pieces q (Some k ∷ cs)
-      by_owner (to_first h g f) behind =
-          passed_begin p (λ o. not (is_own p o)) k cs (pieces r cs) (r k) (λ o e. ap not (e ∙ h))
-          ∙ (behind ∙ sym (begin_at k cs (pieces q cs) f))
-      by_owner (to_second h g f) behind = others_begin (ap is_own_role f) g behind
-      by_owner (to_none f g h) behind = others_begin (ap is_own_role f) (h ∙ sym g) behind
+      by_owner : {k : Arg} → Belongs p q r k → Kept p q r (λ o. not (is_own p o)) k
+      by_owner (to_first h g f) = passed_by f (λ o e. ap not (e ∙ h))
+      by_owner (to_second h g f) = kept g (λ o e. ap not (e ∙ ap is_own_role f))
+      by_owner (to_none f g h) = kept (h ∙ sym g) (λ o e. ap not (e ∙ ap is_own_role f))
 
   -- what the first takes both take
   takes_some_left : {cs ds : Cells} → TakesPieces p cs ds → TakesPieces r cs ds

@@ -20,11 +20,11 @@ use Rattle.bpaf_exact.specs.Says.{ArgumentSays, says_variable_text, says_text, s
 use Rattle.bpaf_exact.specs.Says.{WordSays, EitherSays, says_this, says_that, MadeSays}
 use Rattle.bpaf_exact.specs.Says.{OptionalSays, says_some, says_none, FallbackSays, says_own}
 use Rattle.bpaf_exact.specs.Says.{says_kept, FrontSays, RepeatSays, says_in_turn, says_alone}
-use Rattle.bpaf_exact.specs.Says.{LastSays, FieldsSaid, RecordSays, FormSays, Says, FieldsFormSays}
+use Rattle.bpaf_exact.specs.Says.{FieldsSaid, RecordSays, FormSays, Says, FieldsFormSays}
 use Rattle.bpaf_exact.specs.{Says.FieldsSay, Says.its_pieces, Says.words_after, Record.last_reading}
 use Rattle.bpaf_exact.specs.{Flat.both_reading, Flat.Variables, Leaves.WordValue, Leaves.word_by}
 use Rattle.bpaf_exact.specs.{Names.Owns, Names.are_all_apart, Alternative.either_value}
-use Rattle.bpaf_exact.specs.{Pieces.no_roles, Gathered.LastOf}
+use Rattle.bpaf_exact.specs.{Pieces.no_roles}
 use Rattle.bpaf_laws.specs.{Flag.value_without_key, Environment.first_set, Reading.Outcome}
 use Rattle.bpaf_laws.specs.Repeat.{is_nil}
 use Rattle.std.specs.{Option.is_none, Option.IsSomeRelated, Prelude.MatchBool}
@@ -220,7 +220,7 @@ module _ {T : Type 0} (said : Said T) (group : Groups T) (gap : Gap T)
       own_more (fronts os rest v g) (turns_say rest vs more)
 
   -- the values of a repeat
-  list_says : (os : List LinePiece) (vs : List T) → OwnList T group gap os vs
+  pub list_says : (os : List LinePiece) (vs : List T) → OwnList T group gap os vs
       → RepeatSays said os vs
   list_says os vs (listed h o) = says_in_turn (turns_say os vs o)
   list_says os (v ∷ vs) (listed_and_absent h a o) = says_in_turn (turns_say os (v ∷ vs) o)
@@ -233,13 +233,13 @@ module _ {T : Type 0} (said : Said T) (group : Groups T) (gap : Gap T)
   optional_by os None e = says_none refl e.0
 
   -- one, or what stands in its place
-  fallback_by : (f : Closure (Unit {0}) T) (os : List LinePiece) (v : T)
+  pub fallback_by : (f : Closure (Unit {0}) T) (os : List LinePiece) (v : T)
       → FallbackValue T group gap f os v → FallbackSays said (f.yes tt) os v
   fallback_by f os v (inl h) = says_own (whole_says os v h)
   fallback_by f os v (inr e) = says_kept e.0 e.2
 
 -- a repeat or default round a field, of which each value says so
-whole_form_says : {T B : Type 0} {kind : FieldKind → FieldKind} (lift : SaidKind → SaidKind)
+pub whole_form_says : {T B : Type 0} {kind : FieldKind → FieldKind} (lift : SaidKind → SaidKind)
     → ((k : FieldKind) → lift (of_kind k) ≡ of_kind (kind k))
     → (value : Groups T → Gap T → List LinePiece → B → Type 0) {said : Said T} (whole : Said B)
     → ((group : Groups T) (gap : Gap T) → ((os rest : List LinePiece) (v : T) → group os v rest
@@ -301,16 +301,6 @@ optional_says {s = commands optional value} h = absurd h.by
 optional_says {T} {said} h =
     whole_form_says (λ j. j) (λ k. refl) (OptionalValue T) (OptionalSays said) (optional_by said) h
 
--- under a fallback
-pub fallback_says : {T : Type 0} (f : Closure (Unit {0}) T) {s : ProgramForm T} {kind : SaidKind}
-    {names : List Names} {said : Said T} → Says names s kind said
-    → Says names (completed (λ k. k) (λ group gap. FallbackValue T group gap f) s) kind
-    (FallbackSays said (f.yes tt))
-fallback_says {T} f {said} h =
-    whole_form_says (λ j. j) (λ k. refl) (λ group gap. FallbackValue T group gap f)
-    (FallbackSays said (f.yes tt))
-    (λ group gap fronts absent. fallback_by said group gap fronts absent f) h
-
 -- under `many`, `some`, `collect` or `count`
 pub listed_says : {T B : Type 0} (f : Closure (List T) B) {s : ProgramForm T} {kind : SaidKind}
     {names : List Names} {said : Said T} → Says names s kind said
@@ -318,18 +308,6 @@ pub listed_says : {T B : Type 0} (f : Closure (List T) B) {s : ProgramForm T} {k
     (MadeSays (RepeatSays said) f)
 listed_says {T} f {said} h = closed_says (whole_form_says repeated_kind (λ k. refl) (OwnList T)
     (RepeatSays said) (list_says said) h)
-
--- under `last`
-pub last_says : {T : Type 0} {s : ProgramForm T} {kind : SaidKind} {names : List Names}
-    {said : Said T} → Says names s kind said
-    → Says names (completed repeated (LastOf T) s) (repeated_kind kind) (LastSays said)
-last_says {T} {said} h =
-    whole_form_says repeated_kind (λ k. refl) (LastOf T) (LastSays said)
-    (λ group gap fronts absent os v m. record {
-      values = m.0 ++ v ∷ [];
-      told = list_says said group gap fronts absent os (m.0 ++ v ∷ []) m.1;
-      is = record { before = m.0; is = refl };
-    }) h
 
 -- without `catch`
 pub unless_says : {T : Type 0} (catch : Bool) {s : ProgramForm T} {kind : SaidKind}
