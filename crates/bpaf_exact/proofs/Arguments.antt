@@ -1,34 +1,32 @@
 -- Arguments keep to the laws.
-use Rattle.std.proofs.Common.{◌≡◌, ℕ, true, List, [], ◌∷◌, Some, None, refl, sym, ap, subst, ◌∙◌}
-use Rattle.std.proofs.Common.{◌++◌, ⊎_elim, map, Bool, false, ◌&&◌, ◌||◌, not, Result, Ok, Err}
-use Rattle.std.proofs.Common.{add-one}
-use Rattle.std.proofs.lemmas.Bool.{and_parts}
+use Rattle.std.proofs.Common.{List, None, Some, [], ap, refl, subst, sym, true, ◌++◌, ◌∙◌, ◌∷◌, ◌≡◌}
+use Rattle.std.proofs.Common.{Bool, Err, Ok, Result, add-one, false, map, not, ⊎_elim, ◌&&◌, ◌||◌}
+use Rattle.std.proofs.{Common.ℕ, lemmas.Bool.and_parts}
 use Rattle.std.specs.Option.{is_some}
-use Rattle.bpaf_text.specs.Named.{KeyWithValue, argument_part}
 use Rattle.bpaf_base.specs.{Items.is_key_of, Items.item_text, declared.arg.Arg.Arg}
 use Rattle.bpaf_line.specs.declared.error.Message.TheVariants.{Memory, NoArgument, ParseFailed}
-use Rattle.bpaf_line.specs.{Situation.Situation, Situation.with_current, declared.error.Error.Error}
-use Rattle.bpaf_line.specs.declared.error.Message.{Message}
-use Rattle.bpaf_laws.specs.Argument.{TakesKeyWithText, HasNoKey, IsNowhere, ReadsVariable}
-use Rattle.bpaf_laws.specs.Argument.{is_key_with_value, ArgumentOutcome, ArgumentFails}
-use Rattle.bpaf_laws.specs.Argument.{TakesKeysWithTexts, TakesOwnText, TakesBefore}
-use Rattle.bpaf_laws.specs.{Environment.first_set, Argument.LacksText, Repeat.is_nil}
-use Rattle.bpaf_exact.specs.Flat.{ByName, Refused, Steady, cells, class, class_of, Variables}
-use Rattle.bpaf_exact.specs.Single.{gap_of, SingleErr, SingleOk, Gap, TakesAny, took, of_memory}
-use Rattle.bpaf_exact.specs.Pieces.{WithNext, Roles, Two, IsNamed, pieces, LinePiece, One}
-use Rattle.bpaf_exact.specs.Leaves.{argument_roles, LastGroup, ArgumentValue, argument_field}
-use Rattle.bpaf_exact.specs.{Leaves.argument_group, Leaves.key_field, Alternative.TakesFirst}
-use Rattle.bpaf_exact.specs.{Pieces.takes_none, Pieces.takes_more, ProgramForm.FormLaw, Names.Owns}
-use Rattle.bpaf_exact.specs.{Single.of_piece, Single.SingleLaw, Flat.ErrorClass}
-use Rattle.bpaf_exact.proofs.Matching.{match_of, ByTest, by_test, test_named, test_owns, behind_of}
-use Rattle.bpaf_exact.proofs.Matching.{two_taken, no_pieces, absence_class}
-use Rattle.bpaf_exact.proofs.Places.{take_steady}
-use Rattle.bpaf_exact.proofs.Matching.{bare_taken, FirstRead, NoneRead, key_field_law, none_absent}
-use Rattle.bpaf_exact.proofs.Matching.{none_err, none_missing, none_named, none_ok, none_refused}
-use Rattle.bpaf_exact.proofs.Matching.{read_fault, read_first, read_memory, read_none}
-use Rattle.bpaf_exact.proofs.First.{first_takes, first_pieces, takes_nonempty}
-use Rattle.bpaf_exact.proofs.{Records.current_cells, Records.same_steady, Product.steady_refl}
-use Rattle.bpaf_exact.proofs.{Product.steady_trans, Wrappers.gap_empty, Fronts.never_nil}
+use Rattle.bpaf_line.specs.{declared.error.Error.Error, declared.error.Message.Message}
+use Rattle.bpaf_line.specs.Situation.{Situation, with_current}
+use Rattle.bpaf_text.specs.Named.{KeyWithValue, argument_part}
+use Rattle.bpaf_laws.specs.Argument.{ArgumentOutcome, HasNoKey, TakesKeyWithText, is_key_with_value}
+use Rattle.bpaf_laws.specs.Argument.{IsNowhere, ReadsVariable, TakesKeysWithTexts}
+use Rattle.bpaf_laws.specs.{Argument.ArgumentFails, Argument.TakesOwnText, Environment.first_set}
+use Rattle.bpaf_laws.specs.{Argument.LacksText, Argument.TakesBefore, Repeat.is_nil}
+use Rattle.bpaf_exact.proofs.Matching.{ByTest, behind_of, by_test, test_named, test_owns, two_taken}
+use Rattle.bpaf_exact.proofs.Matching.{FirstRead, absence_class, key_field_law, match_of, no_pieces}
+use Rattle.bpaf_exact.proofs.Matching.{NoneRead, bare_taken, none_missing, none_named, none_refused}
+use Rattle.bpaf_exact.proofs.Matching.{none_absent, read_fault, read_first, read_memory, read_none}
+use Rattle.bpaf_exact.proofs.{First.takes_nonempty, Product.steady_trans, Records.current_cells}
+use Rattle.bpaf_exact.proofs.{First.first_pieces, Product.steady_refl, Records.same_steady}
+use Rattle.bpaf_exact.proofs.{First.first_takes, Places.take_steady, Wrappers.gap_empty}
+use Rattle.bpaf_exact.proofs.{Fronts.never_nil, Matching.none_err, Matching.none_ok}
+use Rattle.bpaf_exact.specs.Leaves.{ArgumentValue, argument_field, argument_group, argument_roles}
+use Rattle.bpaf_exact.specs.Pieces.{LinePiece, Roles, Two, WithNext, pieces, takes_more, takes_none}
+use Rattle.bpaf_exact.specs.Single.{Gap, SingleErr, SingleOk, TakesAny, gap_of, of_memory, of_piece}
+use Rattle.bpaf_exact.specs.{Alternative.TakesFirst, Leaves.LastGroup, ProgramForm.FormLaw}
+use Rattle.bpaf_exact.specs.{Flat.ErrorClass, Flat.Variables, Leaves.key_field, Single.SingleLaw}
+use Rattle.bpaf_exact.specs.{Flat.ByName, Flat.Refused, Flat.Steady, Flat.class_of, Pieces.IsNamed}
+use Rattle.bpaf_exact.specs.{Flat.cells, Flat.class, Names.Owns, Pieces.One, Single.took}
 
 -- the last element of a list is one
 pub last_same : {T : Type 0} (xs ys : List T) {v w : T} → xs ++ (v ∷ []) ≡ ys ++ (w ∷ []) → v ≡ w

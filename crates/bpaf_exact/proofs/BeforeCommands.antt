@@ -1,22 +1,21 @@
 -- A named field before others, the last of which are commands: together they keep to the laws of a
 -- program.
-use Rattle.std.proofs.Common.{◌≡◌, List, [], ◌∷◌, length, Some, None, refl, sym, ap, ◌∙◌, arith}
-use Rattle.std.proofs.Common.{if◌then◌else◌}
+use Rattle.std.proofs.Common.{List, None, Some, [], if◌then◌else◌, length, refl, sym, ◌∙◌, ◌∷◌, ◌≡◌}
+use Rattle.std.proofs.Common.{ap, arith}
 use Rattle.bpaf_line.specs.Situation.{Situation}
 use Rattle.bpaf_laws.specs.{Product.BothOutcome, Product.ProductOutcome, Reading.Outcome}
-use Rattle.bpaf_exact.specs.Pieces.{Cells, Role, Foreign, Roles, LinePiece, One, Two, pieces, Apart}
-use Rattle.bpaf_exact.specs.Pieces.{is_own_role, IsNamed, TakesPiece, takes_one, takes_two}
-use Rattle.bpaf_exact.specs.Pieces.{takes_later, TakesPieces, takes_none, takes_more, Takes}
-use Rattle.bpaf_exact.specs.Pieces.{no_cells, empty_stays, other_stays, takes_flag, takes_argument}
-use Rattle.bpaf_exact.specs.Flat.{cells, ByName, FieldTook, FieldLaw, Variables}
-use Rattle.bpaf_exact.specs.Programs.{CellsValue, FieldThen, ProgramLaw, IsSpelledLine, AllSpelled}
-use Rattle.bpaf_exact.specs.Programs.{no_cell, empty_cell, spelled_cell}
-use Rattle.bpaf_exact.specs.Wrappers.{ClosedValue, map_closure}
-use Rattle.bpaf_exact.specs.Pieces.{either, either_role}
-use Rattle.bpaf_exact.proofs.Product.{none_outside_after, values_of_both, refused_both}
-use Rattle.bpaf_exact.proofs.Cells.{nil_rest, nil_foreign, value_foreign, begin_at}
-use Rattle.bpaf_exact.proofs.{Sharing.second_within, Sharing.first_within, Programs.cells_spelled}
-use Rattle.bpaf_exact.proofs.{Records.con_keeps, Cuts.one_take}
+use Rattle.bpaf_exact.proofs.{Cells.nil_foreign, Product.none_outside_after, Product.values_of_both}
+use Rattle.bpaf_exact.proofs.{Product.refused_both, Programs.cells_spelled, Sharing.second_within}
+use Rattle.bpaf_exact.proofs.{Cells.value_foreign, Records.con_keeps, Sharing.first_within}
+use Rattle.bpaf_exact.proofs.{Cells.begin_at, Cells.nil_rest, Cuts.one_take}
+use Rattle.bpaf_exact.specs.Pieces.{Apart, Cells, Foreign, LinePiece, One, Role, Roles, Two, pieces}
+use Rattle.bpaf_exact.specs.Pieces.{IsNamed, Takes, TakesPiece, is_own_role, takes_later, takes_one}
+use Rattle.bpaf_exact.specs.Pieces.{TakesPieces, empty_stays, takes_argument, takes_none, takes_two}
+use Rattle.bpaf_exact.specs.Pieces.{either_role, no_cells, other_stays, takes_flag, takes_more}
+use Rattle.bpaf_exact.specs.Programs.{AllSpelled, CellsValue, IsSpelledLine, ProgramLaw, empty_cell}
+use Rattle.bpaf_exact.specs.{Programs.spelled_cell, Wrappers.ClosedValue, Wrappers.map_closure}
+use Rattle.bpaf_exact.specs.{Flat.FieldTook, Flat.Variables, Programs.FieldThen, Programs.no_cell}
+use Rattle.bpaf_exact.specs.{Flat.ByName, Flat.FieldLaw, Flat.cells, Pieces.either}
 
 -- What is taken, and what is left.
 

@@ -1,31 +1,28 @@
 -- What parsers answer, by their tables, is what the laws of flat fields speak of.
-use Rattle.std.proofs.Common.{◌≡◌, ℕ, Bool, true, false, List, [], Option, Some, None, Result, Ok}
-use Rattle.std.proofs.Common.{Err, refl, sym, ap, ◌∙◌, inl, inr, ◌⊎◌, ⊎_elim, true≢false, length}
-use Rattle.std.proofs.Common.{not}
+use Rattle.std.proofs.Common.{Bool, Err, List, None, Ok, Option, Result, Some, [], false, true, ◌≡◌}
+use Rattle.std.proofs.Common.{ap, inl, inr, length, not, refl, sym, true≢false, ℕ, ⊎_elim, ◌∙◌, ◌⊎◌}
 use Rattle.std.specs.Global.{Vec}
 use Rattle.bpaf_doc.specs.Names.{Names}
-use Rattle.bpaf_line.specs.{declared.error.Message.TheVariants.Missing, declared.error.Error.Error}
-use Rattle.bpaf_line.specs.{declared.error.Message.Message, Situation.Situation}
-use Rattle.bpaf_laws.specs.Repeat.{ManyOutcome, SomeOutcome, CollectOutcome, CountOutcome, is_nil}
-use Rattle.bpaf_laws.specs.Default.{Gives, GivesClone, GivesAnswer, FallbackOutcome}
-use Rattle.bpaf_laws.specs.Transform.{MapOutcome, ParseOutcome, GuardOutcome}
-use Rattle.bpaf_laws.specs.{Hide.HideOutcome, Hide.hidden, Turn.TurnOutcome, Reading.Outcome}
-use Rattle.bpaf_exact.specs.Flat.{OfMemory, Caught, Refused, class, class_of, Variables, ErrorClass}
-use Rattle.bpaf_exact.specs.Single.{RepeatOutcome, OwnList}
-use Rattle.bpaf_exact.specs.Wrappers.{Closure, Decides, map_closure, parse_closure, guard_closure}
-use Rattle.bpaf_exact.specs.Wrappers.{answer_closure, ClosedEval, closed_yes, closed_no}
-use Rattle.bpaf_exact.specs.Wrappers.{closed_memory, closed_err, OptionalEval, optional_some}
-use Rattle.bpaf_exact.specs.Wrappers.{optional_none, optional_err, optional_memory, FallbackEval}
-use Rattle.bpaf_exact.specs.Wrappers.{fallback_ok, fallback_given, fallback_no, fallback_memory}
-use Rattle.bpaf_exact.specs.ProgramForm.{ProgramForm, FormLaw, Agrees, program_closed, completed}
-use Rattle.bpaf_exact.specs.ProgramForm.{program_dressed, program_if, program_optional}
-use Rattle.bpaf_exact.specs.{Wrappers.fallback_err, Wrappers.FallbackValue, Single.repeated}
-use Rattle.bpaf_exact.specs.Gathered.{list_closure, some_closure}
-use Rattle.bpaf_exact.proofs.Classes.{memory_class, caught_class, kept_class, stops_at, goes_on}
-use Rattle.bpaf_exact.proofs.ProgramForm.{listed_law, narrower_form, never_refuses}
-use Rattle.bpaf_exact.proofs.ProgramForm.{program_closed_law, program_dressed_law}
-use Rattle.bpaf_exact.proofs.ProgramForm.{program_fallback_law, program_optional_law, some_agrees}
-use Rattle.bpaf_exact.proofs.Narrow.{no_more}
+use Rattle.bpaf_line.specs.{declared.error.Error.Error, declared.error.Message.TheVariants.Missing}
+use Rattle.bpaf_line.specs.{Situation.Situation, declared.error.Message.Message}
+use Rattle.bpaf_laws.specs.Default.{FallbackOutcome, Gives, GivesAnswer, GivesClone}
+use Rattle.bpaf_laws.specs.Repeat.{CollectOutcome, CountOutcome, ManyOutcome, SomeOutcome, is_nil}
+use Rattle.bpaf_laws.specs.Transform.{GuardOutcome, MapOutcome, ParseOutcome}
+use Rattle.bpaf_laws.specs.{Hide.HideOutcome, Hide.hidden, Reading.Outcome, Turn.TurnOutcome}
+use Rattle.bpaf_exact.proofs.Classes.{caught_class, goes_on, kept_class, memory_class, stops_at}
+use Rattle.bpaf_exact.proofs.ProgramForm.{narrower_form, program_fallback_law, program_optional_law}
+use Rattle.bpaf_exact.proofs.ProgramForm.{never_refuses, program_closed_law, program_dressed_law}
+use Rattle.bpaf_exact.proofs.{Narrow.no_more, ProgramForm.listed_law, ProgramForm.some_agrees}
+use Rattle.bpaf_exact.specs.Flat.{Caught, ErrorClass, OfMemory, Refused, Variables, class, class_of}
+use Rattle.bpaf_exact.specs.ProgramForm.{Agrees, ProgramForm, completed, program_closed, program_if}
+use Rattle.bpaf_exact.specs.ProgramForm.{FormLaw, program_dressed, program_optional}
+use Rattle.bpaf_exact.specs.Wrappers.{ClosedEval, Closure, closed_yes, guard_closure, parse_closure}
+use Rattle.bpaf_exact.specs.Wrappers.{Decides, answer_closure, closed_err, closed_memory, closed_no}
+use Rattle.bpaf_exact.specs.Wrappers.{fallback_given, optional_memory, optional_none, optional_some}
+use Rattle.bpaf_exact.specs.Wrappers.{FallbackValue, OptionalEval, fallback_memory, optional_err}
+use Rattle.bpaf_exact.specs.Wrappers.{FallbackEval, fallback_err, fallback_ok, map_closure}
+use Rattle.bpaf_exact.specs.{Gathered.list_closure, Gathered.some_closure, Single.RepeatOutcome}
+use Rattle.bpaf_exact.specs.{Single.OwnList, Single.repeated, Wrappers.fallback_no}
 
 -- Each keeps to the laws of its form: map
 pub map_law : (env : Variables) (A B : Type 0) (inner : Outcome A) (answers : A → B → Type 0)

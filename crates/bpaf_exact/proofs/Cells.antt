@@ -1,15 +1,14 @@
 -- What taking pieces does to the other pieces and to the cut.
-use Rattle.std.proofs.Common.{◌≡◌, true, false, List, [], ◌∷◌, Some, None, refl, sym, ap, ◌∙◌}
-use Rattle.std.proofs.Common.{if◌then◌else◌, not, inl, ◌⊎◌, ⊎_elim}
-use Rattle.std.proofs.lemmas.Bool.{false_from_ne_true}
-use Rattle.bpaf_base.specs.declared.arg.Arg.TheVariants.{Short, Long, ArgWord, Word}
-use Rattle.bpaf_base.specs.{declared.arg.Arg.Arg, Items.is_positional}
-use Rattle.bpaf_exact.specs.Pieces.{Cells, Role, Foreign, Alone, WithNext, Roles, LinePiece, One}
-use Rattle.bpaf_exact.specs.Pieces.{Two, is_value, is_key, is_own_role, is_own, mine, others}
-use Rattle.bpaf_exact.specs.Pieces.{either_role, either, IsNamed, Apart, Cut, at_end, passed, flag}
-use Rattle.bpaf_exact.specs.Pieces.{argument, word, with_next, begin_piece, pieces, TakesPiece}
-use Rattle.bpaf_exact.specs.Pieces.{takes_one, takes_two, takes_later, TakesPieces, takes_none}
-use Rattle.bpaf_exact.specs.Pieces.{takes_more}
+use Rattle.std.proofs.Common.{List, None, Some, [], false, if◌then◌else◌, refl, sym, true, ◌∷◌, ◌≡◌}
+use Rattle.std.proofs.{Common.not, Common.⊎_elim, Common.◌∙◌, lemmas.Bool.false_from_ne_true}
+use Rattle.std.proofs.Common.{ap, inl, ◌⊎◌}
+use Rattle.bpaf_base.specs.declared.arg.Arg.TheVariants.{ArgWord, Long, Short, Word}
+use Rattle.bpaf_base.specs.{Items.is_positional, declared.arg.Arg.Arg}
+use Rattle.bpaf_exact.specs.Pieces.{Alone, Cells, Foreign, LinePiece, One, Role, WithNext, is_value}
+use Rattle.bpaf_exact.specs.Pieces.{Roles, either, either_role, is_key, is_own, is_own_role, others}
+use Rattle.bpaf_exact.specs.Pieces.{Apart, IsNamed, Two, argument, at_end, flag, mine, passed, word}
+use Rattle.bpaf_exact.specs.Pieces.{Cut, TakesPiece, begin_piece, takes_later, takes_one, with_next}
+use Rattle.bpaf_exact.specs.Pieces.{TakesPieces, pieces, takes_more, takes_none, takes_two}
 
 -- a value is no key
 pub value_not_key : (w : Arg) → is_value w ≡ true → is_key w ≡ false

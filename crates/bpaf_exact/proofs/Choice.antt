@@ -1,35 +1,33 @@
 -- A choice of two alternatives is one.
-use Rattle.std.proofs.Common.{◌≡◌, ℕ, suc, zero, ◌<◌, Bool, true, false, not, ◌&&◌, List, [], ◌∷◌}
-use Rattle.std.proofs.Common.{length, Option, Some, None, Result, Ok, Err, refl, sym, ap, ap₂, ◌∙◌}
-use Rattle.std.proofs.Common.{◌≤◌, subst, inl, inr, ◌⊎◌, ⊎_elim, arith, true≢false, nat_le, nat_lt}
-use Rattle.std.proofs.lemmas.Bool.{eqb-true, le-leb, lt-ltb, and_parts, cases_lt, not-true}
-use Rattle.std.proofs.lemmas.Bool.{not-false}
-use Rattle.bpaf_base.specs.{declared.arg.Arg.Arg, Items.any_item}
-use Rattle.bpaf_line.specs.Situation.{Situation, is_taken, item_in, open_count}
-use Rattle.bpaf_line.specs.{Conflicts.IsWinner, Conflicts.ConflictsSaved, Combining.Combines}
-use Rattle.bpaf_line.specs.{Messages.is_memory, Messages.is_wrong_input, declared.error.Error.Error}
-use Rattle.bpaf_line.specs.Taking.{open_item}
-use Rattle.bpaf_line.proofs.{Places.present_in_line, Matches.open_has_item}
-use Rattle.bpaf_laws.proofs.ChoiceLaws.{chosen_at_equal, not_winner}
-use Rattle.bpaf_laws.specs.Choice.{branch_of, ChoiceOutcome, EqualDepths, OneOk, Winner}
-use Rattle.bpaf_laws.specs.{Choice.BranchesEval, Spared.IsNotMemory, Turn.is_untouched}
-use Rattle.bpaf_laws.specs.Reading.{Outcome}
-use Rattle.bpaf_exact.specs.Pieces.{Cells, Roles, LinePiece, One, Two, is_own_role, is_own, Apart}
-use Rattle.bpaf_exact.specs.Pieces.{either, pieces, TakesPiece, takes_one, takes_two, takes_later}
-use Rattle.bpaf_exact.specs.Flat.{OfMemory, OfMissing, Refused, class, cells, first_cells}
-use Rattle.bpaf_exact.specs.Alternative.{TakesFirst, HasBad, AlternativeOk, AlternativeErr}
-use Rattle.bpaf_exact.specs.Alternative.{alternative_memory, alternative_missing}
-use Rattle.bpaf_exact.specs.Alternative.{alternative_refused, AlternativeLaw, either_value}
-use Rattle.bpaf_exact.specs.Flat.{ErrorClass, IsWholeIn, Steady, Variables}
+use Rattle.std.proofs.Common.{Bool, [], false, length, not, suc, true, zero, ℕ, ◌&&◌, ◌<◌, ◌∷◌, ◌≡◌}
+use Rattle.std.proofs.Common.{Err, List, None, Ok, Option, Result, Some, ap₂, refl, subst, sym, ◌∙◌}
+use Rattle.std.proofs.Common.{ap, arith, inl, inr, nat_le, nat_lt, true≢false, ⊎_elim, ◌≤◌, ◌⊎◌}
+use Rattle.std.proofs.lemmas.Bool.{and_parts, cases_lt, eqb-true, le-leb, not-false, not-true}
+use Rattle.std.proofs.lemmas.Bool.{lt-ltb}
 use Rattle.std.specs.{Option.option_map_or, Prelude.MatchBool}
-use Rattle.bpaf_exact.proofs.First.{Union, swap_union, either_union, union_named, takes_left}
-use Rattle.bpaf_exact.proofs.First.{bad_given_back, bad_left, HeadOf, owner, first_mine}
-use Rattle.bpaf_exact.proofs.First.{first_alone, both_nil, TookLeft, left_here, left_later}
-use Rattle.bpaf_exact.proofs.First.{first_both, not_left, never_same}
-use Rattle.bpaf_exact.proofs.Places.{same_cells, same_item, closed_item}
-use Rattle.bpaf_exact.proofs.Product.{steady_refl, steady_trans, none_outside_after}
-use Rattle.bpaf_exact.proofs.Classes.{memory_class, not_memory, combined_refused, combined_missing}
-use Rattle.bpaf_exact.proofs.{Counts.open_present, Counts.takes_fewer, Cells.keeps_other}
+use Rattle.bpaf_base.specs.{Items.any_item, declared.arg.Arg.Arg}
+use Rattle.bpaf_line.proofs.{Matches.open_has_item, Places.present_in_line}
+use Rattle.bpaf_line.specs.{Conflicts.ConflictsSaved, Situation.item_in, declared.error.Error.Error}
+use Rattle.bpaf_line.specs.{Messages.is_wrong_input, Situation.Situation, Situation.open_count}
+use Rattle.bpaf_line.specs.{Combining.Combines, Conflicts.IsWinner, Messages.is_memory}
+use Rattle.bpaf_line.specs.{Situation.is_taken, Taking.open_item}
+use Rattle.bpaf_laws.proofs.ChoiceLaws.{chosen_at_equal, not_winner}
+use Rattle.bpaf_laws.specs.Choice.{BranchesEval, ChoiceOutcome, EqualDepths, Winner, branch_of}
+use Rattle.bpaf_laws.specs.{Choice.OneOk, Reading.Outcome, Spared.IsNotMemory, Turn.is_untouched}
+use Rattle.bpaf_exact.proofs.Classes.{combined_missing, combined_refused, memory_class, not_memory}
+use Rattle.bpaf_exact.proofs.First.{bad_given_back, bad_left, either_union, swap_union, union_named}
+use Rattle.bpaf_exact.proofs.First.{HeadOf, TookLeft, both_nil, first_alone, first_mine, takes_left}
+use Rattle.bpaf_exact.proofs.First.{Union, first_both, left_here, left_later, never_same, not_left}
+use Rattle.bpaf_exact.proofs.{Counts.open_present, Product.none_outside_after, Product.steady_trans}
+use Rattle.bpaf_exact.proofs.{Counts.takes_fewer, Places.closed_item, Product.steady_refl}
+use Rattle.bpaf_exact.proofs.{Cells.keeps_other, First.owner, Places.same_cells, Places.same_item}
+use Rattle.bpaf_exact.specs.Alternative.{AlternativeErr, AlternativeOk, HasBad, alternative_missing}
+use Rattle.bpaf_exact.specs.Flat.{ErrorClass, IsWholeIn, OfMemory, OfMissing, Refused, cells, class}
+use Rattle.bpaf_exact.specs.Pieces.{Cells, LinePiece, One, Two, either, is_own, is_own_role, pieces}
+use Rattle.bpaf_exact.specs.Pieces.{Apart, Roles, TakesPiece, takes_later, takes_one, takes_two}
+use Rattle.bpaf_exact.specs.Alternative.{alternative_memory, alternative_refused}
+use Rattle.bpaf_exact.specs.{Alternative.AlternativeLaw, Alternative.either_value, Flat.first_cells}
+use Rattle.bpaf_exact.specs.{Alternative.TakesFirst, Flat.Steady, Flat.Variables}
 
 -- the same scope of the same line
 pub record SameScope (m n : Situation) : Type 0 where

@@ -1,31 +1,30 @@
 -- Closures round commands, choices of them, and commands that may be left out keep to the laws.
-use Rattle.std.proofs.Common.{◌≡◌, ◌≤◌, ℕ, Bool, true, false, ◌||◌, List, [], ◌++◌, length, Option}
-use Rattle.std.proofs.Common.{Some, None, Result, Ok, Err, refl, sym, ap, ◌∙◌, inl, inr}
-use Rattle.std.proofs.{Common.⊎_elim, Common.arith, Common.true≢false, lemmas.Bool.and_parts}
-use Rattle.std.proofs.lemmas.List.Folds.{list_any-append}
+use Rattle.std.proofs.Common.{Bool, List, Option, Some, [], false, length, true, ℕ, ◌++◌, ◌||◌, ◌≡◌}
+use Rattle.std.proofs.Common.{Err, None, Ok, Result, ap, arith, inl, inr, sym, true≢false, ◌∙◌, ◌≤◌}
+use Rattle.std.proofs.{Common.⊎_elim, lemmas.Bool.and_parts, lemmas.List.Folds.list_any-append}
+use Rattle.std.proofs.Common.{refl}
 use Rattle.bpaf_base.specs.Items.{is_command_word}
-use Rattle.bpaf_line.specs.{Messages.is_memory, Messages.is_wrong_input, declared.error.Error.Error}
-use Rattle.bpaf_line.specs.{declared.error.Message.TheVariants.Missing, Conflicts.ConflictsSaved}
-use Rattle.bpaf_line.specs.{declared.error.Message.Message, Situation.Situation}
-use Rattle.bpaf_laws.specs.Choice.{Chosen, depth, branch_of, ChoiceOutcome, OneOk}
-use Rattle.bpaf_laws.specs.{Spared.IsNotMemory, Command.is_one_of, Turn.is_untouched}
-use Rattle.bpaf_laws.proofs.ChoiceLaws.{ComesFrom, both_refused, chosen_from, first_refused}
-use Rattle.bpaf_laws.proofs.ChoiceLaws.{first_stands, first_won, second_refused, second_stands}
-use Rattle.bpaf_laws.proofs.ChoiceLaws.{second_won}
-use Rattle.bpaf_laws.specs.Reading.{Outcome}
-use Rattle.bpaf_exact.specs.Flat.{ErrorClass, OfMemory, OfMissing, is_missing, class, cells}
-use Rattle.bpaf_exact.specs.Flat.{NonePresent, no_place, none_here, IsWholeIn, Variables}
-use Rattle.bpaf_exact.specs.Wrappers.{Closure, AgreesOn, ClosedEval, OptionalEval, optional_some}
-use Rattle.bpaf_exact.specs.Wrappers.{ClosedValue, optional_none, optional_err, optional_memory}
-use Rattle.bpaf_exact.specs.Programs.{CellsValue, Opens, opens_here, opens_later, OpensNone}
-use Rattle.bpaf_exact.specs.Programs.{ChoiceValue, OptionalCommands, ProgramLaw, CommandsLaw}
-use Rattle.bpaf_exact.specs.Programs.{FindsNoCommand, WordsApart, ProgramTook}
-use Rattle.bpaf_exact.specs.Pieces.{Cells, Roles, pieces, either}
-use Rattle.bpaf_exact.specs.Single.{Stops, nothing_found, caught, present_count}
+use Rattle.bpaf_line.specs.{declared.error.Error.Error, declared.error.Message.TheVariants.Missing}
+use Rattle.bpaf_line.specs.{Conflicts.ConflictsSaved, declared.error.Message.Message}
+use Rattle.bpaf_line.specs.{Messages.is_memory, Messages.is_wrong_input, Situation.Situation}
+use Rattle.bpaf_laws.proofs.ChoiceLaws.{ComesFrom, both_refused, chosen_from, first_won, second_won}
+use Rattle.bpaf_laws.proofs.ChoiceLaws.{first_refused, first_stands, second_refused, second_stands}
+use Rattle.bpaf_laws.specs.{Choice.ChoiceOutcome, Command.is_one_of, Spared.IsNotMemory}
+use Rattle.bpaf_laws.specs.{Choice.Chosen, Choice.branch_of, Reading.Outcome, Turn.is_untouched}
+use Rattle.bpaf_laws.specs.Choice.{OneOk, depth}
 use Rattle.bpaf_exact.proofs.BeforeCommands.{apart_first, apart_second}
-use Rattle.bpaf_exact.proofs.Choice.{same_scope, cells_same, saved_steady}
-use Rattle.bpaf_exact.proofs.Classes.{combined_missing, is_missing_of, memory_class, not_memory}
-use Rattle.bpaf_exact.proofs.{Counts.open_present, Wrappers.closed_keeps}
+use Rattle.bpaf_exact.proofs.Classes.{combined_missing, is_missing_of, memory_class}
+use Rattle.bpaf_exact.proofs.{Choice.saved_steady, Counts.open_present, Wrappers.closed_keeps}
+use Rattle.bpaf_exact.proofs.{Choice.cells_same, Choice.same_scope, Classes.not_memory}
+use Rattle.bpaf_exact.specs.Flat.{ErrorClass, NonePresent, OfMemory, OfMissing, no_place, none_here}
+use Rattle.bpaf_exact.specs.Programs.{CellsValue, ChoiceValue, Opens, OptionalCommands, opens_later}
+use Rattle.bpaf_exact.specs.Programs.{FindsNoCommand, OpensNone, ProgramLaw, WordsApart, opens_here}
+use Rattle.bpaf_exact.specs.Wrappers.{ClosedEval, ClosedValue, Closure, OptionalEval, optional_some}
+use Rattle.bpaf_exact.specs.{Programs.CommandsLaw, Wrappers.optional_memory, Wrappers.optional_none}
+use Rattle.bpaf_exact.specs.{Programs.ProgramTook, Single.nothing_found, Wrappers.optional_err}
+use Rattle.bpaf_exact.specs.{Flat.is_missing, Pieces.Cells, Single.present_count, Wrappers.AgreesOn}
+use Rattle.bpaf_exact.specs.{Flat.IsWholeIn, Flat.Variables, Pieces.either, Pieces.pieces}
+use Rattle.bpaf_exact.specs.{Flat.cells, Flat.class, Pieces.Roles, Single.Stops, Single.caught}
 
 -- Closures.
 module _ {A B : Type 0} (inner : Outcome A) (r : Roles) {value : CellsValue A} {f : Closure A B}

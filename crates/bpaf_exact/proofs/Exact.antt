@@ -1,19 +1,18 @@
 -- The exactness theorem: a run of a flat record answers the record's value, or want of memory.
-use Rattle.std.proofs.Common.{◌≡◌, ℕ, zero, ◌<◌, Bool, true, false, not, ◌&&◌, ◌||◌, length, Option}
-use Rattle.std.proofs.Common.{slice_get, None, Ok, if◌then◌else◌, refl, sym, ◌∙◌, arith, nat_lt}
-use Rattle.std.proofs.Common.{nat_le, Err}
-use Rattle.std.proofs.lemmas.Bool.{lt-ltb, le-leb}
+use Rattle.std.proofs.Common.{Bool, Option, false, length, not, true, zero, ℕ, ◌&&◌, ◌<◌, ◌||◌, ◌≡◌}
+use Rattle.std.proofs.Common.{None, arith, if◌then◌else◌, nat_le, nat_lt, refl, slice_get, sym, ◌∙◌}
+use Rattle.std.proofs.{Common.Err, Common.Ok, lemmas.Bool.le-leb, lemmas.Bool.lt-ltb}
 use Rattle.bpaf_base.specs.declared.arg.Arg.{Arg}
-use Rattle.bpaf_line.specs.Situation.{Context, Situation, beginning, item_in, is_marker}
-use Rattle.bpaf_line.specs.{declared.error.Error.Error, Taking.open_item}
+use Rattle.bpaf_line.specs.Situation.{Context, Situation, beginning, is_marker, item_in}
+use Rattle.bpaf_line.specs.{Taking.open_item, declared.error.Error.Error}
 use Rattle.bpaf_laws.specs.Reading.{Outcome}
-use Rattle.bpaf_exact.specs.Flat.{cells, NonePresent, IsWholeIn, FieldsLaw, FieldsReading, ReadOff}
-use Rattle.bpaf_exact.specs.Record.{line_cells, RecordValue, RunAnswer, Accepted, RunRan, run_value}
-use Rattle.bpaf_exact.specs.Record.{run_leftover, run_memory, run_refusal, IsNoValue}
-use Rattle.bpaf_exact.specs.{Record.IsAcceptedOrWant, Record.IsExact, Pieces.Cut, Pieces.Roles}
-use Rattle.bpaf_exact.specs.{Flat.OfMemory, Flat.class, Programs.CellsValue}
-use Rattle.bpaf_exact.proofs.Records.{none_counted, count_none}
-use Rattle.bpaf_exact.proofs.{Cuts.one_cut, Cuts.read_cut, Counts.open_present, Places.same_cells}
+use Rattle.bpaf_exact.proofs.{Counts.open_present, Records.count_none, Records.none_counted}
+use Rattle.bpaf_exact.proofs.{Cuts.one_cut, Cuts.read_cut, Places.same_cells}
+use Rattle.bpaf_exact.specs.Record.{Accepted, RecordValue, RunAnswer, RunRan, line_cells, run_value}
+use Rattle.bpaf_exact.specs.Record.{IsAcceptedOrWant, IsExact, IsNoValue, run_leftover, run_refusal}
+use Rattle.bpaf_exact.specs.{Flat.FieldsReading, Flat.cells, Programs.CellsValue, Record.run_memory}
+use Rattle.bpaf_exact.specs.Flat.{FieldsLaw, IsWholeIn, NonePresent, OfMemory}
+use Rattle.bpaf_exact.specs.{Flat.ReadOff, Flat.class, Pieces.Cut, Pieces.Roles}
 
 -- at the beginning each item is present, but for the marker
 open_at_first : (context : Context) (p : ℕ) → p < length context.line

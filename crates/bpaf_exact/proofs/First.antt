@@ -1,15 +1,14 @@
 -- Taking the first piece, and the first piece of two fields together.
-use Rattle.std.proofs.Common.{◌≡◌, ◌<◌, true, false, List, [], ◌∷◌, length, Option, Some, None}
-use Rattle.std.proofs.Common.{refl, sym, ap, ◌∙◌, inl, inr, ◌⊎◌, if◌then◌else◌, arith, ⊎_elim}
+use Rattle.std.proofs.Common.{List, None, Option, Some, [], false, length, sym, true, ◌<◌, ◌∷◌, ◌≡◌}
+use Rattle.std.proofs.Common.{ap, arith, if◌then◌else◌, inl, inr, refl, ⊎_elim, ◌∙◌, ◌⊎◌}
 use Rattle.bpaf_base.specs.declared.arg.Arg.{Arg}
-use Rattle.bpaf_exact.specs.Pieces.{Cells, Role, Foreign, Alone, WithNext, Roles, LinePiece, One}
-use Rattle.bpaf_exact.specs.Pieces.{Two, is_value, is_own_role, is_own, IsNamed, Apart, either}
-use Rattle.bpaf_exact.specs.Pieces.{with_next, begin_piece, pieces, TakesPiece}
-use Rattle.bpaf_exact.specs.Pieces.{takes_one, takes_two, takes_later}
-use Rattle.bpaf_exact.specs.Alternative.{TakesFirst, first_one, first_two, first_later, HasBad}
-use Rattle.bpaf_exact.specs.Alternative.{bad_here, bad_later}
-use Rattle.bpaf_exact.proofs.Cells.{value_foreign, nil_rest, nil_foreign, keeps_other, same_next}
-use Rattle.bpaf_exact.proofs.Cells.{begin_at, either_own, either_right}
+use Rattle.bpaf_exact.proofs.Cells.{either_right, keeps_other, nil_foreign, nil_rest, value_foreign}
+use Rattle.bpaf_exact.proofs.Cells.{begin_at, either_own, same_next}
+use Rattle.bpaf_exact.specs.Alternative.{TakesFirst, bad_later, first_later, first_one, first_two}
+use Rattle.bpaf_exact.specs.Pieces.{Alone, Cells, Foreign, LinePiece, One, Role, WithNext, is_value}
+use Rattle.bpaf_exact.specs.Pieces.{Apart, IsNamed, Roles, begin_piece, either, is_own, is_own_role}
+use Rattle.bpaf_exact.specs.Pieces.{TakesPiece, Two, takes_later, takes_one, takes_two, with_next}
+use Rattle.bpaf_exact.specs.{Alternative.HasBad, Alternative.bad_here, Pieces.pieces}
 
 -- taking the first piece is taking one
 pub first_takes : {q : Roles} {cs ds : Cells} {o : LinePiece} → TakesFirst q cs o ds

@@ -1,24 +1,23 @@
 -- Flags keep to the laws.
-use Rattle.std.proofs.Common.{◌≡◌, ℕ, Bool, true, false, List, [], ◌∷◌, Option, Some, None, ◌&&◌}
-use Rattle.std.proofs.Common.{not, refl, ap, ⊎_elim, Result, Ok, Err}
-use Rattle.std.proofs.lemmas.Bool.{and_parts}
-use Rattle.std.specs.Option.{is_none, is_some, IsSomeRelated}
+use Rattle.std.proofs.Common.{Bool, List, None, Option, Some, [], false, refl, true, ◌&&◌, ◌∷◌, ◌≡◌}
+use Rattle.std.proofs.{Common.Err, Common.Result, Common.not, Common.⊎_elim, lemmas.Bool.and_parts}
+use Rattle.std.proofs.Common.{Ok, ap, ℕ}
+use Rattle.std.specs.Option.{IsSomeRelated, is_none, is_some}
 use Rattle.bpaf_base.specs.Items.{is_key_of}
-use Rattle.bpaf_line.specs.{declared.error.Message.TheVariants.Memory, declared.error.Error.Error}
-use Rattle.bpaf_line.specs.{Taking.HasNone, Taking.TakesFlag, declared.error.Message.Message}
-use Rattle.bpaf_line.specs.Situation.{Situation}
-use Rattle.bpaf_laws.specs.Flag.{FlagOutcome, FlagFails, value_without_key}
-use Rattle.bpaf_laws.specs.{Environment.first_set, Environment.is_set, Repeat.is_nil}
-use Rattle.bpaf_exact.specs.Leaves.{flag_roles, FlagValue, flag_field}
-use Rattle.bpaf_exact.specs.Pieces.{Alone, Roles, IsNamed}
-use Rattle.bpaf_exact.specs.Flat.{class, class_of, ByName, Variables}
-use Rattle.bpaf_exact.specs.{Single.Gap, Single.gap_of, ProgramForm.FormLaw}
-use Rattle.bpaf_exact.proofs.Matching.{FirstRead, absence_class, by_test, key_field_law, match_of}
-use Rattle.bpaf_exact.proofs.Matching.{no_pieces, none_absent, none_missing, none_named, one_taken}
-use Rattle.bpaf_exact.proofs.Matching.{read_first, read_memory, read_none, test_named, test_owns}
-use Rattle.bpaf_exact.proofs.{First.first_pieces, Places.take_steady, Product.steady_refl}
-use Rattle.bpaf_exact.proofs.Wrappers.{gap_empty}
+use Rattle.bpaf_line.specs.{declared.error.Error.Error, declared.error.Message.TheVariants.Memory}
+use Rattle.bpaf_line.specs.{Situation.Situation, Taking.TakesFlag, declared.error.Message.Message}
+use Rattle.bpaf_line.specs.Taking.{HasNone}
 use Rattle.bpaf_text.specs.Named.{Named as Key, flag_part}
+use Rattle.bpaf_laws.specs.{Environment.first_set, Environment.is_set, Flag.value_without_key}
+use Rattle.bpaf_laws.specs.{Flag.FlagFails, Flag.FlagOutcome, Repeat.is_nil}
+use Rattle.bpaf_exact.proofs.Matching.{FirstRead, absence_class, key_field_law, match_of, no_pieces}
+use Rattle.bpaf_exact.proofs.Matching.{none_absent, none_missing, none_named, one_taken, read_first}
+use Rattle.bpaf_exact.proofs.{Matching.read_memory, Matching.test_named, Product.steady_refl}
+use Rattle.bpaf_exact.proofs.{First.first_pieces, Matching.read_none, Matching.test_owns}
+use Rattle.bpaf_exact.proofs.{Matching.by_test, Places.take_steady, Wrappers.gap_empty}
+use Rattle.bpaf_exact.specs.{Flat.ByName, Leaves.flag_field, Leaves.flag_roles, ProgramForm.FormLaw}
+use Rattle.bpaf_exact.specs.{Flat.Variables, Flat.class_of, Leaves.FlagValue, Pieces.IsNamed}
+use Rattle.bpaf_exact.specs.{Flat.class, Pieces.Alone, Pieces.Roles, Single.Gap, Single.gap_of}
 
 -- where no key of a flag is there
 module _ {T : Type 0} (clones : T → T → Type 0) (present : T) where

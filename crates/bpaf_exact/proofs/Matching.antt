@@ -1,34 +1,32 @@
 -- From what the calls of a state take to pieces.
-use Rattle.std.proofs.Common.{◌≡◌, ℕ, suc, ◌<◌, Bool, true, false, List, [], ◌∷◌, length}
-use Rattle.std.proofs.Common.{Option, Some, None, refl, sym, ap, ◌∙◌, inl, inr, if◌then◌else◌, ◌||◌}
-use Rattle.std.proofs.Common.{option_and_then, add-one, Result, Ok, Err, ◌⊎◌, ⊎_elim}
-use Rattle.std.specs.Option.{option_map_or, is_some}
+use Rattle.std.proofs.Common.{Bool, List, Option, Some, [], false, length, suc, true, ◌<◌, ◌∷◌, ◌≡◌}
+use Rattle.std.proofs.Common.{None, ap, if◌then◌else◌, inl, inr, option_and_then, refl, sym, ℕ, ◌∙◌}
+use Rattle.std.proofs.Common.{Err, Ok, Result, add-one, ⊎_elim, ◌||◌, ◌⊎◌}
+use Rattle.std.specs.Option.{is_some, option_map_or}
 use Rattle.bpaf_doc.specs.{Names.Names, Shape.Part}
-use Rattle.bpaf_base.specs.declared.arg.Arg.{Arg}
 use Rattle.bpaf_base.specs.declared.arg.Arg.TheVariants.{ArgWord, Word}
-use Rattle.bpaf_base.specs.Items.{is_key_of, value_text, item_text}
-use Rattle.bpaf_line.specs.Taking.{open_item, is_match, IsFirst, HasNone, value_after}
-use Rattle.bpaf_line.specs.declared.error.Message.TheVariants.{Missing, NoEnv}
-use Rattle.bpaf_line.specs.Situation.{Situation, take_place}
-use Rattle.bpaf_line.specs.{declared.error.Error.Error, declared.error.Message.Message}
-use Rattle.bpaf_line.proofs.{Places.open_in_line, Matches.open_item_there}
+use Rattle.bpaf_base.specs.{Items.is_key_of, Items.value_text, declared.arg.Arg.Arg}
+use Rattle.bpaf_base.specs.Items.{item_text}
+use Rattle.bpaf_line.proofs.{Matches.open_item_there, Places.open_in_line}
+use Rattle.bpaf_line.specs.{declared.error.Error.Error, declared.error.Message.TheVariants.Missing}
+use Rattle.bpaf_line.specs.{Situation.take_place, declared.error.Message.TheVariants.NoEnv}
+use Rattle.bpaf_line.specs.{Situation.Situation, Taking.value_after, declared.error.Message.Message}
+use Rattle.bpaf_line.specs.Taking.{HasNone, IsFirst, is_match, open_item}
 use Rattle.bpaf_laws.specs.{Environment.IsAbsence, Environment.MissesItem, Reading.Outcome}
 use Rattle.bpaf_laws.specs.Repeat.{is_nil}
-use Rattle.bpaf_exact.specs.Pieces.{Role, Foreign, Alone, WithNext, Roles, LinePiece, One, Two}
-use Rattle.bpaf_exact.specs.Pieces.{is_value, is_key, is_own_role, IsNamed, pieces}
-use Rattle.bpaf_exact.specs.Flat.{OfMemory, OfMissing, Caught, Refused, class, class_of, cells}
-use Rattle.bpaf_exact.specs.Flat.{ByName, FieldKind, Steady, Variables, front}
-use Rattle.bpaf_exact.specs.Single.{FrontOf, Gap, Groups, SingleErr, SingleOk, catch_missing}
-use Rattle.bpaf_exact.specs.Single.{catch_other, gave_absent, of_absent, of_memory, of_missing}
-use Rattle.bpaf_exact.specs.Single.{of_piece, took}
-use Rattle.bpaf_exact.specs.Alternative.{NotOwn, TakesFirst, bad_here, AlternativeOk}
-use Rattle.bpaf_exact.specs.Alternative.{AlternativeErr, alternative_memory, alternative_missing}
-use Rattle.bpaf_exact.specs.Alternative.{alternative_refused}
-use Rattle.bpaf_exact.specs.{Names.Owns, ProgramForm.FormLaw, Leaves.key_field}
-use Rattle.bpaf_exact.proofs.Places.{NoneBefore, take_one, take_two, none_present}
-use Rattle.bpaf_exact.proofs.Places.{BareHead, bare_first, open_one, open_two}
-use Rattle.bpaf_exact.proofs.Product.{steady_refl}
-use Rattle.bpaf_exact.proofs.{First.first_takes, Names.named_key, Wrappers.took_front}
+use Rattle.bpaf_exact.proofs.Places.{BareHead, NoneBefore, bare_first, open_one, take_one, take_two}
+use Rattle.bpaf_exact.proofs.{Places.none_present, Product.steady_refl, Wrappers.took_front}
+use Rattle.bpaf_exact.proofs.{First.first_takes, Names.named_key, Places.open_two}
+use Rattle.bpaf_exact.specs.Alternative.{AlternativeErr, AlternativeOk, NotOwn, alternative_missing}
+use Rattle.bpaf_exact.specs.Flat.{ByName, Caught, FieldKind, OfMemory, OfMissing, Refused, class_of}
+use Rattle.bpaf_exact.specs.Pieces.{Alone, Foreign, LinePiece, One, Role, Roles, WithNext, is_value}
+use Rattle.bpaf_exact.specs.Single.{Gap, Groups, SingleErr, catch_missing, catch_other, gave_absent}
+use Rattle.bpaf_exact.specs.Single.{FrontOf, SingleOk, of_absent, of_memory, of_missing, of_piece}
+use Rattle.bpaf_exact.specs.Alternative.{alternative_memory, alternative_refused}
+use Rattle.bpaf_exact.specs.{Alternative.TakesFirst, Alternative.bad_here, ProgramForm.FormLaw}
+use Rattle.bpaf_exact.specs.{Flat.Variables, Leaves.key_field, Pieces.IsNamed, Pieces.is_own_role}
+use Rattle.bpaf_exact.specs.{Flat.Steady, Flat.class, Pieces.is_key, Pieces.pieces, Single.took}
+use Rattle.bpaf_exact.specs.{Flat.cells, Flat.front, Names.Owns, Pieces.Two}
 
 -- the item of a match
 pub record Match (test : Arg → Bool) (s : Situation) (p : ℕ) : Type 0 where

@@ -1,35 +1,32 @@
 -- Where closures can't tell apart what looks alike, the premise of exactness holds, and all values
 -- of a line look alike.
-use Rattle.std.proofs.Common.{◌≡◌, ℕ, Bool, true, false, List, [], ◌∷◌, map, Option, Some, None}
-use Rattle.std.proofs.Common.{◌&&◌, ◌||◌, not, refl, sym, ap, ◌∙◌, subst, inl, inr}
-use Rattle.std.specs.{Option.is_none, Option.IsSomeRelated, Prelude.option_map, Global.Vec}
+use Rattle.std.proofs.Common.{Bool, List, None, Some, [], false, map, true, ℕ, ◌&&◌, ◌||◌, ◌∷◌, ◌≡◌}
+use Rattle.std.proofs.Common.{Option, ap, inl, inr, not, refl, subst, sym, ◌∙◌}
+use Rattle.std.specs.{Global.Vec, Option.IsSomeRelated, Option.is_none, Prelude.option_map}
 use Rattle.bpaf_doc.specs.Names.{Names}
 use Rattle.bpaf_base.specs.Items.{item_text}
 use Rattle.bpaf_line.specs.Situation.{Context}
+use Rattle.bpaf_text.specs.Named.{KeyWithValue, Named as Key}
 use Rattle.bpaf_laws.specs.{Environment.first_set, Reading.Outcome, Repeat.is_nil}
-use Rattle.bpaf_exact.specs.Flat.{FieldsLaw, FieldsReading, FieldKind, ByName, ReadOff, Variables}
-use Rattle.bpaf_exact.specs.Single.{Groups, Gap, FrontOf, Own, own_none, own_more, SingleLaw}
-use Rattle.bpaf_exact.specs.Single.{SingleValue, OwnList, listed, listed_and_absent, only_absent}
-use Rattle.bpaf_exact.specs.Wrappers.{ClosedValue, Closure, OptionalValue, FallbackValue}
-use Rattle.bpaf_exact.specs.Leaves.{FlagValue, ArgumentValue, WordValue, flag_field}
-use Rattle.bpaf_exact.specs.Leaves.{argument_field, argument_group, argument_roles, flag_roles}
-use Rattle.bpaf_exact.specs.Record.{RunAnswer, Accepted, NoMemory, Refusal, RecordValue, IsExact}
-use Rattle.bpaf_exact.specs.ProgramForm.{ProgramForm, alternative, single, complete, product}
-use Rattle.bpaf_exact.specs.ProgramForm.{commands, before_commands, FormLaw, program_if}
-use Rattle.bpaf_exact.specs.ProgramForm.{program_closed, completed, program_field, may_follow}
-use Rattle.bpaf_exact.specs.ProgramForm.{program_both, program_alone, program_con, whole_program}
-use Rattle.bpaf_exact.specs.ProgramForm.{is_record, program_optional, program_value}
-use Rattle.bpaf_exact.specs.ProgramForm.{product_reading, whole_value}
-use Rattle.bpaf_exact.specs.OneView.{Alike, OneGroup, HasOneView, Respects, pair_view, LooksLike}
-use Rattle.bpaf_exact.specs.Pieces.{Cells, Roles, LinePiece, One, Two, IsNamed}
-use Rattle.bpaf_exact.specs.{Leaves.key_field, Leaves.word_by, Programs.OptionalCommands}
-use Rattle.bpaf_exact.specs.{Gathered.list_closure, Names.are_all_apart, Record.line_cells}
-use Rattle.bpaf_exact.specs.{OneView.RunsToOne, Single.repeated}
-use Rattle.bpaf_exact.proofs.ProgramForm.{record_law, whole_law, runs_exactly}
-use Rattle.bpaf_exact.proofs.{Wrappers.alternative_single, Cuts.one_cut, Cuts.read_cut}
-use Rattle.bpaf_exact.proofs.{Cuts.one_take, Arguments.last_same, Commands.none_opens}
-use Rattle.bpaf_exact.proofs.Repeat.{own_nil}
-use Rattle.bpaf_text.specs.Named.{Named as Key, KeyWithValue}
+use Rattle.bpaf_exact.proofs.{ProgramForm.runs_exactly, Repeat.own_nil, Wrappers.alternative_single}
+use Rattle.bpaf_exact.proofs.{Arguments.last_same, ProgramForm.record_law, ProgramForm.whole_law}
+use Rattle.bpaf_exact.proofs.{Commands.none_opens, Cuts.one_cut, Cuts.one_take, Cuts.read_cut}
+use Rattle.bpaf_exact.specs.Leaves.{ArgumentValue, FlagValue, WordValue, argument_field, flag_field}
+use Rattle.bpaf_exact.specs.Leaves.{argument_group, argument_roles, flag_roles, key_field, word_by}
+use Rattle.bpaf_exact.specs.OneView.{Alike, HasOneView, LooksLike, OneGroup, RunsToOne, pair_view}
+use Rattle.bpaf_exact.specs.Pieces.{Cells, IsNamed, LinePiece, One, Roles, Two}
+use Rattle.bpaf_exact.specs.ProgramForm.{ProgramForm, alternative, before_commands, product, single}
+use Rattle.bpaf_exact.specs.ProgramForm.{FormLaw, commands, complete, program_closed, program_field}
+use Rattle.bpaf_exact.specs.ProgramForm.{completed, is_record, may_follow, program_both, program_if}
+use Rattle.bpaf_exact.specs.ProgramForm.{product_reading, program_alone, program_con, whole_program}
+use Rattle.bpaf_exact.specs.ProgramForm.{program_optional, program_value, whole_value}
+use Rattle.bpaf_exact.specs.Record.{Accepted, NoMemory, RecordValue, Refusal, RunAnswer, line_cells}
+use Rattle.bpaf_exact.specs.Single.{FrontOf, Gap, Groups, OwnList, SingleLaw, SingleValue, own_none}
+use Rattle.bpaf_exact.specs.Single.{Own, listed, listed_and_absent, only_absent, own_more, repeated}
+use Rattle.bpaf_exact.specs.Wrappers.{ClosedValue, Closure, FallbackValue, OptionalValue}
+use Rattle.bpaf_exact.specs.{Gathered.list_closure, Names.are_all_apart, Programs.OptionalCommands}
+use Rattle.bpaf_exact.specs.{Flat.FieldKind, Flat.FieldsLaw, Flat.FieldsReading, OneView.Respects}
+use Rattle.bpaf_exact.specs.{Flat.ByName, Flat.ReadOff, Flat.Variables, Record.IsExact}
 
 -- Closures.
 

@@ -1,28 +1,26 @@
 -- Positional words keep to the laws.
-use Rattle.std.proofs.Common.{◌≡◌, ℕ, Bool, true, false, List, [], ◌∷◌, Some, None, Ok, Err, refl}
-use Rattle.std.proofs.Common.{sym, ap, ◌∙◌, not, true≢false, if◌then◌else◌, option_and_then, take}
-use Rattle.std.proofs.Common.{Result, inl, inr}
+use Rattle.std.proofs.Common.{Bool, Err, List, None, Ok, Some, [], false, refl, sym, true, ◌∷◌, ◌≡◌}
+use Rattle.std.proofs.Common.{Result, if◌then◌else◌, not, option_and_then, take, true≢false, ℕ, ◌∙◌}
+use Rattle.std.proofs.Common.{ap, inl, inr}
 use Rattle.std.specs.Option.{option_map_or}
-use Rattle.bpaf_base.specs.declared.arg.Arg.TheVariants.{Word, PosWord}
-use Rattle.bpaf_base.specs.Items.{is_positional, word_text, item_text}
-use Rattle.bpaf_base.specs.declared.arg.Arg.{Arg}
-use Rattle.bpaf_line.specs.{declared.error.Error.Error, Situation.Situation, Taking.TakesText}
+use Rattle.bpaf_base.specs.declared.arg.Arg.TheVariants.{PosWord, Word}
+use Rattle.bpaf_base.specs.{Items.is_positional, Items.word_text, declared.arg.Arg.Arg}
+use Rattle.bpaf_base.specs.Items.{item_text}
 use Rattle.bpaf_line.proofs.Matches.{open_item_there}
-use Rattle.bpaf_exact.specs.Pieces.{Cells, Alone, LinePiece, One, Two, word_roles, pieces}
-use Rattle.bpaf_exact.specs.Flat.{cells, Steady, EachWord, OneWord, front, back}
-use Rattle.bpaf_exact.specs.Single.{Groups, FrontOf, gap_of, WordByWord}
-use Rattle.bpaf_exact.specs.Alternative.{TakesFirst, first_one, first_two, first_later}
-use Rattle.bpaf_exact.specs.Leaves.{WordEval, WordValue, word_by, word_fault, word_memory}
-use Rattle.bpaf_exact.specs.Leaves.{word_missing, word_passed, word_read}
-use Rattle.bpaf_exact.specs.{Flat.is_behind, Flat.Variables, Pieces.stands_behind, Single.SingleLaw}
-use Rattle.bpaf_exact.specs.ProgramForm.{FormLaw}
-use Rattle.bpaf_exact.proofs.Fronts.{back_more, back_one, each_front, front_more, front_one}
-use Rattle.bpaf_exact.proofs.Fronts.{front_nil, of_front_more, of_front_one}
-use Rattle.bpaf_exact.proofs.Matching.{match_of, ByTest, by_test, no_pieces, one_taken, FirstRead}
-use Rattle.bpaf_exact.proofs.Matching.{first_err, first_ok, none_missing, read_fault, read_first}
-use Rattle.bpaf_exact.proofs.Matching.{read_memory, read_none}
-use Rattle.bpaf_exact.proofs.{Places.take_steady, Cuts.never_two}
-use Rattle.bpaf_exact.proofs.Cells.{begin_at}
+use Rattle.bpaf_line.specs.{Situation.Situation, Taking.TakesText, declared.error.Error.Error}
+use Rattle.bpaf_exact.proofs.Matching.{ByTest, FirstRead, first_err, match_of, no_pieces, one_taken}
+use Rattle.bpaf_exact.proofs.Matching.{none_missing, read_fault, read_first, read_memory, read_none}
+use Rattle.bpaf_exact.proofs.{Fronts.of_front_more, Fronts.of_front_one, Places.take_steady}
+use Rattle.bpaf_exact.proofs.{Fronts.each_front, Fronts.front_more, Matching.first_ok}
+use Rattle.bpaf_exact.proofs.Fronts.{back_more, back_one, front_nil, front_one}
+use Rattle.bpaf_exact.proofs.{Cells.begin_at, Cuts.never_two, Matching.by_test}
+use Rattle.bpaf_exact.specs.Flat.{EachWord, OneWord, Steady, Variables, cells, front, is_behind}
+use Rattle.bpaf_exact.specs.Leaves.{WordValue, word_fault, word_memory, word_missing, word_passed}
+use Rattle.bpaf_exact.specs.Pieces.{Alone, Cells, LinePiece, One, pieces, stands_behind, word_roles}
+use Rattle.bpaf_exact.specs.Alternative.{TakesFirst, first_later, first_one}
+use Rattle.bpaf_exact.specs.{Alternative.first_two, ProgramForm.FormLaw, Single.WordByWord}
+use Rattle.bpaf_exact.specs.{Leaves.WordEval, Leaves.word_by, Leaves.word_read, Single.SingleLaw}
+use Rattle.bpaf_exact.specs.{Flat.back, Pieces.Two, Single.FrontOf, Single.Groups, Single.gap_of}
 
 -- the text and the side of a word are those of its item
 pub word_is : (w : Arg) (strict : Bool) (text : List ℕ) → word_text w ≡ Some (strict, text)

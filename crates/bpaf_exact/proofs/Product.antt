@@ -1,24 +1,21 @@
 -- A field before other fields: the laws of a product from those of its parts.
-use Rattle.std.proofs.Common.{◌≡◌, true, false, List, [], ◌∷◌, length, Some, Result, Ok, Err, refl}
-use Rattle.std.proofs.Common.{inl, inr, Bool, sym, ap, ◌∙◌, subst, if◌then◌else◌}
-use Rattle.bpaf_line.specs.{declared.error.Error.Error, Situation.Situation, Messages.is_memory}
-use Rattle.bpaf_laws.specs.{Product.BothOutcome, Product.joined, Spared.IsNotMemory}
-use Rattle.bpaf_laws.specs.Reading.{Outcome}
-use Rattle.bpaf_exact.specs.Pieces.{Cells, Foreign, Roles, LinePiece, is_own_role, is_own}
-use Rattle.bpaf_exact.specs.Pieces.{others, either, IsNamed, Apart, Cut, at_end}
-use Rattle.bpaf_exact.specs.Pieces.{passed, flag, argument, word, pieces, TakesPieces}
-use Rattle.bpaf_exact.specs.Flat.{cells, IsWholeIn, Steady, FieldKind, ByName, front, back, portion}
-use Rattle.bpaf_exact.specs.Flat.{left, keys, OwnItems, NoKeysLeft, FieldTook, FieldLaw, FieldsLaw}
-use Rattle.bpaf_exact.specs.Flat.{Before, FieldsReading, both_reading, class, OfMemory, HasValue}
-use Rattle.bpaf_exact.specs.Flat.{Variables}
+use Rattle.std.proofs.Common.{Err, List, Result, Some, [], false, inl, length, refl, true, ◌∷◌, ◌≡◌}
+use Rattle.std.proofs.Common.{Bool, Ok, ap, if◌then◌else◌, inr, subst, sym, ◌∙◌}
 use Rattle.bpaf_base.specs.declared.arg.Arg.{Arg}
-use Rattle.bpaf_exact.proofs.Cells.{either_right, value_foreign, word_foreign, nil_rest}
-use Rattle.bpaf_exact.proofs.Cells.{nil_foreign}
-use Rattle.bpaf_exact.proofs.Cells.{pieces_of_cut, others_foreign, put_back_some, take_some_from}
-use Rattle.bpaf_exact.proofs.Cells.{named_cuts}
-use Rattle.bpaf_exact.proofs.Cuts.{words_cut, words_of_cut, read_cut}
-use Rattle.bpaf_exact.proofs.{Classes.memory_class, Classes.not_memory, Cells.begin_at}
-use Rattle.bpaf_exact.proofs.Cuts.{read_off}
+use Rattle.bpaf_line.specs.{Messages.is_memory, Situation.Situation, declared.error.Error.Error}
+use Rattle.bpaf_laws.specs.{Product.BothOutcome, Reading.Outcome, Spared.IsNotMemory}
+use Rattle.bpaf_laws.specs.Product.{joined}
+use Rattle.bpaf_exact.proofs.Cells.{either_right, named_cuts, nil_rest, value_foreign, word_foreign}
+use Rattle.bpaf_exact.proofs.{Cells.others_foreign, Cells.take_some_from, Classes.memory_class}
+use Rattle.bpaf_exact.proofs.{Cells.pieces_of_cut, Cells.put_back_some, Classes.not_memory}
+use Rattle.bpaf_exact.proofs.{Cells.begin_at, Cells.nil_foreign, Cuts.words_cut, Cuts.words_of_cut}
+use Rattle.bpaf_exact.proofs.Cuts.{read_cut, read_off}
+use Rattle.bpaf_exact.specs.Flat.{ByName, FieldKind, IsWholeIn, Steady, back, cells, front, portion}
+use Rattle.bpaf_exact.specs.Flat.{Before, FieldLaw, FieldsReading, NoKeysLeft, OwnItems, keys, left}
+use Rattle.bpaf_exact.specs.Flat.{FieldTook, FieldsLaw, HasValue, OfMemory, Variables, both_reading}
+use Rattle.bpaf_exact.specs.Pieces.{Cells, Foreign, IsNamed, LinePiece, is_own, is_own_role, others}
+use Rattle.bpaf_exact.specs.Pieces.{Apart, Cut, Roles, argument, at_end, either, flag, passed, word}
+use Rattle.bpaf_exact.specs.{Flat.class, Pieces.TakesPieces, Pieces.pieces}
 
 -- what isn't taken stays in the scope
 pub none_outside_after : {env : Variables} {s t : Situation} → IsWholeIn env s → Steady s t

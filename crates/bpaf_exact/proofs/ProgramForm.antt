@@ -1,46 +1,44 @@
 -- Each parser keeps to the laws of its form to a program, where its inner parsers do.
-use Rattle.std.proofs.Common.{◌≡◌, ℕ, Bool, true, false, not, ◌&&◌, List, [], ◌∷◌, ◌++◌, Option}
-use Rattle.std.proofs.Common.{Some, None, refl, sym, ap, ◌∙◌, bytes_eq, true≢false}
-use Rattle.std.proofs.lemmas.Bool.{and_parts, false_from_ne_true}
-use Rattle.std.proofs.{Common.append-nil, lemmas.Slice.Eq.bytes_eq-Decides}
-use Rattle.std.specs.{Option.option_map_or, List.list_all}
+use Rattle.std.proofs.Common.{Bool, List, None, Some, [], false, not, true, ℕ, ◌&&◌, ◌++◌, ◌∷◌, ◌≡◌}
+use Rattle.std.proofs.{Common.sym, lemmas.Bool.false_from_ne_true, lemmas.Slice.Eq.bytes_eq-Decides}
+use Rattle.std.proofs.{Common.append-nil, Common.bytes_eq, Common.true≢false, lemmas.Bool.and_parts}
+use Rattle.std.proofs.Common.{Option, ap, refl, ◌∙◌}
+use Rattle.std.specs.{List.list_all, Option.option_map_or}
 use Rattle.bpaf_doc.specs.Names.{Names}
 use Rattle.bpaf_base.specs.{Items.command_word, Items.is_command_word, declared.arg.Arg.Arg}
 use Rattle.bpaf_line.specs.Situation.{Context, beginning}
-use Rattle.bpaf_laws.specs.Command.{Called, is_one_of, opening_words}
-use Rattle.bpaf_laws.specs.{Product.BothOutcome, Product.ProductOutcome, Choice.ChoiceOutcome}
-use Rattle.bpaf_laws.specs.{Repeat.LastOutcome, Reading.Outcome}
-use Rattle.bpaf_exact.specs.Flat.{ErrorClass, Refused, FieldKind, ByName, Before, FieldLaw}
-use Rattle.bpaf_exact.specs.Flat.{FieldsLaw, both_reading, cells, keys, Variables}
-use Rattle.bpaf_exact.specs.Single.{RepeatOutcome, repeated, Groups, Gap, SingleLaw, OwnList}
-use Rattle.bpaf_exact.specs.Wrappers.{Closure, Decides, map_closure, ClosedEval, OptionalEval}
-use Rattle.bpaf_exact.specs.Wrappers.{ClosedValue, FallbackEval, FallbackValue}
-use Rattle.bpaf_exact.specs.ProgramForm.{ProgramForm, no_program, alternative, single, complete}
-use Rattle.bpaf_exact.specs.ProgramForm.{product, commands, before_commands, NamedLaw, EndLaw}
-use Rattle.bpaf_exact.specs.ProgramForm.{FormLaw, Agrees, program_if, program_closed}
-use Rattle.bpaf_exact.specs.ProgramForm.{program_dressed, completed, program_optional}
-use Rattle.bpaf_exact.specs.ProgramForm.{are_words_apart, program_choice, choice_only}
-use Rattle.bpaf_exact.specs.ProgramForm.{program_field, may_follow, is_named, program_both}
-use Rattle.bpaf_exact.specs.ProgramForm.{program_alone, program_con, whole_program, program_value}
-use Rattle.bpaf_exact.specs.ProgramForm.{is_program, is_record, program_command, product_roles}
-use Rattle.bpaf_exact.specs.ProgramForm.{product_reading, whole_value}
-use Rattle.bpaf_exact.specs.Programs.{CellsValue, ProgramLaw, CommandEval, are_plain, WordsApart}
-use Rattle.bpaf_exact.specs.Record.{line_cells, RunAnswer, Accepted, RunRan, IsAcceptedOrWant}
-use Rattle.bpaf_exact.specs.Pieces.{Roles, no_roles, either, LinePiece}
-use Rattle.bpaf_exact.specs.{Gathered.some_closure, Gathered.LastOf, Programs.IsSpelledLine}
-use Rattle.bpaf_exact.specs.{Names.Owns, Names.are_all_apart, Record.last_reading}
-use Rattle.bpaf_exact.specs.Theorem.{RunsExactly}
-use Rattle.bpaf_exact.proofs.Wrappers.{alternative_single, closed_alternative, closed_single}
-use Rattle.bpaf_exact.proofs.Wrappers.{closed_law, single_law, optional_law, fallback_law}
-use Rattle.bpaf_exact.proofs.Records.{named_both_law, named_con_law, named_last_law, con_law}
-use Rattle.bpaf_exact.proofs.Commands.{closed_program, closed_commands, optional_commands}
-use Rattle.bpaf_exact.proofs.Names.{foreign_of, apart_of_names, either_owns, both_hold}
-use Rattle.bpaf_exact.proofs.BeforeCommands.{before_law, con_program}
-use Rattle.bpaf_exact.proofs.Narrow.{AllowsNoMore, narrower}
-use Rattle.bpaf_exact.proofs.Repeat.{repeat_law, some_agrees_on, last_of_law}
-use Rattle.bpaf_exact.proofs.Exact.{exact, run_sound, all_whole, run_complete, first_cells_are}
-use Rattle.bpaf_exact.proofs.{Programs.command_law, Programs.record_program, Choice.choice_law}
-use Rattle.bpaf_exact.proofs.{Commands.choice_commands, Records.last_law, Product.both_law}
+use Rattle.bpaf_laws.specs.{Choice.ChoiceOutcome, Command.opening_words, Product.ProductOutcome}
+use Rattle.bpaf_laws.specs.{Command.is_one_of, Product.BothOutcome, Repeat.LastOutcome}
+use Rattle.bpaf_laws.specs.{Command.Called, Reading.Outcome}
+use Rattle.bpaf_exact.proofs.Commands.{choice_commands, closed_commands, optional_commands}
+use Rattle.bpaf_exact.proofs.Records.{last_law, named_both_law, named_con_law, named_last_law}
+use Rattle.bpaf_exact.proofs.Wrappers.{alternative_single, closed_law, closed_single, optional_law}
+use Rattle.bpaf_exact.proofs.{BeforeCommands.con_program, Wrappers.closed_alternative}
+use Rattle.bpaf_exact.proofs.{BeforeCommands.before_law, Choice.choice_law, Commands.closed_program}
+use Rattle.bpaf_exact.proofs.{Exact.first_cells_are, Programs.record_program, Repeat.some_agrees_on}
+use Rattle.bpaf_exact.proofs.{Names.apart_of_names, Programs.command_law, Wrappers.fallback_law}
+use Rattle.bpaf_exact.proofs.{Exact.run_complete, Narrow.AllowsNoMore, Wrappers.single_law}
+use Rattle.bpaf_exact.proofs.{Exact.exact, Names.either_owns, Repeat.last_of_law, Repeat.repeat_law}
+use Rattle.bpaf_exact.proofs.{Exact.all_whole, Exact.run_sound, Names.foreign_of, Product.both_law}
+use Rattle.bpaf_exact.proofs.{Names.both_hold, Narrow.narrower, Records.con_law}
+use Rattle.bpaf_exact.specs.Flat.{ErrorClass, FieldKind, FieldLaw, FieldsLaw, Refused, both_reading}
+use Rattle.bpaf_exact.specs.ProgramForm.{ProgramForm, before_commands, complete, no_program, single}
+use Rattle.bpaf_exact.specs.ProgramForm.{Agrees, EndLaw, alternative, commands, product, program_if}
+use Rattle.bpaf_exact.specs.ProgramForm.{FormLaw, program_closed, program_dressed, program_optional}
+use Rattle.bpaf_exact.specs.ProgramForm.{are_words_apart, may_follow, program_choice, program_field}
+use Rattle.bpaf_exact.specs.ProgramForm.{NamedLaw, completed, is_named, program_alone, program_both}
+use Rattle.bpaf_exact.specs.ProgramForm.{choice_only, program_command, program_value, whole_program}
+use Rattle.bpaf_exact.specs.ProgramForm.{product_reading, product_roles, program_con, whole_value}
+use Rattle.bpaf_exact.specs.Programs.{CellsValue, CommandEval, IsSpelledLine, ProgramLaw, are_plain}
+use Rattle.bpaf_exact.specs.Record.{Accepted, IsAcceptedOrWant, RunAnswer, last_reading, line_cells}
+use Rattle.bpaf_exact.specs.Wrappers.{ClosedValue, Closure, FallbackEval, OptionalEval, map_closure}
+use Rattle.bpaf_exact.specs.{Gathered.some_closure, ProgramForm.is_program, Wrappers.FallbackValue}
+use Rattle.bpaf_exact.specs.{Names.are_all_apart, ProgramForm.is_record, Single.RepeatOutcome}
+use Rattle.bpaf_exact.specs.{Programs.WordsApart, Theorem.RunsExactly, Wrappers.ClosedEval}
+use Rattle.bpaf_exact.specs.{Gathered.LastOf, Pieces.LinePiece, Single.SingleLaw, Wrappers.Decides}
+use Rattle.bpaf_exact.specs.{Flat.Variables, Pieces.no_roles, Single.OwnList, Single.repeated}
+use Rattle.bpaf_exact.specs.{Flat.ByName, Pieces.Roles, Pieces.either, Record.RunRan, Single.Groups}
+use Rattle.bpaf_exact.specs.{Flat.Before, Flat.cells, Flat.keys, Names.Owns, Single.Gap}
 
 -- where a test holds
 if_law : (env : Variables) {T : Type 0} (outcome : Outcome T) (names : List Names)

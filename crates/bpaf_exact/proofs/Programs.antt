@@ -1,34 +1,33 @@
 -- A command over a program keeps to the laws of commands, and a named field before them to those of
 -- a program.
-use Rattle.std.proofs.Common.{◌≡◌, ◌≤◌, ◌<◌, ℕ, zero, suc, true, false, not, ◌&&◌, List, [], ◌∷◌}
-use Rattle.std.proofs.Common.{length, Option, Some, None, Ok, Err, refl, sym, ap, ◌∙◌, subst}
-use Rattle.std.proofs.Common.{inl, inr, ⊎_elim, arith, true≢false, if◌then◌else◌, bytes_eq}
-use Rattle.std.proofs.lemmas.Bool.{cases_lt, cases_Bool, false_from_ne_true}
-use Rattle.std.proofs.{lemmas.Slice.Eq.bytes_eq-Decides, lemmas.Bool.Decides.nat_tests}
-use Rattle.std.proofs.lemmas.List.{length_push}
-use Rattle.std.specs.{Option.option_map_or, List.list_any}
-use Rattle.bpaf_base.specs.declared.arg.Arg.TheVariants.{Short, Long}
-use Rattle.bpaf_base.specs.{declared.arg.Arg.Arg, Items.any_item}
-use Rattle.bpaf_line.specs.Situation.{Situation, in_scope, is_taken, item_at}
-use Rattle.bpaf_line.specs.{declared.error.Error.Error, Taking.open_item}
-use Rattle.bpaf_line.proofs.Places.{open_in_scope, taken_here, taken_other, taken_stays}
-use Rattle.bpaf_line.proofs.Matches.{match_is_open, open_item_there}
-use Rattle.bpaf_laws.specs.Command.{Called, IsNotOpened, IsOpenedAt, inside, is_one_of}
-use Rattle.bpaf_laws.specs.{Command.opening_words, Reading.Outcome, Choice.depth}
-use Rattle.bpaf_exact.specs.Flat.{cells, first_cells, IsWholeIn, FieldsLaw}
-use Rattle.bpaf_exact.specs.Programs.{CellsValue, Opens, opens_here, opens_later, OpensNone}
-use Rattle.bpaf_exact.specs.Programs.{is_dashed, is_spelled, IsSpelledLine, AllSpelled, no_cell}
-use Rattle.bpaf_exact.specs.Programs.{empty_cell, spelled_cell, are_plain, CommandValue, ProgramLaw}
-use Rattle.bpaf_exact.specs.Programs.{FindsNoCommand, CommandsLaw, CommandEval, command_value}
-use Rattle.bpaf_exact.specs.Programs.{command_leftover, command_refused, command_missing}
-use Rattle.bpaf_exact.specs.Pieces.{Cells, Roles, pieces, IsNamed, is_key, Alone, One}
-use Rattle.bpaf_exact.specs.Alternative.{TakesFirst, NotOwn, first_one, first_later}
-use Rattle.bpaf_exact.specs.Flat.{FieldsReading, OfMemory, ReadOff, Variables, class}
-use Rattle.bpaf_exact.specs.Programs.{command_memory, ProgramTook}
-use Rattle.bpaf_exact.proofs.Places.{same_item, closed_item, TakenOne, take_one}
-use Rattle.bpaf_exact.proofs.{Records.count_none, Product.no_own_in_cut}
-use Rattle.bpaf_exact.proofs.{Choice.HasItem, Choice.has_item, Counts.open_present, Names.both_hold}
-use Rattle.bpaf_exact.proofs.{Matching.match_of, Cells.begin_at, Cuts.read_cut}
+use Rattle.std.proofs.Common.{List, [], false, length, not, suc, true, zero, ℕ, ◌&&◌, ◌<◌, ◌≡◌, ◌≤◌}
+use Rattle.std.proofs.Common.{Err, None, Ok, Option, Some, ap, inl, inr, refl, subst, sym, ◌∙◌, ◌∷◌}
+use Rattle.std.proofs.{lemmas.Bool.false_from_ne_true, lemmas.Slice.Eq.bytes_eq-Decides}
+use Rattle.std.proofs.{Common.if◌then◌else◌, lemmas.Bool.Decides.nat_tests, lemmas.List.length_push}
+use Rattle.std.proofs.{Common.true≢false, lemmas.Bool.cases_Bool, lemmas.Bool.cases_lt}
+use Rattle.std.proofs.Common.{arith, bytes_eq, ⊎_elim}
+use Rattle.std.specs.{List.list_any, Option.option_map_or}
+use Rattle.bpaf_base.specs.declared.arg.Arg.TheVariants.{Long, Short}
+use Rattle.bpaf_base.specs.{Items.any_item, declared.arg.Arg.Arg}
+use Rattle.bpaf_line.proofs.{Matches.match_is_open, Matches.open_item_there, Places.open_in_scope}
+use Rattle.bpaf_line.proofs.Places.{taken_here, taken_other, taken_stays}
+use Rattle.bpaf_line.specs.{Situation.Situation, Situation.in_scope, declared.error.Error.Error}
+use Rattle.bpaf_line.specs.{Situation.is_taken, Situation.item_at, Taking.open_item}
+use Rattle.bpaf_laws.specs.Command.{Called, IsNotOpened, IsOpenedAt, is_one_of, opening_words}
+use Rattle.bpaf_laws.specs.{Choice.depth, Command.inside, Reading.Outcome}
+use Rattle.bpaf_exact.proofs.{Counts.open_present, Places.closed_item, Product.no_own_in_cut}
+use Rattle.bpaf_exact.proofs.{Matching.match_of, Places.same_item, Records.count_none}
+use Rattle.bpaf_exact.proofs.{Choice.has_item, Names.both_hold, Places.TakenOne, Places.take_one}
+use Rattle.bpaf_exact.proofs.{Cells.begin_at, Choice.HasItem, Cuts.read_cut}
+use Rattle.bpaf_exact.specs.Flat.{FieldsLaw, FieldsReading, IsWholeIn, OfMemory, cells, first_cells}
+use Rattle.bpaf_exact.specs.Pieces.{Alone, Cells, IsNamed, One, Roles, is_key, pieces}
+use Rattle.bpaf_exact.specs.Programs.{CellsValue, IsSpelledLine, OpensNone, opens_here, opens_later}
+use Rattle.bpaf_exact.specs.Programs.{AllSpelled, Opens, empty_cell, is_dashed, is_spelled, no_cell}
+use Rattle.bpaf_exact.specs.Programs.{CommandEval, CommandsLaw, ProgramLaw, are_plain, spelled_cell}
+use Rattle.bpaf_exact.specs.Programs.{CommandValue, FindsNoCommand, command_leftover, command_value}
+use Rattle.bpaf_exact.specs.Programs.{ProgramTook, command_memory, command_missing, command_refused}
+use Rattle.bpaf_exact.specs.Alternative.{TakesFirst, first_later, first_one}
+use Rattle.bpaf_exact.specs.{Alternative.NotOwn, Flat.ReadOff, Flat.Variables, Flat.class}
 
 -- A command's word on cells.
 

@@ -1,13 +1,12 @@
 -- A kept value is a field that takes no piece.
-use Rattle.std.proofs.Common.{List, [], None, refl}
-use Rattle.bpaf_laws.specs.{Default.GivesClone, Pure.PureOutcome}
+use Rattle.std.proofs.Common.{List, None, [], refl}
 use Rattle.bpaf_doc.specs.Names.{Names}
-use Rattle.bpaf_exact.specs.Flat.{ByName, cells, Variables}
-use Rattle.bpaf_exact.specs.Pieces.{LinePiece, takes_none}
-use Rattle.bpaf_exact.specs.{Says.Says, Says.of_kind, ProgramForm.FormLaw, Leaves.pure_field}
-use Rattle.bpaf_exact.proofs.Records.{none_of_nobody, current_cells, same_steady}
-use Rattle.bpaf_exact.proofs.{Classes.memory_class, ProgramForm.no_names, Product.steady_refl}
 use Rattle.bpaf_line.specs.Situation.{with_current}
+use Rattle.bpaf_laws.specs.{Default.GivesClone, Pure.PureOutcome}
+use Rattle.bpaf_exact.proofs.{Classes.memory_class, Records.current_cells, Records.none_of_nobody}
+use Rattle.bpaf_exact.proofs.{Product.steady_refl, ProgramForm.no_names, Records.same_steady}
+use Rattle.bpaf_exact.specs.{Flat.ByName, Leaves.pure_field, Pieces.takes_none, ProgramForm.FormLaw}
+use Rattle.bpaf_exact.specs.{Flat.Variables, Flat.cells, Pieces.LinePiece, Says.Says, Says.of_kind}
 
 module _ (T : Type 0) (clones : T → T → Type 0) (kept : T) where
   -- what it stands for

@@ -1,25 +1,24 @@
 -- The last field of a product, and its constructor; and that a product of named fields keeps to the
 -- laws of a named field, so it may stand in another product.
-use Rattle.std.proofs.Common.{◌≡◌, List, [], ◌∷◌, Some, None, refl, sym, ap, ◌∙◌, arith, true, false}
-use Rattle.std.proofs.Common.{ap₂, if◌then◌else◌, not, Bool, filter}
-use Rattle.bpaf_line.specs.Situation.{Situation, with_current}
-use Rattle.bpaf_laws.specs.{Product.ProductOutcome, Product.BothOutcome, Reading.Outcome}
-use Rattle.bpaf_exact.specs.Pieces.{Cells, Roles, Role, Foreign, LinePiece, IsNamed, Cut, either}
-use Rattle.bpaf_exact.specs.Pieces.{no_roles, pieces, Alone, Apart, One, TakesPieces}
-use Rattle.bpaf_exact.specs.Pieces.{WithNext, begin_piece, is_own_role, mine, others, takes_more}
-use Rattle.bpaf_exact.specs.Flat.{cells, NonePresent, no_place, none_here, Steady, Keeps, class}
-use Rattle.bpaf_exact.specs.Flat.{FieldKind, ByName, keys, FieldTook, FieldLaw, FieldsLaw}
-use Rattle.bpaf_exact.specs.Flat.{Before, ErrorClass, FieldsReading, HasValue, portion, front}
-use Rattle.bpaf_exact.specs.{Pieces.takes_none, Pieces.with_next, Pieces.is_own, Flat.both_reading}
-use Rattle.bpaf_exact.specs.{Wrappers.map_closure, Wrappers.ClosedValue, Single.present_count}
-use Rattle.bpaf_exact.specs.{Record.last_reading, Flat.Variables}
-use Rattle.bpaf_exact.proofs.Product.{step_back, none_left, own_portion, step_on, refused_both}
-use Rattle.bpaf_exact.proofs.Product.{none_outside_after, steady_trans, values_of_both, both_named}
-use Rattle.bpaf_exact.proofs.First.{Belongs, Union, belongs, both_nil, either_union, own_next}
-use Rattle.bpaf_exact.proofs.First.{swap_union, takes_left, to_first, to_none, to_second}
-use Rattle.bpaf_exact.proofs.{Cuts.empty_cut, Cuts.cut_empty, Cuts.read_off, First.union_named}
-use Rattle.bpaf_exact.proofs.{Cells.keeps_other_some, Cells.begin_at, Repeat.some_trans}
+use Rattle.std.proofs.Common.{List, None, Some, [], ap, ap₂, arith, false, refl, sym, ◌∙◌, ◌∷◌, ◌≡◌}
+use Rattle.std.proofs.Common.{Bool, filter, if◌then◌else◌, not, true}
 use Rattle.bpaf_base.specs.declared.arg.Arg.{Arg}
+use Rattle.bpaf_line.specs.Situation.{Situation, with_current}
+use Rattle.bpaf_laws.specs.{Product.BothOutcome, Product.ProductOutcome, Reading.Outcome}
+use Rattle.bpaf_exact.proofs.First.{Union, both_nil, either_union, own_next, swap_union, takes_left}
+use Rattle.bpaf_exact.proofs.First.{Belongs, belongs, to_first, to_none, to_second, union_named}
+use Rattle.bpaf_exact.proofs.Product.{none_left, own_portion, refused_both, steady_trans, step_back}
+use Rattle.bpaf_exact.proofs.{Cells.keeps_other_some, Product.none_outside_after, Repeat.some_trans}
+use Rattle.bpaf_exact.proofs.Product.{both_named, step_on, values_of_both}
+use Rattle.bpaf_exact.proofs.{Cells.begin_at, Cuts.cut_empty, Cuts.empty_cut, Cuts.read_off}
+use Rattle.bpaf_exact.specs.Flat.{FieldKind, Keeps, NonePresent, Steady, cells, no_place, none_here}
+use Rattle.bpaf_exact.specs.Flat.{Before, ByName, ErrorClass, FieldLaw, FieldTook, FieldsLaw, class}
+use Rattle.bpaf_exact.specs.Flat.{FieldsReading, HasValue, Variables, both_reading, front, portion}
+use Rattle.bpaf_exact.specs.Pieces.{Cells, Cut, Foreign, IsNamed, LinePiece, Role, either, no_roles}
+use Rattle.bpaf_exact.specs.Pieces.{Alone, Apart, Roles, TakesPieces, WithNext, begin_piece, pieces}
+use Rattle.bpaf_exact.specs.Pieces.{One, is_own, is_own_role, mine, others, takes_more, takes_none}
+use Rattle.bpaf_exact.specs.{Single.present_count, Wrappers.ClosedValue, Wrappers.map_closure}
+use Rattle.bpaf_exact.specs.{Flat.keys, Pieces.with_next, Record.last_reading}
 
 -- Nothing is present where the count is nought.
 pub none_counted : (cs : Cells) → present_count cs ≡ 0 → NonePresent cs

@@ -1,26 +1,24 @@
 -- Repeats of a field that keeps to the laws of one evaluation, and what `some` and `last` make of
 -- one.
-use Rattle.std.proofs.Common.{◌≡◌, ◌<◌, ◌≤◌, Bool, true, false, List, [], ◌∷◌, None, Ok, Err, refl}
-use Rattle.std.proofs.Common.{sym, ap, ◌∙◌, subst, arith, inl, inr, ◌⊎◌, true≢false, ◌++◌}
+use Rattle.std.proofs.Common.{Bool, Err, List, None, [], false, refl, sym, true, ◌<◌, ◌∷◌, ◌≡◌, ◌≤◌}
+use Rattle.std.proofs.Common.{Ok, ap, arith, inl, inr, subst, true≢false, ◌++◌, ◌∙◌, ◌⊎◌}
 use Rattle.bpaf_line.specs.{Situation.Situation, Situation.open_count, declared.error.Error.Error}
-use Rattle.bpaf_laws.specs.Repeat.{Turns, stops, rests, is_nil, LastOutcome, UntilRest}
-use Rattle.bpaf_laws.specs.{Turn.TurnOutcome, Reading.Outcome}
-use Rattle.bpaf_exact.specs.Pieces.{Cells, Roles, LinePiece, pieces, TakesPieces, takes_none}
-use Rattle.bpaf_exact.specs.Flat.{OfMemory, OfMissing, class, cells, IsWholeIn, Steady, FieldKind}
-use Rattle.bpaf_exact.specs.Flat.{ByName, OneWord, EachWord, front, back, OwnItems, FieldLaw}
-use Rattle.bpaf_exact.specs.Single.{Groups, Own, own_none, own_more, TakesAny, Readable, Gap}
-use Rattle.bpaf_exact.specs.Single.{TookGroup, SingleOk, gave_absent, took, SingleErr, of_memory}
-use Rattle.bpaf_exact.specs.Single.{of_missing, of_absent, of_piece, SingleLaw, OwnList, listed}
-use Rattle.bpaf_exact.specs.Single.{listed_and_absent, only_absent, repeated, Stops, nothing_found}
-use Rattle.bpaf_exact.specs.Single.{caught, CanCatch, catch_missing, catch_other, RepeatOutcome}
-use Rattle.bpaf_exact.specs.{Flat.Variables, Flat.FieldTook, Pieces.takes_more}
-use Rattle.bpaf_exact.specs.Flat.{ErrorClass}
-use Rattle.bpaf_exact.specs.{Single.ReadsWords, Single.present_count, Wrappers.AgreesOn}
-use Rattle.bpaf_exact.specs.Gathered.{some_closure, LastOf}
-use Rattle.bpaf_exact.proofs.Classes.{memory_class, stops_at, goes_on}
-use Rattle.bpaf_exact.proofs.Fronts.{back_all, each_nil, nil_each, no_keys_left, never_nil}
-use Rattle.bpaf_exact.proofs.Product.{none_outside_after, steady_refl, steady_trans}
-use Rattle.bpaf_exact.proofs.Counts.{open_present, takes_any_fewer}
+use Rattle.bpaf_laws.specs.{Reading.Outcome, Repeat.LastOutcome, Repeat.UntilRest, Turn.TurnOutcome}
+use Rattle.bpaf_laws.specs.Repeat.{Turns, is_nil, rests, stops}
+use Rattle.bpaf_exact.proofs.{Classes.stops_at, Counts.takes_any_fewer, Product.none_outside_after}
+use Rattle.bpaf_exact.proofs.{Classes.memory_class, Counts.open_present, Product.steady_trans}
+use Rattle.bpaf_exact.proofs.{Fronts.never_nil, Fronts.no_keys_left, Product.steady_refl}
+use Rattle.bpaf_exact.proofs.{Classes.goes_on, Fronts.back_all, Fronts.each_nil, Fronts.nil_each}
+use Rattle.bpaf_exact.specs.Flat.{FieldKind, IsWholeIn, OfMemory, OfMissing, OneWord, Steady, class}
+use Rattle.bpaf_exact.specs.Flat.{ByName, EachWord, FieldLaw, FieldTook, OwnItems, Variables, cells}
+use Rattle.bpaf_exact.specs.Pieces.{Cells, LinePiece, TakesPieces, pieces, takes_more, takes_none}
+use Rattle.bpaf_exact.specs.Single.{Groups, Readable, TakesAny, TookGroup, own_more, own_none, took}
+use Rattle.bpaf_exact.specs.Single.{Gap, Own, SingleErr, SingleOk, of_absent, of_memory, of_missing}
+use Rattle.bpaf_exact.specs.Single.{OwnList, SingleLaw, gave_absent, listed_and_absent, only_absent}
+use Rattle.bpaf_exact.specs.Single.{Stops, catch_missing, listed, nothing_found, of_piece, repeated}
+use Rattle.bpaf_exact.specs.Single.{CanCatch, ReadsWords, RepeatOutcome, catch_other, present_count}
+use Rattle.bpaf_exact.specs.{Flat.ErrorClass, Flat.front, Gathered.some_closure, Wrappers.AgreesOn}
+use Rattle.bpaf_exact.specs.{Flat.back, Gathered.LastOf, Pieces.Roles, Single.caught}
 
 -- one piece at least is some
 pub any_some : {q : Roles} {cs ds : Cells} → TakesAny q cs ds → TakesPieces q cs ds

@@ -1,40 +1,38 @@
 -- The value of each flat field says of its pieces what its parser says.
-use Rattle.std.proofs.Common.{◌≡◌, ℕ, Bool, true, false, List, [], ◌∷◌, ◌++◌, Option, Some, None}
-use Rattle.std.proofs.Common.{◌&&◌, ◌||◌, not, refl, sym, ap, ◌∙◌, subst, append-nil, inl, inr}
+use Rattle.std.proofs.Common.{Bool, List, None, Option, Some, [], false, true, ◌&&◌, ◌++◌, ◌∷◌, ◌≡◌}
+use Rattle.std.proofs.Common.{ap, append-nil, inl, inr, not, refl, subst, sym, ℕ, ◌||◌, ◌∙◌}
+use Rattle.std.specs.{Option.IsSomeRelated, Option.is_none, Prelude.MatchBool}
 use Rattle.bpaf_doc.specs.Names.{Names}
-use Rattle.bpaf_exact.specs.Pieces.{Roles, LinePiece, One, Two, is_own, mine, others, either}
-use Rattle.bpaf_exact.specs.Flat.{FieldKind, ByName, OneWord, FieldsReading, keys, front, back}
-use Rattle.bpaf_exact.specs.Single.{Groups, Gap, FrontOf, Own, own_none, own_more, OwnList, listed}
-use Rattle.bpaf_exact.specs.Single.{listed_and_absent, only_absent, SingleValue, gap_of, repeated}
-use Rattle.bpaf_exact.specs.Wrappers.{Closure, OptionalValue, FallbackValue}
-use Rattle.bpaf_exact.specs.Leaves.{flag_field, flag_roles, FlagValue, argument_field}
-use Rattle.bpaf_exact.specs.Leaves.{argument_group, argument_roles, key_field, ArgumentValue}
-use Rattle.bpaf_exact.specs.ProgramForm.{ProgramForm, FormLaw, no_program, alternative, single}
-use Rattle.bpaf_exact.specs.ProgramForm.{complete, product, commands, before_commands, program_if}
-use Rattle.bpaf_exact.specs.ProgramForm.{program_closed, program_choice, completed}
-use Rattle.bpaf_exact.specs.ProgramForm.{program_optional, program_field, is_named, may_follow}
-use Rattle.bpaf_exact.specs.ProgramForm.{program_both, program_alone, program_con, whole_program}
-use Rattle.bpaf_exact.specs.Says.{SaidKind, form_kind, of_kind, keyed, repeated_kind, AllOwn, Fits}
-use Rattle.bpaf_exact.specs.Says.{Said, FlagSays, says_present, says_absent, says_variable}
-use Rattle.bpaf_exact.specs.Says.{ArgumentSays, says_variable_text, says_text, says_last_text}
-use Rattle.bpaf_exact.specs.Says.{WordSays, EitherSays, says_this, says_that, MadeSays}
-use Rattle.bpaf_exact.specs.Says.{OptionalSays, says_some, says_none, FallbackSays, says_own}
-use Rattle.bpaf_exact.specs.Says.{says_kept, FrontSays, RepeatSays, says_in_turn, says_alone}
-use Rattle.bpaf_exact.specs.Says.{FieldsSaid, RecordSays, FormSays, Says, FieldsFormSays}
-use Rattle.bpaf_exact.specs.{Says.FieldsSay, Says.its_pieces, Says.words_after, Record.last_reading}
-use Rattle.bpaf_exact.specs.{Flat.both_reading, Flat.Variables, Leaves.WordValue, Leaves.word_by}
-use Rattle.bpaf_exact.specs.{Names.Owns, Names.are_all_apart, Alternative.either_value}
-use Rattle.bpaf_exact.specs.{Pieces.no_roles}
-use Rattle.bpaf_laws.specs.{Flag.value_without_key, Environment.first_set, Reading.Outcome}
+use Rattle.bpaf_text.specs.Named.{KeyWithValue, Named as Key}
+use Rattle.bpaf_laws.specs.{Environment.first_set, Flag.value_without_key, Reading.Outcome}
 use Rattle.bpaf_laws.specs.Repeat.{is_nil}
-use Rattle.std.specs.{Option.is_none, Option.IsSomeRelated, Prelude.MatchBool}
-use Rattle.bpaf_exact.proofs.Sharing.{mine_rest, others_fit, others_rest, rest_fit, apart_none}
-use Rattle.bpaf_exact.proofs.Sharing.{each_own, first_fits, no_fits, own_fit, second_fits}
-use Rattle.bpaf_exact.proofs.Sharing.{mine_keyed, others_unkeyed, mine_within, first_within}
-use Rattle.bpaf_exact.proofs.Sharing.{second_within, mine_of_others, mine_none, others_none}
-use Rattle.bpaf_exact.proofs.Sharing.{all_mine, others_both, none_behind}
-use Rattle.bpaf_exact.proofs.{Fronts.all_front, Fronts.never_nil, Names.apart_of_names}
-use Rattle.bpaf_text.specs.Named.{Named as Key, KeyWithValue}
+use Rattle.bpaf_exact.proofs.Sharing.{apart_none, mine_rest, no_fits, others_fit, own_fit, rest_fit}
+use Rattle.bpaf_exact.proofs.Sharing.{each_own, first_fits, mine_keyed, others_rest, others_unkeyed}
+use Rattle.bpaf_exact.proofs.Sharing.{all_mine, first_within, mine_none, second_fits, second_within}
+use Rattle.bpaf_exact.proofs.{Names.apart_of_names, Sharing.mine_of_others, Sharing.mine_within}
+use Rattle.bpaf_exact.proofs.Sharing.{none_behind, others_both, others_none}
+use Rattle.bpaf_exact.proofs.Fronts.{all_front, never_nil}
+use Rattle.bpaf_exact.specs.Flat.{ByName, FieldKind, FieldsReading, back, both_reading, front, keys}
+use Rattle.bpaf_exact.specs.Leaves.{ArgumentValue, FlagValue, argument_field, flag_field, key_field}
+use Rattle.bpaf_exact.specs.Pieces.{LinePiece, One, Roles, either, is_own, mine, no_roles, others}
+use Rattle.bpaf_exact.specs.ProgramForm.{FormLaw, ProgramForm, alternative, before_commands, single}
+use Rattle.bpaf_exact.specs.ProgramForm.{commands, complete, no_program, program_closed, program_if}
+use Rattle.bpaf_exact.specs.ProgramForm.{completed, program_choice, program_field, program_optional}
+use Rattle.bpaf_exact.specs.ProgramForm.{is_named, may_follow, product, program_alone, program_both}
+use Rattle.bpaf_exact.specs.Says.{AllOwn, Fits, FlagSays, SaidKind, form_kind, keyed, repeated_kind}
+use Rattle.bpaf_exact.specs.Says.{ArgumentSays, Said, says_absent, says_present, says_variable_text}
+use Rattle.bpaf_exact.specs.Says.{WordSays, of_kind, says_text, says_that, says_this, says_variable}
+use Rattle.bpaf_exact.specs.Says.{EitherSays, FallbackSays, OptionalSays, says_last_text, says_some}
+use Rattle.bpaf_exact.specs.Says.{FrontSays, MadeSays, says_in_turn, says_kept, says_none, says_own}
+use Rattle.bpaf_exact.specs.Says.{FieldsFormSays, FieldsSay, FormSays, RepeatSays, Says, says_alone}
+use Rattle.bpaf_exact.specs.Single.{FrontOf, Gap, Groups, Own, OwnList, listed_and_absent, own_none}
+use Rattle.bpaf_exact.specs.Single.{SingleValue, gap_of, listed, only_absent, own_more, repeated}
+use Rattle.bpaf_exact.specs.{Alternative.either_value, Leaves.flag_roles, ProgramForm.whole_program}
+use Rattle.bpaf_exact.specs.{Leaves.argument_group, ProgramForm.program_con, Wrappers.OptionalValue}
+use Rattle.bpaf_exact.specs.{Leaves.argument_roles, Names.are_all_apart, Wrappers.FallbackValue}
+use Rattle.bpaf_exact.specs.{Flat.OneWord, Leaves.WordValue, Record.last_reading, Says.words_after}
+use Rattle.bpaf_exact.specs.{Says.FieldsSaid, Says.RecordSays, Says.its_pieces, Wrappers.Closure}
+use Rattle.bpaf_exact.specs.{Flat.Variables, Leaves.word_by, Names.Owns, Pieces.Two}
 
 -- Leaves.
 

@@ -1,31 +1,30 @@
 -- Closures, optional and fallback keep to the laws; alternatives are fields, and closures round
 -- them and round single fields are such.
-use Rattle.std.proofs.Common.{◌≡◌, false, List, [], Option, Some, None, Ok, Err, refl, sym, ap, ◌∙◌}
-use Rattle.std.proofs.Common.{subst, inl, inr, ◌∷◌, ◌⊎◌, ⊎_elim}
-use Rattle.bpaf_line.specs.{declared.error.Error.Error, Situation.Situation}
+use Rattle.std.proofs.Common.{Err, List, None, Ok, Option, Some, [], ap, false, refl, sym, ◌∙◌, ◌≡◌}
+use Rattle.std.proofs.Common.{inl, inr, subst, ⊎_elim, ◌∷◌, ◌⊎◌}
+use Rattle.std.specs.Option.{IsSomeRelated, is_some}
+use Rattle.bpaf_line.specs.{Situation.Situation, declared.error.Error.Error}
 use Rattle.bpaf_laws.specs.Reading.{Outcome}
-use Rattle.bpaf_exact.specs.Flat.{ErrorClass, OfMemory, OfMissing, class, cells, IsWholeIn}
-use Rattle.bpaf_exact.specs.Flat.{FieldKind, ByName, OneWord, EachWord, front, back, NoKeysLeft}
-use Rattle.bpaf_exact.specs.Flat.{FieldTook, FieldLaw, Variables, Refused, Steady, Keeps}
-use Rattle.bpaf_exact.specs.Single.{Groups, Own, own_none, Readable, Gap, SingleOk, gave_absent}
-use Rattle.bpaf_exact.specs.Single.{took, SingleErr, of_memory, of_missing, of_absent, of_piece}
-use Rattle.bpaf_exact.specs.Single.{ReadsWords, SingleLaw, SingleValue, CanCatch, FrontOf, own_more}
-use Rattle.bpaf_exact.specs.Single.{gap_of, TookGroup, catch_missing}
-use Rattle.bpaf_exact.specs.Wrappers.{Closure, Decides, AgreesOn, ClosedEval, closed_yes, closed_no}
-use Rattle.bpaf_exact.specs.Wrappers.{closed_memory, closed_err, ClosedValue, OptionalEval}
-use Rattle.bpaf_exact.specs.Wrappers.{optional_some, optional_none, optional_err, optional_memory}
-use Rattle.bpaf_exact.specs.Wrappers.{OptionalValue, FallbackEval, fallback_ok, fallback_given}
-use Rattle.bpaf_exact.specs.Wrappers.{fallback_no, fallback_memory, fallback_err, FallbackValue}
-use Rattle.bpaf_exact.specs.Pieces.{Roles, LinePiece, pieces, takes_none}
-use Rattle.bpaf_exact.specs.Alternative.{TakesFirst, HasBad, bad_here, bad_later, AlternativeOk}
-use Rattle.bpaf_exact.specs.Alternative.{AlternativeErr, alternative_memory, alternative_missing}
-use Rattle.bpaf_exact.specs.Alternative.{alternative_refused, AlternativeLaw}
-use Rattle.bpaf_exact.specs.Wrappers.{closed_gap}
-use Rattle.bpaf_exact.proofs.Repeat.{any_some, same_takes, catch_none, stopped_by, stops_by}
-use Rattle.bpaf_exact.proofs.First.{first_pieces, first_takes, takes_nonempty, bad_given_back}
-use Rattle.bpaf_exact.proofs.{Fronts.back_all, Fronts.no_keys_left, Product.steady_refl}
-use Rattle.bpaf_exact.proofs.First.{bad_nonempty}
-use Rattle.std.specs.Option.{is_some, IsSomeRelated}
+use Rattle.bpaf_exact.proofs.{First.bad_given_back, First.takes_nonempty, Fronts.no_keys_left}
+use Rattle.bpaf_exact.proofs.{First.bad_nonempty, First.first_pieces, Product.steady_refl}
+use Rattle.bpaf_exact.proofs.{First.first_takes, Repeat.catch_none, Repeat.same_takes}
+use Rattle.bpaf_exact.proofs.{Fronts.back_all, Repeat.any_some, Repeat.stopped_by, Repeat.stops_by}
+use Rattle.bpaf_exact.specs.Alternative.{AlternativeErr, AlternativeOk, HasBad, bad_here, bad_later}
+use Rattle.bpaf_exact.specs.Flat.{ByName, ErrorClass, FieldKind, IsWholeIn, OfMissing, cells, class}
+use Rattle.bpaf_exact.specs.Flat.{EachWord, FieldTook, NoKeysLeft, OfMemory, Variables, back, front}
+use Rattle.bpaf_exact.specs.Single.{Gap, Groups, Own, Readable, SingleErr, SingleOk, own_none, took}
+use Rattle.bpaf_exact.specs.Single.{CanCatch, SingleLaw, of_absent, of_memory, of_missing, of_piece}
+use Rattle.bpaf_exact.specs.Single.{FrontOf, ReadsWords, SingleValue, gap_of, gave_absent, own_more}
+use Rattle.bpaf_exact.specs.Wrappers.{AgreesOn, ClosedEval, Closure, Decides, closed_no, closed_yes}
+use Rattle.bpaf_exact.specs.Wrappers.{closed_memory, fallback_given, optional_memory, optional_some}
+use Rattle.bpaf_exact.specs.Wrappers.{ClosedValue, closed_err, closed_gap, fallback_no, fallback_ok}
+use Rattle.bpaf_exact.specs.Wrappers.{FallbackValue, OptionalValue, fallback_memory, optional_none}
+use Rattle.bpaf_exact.specs.Alternative.{alternative_missing, alternative_refused}
+use Rattle.bpaf_exact.specs.{Alternative.AlternativeLaw, Alternative.alternative_memory, Flat.Keeps}
+use Rattle.bpaf_exact.specs.{Alternative.TakesFirst, Wrappers.OptionalEval, Wrappers.optional_err}
+use Rattle.bpaf_exact.specs.{Single.catch_missing, Wrappers.FallbackEval, Wrappers.fallback_err}
+use Rattle.bpaf_exact.specs.{Flat.FieldLaw, Pieces.LinePiece, Pieces.takes_none, Single.TookGroup}
+use Rattle.bpaf_exact.specs.{Flat.OneWord, Flat.Refused, Flat.Steady, Pieces.Roles, Pieces.pieces}
 
 -- what a closure makes of an outcome keeps to what follows of each answer inside
 pub closed_keeps : {env : Variables} {A B : Type 0} {inner : Outcome A} {f : Closure A B}

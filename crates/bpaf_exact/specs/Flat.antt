@@ -1,17 +1,16 @@
 -- What a flat field keeps to when it is evaluated: its answer and what it takes depend on its own
 -- pieces alone.
-use Rattle.std.specs.Prelude.{◌≡◌, ◌<◌, ℕ, zero, suc, Bool, true, false, List, [], ◌∷◌, length}
-use Rattle.std.specs.Prelude.{Option, None, Ok, Err, if◌then◌else◌, not, take, drop, filter}
-use Rattle.std.specs.List.{before_first}
-use Rattle.bpaf_line.specs.declared.error.Message.TheVariants.{Missing}
-use Rattle.bpaf_line.specs.Situation.{Situation, is_taken}
-use Rattle.bpaf_line.specs.{declared.error.Error.Error, declared.error.Message.Message}
-use Rattle.bpaf_line.specs.{Messages.is_memory, Messages.can_catch, Taking.open_item}
+use Rattle.std.specs.Prelude.{Bool, List, Option, [], false, length, suc, true, zero, ◌<◌, ◌∷◌, ◌≡◌}
+use Rattle.std.specs.{List.before_first, Prelude.None, Prelude.filter, Prelude.if◌then◌else◌}
+use Rattle.std.specs.Prelude.{Err, Ok, drop, not, take, ℕ}
+use Rattle.bpaf_base.specs.{Items.is_positional, declared.arg.Arg.Arg}
+use Rattle.bpaf_line.specs.{declared.error.Error.Error, declared.error.Message.TheVariants.Missing}
+use Rattle.bpaf_line.specs.{Messages.is_memory, Situation.Situation, declared.error.Message.Message}
+use Rattle.bpaf_line.specs.{Messages.can_catch, Situation.is_taken, Taking.open_item}
 use Rattle.bpaf_laws.specs.Reading.{Outcome}
-use Rattle.bpaf_exact.specs.Pieces.{Cells, Roles, Foreign, LinePiece, One, Two, is_own, no_roles}
-use Rattle.bpaf_exact.specs.Pieces.{stands_behind, word_roles, IsNamed, Apart, Cut, pieces}
-use Rattle.bpaf_exact.specs.Pieces.{TakesPieces, Takes, either, roles_of, Alone}
-use Rattle.bpaf_base.specs.{declared.arg.Arg.Arg, Items.is_positional}
+use Rattle.bpaf_exact.specs.Pieces.{Cells, Foreign, LinePiece, One, is_own, no_roles, stands_behind}
+use Rattle.bpaf_exact.specs.Pieces.{Apart, Cut, IsNamed, Roles, Takes, TakesPieces, Two, word_roles}
+use Rattle.bpaf_exact.specs.Pieces.{Alone, either, pieces, roles_of}
 
 -- the classes of refusals
 pub data ErrorClass : Type 0 where

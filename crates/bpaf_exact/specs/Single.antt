@@ -1,15 +1,14 @@
 -- A flat field without a repeat or default: one evaluation, and what repeats and defaults make of
 -- it.
-use Rattle.std.specs.Prelude.{◌≡◌, ℕ, suc, Bool, true, false, List, [], ◌∷◌, Option, Some, None, Ok}
-use Rattle.std.specs.Prelude.{Err, is_some, ◌⊎◌}
-use Rattle.std.specs.Option.{IsSomeRelated}
-use Rattle.bpaf_line.specs.{declared.error.Error.Error, Situation.Situation, Situation.open_count}
+use Rattle.std.specs.Prelude.{Bool, List, None, Ok, Option, Some, [], false, suc, true, ℕ, ◌∷◌, ◌≡◌}
+use Rattle.std.specs.{Option.IsSomeRelated, Prelude.Err, Prelude.is_some, Prelude.◌⊎◌}
+use Rattle.bpaf_line.specs.{Situation.Situation, Situation.open_count, declared.error.Error.Error}
+use Rattle.bpaf_laws.specs.Repeat.{ListOutcome, UntilFault, UntilRest}
 use Rattle.bpaf_laws.specs.Reading.{Outcome}
-use Rattle.bpaf_laws.specs.Repeat.{ListOutcome, UntilRest, UntilFault}
-use Rattle.bpaf_exact.specs.Pieces.{Cells, Roles, LinePiece, pieces, TakesPiece, TakesPieces}
-use Rattle.bpaf_exact.specs.Flat.{ErrorClass, OfMemory, OfMissing, Caught, Refused, class, cells}
-use Rattle.bpaf_exact.specs.Flat.{Steady, FieldKind, ByName, OneWord, EachWord, front, back}
-use Rattle.bpaf_exact.specs.Flat.{OwnItems, Variables, Keeps}
+use Rattle.bpaf_exact.specs.Flat.{ErrorClass, FieldKind, OfMemory, OfMissing, Refused, cells, class}
+use Rattle.bpaf_exact.specs.Pieces.{Cells, LinePiece, Roles, TakesPiece, TakesPieces, pieces}
+use Rattle.bpaf_exact.specs.Flat.{EachWord, OneWord, OwnItems, Variables, front}
+use Rattle.bpaf_exact.specs.Flat.{ByName, Caught, Keeps, Steady, back}
 
 -- how one evaluation reads a value off the front of the own pieces, and which it leaves
 abbrev pub Groups : Type 0 → Type 1
