@@ -15,19 +15,19 @@ use Rattle.bpaf_laws.proofs.ChoiceLaws.{chosen_at_equal, not_winner}
 use Rattle.bpaf_laws.specs.Choice.{BranchesEval, ChoiceOutcome, EqualDepths, Winner, branch_of}
 use Rattle.bpaf_laws.specs.{Choice.OneOk, Reading.Outcome, Spared.IsNotMemory, Turn.is_untouched}
 use Rattle.bpaf_exact.proofs.Classes.{combined_missing, combined_refused, memory_class, not_memory}
-use Rattle.bpaf_exact.proofs.First.{bad_given_back, bad_left, either_union, swap_union, union_named}
-use Rattle.bpaf_exact.proofs.First.{HeadOf, TookLeft, both_nil, first_alone, first_mine, takes_left}
-use Rattle.bpaf_exact.proofs.First.{Union, first_both, left_here, left_later, never_same, not_left}
+use Rattle.bpaf_exact.proofs.First.{HeadOf, TookLeft, both_nil, first_mine, swap_union, union_named}
+use Rattle.bpaf_exact.proofs.First.{either_union, left_here, left_later, takes_left, takes_nonempty}
 use Rattle.bpaf_exact.proofs.{Counts.open_present, Product.none_outside_after, Product.steady_trans}
-use Rattle.bpaf_exact.proofs.{Counts.takes_fewer, Places.closed_item, Product.steady_refl}
-use Rattle.bpaf_exact.proofs.{Cells.keeps_other, First.owner, Places.same_cells, Places.same_item}
-use Rattle.bpaf_exact.specs.Alternative.{AlternativeErr, AlternativeOk, HasBad, alternative_missing}
+use Rattle.bpaf_exact.proofs.{Counts.takes_fewer, Product.steady_refl, Records.mine_of_both}
+use Rattle.bpaf_exact.proofs.{First.Union, Places.closed_item, Places.same_cells}
+use Rattle.bpaf_exact.proofs.{First.never_same, First.not_left, First.owner, Places.same_item}
+use Rattle.bpaf_exact.specs.Alternative.{AlternativeErr, AlternativeOk, alternative_missing}
+use Rattle.bpaf_exact.specs.Alternative.{FirstUnread, TakesFirst, alternative_refused, either_value}
 use Rattle.bpaf_exact.specs.Flat.{ErrorClass, IsWholeIn, OfMemory, OfMissing, Refused, cells, class}
 use Rattle.bpaf_exact.specs.Pieces.{Cells, LinePiece, One, Two, either, is_own, is_own_role, pieces}
 use Rattle.bpaf_exact.specs.Pieces.{Apart, Roles, TakesPiece, takes_later, takes_one, takes_two}
-use Rattle.bpaf_exact.specs.Alternative.{alternative_memory, alternative_refused}
-use Rattle.bpaf_exact.specs.{Alternative.AlternativeLaw, Alternative.either_value, Flat.first_cells}
-use Rattle.bpaf_exact.specs.{Alternative.TakesFirst, Flat.Steady, Flat.Variables}
+use Rattle.bpaf_exact.specs.Alternative.{AlternativeLaw, alternative_memory}
+use Rattle.bpaf_exact.specs.{Flat.Steady, Flat.Variables, Flat.first_cells, Pieces.mine}
 
 -- the same scope of the same line
 pub record SameScope (m n : Situation) : Type 0 where
@@ -134,62 +134,64 @@ takes_own (takes_later t) = takes_own t
 
 -- what the other branch did
 data Other (T : Type 0) (qb : Roles) (vb : LinePiece → T → Type 0) (cs cm : Cells) : Type 0 where
-  other_took : {cn : Cells} {ob : LinePiece} → TakesPiece qb cs ob cn → TookLeft cm cn
-      → TakesFirst qb cs ob cn ⊎ HasBad T vb (pieces qb cn)
-      → ((o : LinePiece) (os : List LinePiece) (w : T) → pieces qb cs ≡ o ∷ os → vb o w
-      → TakesFirst qb cs ob cn) → Other T qb vb cs cm
-  other_missing : pieces qb cs ≡ [] → Other T qb vb cs cm
-  other_refused : HasBad T vb (pieces qb cs)
-      → ((o : LinePiece) (os : List LinePiece) (w : T) → pieces qb cs ≡ o ∷ os → vb o w → ⊥)
+  other_first : {cn : Cells} {ob : LinePiece} → TakesFirst qb cs ob cn → TookLeft cm cn
       → Other T qb vb cs cm
+  other_missing : pieces qb cs ≡ [] → Other T qb vb cs cm
+  other_unread : FirstUnread T qb vb cs → Other T qb vb cs cm
+
+-- where one has a piece so have both
+some_both : {p q r : Roles} {T : Type 0} {v : LinePiece → T → Type 0} → Union p q r → (cs : Cells)
+    → FirstUnread T p v cs → pieces r cs ≡ [] → ⊥
+some_both {p} u cs z e =
+    let none : pieces p cs ≡ [] = sym (mine_of_both u cs) ∙ ap (mine p) e in
+    let some = z.2 in
+    cc
+
+-- the first of some pieces
+some_head : (os : List LinePiece) → (os ≡ [] → ⊥)
+    → (o : LinePiece) × (rest : List LinePiece) × (os ≡ o ∷ rest)
+some_head [] some = absurd (some refl)
+some_head (o ∷ os) some = (o, os, refl)
+
+-- a first piece that its owner can't read can't be read
+head_unread : {T : Type 0} (q : Roles) {v vr : LinePiece → T → Type 0} (cs : Cells) {o : LinePiece}
+    → ((o : LinePiece) (w : T) → is_own q o ≡ true → vr o w ≡ v o w) → HeadOf q cs o
+    → FirstUnread T q v cs → (w : T) → vr o w → ⊥
+head_unread q cs {o} same h z w y =
+    let d : o ∷ h.0 ≡ z.0 ∷ z.1 = sym h.1 ∙ z.2 in
+    let e : o ≡ z.0 = cc in
+    z.3 w (rw (← e, ← same o w h.2) y)
 
 module _ (T : Type 0) {qa qb r : Roles} (u : Union qa qb r) (va : LinePiece → T → Type 0)
     {vb : LinePiece → T → Type 0} (vr : LinePiece → T → Type 0)
     (same_a : (o : LinePiece) (v : T) → is_own qa o ≡ true → vr o v ≡ va o v)
     (same_b : (o : LinePiece) (v : T) → is_own qb o ≡ true → vr o v ≡ vb o v) where
-  -- a piece of the other branch that can't be read stays one
-  kept_bad : {cs cm : Cells} {oa : LinePiece} → TakesPiece qa cs oa cm → HasBad T vb (pieces qb cs)
-      → HasBad T vr (pieces r cm)
-  kept_bad {cm} t h =
-      bad_left T vb vr (swap_union u) same_b cm
-      (rw (keeps_other u.named_left u.named_right u.apart t) h)
-
-  -- the winner took the first piece of both, or one that can't be read stays
-  won_first : {cs cm : Cells} {oa : LinePiece} → TakesPiece qa cs oa cm → Other T qb vb cs cm
-      → TakesFirst qa cs oa cm ⊎ HasBad T va (pieces qa cm)
-      → TakesFirst r cs oa cm ⊎ HasBad T vr (pieces r cm)
-  won_first {cm} t o (inr h) = inr (bad_left T va vr u same_a cm h)
-  won_first t (other_took tb l (inl f) rb) (inl h) = inl (first_both u h f l)
-  won_first t (other_took tb l (inr f) rb) (inl h) =
-      inr (kept_bad t (bad_given_back u.named_right tb f))
-  won_first t (other_missing e) (inl h) = inl (first_alone u e h)
-  won_first t (other_refused b n) (inl h) = inr (kept_bad t b)
-
-  -- where the first piece of both can be read, the winner took it
-  won_readable : {cs cm : Cells} {oa : LinePiece} → TakesPiece qa cs oa cm → Other T qb vb cs cm
-      → ((o : LinePiece) (os : List LinePiece) (w : T) → pieces qa cs ≡ o ∷ os → va o w → TakesFirst
-      qa cs oa cm) → (o : LinePiece) {os : List LinePiece} (w : T) → pieces r cs ≡ o ∷ os → vr o w
-      → TakesFirst r cs oa cm
-  won_readable {cs} {cm} {oa} t other ra o w e v = by_owner (owner cs u e) other
+  -- the winner took the first piece of both, or that can't be read
+  won_first : {cs cm : Cells} {oa o : LinePiece} {os : List LinePiece} → pieces r cs ≡ o ∷ os
+      → TakesPiece qa cs oa cm → Other T qb vb cs cm
+      → TakesFirst qa cs oa cm ⊎ FirstUnread T qa va cs
+      → TakesFirst r cs oa cm ⊎ FirstUnread T r vr cs
+  won_first {cs} {cm} {oa} {o} {os} e t other first = by_owner (owner cs u e) other
     where
-      by_owner : HeadOf qa cs o ⊎ HeadOf qb cs o → Other T qb vb cs cm → TakesFirst r cs oa cm
-      by_owner (inl h) x = first_mine u e h.2 (ra o h.0 w h.1 (rw (← same_a o w h.2) v))
-      by_owner (inr h) (other_took tb l f rb) =
-          absurd (not_left u e h.2 t (rb o h.0 w h.1 (rw (← same_b o w h.2) v)) l)
-      by_owner (inr h) (other_missing n) = let i = h.1 in absurd cc
-      by_owner (inr h) (other_refused b n) = absurd (n o h.0 w h.1 (rw (← same_b o w h.2) v))
+      by_owner : HeadOf qa cs o ⊎ HeadOf qb cs o → Other T qb vb cs cm
+          → TakesFirst r cs oa cm ⊎ FirstUnread T r vr cs
+      by_owner (inl h) x = ⊎_elim (λ f. inl (first_mine u e h.2 f))
+          (λ z. inr (o, os, e, head_unread qa cs same_a h z)) first
+      by_owner (inr h) (other_first f l) = absurd (not_left u e h.2 t f l)
+      by_owner (inr h) (other_missing none) = let i = h.1 in absurd cc
+      by_owner (inr h) (other_unread z) = inr (o, os, e, head_unread qb cs same_b h z)
 
   -- the winner's value is one of the choice
   won : {s m t : Situation} {x : T} → AlternativeOk T qa va s x m
       → Other T qb vb (cells s) (cells m) → Steady m t → cells t ≡ cells m
       → AlternativeOk T r vr s x t
-  won {x} a o st e = record {
+  won {s} {x} a o st e = record {
     steady = steady_trans a.steady st;
     piece = a.piece;
     takes = rw e (takes_left u a.takes);
     means = rw (same_a a.piece x (takes_own a.takes)) a.means;
-    first = rw e (won_first a.takes o a.first);
-    readable = λ p ps w h v. rw e (won_readable a.takes o a.readable p w h v);
+    first = rw e (won_first
+        (some_head (pieces r (cells s)) (takes_nonempty (takes_left u a.takes))).2 a.takes o a.first);
   }
 
 module _ {env : Variables} (T : Type 0) (a b : Outcome T) (qa qb : Roles)
@@ -233,14 +235,19 @@ module _ {env : Variables} (T : Type 0) (a b : Outcome T) (qa qb : Roles)
       → is_memory e.0 ≡ false → AlternativeErr T q v s (class e) n → Other T q v (cells s) cm
   err_other e h (alternative_memory c) = absurd (not_memory e.0 h c)
   err_other e h (alternative_missing c p same st) = other_missing p
-  err_other e h (alternative_refused c p b g) = other_refused b g
+  err_other e h (alternative_refused c p z) = other_unread z
+
+  -- or took something further right
+  ok_other : {q : Roles} {v : LinePiece → T → Type 0} {s n : Situation} {x : T} {cm : Cells}
+      → AlternativeOk T q v s x n → TookLeft cm (cells n) → Other T q v (cells s) cm
+  ok_other j l = ⊎_elim (λ f. other_first f l) (λ z. other_unread z) j.first
 
   -- both branches leave the path as it was
   err_path : {q : Roles} {v : LinePiece → T → Type 0} {s n : Situation} (e : Error)
       → is_memory e.0 ≡ false → AlternativeErr T q v s (class e) n → n.path ≡ s.path
   err_path e h (alternative_memory c) = absurd (not_memory e.0 h c)
   err_path e h (alternative_missing c p same st) = st.path
-  err_path e h (alternative_refused c p b g) = p
+  err_path e h (alternative_refused c p z) = p
 
   -- an alternative leaves the path as it was
   law_path : {z : Outcome T} {q : Roles} {v : LinePiece → T → Type 0} → AlternativeLaw env T z q v
@@ -278,14 +285,14 @@ module _ {env : Variables} (T : Type 0) (a b : Outcome T) (qa qb : Roles)
       let d : x ≡ v = cc in
       let free = not-true (is_taken sb p) (sym win.0.differs ∙ win.1) in
       rw (← d) (first_won i
-      (other_took j.takes (left_of w i.steady j.steady win.1 free win.0.first) j.first j.readable)
+      (ok_other j (left_of w i.steady j.steady win.1 free win.0.first))
       (saved_steady sb k.1) (cells_same (same_scope (saved_steady sb k.1)) k.1.taken))
   winner_ok {sa} {sb} {y} v (false, Some p) w i j win k =
       let d : y ≡ v = cc in
       let here = not-false (is_taken sb p) (sym win.0.differs ∙ win.1) in
       rw (← d) (second_won j
-      (other_took i.takes (left_of w j.steady i.steady here win.1 (λ q l. sym (win.0.first q l)))
-      i.first i.readable) (saved_steady sa k.1)
+      (ok_other i (left_of w j.steady i.steady here win.1 (λ q l. sym (win.0.first q l))))
+      (saved_steady sa k.1)
       (cells_same (same_scope (saved_steady sa k.1)) k.1.taken))
 
   -- the value of one, where the other refused
@@ -314,29 +321,23 @@ module _ {env : Variables} (T : Type 0) (a b : Outcome T) (qa qb : Roles)
       alone_ok (second_won (lb.keeps.ok s sb y w g) other steady_refl refl) o
   equal_ok s sa sb (Err e) (Err d) w f g hf hg o = let i = o.0.2 in absurd cc
 
-  -- both fail
-  first_bad : (cs : Cells) → HasBad T va (pieces qa cs) → HasBad T vr (pieces (either qa qb) cs)
-  first_bad cs h = bad_left T va vr u same_first cs h
-
-  -- the first piece can't be read
-  abbrev Unread : (q : Roles) (v : LinePiece → T → Type 0) (s : Situation) → Type 0
-  Unread q v s =
-      (o : LinePiece) (os : List LinePiece) (w : T) → pieces q (cells s) ≡ o ∷ os → v o w → ⊥
-
-  -- where neither first piece can be read, that of both can't
-  both_unread : (s : Situation) → Unread qa va s → Unread qb vb s → Unread (either qa qb) vr s
-  both_unread s f g o os w h x = by_owner (owner (cells s) u h)
+  -- where one can't read its first piece, and the other can't or has none, that of both can't be read
+  both_unread : (cs : Cells) → (pieces (either qa qb) cs ≡ [] → ⊥)
+      → (pieces qa cs ≡ []) ⊎ FirstUnread T qa va cs → (pieces qb cs ≡ []) ⊎ FirstUnread T qb vb cs
+      → FirstUnread T (either qa qb) vr cs
+  both_unread cs some f g =
+      let head = some_head (pieces (either qa qb) cs) some in
+      (head.0, head.1, head.2, by_owner (owner cs u head.2))
     where
-      by_owner : HeadOf qa (cells s) o ⊎ HeadOf qb (cells s) o → ⊥
-      by_owner (inl i) = f o i.0 w i.1 (rw (← same_first o w i.2) x)
-      by_owner (inr i) = g o i.0 w i.1 (rw (← same_second o w i.2) x)
+      by_owner : {o : LinePiece} → HeadOf qa cs o ⊎ HeadOf qb cs o → (w : T) → vr o w → ⊥
+      by_owner (inl h) = ⊎_elim (λ none. let i = h.1 in absurd cc) (head_unread qa cs same_first h) f
+      by_owner (inr h) = ⊎_elim (λ none. let i = h.1 in absurd cc) (head_unread qb cs same_second h) g
 
   -- with a refusal of either class
   by_class : {s : Situation} {c : ErrorClass} → (c ≡ OfMemory) ⊎ (c ≡ Refused)
-      → HasBad T vr (pieces (either qa qb) (cells s)) → Unread (either qa qb) vr s
-      → AlternativeErr T (either qa qb) vr s c s
-  by_class (inl c) h n = alternative_memory c
-  by_class (inr c) h n = alternative_refused c refl h n
+      → FirstUnread T (either qa qb) vr (cells s) → AlternativeErr T (either qa qb) vr s c s
+  by_class (inl c) z = alternative_memory c
+  by_class (inr c) z = alternative_refused c refl z
 
   -- where neither has a piece, the choice has none
   both_missing : {s : Situation} {c : ErrorClass} → (c ≡ OfMissing) ⊎ (c ≡ OfMemory)
@@ -352,15 +353,15 @@ module _ {env : Variables} (T : Type 0) (a b : Outcome T) (qa qb : Roles)
   both_failed s e f x y c i (alternative_memory q) = absurd (not_memory f.0 y q)
   both_failed s e f x y c (alternative_missing p i same st) (alternative_missing q j alike steady) =
       both_missing (combined_missing e.0 f.0 p q c) (both_nil (cells s) u i j)
-  both_failed s e f x y c (alternative_missing p i same st) (alternative_refused q path h k) =
+  both_failed s e f x y c (alternative_missing p i same st) (alternative_refused q path z) =
       by_class (combined_refused e.0 f.0 (inr q) (inl p) (inr q) c)
-      (bad_left T vb vr (swap_union u) same_second (cells s) h) (both_unread s (λ o os w e g. cc) k)
-  both_failed s e f x y c (alternative_refused p path h k) (alternative_missing q j same st) =
-      by_class (combined_refused e.0 f.0 (inl p) (inr p) (inl q) c) (first_bad (cells s) h)
-      (both_unread s k (λ o os w e g. cc))
-  both_failed s e f x y c (alternative_refused p path h k) (alternative_refused q other bad none) =
-      by_class (combined_refused e.0 f.0 (inl p) (inr p) (inr q) c) (first_bad (cells s) h)
-      (both_unread s k none)
+      (both_unread (cells s) (some_both (swap_union u) (cells s) z) (inl i) (inr z))
+  both_failed s e f x y c (alternative_refused p path z) (alternative_missing q j same st) =
+      by_class (combined_refused e.0 f.0 (inl p) (inr p) (inl q) c)
+      (both_unread (cells s) (some_both u (cells s) z) (inr z) (inl j))
+  both_failed s e f x y c (alternative_refused p path z) (alternative_refused q other i) =
+      by_class (combined_refused e.0 f.0 (inl p) (inr p) (inr q) c)
+      (both_unread (cells s) (some_both u (cells s) z) (inr z) (inr i))
 
   -- the value of one, where the other refused, is no refusal
   one_no_refusal : {q : Roles} {v : LinePiece → T → Type 0} {s m t : Situation} {x : T}

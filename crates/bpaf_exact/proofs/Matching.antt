@@ -18,15 +18,14 @@ use Rattle.bpaf_exact.proofs.Places.{BareHead, NoneBefore, bare_first, open_one,
 use Rattle.bpaf_exact.proofs.{Places.none_present, Product.steady_refl, Wrappers.took_front}
 use Rattle.bpaf_exact.proofs.{First.first_takes, Names.named_key, Places.open_two}
 use Rattle.bpaf_exact.specs.Alternative.{AlternativeErr, AlternativeOk, NotOwn, alternative_missing}
+use Rattle.bpaf_exact.specs.Alternative.{TakesFirst, alternative_memory, alternative_refused}
 use Rattle.bpaf_exact.specs.Flat.{ByName, Caught, FieldKind, OfMemory, OfMissing, Refused, class_of}
 use Rattle.bpaf_exact.specs.Pieces.{Alone, Foreign, LinePiece, One, Role, Roles, WithNext, is_value}
+use Rattle.bpaf_exact.specs.Pieces.{IsNamed, Two, is_key, is_own_role, pieces}
 use Rattle.bpaf_exact.specs.Single.{Gap, Groups, SingleErr, catch_missing, catch_other, gave_absent}
 use Rattle.bpaf_exact.specs.Single.{FrontOf, SingleOk, of_absent, of_memory, of_missing, of_piece}
-use Rattle.bpaf_exact.specs.Alternative.{alternative_memory, alternative_refused}
-use Rattle.bpaf_exact.specs.{Alternative.TakesFirst, Alternative.bad_here, ProgramForm.FormLaw}
-use Rattle.bpaf_exact.specs.{Flat.Variables, Leaves.key_field, Pieces.IsNamed, Pieces.is_own_role}
-use Rattle.bpaf_exact.specs.{Flat.Steady, Flat.class, Pieces.is_key, Pieces.pieces, Single.took}
-use Rattle.bpaf_exact.specs.{Flat.cells, Flat.front, Names.Owns, Pieces.Two}
+use Rattle.bpaf_exact.specs.{Flat.Steady, Flat.Variables, Leaves.key_field, ProgramForm.FormLaw}
+use Rattle.bpaf_exact.specs.{Flat.cells, Flat.class, Flat.front, Names.Owns, Single.took}
 
 -- the item of a match
 pub record Match (test : Arg → Bool) (s : Situation) (p : ℕ) : Type 0 where
@@ -255,16 +254,14 @@ module _ {T : Type 0} {q : Roles} {value : LinePiece → T → Type 0} {gap : Ga
     takes = first_takes f;
     means = y;
     first = inl f;
-    readable = λ p os w e g. f;
   }
   alternative_ok (read_none p (none_absent h a same st)) = absurd cc
 
   -- and so is a refusal, where without a piece an item is missing
   alternative_err : {e : Error} → (other → ⊥) → FirstRead T ByName q value gap other s (Err e) t
       → AlternativeErr T q value s (class e) t
-  alternative_err never (read_fault {o} c path is some none) =
-      alternative_refused c path (rw is (bad_here none))
-      (λ x xs w g m. let d : x ≡ o = (let k = sym is ∙ g in cc) in none w (rw (← d) m))
+  alternative_err never (read_fault {o} {os} c path is some none) =
+      alternative_refused c path (o, os, is, none)
   alternative_err never (read_none p (none_refused c h none)) = absurd cc
   alternative_err never (read_none p (none_missing (inl c) h same)) =
       rw (same c) (alternative_missing c p refl steady_refl)

@@ -5,11 +5,11 @@ use Rattle.std.proofs.Common.{inl, inr, subst, ⊎_elim, ◌∷◌, ◌⊎◌}
 use Rattle.std.specs.Option.{IsSomeRelated, is_some}
 use Rattle.bpaf_line.specs.{Situation.Situation, declared.error.Error.Error}
 use Rattle.bpaf_laws.specs.Reading.{Outcome}
-use Rattle.bpaf_exact.proofs.{First.bad_given_back, First.takes_nonempty, Fronts.no_keys_left}
-use Rattle.bpaf_exact.proofs.{First.bad_nonempty, First.first_pieces, Product.steady_refl}
-use Rattle.bpaf_exact.proofs.{First.first_takes, Repeat.catch_none, Repeat.same_takes}
-use Rattle.bpaf_exact.proofs.{Fronts.back_all, Repeat.any_some, Repeat.stopped_by, Repeat.stops_by}
+use Rattle.bpaf_exact.proofs.First.{first_pieces, first_takes, head_stays, takes_nonempty}
+use Rattle.bpaf_exact.proofs.Repeat.{any_some, catch_none, same_takes, stopped_by, stops_by}
+use Rattle.bpaf_exact.proofs.{Fronts.back_all, Fronts.no_keys_left, Product.steady_refl}
 use Rattle.bpaf_exact.specs.Alternative.{AlternativeErr, AlternativeOk, HasBad, bad_here, bad_later}
+use Rattle.bpaf_exact.specs.Alternative.{AlternativeLaw, alternative_missing, alternative_refused}
 use Rattle.bpaf_exact.specs.Flat.{ByName, ErrorClass, FieldKind, IsWholeIn, OfMissing, cells, class}
 use Rattle.bpaf_exact.specs.Flat.{EachWord, FieldTook, NoKeysLeft, OfMemory, Variables, back, front}
 use Rattle.bpaf_exact.specs.Single.{Gap, Groups, Own, Readable, SingleErr, SingleOk, own_none, took}
@@ -19,12 +19,11 @@ use Rattle.bpaf_exact.specs.Wrappers.{AgreesOn, ClosedEval, Closure, Decides, cl
 use Rattle.bpaf_exact.specs.Wrappers.{closed_memory, fallback_given, optional_memory, optional_some}
 use Rattle.bpaf_exact.specs.Wrappers.{ClosedValue, closed_err, closed_gap, fallback_no, fallback_ok}
 use Rattle.bpaf_exact.specs.Wrappers.{FallbackValue, OptionalValue, fallback_memory, optional_none}
-use Rattle.bpaf_exact.specs.Alternative.{alternative_missing, alternative_refused}
-use Rattle.bpaf_exact.specs.{Alternative.AlternativeLaw, Alternative.alternative_memory, Flat.Keeps}
-use Rattle.bpaf_exact.specs.{Alternative.TakesFirst, Wrappers.OptionalEval, Wrappers.optional_err}
-use Rattle.bpaf_exact.specs.{Single.catch_missing, Wrappers.FallbackEval, Wrappers.fallback_err}
-use Rattle.bpaf_exact.specs.{Flat.FieldLaw, Pieces.LinePiece, Pieces.takes_none, Single.TookGroup}
-use Rattle.bpaf_exact.specs.{Flat.OneWord, Flat.Refused, Flat.Steady, Pieces.Roles, Pieces.pieces}
+use Rattle.bpaf_exact.specs.Wrappers.{FallbackEval, OptionalEval, fallback_err, optional_err}
+use Rattle.bpaf_exact.specs.{Alternative.FirstUnread, Alternative.alternative_memory, Flat.FieldLaw}
+use Rattle.bpaf_exact.specs.{Alternative.TakesFirst, Pieces.takes_none, Single.catch_missing}
+use Rattle.bpaf_exact.specs.{Flat.OneWord, Pieces.LinePiece, Pieces.pieces, Single.TookGroup}
+use Rattle.bpaf_exact.specs.{Flat.Keeps, Flat.Refused, Flat.Steady, Pieces.Cells, Pieces.Roles}
 
 -- what a closure makes of an outcome keeps to what follows of each answer inside
 pub closed_keeps : {env : Variables} {A B : Type 0} {inner : Outcome A} {f : Closure A B}
@@ -299,11 +298,24 @@ module _ {env : Variables} {T : Type 0} {outcome : Outcome T} {q : Roles}
     {value : LinePiece → T → Type 0} (l : AlternativeLaw env T outcome q value) where
   -- its value is that of the first piece, where all others can be read
   alternative_reads : {s t : Situation} {v : T} (a : AlternativeOk T q value s v t)
-      → TakesFirst q (cells s) a.piece (cells t) ⊎ HasBad T value (pieces q (cells t))
+      → TakesFirst q (cells s) a.piece (cells t) ⊎ FirstUnread T q value (cells s)
       → (vs : List T) × Own T (FrontOf T value) (pieces q (cells t)) vs
       → FrontOf T value (pieces q (cells s)) v (pieces q (cells t))
   alternative_reads a (inl f) o = (a.piece, first_pieces q l.named f, a.means)
-  alternative_reads a (inr b) o = absurd (own_bad value b o.1)
+  alternative_reads {v} a (inr z) o =
+      let stays = head_stays l.named a.takes z.2 (λ e. z.3 v (rw (← e) a.means)) in
+      absurd (own_bad value (rw stays.1 (bad_here z.3)) o.1)
+
+  -- a first piece that can be read is the one that was taken
+  alternative_readable : {s t : Situation} {v : T} (a : AlternativeOk T q value s v t)
+      → TakesFirst q (cells s) a.piece (cells t) ⊎ FirstUnread T q value (cells s) → (w : T)
+      (rest : List LinePiece) → FrontOf T value (pieces q (cells s)) w rest
+      → FrontOf T value (pieces q (cells s)) v rest × (pieces q (cells t) ≡ rest)
+  alternative_readable a (inl f) w rest g = front_alone value (first_pieces q l.named f) a.means g
+  alternative_readable a (inr z) w rest g =
+      let d : z.0 ∷ z.1 ≡ g.0 ∷ rest = sym z.2 ∙ g.1 in
+      let e : g.0 ≡ z.0 = cc in
+      absurd (z.3 w (rw (← e) g.2))
 
   -- its refusal, as that of one evaluation
   alternative_err : {s t : Situation} {c : ErrorClass} → AlternativeErr T q value s c t
@@ -311,8 +323,10 @@ module _ {env : Variables} {T : Type 0} {outcome : Outcome T} {q : Roles}
   alternative_err (alternative_memory c) = of_memory c
   alternative_err (alternative_missing c p same st) =
       of_missing (catch_missing c) refl p (λ c. same)
-  alternative_err (alternative_refused c p b n) =
-      of_piece c (bad_nonempty b) (λ w rest g. n g.0 rest w g.1 g.2)
+  alternative_err (alternative_refused c p z) =
+      of_piece c (λ none. let d : z.0 ∷ z.1 ≡ [] = sym z.2 ∙ none in cc) (λ w rest g.
+      let d : z.0 ∷ z.1 ≡ g.0 ∷ rest = sym z.2 ∙ g.1 in
+      let e : g.0 ≡ z.0 = cc in z.3 w (rw (← e) g.2))
 
   -- so it keeps to the laws of one evaluation
   pub alternative_single : SingleLaw env T outcome ByName q (FrontOf T value) (gap_of value None)
@@ -329,9 +343,7 @@ module _ {env : Variables} {T : Type 0} {outcome : Outcome T} {q : Roles}
             takes = record { piece = a.piece; middle = cells t; one = a.takes; more = takes_none };
             found = takes_nonempty a.takes;
             read = alternative_reads a a.first;
-            readable = λ x rest g.
-                front_alone value (first_pieces q l.named (a.readable g.0 rest x g.1 g.2)) a.means
-                g;
+            readable = alternative_readable a a.first;
           });
       err = λ s t e w o. alternative_err (l.keeps.err s t e w o);
     };
@@ -342,29 +354,27 @@ module _ {env : Variables} {A B : Type 0} {inner : Outcome A} {q : Roles}
     {value : LinePiece → A → Type 0} (l : AlternativeLaw env A inner q value) {f : Closure A B}
     (agrees : (o : LinePiece) → AgreesOn (value o) f) where
   -- a piece that can't be read can't be read through a closure either
-  closed_bad : {os : List LinePiece} → HasBad A value os → HasBad B (ClosedValue value f) os
-  closed_bad (bad_here n) = bad_here (λ v c. n c.from c.read)
-  closed_bad (bad_later h) = bad_later (closed_bad h)
+  closed_unread : (cs : Cells) → FirstUnread A q value cs → FirstUnread B q (ClosedValue value f) cs
+  closed_unread cs z = (z.0, z.1, z.2, λ v c. z.3 c.from c.read)
 
-  -- nor can one whose value the closure refuses
-  refused_value : {x : A} {o : LinePiece} → value o x → f.no x → (v : B) → ClosedValue value f o v
-      → ⊥
-  refused_value {x} {o} g n v c = agrees o c.from x v c.read g c.made n
-
-  -- a value that the closure refuses is that of a piece which can't be read through it
-  no_bad : {s t : Situation} {x : A} (a : AlternativeOk A q value s x t) → f.no x
-      → TakesFirst q (cells s) a.piece (cells t) ⊎ HasBad A value (pieces q (cells t))
-      → HasBad B (ClosedValue value f) (pieces q (cells s))
-  no_bad a n (inl h) = rw (first_pieces q l.named h) (bad_here (refused_value a.means n))
-  no_bad a n (inr h) = closed_bad (bad_given_back l.named a.takes h)
+  -- where the closure refuses its value, the first piece can't be read through it
+  no_unread : {s t : Situation} {x : A} (a : AlternativeOk A q value s x t) → f.no x
+      → TakesFirst q (cells s) a.piece (cells t) ⊎ FirstUnread A q value (cells s)
+      → FirstUnread B q (ClosedValue value f) (cells s)
+  no_unread {t} a n (inl h) = (
+    a.piece,
+    pieces q (cells t),
+    first_pieces q l.named h,
+    λ v c. agrees a.piece c.from _ v c.read a.means c.made n,
+  )
+  no_unread {s} a n (inr z) = closed_unread (cells s) z
 
   -- an inner refusal is passed on
   err_closed : {s t : Situation} {c : ErrorClass} → AlternativeErr A q value s c t
       → AlternativeErr B q (ClosedValue value f) s c t
   err_closed (alternative_memory c) = alternative_memory c
   err_closed (alternative_missing c p same st) = alternative_missing c p same st
-  err_closed (alternative_refused c p b n) =
-      alternative_refused c p (closed_bad b) (λ o os v h g. n o os g.from h g.read)
+  err_closed {s} (alternative_refused c p z) = alternative_refused c p (closed_unread (cells s) z)
 
   -- a closure round an alternative is one
   pub closed_alternative : AlternativeLaw env B (ClosedEval A B inner f Refused) q
@@ -376,13 +386,8 @@ module _ {env : Variables} {A B : Type 0} {inner : Outcome A} {q : Roles}
       piece = a.piece;
       takes = a.takes;
       means = record { from = x; read = a.means; made = y };
-      first = ⊎_elim (λ h. inl h) (λ h. inr (closed_bad h)) a.first;
-      readable = λ o os u e c. a.readable o os c.from e c.read;
-    }) (λ s t x a n. alternative_refused refl a.steady.path (no_bad a n a.first) (λ o os v h g.
-        let p = first_pieces q l.named (a.readable o os g.from h g.read) in
-        let d : a.piece ∷ pieces q (cells t) ≡ o ∷ os = sym p ∙ h in
-        let r : o ≡ a.piece = cc in
-        refused_value a.means n v (rw (← r) g)))
+      first = ⊎_elim (λ h. inl h) (λ z. inr (closed_unread (cells s) z)) a.first;
+    }) (λ s t x a n. alternative_refused refl a.steady.path (no_unread a n a.first))
         (λ s t. alternative_memory refl) (λ s t c. err_closed);
   }
 

@@ -27,6 +27,11 @@ pub data HasBad (T : Type 0) (value : LinePiece → T → Type 0) : List LinePie
       → HasBad T value (o ∷ os)
   bad_later : {o : LinePiece} {os : List LinePiece} → HasBad T value os → HasBad T value (o ∷ os)
 
+-- the first piece can't be read
+abbrev pub FirstUnread : (T : Type 0) → Roles → (LinePiece → T → Type 0) → Cells → Type 0
+FirstUnread T q value cs =
+    (o : LinePiece) × (os : List LinePiece) × (pieces q cs ≡ o ∷ os) × ((w : T) → value o w → ⊥)
+
 -- an answer of an alternative: it took one own piece that has the value
 pub record AlternativeOk (T : Type 0) (q : Roles) (value : LinePiece → T → Type 0) (s : Situation)
     (v : T) (t : Situation) : Type 0 where
@@ -34,11 +39,8 @@ pub record AlternativeOk (T : Type 0) (q : Roles) (value : LinePiece → T → T
   pub piece : LinePiece
   pub takes : TakesPiece q (cells s) piece (cells t)
   pub means : value piece v
-  -- it took the first piece, or a piece that can't be read stays
-  pub first : TakesFirst q (cells s) piece (cells t) ⊎ HasBad T value (pieces q (cells t))
-  -- where the first piece can be read, that is the one
-  pub readable : (o : LinePiece) (os : List LinePiece) (w : T) → pieces q (cells s) ≡ o ∷ os
-      → value o w → TakesFirst q (cells s) piece (cells t)
+  -- it is the first piece, or that can't be read
+  pub first : TakesFirst q (cells s) piece (cells t) ⊎ FirstUnread T q value (cells s)
 
 -- a refusal of an alternative
 pub data AlternativeErr (T : Type 0) (q : Roles) (value : LinePiece → T → Type 0) (s : Situation)
@@ -46,10 +48,7 @@ pub data AlternativeErr (T : Type 0) (q : Roles) (value : LinePiece → T → Ty
   alternative_memory : c ≡ OfMemory → AlternativeErr T q value s c t
   alternative_missing : c ≡ OfMissing → pieces q (cells s) ≡ [] → cells t ≡ cells s
       → Steady s t → AlternativeErr T q value s c t
-  -- the first piece can't be read
-  alternative_refused : c ≡ Refused → t.path ≡ s.path → HasBad T value (pieces q (cells s))
-      → ((o : LinePiece) (os : List LinePiece) (w : T) → pieces q (cells s) ≡ o ∷ os → value o w
-      → ⊥)
+  alternative_refused : c ≡ Refused → t.path ≡ s.path → FirstUnread T q value (cells s)
       → AlternativeErr T q value s c t
 
 -- the laws of a required flag or argument, or of a choice of them
