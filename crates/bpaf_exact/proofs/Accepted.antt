@@ -1,4 +1,4 @@
--- A cut line holds together, and what its named fields leave to positional ones.
+-- A cut line holds together.
 use Rattle.std.proofs.Common.{◌≡◌, ℕ, true, List, [], ◌∷◌, ◌++◌, Some, None, refl, sym, ap, ◌∙◌}
 use Rattle.std.proofs.lemmas.List.Elements.{All-nil, All-cons, filter-append}
 use Rattle.std.proofs.{Common.not, lemmas.List.append_assoc}
@@ -7,7 +7,7 @@ use Rattle.bpaf_base.specs.declared.arg.Arg.TheVariants.{ArgWord}
 use Rattle.bpaf_base.specs.{Items.is_positional, declared.arg.Arg.Arg}
 use Rattle.bpaf_exact.specs.Pieces.{Cells, Roles, Alone, WithNext, LinePiece, One, Two, is_value}
 use Rattle.bpaf_exact.specs.Pieces.{is_key, is_own_role, is_own, others, IsNamed, Cut, at_end}
-use Rattle.bpaf_exact.specs.Pieces.{passed, flag, argument, word, no_roles}
+use Rattle.bpaf_exact.specs.Pieces.{passed, flag, argument, word}
 use Rattle.bpaf_exact.specs.Accepted.{HasItsValue, EndsInKey, is_word_alone, HoldsTogether}
 use Rattle.bpaf_exact.proofs.Cells.{value_not_key, word_not_key, value_foreign, word_foreign}
 use Rattle.bpaf_exact.proofs.Cells.{others_own, others_foreign}
@@ -131,11 +131,3 @@ module _ (r : Roles) (n : IsNamed r) where
       at : {before after : Cells} {k : Arg} → cs ≡ before ++ (Some k ∷ after)
           → Item before k after os
       at {before} e = item_of before (rw (← e) c)
-
--- What is left to positional fields.
-
--- without keys all is left
-pub others_none : (os : List LinePiece) → others no_roles os ≡ os
-others_none [] = refl
-others_none (One k ∷ os) = ap (λ z. One k ∷ z) (others_none os)
-others_none (Two k w ∷ os) = ap (λ z. Two k w ∷ z) (others_none os)

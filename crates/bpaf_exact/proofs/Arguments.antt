@@ -1,32 +1,32 @@
 -- Arguments keep to the laws.
-use Rattle.std.proofs.Common.{◌≡◌, ℕ, true, List, [], ◌∷◌, Some, None, refl, sym, ap, subst, ◌∙◌}
-use Rattle.std.proofs.Common.{◌++◌, ⊎_elim, map, Bool, false, ◌&&◌, ◌||◌, not}
-use Rattle.std.proofs.lemmas.Bool.{and_parts, not-true}
-use Rattle.bpaf_text.specs.Named.{KeyWithValue, argument_part}
+use Rattle.std.proofs.Common.{List, None, Some, [], ap, refl, subst, sym, true, ◌++◌, ◌∙◌, ◌∷◌, ◌≡◌}
+use Rattle.std.proofs.Common.{Bool, Err, Ok, Result, add-one, false, map, not, ⊎_elim, ◌&&◌, ◌||◌}
+use Rattle.std.proofs.{Common.ℕ, lemmas.Bool.and_parts}
+use Rattle.std.specs.Option.{is_some}
 use Rattle.bpaf_base.specs.{Items.is_key_of, Items.item_text, declared.arg.Arg.Arg}
 use Rattle.bpaf_line.specs.declared.error.Message.TheVariants.{Memory, NoArgument, ParseFailed}
-use Rattle.bpaf_line.specs.{Situation.Situation, Situation.with_current, declared.error.Error.Error}
-use Rattle.bpaf_line.specs.declared.error.Message.{Message}
-use Rattle.bpaf_laws.specs.Argument.{TakesKeyWithText, HasNoKey, IsNowhere, ReadsVariable}
-use Rattle.bpaf_laws.specs.Argument.{is_key_with_value, ArgumentOutcome, ArgumentFails}
-use Rattle.bpaf_laws.specs.Argument.{TakesKeysWithTexts, TakesOwnText, TakesBefore, GetsText}
-use Rattle.bpaf_laws.specs.{Environment.first_set, Argument.LacksText, Repeat.is_nil}
-use Rattle.bpaf_exact.specs.Flat.{ByName, Refused, Steady, cells, class, class_of, Variables}
-use Rattle.bpaf_exact.specs.Single.{Groups, gap_of, SingleErr, SingleOk, gave_absent, of_absent}
-use Rattle.bpaf_exact.specs.Single.{of_missing, Gap, TakesAny, took, of_memory, of_piece, SingleLaw}
-use Rattle.bpaf_exact.specs.Pieces.{WithNext, Roles, Two, IsNamed, pieces, LinePiece, One}
-use Rattle.bpaf_exact.specs.Alternative.{TakesFirst, AlternativeErr, alternative_memory}
-use Rattle.bpaf_exact.specs.Leaves.{argument_roles, LastGroup, ArgumentValue, argument_field}
-use Rattle.bpaf_exact.specs.{Leaves.argument_group, Leaves.key_field, Alternative.AlternativeLaw}
-use Rattle.bpaf_exact.specs.{Pieces.takes_none, Pieces.takes_more, ProgramForm.FormLaw, Names.Owns}
-use Rattle.bpaf_exact.specs.Single.{FrontOf}
-use Rattle.bpaf_exact.proofs.Matching.{match_of, ByTest, by_test, test_named, test_owns, behind_of}
-use Rattle.bpaf_exact.proofs.Matching.{pair_is, two_taken, two_steady, no_pieces, absence_caught}
-use Rattle.bpaf_exact.proofs.Matching.{bare_taken, first_alternative, first_refused, missing_same}
-use Rattle.bpaf_exact.proofs.First.{first_takes, first_pieces, takes_nonempty}
-use Rattle.bpaf_exact.proofs.{Records.current_cells, Records.same_steady, Matching.absence_missing}
-use Rattle.bpaf_exact.proofs.{Product.steady_refl, Product.steady_trans, Classes.missing_class}
-use Rattle.bpaf_exact.proofs.{Wrappers.gap_empty, Wrappers.took_front, Fronts.never_nil}
+use Rattle.bpaf_line.specs.{declared.error.Error.Error, declared.error.Message.Message}
+use Rattle.bpaf_line.specs.Situation.{Situation, with_current}
+use Rattle.bpaf_text.specs.Named.{KeyWithValue, argument_part}
+use Rattle.bpaf_laws.specs.Argument.{ArgumentOutcome, HasNoKey, TakesKeyWithText, is_key_with_value}
+use Rattle.bpaf_laws.specs.Argument.{IsNowhere, ReadsVariable, TakesKeysWithTexts}
+use Rattle.bpaf_laws.specs.{Argument.ArgumentFails, Argument.TakesOwnText, Environment.first_set}
+use Rattle.bpaf_laws.specs.{Argument.LacksText, Argument.TakesBefore, Repeat.is_nil}
+use Rattle.bpaf_exact.proofs.Matching.{ByTest, behind_of, by_test, test_named, test_owns, two_taken}
+use Rattle.bpaf_exact.proofs.Matching.{FirstRead, absence_class, key_field_law, match_of, no_pieces}
+use Rattle.bpaf_exact.proofs.Matching.{NoneRead, bare_taken, none_missing, none_named, none_refused}
+use Rattle.bpaf_exact.proofs.Matching.{none_absent, read_fault, read_first, read_memory, read_none}
+use Rattle.bpaf_exact.proofs.{First.takes_nonempty, Product.steady_trans, Records.current_cells}
+use Rattle.bpaf_exact.proofs.{First.first_pieces, Product.steady_refl, Records.same_steady}
+use Rattle.bpaf_exact.proofs.{First.first_takes, Places.take_steady, Wrappers.gap_empty}
+use Rattle.bpaf_exact.proofs.{Fronts.never_nil, Matching.none_err, Matching.none_ok}
+use Rattle.bpaf_exact.specs.Leaves.{ArgumentValue, argument_field, argument_group, argument_roles}
+use Rattle.bpaf_exact.specs.Pieces.{LinePiece, Roles, Two, WithNext, pieces, takes_more, takes_none}
+use Rattle.bpaf_exact.specs.Single.{Gap, SingleErr, SingleOk, TakesAny, gap_of, of_memory, of_piece}
+use Rattle.bpaf_exact.specs.{Alternative.TakesFirst, Leaves.LastGroup, ProgramForm.FormLaw}
+use Rattle.bpaf_exact.specs.{Flat.ErrorClass, Flat.Variables, Leaves.key_field, Single.SingleLaw}
+use Rattle.bpaf_exact.specs.{Flat.ByName, Flat.Refused, Flat.Steady, Flat.class_of, Pieces.IsNamed}
+use Rattle.bpaf_exact.specs.{Flat.cells, Flat.class, Names.Owns, Pieces.One, Single.took}
 
 -- the last element of a list is one
 pub last_same : {T : Type 0} (xs ys : List T) {v w : T} → xs ++ (v ∷ []) ≡ ys ++ (w ∷ []) → v ≡ w
@@ -85,12 +85,12 @@ module _ (argument : KeyWithValue) where
   took_pair s t text takes =
       let m = match_of (is_key_with_value argument) s takes.key takes.first.matches in
       let b = behind_of s takes.value in
-      rw (takes.taken ∙ pair_is s) (record {
+      rw (takes.taken, add-one) (record {
         key = m.item;
         word = b.item;
         text_is = b.text_is;
         takes = two_taken s test takes.first m b;
-        steady = two_steady;
+        steady = steady_trans take_steady take_steady;
       })
 
   -- no key: there is no piece
@@ -103,57 +103,50 @@ module _ (argument : KeyWithValue) where
   takes_pair once {s} {t} {text} takes =
       took_pair s t text (subst (λ b. TakesOwnText b argument s text t) once takes)
 
-  -- What an argument with these pieces answers where no key is there, by its variable.
-  module _ {T : Type 0} (means : List ℕ → T → Type 0) (group : Groups T)
-      (variables : Variables) where
+  -- What an argument answers where no key is there, by its variable.
+  module _ {T : Type 0} (means : List ℕ → T → Type 0) (variables : Variables) where
+    -- such an answer
+    abbrev Unread : Situation → Result T Error → Situation → Type 0
+    Unread = NoneRead T (gap means variables) (argument.named.envs ≡ [] → ⊥)
+
     -- the text of a variable stands for no piece
     pub variable_read : {s t : Situation} {text : List ℕ} {v : T} → s.context.env ≡ variables
-        → ReadsVariable argument s text t → means text v
-        → SingleOk T ByName q group (gap means variables) s v t
+        → ReadsVariable argument s text t → means text v → Unread s (Ok v) t
     variable_read {s} {text} {v} same read m =
         let here = subst (λ z. first_set z argument.named.envs ≡ Some text) same read.set in
-        subst (SingleOk T ByName q group (gap means variables) s v) (sym read.left)
-        (subst (λ gap. SingleOk T ByName q group gap s v (with_current s None))
-        (ap (gap_of means) (sym here)) (gave_absent refl (no_key s read.no_key) m (current_cells s)
-        (same_steady steady_refl)))
+        subst (Unread s (Ok v)) (sym read.left) (subst (λ gap. NoneRead T gap
+        (argument.named.envs ≡ [] → ⊥) s (Ok v) (with_current s None)) (ap (gap_of means) (sym here))
+        (none_absent refl m (current_cells s) (same_steady steady_refl)))
 
     -- one that means no value is refused
     pub variable_fault : {s t : Situation} {e : Error} {text : List ℕ} → s.context.env ≡ variables
         → ReadsVariable argument s text t → class e ≡ Refused → ((v : T) → means text v → ⊥)
-        → SingleErr T ByName q group (gap means variables) s e t
+        → Unread s (Err e) t
     variable_fault {s} {t} {e} {text} same read c none =
         let here = subst (λ z. first_set z argument.named.envs ≡ Some text) same read.set in
-        subst (λ gap. SingleErr T ByName q group gap s e t) (ap (gap_of means) (sym here))
-        (of_absent c refl (no_key s read.no_key) none)
+        subst (λ gap. NoneRead T gap (argument.named.envs ≡ [] → ⊥) s (Err e) t)
+        (ap (gap_of means) (sym here)) (none_refused c refl none)
 
     -- without one there is no value
     pub nowhere : {s t : Situation} {e : Error} (m : Message) → class e ≡ class_of m
-        → s.context.env ≡ variables → HasNoKey argument s → IsNowhere argument s m → t ≡ s
-        → SingleErr T ByName q group (gap means variables) s e t
-    nowhere {s} {e} m c same none unset left =
+        → s.context.env ≡ variables → IsNowhere argument s m → t ≡ s → Unread s (Err e) t
+    nowhere {s} m c same unset left =
         let here = subst (λ z. first_set z argument.named.envs ≡ None) same unset.0 in
-        subst (SingleErr T ByName q group (gap means variables) s e) (sym left)
-        (of_missing (absence_caught s (argument_part argument) argument.named.envs m c unset.1)
-        (ap (λ z. (gap_of means z).has) here) (no_key s none) (λ c. refl))
+        none_missing (rw c (absence_class s (argument_part argument) argument.named.envs m unset.1))
+        (ap (λ z. (gap_of means z).has) here) (λ missing. left)
 
   module _ {T : Type 0} (means : List ℕ → T → Type 0)
       (all : argument.last ≡ true) (variables : Variables) where
-    -- keys that were taken with their texts are the first pieces
-    record TookSome (s t : Situation) : Type 0 where
-      pairs : List LinePiece
-      is : pieces q (cells s) ≡ pairs ++ pieces q (cells t)
-
-    -- some keys with their texts
+    -- some keys that were taken with their texts are the first pieces
     took_some : (s t : Situation) (texts : List (List ℕ)) → TakesKeysWithTexts argument s texts t
-        → TookSome s t
-    took_some s t [] same = record { pairs = []; is = ap (λ z. pieces q (cells z)) (sym same) }
+        → (some : List LinePiece) × (pieces q (cells s) ≡ some ++ pieces q (cells t))
+    took_some s t [] same = ([], ap (λ z. pieces q (cells z)) (sym same))
     took_some s t (text ∷ texts) o =
         let m = took_pair s o.0 text o.1 in
-        let rest = took_some o.0 t texts o.2 in
-        record {
-          pairs = Two m.key m.word ∷ rest.pairs;
-          is = first_pieces q named m.takes ∙ ap (λ z. Two m.key m.word ∷ z) rest.is;
-        }
+        let rest = took_some o.0 t texts o.2 in (
+          Two m.key m.word ∷ rest.0,
+          first_pieces q named m.takes ∙ ap (λ z. Two m.key m.word ∷ z) rest.1,
+        )
 
     -- all of them are the pieces, and this is the text of the last one
     record TookAll (s t : Situation) (text : List ℕ) : Type 0 where
@@ -207,83 +200,75 @@ module _ (argument : KeyWithValue) where
     took_texts s t text (x ∷ before) o =
         all_more s o.0 t x text (took_pair s o.0 x o.1) (took_texts o.0 t text before o.2)
 
-    -- the text of an argument is that of the last of its pieces, of which none is left
-    record GotAll (s t : Situation) (text : List ℕ) : Type 0 where
-      pieces_are : TookAll s t text
-      none : pieces q (cells t) ≡ []
-
-    -- all its keys were taken
+    -- all its keys were taken, and none is left
     takes_all : {s t : Situation} {text : List ℕ} → TakesOwnText argument.last argument s text t
-        → GotAll s t text
+        → TookAll s t text × (pieces q (cells t) ≡ [])
     takes_all {s} {t} {text} takes =
         let last = subst (λ b. TakesOwnText b argument s text t) all takes in
-        record {
-          pieces_are = took_texts s t text last.before last.taken;
-          none = no_key t last.no_more;
-        }
+        (took_texts s t text last.before last.taken, no_key t last.no_more)
 
-    -- the pieces of a text, up to the last one
-    whole : {s t : Situation} {text : List ℕ} (got : GotAll s t text)
-        → pieces q (cells s) ≡ pairs got.pieces_are.before ++ Two got.pieces_are.key
-        got.pieces_are.word ∷ []
-    whole got =
-        let a = got.pieces_are in
-        a.is ∙ ap (λ z. pairs a.before ++ Two a.key a.word ∷ z) got.none
+    -- the pieces, up to the last one
+    whole : {s t : Situation} {text : List ℕ} (a : TookAll s t text) → pieces q (cells t) ≡ []
+        → pieces q (cells s) ≡ pairs a.before ++ Two a.key a.word ∷ []
+    whole a none = a.is ∙ ap (λ z. pairs a.before ++ Two a.key a.word ∷ z) none
 
     -- a value is that of the last piece
-    last_read : (s t : Situation) {text : List ℕ} (v : T) → GotAll s t text → means text v
+    last_read : {s t : Situation} {text : List ℕ} (v : T) (a : TookAll s t text)
+        → pieces q (cells t) ≡ [] → means text v
         → SingleOk T ByName q (LastGroup T means) (gap means variables) s v t
-    last_read s t v got m =
-        let a = got.pieces_are in
+    last_read {s} {t} v a none m =
         let group : (rest : List LinePiece) → rest ≡ []
-        → LastGroup T means (pieces q (cells s)) v rest = (λ rest none. (
+        → LastGroup T means (pieces q (cells s)) v rest = (λ rest ends. (
           a.before,
           (a.key, a.word),
-          whole got,
+          whole a none,
           rw a.text_is m,
-          none,
+          ends,
         )) in
         took (record {
           steady = a.steady;
           takes = a.any;
           found = takes_nonempty a.any.one;
-          read = λ r. group (pieces q (cells t)) got.none;
-          readable = λ x rest g. (group rest g.4, got.none ∙ sym g.4);
+          read = λ r. group (pieces q (cells t)) none;
+          readable = λ x rest g. (group rest g.4, none ∙ sym g.4);
         })
 
     -- where a last text means no value, the pieces have none
-    fault_group : {s t : Situation} {text : List ℕ} → GotAll s t text → ((v : T) → means text v → ⊥)
+    fault_group : {s t : Situation} {text : List ℕ} (a : TookAll s t text)
+        → pieces q (cells t) ≡ [] → ((v : T) → means text v → ⊥)
         → (v : T) (rest : List LinePiece) → LastGroup T means (pieces q (cells s)) v rest → ⊥
-    fault_group got nothing v rest g =
-        let a = got.pieces_are in
+    fault_group a none nothing v rest g =
         let same : Two g.1.0 g.1.1 ≡ Two a.key a.word = last_same (pairs g.0) (pairs a.before)
-        (sym g.2 ∙ whole got) in
+        (sym g.2 ∙ whole a none) in
         let word : g.1.1 ≡ a.word = cc in
         nothing v (rw (← ap item_text word ∙ a.text_is) g.3)
 
     -- where a key has no value, the pieces have none
-    bare_refused : (s : Situation) {t : Situation} {e : Error} {k : Arg} {tail : List LinePiece}
-        → class e ≡ Refused → TookSome s t → pieces q (cells t) ≡ One k ∷ tail
-        → SingleErr T ByName q (LastGroup T means) (gap means variables) s e t
-    bare_refused s {k} {tail} c some is =
-        let there : pieces q (cells s) ≡ some.pairs ++ One k ∷ tail =
-        some.is ∙ ap (λ z. some.pairs ++ z) is in
-        of_piece c (λ none. never_nil some.pairs (One k) tail (sym there ∙ none))
-        (λ v rest g. bare_spoils some.pairs tail g.0 k g.1.0 g.1.1 (sym there ∙ g.2))
+    bare_refused : (s : Situation) {t : Situation} {c : ErrorClass} {k : Arg} {tail : List LinePiece}
+        → c ≡ Refused → (some : List LinePiece) → pieces q (cells s) ≡ some ++ pieces q (cells t)
+        → pieces q (cells t) ≡ One k ∷ tail
+        → SingleErr T ByName q (LastGroup T means) (gap means variables) s c t
+    bare_refused s {k} {tail} c some first is =
+        let there : pieces q (cells s) ≡ some ++ One k ∷ tail = first ∙ ap (λ z. some ++ z) is in
+        of_piece c (λ none. never_nil some (One k) tail (sym there ∙ none))
+        (λ v rest g. bare_spoils some tail g.0 k g.1.0 g.1.1 (sym there ∙ g.2))
 
     -- a refusal: no piece, one without a value, or a last one that means none
-    last_err : {s t : Situation} {e : Error} (m : Message) → class e ≡ class_of m
+    last_err : {s t : Situation} (e : Error) (m : Message) → class e ≡ class_of m
         → s.context.env ≡ variables → ArgumentFails means argument s m t
-        → SingleErr T ByName q (LastGroup T means) (gap means variables) s e t
-    last_err Memory c same o = of_memory c
-    last_err (ParseFailed place fault) c same o = ⊎_elim (λ takes. let got = takes_all takes in
-        of_piece c (takes_nonempty got.pieces_are.any.one) (fault_group got o.2.0))
-        (λ read. variable_fault means (LastGroup T means) variables same read c o.2.0) o.1
-    last_err {s} {t} (NoArgument key metavar) c same o =
+        → SingleErr T ByName q (LastGroup T means) (gap means variables) s (class e) t
+    last_err e Memory c same o = of_memory c
+    last_err {s} e (ParseFailed place fault) c same o = ⊎_elim (λ takes. let got = takes_all takes in
+        of_piece c (takes_nonempty got.0.any.one) (fault_group got.0 got.1 o.2.0))
+        (λ read. none_err (no_key s read.no_key) (variable_fault means variables same read c o.2.0))
+        o.1
+    last_err {s} {t} e (NoArgument key metavar) c same o =
         let before = subst (λ b. TakesBefore b argument s t) all o.1 in
         let m = match_of (is_key_with_value argument) t key o.0.0.matches in
-        bare_refused s c (took_some s t before.0 before.1) (bare_taken test o.0.0 m o.0.1).is
-    last_err other c same o = nowhere means (LastGroup T means) variables other c same o.0 o.1 o.2
+        let some = took_some s t before.0 before.1 in
+        bare_refused s c some.0 some.1 (bare_taken test o.0.0 m o.0.1).is
+    last_err {s} e other c same o =
+        none_err (no_key s o.0) (nowhere means variables other c same o.1 o.2)
 
     -- such an argument keeps to the laws of a field
     pub last_argument_law : SingleLaw variables T (ArgumentOutcome means argument)
@@ -293,102 +278,49 @@ module _ (argument : KeyWithValue) where
       words = tt;
       starts = λ v rest g. never_nil (pairs g.0) (Two g.1.0 g.1.1) [] (sym g.2);
       no_absent = gap_empty means _;
-      ok = λ s t v w o. ⊎_elim (λ takes. last_read s t v (takes_all takes) o.2)
-          (λ read. variable_read means (LastGroup T means) variables w.environment read o.2) o.1;
-      err = λ s t e w o. last_err e.0 refl w.environment o;
+      keeps = record {
+        ok = λ s t v w o. ⊎_elim (λ takes. let got = takes_all takes in last_read v got.0 got.1 o.2)
+            (λ read. none_ok (no_key s read.no_key)
+            (variable_read means variables w.environment read o.2)) o.1;
+        err = λ s t e w o. last_err e e.0 refl w.environment o;
+      };
     }
 
-  -- an argument without a name in the environment
-  module _ {T : Type 0} (means : List ℕ → T → Type 0)
-      (no_envs : argument.named.envs ≡ []) (once : argument.last ≡ false) where
-    -- what its pieces mean
-    abbrev value : LinePiece → T → Type 0
-    value = ArgumentValue means
-
-    -- no name is set in the environment
-    never_set : (s : Situation) {text : List ℕ}
-        → first_set s.context.env argument.named.envs ≡ Some text → ⊥
-    never_set s e =
-        let h : first_set s.context.env argument.named.envs ≡ None =
-        ap (first_set s.context.env) no_envs in
-        cc
-
-    -- the text stands behind its key
-    gets_pair : {s t : Situation} {text : List ℕ} → GetsText argument s text t → TookPair q s t text
-    gets_pair {s} gets =
-        ⊎_elim (takes_pair once) (λ variable. absurd (never_set s variable.set)) gets
-
-    -- a refusal: no piece, or a first one that can't be read
-    argument_err : {s t : Situation} {e : Error} (m : Message) → class e ≡ class_of m
-        → ArgumentFails means argument s m t → AlternativeErr T q value s e t
-    argument_err Memory c o = alternative_memory c
-    argument_err (ParseFailed place fault) c o =
-        let m = gets_pair o.1 in
-        first_refused value c m.steady.path (first_pieces q named m.takes)
-        (λ v y. o.2.0 v (rw (← m.text_is) y))
-    argument_err {s} {t} (NoArgument key metavar) c o =
-        let same = subst (λ b. TakesBefore b argument s t) once o.1 in
-        let lacks = subst (λ z. LacksText argument z (NoArgument key metavar)) same o.0 in
-        let m = match_of (is_key_with_value argument) s key lacks.0.matches in
-        let b = bare_taken test lacks.0 m lacks.1 in
-        first_refused value c (ap (λ z. z.path) same) b.is (λ v y. y)
-    argument_err {s} other c o =
-        missing_same value (c ∙ missing_class other
-        (absence_missing s (argument_part argument) argument.named.envs no_envs other o.1.1))
-        (no_key s o.0) o.2
-
-    -- an argument keeps to the laws of an alternative
-    argument_law : {env : Variables} → AlternativeLaw env T (ArgumentOutcome means argument) q value
-    argument_law = record {
-      named = named;
-      ok = λ s t v w o.
-          let m = gets_pair o.1 in
-          first_alternative value m.steady (rw m.text_is o.2) m.takes;
-      err = λ s t e w o. argument_err e.0 refl o;
-    }
-
-  -- an argument with names there, where the environment has these variables
+  -- an argument of which one key is read
   module _ {T : Type 0} (means : List ℕ → T → Type 0)
       (once : argument.last ≡ false) (variables : Variables) where
-    abbrev group : Groups T
-    group = FrontOf T (ArgumentValue means)
+    -- what it answers
+    abbrev Read : Situation → Result T Error → Situation → Type 0
+    Read = FirstRead T ByName q (ArgumentValue means) (gap means variables)
+        (argument.named.envs ≡ [] → ⊥)
 
-    -- a refusal: neither, or what can't be read
-    variable_err : {s t : Situation} {e : Error} (m : Message) → class e ≡ class_of m
-        → s.context.env ≡ variables → ArgumentFails means argument s m t
-        → SingleErr T ByName q group (gap means variables) s e t
-    variable_err Memory c same o = of_memory c
-    variable_err {t} (ParseFailed place fault) c same o = ⊎_elim
+    -- a refusal: no piece, or a first one that can't be read
+    fails_read : {s t : Situation} {e : Error} (m : Message) → class e ≡ class_of m
+        → s.context.env ≡ variables → ArgumentFails means argument s m t → Read s (Err e) t
+    fails_read Memory c same o = read_memory c
+    fails_read {s} (ParseFailed place fault) c same o = ⊎_elim
         (λ takes. let m = takes_pair once takes in
-        of_piece c (takes_nonempty (first_takes m.takes))
-        (λ v rest g. let d : Two m.key m.word ∷ pieces q (cells t) ≡ g.0 ∷ rest =
-        sym (first_pieces q named m.takes) ∙ g.1 in
-        let j : g.0 ≡ Two m.key m.word = cc in
-        o.2.0 v (subst (λ z. means z v) m.text_is (subst (λ z. ArgumentValue means z v) j g.2))))
-        (λ read. variable_fault means group variables same read c o.2.0) o.1
-    variable_err {s} {t} (NoArgument key metavar) c same o =
+        read_fault c m.steady.path (first_pieces q named m.takes) (λ none. absurd cc)
+        (λ v y. o.2.0 v (rw (← m.text_is) y)))
+        (λ read. read_none (no_key s read.no_key) (variable_fault means variables same read c o.2.0))
+        o.1
+    fails_read {s} {t} (NoArgument key metavar) c same o =
         let left = subst (λ b. TakesBefore b argument s t) once o.1 in
         let lacks = subst (λ z. LacksText argument z (NoArgument key metavar)) left o.0 in
         let m = match_of (is_key_with_value argument) s key lacks.0.matches in
-        let b = bare_taken test lacks.0 m lacks.1 in
-        of_piece c (λ none. let d : One m.item ∷ b.tail ≡ [] = sym b.is ∙ none in cc)
-        (λ v rest g. let d : One m.item ∷ b.tail ≡ g.0 ∷ rest = sym b.is ∙ g.1 in
-        let j : g.0 ≡ One m.item = cc in subst (λ z. ArgumentValue means z v) j g.2)
-    variable_err other c same o = nowhere means group variables other c same o.0 o.1 o.2
+        read_fault c (ap (λ z. z.path) left) (bare_taken test lacks.0 m lacks.1).is
+        (λ none. absurd cc) (λ v y. y)
+    fails_read {s} other c same o =
+        read_none (no_key s o.0) (nowhere means variables other c same o.1 o.2)
 
-    variable_law : SingleLaw variables T (ArgumentOutcome means argument) ByName
-        q group (gap means variables)
-    variable_law = record {
-      own = named;
-      words = tt;
-      starts = λ v rest g. let e = g.1 in cc;
-      no_absent = gap_empty means _;
-      ok = λ s t v w o. ⊎_elim (λ takes. let m = takes_pair once takes in
-          took (took_front (ArgumentValue means) m.steady m.takes (first_pieces q named m.takes)
-          (rw m.text_is o.2) (λ none. absurd cc)))
-          (λ read. variable_read means group variables w.environment read o.2) o.1;
-      err = λ s t e w o. variable_err e.0 refl w.environment o;
-    }
+    -- each answer
+    argument_read : (s t : Situation) (r : Result T Error) → s.context.env ≡ variables
+        → ArgumentOutcome means argument s r t → Read s r t
+    argument_read s t (Ok v) same o = ⊎_elim (λ takes. let m = takes_pair once takes in
+        read_first m.steady m.takes (first_pieces q named m.takes) (λ none. absurd cc)
+        (rw m.text_is o.2))
+        (λ read. read_none (no_key s read.no_key) (variable_read means variables same read o.2)) o.1
+    argument_read s t (Err e) same o = fails_read e.0 refl same o
 
 -- an argument keeps to the laws of its form
 pub argument_field_law : (variables : Variables) (T : Type 0) (means : List ℕ → T → Type 0)
@@ -396,23 +328,20 @@ pub argument_field_law : (variables : Variables) (T : Type 0) (means : List ℕ 
     → FormLaw variables (ArgumentOutcome means argument) (argument.named.names ∷ []) []
     (argument_field means argument variables)
 argument_field_law variables T means argument =
-    by_choice (is_nil argument.named.envs && not argument.last) (λ may.
-    let both = and_parts (is_nil argument.named.envs) (not argument.last) may in
-    (none_of argument.named.envs both.0, not-true argument.last both.1))
+    by_last argument.last refl (is_nil argument.named.envs && not argument.last) refl
   where
-    none_of : (envs : List (List ℕ)) → is_nil envs ≡ true → envs ≡ []
-    none_of [] e = refl
-    none_of (env ∷ envs) e = cc
-
-    by_last : (last : Bool) → argument.last ≡ last
-        → SingleLaw variables T (ArgumentOutcome means argument) ByName (q argument)
-        (argument_group means last) (gap argument means variables)
-    by_last false once = variable_law argument means once variables
-    by_last true all = last_argument_law argument means all variables
-
-    by_choice : (may : Bool) → (may ≡ true → (argument.named.envs ≡ []) × (argument.last ≡ false))
+    by_last : (last : Bool) → argument.last ≡ last → (may : Bool)
+        → may ≡ (is_nil argument.named.envs && not last)
         → FormLaw variables (ArgumentOutcome means argument) (argument.named.names ∷ []) []
         (key_field (argument.adjacent || not (is_nil argument.named.envs)) may (q argument)
-        (ArgumentValue means) (argument_group means argument.last) (gap argument means variables))
-    by_choice true f = (argument_law argument means (f refl).0 (f refl).1, owns argument)
-    by_choice false f = (by_last argument.last refl, owns argument)
+        (ArgumentValue means) (argument_group means last) (gap argument means variables))
+    by_last false once may e =
+        key_field_law (argument.named.envs ≡ [] → ⊥)
+        (argument.adjacent || not (is_nil argument.named.envs)) may (named argument)
+        (owns argument) (gap_empty means _) (λ yes.
+        let none = none_named argument.named.envs (and_parts _ true (sym e ∙ yes)).0 in
+        (ap (λ z. is_some (first_set variables z)) none, λ some. some none))
+        (argument_read argument means once variables)
+    by_last true all true e =
+        let no = (and_parts (is_nil argument.named.envs) false (sym e)).1 in absurd cc
+    by_last true all false e = (last_argument_law argument means all variables, owns argument)

@@ -1,42 +1,23 @@
 -- A named field before others, the last of which are commands: together they keep to the laws of a
 -- program.
-use Rattle.std.proofs.Common.{◌≡◌, List, [], ◌∷◌, length, Some, None, Result, Ok, Err, refl, sym}
-use Rattle.std.proofs.Common.{ap, ◌∙◌, arith, if◌then◌else◌}
-use Rattle.bpaf_line.specs.{declared.error.Error.Error, Situation.Situation}
+use Rattle.std.proofs.Common.{List, None, Some, [], if◌then◌else◌, length, refl, sym, ◌∙◌, ◌∷◌, ◌≡◌}
+use Rattle.std.proofs.Common.{ap, arith}
+use Rattle.bpaf_line.specs.Situation.{Situation}
 use Rattle.bpaf_laws.specs.{Product.BothOutcome, Product.ProductOutcome, Reading.Outcome}
-use Rattle.bpaf_exact.specs.Pieces.{Cells, Role, Foreign, Roles, LinePiece, One, Two, pieces, Apart}
-use Rattle.bpaf_exact.specs.Pieces.{is_own_role, IsNamed, TakesPiece, takes_one, takes_two}
-use Rattle.bpaf_exact.specs.Pieces.{takes_later, TakesPieces, takes_none, takes_more, Takes}
-use Rattle.bpaf_exact.specs.Pieces.{no_cells, empty_stays, other_stays, takes_flag, takes_argument}
-use Rattle.bpaf_exact.specs.Flat.{cells, IsWholeIn, ByName, FieldLaw, Variables}
-use Rattle.bpaf_exact.specs.Programs.{CellsValue, FieldThen, ProgramLaw, IsSpelledLine, AllSpelled}
-use Rattle.bpaf_exact.specs.Programs.{no_cell, empty_cell, spelled_cell, GivesAll}
-use Rattle.bpaf_exact.specs.Wrappers.{ClosedValue, map_closure}
-use Rattle.bpaf_exact.specs.Pieces.{either, either_role}
-use Rattle.bpaf_exact.proofs.Product.{none_outside_after, values_of_both, refused_both}
-use Rattle.bpaf_exact.proofs.Cells.{nil_rest, nil_foreign, value_foreign, begin_at}
-use Rattle.bpaf_exact.proofs.{Sharing.second_within, Sharing.first_within, Programs.cells_spelled}
-use Rattle.bpaf_exact.proofs.Records.{current_cells}
+use Rattle.bpaf_exact.proofs.{Cells.nil_foreign, Product.none_outside_after, Product.values_of_both}
+use Rattle.bpaf_exact.proofs.{Product.refused_both, Programs.cells_spelled, Sharing.second_within}
+use Rattle.bpaf_exact.proofs.{Cells.value_foreign, Records.con_keeps, Sharing.first_within}
+use Rattle.bpaf_exact.proofs.{Cells.begin_at, Cells.nil_rest, Cuts.one_take}
+use Rattle.bpaf_exact.specs.Pieces.{Apart, Cells, Foreign, LinePiece, One, Role, Roles, Two, pieces}
+use Rattle.bpaf_exact.specs.Pieces.{IsNamed, Takes, TakesPiece, is_own_role, takes_later, takes_one}
+use Rattle.bpaf_exact.specs.Pieces.{TakesPieces, empty_stays, takes_argument, takes_none, takes_two}
+use Rattle.bpaf_exact.specs.Pieces.{either_role, no_cells, other_stays, takes_flag, takes_more}
+use Rattle.bpaf_exact.specs.Programs.{AllSpelled, CellsValue, IsSpelledLine, ProgramLaw, empty_cell}
+use Rattle.bpaf_exact.specs.{Programs.spelled_cell, Wrappers.ClosedValue, Wrappers.map_closure}
+use Rattle.bpaf_exact.specs.{Flat.FieldTook, Flat.Variables, Programs.FieldThen, Programs.no_cell}
+use Rattle.bpaf_exact.specs.{Flat.ByName, Flat.FieldLaw, Flat.cells, Pieces.either}
 
 -- What is taken, and what is left.
-
--- the pieces taken and what is left are told by the cells
-pub one_take : {q : Roles} {cs ds es : Cells} {os ps : List LinePiece} → Takes q cs os ds
-    → Takes q cs ps es → (os ≡ ps) × (ds ≡ es)
-one_take no_cells no_cells = (refl, refl)
-one_take (empty_stays t) (empty_stays u) = let i = one_take t u in (i.0, ap (λ z. None ∷ z) i.1)
-one_take (other_stays {k} e t) (other_stays f u) =
-    let i = one_take t u in (i.0, ap (λ z. Some k ∷ z) i.1)
-one_take (takes_flag {k} e t) (takes_flag f u) =
-    let i = one_take t u in (ap (λ z. One k ∷ z) i.0, ap (λ z. None ∷ z) i.1)
-one_take (takes_argument {k} {w} e v t) (takes_argument f y u) =
-    let i = one_take t u in (ap (λ z. Two k w ∷ z) i.0, ap (λ z. None ∷ (None ∷ z)) i.1)
-one_take (other_stays e t) (takes_flag f u) = absurd cc
-one_take (other_stays e t) (takes_argument f y u) = absurd cc
-one_take (takes_flag e t) (other_stays f u) = absurd cc
-one_take (takes_flag e t) (takes_argument f y u) = absurd cc
-one_take (takes_argument e v t) (other_stays f u) = absurd cc
-one_take (takes_argument e v t) (takes_flag f u) = absurd cc
 
 -- those taken are all own pieces
 taken_pieces : {q : Roles} {cs ds : Cells} {os : List LinePiece} → IsNamed q → Takes q cs os ds
@@ -133,35 +114,14 @@ module _ {env : Variables} {A B : Type 0} {first : Outcome A} {rest : Outcome B}
   own_value : {cs : Cells} {u : A × B} → value cs u → fv (pieces q cs) u.0
   own_value h = rw (← taken_pieces lf.own h.taken) h.own
 
-  -- and the others answer one on what the field left, or want of memory
-  rest_gives : {s m t : Situation} {x : A} {y : Result B Error} {u : A × B} → IsWholeIn env s
-      → first s (Ok x) m → rest m y t → (h : value (cells s) u)
-      → fv h.own_pieces x × GivesAll (rv h.left_cells) y t
-  rest_gives {s} {m} {t} {x} {y} {u} w f g h =
-      let i = lf.ok s m x w f in
-      let none = lf.takes_all s m x u.0 w f (own_value h) in
-      let e = (one_take (all_taken i.takes none).1 h.taken).1 in (
+  -- its answer is one on them, and what it left are the cells that the others' value is on
+  first_gives : {s m : Situation} {x : A} {u : A × B} → FieldTook A ByName q fv s x m
+      → (h : value (cells s) u) → fv h.own_pieces x × (cells m ≡ h.left_cells)
+  first_gives {u} i h =
+      let none = i.all u.0 (own_value h) in (
         rw (taken_pieces lf.own h.taken) (i.read none),
-        rw (← e) (lr.answers m t y u.1 (none_outside_after w i.steady) g (rw e h.left)),
+        (one_take (all_taken i.takes none).1 h.taken).1,
       )
-
-  -- each answer
-  both_answers : (s t : Situation) (a : Result (A × B) Error) (u : A × B) → IsWholeIn env s
-      → BothOutcome first rest s a t → value (cells s) u → GivesAll (value (cells s)) a t
-  both_answers s t (Ok v) u w o h =
-      let i = values_of_both first rest o in
-      let j = rest_gives w i.first_ran i.rest_ran h in (
-        record {
-          own_pieces = h.own_pieces;
-          left_cells = h.left_cells;
-          taken = h.taken;
-          own = j.0;
-          left = j.1.0;
-        },
-        j.1.1,
-      )
-  both_answers s t (Err e) u w o h = refused_both first rest
-      (λ d m f. lf.refuses s m d u.0 w f (own_value h)) (λ v m f g. (rest_gives w f g h).1) o
 
   -- the laws
   pub before_law : ProgramLaw env (A × B) (BothOutcome first rest) (either q r) value
@@ -169,56 +129,57 @@ module _ {env : Variables} {A B : Type 0} {first : Outcome A} {rest : Outcome B}
     others = λ p n a cs v s h.
         foreign_before n (apart_first r a) h.taken (lr.others p n (apart_second q a) h.left_cells
         v.1 (left_spelled h.taken s) h.left);
-    deep = λ s t v w o.
-        let h = values_of_both first rest o in
-        let i = (lf.ok s h.middle v.0 w h.first_ran).steady in
-        let e = ap length i.path in
-        let l = lr.deep h.middle t v.1 (none_outside_after w i) h.rest_ran in
-        omega arith;
-    ok = λ s t v w spelled o e.
-        let h = values_of_both first rest o in
-        let i = lf.ok s h.middle v.0 w h.first_ran in
-        let still : IsSpelledLine h.middle.context = rw i.steady.context spelled in
-        let after = lr.ok h.middle t v.1 (none_outside_after w i.steady) still h.rest_ran e in
-        let none = lr.others q lf.own apart (cells h.middle) v.1 (cells_spelled h.middle still)
-        after in
-        let all = all_taken i.takes none in
-        record {
-          own_pieces = all.0;
-          left_cells = cells h.middle;
-          taken = all.1;
-          own = rw (taken_pieces lf.own all.1) (i.read none);
-          left = after;
-        };
-    answers = both_answers;
-  }
-
--- The constructor of a product.
-module _ {env : Variables} {A B : Type 0} {fields : Outcome A} (makes : A → B → Type 0) {r : Roles}
-    {inner : CellsValue A} (l : ProgramLaw env A fields r inner) where
-  -- what it makes of the fields' values
-  abbrev made : CellsValue B
-  made = ClosedValue inner (map_closure makes)
-
-  -- each answer
-  con_answers : (s t : Situation) (a : Result B Error) (u : B) → IsWholeIn env s
-      → ProductOutcome fields makes s a t → made (cells s) u → GivesAll (made (cells s)) a t
-  con_answers s t (Ok v) u w o h =
-      let j = l.answers s o.0 (Ok o.1) h.from w o.2 h.read in (
-        record { from = o.1; read = j.0; made = o.3 },
-        rw (ap cells o.4 ∙ current_cells o.0) j.1,
-      )
-  con_answers s t (Err e) u w o h = l.answers s o.0 (Err e) h.from w o.1 h.read
-
-  -- the laws
-  pub con_program : ProgramLaw env B (ProductOutcome fields makes) r made
-  con_program = record {
-    others = λ q n a cs v s h. l.others q n a cs h.from s h.read;
-    deep = λ s t v w o. rw o.4 (l.deep s o.0 o.1 w o.2);
-    ok = λ s t v w spelled o n. record {
-      from = o.1;
-      read = l.ok s o.0 o.1 w spelled o.2 (rw (← ap cells o.4 ∙ current_cells o.0) n);
-      made = o.3;
+    keeps = record {
+      ok = λ s t v w o.
+          let h = values_of_both first rest o in
+          let i = lf.keeps.ok s h.middle v.0 w h.first_ran in
+          let j = lr.keeps.ok h.middle t v.1 (none_outside_after w i.steady) h.rest_ran in
+          record {
+            deep = let e = ap length i.steady.path in let l = j.deep in omega arith;
+            read = λ spelled e.
+                let still : IsSpelledLine h.middle.context = rw i.steady.context spelled in
+                let after = j.read still e in
+                let none = lr.others q lf.own apart (cells h.middle) v.1
+                (cells_spelled h.middle still) after in
+                let all = all_taken i.takes none in
+                record {
+                  own_pieces = all.0;
+                  left_cells = cells h.middle;
+                  taken = all.1;
+                  own = rw (taken_pieces lf.own all.1) (i.read none);
+                  left = after;
+                };
+            all = λ u g.
+                let first_one = first_gives i g in
+                let others = j.all u.1 (rw first_one.1 g.left) in (
+                  record {
+                    own_pieces = g.own_pieces;
+                    left_cells = g.left_cells;
+                    taken = g.taken;
+                    own = first_one.0;
+                    left = rw (← first_one.1) others.0;
+                  },
+                  others.1,
+                );
+          };
+      err = λ s t e w o u h. refused_both first rest
+          (λ d m f. lf.keeps.err s m d w f u.0 (own_value h))
+          (λ v m f g. let i = lf.keeps.ok s m v w f in
+          lr.keeps.err m t e (none_outside_after w i.steady) g u.1
+          (rw (first_gives i h).1 h.left)) o;
     };
-    answers = con_answers;
   }
+
+-- with its constructor a product keeps to the laws of a program
+pub con_program : {env : Variables} {A B : Type 0} {fields : Outcome A} (makes : A → B → Type 0)
+    {r : Roles} {inner : CellsValue A} → ProgramLaw env A fields r inner
+    → ProgramLaw env B (ProductOutcome fields makes) r (ClosedValue inner (map_closure makes))
+unfolding cells
+con_program makes l = record {
+  others = λ q n a cs v s h. l.others q n a cs h.from s h.read;
+  keeps = con_keeps l.keeps (λ s m x v i y. record {
+    deep = i.deep;
+    read = λ spelled n. record { from = x; read = i.read spelled n; made = y };
+    all = λ u h. let g = i.all h.from h.read in (record { from = x; read = g.0; made = y }, g.1);
+  }) (λ s m c refuses u h. refuses h.from h.read);
+}

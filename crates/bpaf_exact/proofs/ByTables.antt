@@ -1,31 +1,28 @@
 -- What parsers answer, by their tables, is what the laws of flat fields speak of.
-use Rattle.std.proofs.Common.{◌≡◌, ℕ, Bool, true, false, List, [], Option, Some, None, Result, Ok}
-use Rattle.std.proofs.Common.{Err, refl, sym, ap, ◌∙◌, inl, inr, ◌⊎◌, ⊎_elim, true≢false, length}
-use Rattle.std.proofs.Common.{not}
+use Rattle.std.proofs.Common.{Bool, Err, List, None, Ok, Option, Result, Some, [], false, true, ◌≡◌}
+use Rattle.std.proofs.Common.{ap, inl, inr, length, not, refl, sym, true≢false, ℕ, ⊎_elim, ◌∙◌, ◌⊎◌}
 use Rattle.std.specs.Global.{Vec}
 use Rattle.bpaf_doc.specs.Names.{Names}
-use Rattle.bpaf_line.specs.{declared.error.Message.TheVariants.Missing, declared.error.Error.Error}
-use Rattle.bpaf_line.specs.{declared.error.Message.Message, Situation.Situation, Messages.can_catch}
-use Rattle.bpaf_laws.specs.Repeat.{ManyOutcome, SomeOutcome, CollectOutcome, CountOutcome, is_nil}
-use Rattle.bpaf_laws.specs.Default.{Gives, GivesClone, GivesAnswer, FallbackOutcome}
-use Rattle.bpaf_laws.specs.Transform.{MapOutcome, ParseOutcome, GuardOutcome}
-use Rattle.bpaf_laws.specs.{Hide.HideOutcome, Hide.hidden, Turn.TurnOutcome, Reading.Outcome}
-use Rattle.bpaf_exact.specs.Flat.{OfMemory, Caught, Refused, class, class_of, Variables, ErrorClass}
-use Rattle.bpaf_exact.specs.Single.{CanCatch, RepeatOutcome, catch_missing, catch_other, OwnList}
-use Rattle.bpaf_exact.specs.Wrappers.{Closure, Decides, map_closure, parse_closure, guard_closure}
-use Rattle.bpaf_exact.specs.Wrappers.{answer_closure, ClosedEval, closed_yes, closed_no}
-use Rattle.bpaf_exact.specs.Wrappers.{closed_memory, closed_err, OptionalEval, optional_some}
-use Rattle.bpaf_exact.specs.Wrappers.{optional_none, optional_err, optional_memory, FallbackEval}
-use Rattle.bpaf_exact.specs.Wrappers.{fallback_ok, fallback_given, fallback_no, fallback_memory}
-use Rattle.bpaf_exact.specs.ProgramForm.{ProgramForm, FormLaw, Agrees, program_closed, completed}
-use Rattle.bpaf_exact.specs.ProgramForm.{program_dressed, program_if, program_optional}
-use Rattle.bpaf_exact.specs.{Wrappers.fallback_err, Wrappers.FallbackValue, Single.repeated}
-use Rattle.bpaf_exact.specs.Gathered.{list_closure, some_closure}
-use Rattle.bpaf_exact.proofs.Classes.{memory_class, caught_class, kept_class, stops_at, goes_on}
-use Rattle.bpaf_exact.proofs.ProgramForm.{listed_law, narrower_form, never_refuses}
-use Rattle.bpaf_exact.proofs.ProgramForm.{program_closed_law, program_dressed_law}
-use Rattle.bpaf_exact.proofs.ProgramForm.{program_fallback_law, program_optional_law, some_agrees}
-use Rattle.bpaf_exact.proofs.Narrow.{no_more}
+use Rattle.bpaf_line.specs.{declared.error.Error.Error, declared.error.Message.TheVariants.Missing}
+use Rattle.bpaf_line.specs.{Situation.Situation, declared.error.Message.Message}
+use Rattle.bpaf_laws.specs.Default.{FallbackOutcome, Gives, GivesAnswer, GivesClone}
+use Rattle.bpaf_laws.specs.Repeat.{CollectOutcome, CountOutcome, ManyOutcome, SomeOutcome, is_nil}
+use Rattle.bpaf_laws.specs.Transform.{GuardOutcome, MapOutcome, ParseOutcome}
+use Rattle.bpaf_laws.specs.{Hide.HideOutcome, Hide.hidden, Reading.Outcome, Turn.TurnOutcome}
+use Rattle.bpaf_exact.proofs.Classes.{caught_class, goes_on, kept_class, memory_class, stops_at}
+use Rattle.bpaf_exact.proofs.ProgramForm.{narrower_form, program_fallback_law, program_optional_law}
+use Rattle.bpaf_exact.proofs.ProgramForm.{never_refuses, program_closed_law, program_dressed_law}
+use Rattle.bpaf_exact.proofs.{Narrow.no_more, ProgramForm.listed_law, ProgramForm.some_agrees}
+use Rattle.bpaf_exact.specs.Flat.{Caught, ErrorClass, OfMemory, Refused, Variables, class, class_of}
+use Rattle.bpaf_exact.specs.ProgramForm.{Agrees, ProgramForm, completed, program_closed, program_if}
+use Rattle.bpaf_exact.specs.ProgramForm.{FormLaw, program_dressed, program_optional}
+use Rattle.bpaf_exact.specs.Wrappers.{ClosedEval, Closure, closed_yes, guard_closure, parse_closure}
+use Rattle.bpaf_exact.specs.Wrappers.{Decides, answer_closure, closed_err, closed_memory, closed_no}
+use Rattle.bpaf_exact.specs.Wrappers.{fallback_given, optional_memory, optional_none, optional_some}
+use Rattle.bpaf_exact.specs.Wrappers.{FallbackValue, OptionalEval, fallback_memory, optional_err}
+use Rattle.bpaf_exact.specs.Wrappers.{FallbackEval, fallback_err, fallback_ok, map_closure}
+use Rattle.bpaf_exact.specs.{Gathered.list_closure, Gathered.some_closure, Single.RepeatOutcome}
+use Rattle.bpaf_exact.specs.{Single.OwnList, Single.repeated, Wrappers.fallback_no}
 
 -- Each keeps to the laws of its form: map
 pub map_law : (env : Variables) (A B : Type 0) (inner : Outcome A) (answers : A → B → Type 0)
@@ -180,16 +177,6 @@ count_law env T inner names words s =
 
 -- Defaults.
 
--- what can be caught
-can_catch_of : {e : Error} → can_catch e.0 ≡ true → CanCatch e
-can_catch_of {e} h =
-    ⊎_elim (λ missing. catch_missing missing) (λ other. catch_other other) (caught_class e.0 h)
-
--- what can't be caught
-not_catch_of : (e : Error) → can_catch e.0 ≡ false → CanCatch e → ⊥
-not_catch_of e h (catch_missing c) = kept_class e.0 h (inl c)
-not_catch_of e h (catch_other c) = kept_class e.0 h (inr c)
-
 -- what gives a value in place of an inner one, as a closure on nothing does, keeps to the laws of
 -- its form
 fallback_form_law : (env : Variables) {T : Type 0} (inner : Outcome T) (gives : Gives T)
@@ -206,12 +193,12 @@ fallback_form_law env {T} inner gives f decides gave refused names words s l =
         → FallbackEval T inner f s r t
     by_answer s t (Ok v) (inl o) = fallback_ok o
     by_answer s t (Ok v) (inr o) =
-        rw o.0.1 (fallback_given o.0.0.2 (can_catch_of o.0.0.3) (gave v o.1))
+        rw o.0.1 (fallback_given o.0.0.2 (caught_class o.0.0.0.0 o.0.0.3) (gave v o.1))
     by_answer s t (Err e) (inl o) = rw o.1
-        (⊎_elim (λ kept. fallback_err kept.1 (not_catch_of e kept.2))
+        (⊎_elim (λ kept. fallback_err kept.1 (kept_class e.0 kept.2))
         (λ memory. fallback_memory (memory_class e.0 memory)) o.0)
     by_answer s t (Err e) (inr o) = rw o.0.1 (⊎_elim (λ memory. fallback_memory memory)
-        (λ told. fallback_no o.0.0.2 (can_catch_of o.0.0.3) told.0 told.1) (refused e o.1))
+        (λ told. fallback_no o.0.0.2 (caught_class o.0.0.0.0 o.0.0.3) told.0 told.1) (refused e o.1))
 
 -- a kept value
 pub fallback_law : (env : Variables) (T : Type 0) (inner : Outcome T) (clones : T → T → Type 0)

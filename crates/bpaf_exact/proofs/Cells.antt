@@ -1,14 +1,14 @@
 -- What taking pieces does to the other pieces and to the cut.
-use Rattle.std.proofs.Common.{◌≡◌, true, false, List, [], ◌∷◌, Some, None, refl, sym, ap, ◌∙◌}
-use Rattle.std.proofs.Common.{if◌then◌else◌, not}
-use Rattle.bpaf_base.specs.declared.arg.Arg.TheVariants.{Short, Long, ArgWord, Word}
-use Rattle.bpaf_base.specs.{declared.arg.Arg.Arg, Items.is_positional}
-use Rattle.bpaf_exact.specs.Pieces.{Cells, Role, Foreign, Alone, WithNext, Roles, LinePiece, One}
-use Rattle.bpaf_exact.specs.Pieces.{Two, is_value, is_key, is_own_role, is_own, mine, others}
-use Rattle.bpaf_exact.specs.Pieces.{either_role, either, IsNamed, Apart, Cut, at_end, passed, flag}
-use Rattle.bpaf_exact.specs.Pieces.{argument, word, with_next, begin_piece, pieces, TakesPiece}
-use Rattle.bpaf_exact.specs.Pieces.{takes_one, takes_two, takes_later, TakesPieces, takes_none}
-use Rattle.bpaf_exact.specs.Pieces.{takes_more}
+use Rattle.std.proofs.Common.{List, None, Some, [], false, if◌then◌else◌, refl, sym, true, ◌∷◌, ◌≡◌}
+use Rattle.std.proofs.{Common.not, Common.⊎_elim, Common.◌∙◌, lemmas.Bool.false_from_ne_true}
+use Rattle.std.proofs.Common.{ap, inl, ◌⊎◌}
+use Rattle.bpaf_base.specs.declared.arg.Arg.TheVariants.{ArgWord, Long, Short, Word}
+use Rattle.bpaf_base.specs.{Items.is_positional, declared.arg.Arg.Arg}
+use Rattle.bpaf_exact.specs.Pieces.{Alone, Cells, Foreign, LinePiece, One, Role, WithNext, is_value}
+use Rattle.bpaf_exact.specs.Pieces.{Roles, either, either_role, is_key, is_own, is_own_role, others}
+use Rattle.bpaf_exact.specs.Pieces.{Apart, IsNamed, Two, argument, at_end, flag, mine, passed, word}
+use Rattle.bpaf_exact.specs.Pieces.{Cut, TakesPiece, begin_piece, takes_later, takes_one, with_next}
+use Rattle.bpaf_exact.specs.Pieces.{TakesPieces, pieces, takes_more, takes_none, takes_two}
 
 -- a value is no key
 pub value_not_key : (w : Arg) → is_value w ≡ true → is_key w ≡ false
@@ -135,8 +135,13 @@ pieces_of_cut {q} r n (word {w} {cs} h c) =
 
 -- The other way: a piece given back to its place.
 
+-- an item that isn't the one's has the role that it has to the other
+pub either_right : (x : Role) {y : Role} → x ≡ Foreign → either_role x y ≡ y
+either_right Foreign e = refl
+either_right _ e = absurd cc
+
 -- an item of the one is of the same role to both
-either_own : (x y z : Role) → x ≡ z → is_own_role z ≡ true → either_role x y ≡ z
+pub either_own : (x y z : Role) → x ≡ z → is_own_role z ≡ true → either_role x y ≡ z
 either_own Foreign y Foreign e h = cc
 either_own Foreign y _ e h = cc
 either_own _ y z e h = e
@@ -166,72 +171,85 @@ cut_more {q} {o} i on = record {
   alike = ap (λ z. if not (is_own q o) then (o ∷ z) else z) i.alike;
 }
 
+-- a field's own pieces are ones of a cut by these keys: keys, or words
+pub record CutsOff (q r : Roles) : Type 0 where
+  pub alone : (k : Arg) → q k ≡ Alone
+      → (r k ≡ Alone) ⊎ ((is_positional k ≡ true) × (r k ≡ Foreign))
+  pub pair : (k : Arg) → q k ≡ WithNext → (r k ≡ WithNext) × (is_positional k ≡ false)
+  pub value : (k w : Arg) → r k ≡ WithNext → is_value w ≡ true → q w ≡ Foreign
+
+-- so are those of a named field
+pub named_cuts : {q : Roles} (r : Roles) → IsNamed q → CutsOff q (either q r)
+named_cuts {q} r n = record {
+  alone = λ k e. inl (either_own (q k) (r k) Alone e refl);
+  pair = λ k e. (
+    either_own (q k) (r k) WithNext e refl,
+    false_from_ne_true (is_positional k) (λ h. let f = word_foreign n h in cc),
+  );
+  value = λ k w e v. value_foreign n v;
+}
+
 -- a piece given back to its place is cut off there again
-pub put_back : {q : Roles} (r : Roles) {cs ds : Cells} {o : LinePiece} {os : List LinePiece}
-    → TakesPiece q cs o ds → Cut (either q r) ds os → CutAlike q (either q r) cs os
-put_back {q} r (takes_one {k} e) (passed {os} c) = record {
+pub put_back : {q r : Roles} {cs ds : Cells} {o : LinePiece} {os : List LinePiece} → CutsOff q r
+    → TakesPiece q cs o ds → Cut r ds os → CutAlike q r cs os
+put_back {q} f (takes_one {k} e) (passed {os} c) = record {
   now = One k ∷ os;
-  cut = flag (either_own (q k) (r k) Alone e refl) c;
+  cut = ⊎_elim (λ key. flag key c) (λ there. word there.0 c) (f.alone k e);
   alike = others_own q (One k) os (ap is_own_role e);
 }
-put_back {q} r (takes_two {k} {w} e v) (passed (passed {os} c)) = record {
+put_back {q} f (takes_two {k} {w} e v) (passed (passed {os} c)) = record {
   now = Two k w ∷ os;
-  cut = argument (either_own (q k) (r k) WithNext e refl) v c;
+  cut = argument (f.pair k e).0 v c;
   alike = others_own q (Two k w) os (ap is_own_role e);
 }
-put_back r (takes_later {c = None} t) (passed c) = let i = put_back r t c in
+put_back f (takes_later {c = None} t) (passed c) = let i = put_back f t c in
     record { now = i.now; cut = passed i.cut; alike = i.alike }
-put_back r (takes_later {c = Some k} t) (flag e c) = cut_more (put_back r t c) (λ ps. flag e)
-put_back r (takes_later {c = Some k} (takes_later {c = Some w} t)) (argument e v c) =
-    cut_more (put_back r t c) (λ ps. argument e v)
-put_back r (takes_later {c = Some k} t) (word h c) = cut_more (put_back r t c) (λ ps. word h)
+put_back f (takes_later {c = Some k} t) (flag e c) = cut_more (put_back f t c) (λ ps. flag e)
+put_back f (takes_later {c = Some k} (takes_later {c = Some w} t)) (argument e v c) =
+    cut_more (put_back f t c) (λ ps. argument e v)
+put_back f (takes_later {c = Some k} t) (word h c) = cut_more (put_back f t c) (λ ps. word h)
 
 -- so are some pieces
-pub put_back_some : {q : Roles} (r : Roles) {cs ds : Cells} {os : List LinePiece}
-    → TakesPieces q cs ds → Cut (either q r) ds os → CutAlike q (either q r) cs os
-put_back_some r {os} takes_none c = record { now = os; cut = c; alike = refl }
-put_back_some r (takes_more t more) c =
-    let i = put_back_some r more c in
-    let j = put_back r t i.cut in
+pub put_back_some : {q r : Roles} {cs ds : Cells} {os : List LinePiece} → CutsOff q r
+    → TakesPieces q cs ds → Cut r ds os → CutAlike q r cs os
+put_back_some {os} f takes_none c = record { now = os; cut = c; alike = refl }
+put_back_some f (takes_more t more) c =
+    let i = put_back_some f more c in
+    let j = put_back f t i.cut in
     record { now = j.now; cut = j.cut; alike = j.alike ∙ i.alike }
 
--- What is left of a cut when a piece is taken.
-
--- the role of an item to both is that to the one
-either_not : {x : Role} (y : Role) {z u : Role} → x ≡ z → is_own_role z ≡ true → either_role x y ≡ u
-    → z ≡ u
-either_not {x} y {z} e h g = sym (either_own x y z e h) ∙ g
-
 -- what is left of a cut when a piece is taken
-pub take_from : {q : Roles} (r : Roles) {cs ds : Cells} {o : LinePiece} {os : List LinePiece}
-    → IsNamed q → TakesPiece q cs o ds → Cut (either q r) cs os → CutAlike q (either q r) ds os
-take_from {q} r n (takes_one {k} e) (flag {os} g c) =
+pub take_from : {q r : Roles} {cs ds : Cells} {o : LinePiece} {os : List LinePiece} → CutsOff q r
+    → TakesPiece q cs o ds → Cut r cs os → CutAlike q r ds os
+take_from {q} f (takes_one {k} e) (flag {os} g c) =
     record { now = os; cut = passed c; alike = sym (others_own q (One k) os (ap is_own_role e)) }
-take_from r n (takes_one {k} e) (argument g v c) = let h = either_not (r k) e refl g in absurd cc
-take_from r n (takes_one e) (word h c) = let g = word_foreign n h in absurd cc
-take_from r n (takes_two {k} e v) (flag g c) = let h = either_not (r k) e refl g in absurd cc
-take_from {q} r n (takes_two {k} {w} e v) (argument {os} g u c) = record {
+take_from f (takes_one {k} e) (argument g v c) =
+    absurd (⊎_elim (λ key. cc) (λ there. let h = there.1 in cc) (f.alone k e))
+take_from {q} f (takes_one {k} e) (word {os} h c) =
+    record { now = os; cut = passed c; alike = sym (others_own q (One k) os (ap is_own_role e)) }
+take_from f (takes_two {k} e v) (flag g c) = let h = (f.pair k e).0 in absurd cc
+take_from {q} f (takes_two {k} {w} e v) (argument {os} g u c) = record {
   now = os;
   cut = passed (passed c);
   alike = sym (others_own q (Two k w) os (ap is_own_role e));
 }
-take_from r n (takes_two e v) (word h c) = let g = word_foreign n h in absurd cc
-take_from r n (takes_later {c = None} t) (passed c) = let i = take_from r n t c in
+take_from f (takes_two {k} e v) (word h c) = let g = (f.pair k e).1 in absurd cc
+take_from f (takes_later {c = None} t) (passed c) = let i = take_from f t c in
     record { now = i.now; cut = passed i.cut; alike = i.alike }
-take_from r n (takes_later {c = Some k} t) (flag e c) = cut_more (take_from r n t c) (λ ps. flag e)
-take_from r n (takes_later {c = Some k} (takes_later {c = Some w} t)) (argument e v c) =
-    cut_more (take_from r n t c) (λ ps. argument e v)
-take_from r n (takes_later {c = Some k} (takes_one e')) (argument e v c) =
-    let g = value_foreign n v in absurd cc
-take_from r n (takes_later {c = Some k} (takes_two e' v')) (argument e v c) =
-    let g = value_foreign n v in absurd cc
-take_from r n (takes_later {c = Some k} t) (word h c) = cut_more (take_from r n t c) (λ ps. word h)
+take_from f (takes_later {c = Some k} t) (flag e c) = cut_more (take_from f t c) (λ ps. flag e)
+take_from f (takes_later {c = Some k} (takes_later {c = Some w} t)) (argument e v c) =
+    cut_more (take_from f t c) (λ ps. argument e v)
+take_from f (takes_later {c = Some k} (takes_one {k = w} e')) (argument e v c) =
+    let g = f.value k w e v in absurd cc
+take_from f (takes_later {c = Some k} (takes_two {k = w} e' v')) (argument e v c) =
+    let g = f.value k w e v in absurd cc
+take_from f (takes_later {c = Some k} t) (word h c) = cut_more (take_from f t c) (λ ps. word h)
 
 -- when some pieces are
-pub take_some_from : {q : Roles} (r : Roles) {cs ds : Cells} {os : List LinePiece} → IsNamed q
-    → TakesPieces q cs ds → Cut (either q r) cs os → CutAlike q (either q r) ds os
-take_some_from r {os} n takes_none c = record { now = os; cut = c; alike = refl }
-take_some_from r n (takes_more t more) c =
-    let j = take_from r n t c in
-    let i = take_some_from r n more j.cut in
+pub take_some_from : {q r : Roles} {cs ds : Cells} {os : List LinePiece} → CutsOff q r
+    → TakesPieces q cs ds → Cut r cs os → CutAlike q r ds os
+take_some_from {os} f takes_none c = record { now = os; cut = c; alike = refl }
+take_some_from f (takes_more t more) c =
+    let j = take_from f t c in
+    let i = take_some_from f more j.cut in
     record { now = i.now; cut = i.cut; alike = i.alike ∙ j.alike }

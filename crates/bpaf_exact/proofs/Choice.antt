@@ -1,34 +1,33 @@
 -- A choice of two alternatives is one.
-use Rattle.std.proofs.Common.{◌≡◌, ℕ, suc, zero, ◌<◌, Bool, true, false, not, ◌&&◌, List, [], ◌∷◌}
-use Rattle.std.proofs.Common.{length, Option, Some, None, Result, Ok, Err, refl, sym, ap, ap₂, ◌∙◌}
-use Rattle.std.proofs.Common.{◌≤◌, subst, inl, inr, ◌⊎◌, ⊎_elim, arith, true≢false, nat_le, nat_lt}
-use Rattle.std.proofs.lemmas.Bool.{eqb-true, le-leb, lt-ltb, and_parts, cases_lt}
-use Rattle.bpaf_base.specs.{declared.arg.Arg.Arg, Items.any_item}
-use Rattle.bpaf_line.specs.Situation.{Situation, is_taken, item_in, open_count}
-use Rattle.bpaf_line.specs.{Conflicts.IsWinner, Conflicts.ConflictsSaved, Combining.Combines}
-use Rattle.bpaf_line.specs.{Messages.is_memory, Messages.is_wrong_input, declared.error.Error.Error}
-use Rattle.bpaf_line.specs.Taking.{open_item}
-use Rattle.bpaf_line.proofs.{Places.present_in_line, Matches.open_has_item}
-use Rattle.bpaf_laws.proofs.ChoiceLaws.{not_winner}
-use Rattle.bpaf_laws.specs.Choice.{branch_of, ChoiceOutcome, EqualDepths, OneOk, Winner}
-use Rattle.bpaf_laws.specs.{Choice.BranchesEval, Spared.IsNotMemory, Turn.is_untouched}
-use Rattle.bpaf_laws.specs.Reading.{Outcome}
-use Rattle.bpaf_exact.specs.Pieces.{Cells, Roles, LinePiece, One, Two, is_own_role, is_own, Apart}
-use Rattle.bpaf_exact.specs.Pieces.{either, pieces, TakesPiece, takes_one, takes_two, takes_later}
-use Rattle.bpaf_exact.specs.Flat.{OfMemory, OfMissing, Refused, class, cells, first_cells}
-use Rattle.bpaf_exact.specs.Alternative.{TakesFirst, HasBad, AlternativeOk, AlternativeErr}
-use Rattle.bpaf_exact.specs.Alternative.{alternative_memory, alternative_missing}
-use Rattle.bpaf_exact.specs.Alternative.{alternative_refused, AlternativeLaw, either_value}
-use Rattle.bpaf_exact.specs.Flat.{IsWholeIn, Steady, Variables}
+use Rattle.std.proofs.Common.{Bool, [], false, length, not, suc, true, zero, ℕ, ◌&&◌, ◌<◌, ◌∷◌, ◌≡◌}
+use Rattle.std.proofs.Common.{Err, List, None, Ok, Option, Result, Some, ap₂, refl, subst, sym, ◌∙◌}
+use Rattle.std.proofs.Common.{ap, arith, inl, inr, nat_le, nat_lt, true≢false, ⊎_elim, ◌≤◌, ◌⊎◌}
+use Rattle.std.proofs.lemmas.Bool.{and_parts, cases_lt, eqb-true, le-leb, not-false, not-true}
+use Rattle.std.proofs.lemmas.Bool.{lt-ltb}
 use Rattle.std.specs.{Option.option_map_or, Prelude.MatchBool}
-use Rattle.bpaf_exact.proofs.First.{Union, swap_union, either_union, union_named, takes_left}
-use Rattle.bpaf_exact.proofs.First.{bad_given_back, bad_left, HeadOf, owner, first_mine}
-use Rattle.bpaf_exact.proofs.First.{first_alone, both_nil, TookLeft, left_here, left_later}
-use Rattle.bpaf_exact.proofs.First.{first_both, not_left, never_same}
-use Rattle.bpaf_exact.proofs.Places.{same_cells, same_item, closed_item}
-use Rattle.bpaf_exact.proofs.Product.{steady_refl, steady_trans, none_outside_after}
-use Rattle.bpaf_exact.proofs.Classes.{memory_class, not_memory, combined_refused, combined_missing}
-use Rattle.bpaf_exact.proofs.{Counts.open_present, Counts.takes_fewer, Cells.keeps_other}
+use Rattle.bpaf_base.specs.{Items.any_item, declared.arg.Arg.Arg}
+use Rattle.bpaf_line.proofs.{Matches.open_has_item, Places.present_in_line}
+use Rattle.bpaf_line.specs.{Conflicts.ConflictsSaved, Situation.item_in, declared.error.Error.Error}
+use Rattle.bpaf_line.specs.{Messages.is_wrong_input, Situation.Situation, Situation.open_count}
+use Rattle.bpaf_line.specs.{Combining.Combines, Conflicts.IsWinner, Messages.is_memory}
+use Rattle.bpaf_line.specs.{Situation.is_taken, Taking.open_item}
+use Rattle.bpaf_laws.proofs.ChoiceLaws.{chosen_at_equal, not_winner}
+use Rattle.bpaf_laws.specs.Choice.{BranchesEval, ChoiceOutcome, EqualDepths, Winner, branch_of}
+use Rattle.bpaf_laws.specs.{Choice.OneOk, Reading.Outcome, Spared.IsNotMemory, Turn.is_untouched}
+use Rattle.bpaf_exact.proofs.Classes.{combined_missing, combined_refused, memory_class, not_memory}
+use Rattle.bpaf_exact.proofs.First.{HeadOf, TookLeft, both_nil, first_mine, swap_union, union_named}
+use Rattle.bpaf_exact.proofs.First.{either_union, left_here, left_later, takes_left, takes_nonempty}
+use Rattle.bpaf_exact.proofs.{Counts.open_present, Product.none_outside_after, Product.steady_trans}
+use Rattle.bpaf_exact.proofs.{Counts.takes_fewer, Product.steady_refl, Records.mine_of_both}
+use Rattle.bpaf_exact.proofs.{First.Union, Places.closed_item, Places.same_cells}
+use Rattle.bpaf_exact.proofs.{First.never_same, First.not_left, First.owner, Places.same_item}
+use Rattle.bpaf_exact.specs.Alternative.{AlternativeErr, AlternativeOk, alternative_missing}
+use Rattle.bpaf_exact.specs.Alternative.{FirstUnread, TakesFirst, alternative_refused, either_value}
+use Rattle.bpaf_exact.specs.Flat.{ErrorClass, IsWholeIn, OfMemory, OfMissing, Refused, cells, class}
+use Rattle.bpaf_exact.specs.Pieces.{Cells, LinePiece, One, Two, either, is_own, is_own_role, pieces}
+use Rattle.bpaf_exact.specs.Pieces.{Apart, Roles, TakesPiece, takes_later, takes_one, takes_two}
+use Rattle.bpaf_exact.specs.Alternative.{AlternativeLaw, alternative_memory}
+use Rattle.bpaf_exact.specs.{Flat.Steady, Flat.Variables, Flat.first_cells, Pieces.mine}
 
 -- the same scope of the same line
 pub record SameScope (m n : Situation) : Type 0 where
@@ -115,16 +114,6 @@ left_of {m} {n} {p} w a b took free same =
     (left_cells (open_item n) (length n.context.line) p
     (present_in_line n p free) (closed_item m p took) i.is (λ q l. steady_item st q (same q l)))
 
--- of two tests that differ the second fails where the first holds
-differ : {a : Bool} (b : Bool) → a ≡ not b → a ≡ true → b ≡ false
-differ true e f = absurd (true≢false (sym f ∙ e))
-differ false e f = refl
-
--- and holds where the first fails
-differ_not : {a : Bool} (b : Bool) → a ≡ not b → a ≡ false → b ≡ true
-differ_not true e f = refl
-differ_not false e f = absurd (true≢false (sym e ∙ f))
-
 -- conflict notes change nothing that is taken
 pub saved_steady : {s : Situation} (other : Situation) {t : Situation} {place : ℕ}
     → ConflictsSaved s other place t → Steady s t
@@ -145,62 +134,64 @@ takes_own (takes_later t) = takes_own t
 
 -- what the other branch did
 data Other (T : Type 0) (qb : Roles) (vb : LinePiece → T → Type 0) (cs cm : Cells) : Type 0 where
-  other_took : {cn : Cells} {ob : LinePiece} → TakesPiece qb cs ob cn → TookLeft cm cn
-      → TakesFirst qb cs ob cn ⊎ HasBad T vb (pieces qb cn)
-      → ((o : LinePiece) (os : List LinePiece) (w : T) → pieces qb cs ≡ o ∷ os → vb o w
-      → TakesFirst qb cs ob cn) → Other T qb vb cs cm
-  other_missing : pieces qb cs ≡ [] → Other T qb vb cs cm
-  other_refused : HasBad T vb (pieces qb cs)
-      → ((o : LinePiece) (os : List LinePiece) (w : T) → pieces qb cs ≡ o ∷ os → vb o w → ⊥)
+  other_first : {cn : Cells} {ob : LinePiece} → TakesFirst qb cs ob cn → TookLeft cm cn
       → Other T qb vb cs cm
+  other_missing : pieces qb cs ≡ [] → Other T qb vb cs cm
+  other_unread : FirstUnread T qb vb cs → Other T qb vb cs cm
+
+-- where one has a piece so have both
+some_both : {p q r : Roles} {T : Type 0} {v : LinePiece → T → Type 0} → Union p q r → (cs : Cells)
+    → FirstUnread T p v cs → pieces r cs ≡ [] → ⊥
+some_both {p} u cs z e =
+    let none : pieces p cs ≡ [] = sym (mine_of_both u cs) ∙ ap (mine p) e in
+    let some = z.2 in
+    cc
+
+-- the first of some pieces
+some_head : (os : List LinePiece) → (os ≡ [] → ⊥)
+    → (o : LinePiece) × (rest : List LinePiece) × (os ≡ o ∷ rest)
+some_head [] some = absurd (some refl)
+some_head (o ∷ os) some = (o, os, refl)
+
+-- a first piece that its owner can't read can't be read
+head_unread : {T : Type 0} (q : Roles) {v vr : LinePiece → T → Type 0} (cs : Cells) {o : LinePiece}
+    → ((o : LinePiece) (w : T) → is_own q o ≡ true → vr o w ≡ v o w) → HeadOf q cs o
+    → FirstUnread T q v cs → (w : T) → vr o w → ⊥
+head_unread q cs {o} same h z w y =
+    let d : o ∷ h.0 ≡ z.0 ∷ z.1 = sym h.1 ∙ z.2 in
+    let e : o ≡ z.0 = cc in
+    z.3 w (rw (← e, ← same o w h.2) y)
 
 module _ (T : Type 0) {qa qb r : Roles} (u : Union qa qb r) (va : LinePiece → T → Type 0)
     {vb : LinePiece → T → Type 0} (vr : LinePiece → T → Type 0)
     (same_a : (o : LinePiece) (v : T) → is_own qa o ≡ true → vr o v ≡ va o v)
     (same_b : (o : LinePiece) (v : T) → is_own qb o ≡ true → vr o v ≡ vb o v) where
-  -- a piece of the other branch that can't be read stays one
-  kept_bad : {cs cm : Cells} {oa : LinePiece} → TakesPiece qa cs oa cm → HasBad T vb (pieces qb cs)
-      → HasBad T vr (pieces r cm)
-  kept_bad {cm} t h =
-      bad_left T vb vr (swap_union u) same_b cm
-      (rw (keeps_other u.named_left u.named_right u.apart t) h)
-
-  -- the winner took the first piece of both, or one that can't be read stays
-  won_first : {cs cm : Cells} {oa : LinePiece} → TakesPiece qa cs oa cm → Other T qb vb cs cm
-      → TakesFirst qa cs oa cm ⊎ HasBad T va (pieces qa cm)
-      → TakesFirst r cs oa cm ⊎ HasBad T vr (pieces r cm)
-  won_first {cm} t o (inr h) = inr (bad_left T va vr u same_a cm h)
-  won_first t (other_took tb l (inl f) rb) (inl h) = inl (first_both u h f l)
-  won_first t (other_took tb l (inr f) rb) (inl h) =
-      inr (kept_bad t (bad_given_back u.named_right tb f))
-  won_first t (other_missing e) (inl h) = inl (first_alone u e h)
-  won_first t (other_refused b n) (inl h) = inr (kept_bad t b)
-
-  -- where the first piece of both can be read, the winner took it
-  won_readable : {cs cm : Cells} {oa : LinePiece} → TakesPiece qa cs oa cm → Other T qb vb cs cm
-      → ((o : LinePiece) (os : List LinePiece) (w : T) → pieces qa cs ≡ o ∷ os → va o w → TakesFirst
-      qa cs oa cm) → (o : LinePiece) {os : List LinePiece} (w : T) → pieces r cs ≡ o ∷ os → vr o w
-      → TakesFirst r cs oa cm
-  won_readable {cs} {cm} {oa} t other ra o w e v = by_owner (owner cs u e) other
+  -- the winner took the first piece of both, or that can't be read
+  won_first : {cs cm : Cells} {oa o : LinePiece} {os : List LinePiece} → pieces r cs ≡ o ∷ os
+      → TakesPiece qa cs oa cm → Other T qb vb cs cm
+      → TakesFirst qa cs oa cm ⊎ FirstUnread T qa va cs
+      → TakesFirst r cs oa cm ⊎ FirstUnread T r vr cs
+  won_first {cs} {cm} {oa} {o} {os} e t other first = by_owner (owner cs u e) other
     where
-      by_owner : HeadOf qa cs o ⊎ HeadOf qb cs o → Other T qb vb cs cm → TakesFirst r cs oa cm
-      by_owner (inl h) x = first_mine u e h.2 (ra o h.0 w h.1 (rw (← same_a o w h.2) v))
-      by_owner (inr h) (other_took tb l f rb) =
-          absurd (not_left u e h.2 t (rb o h.0 w h.1 (rw (← same_b o w h.2) v)) l)
-      by_owner (inr h) (other_missing n) = let i = h.1 in absurd cc
-      by_owner (inr h) (other_refused b n) = absurd (n o h.0 w h.1 (rw (← same_b o w h.2) v))
+      by_owner : HeadOf qa cs o ⊎ HeadOf qb cs o → Other T qb vb cs cm
+          → TakesFirst r cs oa cm ⊎ FirstUnread T r vr cs
+      by_owner (inl h) x = ⊎_elim (λ f. inl (first_mine u e h.2 f))
+          (λ z. inr (o, os, e, head_unread qa cs same_a h z)) first
+      by_owner (inr h) (other_first f l) = absurd (not_left u e h.2 t f l)
+      by_owner (inr h) (other_missing none) = let i = h.1 in absurd cc
+      by_owner (inr h) (other_unread z) = inr (o, os, e, head_unread qb cs same_b h z)
 
   -- the winner's value is one of the choice
   won : {s m t : Situation} {x : T} → AlternativeOk T qa va s x m
       → Other T qb vb (cells s) (cells m) → Steady m t → cells t ≡ cells m
       → AlternativeOk T r vr s x t
-  won {x} a o st e = record {
+  won {s} {x} a o st e = record {
     steady = steady_trans a.steady st;
     piece = a.piece;
     takes = rw e (takes_left u a.takes);
     means = rw (same_a a.piece x (takes_own a.takes)) a.means;
-    first = rw e (won_first a.takes o a.first);
-    readable = λ p ps w h v. rw e (won_readable a.takes o a.readable p w h v);
+    first = rw e (won_first
+        (some_head (pieces r (cells s)) (takes_nonempty (takes_left u a.takes))).2 a.takes o a.first);
   }
 
 module _ {env : Variables} (T : Type 0) (a b : Outcome T) (qa qb : Roles)
@@ -240,25 +231,30 @@ module _ {env : Variables} (T : Type 0) (a b : Outcome T) (qa qb : Roles)
   second_won {s} {n} {t} {y} o h st e = won T (swap_union u) vb vr same_second same_first o h st e
 
   -- the other branch refused
-  err_other : {q : Roles} {v : LinePiece → T → Type 0} {s n : Situation} {cm : Cells} {e : Error}
-      → is_memory e.0 ≡ false → AlternativeErr T q v s e n → Other T q v (cells s) cm
-  err_other {e} h (alternative_memory c) = absurd (not_memory e.0 h c)
-  err_other h (alternative_missing c p same st) = other_missing p
-  err_other h (alternative_refused c p b g) = other_refused b g
+  err_other : {q : Roles} {v : LinePiece → T → Type 0} {s n : Situation} {cm : Cells} (e : Error)
+      → is_memory e.0 ≡ false → AlternativeErr T q v s (class e) n → Other T q v (cells s) cm
+  err_other e h (alternative_memory c) = absurd (not_memory e.0 h c)
+  err_other e h (alternative_missing c p same st) = other_missing p
+  err_other e h (alternative_refused c p z) = other_unread z
+
+  -- or took something further right
+  ok_other : {q : Roles} {v : LinePiece → T → Type 0} {s n : Situation} {x : T} {cm : Cells}
+      → AlternativeOk T q v s x n → TookLeft cm (cells n) → Other T q v (cells s) cm
+  ok_other j l = ⊎_elim (λ f. other_first f l) (λ z. other_unread z) j.first
 
   -- both branches leave the path as it was
-  err_path : {q : Roles} {v : LinePiece → T → Type 0} {s n : Situation} {e : Error}
-      → is_memory e.0 ≡ false → AlternativeErr T q v s e n → n.path ≡ s.path
-  err_path {e} h (alternative_memory c) = absurd (not_memory e.0 h c)
-  err_path h (alternative_missing c p same st) = st.path
-  err_path h (alternative_refused c p b g) = p
+  err_path : {q : Roles} {v : LinePiece → T → Type 0} {s n : Situation} (e : Error)
+      → is_memory e.0 ≡ false → AlternativeErr T q v s (class e) n → n.path ≡ s.path
+  err_path e h (alternative_memory c) = absurd (not_memory e.0 h c)
+  err_path e h (alternative_missing c p same st) = st.path
+  err_path e h (alternative_refused c p z) = p
 
   -- an alternative leaves the path as it was
   law_path : {z : Outcome T} {q : Roles} {v : LinePiece → T → Type 0} → AlternativeLaw env T z q v
       → (s : Situation) {n : Situation} (r : Result T Error) → IsWholeIn env s → z s r n
       → IsNotMemory r → n.path ≡ s.path
-  law_path l s {n} (Ok x) w o h = (l.ok s n x w o).steady.path
-  law_path l s {n} (Err e) w o h = err_path h (l.err s n e w o)
+  law_path l s {n} (Ok x) w o h = (l.keeps.ok s n x w o).steady.path
+  law_path l s {n} (Err e) w o h = err_path e h (l.keeps.err s n e w o)
 
   -- and both are equally deep
   equally_deep : {s t : Situation} {r : Result T Error} → IsWholeIn env s
@@ -266,9 +262,7 @@ module _ {env : Variables} (T : Type 0) (a b : Outcome T) (qa qb : Roles)
   equally_deep {s} w o =
       let pa = law_path la s o.a w o.first_ran o.first_spared in
       let pb = law_path lb s o.b w o.second_ran o.second_spared in
-      ⊎_elim (λ deeper. absurd (let c = ap length (pa ∙ sym pb) in omega arith))
-      (λ other. ⊎_elim (λ deeper. absurd (let c = ap length (pb ∙ sym pa) in omega arith))
-      (λ equal. equal.1) other) o.chosen
+      chosen_at_equal s o.a o.sa o.b o.sb _ _ (ap length (pa ∙ sym pb)) o.chosen
 
   -- an alternative that answered took something
   never_untouched : {q : Roles} {v : LinePiece → T → Type 0} {s m : Situation} {x : T}
@@ -289,16 +283,16 @@ module _ {env : Variables} (T : Type 0) (a b : Outcome T) (qa qb : Roles)
       absurd (never_same u i.takes j.takes (cells_same (steady_both i.steady j.steady) win.0))
   winner_ok {sb} {x} v (true, Some p) w i j win k =
       let d : x ≡ v = cc in
-      let free = differ (is_taken sb p) win.0.differs win.1 in
+      let free = not-true (is_taken sb p) (sym win.0.differs ∙ win.1) in
       rw (← d) (first_won i
-      (other_took j.takes (left_of w i.steady j.steady win.1 free win.0.first) j.first j.readable)
+      (ok_other j (left_of w i.steady j.steady win.1 free win.0.first))
       (saved_steady sb k.1) (cells_same (same_scope (saved_steady sb k.1)) k.1.taken))
   winner_ok {sa} {sb} {y} v (false, Some p) w i j win k =
       let d : y ≡ v = cc in
-      let here = differ_not (is_taken sb p) win.0.differs win.1 in
+      let here = not-false (is_taken sb p) (sym win.0.differs ∙ win.1) in
       rw (← d) (second_won j
-      (other_took i.takes (left_of w j.steady i.steady here win.1 (λ q l. sym (win.0.first q l)))
-      i.first i.readable) (saved_steady sa k.1)
+      (ok_other i (left_of w j.steady i.steady here win.1 (λ q l. sym (win.0.first q l))))
+      (saved_steady sa k.1)
       (cells_same (same_scope (saved_steady sa k.1)) k.1.taken))
 
   -- the value of one, where the other refused
@@ -315,63 +309,59 @@ module _ {env : Variables} (T : Type 0) (a b : Outcome T) (qa qb : Roles)
       → a s x sa → b s y sb → IsNotMemory x → IsNotMemory y → EqualDepths s x sa y sb (Ok v) t
       → AlternativeOk T (either qa qb) vr s v t
   equal_ok s sa sb (Ok x) (Ok y) w f g hf hg (inl o) =
-      absurd (never_untouched (la.ok s sa x w f)
+      absurd (never_untouched (la.keeps.ok s sa x w f)
       (and_parts (is_untouched s sa) (is_untouched s sb) o.0).0)
   equal_ok s sa sb {t} {v} (Ok x) (Ok y) w f g hf hg (inr o) =
-      winner_ok v o.1.0 w (la.ok s sa x w f) (lb.ok s sb y w g) o.1.1 o.1.2
+      winner_ok v o.1.0 w (la.keeps.ok s sa x w f) (lb.keeps.ok s sb y w g) o.1.1 o.1.2
   equal_ok s sa sb (Ok x) (Err e) w f g hf hg o =
-      alone_ok (first_won (la.ok s sa x w f) (err_other hg (lb.err s sb e w g)) steady_refl refl) o
+      let other = err_other e hg (lb.keeps.err s sb e w g) in
+      alone_ok (first_won (la.keeps.ok s sa x w f) other steady_refl refl) o
   equal_ok s sa sb (Err e) (Ok y) w f g hf hg o =
-      alone_ok (second_won (lb.ok s sb y w g) (err_other hf (la.err s sa e w f)) steady_refl refl) o
+      let other = err_other e hf (la.keeps.err s sa e w f) in
+      alone_ok (second_won (lb.keeps.ok s sb y w g) other steady_refl refl) o
   equal_ok s sa sb (Err e) (Err d) w f g hf hg o = let i = o.0.2 in absurd cc
 
-  -- both fail
-  first_bad : (cs : Cells) → HasBad T va (pieces qa cs) → HasBad T vr (pieces (either qa qb) cs)
-  first_bad cs h = bad_left T va vr u same_first cs h
-
-  -- the first piece can't be read
-  abbrev Unread : (q : Roles) (v : LinePiece → T → Type 0) (s : Situation) → Type 0
-  Unread q v s =
-      (o : LinePiece) (os : List LinePiece) (w : T) → pieces q (cells s) ≡ o ∷ os → v o w → ⊥
-
-  -- where neither first piece can be read, that of both can't
-  both_unread : (s : Situation) → Unread qa va s → Unread qb vb s → Unread (either qa qb) vr s
-  both_unread s f g o os w h x = by_owner (owner (cells s) u h)
+  -- where one can't read its first piece, and the other can't or has none, that of both can't be read
+  both_unread : (cs : Cells) → (pieces (either qa qb) cs ≡ [] → ⊥)
+      → (pieces qa cs ≡ []) ⊎ FirstUnread T qa va cs → (pieces qb cs ≡ []) ⊎ FirstUnread T qb vb cs
+      → FirstUnread T (either qa qb) vr cs
+  both_unread cs some f g =
+      let head = some_head (pieces (either qa qb) cs) some in
+      (head.0, head.1, head.2, by_owner (owner cs u head.2))
     where
-      by_owner : HeadOf qa (cells s) o ⊎ HeadOf qb (cells s) o → ⊥
-      by_owner (inl i) = f o i.0 w i.1 (rw (← same_first o w i.2) x)
-      by_owner (inr i) = g o i.0 w i.1 (rw (← same_second o w i.2) x)
+      by_owner : {o : LinePiece} → HeadOf qa cs o ⊎ HeadOf qb cs o → (w : T) → vr o w → ⊥
+      by_owner (inl h) = ⊎_elim (λ none. let i = h.1 in absurd cc) (head_unread qa cs same_first h) f
+      by_owner (inr h) = ⊎_elim (λ none. let i = h.1 in absurd cc) (head_unread qb cs same_second h) g
 
   -- with a refusal of either class
-  by_class : {s : Situation} {g : Error} → (class g ≡ OfMemory) ⊎ (class g ≡ Refused)
-      → HasBad T vr (pieces (either qa qb) (cells s)) → Unread (either qa qb) vr s
-      → AlternativeErr T (either qa qb) vr s g s
-  by_class (inl c) h n = alternative_memory c
-  by_class (inr c) h n = alternative_refused c refl h n
+  by_class : {s : Situation} {c : ErrorClass} → (c ≡ OfMemory) ⊎ (c ≡ Refused)
+      → FirstUnread T (either qa qb) vr (cells s) → AlternativeErr T (either qa qb) vr s c s
+  by_class (inl c) z = alternative_memory c
+  by_class (inr c) z = alternative_refused c refl z
 
   -- where neither has a piece, the choice has none
-  both_missing : {s : Situation} {g : Error} → (class g ≡ OfMissing) ⊎ (class g ≡ OfMemory)
-      → pieces (either qa qb) (cells s) ≡ [] → AlternativeErr T (either qa qb) vr s g s
+  both_missing : {s : Situation} {c : ErrorClass} → (c ≡ OfMissing) ⊎ (c ≡ OfMemory)
+      → pieces (either qa qb) (cells s) ≡ [] → AlternativeErr T (either qa qb) vr s c s
   both_missing (inl c) h = alternative_missing c h refl steady_refl
   both_missing (inr c) h = alternative_memory c
 
   -- both branches refused
   both_failed : (s : Situation) {m n : Situation} (e f : Error) {g : Error} → is_memory e.0 ≡ false
-      → is_memory f.0 ≡ false → Combines e.0 f.0 g.0 → AlternativeErr T qa va s e m
-      → AlternativeErr T qb vb s f n → AlternativeErr T (either qa qb) vr s g s
+      → is_memory f.0 ≡ false → Combines e.0 f.0 g.0 → AlternativeErr T qa va s (class e) m
+      → AlternativeErr T qb vb s (class f) n → AlternativeErr T (either qa qb) vr s (class g) s
   both_failed s e f x y c (alternative_memory p) j = absurd (not_memory e.0 x p)
   both_failed s e f x y c i (alternative_memory q) = absurd (not_memory f.0 y q)
   both_failed s e f x y c (alternative_missing p i same st) (alternative_missing q j alike steady) =
       both_missing (combined_missing e.0 f.0 p q c) (both_nil (cells s) u i j)
-  both_failed s e f x y c (alternative_missing p i same st) (alternative_refused q path h k) =
+  both_failed s e f x y c (alternative_missing p i same st) (alternative_refused q path z) =
       by_class (combined_refused e.0 f.0 (inr q) (inl p) (inr q) c)
-      (bad_left T vb vr (swap_union u) same_second (cells s) h) (both_unread s (λ o os w e g. cc) k)
-  both_failed s e f x y c (alternative_refused p path h k) (alternative_missing q j same st) =
-      by_class (combined_refused e.0 f.0 (inl p) (inr p) (inl q) c) (first_bad (cells s) h)
-      (both_unread s k (λ o os w e g. cc))
-  both_failed s e f x y c (alternative_refused p path h k) (alternative_refused q other bad none) =
-      by_class (combined_refused e.0 f.0 (inl p) (inr p) (inr q) c) (first_bad (cells s) h)
-      (both_unread s k none)
+      (both_unread (cells s) (some_both (swap_union u) (cells s) z) (inl i) (inr z))
+  both_failed s e f x y c (alternative_refused p path z) (alternative_missing q j same st) =
+      by_class (combined_refused e.0 f.0 (inl p) (inr p) (inl q) c)
+      (both_unread (cells s) (some_both u (cells s) z) (inr z) (inl j))
+  both_failed s e f x y c (alternative_refused p path z) (alternative_refused q other i) =
+      by_class (combined_refused e.0 f.0 (inl p) (inr p) (inr q) c)
+      (both_unread (cells s) (some_both u (cells s) z) (inr z) (inr i))
 
   -- the value of one, where the other refused, is no refusal
   one_no_refusal : {q : Roles} {v : LinePiece → T → Type 0} {s m t : Situation} {x : T}
@@ -381,24 +371,24 @@ module _ {env : Variables} (T : Type 0) (a b : Outcome T) (qa qb : Roles)
   one_no_refusal i (inr o) = let h = o.1.0 in cc
 
   -- the refusal where both paths are equally deep
-  equal_err : (s : Situation) {sa sb t : Situation} {g : Error} (x y : Result T Error)
+  equal_err : (s : Situation) {sa sb t : Situation} (g : Error) (x y : Result T Error)
       → IsWholeIn env s → a s x sa → b s y sb → IsNotMemory x → IsNotMemory y
-      → EqualDepths s x sa y sb (Err g) t → AlternativeErr T (either qa qb) vr s g t
-  equal_err s (Ok x) (Ok y) w f h hf hg (inl o) = let i = o.1.0 in absurd cc
-  equal_err s {sa} {sb} {t} {g} (Ok x) (Ok y) w f h hf hg (inr o) =
+      → EqualDepths s x sa y sb (Err g) t → AlternativeErr T (either qa qb) vr s (class g) t
+  equal_err s g (Ok x) (Ok y) w f h hf hg (inl o) = let i = o.1.0 in absurd cc
+  equal_err s {sa} {sb} {t} g (Ok x) (Ok y) w f h hf hg (inr o) =
       absurd (not_winner (branch_of x sa) (branch_of y sb) o.1.0 g t o.1.2)
-  equal_err s {sa} (Ok x) (Err e) w f h hf hg o = absurd (one_no_refusal (la.ok s sa x w f) o)
-  equal_err s {sb} (Err e) (Ok y) w f h hf hg o = absurd (one_no_refusal (lb.ok s sb y w h) o)
-  equal_err s {sa} {sb} {g} (Err e) (Err d) w f h hf hg o =
+  equal_err s {sa} g (Ok x) (Err e) w f h hf hg o = absurd (one_no_refusal (la.keeps.ok s sa x w f) o)
+  equal_err s {sb} g (Err e) (Ok y) w f h hf hg o = absurd (one_no_refusal (lb.keeps.ok s sb y w h) o)
+  equal_err s {sa} {sb} g (Err e) (Err d) w f h hf hg o =
       let given = o.0.2 in
       let same : o.0.0 ≡ g = cc in
-      rw (o.1, ← same) (both_failed s e d hf hg o.0.1 (la.err s sa e w f) (lb.err s sb d w h))
+      rw (o.1, ← same) (both_failed s e d hf hg o.0.1 (la.keeps.err s sa e w f) (lb.keeps.err s sb d w h))
 
   -- a refusal of the choice is that of an alternative
   choice_err : (s t : Situation) (e : Error) → IsWholeIn env s → ChoiceOutcome a b s (Err e) t
-      → AlternativeErr T (either qa qb) vr s e t
+      → AlternativeErr T (either qa qb) vr s (class e) t
   choice_err s t e w (inl o) =
-      equal_err s o.a o.b w o.first_ran o.second_ran o.first_spared o.second_spared
+      equal_err s e o.a o.b w o.first_ran o.second_ran o.first_spared o.second_spared
       (equally_deep w o)
   choice_err s t e w (inr o) = alternative_memory (memory_class e.0 o.0)
 
@@ -406,8 +396,10 @@ module _ {env : Variables} (T : Type 0) (a b : Outcome T) (qa qb : Roles)
   pub choice_law : AlternativeLaw env T (ChoiceOutcome a b) (either qa qb) (either_value qa va vb)
   choice_law = record {
     named = union_named u;
-    ok = λ s t v w o.
-        equal_ok s o.sa o.sb o.a o.b w o.first_ran o.second_ran o.first_spared o.second_spared
-        (equally_deep w o);
-    err = choice_err;
+    keeps = record {
+      ok = λ s t v w o.
+          equal_ok s o.sa o.sb o.a o.b w o.first_ran o.second_ran o.first_spared o.second_spared
+          (equally_deep w o);
+      err = choice_err;
+    };
   }

@@ -1,42 +1,25 @@
 -- The classes of refusals, and of what two refusals together are.
-use Rattle.std.proofs.Common.{◌≡◌, Bool, true, false, not, ◌&&◌, if◌then◌else◌, refl, sym, ap, ap₂}
-use Rattle.std.proofs.Common.{◌∙◌, inl, inr, ◌⊎◌, ⊎_elim, true≢false}
-use Rattle.std.proofs.lemmas.Bool.{eqb-true, eq-eqb}
+use Rattle.std.proofs.Common.{Bool, false, if◌then◌else◌, inl, not, refl, sym, true, ◌&&◌, ◌∙◌, ◌≡◌}
+use Rattle.std.proofs.{Common.true≢false, Common.⊎_elim, lemmas.Bool.eq-eqb, lemmas.Bool.eqb-true}
+use Rattle.std.proofs.Common.{ap, inr, ◌⊎◌}
 use Rattle.bpaf_line.specs.declared.error.Message.TheVariants.{Memory, Missing, ParseFailure}
-use Rattle.bpaf_line.specs.Combining.{Combines, CombinesSpared}
-use Rattle.bpaf_line.specs.{Situation.Situation, Situation.open_count, declared.error.Error.Error}
-use Rattle.bpaf_line.specs.{Messages.is_memory, Messages.can_catch, declared.error.Message.Message}
-use Rattle.bpaf_laws.specs.Turn.{stops_step, stops_spared, is_untouched}
-use Rattle.bpaf_exact.specs.Flat.{OfMemory, OfMissing, Caught, is_missing, class_of_tests, class_of}
-use Rattle.bpaf_exact.specs.{Single.Stops, Single.nothing_found, Single.caught, Flat.Refused}
+use Rattle.bpaf_line.specs.{declared.error.Error.Error, declared.error.Message.Message}
+use Rattle.bpaf_line.specs.{Combining.CombinesSpared, Situation.Situation, Situation.open_count}
+use Rattle.bpaf_line.specs.{Combining.Combines, Messages.can_catch, Messages.is_memory}
+use Rattle.bpaf_laws.specs.Turn.{is_untouched, stops_spared, stops_step}
+use Rattle.bpaf_exact.specs.Flat.{Caught, ErrorClass, OfMemory, Refused, class_of_tests, is_missing}
+use Rattle.bpaf_exact.specs.Single.{CanCatch, catch_missing, catch_other, caught, nothing_found}
+use Rattle.bpaf_exact.specs.{Flat.OfMissing, Flat.class, Flat.class_of, Single.Stops}
 
 -- want of memory is of its class
 pub memory_class : (m : Message) → is_memory m ≡ true → class_of m ≡ OfMemory
 memory_class m e = ap (λ b. class_of_tests b (is_missing m) (can_catch m)) e
 
--- and nothing else is
-pub memory_of : (m : Message) → class_of m ≡ OfMemory → is_memory m ≡ true
-memory_of m e = by_test (is_memory m) (is_missing m) (can_catch m) e
-  where
-    by_test : (a b c : Bool) → class_of_tests a b c ≡ OfMemory → a ≡ true
-    by_test true b c e = refl
-    by_test false true c e = cc
-    by_test false false true e = cc
-    by_test false false false e = cc
-
--- what isn't want of memory isn't of its class
-pub not_memory : (m : Message) → is_memory m ≡ false → class_of m ≡ OfMemory → ⊥
-not_memory m e c = true≢false (sym (memory_of m c) ∙ e)
-
 -- what says that items are missing can be caught, and isn't want of memory
-pub missing_caught : (m : Message) → is_missing m ≡ true
+missing_caught : (m : Message) → is_missing m ≡ true
     → (is_memory m ≡ false) × (can_catch m ≡ true)
 missing_caught (Missing items) e = (refl, refl)
 missing_caught other e = absurd cc
-
--- and is of its class
-pub missing_class : (m : Message) → is_missing m ≡ true → class_of m ≡ OfMissing
-missing_class m e = ap₂ (λ a b. class_of_tests a b (can_catch m)) (missing_caught m e).0 e
 
 -- want of memory can't be caught
 memory_kept : (m : Message) → is_memory m ≡ true → can_catch m ≡ false
@@ -44,32 +27,51 @@ memory_kept Memory e = refl
 memory_kept (ParseFailure f) e = refl
 memory_kept other e = absurd cc
 
--- of what can be caught something is missing, or it can be caught otherwise
-pub caught_class : (m : Message) → can_catch m ≡ true
-    → (class_of m ≡ OfMissing) ⊎ (class_of m ≡ Caught)
-caught_class m e = by_test (is_memory m) (is_missing m) (can_catch m) e (λ h. memory_kept m h)
-  where
-    by_test : (a b c : Bool) → c ≡ true → (a ≡ true → c ≡ false)
-        → (class_of_tests a b c ≡ OfMissing) ⊎ (class_of_tests a b c ≡ Caught)
-    by_test true b c e f = let g = f refl in absurd cc
-    by_test false true c e f = inl refl
-    by_test false false true e f = inr refl
-    by_test false false false e f = absurd cc
+-- what the three tests of a class answer: want of memory, a missing item, and whether it can be
+-- caught
+abbrev tests_of : ErrorClass → Bool × Bool × Bool
+tests_of OfMemory = (true, false, false)
+tests_of OfMissing = (false, true, true)
+tests_of Caught = (false, false, true)
+tests_of Refused = (false, false, false)
 
--- what can't be caught is of neither class
-pub kept_class : (m : Message) → can_catch m ≡ false
-    → (class_of m ≡ OfMissing) ⊎ (class_of m ≡ Caught) → ⊥
-kept_class m e c =
-    by_test (is_memory m) (is_missing m) (can_catch m) e (λ h. (missing_caught m h).1) c
+-- the tests of a message are those of its class
+tests_are : (m : Message) {c : ErrorClass} → class_of m ≡ c → (is_memory m ≡ (tests_of c).0)
+    × (is_missing m ≡ (tests_of c).1) × (can_catch m ≡ (tests_of c).2)
+tests_are m {c} e =
+    let own = by_tests (is_memory m) (is_missing m) (can_catch m) (memory_kept m) (missing_caught m)
+    in (
+      own.0 ∙ ap (λ z. (tests_of z).0) e,
+      own.1 ∙ ap (λ z. (tests_of z).1) e,
+      own.2 ∙ ap (λ z. (tests_of z).2) e,
+    )
   where
-    by_test : (a b c : Bool) → c ≡ false → (b ≡ true → c ≡ true)
-        → (class_of_tests a b c ≡ OfMissing) ⊎ (class_of_tests a b c ≡ Caught) → ⊥
-    by_test true b c e f (inl h) = cc
-    by_test true b c e f (inr h) = cc
-    by_test false true c e f h = let g = f refl in absurd cc
-    by_test false false true e f h = absurd cc
-    by_test false false false e f (inl h) = cc
-    by_test false false false e f (inr h) = cc
+    by_tests : (a b c : Bool) → (a ≡ true → c ≡ false) → (b ≡ true → (a ≡ false) × (c ≡ true))
+        → (a ≡ (tests_of (class_of_tests a b c)).0) × (b ≡ (tests_of (class_of_tests a b c)).1)
+        × (c ≡ (tests_of (class_of_tests a b c)).2)
+    by_tests true true c f g = let h = (g refl).0 in absurd cc
+    by_tests true false c f g = (refl, refl, f refl)
+    by_tests false true c f g = (refl, refl, (g refl).1)
+    by_tests false false true f g = (refl, refl, refl)
+    by_tests false false false f g = (refl, refl, refl)
+
+-- what isn't want of memory isn't of its class
+pub not_memory : (m : Message) → is_memory m ≡ false → class_of m ≡ OfMemory → ⊥
+not_memory m e c = true≢false (sym (tests_are m c).0 ∙ e)
+
+-- what can be caught is of a class that can
+pub caught_class : (m : Message) → can_catch m ≡ true → CanCatch (class_of m)
+caught_class m e = by_class (class_of m) (sym (tests_are m refl).2 ∙ e)
+  where
+    by_class : (c : ErrorClass) → (tests_of c).2 ≡ true → CanCatch c
+    by_class OfMissing e = catch_missing refl
+    by_class Caught e = catch_other refl
+    by_class _ e = absurd cc
+
+-- what can't is of none such
+pub kept_class : (m : Message) → can_catch m ≡ false → CanCatch (class_of m) → ⊥
+kept_class m e (catch_missing c) = true≢false (sym (tests_are m c).2 ∙ e)
+kept_class m e (catch_other c) = true≢false (sym (tests_are m c).2 ∙ e)
 
 -- which refusals stop a turn that doesn't catch
 stop_test : (m : Message) (untouched : Bool)
@@ -78,111 +80,71 @@ stop_test (Missing items) untouched = refl
 stop_test other untouched = refl
 
 -- a turn stops at a missing item where nothing was taken, and at what can be caught otherwise
-pub stop_class : (m : Message) {untouched : Bool} → stops_step false m untouched ≡ true
-    → ((class_of m ≡ OfMissing) × (untouched ≡ true)) ⊎ (class_of m ≡ Caught)
-stop_class m {untouched} e =
-    by_tests (is_memory m) (is_missing m) (can_catch m)
-    (sym (ap (λ b. not (is_memory m) && b) (stop_test m untouched)) ∙ e)
-  where
-    by_tests : (a b c : Bool) → (not a && (if b then untouched else c)) ≡ true
-        → ((class_of_tests a b c ≡ OfMissing) × (untouched ≡ true)) ⊎
-        (class_of_tests a b c ≡ Caught)
-    by_tests true b c h = absurd cc
-    by_tests false true c h = inl (refl, h)
-    by_tests false false true h = inr refl
-    by_tests false false false h = absurd cc
+abbrev stop_by : ErrorClass → Bool → Bool
+stop_by OfMissing untouched = untouched
+stop_by c untouched = (tests_of c).2
 
--- and at nothing else
-pub no_stop_class : (m : Message) {untouched : Bool} → stops_step false m untouched ≡ false
-    → ((class_of m ≡ OfMissing) × (untouched ≡ true)) ⊎ (class_of m ≡ Caught) → ⊥
-no_stop_class m {untouched} e c =
-    by_tests (is_memory m) (is_missing m) (can_catch m)
-    (sym (ap (λ b. not (is_memory m) && b) (stop_test m untouched)) ∙ e) c
+-- that is told by the class
+stop_is : (m : Message) (untouched : Bool) {c : ErrorClass} → class_of m ≡ c
+    → stops_step false m untouched ≡ stop_by c untouched
+stop_is m untouched e =
+    ap (λ b. not (is_memory m) && b) (stop_test m untouched)
+    ∙ by_tests (is_memory m) (is_missing m) (can_catch m) ∙ ap (λ z. stop_by z untouched) e
   where
-    by_tests : (a b c : Bool) → (not a && (if b then untouched else c)) ≡ false
-        → ((class_of_tests a b c ≡ OfMissing) × (untouched ≡ true)) ⊎
-        (class_of_tests a b c ≡ Caught) → ⊥
-    by_tests true b c h (inl k) = let d = k.0 in cc
-    by_tests true b c h (inr k) = cc
-    by_tests false true c h (inl k) = true≢false (sym k.1 ∙ h)
-    by_tests false true c h (inr k) = cc
-    by_tests false false true h k = cc
-    by_tests false false false h (inl k) = let d = k.0 in cc
-    by_tests false false false h (inr k) = cc
+    by_tests : (a b c : Bool) → (not a && (if b then untouched else c))
+        ≡ stop_by (class_of_tests a b c) untouched
+    by_tests true b c = refl
+    by_tests false true c = refl
+    by_tests false false true = refl
+    by_tests false false false = refl
 
 -- an error at which a turn stops
 pub stops_at : {e : Error} {s m : Situation} → stops_step false e.0 (is_untouched s m) ≡ true
     → Stops e s m
-stops_at {e} {s} {m} h = ⊎_elim
-    (λ missing. nothing_found missing.0 (eqb-true (open_count m) (open_count s) missing.1))
-    (λ other. caught other) (stop_class e.0 h)
+stops_at {e} {s} {m} h = by_class (class e) refl (sym (stop_is e.0 (is_untouched s m) refl) ∙ h)
+  where
+    by_class : (c : ErrorClass) → class e ≡ c → stop_by c (is_untouched s m) ≡ true → Stops e s m
+    by_class OfMissing is same = nothing_found is (eqb-true (open_count m) (open_count s) same)
+    by_class Caught is same = caught is
+    by_class _ is same = absurd cc
 
 -- an error at which it doesn't
 pub goes_on : (e : Error) {s m : Situation} → stops_step false e.0 (is_untouched s m) ≡ false
     → Stops e s m → ⊥
 goes_on e {s} {m} h (nothing_found c same) =
-    no_stop_class e.0 h (inl (c, eq-eqb (open_count m) (open_count s) same))
-goes_on e h (caught c) = no_stop_class e.0 h (inr c)
-
--- which of two refusals stands for both, where neither is want of memory
-data Stands (m n g : Message) : Type 0 where
-  joined : is_missing m ≡ true → is_missing n ≡ true
-      → (class_of g ≡ OfMissing) ⊎ (class_of g ≡ OfMemory) → Stands m n g
-  first : can_catch m ≡ false → g ≡ m → Stands m n g
-  second : can_catch n ≡ false → g ≡ n → Stands m n g
-  second_alone : (is_missing m ≡ true → is_missing n ≡ true → ⊥) → can_catch m ≡ true → g ≡ n
-      → Stands m n g
-
--- the first where it can't be caught, else the second
-by_catch : {m n g : Message} (b : Bool) → can_catch m ≡ b
-    → (is_missing m ≡ true → is_missing n ≡ true → ⊥) → g ≡ (if b then n else m) → Stands m n g
-by_catch true e f c = second_alone f e c
-by_catch false e f c = first e c
-
--- by the kinds of the two
-stands_of : (m n : Message) {g : Message} → CombinesSpared m n g → Stands m n g
-stands_of (ParseFailure failure) n c = first refl c
-stands_of (Missing items) (Missing others) c =
-    joined refl refl (⊎_elim (λ e. inl (ap class_of e)) (λ e. inr (ap class_of e)) c)
-stands_of m (ParseFailure failure) c = second refl c
-stands_of m n c = by_catch (can_catch m) refl (λ e f. cc) c
-
--- a missing item can be caught, and the others of an alternative's refusals can't
-class_tests : (a b c : Bool)
-    → (class_of_tests a b c ≡ OfMissing → b ≡ true) × (class_of_tests a b c ≡ Refused → c ≡ false)
-class_tests true b c = (λ e. absurd cc, λ e. absurd cc)
-class_tests false true c = (λ e. refl, λ e. absurd cc)
-class_tests false false true = (λ e. absurd cc, λ e. absurd cc)
-class_tests false false false = (λ e. absurd cc, λ e. refl)
+    true≢false (sym (stop_is e.0 (is_untouched s m) c ∙ eq-eqb (open_count m) (open_count s) same) ∙ h)
+goes_on e {s} {m} h (caught c) = true≢false (sym (stop_is e.0 (is_untouched s m) c) ∙ h)
 
 -- a refusal of that class says that items are missing
 pub is_missing_of : (m : Message) → class_of m ≡ OfMissing → is_missing m ≡ true
-is_missing_of m e = (class_tests (is_memory m) (is_missing m) (can_catch m)).0 e
-
--- one of this class can't be caught
-is_kept : (m : Message) → class_of m ≡ Refused → can_catch m ≡ false
-is_kept m e = (class_tests (is_memory m) (is_missing m) (can_catch m)).1 e
-
--- a missing item can be caught
-caught_of : (m : Message) → class_of m ≡ OfMissing → can_catch m ≡ true
-caught_of m e = (missing_caught m (is_missing_of m e)).1
-
--- want of memory, or a refusal that stands for both
-stands_or_memory : {m n g : Message} → Combines m n g → (class_of g ≡ OfMemory) ⊎ Stands m n g
-stands_or_memory {m} {n} c =
-    ⊎_elim (λ memory. inl (ap class_of memory.1)) (λ spared. inr (stands_of m n spared.1)) c
+is_missing_of m e = (tests_are m e).1
 
 -- two missing items are missing together
 pub combined_missing : (m n : Message) {g : Message} → class_of m ≡ OfMissing
     → class_of n ≡ OfMissing → Combines m n g → (class_of g ≡ OfMissing) ⊎ (class_of g ≡ OfMemory)
-combined_missing m n {g} e f c =
-    ⊎_elim (λ memory. inr memory) (λ stands. by_stands stands) (stands_or_memory c)
+combined_missing m n {g} e f c = ⊎_elim (λ memory. inr (ap class_of memory.1))
+    (λ spared. joined m n g (is_missing_of m e) (is_missing_of n f) spared.1) c
   where
-    by_stands : Stands m n g → (class_of g ≡ OfMissing) ⊎ (class_of g ≡ OfMemory)
-    by_stands (joined h i k) = k
-    by_stands (first h i) = absurd (true≢false (sym (caught_of m e) ∙ h))
-    by_stands (second h i) = inl (ap class_of i ∙ f)
-    by_stands (second_alone h i k) = absurd (h (is_missing_of m e) (is_missing_of n f))
+    joined : (m n g : Message) → is_missing m ≡ true → is_missing n ≡ true
+        → CombinesSpared m n g → (class_of g ≡ OfMissing) ⊎ (class_of g ≡ OfMemory)
+    joined (Missing items) (Missing others) g e f c =
+        ⊎_elim (λ is. inl (ap class_of is)) (λ is. inr (ap class_of is)) c
+    joined (Missing items) n g e f c = absurd cc
+    joined m n g e f c = absurd cc
+
+-- of two others one stands for both: the first where it can't be caught, else the second
+stands : (m n : Message) {g : Message} → (is_missing m ≡ true → is_missing n ≡ true → ⊥)
+    → CombinesSpared m n g → ((can_catch m ≡ false) × (g ≡ m))
+    ⊎ ((g ≡ n) × ((can_catch n ≡ false) ⊎ (can_catch m ≡ true)))
+stands (ParseFailure failure) n none c = inl (refl, c)
+stands (Missing items) (Missing others) none c = absurd (none refl refl)
+stands m (ParseFailure failure) none c = inr (c, inl refl)
+stands m n {g} none c = by_catch (can_catch m) c
+  where
+    by_catch : (b : Bool) → g ≡ (if b then n else m)
+        → ((b ≡ false) × (g ≡ m)) ⊎ ((g ≡ n) × ((can_catch n ≡ false) ⊎ (b ≡ true)))
+    by_catch true c = inr (c, inr refl)
+    by_catch false c = inl (refl, c)
 
 -- where one of two can't be caught and the other is such or a missing item, both together are such
 pub combined_refused : (m n : Message) {g : Message}
@@ -190,19 +152,23 @@ pub combined_refused : (m n : Message) {g : Message}
     → (class_of m ≡ OfMissing) ⊎ (class_of m ≡ Refused)
     → (class_of n ≡ OfMissing) ⊎ (class_of n ≡ Refused) → Combines m n g
     → (class_of g ≡ OfMemory) ⊎ (class_of g ≡ Refused)
-combined_refused m n {g} one e f c =
-    ⊎_elim (λ memory. inl memory) (λ stands. inr (by_stands stands one e f)) (stands_or_memory c)
+combined_refused m n {g} one e f c = ⊎_elim (λ memory. inl (ap class_of memory.1))
+    (λ spared. inr (by_stand one e f (stands m n (not_both one) spared.1))) c
   where
-    by_stands : Stands m n g → (class_of m ≡ Refused) ⊎ (class_of n ≡ Refused)
+    not_both : (class_of m ≡ Refused) ⊎ (class_of n ≡ Refused) → is_missing m ≡ true
+        → is_missing n ≡ true → ⊥
+    not_both (inl o) h i = true≢false (sym h ∙ (tests_are m o).1)
+    not_both (inr o) h i = true≢false (sym i ∙ (tests_are n o).1)
+
+    by_stand : (class_of m ≡ Refused) ⊎ (class_of n ≡ Refused)
         → (class_of m ≡ OfMissing) ⊎ (class_of m ≡ Refused)
-        → (class_of n ≡ OfMissing) ⊎ (class_of n ≡ Refused) → class_of g ≡ Refused
-    by_stands (joined h i k) (inl o) e f =
-        absurd (true≢false (sym (missing_caught m h).1 ∙ is_kept m o))
-    by_stands (joined h i k) (inr o) e f =
-        absurd (true≢false (sym (missing_caught n i).1 ∙ is_kept n o))
-    by_stands (first h i) o (inl e) f = absurd (true≢false (sym (caught_of m e) ∙ h))
-    by_stands (first h i) o (inr e) f = ap class_of i ∙ e
-    by_stands (second h i) o e (inl f) = absurd (true≢false (sym (caught_of n f) ∙ h))
-    by_stands (second h i) o e (inr f) = ap class_of i ∙ f
-    by_stands (second_alone h i k) (inl o) e f = absurd (true≢false (sym i ∙ is_kept m o))
-    by_stands (second_alone h i k) (inr o) e f = ap class_of k ∙ o
+        → (class_of n ≡ OfMissing) ⊎ (class_of n ≡ Refused)
+        → ((can_catch m ≡ false) × (g ≡ m))
+        ⊎ ((g ≡ n) × ((can_catch n ≡ false) ⊎ (can_catch m ≡ true))) → class_of g ≡ Refused
+    by_stand o (inl e) f (inl h) = absurd (true≢false (sym (tests_are m e).2 ∙ h.0))
+    by_stand o (inr e) f (inl h) = ap class_of h.1 ∙ e
+    by_stand o e (inr f) (inr h) = ap class_of h.0 ∙ f
+    by_stand (inr o) e (inl f) (inr h) = ap class_of h.0 ∙ o
+    by_stand (inl o) e (inl f) (inr h) = absurd (⊎_elim
+        (λ kept. true≢false (sym (tests_are n f).2 ∙ kept))
+        (λ caught. true≢false (sym caught ∙ (tests_are m o).2)) h.1)

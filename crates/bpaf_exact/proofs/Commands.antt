@@ -1,29 +1,30 @@
 -- Closures round commands, choices of them, and commands that may be left out keep to the laws.
-use Rattle.std.proofs.Common.{◌≡◌, ◌≤◌, ℕ, Bool, true, false, ◌||◌, List, [], ◌++◌, length, Option}
-use Rattle.std.proofs.Common.{Some, None, Result, Ok, Err, refl, sym, ap, ◌∙◌, inl, inr}
-use Rattle.std.proofs.{Common.⊎_elim, Common.arith, Common.true≢false, lemmas.Bool.and_parts}
-use Rattle.std.proofs.lemmas.List.Folds.{list_any-append}
+use Rattle.std.proofs.Common.{Bool, List, Option, Some, [], false, length, true, ℕ, ◌++◌, ◌||◌, ◌≡◌}
+use Rattle.std.proofs.Common.{Err, None, Ok, Result, ap, arith, inl, inr, sym, true≢false, ◌∙◌, ◌≤◌}
+use Rattle.std.proofs.{Common.⊎_elim, lemmas.Bool.and_parts, lemmas.List.Folds.list_any-append}
+use Rattle.std.proofs.Common.{refl}
 use Rattle.bpaf_base.specs.Items.{is_command_word}
-use Rattle.bpaf_line.specs.{Messages.is_memory, Messages.is_wrong_input, declared.error.Error.Error}
-use Rattle.bpaf_line.specs.{declared.error.Message.TheVariants.Missing, Conflicts.ConflictsSaved}
-use Rattle.bpaf_line.specs.{declared.error.Message.Message, Situation.Situation}
-use Rattle.bpaf_laws.specs.Choice.{Chosen, depth, branch_of, ChoiceOutcome, EqualDepths, OneOk}
-use Rattle.bpaf_laws.specs.{Spared.IsNotMemory, Command.is_one_of, Turn.is_untouched, Choice.Winner}
-use Rattle.bpaf_laws.specs.Reading.{Outcome}
-use Rattle.bpaf_exact.specs.Flat.{ErrorClass, OfMemory, OfMissing, is_missing, class, cells}
-use Rattle.bpaf_exact.specs.Flat.{NonePresent, no_place, none_here, IsWholeIn, Variables}
-use Rattle.bpaf_exact.specs.Wrappers.{Closure, AgreesOn, ClosedEval, closed_yes, closed_no}
-use Rattle.bpaf_exact.specs.Wrappers.{closed_memory, closed_err, OptionalEval, optional_some}
-use Rattle.bpaf_exact.specs.Wrappers.{ClosedValue, optional_none, optional_err, optional_memory}
-use Rattle.bpaf_exact.specs.Programs.{CellsValue, Opens, opens_here, opens_later, OpensNone}
-use Rattle.bpaf_exact.specs.Programs.{ChoiceValue, OptionalCommands, ProgramLaw, CommandsLaw}
-use Rattle.bpaf_exact.specs.Programs.{FindsNoCommand, WordsApart, IsSpelledLine, GivesAll}
-use Rattle.bpaf_exact.specs.Pieces.{Cells, Roles, pieces, either}
-use Rattle.bpaf_exact.specs.Single.{Stops, nothing_found, caught, present_count}
+use Rattle.bpaf_line.specs.{declared.error.Error.Error, declared.error.Message.TheVariants.Missing}
+use Rattle.bpaf_line.specs.{Conflicts.ConflictsSaved, declared.error.Message.Message}
+use Rattle.bpaf_line.specs.{Messages.is_memory, Messages.is_wrong_input, Situation.Situation}
+use Rattle.bpaf_laws.proofs.ChoiceLaws.{ComesFrom, both_refused, chosen_from, first_won, second_won}
+use Rattle.bpaf_laws.proofs.ChoiceLaws.{first_refused, first_stands, second_refused, second_stands}
+use Rattle.bpaf_laws.specs.{Choice.ChoiceOutcome, Command.is_one_of, Spared.IsNotMemory}
+use Rattle.bpaf_laws.specs.{Choice.Chosen, Choice.branch_of, Reading.Outcome, Turn.is_untouched}
+use Rattle.bpaf_laws.specs.Choice.{OneOk, depth}
 use Rattle.bpaf_exact.proofs.BeforeCommands.{apart_first, apart_second}
-use Rattle.bpaf_exact.proofs.Choice.{same_scope, cells_same, saved_steady}
-use Rattle.bpaf_exact.proofs.Classes.{combined_missing, is_missing_of, memory_class, not_memory}
-use Rattle.bpaf_exact.proofs.Counts.{open_present}
+use Rattle.bpaf_exact.proofs.Classes.{combined_missing, is_missing_of, memory_class}
+use Rattle.bpaf_exact.proofs.{Choice.saved_steady, Counts.open_present, Wrappers.closed_keeps}
+use Rattle.bpaf_exact.proofs.{Choice.cells_same, Choice.same_scope, Classes.not_memory}
+use Rattle.bpaf_exact.specs.Flat.{ErrorClass, NonePresent, OfMemory, OfMissing, no_place, none_here}
+use Rattle.bpaf_exact.specs.Programs.{CellsValue, ChoiceValue, Opens, OptionalCommands, opens_later}
+use Rattle.bpaf_exact.specs.Programs.{FindsNoCommand, OpensNone, ProgramLaw, WordsApart, opens_here}
+use Rattle.bpaf_exact.specs.Wrappers.{ClosedEval, ClosedValue, Closure, OptionalEval, optional_some}
+use Rattle.bpaf_exact.specs.{Programs.CommandsLaw, Wrappers.optional_memory, Wrappers.optional_none}
+use Rattle.bpaf_exact.specs.{Programs.ProgramTook, Single.nothing_found, Wrappers.optional_err}
+use Rattle.bpaf_exact.specs.{Flat.is_missing, Pieces.Cells, Single.present_count, Wrappers.AgreesOn}
+use Rattle.bpaf_exact.specs.{Flat.IsWholeIn, Flat.Variables, Pieces.either, Pieces.pieces}
+use Rattle.bpaf_exact.specs.{Flat.cells, Flat.class, Pieces.Roles, Single.Stops, Single.caught}
 
 -- Closures.
 module _ {A B : Type 0} (inner : Outcome A) (r : Roles) {value : CellsValue A} {f : Closure A B}
@@ -35,49 +36,26 @@ module _ {A B : Type 0} (inner : Outcome A) (r : Roles) {value : CellsValue A} {
   -- round a program
   pub closed_program : {env : Variables} → ProgramLaw env A inner r value
       → ProgramLaw env B (ClosedEval A B inner f c) r closed
-  closed_program {env} l = record {
+  closed_program l = record {
     others = λ q n a cs v s h. l.others q n a cs h.from s h.read;
-    deep = closed_deep;
-    ok = closed_ok;
-    answers = closed_answers;
+    keeps = closed_keeps c l.keeps (λ s t x v i y. record {
+      deep = i.deep;
+      read = λ spelled n. record { from = x; read = i.read spelled n; made = y };
+      all = λ w h. let g = i.all h.from h.read in (record { from = x; read = g.0; made = y }, g.1);
+    }) (λ s t x i n w h. absurd (agrees (cells s) h.from x w h.read (i.all h.from h.read).0 h.made n))
+        (λ s t w h. refl) (λ s t d refuses w h. refuses h.from h.read);
   }
-    where
-      closed_deep : (s t : Situation) (v : B) → IsWholeIn env s
-          → ClosedEval A B inner f c s (Ok v) t → depth s ≤ depth t
-      closed_deep s t v w (closed_yes {x} i y) = l.deep s t x w i
-
-      closed_ok : (s t : Situation) (v : B) → IsWholeIn env s → IsSpelledLine s.context
-          → ClosedEval A B inner f c s (Ok v) t → NonePresent (cells t) → closed (cells s) v
-      closed_ok s t v w spelled (closed_yes {x} i y) n =
-          record { from = x; read = l.ok s t x w spelled i n; made = y }
-
-      closed_answers : (s t : Situation) (a : Result B Error) (u : B) → IsWholeIn env s
-          → ClosedEval A B inner f c s a t → closed (cells s) u → GivesAll (closed (cells s)) a t
-      closed_answers s t a u w (closed_yes {x} i y) h =
-          let g = l.answers s t (Ok x) h.from w i h.read in
-          (record { from = x; read = g.0; made = y }, g.1)
-      closed_answers s t a u w (closed_no {x} i refuses e) h =
-          let g = l.answers s t (Ok x) h.from w i h.read in
-          absurd (agrees (cells s) h.from x u h.read g.0 h.made refuses)
-      closed_answers s t a u w (closed_memory i e) h = e
-      closed_answers s t a u w (closed_err {e} i) h = l.answers s t (Err e) h.from w i h.read
 
   -- round commands
   pub closed_commands : {env : Variables} {words : List (List ℕ)}
       → CommandsLaw env A inner r words value
       → CommandsLaw env B (ClosedEval A B inner f c) r words closed
-  closed_commands {env} {words} l = record {
+  closed_commands l = record {
     program = closed_program l.program;
     opened = λ cs v h. l.opened cs h.from h.read;
-    none = closed_none;
+    none = closed_keeps c l.none (λ s t x v never y. never) (λ s t x never n none. absurd (never none))
+        (λ s t none. inl refl) (λ s t d refuses. refuses);
   }
-    where
-      closed_none : (s t : Situation) (a : Result B Error) → IsWholeIn env s
-          → ClosedEval A B inner f c s a t → OpensNone words (cells s) → FindsNoCommand s a t
-      closed_none s t a w (closed_yes {x} i y) n = absurd (l.none s t (Ok x) w i n)
-      closed_none s t a w (closed_no {x} i refuses e) n = absurd (l.none s t (Ok x) w i n)
-      closed_none s t a w (closed_memory e g) n = inl g
-      closed_none s t a w (closed_err {e} i) n = l.none s t (Err e) w i n
 
 -- Commands that may be left out.
 
@@ -97,64 +75,59 @@ module _ {env : Variables} {T : Type 0} {inner : Outcome T} {r : Roles} {words :
   abbrev optional : CellsValue (Option T)
   optional = OptionalCommands T value
 
-  -- the path gets no shorter
-  optional_deep : (s t : Situation) (v : Option T) → IsWholeIn env s
-      → OptionalEval T inner s (Ok v) t → depth s ≤ depth t
-  optional_deep s t v w (optional_some {v = x} i) = l.program.deep s t x w i
-  optional_deep s t v w (optional_none i stops) = omega arith
-
-  -- the value is that of a command, or nothing is present
-  optional_ok : (s t : Situation) (v : Option T) → IsWholeIn env s → IsSpelledLine s.context
-      → OptionalEval T inner s (Ok v) t → NonePresent (cells t) → optional (cells s) v
-  optional_ok s t v w spelled (optional_some {v = x} i) n = l.program.ok s t x w spelled i n
-  optional_ok s t v w spelled (optional_none i stops) n = n
-
   -- want of memory stops nothing
   memory_goes_on : {e : Error} {s m : Situation} → class e ≡ OfMemory → Stops e s m → ⊥
   memory_goes_on h (nothing_found g same) = cc
   memory_goes_on h (caught g) = cc
 
-  -- where a command has a value each answer is such
-  some_answers : (s : Situation) {t : Situation} {a : Result (Option T) Error} (x : T)
-      → IsWholeIn env s → OptionalEval T inner s a t → value (cells s) x
-      → GivesAll (optional (cells s)) a t
-  some_answers s {t} x w (optional_some {v} i) h = l.program.answers s t (Ok v) x w i h
-  some_answers s x w (optional_none {e} {m} i stops) h =
-      absurd (memory_goes_on (l.program.answers s m (Err e) x w i h) stops)
-  some_answers s {t} x w (optional_err {e} i goes) h = l.program.answers s t (Err e) x w i h
-  some_answers s x w (optional_memory e) h = e
+  -- where there is a value, that of a command is one
+  some_all : {s t : Situation} {x : T} → ProgramTook T value s x t
+      → (OpensNone words (cells s) → ⊥) → (u : Option T) → optional (cells s) u
+      → value (cells s) x × NonePresent (cells t)
+  some_all i never (Some y) h = i.all y h
+  some_all i never None n = absurd (never (none_opens n))
+
+  -- and None is
+  none_all : {s m : Situation} {e : Error} → Stops e s m
+      → ((w : T) → value (cells s) w → class e ≡ OfMemory) → (u : Option T) → optional (cells s) u
+      → NonePresent (cells s) × NonePresent (cells s)
+  none_all stops want (Some y) h = absurd (memory_goes_on (want y h) stops)
+  none_all stops want None n = (n, n)
+
+  -- a value is that of a command, or None, where nothing is present
+  optional_took : (s t : Situation) (v : Option T) → IsWholeIn env s
+      → OptionalEval T inner s (Ok v) t → ProgramTook (Option T) optional s v t
+  optional_took s t v w (optional_some {v = x} i) =
+      let a = l.program.keeps.ok s t x w i in
+      record { deep = a.deep; read = a.read; all = some_all a (l.none.ok s t x w i) }
+  optional_took s t v w (optional_none {e} {m} i stops) = record {
+    deep = omega arith;
+    read = λ spelled n. n;
+    all = none_all stops (l.program.keeps.err s m e w i);
+  }
 
   -- where none is found nothing stops but want of memory
-  none_stops : {s t : Situation} {e : Error} → FindsNoCommand {T = T} s (Err e) t
+  none_stops : {s t : Situation} {e : Error} → FindsNoCommand s (class e) t
       → (Stops e s t → ⊥) → class e ≡ OfMemory
   none_stops (inl memory) goes = memory
   none_stops {s} {t} (inr found) goes =
       absurd (goes (nothing_found found.0
       (open_present t ∙ ap present_count found.1 ∙ sym (open_present s))))
 
-  -- where nothing is present it is None
-  none_answers : {s t : Situation} {a : Result (Option T) Error} → IsWholeIn env s
-      → OptionalEval T inner s a t → NonePresent (cells s) → GivesAll (optional (cells s)) a t
-  none_answers {s} {t} w (optional_some {v} i) n = absurd (l.none s t (Ok v) w i (none_opens n))
-  none_answers w (optional_none i stops) n = (n, n)
-  none_answers {s} {t} w (optional_err {e} i goes) n =
-      none_stops (l.none s t (Err e) w i (none_opens n)) goes
-  none_answers w (optional_memory e) n = e
-
-  -- each answer
-  optional_answers : (s t : Situation) (a : Result (Option T) Error) (u : Option T)
-      → IsWholeIn env s
-      → OptionalEval T inner s a t → optional (cells s) u → GivesAll (optional (cells s)) a t
-  optional_answers s t a (Some x) w o h = some_answers s x w o h
-  optional_answers s t a None w o n = none_answers w o n
+  -- where there is a value, a refusal is want of memory
+  optional_refuses : (s t : Situation) (e : Error) → IsWholeIn env s
+      → OptionalEval T inner s (Err e) t → (u : Option T) → optional (cells s) u
+      → class e ≡ OfMemory
+  optional_refuses s t e w (optional_err i goes) (Some x) h = l.program.keeps.err s t e w i x h
+  optional_refuses s t e w (optional_err i goes) None n =
+      none_stops (l.none.err s t e w i (none_opens n)) goes
+  optional_refuses s t e w (optional_memory m) u h = m
 
   -- the laws
   pub optional_commands : ProgramLaw env (Option T) (OptionalEval T inner) r optional
   optional_commands = record {
     others = λ q n a cs v s h. by_value q v (λ x g. l.program.others q n a cs x s g) h;
-    deep = optional_deep;
-    ok = optional_ok;
-    answers = optional_answers;
+    keeps = record { ok = optional_took; err = optional_refuses };
   }
     where
       by_value : (q : Roles) {cs : Cells} (v : Option T)
@@ -224,67 +197,20 @@ module _ {env : Variables} (T : Type 0) (a b : Outcome T) (ra rb : Roles) (wa wb
     of_first : {m : Situation} → a s (Ok v) m → Alike m t → BranchOk s v t
     of_second : {m : Situation} → b s (Ok v) m → Alike m t → BranchOk s v t
 
-  -- the winner's
-  of_winner : {s sa sb t : Situation} (x : T) {y : T} (v : T) (winner : Bool × Option ℕ)
-      → a s (Ok x) sa → b s (Ok y) sb → Winner (branch_of x sa) (branch_of y sb) winner (Ok v) t
-      → BranchOk s v t
-  of_winner x v (first, None) f g k =
-      let given = k.0 in
-      let d : x ≡ v = cc in
-      of_first (rw (← d) f) (alike_same k.1)
-  of_winner {sb} x v (true, Some p) f g k =
-      let given = k.0 in
-      let d : x ≡ v = cc in
-      of_first (rw (← d) f) (alike_saved sb k.1)
-  of_winner {sa} x {y} v (false, Some p) f g k =
-      let given = k.0 in
-      let d : y ≡ v = cc in
-      of_second (rw (← d) g) (alike_saved sa k.1)
-
-  -- where both are equally deep
-  of_equal : {s sa sb t : Situation} (x y : Result T Error) (v : T) → a s x sa → b s y sb
-      → EqualDepths s x sa y sb (Ok v) t → BranchOk s v t
-  of_equal (Ok x) (Ok y) v f g (inl o) =
-      let given = o.1.0 in
-      let d : x ≡ v = cc in
-      of_first (rw (← d) f) (alike_same o.1.1)
-  of_equal {sa} (Ok x) (Ok y) v f g (inr o) = of_winner x v o.1.0 f g o.1.2
-  of_equal (Ok x) (Err e) v f g (inl o) = let i = o.1 in absurd cc
-  of_equal (Ok x) (Err e) v f g (inr o) =
-      let given = o.1.0 in
-      let d : x ≡ v = cc in
-      of_first (rw (← d) f) (alike_same o.1.1)
-  of_equal (Err e) (Ok y) v f g (inl o) = let i = o.1 in absurd cc
-  of_equal (Err e) (Ok y) v f g (inr o) =
-      let given = o.1.0 in
-      let d : y ≡ v = cc in
-      of_second (rw (← d) g) (alike_same o.1.1)
-  of_equal (Err e) (Err d) v f g o = let i = o.0.2 in absurd cc
-
   -- each
   branch_ok : {s t : Situation} {v : T} → ChoiceOutcome a b s (Ok v) t → BranchOk s v t
-  branch_ok {s} {v} o =
-      ⊎_elim (λ deeper. of_first (rw deeper.1 o.first_ran) (alike_same deeper.2)) (λ other. ⊎_elim
-      (λ deeper. of_second (rw deeper.1 o.second_ran) (alike_same deeper.2))
-      (λ equal. of_equal o.a o.b v o.first_ran o.second_ran equal.1) other) o.chosen
-
-  -- the path gets no shorter
-  choice_deep : (s t : Situation) (v : T) → IsWholeIn env s → ChoiceOutcome a b s (Ok v) t
-      → depth s ≤ depth t
-  choice_deep s t v w o = by_branch (branch_ok o)
+  branch_ok {s} {t} {v} o = by_origin (chosen_from s o.a o.sa o.b o.sb (Ok v) t o.chosen)
     where
-      by_branch : BranchOk s v t → depth s ≤ depth t
-      by_branch (of_first {m} i e) = rw e.depth_alike (la.program.deep s m v w i)
-      by_branch (of_second {m} i e) = rw e.depth_alike (lb.program.deep s m v w i)
-
-  -- a value of the choice is one of the branch that was opened
-  choice_ok : (s t : Situation) (v : T) → IsWholeIn env s → IsSpelledLine s.context
-      → ChoiceOutcome a b s (Ok v) t → NonePresent (cells t) → value (cells s) v
-  choice_ok s t v w spelled o n = by_branch (branch_ok o)
-    where
-      by_branch : BranchOk s v t → value (cells s) v
-      by_branch (of_first {m} i e) = inl (la.program.ok s m v w spelled i (rw (← e.cells_alike) n))
-      by_branch (of_second {m} i e) = inr (lb.program.ok s m v w spelled i (rw (← e.cells_alike) n))
+      by_origin : ComesFrom s o.a o.sa o.b o.sb (Ok v) t → BranchOk s v t
+      by_origin (first_stands is left) = of_first (rw is o.first_ran) (alike_same left)
+      by_origin (second_stands is left) = of_second (rw is o.second_ran) (alike_same left)
+      by_origin (first_won x place is answer saved) =
+          of_first (rw (answer ∙ sym is) o.first_ran) (alike_saved o.sb saved)
+      by_origin (second_won x place is answer saved) =
+          of_second (rw (answer ∙ sym is) o.second_ran) (alike_saved o.sa saved)
+      by_origin (first_refused e is answer left) = absurd cc
+      by_origin (second_refused e is answer left) = absurd cc
+      by_origin (both_refused e f both is other combined answer left) = absurd cc
 
   -- what opens the first doesn't open the second
   second_closed : {cs : Cells} {u : T} → va cs u → OpensNone wb cs
@@ -294,17 +220,25 @@ module _ {env : Variables} (T : Type 0) (a b : Outcome T) (ra rb : Roles) (wa wb
   first_closed : {cs : Cells} {u : T} → vb cs u → OpensNone wa cs
   first_closed {cs} {u} h ds o = let i = lb.opened cs u h in opens_apart wa wb apart o i.1
 
-  -- where either has a value each value of the choice is one of its
-  choice_gives : (s : Situation) {t : Situation} (v : T) {u : T} → IsWholeIn env s → BranchOk s v t
-      → value (cells s) u → GivesAll (value (cells s)) (Ok v) t
-  choice_gives s v {u} w (of_first {m} i e) (inl h) =
-      let g = la.program.answers s m (Ok v) u w i h in
-      (inl g.0, rw e.cells_alike g.1)
-  choice_gives s v w (of_second {m} i e) (inl h) = absurd (lb.none s m (Ok v) w i (second_closed h))
-  choice_gives s v w (of_first {m} i e) (inr h) = absurd (la.none s m (Ok v) w i (first_closed h))
-  choice_gives s v {u} w (of_second {m} i e) (inr h) =
-      let g = lb.program.answers s m (Ok v) u w i h in
-      (inr g.0, rw e.cells_alike g.1)
+  -- a value of the choice is one of the branch that was opened
+  choice_took : {s t : Situation} {v : T} → IsWholeIn env s → BranchOk s v t
+      → ProgramTook T value s v t
+  choice_took {s} {v} w (of_first {m} i e) =
+      let x = la.program.keeps.ok s m v w i in
+      record {
+        deep = rw e.depth_alike x.deep;
+        read = λ spelled n. inl (x.read spelled (rw (← e.cells_alike) n));
+        all = λ u h. ⊎_elim (λ p. let g = x.all u p in (inl g.0, rw e.cells_alike g.1))
+            (λ q. absurd (la.none.ok s m v w i (first_closed q))) h;
+      }
+  choice_took {s} {v} w (of_second {m} i e) =
+      let x = lb.program.keeps.ok s m v w i in
+      record {
+        deep = rw e.depth_alike x.deep;
+        read = λ spelled n. inr (x.read spelled (rw (← e.cells_alike) n));
+        all = λ u h. ⊎_elim (λ p. absurd (lb.none.ok s m v w i (second_closed p)))
+            (λ q. let g = x.all u q in (inr g.0, rw e.cells_alike g.1)) h;
+      }
 
   -- a branch that found no command, of whose answer something else than want of memory is known
   abbrev Passed : Situation → Error → Situation → Type 0
@@ -312,7 +246,7 @@ module _ {env : Variables} (T : Type 0) (a b : Outcome T) (ra rb : Roles) (wa wb
 
   -- nothing else can be of it
   passed : (s m : Situation) (e : Error) → is_memory e.0 ≡ false
-      → FindsNoCommand {T = T} s (Err e) m → Passed s e m
+      → FindsNoCommand s (class e) m → Passed s e m
   passed s m e h (inl memory) = absurd (not_memory e.0 h memory)
   passed s m e h (inr found) = found
 
@@ -337,34 +271,33 @@ module _ {env : Variables} (T : Type 0) (a b : Outcome T) (ra rb : Roles) (wa wb
       → IsWholeIn env s → a s x sa → b s y sb → IsNotMemory x → IsNotMemory y
       → Chosen s x sa y sb (Err g) t → va (cells s) u → ⊥
   first_fails s {sa} (Err d) y {u} w i j hx hy chosen h =
-      not_memory d.0 hx (la.program.answers s sa (Err d) u w i h)
-  first_fails s {sb} (Ok x) (Ok y) w i j hx hy chosen h = lb.none s sb (Ok y) w j (second_closed h)
+      not_memory d.0 hx (la.program.keeps.err s sa d w i u h)
+  first_fails s {sb} (Ok x) (Ok y) w i j hx hy chosen h = lb.none.ok s sb y w j (second_closed h)
   first_fails s {sa} {sb} (Ok x) (Err e) w i j hx hy chosen h =
-      never_refused (la.program.deep s sa x w i)
-      (passed s sb e hy (lb.none s sb (Err e) w j (second_closed h))) chosen
+      never_refused (la.program.keeps.ok s sa x w i).deep
+      (passed s sb e hy (lb.none.err s sb e w j (second_closed h))) chosen
 
   -- nor where the second has
   second_fails : (s : Situation) {sa sb t : Situation} (x y : Result T Error) {g : Error} {u : T}
       → IsWholeIn env s → a s x sa → b s y sb → IsNotMemory x → IsNotMemory y
       → Chosen s x sa y sb (Err g) t → vb (cells s) u → ⊥
   second_fails s {sb} x (Err d) {u} w i j hx hy chosen h =
-      not_memory d.0 hy (lb.program.answers s sb (Err d) u w j h)
-  second_fails s {sa} (Ok x) (Ok y) w i j hx hy chosen h = la.none s sa (Ok x) w i (first_closed h)
+      not_memory d.0 hy (lb.program.keeps.err s sb d w j u h)
+  second_fails s {sa} (Ok x) (Ok y) w i j hx hy chosen h = la.none.ok s sa x w i (first_closed h)
   second_fails s {sa} {sb} (Err e) (Ok y) w i j hx hy chosen h =
-      never_refused (lb.program.deep s sb y w j)
-      (passed s sa e hx (la.none s sa (Err e) w i (first_closed h)))
+      never_refused (lb.program.keeps.ok s sb y w j).deep
+      (passed s sa e hx (la.none.err s sa e w i (first_closed h)))
       (⊎_elim (λ deeper. inr (inl deeper)) (λ other. ⊎_elim (λ deeper. inl deeper)
       (λ equal. inr (inr (sym equal.0, equal.1))) other) chosen)
 
-  -- each answer
-  choice_answers : (s t : Situation) (r : Result T Error) (u : T) → IsWholeIn env s
-      → ChoiceOutcome a b s r t → value (cells s) u → GivesAll (value (cells s)) r t
-  choice_answers s t (Ok v) u w o h = choice_gives s v w (branch_ok o) h
-  choice_answers s t (Err e) u w (inr o) h = memory_class e.0 o.0
-  choice_answers s t (Err e) u w (inl o) (inl h) =
+  -- so a refusal is want of memory there
+  choice_refuses : (s t : Situation) (e : Error) → IsWholeIn env s
+      → ChoiceOutcome a b s (Err e) t → (u : T) → value (cells s) u → class e ≡ OfMemory
+  choice_refuses s t e w (inr o) u h = memory_class e.0 o.0
+  choice_refuses s t e w (inl o) u (inl h) =
       absurd (first_fails s o.a o.b w o.first_ran o.second_ran o.first_spared
       o.second_spared o.chosen h)
-  choice_answers s t (Err e) u w (inl o) (inr h) =
+  choice_refuses s t e w (inl o) u (inr h) =
       absurd (second_fails s o.a o.b w o.first_ran o.second_ran o.first_spared
       o.second_spared o.chosen h)
 
@@ -372,15 +305,15 @@ module _ {env : Variables} (T : Type 0) (a b : Outcome T) (ra rb : Roles) (wa wb
   none_chosen : (s : Situation) {sa sb t : Situation} (x y : Result T Error) {g : Error}
       → IsWholeIn env s → a s x sa → b s y sb → IsNotMemory x → IsNotMemory y
       → OpensNone wa (cells s) → OpensNone wb (cells s) → Chosen s x sa y sb (Err g) t
-      → FindsNoCommand {T = T} s (Err g) t
-  none_chosen s {sa} (Ok x) y w i j hx hy na nb chosen = absurd (la.none s sa (Ok x) w i na)
-  none_chosen s {sb} (Err d) (Ok y) w i j hx hy na nb chosen = absurd (lb.none s sb (Ok y) w j nb)
+      → FindsNoCommand s (class g) t
+  none_chosen s {sa} (Ok x) y w i j hx hy na nb chosen = absurd (la.none.ok s sa x w i na)
+  none_chosen s {sb} (Err d) (Ok y) w i j hx hy na nb chosen = absurd (lb.none.ok s sb y w j nb)
   none_chosen s {sa} {sb} {t} (Err d) (Err e) {g} w i j hx hy na nb chosen =
-      let l = passed s sb e hy (lb.none s sb (Err e) w j nb) in
-      by_depth (passed s sa d hx (la.none s sa (Err d) w i na)) l chosen
+      let l = passed s sb e hy (lb.none.err s sb e w j nb) in
+      by_depth (passed s sa d hx (la.none.err s sa d w i na)) l chosen
     where
       by_depth : Passed s d sa → Passed s e sb
-          → Chosen {T = T} s (Err d) sa (Err e) sb (Err g) t → FindsNoCommand {T = T} s (Err g) t
+          → Chosen {T = T} s (Err d) sa (Err e) sb (Err g) t → FindsNoCommand s (class g) t
       by_depth k l (inl deeper) =
           let same = ap length (k.2 ∙ sym l.2) in let more = deeper.0 in absurd (omega arith)
       by_depth k l (inr (inl deeper)) =
@@ -393,16 +326,19 @@ module _ {env : Variables} (T : Type 0) (a b : Outcome T) (ra rb : Roles) (wa wb
           (λ missing. inr (ap class (sym same) ∙ missing, ap cells o.1, ap (λ z. z.path) o.1))
           (λ memory. inl (ap class (sym same) ∙ memory)) (combined_missing d.0 e.0 k.0 l.0 o.0.1)
 
-  -- it is missing
-  choice_none : (s t : Situation) (r : Result T Error) → IsWholeIn env s → ChoiceOutcome a b s r t
-      → OpensNone (wa ++ wb) (cells s) → FindsNoCommand s r t
-  choice_none s t (Ok v) w o n = by_branch (branch_ok o)
-    where
-      by_branch : BranchOk s v t → ⊥
-      by_branch (of_first {m} i e) = la.none s m (Ok v) w i (λ ds p. n ds (opens_left wa wb p))
-      by_branch (of_second {m} i e) = lb.none s m (Ok v) w i (λ ds p. n ds (opens_right wa wb p))
-  choice_none s t (Err e) w (inr o) n = inl (memory_class e.0 o.0)
-  choice_none s t (Err e) w (inl o) n =
+  -- where no word opens anything no branch has a value
+  none_branch : {s t : Situation} {v : T} → IsWholeIn env s → OpensNone (wa ++ wb) (cells s)
+      → BranchOk s v t → ⊥
+  none_branch {s} {v} w n (of_first {m} i e) =
+      la.none.ok s m v w i (λ ds p. n ds (opens_left wa wb p))
+  none_branch {s} {v} w n (of_second {m} i e) =
+      lb.none.ok s m v w i (λ ds p. n ds (opens_right wa wb p))
+
+  -- and the choice is missing
+  choice_none : (s t : Situation) (e : Error) → IsWholeIn env s → ChoiceOutcome a b s (Err e) t
+      → OpensNone (wa ++ wb) (cells s) → FindsNoCommand s (class e) t
+  choice_none s t e w (inr o) n = inl (memory_class e.0 o.0)
+  choice_none s t e w (inl o) n =
       none_chosen s o.a o.b w o.first_ran o.second_ran o.first_spared o.second_spared
       (λ ds p. n ds (opens_left wa wb p)) (λ ds p. n ds (opens_right wa wb p)) o.chosen
 
@@ -410,22 +346,11 @@ module _ {env : Variables} (T : Type 0) (a b : Outcome T) (ra rb : Roles) (wa wb
   pub choice_commands : CommandsLaw env T (ChoiceOutcome a b) (either ra rb) (wa ++ wb) value
   choice_commands = record {
     program = record {
-      others = λ q n p cs v s h. by_others q
-          (λ u g. la.program.others q n (apart_first rb p) cs u s g)
-          (λ u g. lb.program.others q n (apart_second ra p) cs u s g) h;
-      deep = choice_deep;
-      ok = choice_ok;
-      answers = choice_answers;
+      others = λ q n p cs v s h. ⊎_elim (λ g. la.program.others q n (apart_first rb p) cs v s g)
+          (λ g. lb.program.others q n (apart_second ra p) cs v s g) h;
+      keeps = record { ok = λ s t v w o. choice_took w (branch_ok o); err = choice_refuses };
     };
-    opened = λ cs v h. by_opened h;
-    none = choice_none;
+    opened = λ cs v h. ⊎_elim (λ g. let o = la.opened cs v g in (o.0, opens_left wa wb o.1))
+        (λ g. let o = lb.opened cs v g in (o.0, opens_right wa wb o.1)) h;
+    none = record { ok = λ s t v w o n. none_branch w n (branch_ok o); err = choice_none };
   }
-    where
-      by_others : (q : Roles) {cs : Cells} {v : T} → ((u : T) → va cs u → pieces q cs ≡ [])
-          → ((u : T) → vb cs u → pieces q cs ≡ []) → value cs v → pieces q cs ≡ []
-      by_others q {v} f g (inl h) = f v h
-      by_others q {v} f g (inr h) = g v h
-
-      by_opened : {cs : Cells} {v : T} → value cs v → (ds : Cells) × Opens (wa ++ wb) cs ds
-      by_opened {cs} {v} (inl h) = let o = la.opened cs v h in (o.0, opens_left wa wb o.1)
-      by_opened {cs} {v} (inr h) = let o = lb.opened cs v h in (o.0, opens_right wa wb o.1)

@@ -1,30 +1,31 @@
 -- At most one cut exists, and a value is read off one; and cuts of words alone.
 use Rattle.std.proofs.Common.{◌≡◌, Bool, true, false, List, [], ◌∷◌, Some, None, refl, ap, ◌∙◌}
-use Rattle.std.proofs.Common.{if◌then◌else◌, sym}
+use Rattle.std.proofs.Common.{if◌then◌else◌, inr, sym}
 use Rattle.bpaf_base.specs.{declared.arg.Arg.Arg, Items.is_positional}
 use Rattle.bpaf_exact.specs.Flat.{NonePresent, no_place, none_here, ReadOff, IsWords}
 use Rattle.bpaf_exact.specs.Pieces.{Cells, Role, Foreign, Alone, WithNext, Roles, LinePiece, One}
 use Rattle.bpaf_exact.specs.Pieces.{Two, IsNamed, Cut, at_end, passed, flag, argument, word, either}
 use Rattle.bpaf_exact.specs.Pieces.{word_roles, is_own_role, Takes, no_cells, empty_stays}
-use Rattle.bpaf_exact.specs.Pieces.{other_stays, takes_flag, takes_argument, pieces, TakesPiece}
-use Rattle.bpaf_exact.specs.Pieces.{takes_one, takes_two, takes_later, TakesPieces, takes_none}
-use Rattle.bpaf_exact.specs.Pieces.{takes_more}
-use Rattle.bpaf_exact.proofs.Cells.{word_foreign, begin_at}
+use Rattle.bpaf_exact.specs.Pieces.{other_stays, takes_flag, takes_argument, pieces}
+use Rattle.bpaf_exact.proofs.Cells.{CutsOff, word_foreign, begin_at}
 
--- two cuts of the same cells are one
-pub one_cut : {r : Roles} {cs : Cells} {os ps : List LinePiece} → IsNamed r → Cut r cs os
-    → Cut r cs ps → os ≡ ps
-one_cut n at_end at_end = refl
-one_cut n (passed c) (passed d) = one_cut n c d
-one_cut n (flag {k} e c) (flag f d) = ap (λ z. One k ∷ z) (one_cut n c d)
-one_cut n (flag e c) (argument f v d) = cc
-one_cut n (flag e c) (word h d) = let f = word_foreign n h in cc
-one_cut n (argument e v c) (flag f d) = cc
-one_cut n (argument {k} {w} e v c) (argument f u d) = ap (λ z. Two k w ∷ z) (one_cut n c d)
-one_cut n (argument e v c) (word h d) = let f = word_foreign n h in cc
-one_cut n (word h c) (flag e d) = let f = word_foreign n h in cc
-one_cut n (word h c) (argument e v d) = let f = word_foreign n h in cc
-one_cut n (word {w} h c) (word g d) = ap (λ z. One w ∷ z) (one_cut n c d)
+-- the pieces taken and what is left are told by the cells
+pub one_take : {q : Roles} {cs ds es : Cells} {os ps : List LinePiece} → Takes q cs os ds
+    → Takes q cs ps es → (os ≡ ps) × (ds ≡ es)
+one_take no_cells no_cells = (refl, refl)
+one_take (empty_stays t) (empty_stays u) = let i = one_take t u in (i.0, ap (λ z. None ∷ z) i.1)
+one_take (other_stays {k} e t) (other_stays f u) =
+    let i = one_take t u in (i.0, ap (λ z. Some k ∷ z) i.1)
+one_take (takes_flag {k} e t) (takes_flag f u) =
+    let i = one_take t u in (ap (λ z. One k ∷ z) i.0, ap (λ z. None ∷ z) i.1)
+one_take (takes_argument {k} {w} e v t) (takes_argument f y u) =
+    let i = one_take t u in (ap (λ z. Two k w ∷ z) i.0, ap (λ z. None ∷ (None ∷ z)) i.1)
+one_take (other_stays e t) (takes_flag f u) = absurd cc
+one_take (other_stays e t) (takes_argument f y u) = absurd cc
+one_take (takes_flag e t) (other_stays f u) = absurd cc
+one_take (takes_flag e t) (takes_argument f y u) = absurd cc
+one_take (takes_argument e v t) (other_stays f u) = absurd cc
+one_take (takes_argument e v t) (takes_flag f u) = absurd cc
 
 -- where nothing is left, the pieces taken are those of a cut
 cut_of : {r : Roles} {cs ds : Cells} {os : List LinePiece} → Takes (either r word_roles) cs os ds
@@ -81,6 +82,11 @@ taken_of n (word {w} h c) =
       none_here i.2,
     )
 
+-- two cuts of the same cells are one
+pub one_cut : {r : Roles} {cs : Cells} {os ps : List LinePiece} → IsNamed r → Cut r cs os
+    → Cut r cs ps → os ≡ ps
+one_cut n c d = (one_take (taken_of n c).1 (taken_of n d).1).0
+
 -- what is meant by the pieces of a cut is read off
 pub read_off : {V : Type 0} {r : Roles} (value : List LinePiece → V → Type 0) {cs : Cells}
     {os : List LinePiece} {v : V} → IsNamed r → Cut r cs os → value os v → ReadOff V r value cs v
@@ -108,49 +114,13 @@ never_two {k} n e =
     elim (is_positional k) as (λ b. (if b then Alone else Foreign) ≡ WithNext → ⊥)
     [ true ↦ λ h. cc | false ↦ λ h. cc ] (sym (n.words k) ∙ e)
 
--- a cut of words
-pub record WordCut (r : Roles) (cs : Cells) : Type 0 where
-  pub words : List LinePiece
-  pub cut : Cut r cs words
-
--- a word given back to its place
-pub put_word_back : {q r : Roles} {cs ds : Cells} {o : LinePiece} {os : List LinePiece} → IsWords q
-    → NoKeys r → TakesPiece q cs o ds → Cut r ds os → WordCut r cs
-put_word_back n f (takes_one {k} e) (passed {os} c) =
-    record { words = One k ∷ os; cut = word (word_of k n e) c }
-put_word_back n f (takes_two e v) c = absurd (never_two n e)
-put_word_back n f (takes_later {c = None} t) (passed c) = let i = put_word_back n f t c in
-    record { words = i.words; cut = passed i.cut }
-put_word_back n f (takes_later {c = Some k} t) (flag e c) = let g = f k in absurd cc
-put_word_back n f (takes_later {c = Some k} t) (argument e v c) = let g = f k in absurd cc
-put_word_back n f (takes_later {c = Some k} t) (word h c) = let i = put_word_back n f t c in
-    record { words = One k ∷ i.words; cut = word h i.cut }
-
--- a word taken from a cut
-pub take_word_from : {q r : Roles} {cs ds : Cells} {o : LinePiece} {os : List LinePiece} → IsWords q
-    → NoKeys r → TakesPiece q cs o ds → Cut r cs os → WordCut r ds
-take_word_from n f (takes_one e) (flag g c) = record { words = _; cut = passed c }
-take_word_from n f (takes_one {k} e) (argument g v c) = let h = f k in absurd cc
-take_word_from n f (takes_one e) (word h c) = record { words = _; cut = passed c }
-take_word_from n f (takes_two e v) c = absurd (never_two n e)
-take_word_from n f (takes_later {c = None} t) (passed c) = let i = take_word_from n f t c in
-    record { words = i.words; cut = passed i.cut }
-take_word_from n f (takes_later {c = Some k} t) (flag e c) = let g = f k in absurd cc
-take_word_from n f (takes_later {c = Some k} t) (argument e v c) = let g = f k in absurd cc
-take_word_from n f (takes_later {c = Some k} t) (word h c) =
-    let i = take_word_from n f t c in record { words = One k ∷ i.words; cut = word h i.cut }
-
--- some words given back
-pub put_words_back : {q r : Roles} {cs ds : Cells} {os : List LinePiece} → IsWords q → NoKeys r
-    → TakesPieces q cs ds → Cut r ds os → WordCut r cs
-put_words_back n f takes_none c = record { words = _; cut = c }
-put_words_back n f (takes_more t more) c = put_word_back n f t (put_words_back n f more c).cut
-
--- some words taken
-pub take_words_from : {q r : Roles} {cs ds : Cells} {os : List LinePiece} → IsWords q → NoKeys r
-    → TakesPieces q cs ds → Cut r cs os → WordCut r ds
-take_words_from n f takes_none c = record { words = _; cut = c }
-take_words_from n f (takes_more t more) c = take_words_from n f more (take_word_from n f t c).cut
+-- its pieces are ones of a cut by no keys
+pub words_cut : {q r : Roles} → IsWords q → NoKeys r → CutsOff q r
+words_cut n f = record {
+  alone = λ k e. inr (word_of k n e, f k);
+  pair = λ k e. absurd (never_two n e);
+  value = λ k w e v. let g = f k in absurd cc;
+}
 
 -- Where no key is cut off, the pieces are the words that are present.
 pub words_of_cut : {q r : Roles} {cs : Cells} {os : List LinePiece} → IsWords q → NoKeys r

@@ -1,19 +1,18 @@
 -- The exactness theorem: a run of a flat record answers the record's value, or want of memory.
-use Rattle.std.proofs.Common.{◌≡◌, ℕ, zero, ◌<◌, Bool, true, false, not, ◌&&◌, ◌||◌, length, Option}
-use Rattle.std.proofs.Common.{slice_get, None, Ok, if◌then◌else◌, refl, sym, ◌∙◌, arith, nat_lt}
-use Rattle.std.proofs.Common.{nat_le, Result, Err}
-use Rattle.std.proofs.lemmas.Bool.{lt-ltb, le-leb}
+use Rattle.std.proofs.Common.{Bool, Option, false, length, not, true, zero, ℕ, ◌&&◌, ◌<◌, ◌||◌, ◌≡◌}
+use Rattle.std.proofs.Common.{None, arith, if◌then◌else◌, nat_le, nat_lt, refl, slice_get, sym, ◌∙◌}
+use Rattle.std.proofs.{Common.Err, Common.Ok, lemmas.Bool.le-leb, lemmas.Bool.lt-ltb}
 use Rattle.bpaf_base.specs.declared.arg.Arg.{Arg}
-use Rattle.bpaf_line.specs.Situation.{Context, Situation, beginning, item_in, is_marker}
-use Rattle.bpaf_line.specs.{declared.error.Error.Error, Taking.open_item}
+use Rattle.bpaf_line.specs.Situation.{Context, Situation, beginning, is_marker, item_in}
+use Rattle.bpaf_line.specs.{Taking.open_item, declared.error.Error.Error}
 use Rattle.bpaf_laws.specs.Reading.{Outcome}
-use Rattle.bpaf_exact.specs.Flat.{cells, NonePresent, IsWholeIn, FieldsLaw, FieldsReading, ReadOff}
-use Rattle.bpaf_exact.specs.Record.{line_cells, RecordValue, RunAnswer, Accepted, RunRan, run_value}
-use Rattle.bpaf_exact.specs.Record.{run_leftover, run_memory, run_refusal, IsNoValue}
-use Rattle.bpaf_exact.specs.{Record.IsAcceptedOrWant, Record.IsExact, Pieces.Roles}
-use Rattle.bpaf_exact.specs.Programs.{CellsValue, GivesAll}
-use Rattle.bpaf_exact.proofs.Records.{none_counted, count_none, fields_give}
-use Rattle.bpaf_exact.proofs.{Cuts.one_cut, Cuts.read_cut, Counts.open_present, Places.same_cells}
+use Rattle.bpaf_exact.proofs.{Counts.open_present, Records.count_none, Records.none_counted}
+use Rattle.bpaf_exact.proofs.{Cuts.one_cut, Cuts.read_cut, Places.same_cells}
+use Rattle.bpaf_exact.specs.Record.{Accepted, RecordValue, RunAnswer, RunRan, line_cells, run_value}
+use Rattle.bpaf_exact.specs.Record.{IsAcceptedOrWant, IsExact, IsNoValue, run_leftover, run_refusal}
+use Rattle.bpaf_exact.specs.{Flat.FieldsReading, Flat.cells, Programs.CellsValue, Record.run_memory}
+use Rattle.bpaf_exact.specs.Flat.{FieldsLaw, IsWholeIn, NonePresent, OfMemory}
+use Rattle.bpaf_exact.specs.{Flat.ReadOff, Flat.class, Pieces.Cut, Pieces.Roles}
 
 -- at the beginning each item is present, but for the marker
 open_at_first : (context : Context) (p : ℕ) → p < length context.line
@@ -60,14 +59,16 @@ module _ {V : Type 0} {outcome : Outcome V} {context : Context} (value : CellsVa
   run_sound ok {a} (run_refusal o e n) v h = absurd (no_value a n h)
 
   -- each answer is one where each of the outcome is one, with nothing left, or want of memory
-  pub run_complete : ((t : Situation) (a : Result V Error) → outcome (beginning context) a t
-      → GivesAll (value (cells (beginning context))) a t) → {a : RunAnswer V} → RunRan V outcome
-      (beginning context) a → IsAcceptedOrWant (value (line_cells context)) a
-  run_complete all (run_value {v = x} {t} o e) = rw (← first_cells_are context) (all t (Ok x) o).0
-  run_complete all (run_leftover {v = x} {t} o e n) =
-      absurd (e (open_present t ∙ count_none (all t (Ok x) o).1))
-  run_complete all (run_memory o e) = tt
-  run_complete all (run_refusal {e = x} {t} o e n) = absurd (e (all t (Err x) o))
+  pub run_complete : ((t : Situation) (v : V) → outcome (beginning context) (Ok v) t
+      → value (cells (beginning context)) v × NonePresent (cells t))
+      → ((t : Situation) (e : Error) → outcome (beginning context) (Err e) t → class e ≡ OfMemory)
+      → {a : RunAnswer V} → RunRan V outcome (beginning context) a
+      → IsAcceptedOrWant (value (line_cells context)) a
+  run_complete all want (run_value {v = x} {t} o e) = rw (← first_cells_are context) (all t x o).0
+  run_complete all want (run_leftover {v = x} {t} o e n) =
+      absurd (e (open_present t ∙ count_none (all t x o).1))
+  run_complete all want (run_memory o e) = tt
+  run_complete all want (run_refusal {e = x} {t} o e n) = absurd (e (want t x o))
 
 module _ {V : Type 0} {outcome : Outcome V} {r : Roles} {reading : FieldsReading V}
     {context : Context} (l : FieldsLaw context.env V outcome r reading) where
@@ -75,7 +76,7 @@ module _ {V : Type 0} {outcome : Outcome V} {r : Roles} {reading : FieldsReading
   sound : {a : RunAnswer V} → RunRan V outcome (beginning context) a → (v : V) → a ≡ Accepted v
       → RecordValue r reading.value context v
   sound = run_sound (ReadOff V r reading.value)
-      (λ t v o n. l.ok (beginning context) t v all_whole o n)
+      (λ t v o. (l.keeps.ok (beginning context) t v all_whole o).read)
 
   -- THE THEOREM: on every line each answer of a run is a value of the record, want of memory, or a
   -- refusal where the record has no value; for the line has one cut.
@@ -83,8 +84,12 @@ module _ {V : Type 0} {outcome : Outcome V} {r : Roles} {reading : FieldsReading
       → IsExact V r reading context a
   exact ran = record {
     sound = sound ran;
-    complete = λ os c h. run_complete (ReadOff V r reading.value)
-        (λ t a o. fields_give l a all_whole o (rw (first_cells_are context) c) h) ran;
+    complete = λ os c h. let here : Cut r (cells (beginning context)) os
+        = rw (first_cells_are context) c in
+        run_complete (ReadOff V r reading.value)
+        (λ t v o. let i = l.keeps.ok (beginning context) t v all_whole o in
+        let n = i.all os here h in (i.read n, n))
+        (λ t e o. l.keeps.err (beginning context) t e all_whole o os here h) ran;
     refused = λ os c none v h. let i = sound ran v h in
         none (rw (← one_cut l.named (read_cut i) c) (l.has_each i.cut_into v i.read));
   }

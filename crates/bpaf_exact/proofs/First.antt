@@ -1,15 +1,14 @@
 -- Taking the first piece, and the first piece of two fields together.
-use Rattle.std.proofs.Common.{◌≡◌, ◌<◌, true, false, List, [], ◌∷◌, length, Option, Some, None}
-use Rattle.std.proofs.Common.{refl, sym, ap, ◌∙◌, inl, inr, ◌⊎◌, if◌then◌else◌, arith, ⊎_elim}
+use Rattle.std.proofs.Common.{List, None, Option, Some, [], false, length, sym, true, ◌<◌, ◌∷◌, ◌≡◌}
+use Rattle.std.proofs.Common.{ap, arith, if◌then◌else◌, inl, inr, refl, ⊎_elim, ◌∙◌, ◌⊎◌}
 use Rattle.bpaf_base.specs.declared.arg.Arg.{Arg}
-use Rattle.bpaf_exact.specs.Pieces.{Cells, Role, Foreign, Alone, WithNext, Roles, LinePiece, One}
-use Rattle.bpaf_exact.specs.Pieces.{Two, is_value, is_own_role, is_own, IsNamed, Apart, either}
-use Rattle.bpaf_exact.specs.Pieces.{either_role, with_next, begin_piece, pieces, TakesPiece}
-use Rattle.bpaf_exact.specs.Pieces.{takes_one, takes_two, takes_later}
-use Rattle.bpaf_exact.specs.Alternative.{TakesFirst, first_one, first_two, first_later, HasBad}
-use Rattle.bpaf_exact.specs.Alternative.{bad_here, bad_later}
-use Rattle.bpaf_exact.proofs.Cells.{value_foreign, nil_rest, nil_foreign, keeps_other, same_next}
-use Rattle.bpaf_exact.proofs.Cells.{begin_at}
+use Rattle.bpaf_exact.proofs.Cells.{either_right, keeps_other, nil_foreign, nil_rest, value_foreign}
+use Rattle.bpaf_exact.proofs.Cells.{begin_at, either_own, same_next}
+use Rattle.bpaf_exact.specs.Alternative.{TakesFirst, first_later, first_one, first_two}
+use Rattle.bpaf_exact.specs.Pieces.{Alone, Cells, Foreign, LinePiece, One, Role, WithNext, is_value}
+use Rattle.bpaf_exact.specs.Pieces.{Apart, IsNamed, Roles, begin_piece, either, is_own, is_own_role}
+use Rattle.bpaf_exact.specs.Pieces.{TakesPiece, Two, takes_later, takes_one, takes_two, with_next}
+use Rattle.bpaf_exact.specs.{Pieces.pieces}
 
 -- taking the first piece is taking one
 pub first_takes : {q : Roles} {cs ds : Cells} {o : LinePiece} → TakesFirst q cs o ds
@@ -48,35 +47,32 @@ takes_nonempty {q} (takes_two {k} {w} {cs} e v) h =
 takes_nonempty (takes_later {c = None} t) h = takes_nonempty t h
 takes_nonempty {q} (takes_later {c = Some k} {cs} t) h = takes_nonempty t (nil_rest (q k) k cs h)
 
--- A piece that can't be read stays one when others are given back.
-
-module _ {T : Type 0} {value : LinePiece → T → Type 0} where
-  -- a piece that can't be read is one
-  pub bad_nonempty : {os : List LinePiece} → HasBad T value os → os ≡ [] → ⊥
-  bad_nonempty (bad_here h) e = cc
-  bad_nonempty (bad_later h) e = cc
-
-  -- with an item before them pieces that can't be read stay
-  bad_begin : (x : Role) (k : Arg) (cs ds : Cells) {os ps : List LinePiece}
-      → with_next k ds ≡ with_next k cs → (HasBad T value os → HasBad T value ps)
-      → HasBad T value (begin_piece x k ds os) → HasBad T value (begin_piece x k cs ps)
-  bad_begin Foreign k cs ds e f h = f h
-  bad_begin Alone k cs ds e f (bad_here h) = bad_here h
-  bad_begin Alone k cs ds e f (bad_later h) = bad_later (f h)
-  bad_begin WithNext k cs ds {os} {ps} e f h = by_next e h
-    where
-      by_next : {x y : LinePiece} → x ≡ y → HasBad T value (x ∷ os) → HasBad T value (y ∷ ps)
-      by_next e (bad_here h) = bad_here (λ v g. h v (rw e g))
-      by_next e (bad_later h) = bad_later (f h)
-
-  -- A piece that can't be read stays one when others are given back.
-  pub bad_given_back : {q : Roles} {cs ds : Cells} {o : LinePiece} → IsNamed q
-      → TakesPiece q cs o ds → HasBad T value (pieces q ds) → HasBad T value (pieces q cs)
-  bad_given_back {q} n (takes_one {k} {cs} e) h = rw (begin_at k cs (pieces q cs) e) (bad_later h)
-  bad_given_back n (takes_two {cs} e v) h = rw (pair_pieces cs n e v) (bad_later h)
-  bad_given_back n (takes_later {c = None} t) h = bad_given_back n t h
-  bad_given_back {q} n (takes_later {c = Some k} {cs} {ds} t) h =
-      bad_begin (q k) k cs ds (same_next k n t) (bad_given_back n t) h
+-- where another piece than the first is taken, that stays the first
+pub head_stays : {q : Roles} {cs ds : Cells} {taken o : LinePiece} {os : List LinePiece}
+    → IsNamed q → TakesPiece q cs taken ds → pieces q cs ≡ o ∷ os → (taken ≡ o → ⊥)
+    → (ps : List LinePiece) × (pieces q ds ≡ o ∷ ps)
+head_stays {q} n (takes_one {k} {cs} e) h other =
+    let a = begin_at k cs (pieces q cs) e in absurd (other cc)
+head_stays n (takes_two {cs} e v) h other = let a = pair_pieces cs n e v in absurd (other cc)
+head_stays n (takes_later {c = None} t) h other = head_stays n t h other
+head_stays {q} {o} {os} n (takes_later {c = Some k} {cs} {ds} t) h other =
+    by_role (q k) refl (λ e. head_stays n t e other)
+  where
+    by_role : (x : Role) → q k ≡ x
+        → (pieces q cs ≡ o ∷ os → (ps : List LinePiece) × (pieces q ds ≡ o ∷ ps))
+        → (ps : List LinePiece) × (pieces q (Some k ∷ ds) ≡ o ∷ ps)
+    by_role Foreign e on =
+        let i = on (sym (begin_at k cs (pieces q cs) e) ∙ h) in
+        (i.0, begin_at k ds (pieces q ds) e ∙ i.1)
+    by_role Alone e on =
+        let a = begin_at k cs (pieces q cs) e in
+        let b = begin_at k ds (pieces q ds) e in
+        (pieces q ds, cc)
+    by_role WithNext e on =
+        let a = begin_at k cs (pieces q cs) e in
+        let b = begin_at k ds (pieces q ds) e in
+        let c = same_next k n t in
+        (pieces q ds, cc)
 
 -- the items of two fields together
 pub record Union (qa qb r : Roles) : Type 0 where
@@ -98,16 +94,6 @@ swap_union u = record {
   none = λ k a b. u.none k b a;
 }
 
--- an item of the first is of the same role to both
-either_left : (x y : Role) → is_own_role x ≡ true → either_role x y ≡ x
-either_left Foreign y e = absurd cc
-either_left _ y e = refl
-
--- so is one of the second
-either_right : (x : Role) {y : Role} → x ≡ Foreign → either_role x y ≡ y
-either_right Foreign e = refl
-either_right _ e = absurd cc
-
 -- the items of two fields that share none
 pub either_union : {qa qb : Roles} → IsNamed qa → IsNamed qb → Apart qa qb
     → Union qa qb (either qa qb)
@@ -115,7 +101,7 @@ either_union {qa} {qb} na nb a = record {
   apart = a;
   named_left = na;
   named_right = nb;
-  left = λ k e. either_left (qa k) (qb k) e;
+  left = λ k e. either_own (qa k) (qb k) (qa k) refl e;
   right = λ k e. either_right (qa k) (a.right k e);
   none = λ k e f. either_right (qa k) e ∙ f;
 }
@@ -229,16 +215,6 @@ first_mine u e h (first_later {c = Some k} {cs} n t) =
     let d = not_either cs u n h e in
     first_later d.0 (first_mine u d.1 h t)
 
--- The same where the other field has no piece.
-pub first_alone : {qa qb r : Roles} {cs ds : Cells} {oa : LinePiece} → Union qa qb r
-    → pieces qb cs ≡ [] → TakesFirst qa cs oa ds → TakesFirst r cs oa ds
-first_alone u e (first_one x) = first_one (left_role u refl x)
-first_alone u e (first_two x v) = first_two (left_role u refl x) v
-first_alone u e (first_later {c = None} n t) = first_later tt (first_alone u e t)
-first_alone {qb} u e (first_later {c = Some k} {cs} n t) =
-    first_later (u.none k n (nil_foreign (qb k) k cs (pieces qb cs) e))
-    (first_alone u (nil_rest (qb k) k cs e) t)
-
 -- where neither has a piece both have none
 pub both_nil : {qa qb r : Roles} (cs : Cells) → Union qa qb r → pieces qa cs ≡ []
     → pieces qb cs ≡ [] → pieces r cs ≡ []
@@ -254,17 +230,6 @@ pub data TookLeft : Cells → Cells → Type 0 where
   left_here : {x : Arg} {cs ds : Cells} → TookLeft (None ∷ cs) (Some x ∷ ds)
   left_later : {c d : Option Arg} {cs ds : Cells} → c ≡ d → TookLeft cs ds
       → TookLeft (c ∷ cs) (d ∷ ds)
-
--- Of two first pieces the one further left is the first of both.
-pub first_both : {qa qb r : Roles} {cs ca cb : Cells} {oa ob : LinePiece} → Union qa qb r
-    → TakesFirst qa cs oa ca → TakesFirst qb cs ob cb → TookLeft ca cb → TakesFirst r cs oa ca
-first_both u (first_one x) t h = first_one (left_role u refl x)
-first_both u (first_two x v) t h = first_two (left_role u refl x) v
-first_both u (first_later {c = None} n s) (first_later m t) (left_later same h) =
-    first_later tt (first_both u s t h)
-first_both u (first_later {c = Some k} n s) (first_later m t) (left_later same h) =
-    first_later (u.none k n m) (first_both u s t h)
-first_both u (first_later {c = Some k} n s) _ (left_later same h) = absurd cc
 
 -- If the first piece of both is the second field's and it took that, the first field took nothing
 -- further left.
@@ -318,33 +283,3 @@ never_same {qa} u s t e =
     (record { left = u.apart.right; right = u.apart.left }) t) in
     let c = ap (λ z. length (pieces qa z)) e in
     omega arith
-
--- A piece of one field that can't be read is one of both that can't be read.
-module _ (T : Type 0) (va vr : LinePiece → T → Type 0) {qa qb r : Roles} (u : Union qa qb r)
-    (same : (o : LinePiece) (v : T) → is_own qa o ≡ true → vr o v ≡ va o v) where
-  -- pieces that can't be read stay behind an item
-  bad_any : (x : Role) (k : Arg) (cs : Cells) {os : List LinePiece} → HasBad T vr os
-      → HasBad T vr (begin_piece x k cs os)
-  bad_any Foreign k cs h = h
-  bad_any _ k cs h = bad_later h
-
-  -- a piece of the first that can't be read, behind an item
-  bad_at : (x : Role) {y : Role} (k : Arg) (cs : Cells) {os ps : List LinePiece}
-      → (is_own_role x ≡ true → y ≡ x)
-      → ((o : LinePiece) → is_own qa o ≡ is_own_role (qa k) → is_own qa o ≡ is_own_role x)
-      → (HasBad T va os → HasBad T vr ps) → HasBad T va (begin_piece x k cs os)
-      → HasBad T vr (begin_piece y k cs ps)
-  bad_at Foreign {y} k cs e g f h = bad_any y k cs (f h)
-  bad_at Alone k cs e g f (bad_here h) =
-      rw (e refl) (bad_here (λ v x. h v (rw (← same (One k) v (g (One k) refl)) x)))
-  bad_at WithNext k cs e g f (bad_here h) =
-      rw (e refl)
-      (bad_here (λ v x. h v (rw (← same (with_next k cs) v (g (with_next k cs) (own_next qa k cs)))
-      x)))
-  bad_at _ k cs e g f (bad_later h) = rw (e refl) (bad_later (f h))
-
-  -- a piece of the first that can't be read is one of both
-  pub bad_left : (cs : Cells) → HasBad T va (pieces qa cs) → HasBad T vr (pieces r cs)
-  bad_left [] h = elim h [ ]
-  bad_left (None ∷ cs) h = bad_left cs h
-  bad_left (Some k ∷ cs) h = bad_at (qa k) k cs (u.left k) (λ o e. e) (bad_left cs) h

@@ -1,28 +1,31 @@
 -- From what the calls of a state take to pieces.
-use Rattle.std.proofs.Common.{◌≡◌, ℕ, suc, ◌+◌, ◌<◌, Bool, true, false, List, [], ◌∷◌, length}
-use Rattle.std.proofs.Common.{Option, Some, None, refl, sym, ap, ◌∙◌, inl, if◌then◌else◌}
-use Rattle.std.proofs.Common.{option_and_then, add-one, ◌||◌}
-use Rattle.std.specs.Option.{option_map_or, is_some}
+use Rattle.std.proofs.Common.{Bool, List, Option, Some, [], false, length, suc, true, ◌<◌, ◌∷◌, ◌≡◌}
+use Rattle.std.proofs.Common.{None, ap, if◌then◌else◌, inl, inr, option_and_then, refl, sym, ℕ, ◌∙◌}
+use Rattle.std.proofs.Common.{Err, Ok, Result, add-one, ⊎_elim, ◌||◌, ◌⊎◌}
+use Rattle.std.specs.Option.{is_some, option_map_or}
 use Rattle.bpaf_doc.specs.{Names.Names, Shape.Part}
-use Rattle.bpaf_base.specs.declared.arg.Arg.{Arg}
 use Rattle.bpaf_base.specs.declared.arg.Arg.TheVariants.{ArgWord, Word}
-use Rattle.bpaf_base.specs.Items.{is_key_of, value_text, item_text}
-use Rattle.bpaf_line.specs.Taking.{open_item, is_match, IsFirst, HasNone, value_after}
-use Rattle.bpaf_line.specs.declared.error.Message.TheVariants.{Missing, NoEnv}
-use Rattle.bpaf_line.specs.Situation.{Situation, take_place}
-use Rattle.bpaf_line.specs.{declared.error.Error.Error, declared.error.Message.Message}
-use Rattle.bpaf_line.proofs.{Places.open_in_line, Matches.open_item_there}
-use Rattle.bpaf_laws.specs.Environment.{IsAbsence, MissesItem}
-use Rattle.bpaf_exact.specs.Pieces.{Role, Foreign, Alone, WithNext, Roles, LinePiece, One, Two}
-use Rattle.bpaf_exact.specs.Pieces.{is_value, is_key, is_own_role, IsNamed, pieces}
-use Rattle.bpaf_exact.specs.Flat.{OfMissing, Refused, is_missing, class, class_of, cells, Steady}
-use Rattle.bpaf_exact.specs.Alternative.{NotOwn, TakesFirst, bad_here, AlternativeOk}
-use Rattle.bpaf_exact.specs.Alternative.{AlternativeErr, alternative_missing, alternative_refused}
-use Rattle.bpaf_exact.specs.{Names.Owns, Single.CanCatch, Single.catch_missing, Single.catch_other}
-use Rattle.bpaf_exact.proofs.Places.{take_steady, NoneBefore, take_one, take_two, none_present}
-use Rattle.bpaf_exact.proofs.Places.{BareHead, bare_first, open_one, open_two}
-use Rattle.bpaf_exact.proofs.Product.{steady_refl, steady_trans}
-use Rattle.bpaf_exact.proofs.{Classes.missing_class, First.first_takes, Names.named_key}
+use Rattle.bpaf_base.specs.{Items.is_key_of, Items.value_text, declared.arg.Arg.Arg}
+use Rattle.bpaf_base.specs.Items.{item_text}
+use Rattle.bpaf_line.proofs.{Matches.open_item_there, Places.open_in_line}
+use Rattle.bpaf_line.specs.{declared.error.Error.Error, declared.error.Message.TheVariants.Missing}
+use Rattle.bpaf_line.specs.{Situation.take_place, declared.error.Message.TheVariants.NoEnv}
+use Rattle.bpaf_line.specs.{Situation.Situation, Taking.value_after, declared.error.Message.Message}
+use Rattle.bpaf_line.specs.Taking.{HasNone, IsFirst, is_match, open_item}
+use Rattle.bpaf_laws.specs.{Environment.IsAbsence, Environment.MissesItem, Reading.Outcome}
+use Rattle.bpaf_laws.specs.Repeat.{is_nil}
+use Rattle.bpaf_exact.proofs.Places.{BareHead, NoneBefore, bare_first, open_one, take_one, take_two}
+use Rattle.bpaf_exact.proofs.{Places.none_present, Product.steady_refl, Wrappers.took_front}
+use Rattle.bpaf_exact.proofs.{First.first_takes, Names.named_key, Places.open_two}
+use Rattle.bpaf_exact.specs.Alternative.{AlternativeErr, AlternativeOk, NotOwn, alternative_missing}
+use Rattle.bpaf_exact.specs.Alternative.{TakesFirst, alternative_memory, alternative_refused}
+use Rattle.bpaf_exact.specs.Flat.{ByName, Caught, FieldKind, OfMemory, OfMissing, Refused, class_of}
+use Rattle.bpaf_exact.specs.Pieces.{Alone, Foreign, LinePiece, One, Role, Roles, WithNext, is_value}
+use Rattle.bpaf_exact.specs.Pieces.{IsNamed, Two, is_key, is_own_role, pieces}
+use Rattle.bpaf_exact.specs.Single.{Gap, Groups, SingleErr, catch_missing, catch_other, gave_absent}
+use Rattle.bpaf_exact.specs.Single.{FrontOf, SingleOk, of_absent, of_memory, of_missing, of_piece}
+use Rattle.bpaf_exact.specs.{Flat.Steady, Flat.Variables, Leaves.key_field, ProgramForm.FormLaw}
+use Rattle.bpaf_exact.specs.{Flat.cells, Flat.class, Flat.front, Names.Owns, Single.took}
 
 -- the item of a match
 pub record Match (test : Arg → Bool) (s : Situation) (p : ℕ) : Type 0 where
@@ -147,10 +150,6 @@ none_behind s p e w f v =
 abbrev pub taken_pair : Situation → ℕ → Situation
 taken_pair s p = take_place (take_place s p) (suc p)
 
--- a place and the next, in two spellings
-pub pair_is : (s : Situation) {p : ℕ} → take_place (take_place s p) (p + 1) ≡ taken_pair s p
-pair_is s {p} = ap (λ q. take_place (take_place s p) q) (add-one p)
-
 -- the first match, taken with the value behind it
 pub two_taken : {test : Arg → Bool} {r : Roles} (s : Situation) {p : ℕ} {text : List ℕ}
     → ByTest test r WithNext → IsFirst test s p → (m : Match test s p) (b : Behind s p text)
@@ -160,10 +159,6 @@ two_taken s {p} t f m b =
     take_two (length s.context.line) p b.in_line m.is b.is (t.yes m.item m.passes) b.value
     (none_before t f) (open_two s p)
 
--- taking both changes what is taken and the current place alone
-pub two_steady : {s : Situation} {p : ℕ} → Steady s (taken_pair s p)
-two_steady = steady_trans take_steady take_steady
-
 -- the first match heads the pieces as it stands, where no value is behind it
 pub bare_taken : {test : Arg → Bool} {r : Roles} {s : Situation} {p : ℕ} → ByTest test r WithNext
     → IsFirst test s p → (m : Match test s p) → value_after s p ≡ None → BareHead r (cells s) m.item
@@ -172,54 +167,145 @@ bare_taken {s} {p} t f m e =
     bare_first (length s.context.line) p m.in_line m.is
     (t.yes m.item m.passes) (none_before t f) (none_behind s p e)
 
--- the first piece taken is an alternative's answer
-pub first_alternative : {T : Type 0} {q : Roles} (value : LinePiece → T → Type 0) {s t : Situation}
-    {v : T} {o : LinePiece} → Steady s t → value o v → TakesFirst q (cells s) o (cells t)
-    → AlternativeOk T q value s v t
-first_alternative value {o} st m f = record {
-  steady = st;
-  piece = o;
-  takes = first_takes f;
-  means = m;
-  first = inl f;
-  readable = λ p os w e g. f;
-}
-
--- the first piece can't be read
-pub first_refused : {T : Type 0} {q : Roles} (value : LinePiece → T → Type 0) {s t : Situation}
-    {e : Error} {o : LinePiece} {os : List LinePiece} → class e ≡ Refused → t.path ≡ s.path
-    → pieces q (cells s) ≡ o ∷ os → ((v : T) → value o v → ⊥) → AlternativeErr T q value s e t
-first_refused value {o} c p h n =
-    alternative_refused c p (rw h (bad_here n))
-    (λ x xs w g m. let d : x ≡ o = (let k = sym h ∙ g in cc) in n w (rw (← d) m))
-
--- no piece, nothing taken
-pub missing_same : {T : Type 0} {q : Roles} (value : LinePiece → T → Type 0) {s t : Situation}
-    {e : Error} → class e ≡ OfMissing → pieces q (cells s) ≡ [] → t ≡ s
-    → AlternativeErr T q value s e t
-missing_same value c p same = rw same (alternative_missing c p refl steady_refl)
-
 -- a refusal that names a missing item says that items are missing
 misses : (s : Situation) (part : Option Part) (m : Message) → MissesItem s part m
-    → is_missing m ≡ true
+    → class_of m ≡ OfMissing
 misses s part (Missing items) o = refl
 misses s part other o = absurd o
 
--- so does that of a key without a name in the environment
-pub absence_missing : (s : Situation) (part : Option Part) (envs : List (List ℕ)) → envs ≡ []
-    → (m : Message) → IsAbsence s part envs m → is_missing m ≡ true
-absence_missing s (Some part) envs e m o = misses s (Some part) m o
-absence_missing s None [] e m o = misses s None m o
-absence_missing s None (env ∷ envs) e m o = absurd cc
+-- so does that of a key, or without a place on the line that no name in the environment is set
+pub absence_class : (s : Situation) (part : Option Part) (envs : List (List ℕ)) (m : Message)
+    → IsAbsence s part envs m
+    → (class_of m ≡ OfMissing) ⊎ ((class_of m ≡ Caught) × (envs ≡ [] → ⊥))
+absence_class s (Some part) envs m o = inl (misses s (Some part) m o)
+absence_class s None [] m o = inl (misses s None m o)
+absence_class s None (env ∷ envs) (NoEnv name) o = inr (refl, λ e. cc)
+absence_class s None (env ∷ envs) m o = absurd o
 
--- that of any key can be caught
-pub absence_caught : (s : Situation) (part : Option Part) (envs : List (List ℕ)) {e : Error}
-    (m : Message) → class e ≡ class_of m → IsAbsence s part envs m → CanCatch e
-absence_caught s (Some part) envs m c o =
-    catch_missing (c ∙ missing_class m (misses s (Some part) m o))
-absence_caught s None [] m c o = catch_missing (c ∙ missing_class m (misses s None m o))
-absence_caught s None (env ∷ envs) (NoEnv name) c o = catch_other c
-absence_caught s None (env ∷ envs) m c o = absurd o
+-- What a parser answers where no piece of its own is there: what stands for that; or it is refused;
+-- or an item is missing, where nothing was taken, or something else.
+pub data NoneRead (T : Type 0) (gap : Gap T) (other : Type 0) (s : Situation) : Result T Error
+    → Situation → Type 0 where
+  none_absent : {v : T} {t : Situation} → gap.has ≡ true → gap.absent v → cells t ≡ cells s
+      → Steady s t → NoneRead T gap other s (Ok v) t
+  none_refused : {e : Error} {t : Situation} → class e ≡ Refused → gap.has ≡ true
+      → ((v : T) → gap.absent v → ⊥) → NoneRead T gap other s (Err e) t
+  none_missing : {e : Error} {t : Situation}
+      → (class e ≡ OfMissing) ⊎ ((class e ≡ Caught) × other) → gap.has ≡ false
+      → (class e ≡ OfMissing → t ≡ s) → NoneRead T gap other s (Err e) t
+
+-- What a parser answers that reads the first of its pieces alone: that has a value, or it has none;
+-- or there is none; or want of memory.
+pub data FirstRead (T : Type 0) (k : FieldKind) (q : Roles) (value : LinePiece → T → Type 0)
+    (gap : Gap T) (other : Type 0) (s : Situation) : Result T Error → Situation → Type 0 where
+  read_first : {o : LinePiece} {v : T} {t : Situation} → Steady s t
+      → TakesFirst q (cells s) o (cells t) → pieces q (cells s) ≡ o ∷ pieces q (cells t)
+      → (front k (o ∷ pieces q (cells t)) ≡ [] → ⊥) → value o v
+      → FirstRead T k q value gap other s (Ok v) t
+  read_fault : {o : LinePiece} {os : List LinePiece} {e : Error} {t : Situation}
+      → class e ≡ Refused → t.path ≡ s.path → pieces q (cells s) ≡ o ∷ os
+      → (front k (o ∷ os) ≡ [] → ⊥) → ((v : T) → value o v → ⊥)
+      → FirstRead T k q value gap other s (Err e) t
+  read_none : {r : Result T Error} {t : Situation} → front k (pieces q (cells s)) ≡ []
+      → NoneRead T gap other s r t → FirstRead T k q value gap other s r t
+  read_memory : {e : Error} {t : Situation} → class e ≡ OfMemory
+      → FirstRead T k q value gap other s (Err e) t
+
+module _ {T : Type 0} {k : FieldKind} {q : Roles} {gap : Gap T} {other : Type 0}
+    {s t : Situation} where
+  -- a value for no piece is one of a single evaluation, however that reads pieces,
+  pub none_ok : {group : Groups T} {v : T} → front k (pieces q (cells s)) ≡ []
+      → NoneRead T gap other s (Ok v) t → SingleOk T k q group gap s v t
+  none_ok p (none_absent has a same st) = gave_absent has p a same st
+
+  -- and so is a refusal
+  pub none_err : {group : Groups T} {e : Error} → front k (pieces q (cells s)) ≡ []
+      → NoneRead T gap other s (Err e) t → SingleErr T k q group gap s (class e) t
+  none_err p (none_refused c has none) = of_absent c has p none
+  none_err p (none_missing c has same) = of_missing
+      (⊎_elim (λ missing. catch_missing missing) (λ caught. catch_other caught.0) c) has p
+      (λ missing. ap cells (same missing))
+
+  -- the value of a first piece is one of a single evaluation,
+  pub first_ok : {value : LinePiece → T → Type 0} {v : T}
+      → FirstRead T k q value gap other s (Ok v) t → SingleOk T k q (FrontOf T value) gap s v t
+  first_ok {value} (read_first st f is some y) = took (took_front value st f is y some)
+  first_ok (read_none p n) = none_ok p n
+
+  -- and so is a refusal
+  pub first_err : {value : LinePiece → T → Type 0} {e : Error}
+      → FirstRead T k q value gap other s (Err e) t
+      → SingleErr T k q (FrontOf T value) gap s (class e) t
+  first_err (read_fault {o} {os} c path is some none) =
+      of_piece c (λ e. some (sym (ap (front k) is) ∙ e)) (λ w rest g.
+      let d : o ∷ os ≡ g.0 ∷ rest = sym is ∙ g.1 in
+      let j : g.0 ≡ o = cc in none w (rw (← j) g.2))
+  first_err (read_none p n) = none_err p n
+  first_err (read_memory c) = of_memory c
+
+module _ {T : Type 0} {q : Roles} {value : LinePiece → T → Type 0} {gap : Gap T} {other : Type 0}
+    {s t : Situation} (has : gap.has ≡ false) where
+  -- where nothing stands for no piece, it is one of an alternative,
+  alternative_ok : {v : T} → FirstRead T ByName q value gap other s (Ok v) t
+      → AlternativeOk T q value s v t
+  alternative_ok (read_first {o} st f is some y) = record {
+    steady = st;
+    piece = o;
+    takes = first_takes f;
+    means = y;
+    first = inl f;
+  }
+  alternative_ok (read_none p (none_absent h a same st)) = absurd cc
+
+  -- and so is a refusal, where without a piece an item is missing
+  alternative_err : {e : Error} → (other → ⊥) → FirstRead T ByName q value gap other s (Err e) t
+      → AlternativeErr T q value s (class e) t
+  alternative_err never (read_fault {o} {os} c path is some none) =
+      alternative_refused c path (o, os, is, none)
+  alternative_err never (read_none p (none_refused c h none)) = absurd cc
+  alternative_err never (read_none p (none_missing (inl c) h same)) =
+      rw (same c) (alternative_missing c p refl steady_refl)
+  alternative_err never (read_none p (none_missing (inr c) h same)) = absurd (never c.1)
+  alternative_err never (read_memory c) = alternative_memory c
+
+-- a key whose evaluation reads its first piece alone keeps to the laws of its form
+pub key_field_law : {env : Variables} {T : Type 0} {outcome : Outcome T} {q : Roles}
+    {value : LinePiece → T → Type 0} {gap : Gap T} {names : List Names} (other : Type 0)
+    (wide may : Bool) → IsNamed q → Owns q names
+    → ((v : T) → gap.has ≡ false → gap.absent v → ⊥)
+    → (may ≡ true → (gap.has ≡ false) × (other → ⊥))
+    → ((s t : Situation) (r : Result T Error) → s.context.env ≡ env → outcome s r t
+    → FirstRead T ByName q value gap other s r t)
+    → FormLaw env outcome names [] (key_field wide may q value (FrontOf T value) gap)
+key_field_law other wide true named owns empty must reads = (
+  record {
+    named = named;
+    keeps = record {
+      ok = λ s t v w o. alternative_ok (must refl).0 (reads s t (Ok v) w.environment o);
+      err = λ s t e w o.
+          alternative_err (must refl).0 (must refl).1 (reads s t (Err e) w.environment o);
+    };
+  },
+  owns,
+)
+key_field_law other wide false named owns empty must reads = (
+  record {
+    own = named;
+    words = tt;
+    starts = λ v rest g. let e = g.1 in cc;
+    no_absent = empty;
+    keeps = record {
+      ok = λ s t v w o. first_ok (reads s t (Ok v) w.environment o);
+      err = λ s t e w o. first_err (reads s t (Err e) w.environment o);
+    };
+  },
+  owns,
+)
+
+-- no variable's name is among none
+pub none_named : (envs : List (List ℕ)) → is_nil envs ≡ true → envs ≡ []
+none_named [] e = refl
+none_named (env ∷ envs) e = absurd cc
 
 -- a role that a test gives is one of the field's own where the test holds
 own_test : (b : Bool) (x : Role) → is_own_role (if b then x else Foreign) ≡ true → b ≡ true

@@ -5,15 +5,11 @@ use Rattle.bpaf_exact.specs.Says.{says_variable, says_variable_text, says_text, 
 use Rattle.bpaf_exact.specs.Says.{MadeSays, FrontSays, RepeatSays, says_in_turn, says_alone}
 use Rattle.bpaf_exact.specs.{Says.LastSays, Pieces.LinePiece, Pieces.Two, Single.Own}
 use Rattle.bpaf_exact.specs.{Single.own_none, Single.own_more, Wrappers.Closure}
+use Rattle.bpaf_exact.proofs.Fronts.{never_nil}
 
 -- no value says so of no piece
 pub record NeedsPiece {T : Type 0} (said : Said T) : Type 0 where
   pub some : (v : T) → ¬ (said [] v)
-
--- a list with a member isn't empty
-not_empty : {X : Type 0} (xs : List X) (y : X) (ys : List X) → ¬ ([] ≡ xs ++ y ∷ ys)
-not_empty [] y ys e = cc
-not_empty (x ∷ xs) y ys e = cc
 
 -- where the first part of nothing has a member there is none
 no_part : {X : Type 0} (xs ys : List X) → [] ≡ xs ++ ys → xs ≡ []
@@ -27,7 +23,7 @@ argument_needs {T} {means} {last} {set} unset = record { some = by_case }
   where
     by_case : (v : T) → ¬ (ArgumentSays means last set [] v)
     by_case v (says_text k w e m) = cc
-    by_case v (says_last_text before k w all e m) = not_empty _ (Two k w) [] e
+    by_case v (says_last_text before k w all e m) = never_nil _ (Two k w) [] (sym e)
     by_case v (says_variable_text text none is m) = cc
 
 -- a required flag's then,
@@ -62,7 +58,7 @@ repeat_needs {T} {said} needs vs some (says_in_turn turns) = in_turn vs refl som
 pub last_needs : {T : Type 0} {said : Said T} → NeedsPiece said → NeedsPiece (LastSays said)
 last_needs needs = record {
   some = λ v last. repeat_needs needs last.values
-      (λ none. not_empty last.is.before v [] (sym none ∙ last.is.is)) last.told;
+      (λ none. never_nil last.is.before v [] (sym last.is.is ∙ none)) last.told;
 }
 
 -- And a repeat without values has no piece.

@@ -1,61 +1,60 @@
 -- Where closures can't tell apart what looks alike, the premise of exactness holds, and all values
 -- of a line look alike.
-use Rattle.std.proofs.Common.{◌≡◌, ℕ, Bool, true, false, List, [], ◌∷◌, map, Option, Some, None}
-use Rattle.std.proofs.Common.{◌&&◌, ◌||◌, not, refl, sym, ap, ◌∙◌, subst, inl, inr}
-use Rattle.std.specs.{Option.is_none, Option.IsSomeRelated, Prelude.option_map, Global.Vec}
+use Rattle.std.proofs.Common.{Bool, List, None, Some, [], false, map, true, ℕ, ◌&&◌, ◌||◌, ◌∷◌, ◌≡◌}
+use Rattle.std.proofs.Common.{Option, ap, inl, inr, not, refl, subst, sym, ◌∙◌}
+use Rattle.std.specs.{Global.Vec, Option.IsSomeRelated, Option.is_none, Prelude.option_map}
 use Rattle.bpaf_doc.specs.Names.{Names}
 use Rattle.bpaf_base.specs.Items.{item_text}
 use Rattle.bpaf_line.specs.Situation.{Context}
+use Rattle.bpaf_text.specs.Named.{KeyWithValue, Named as Key}
 use Rattle.bpaf_laws.specs.{Environment.first_set, Reading.Outcome, Repeat.is_nil}
-use Rattle.bpaf_exact.specs.Flat.{FieldsLaw, FieldsReading, FieldKind, ByName, ReadOff, Variables}
-use Rattle.bpaf_exact.specs.Single.{Groups, Gap, FrontOf, Own, own_none, own_more, SingleLaw}
-use Rattle.bpaf_exact.specs.Single.{SingleValue, OwnList, listed, listed_and_absent, only_absent}
-use Rattle.bpaf_exact.specs.Wrappers.{Closure, OptionalValue, FallbackValue}
-use Rattle.bpaf_exact.specs.Leaves.{FlagValue, ArgumentValue, WordValue, flag_field}
-use Rattle.bpaf_exact.specs.Leaves.{argument_field, argument_group, argument_roles, flag_roles}
-use Rattle.bpaf_exact.specs.Record.{RunAnswer, Accepted, NoMemory, Refusal, RecordValue, IsExact}
-use Rattle.bpaf_exact.specs.ProgramForm.{ProgramForm, alternative, single, complete, product}
-use Rattle.bpaf_exact.specs.ProgramForm.{commands, before_commands, FormLaw, program_if}
-use Rattle.bpaf_exact.specs.ProgramForm.{program_closed, completed, program_field, may_follow}
-use Rattle.bpaf_exact.specs.ProgramForm.{program_both, program_alone, program_con, whole_program}
-use Rattle.bpaf_exact.specs.ProgramForm.{is_record, program_optional, program_value}
-use Rattle.bpaf_exact.specs.ProgramForm.{product_reading, whole_value}
-use Rattle.bpaf_exact.specs.OneView.{Alike, OneGroup, HasOneView, Respects, pair_view, LooksLike}
-use Rattle.bpaf_exact.specs.Pieces.{Cells, Roles, LinePiece, One, Two, IsNamed}
-use Rattle.bpaf_exact.specs.{Leaves.key_field, Leaves.word_by, Programs.OptionalCommands}
-use Rattle.bpaf_exact.specs.{Gathered.list_closure, Names.are_all_apart, Record.line_cells}
-use Rattle.bpaf_exact.specs.{OneView.RunsToOne, Single.repeated}
-use Rattle.bpaf_exact.proofs.ProgramForm.{record_law, whole_law, runs_exactly}
-use Rattle.bpaf_exact.proofs.{Wrappers.alternative_single, Cuts.one_cut, Cuts.read_cut}
-use Rattle.bpaf_exact.proofs.{BeforeCommands.one_take, Arguments.last_same, Commands.none_opens}
-use Rattle.bpaf_exact.proofs.Repeat.{own_nil}
-use Rattle.bpaf_text.specs.Named.{Named as Key, KeyWithValue}
+use Rattle.bpaf_exact.proofs.{ProgramForm.runs_exactly, Repeat.own_nil, Wrappers.alternative_single}
+use Rattle.bpaf_exact.proofs.{Arguments.last_same, ProgramForm.record_law, ProgramForm.whole_law}
+use Rattle.bpaf_exact.proofs.{Commands.none_opens, Cuts.one_cut, Cuts.one_take, Cuts.read_cut}
+use Rattle.bpaf_exact.specs.Leaves.{ArgumentValue, FlagValue, WordValue, argument_field, flag_field}
+use Rattle.bpaf_exact.specs.Leaves.{argument_group, argument_roles, flag_roles, key_field, word_by}
+use Rattle.bpaf_exact.specs.OneView.{Alike, HasOneView, LooksLike, OneGroup, RunsToOne, pair_view}
+use Rattle.bpaf_exact.specs.Pieces.{Cells, IsNamed, LinePiece, One, Roles, Two}
+use Rattle.bpaf_exact.specs.ProgramForm.{ProgramForm, alternative, before_commands, product, single}
+use Rattle.bpaf_exact.specs.ProgramForm.{FormLaw, commands, complete, program_closed, program_field}
+use Rattle.bpaf_exact.specs.ProgramForm.{completed, is_record, may_follow, program_both, program_if}
+use Rattle.bpaf_exact.specs.ProgramForm.{product_reading, program_alone, program_con, whole_program}
+use Rattle.bpaf_exact.specs.ProgramForm.{program_optional, program_value, whole_value}
+use Rattle.bpaf_exact.specs.Record.{Accepted, NoMemory, RecordValue, Refusal, RunAnswer, line_cells}
+use Rattle.bpaf_exact.specs.Single.{FrontOf, Gap, Groups, OwnList, SingleLaw, SingleValue, own_none}
+use Rattle.bpaf_exact.specs.Single.{Own, listed, listed_and_absent, only_absent, own_more, repeated}
+use Rattle.bpaf_exact.specs.Wrappers.{ClosedValue, Closure, FallbackValue, OptionalValue}
+use Rattle.bpaf_exact.specs.{Gathered.list_closure, Names.are_all_apart, Programs.OptionalCommands}
+use Rattle.bpaf_exact.specs.{Flat.FieldKind, Flat.FieldsLaw, Flat.FieldsReading, OneView.Respects}
+use Rattle.bpaf_exact.specs.{Flat.ByName, Flat.ReadOff, Flat.Variables, Record.IsExact}
 
 -- Closures.
 
 module _ (A B X Y : Type 0) (see : A → X) (look : B → Y) (f : Closure A B)
     (respects : Respects A B X Y see look f) where
-  -- What a closure that can't tell apart what looks alike makes of such values looks alike again.
+  -- What a closure that can't tell apart what looks alike makes of such values looks alike again:
+  -- of the same pieces or cells,
+  made_view : {Z : Type 0} (value : Z → A → Type 0) → ((z : Z) → Alike see (value z)) → (z : Z)
+      → Alike look (ClosedValue value f z)
+  made_view value u z v w a b =
+      respects.same a.from b.from v w (u z a.from b.from a.read b.read) a.made b.made
+
+  -- and of a field, or of commands
   pub closed_view : (s : ProgramForm A) → HasOneView see s → HasOneView look (program_closed f s)
-  closed_view (alternative wide q value) u =
-      λ o v w a b. respects.same a.from b.from v w (u o a.from b.from a.read b.read) a.made b.made
+  closed_view (alternative wide q value) u = made_view value u
   closed_view (single wide k q group gap) u = (
     λ os rest others v w a b. let d = u.0 os rest others a.from b.from a.read b.read in
         (respects.same a.from b.from v w d.0 a.made b.made, d.1),
     λ v w a b. respects.same a.0 b.0 v w (u.1 a.0 b.0 a.1 b.1) a.2 b.2,
   )
-  closed_view (complete wide k q value) u =
-      λ os v w a b. respects.same a.from b.from v w (u os a.from b.from a.read b.read) a.made b.made
-  closed_view (commands optional value) u =
-      λ cs v w a b. respects.same a.from b.from v w (u cs a.from b.from a.read b.read) a.made b.made
+  closed_view (complete wide k q value) u = made_view value u
+  closed_view (commands optional value) u = made_view value u
   closed_view _ u = tt
 
   -- what a constructor makes of values that look alike looks alike
   pub con_view : (s : ProgramForm A) → HasOneView see s → HasOneView look (program_con f s)
-  con_view (product wide named q fields) u =
-      λ os v w a b. respects.same a.from b.from v w (u os a.from b.from a.read b.read) a.made b.made
-  con_view (before_commands value) u =
-      λ cs v w a b. respects.same a.from b.from v w (u cs a.from b.from a.read b.read) a.made b.made
+  con_view (product wide named q fields) u = made_view fields.value u
+  con_view (before_commands value) u = made_view value u
   con_view _ u = tt
 
 -- Leaves.

@@ -1,13 +1,12 @@
 -- What a repeat's values say, piece by piece.
-use Rattle.std.proofs.Common.{◌≡◌, ℕ, Bool, false, List, [], ◌∷◌, ◌++◌, Option, None, sym, ap}
-use Rattle.std.proofs.Common.{◌∙◌, true≢false}
+use Rattle.std.proofs.Common.{Bool, List, Option, [], ap, false, sym, true≢false, ℕ, ◌++◌, ◌∷◌, ◌≡◌}
+use Rattle.std.proofs.Common.{None, ◌∙◌}
 use Rattle.std.specs.List.{AllZip}
-use Rattle.bpaf_exact.specs.Says.{Said, FlagSays, says_present, says_absent, ArgumentSays}
-use Rattle.bpaf_exact.specs.Says.{says_variable, says_variable_text, says_text, says_last_text}
-use Rattle.bpaf_exact.specs.Says.{WordSays, FrontSays, RepeatSays, says_in_turn}
-use Rattle.bpaf_exact.specs.{Says.says_alone, Pieces.LinePiece, Pieces.One, Pieces.Two}
-use Rattle.bpaf_exact.specs.{Leaves.FlagValue, Leaves.ArgumentValue}
-use Rattle.bpaf_exact.specs.{Leaves.WordValue, Single.Own, Single.own_none, Single.own_more}
+use Rattle.bpaf_exact.specs.Says.{ArgumentSays, Said, says_absent, says_present, says_variable_text}
+use Rattle.bpaf_exact.specs.Says.{FrontSays, says_in_turn, says_last_text, says_text, says_variable}
+use Rattle.bpaf_exact.specs.{Leaves.ArgumentValue, Leaves.FlagValue, Leaves.WordValue, Pieces.One}
+use Rattle.bpaf_exact.specs.{Pieces.LinePiece, Says.RepeatSays, Says.says_alone, Single.own_none}
+use Rattle.bpaf_exact.specs.{Pieces.Two, Says.FlagSays, Says.WordSays, Single.Own, Single.own_more}
 
 -- a value that is said of one piece
 record OfOnePiece {T : Type 0} (one : LinePiece → T → Type 0) (os : List LinePiece)

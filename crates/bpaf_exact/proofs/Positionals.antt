@@ -1,26 +1,26 @@
 -- Positional words keep to the laws.
-use Rattle.std.proofs.Common.{◌≡◌, ℕ, Bool, true, false, List, [], ◌∷◌, Some, None, Ok, Err, refl}
-use Rattle.std.proofs.Common.{sym, ap, ◌∙◌, not, true≢false, if◌then◌else◌, option_and_then, take}
+use Rattle.std.proofs.Common.{Bool, Err, List, None, Ok, Some, [], false, refl, sym, true, ◌∷◌, ◌≡◌}
+use Rattle.std.proofs.Common.{Result, if◌then◌else◌, not, option_and_then, take, true≢false, ℕ, ◌∙◌}
+use Rattle.std.proofs.Common.{ap, inl, inr}
 use Rattle.std.specs.Option.{option_map_or}
-use Rattle.bpaf_base.specs.declared.arg.Arg.TheVariants.{Word, PosWord}
-use Rattle.bpaf_base.specs.Items.{is_positional, word_text, item_text}
-use Rattle.bpaf_base.specs.declared.arg.Arg.{Arg}
-use Rattle.bpaf_line.specs.{declared.error.Error.Error, Situation.Situation, Taking.TakesText}
+use Rattle.bpaf_base.specs.declared.arg.Arg.TheVariants.{PosWord, Word}
+use Rattle.bpaf_base.specs.{Items.is_positional, Items.word_text, declared.arg.Arg.Arg}
+use Rattle.bpaf_base.specs.Items.{item_text}
 use Rattle.bpaf_line.proofs.Matches.{open_item_there}
-use Rattle.bpaf_exact.specs.Pieces.{Cells, Alone, LinePiece, One, Two, word_roles, pieces}
-use Rattle.bpaf_exact.specs.Flat.{cells, IsWholeIn, Steady, EachWord, OneWord, front, back}
-use Rattle.bpaf_exact.specs.Single.{Groups, FrontOf, gap_of, SingleOk, took, SingleErr, of_memory}
-use Rattle.bpaf_exact.specs.Single.{catch_missing, catch_other, of_missing, of_piece, WordByWord}
-use Rattle.bpaf_exact.specs.Alternative.{TakesFirst, first_one, first_two, first_later}
-use Rattle.bpaf_exact.specs.Leaves.{WordEval, WordValue, word_by, word_fault, word_memory}
-use Rattle.bpaf_exact.specs.Leaves.{word_missing, word_passed, word_read}
-use Rattle.bpaf_exact.specs.{Flat.is_behind, Flat.Variables, Pieces.stands_behind, Single.SingleLaw}
-use Rattle.bpaf_exact.specs.ProgramForm.{FormLaw}
-use Rattle.bpaf_exact.proofs.Fronts.{back_more, back_one, each_front, front_more, front_one}
-use Rattle.bpaf_exact.proofs.Fronts.{front_nil, of_front_more, of_front_one}
-use Rattle.bpaf_exact.proofs.Matching.{match_of, ByTest, by_test, no_pieces, one_taken}
-use Rattle.bpaf_exact.proofs.{Wrappers.took_front, Places.take_steady, Cuts.never_two}
-use Rattle.bpaf_exact.proofs.Cells.{begin_at}
+use Rattle.bpaf_line.specs.{Situation.Situation, Taking.TakesText, declared.error.Error.Error}
+use Rattle.bpaf_exact.proofs.Matching.{ByTest, FirstRead, first_err, match_of, no_pieces, one_taken}
+use Rattle.bpaf_exact.proofs.Matching.{none_missing, read_fault, read_first, read_memory, read_none}
+use Rattle.bpaf_exact.proofs.{Fronts.of_front_more, Fronts.of_front_one, Places.take_steady}
+use Rattle.bpaf_exact.proofs.{Fronts.each_front, Fronts.front_more, Matching.first_ok}
+use Rattle.bpaf_exact.proofs.Fronts.{back_more, back_one, front_nil, front_one}
+use Rattle.bpaf_exact.proofs.{Cells.begin_at, Cuts.never_two, Matching.by_test}
+use Rattle.bpaf_exact.specs.Flat.{EachWord, OneWord, Steady, Variables, cells, front, is_behind}
+use Rattle.bpaf_exact.specs.Leaves.{WordValue, word_fault, word_memory, word_missing, word_passed}
+use Rattle.bpaf_exact.specs.Pieces.{Alone, Cells, LinePiece, One, pieces, stands_behind, word_roles}
+use Rattle.bpaf_exact.specs.Alternative.{TakesFirst, first_later, first_one}
+use Rattle.bpaf_exact.specs.{Alternative.first_two, ProgramForm.FormLaw, Single.WordByWord}
+use Rattle.bpaf_exact.specs.{Leaves.WordEval, Leaves.word_by, Leaves.word_read, Single.SingleLaw}
+use Rattle.bpaf_exact.specs.{Flat.back, Pieces.Two, Single.FrontOf, Single.Groups, Single.gap_of}
 
 -- the text and the side of a word are those of its item
 pub word_is : (w : Arg) (strict : Bool) (text : List ℕ) → word_text w ≡ Some (strict, text)
@@ -91,37 +91,28 @@ module _ {T : Type 0} {b : Bool} {value : LinePiece → T → Type 0}
       → front (OneWord b) (One w ∷ os) ≡ [] → ⊥
   some_front w os may none = let e = front_one b (One w) os may in absurd cc
 
-  -- a value is that of the first word
-  word_ok : {env : Variables} (s t : Situation) (v : T) → IsWholeIn env s
-      → WordEval T b value s (Ok v) t
-      → SingleOk T (OneWord b) word_roles group (gap_of value None) s v t
-  word_ok s t v w (word_read takes y) =
+  -- each answer reads the first word, where one may be taken
+  word_reads : (s t : Situation) (r : Result T Error) → WordEval T b value s r t
+      → FirstRead T (OneWord b) word_roles value (gap_of value None) (Unit {0}) s r t
+  word_reads s t (Ok v) (word_read takes y) =
       let m = took_word takes in
-      took (took_front value m.steady m.takes (word_pieces m.takes)
-      (y m.word m.text_is) (some_front m.word _ (λ h. clear h (One m.word) v (y m.word m.text_is))))
-
-  -- a refusal: there is no word, or the first can't be read
-  word_err : {env : Variables} (s t : Situation) (e : Error) → IsWholeIn env s
-      → WordEval T b value s (Err e) t
-      → SingleErr T (OneWord b) word_roles group (gap_of value None) s e t
-  word_err s t e w (word_fault {strict} {text} takes before n c) =
+      let means = y m.word m.text_is in
+      read_first m.steady m.takes (word_pieces m.takes)
+      (some_front m.word _ (λ h. clear h (One m.word) v means)) means
+  word_reads s t (Err e) (word_fault {strict} {text} takes before n c) =
       let m = took_word takes in
-      let i = word_pieces m.takes in
-      of_piece c
-      (λ none. some_front m.word _ (λ h. (word_is m.word strict text m.text_is).1 ∙ before h)
-      (sym (ap (front (OneWord b)) i) ∙ none)) (λ x rest y.
-      let d : One m.word ∷ pieces word_roles (cells t) ≡ y.0 ∷ rest = sym i ∙ y.1 in
-      let j : y.0 ≡ One m.word = cc in
-      n m.word x m.text_is (rw (← j) y.2))
-  word_err s t e w (word_missing none c) =
-      of_missing (catch_missing c) refl (ap (front (OneWord b)) (no_pieces s test none)
-      ∙ front_nil (OneWord b)) (λ c. refl)
-  word_err s t e w (word_passed {text} h takes c) =
+      read_fault c m.steady.path (word_pieces m.takes)
+      (some_front m.word _ (λ h. (word_is m.word strict text m.text_is).1 ∙ before h))
+      (λ x. n m.word x m.text_is)
+  word_reads s t (Err e) (word_missing none c) =
+      read_none (ap (front (OneWord b)) (no_pieces s test none) ∙ front_nil (OneWord b))
+      (none_missing (inl c) refl (λ missing. refl))
+  word_reads s t (Err e) (word_passed {text} h takes c) =
       let m = took_word takes in
-      of_missing (catch_other c) refl (ap (front (OneWord b)) (word_pieces m.takes)
-      ∙ passed_by b h (One m.word) (pieces word_roles (cells t)) (word_is m.word true text
-      m.text_is).1) (λ missing. absurd cc)
-  word_err s t e w (word_memory c) = of_memory c
+      read_none (ap (front (OneWord b)) (word_pieces m.takes) ∙ passed_by b h (One m.word)
+      (pieces word_roles (cells t)) (word_is m.word true text m.text_is).1)
+      (none_missing (inr (c, tt)) refl (λ missing. absurd cc))
+  word_reads s t (Err e) (word_memory c) = read_memory c
 
   -- the first word alone is read, and by a repeat each
   one_by_one : WordByWord T b group
@@ -149,8 +140,10 @@ module _ {T : Type 0} {b : Bool} {value : LinePiece → T → Type 0}
     words = one_by_one;
     starts = λ v rest g. let e = g.1 in cc;
     no_absent = λ v h a. a;
-    ok = word_ok;
-    err = word_err;
+    keeps = record {
+      ok = λ s t v w o. first_ok (word_reads s t (Ok v) o);
+      err = λ s t e w o. first_err (word_reads s t (Err e) o);
+    };
   }
 
 -- where no word behind `--` is accepted, one that is stands before it

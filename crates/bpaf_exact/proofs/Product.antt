@@ -1,21 +1,21 @@
 -- A field before other fields: the laws of a product from those of its parts.
-use Rattle.std.proofs.Common.{◌≡◌, true, false, List, [], ◌∷◌, length, Some, Result, Ok, Err, refl}
-use Rattle.std.proofs.Common.{inl, inr, Bool, sym, ap, ◌∙◌, subst, if◌then◌else◌}
-use Rattle.bpaf_line.specs.{declared.error.Error.Error, Situation.Situation, Messages.is_memory}
-use Rattle.bpaf_laws.specs.{Product.BothOutcome, Product.joined, Spared.IsNotMemory}
-use Rattle.bpaf_laws.specs.Reading.{Outcome}
-use Rattle.bpaf_exact.specs.Pieces.{Cells, Role, Foreign, Roles, LinePiece, is_own_role, is_own}
-use Rattle.bpaf_exact.specs.Pieces.{others, either_role, either, IsNamed, Apart, Cut, at_end}
-use Rattle.bpaf_exact.specs.Pieces.{passed, flag, argument, word, pieces, TakesPieces}
-use Rattle.bpaf_exact.specs.Flat.{cells, IsWholeIn, Steady, FieldKind, ByName, front, back, portion}
-use Rattle.bpaf_exact.specs.Flat.{left, keys, OwnItems, NoKeysLeft, FieldTook, FieldLaw, FieldsLaw}
-use Rattle.bpaf_exact.specs.Flat.{Before, FieldsReading, both_reading, class, OfMemory, HasValue}
-use Rattle.bpaf_exact.specs.Flat.{Variables}
-use Rattle.bpaf_exact.proofs.Cells.{value_foreign, word_foreign, nil_rest, nil_foreign}
-use Rattle.bpaf_exact.proofs.Cells.{pieces_of_cut, others_foreign, put_back_some, take_some_from}
-use Rattle.bpaf_exact.proofs.Cuts.{put_words_back, take_words_from, words_of_cut, read_cut}
-use Rattle.bpaf_exact.proofs.{Classes.memory_class, Classes.not_memory, Cells.begin_at}
-use Rattle.bpaf_exact.proofs.Cuts.{read_off}
+use Rattle.std.proofs.Common.{Err, List, Result, Some, [], false, inl, length, refl, true, ◌∷◌, ◌≡◌}
+use Rattle.std.proofs.Common.{Bool, Ok, ap, if◌then◌else◌, inr, subst, sym, ◌∙◌}
+use Rattle.bpaf_base.specs.declared.arg.Arg.{Arg}
+use Rattle.bpaf_line.specs.{Messages.is_memory, Situation.Situation, declared.error.Error.Error}
+use Rattle.bpaf_laws.specs.{Product.BothOutcome, Reading.Outcome, Spared.IsNotMemory}
+use Rattle.bpaf_laws.specs.Product.{joined}
+use Rattle.bpaf_exact.proofs.Cells.{either_right, named_cuts, nil_rest, value_foreign, word_foreign}
+use Rattle.bpaf_exact.proofs.{Cells.others_foreign, Cells.take_some_from, Classes.memory_class}
+use Rattle.bpaf_exact.proofs.{Cells.pieces_of_cut, Cells.put_back_some, Classes.not_memory}
+use Rattle.bpaf_exact.proofs.{Cells.begin_at, Cells.nil_foreign, Cuts.words_cut, Cuts.words_of_cut}
+use Rattle.bpaf_exact.proofs.Cuts.{read_cut, read_off}
+use Rattle.bpaf_exact.specs.Flat.{ByName, FieldKind, IsWholeIn, Steady, back, cells, front, portion}
+use Rattle.bpaf_exact.specs.Flat.{Before, FieldLaw, FieldsReading, NoKeysLeft, OwnItems, keys, left}
+use Rattle.bpaf_exact.specs.Flat.{FieldTook, FieldsLaw, HasValue, OfMemory, Variables, both_reading}
+use Rattle.bpaf_exact.specs.Pieces.{Cells, Foreign, IsNamed, LinePiece, is_own, is_own_role, others}
+use Rattle.bpaf_exact.specs.Pieces.{Apart, Cut, Roles, argument, at_end, either, flag, passed, word}
+use Rattle.bpaf_exact.specs.{Flat.class, Pieces.TakesPieces, Pieces.pieces}
 
 -- what isn't taken stays in the scope
 pub none_outside_after : {env : Variables} {s t : Situation} → IsWholeIn env s → Steady s t
@@ -53,73 +53,29 @@ no_own_in_cut {q} n a (argument {k} {w} {cs} e v c) =
 no_own_in_cut {q} n a (word {w} {cs} h c) =
     begin_at w cs (pieces q cs) (word_foreign n h) ∙ no_own_in_cut n a c
 
--- an item that isn't the first's has the role that it has to the second
-either_foreign : (x : Role) {y z : Role} → x ≡ Foreign → y ≡ z → either_role x y ≡ z
-either_foreign Foreign e h = h
-either_foreign _ e h = cc
-
 -- with a piece of others more all are of others
 others_all : (q : Roles) {o : LinePiece} {os : List LinePiece} → is_own q o ≡ false
     → others q os ≡ os → others q (o ∷ os) ≡ o ∷ os
 others_all q {o} {os} h e = others_foreign q os h ∙ ap (λ z. o ∷ z) e
 
--- a cut whose pieces are all of others
-record Widened (q r : Roles) (cs : Cells) (os : List LinePiece) : Type 0 where
-  cut : Cut (either q r) cs os
-  all : others q os ≡ os
-
--- a cut by the others' keys is one by all
-widen : {q r : Roles} {cs : Cells} {os : List LinePiece} → IsNamed q → Apart q r → Cut r cs os
-    → Widened q r cs os
-widen n a at_end = record { cut = at_end; all = refl }
-widen n a (passed c) = let i = widen n a c in record { cut = passed i.cut; all = i.all }
-widen {q} n a (flag {k} e c) =
-    let i = widen n a c in
-    let f = a.right k (ap is_own_role e) in
-    record {
-      cut = flag (either_foreign (q k) f e) i.cut;
-      all = others_all q (ap is_own_role f) i.all;
-    }
-widen {q} n a (argument {k} e v c) =
-    let i = widen n a c in
-    let f = a.right k (ap is_own_role e) in
-    record {
-      cut = argument (either_foreign (q k) f e) v i.cut;
-      all = others_all q (ap is_own_role f) i.all;
-    }
-widen {q} n a (word h c) =
-    let i = widen n a c in
-    record { cut = word h i.cut; all = others_all q (ap is_own_role (word_foreign n h)) i.all }
-
--- a cut by the others' keys alone
-record Narrowed (q r : Roles) (cs : Cells) (os : List LinePiece) : Type 0 where
-  cut : Cut r cs os
-  all : others q os ≡ os
-
--- an item that isn't the first's has its role to the others
-other_role : (x : Role) {y z : Role} → x ≡ Foreign → either_role x y ≡ z → y ≡ z
-other_role Foreign e h = h
-other_role _ e h = cc
-
--- where the field has no piece left the cut is one by the others' keys
-narrow : {q r : Roles} {cs : Cells} {os : List LinePiece} → IsNamed q → pieces q cs ≡ []
-    → Cut (either q r) cs os → Narrowed q r cs os
-narrow n p at_end = record { cut = at_end; all = refl }
-narrow n p (passed c) = let i = narrow n p c in record { cut = passed i.cut; all = i.all }
-narrow {q} n p (flag {k} {cs} e c) =
-    let f = nil_foreign (q k) k cs (pieces q cs) p in
-    let i = narrow n (nil_rest (q k) k cs p) c in
-    record { cut = flag (other_role (q k) f e) i.cut; all = others_all q (ap is_own_role f) i.all }
-narrow {q} n p (argument {k} {w} {cs} e v c) =
-    let f = nil_foreign (q k) k (Some w ∷ cs) (pieces q (Some w ∷ cs)) p in
-    let i = narrow n (nil_rest (q w) w cs (nil_rest (q k) k (Some w ∷ cs) p)) c in
-    record {
-      cut = argument (other_role (q k) f e) v i.cut;
-      all = others_all q (ap is_own_role f) i.all;
-    }
-narrow {q} n p (word {w} {cs} h c) =
-    let i = narrow n (nil_rest (q w) w cs p) c in
-    record { cut = word h i.cut; all = others_all q (ap is_own_role (word_foreign n h)) i.all }
+-- where a field has no piece, a cut by some keys is one by others that differ in its own alone, and
+-- its pieces are all of others
+recut : {q r : Roles} (p : Roles) {cs : Cells} {os : List LinePiece} → IsNamed q
+    → ((k : Arg) → q k ≡ Foreign → p k ≡ r k) → pieces q cs ≡ [] → Cut r cs os
+    → Cut p cs os × (others q os ≡ os)
+recut p n f none at_end = (at_end, refl)
+recut p n f none (passed c) = let i = recut p n f none c in (passed i.0, i.1)
+recut {q} p n f none (flag {k} {cs} e c) =
+    let g = nil_foreign (q k) k cs (pieces q cs) none in
+    let i = recut p n f (nil_rest (q k) k cs none) c in
+    (flag (f k g ∙ e) i.0, others_all q (ap is_own_role g) i.1)
+recut {q} p n f none (argument {k} {w} {cs} e v c) =
+    let g = nil_foreign (q k) k (Some w ∷ cs) (pieces q (Some w ∷ cs)) none in
+    let i = recut p n f (nil_rest (q w) w cs (nil_rest (q k) k (Some w ∷ cs) none)) c in
+    (argument (f k g ∙ e) v i.0, others_all q (ap is_own_role g) i.1)
+recut {q} p n f none (word {w} {cs} h c) =
+    let i = recut p n f (nil_rest (q w) w cs none) c in
+    (word h i.0, others_all q (ap is_own_role (word_foreign n h)) i.1)
 
 -- What is read off the pieces, seen from before a field was evaluated.
 
@@ -135,15 +91,15 @@ pub record StepBack (k : FieldKind) (q r : Roles) (cs : Cells)
 pub step_back : (k : FieldKind) {q r : Roles} {T : Type 0} (value : List LinePiece → T → Type 0)
     {s m : Situation} {v : T} {os : List LinePiece} → OwnItems k q → Before k q r
     → FieldTook T k q value s v m → Cut r (cells m) os → StepBack k q r (cells s) os
-step_back ByName {r} value n b f c =
-    let w = widen n b c in
-    let p = put_back_some r f.takes w.cut in
-    record { before = p.now; cut = p.cut; leaves = p.alike ∙ w.all; own = pieces_of_cut r n p.cut }
+step_back ByName {q} {r} value n b f c =
+    let w = recut (either q r) n (λ k g. either_right (q k) g) (no_own_in_cut n b c) c in
+    let p = put_back_some (named_cuts r n) f.takes w.0 in
+    record { before = p.now; cut = p.cut; leaves = p.alike ∙ w.1; own = pieces_of_cut r n p.cut }
 step_back k value n b f c =
-    let p = put_words_back n b f.takes c in
+    let p = put_back_some (words_cut n b) f.takes c in
     let all = words_of_cut n b p.cut in
     record {
-      before = p.words;
+      before = p.now;
       cut = p.cut;
       leaves = ap (back k) (sym all) ∙ (sym (f.rest tt) ∙ words_of_cut n b c);
       own = ap (front k) all;
@@ -167,21 +123,21 @@ own_portion k q r n b c = ap (front k) (words_of_cut n b c)
 pub step_on : (k : FieldKind) {q r : Roles} {cs ds : Cells} {os : List LinePiece} → OwnItems k q
     → Before k q r → TakesPieces q cs ds → pieces q ds ≡ back k (pieces q cs)
     → Cut (either (keys k q) r) cs os → Cut r ds (left k q os)
-step_on ByName {r} n b t e c =
-    let p = take_some_from r n t c in
-    let i = narrow n e p.cut in
-    subst (Cut r _) (sym i.all ∙ p.alike) i.cut
+step_on ByName {q} {r} n b t e c =
+    let p = take_some_from (named_cuts r n) t c in
+    let i = recut r n (λ k g. sym (either_right (q k) g)) e p.cut in
+    subst (Cut r _) (sym i.1 ∙ p.alike) i.0
 step_on k {r} n b t e c =
-    let p = take_words_from n b t c in
+    let p = take_some_from (words_cut n b) t c in
     subst (Cut r _) (sym (words_of_cut n b p.cut) ∙ (e ∙ ap (back k) (words_of_cut n b c))) p.cut
 
 -- Fields before others keep to the laws.
 
 -- the keys of all are keys
-both_named : (k : FieldKind) (q : Roles) {r : Roles} → OwnItems k q → IsNamed r
+pub both_named : (k : FieldKind) (q : Roles) {r : Roles} → OwnItems k q → IsNamed r
     → IsNamed (either (keys k q) r)
 both_named ByName q n m =
-    record { only_keys = λ a h. either_foreign (q a) (n.only_keys a h) (m.only_keys a h) }
+    record { only_keys = λ a h. either_right (q a) (n.only_keys a h) ∙ m.only_keys a h }
 both_named _ q n m = m
 
 -- two values of fields that were all evaluated
@@ -241,38 +197,36 @@ module _ {env : Variables} {A B : Type 0} {first : Outcome A} {rest : Outcome B}
   own_value s c h = rw (own_portion k q r lf.own b c) h.1
 
   -- what the first leaves is cut into what it leaves of the pieces
-  rest_cut : {s m : Situation} {x : A} {os : List LinePiece} → IsWholeIn env s → first s (Ok x) m
+  rest_cut : {s m : Situation} {x : A} {os : List LinePiece} → FieldTook A k q fv s x m
       → Cut (either (keys k q) r) (cells s) os → HasValue fv (portion k q os)
       → Cut r (cells m) (left k q os)
-  rest_cut {s} {m} {x} w f c h =
-      let i = lf.ok s m x w f in
-      step_on k lf.own b i.takes (i.rest (lf.takes_all s m x h.0 w f (own_value s c h))) c
+  rest_cut {s} i c h = step_on k lf.own b i.takes (i.rest (i.all h.0 (own_value s c h))) c
 
   -- a flat field before flat fields: together they keep to the laws
   pub both_law : FieldsLaw env (A × B) (BothOutcome first rest) (either (keys k q) r) reading
   both_law = record {
     named = both_named k q lf.own lr.named;
-    steady = λ s t v w o.
-        let h = values_of_both first rest o in
-        let i = lf.ok s h.middle v.0 w h.first_ran in
-        steady_trans i.steady (lr.steady h.middle t v.1 (none_outside_after w i.steady) h.rest_ran);
-    ok = λ s t v w o e.
-        let h = values_of_both first rest o in
-        let i = lf.ok s h.middle v.0 w h.first_ran in
-        let after = lr.ok h.middle t v.1 (none_outside_after w i.steady) h.rest_ran e in
-        let p = step_back k fv lf.own b i (read_cut after) in
-        read_off reading.value (both_named k q lf.own lr.named) p.cut (
-          rw (← p.own) (i.read (none_left k q lf.own b (read_cut after))),
-          rw p.leaves after.read,
-        );
     has_each = λ os v h. ((v.0, h.0), lr.has_each (left k q os) v.1 h.1);
-    takes_all = λ s t u os w o c h.
-        let i = values_of_both first rest o in
-        lr.takes_all i.middle t u.1 (left k q os)
-        (none_outside_after w (lf.ok s i.middle u.0 w i.first_ran).steady) i.rest_ran
-        (rest_cut w i.first_ran c h.0) h.1;
-    refuses = λ s t e os w o c h. refused_both first rest
-        (λ d m f. lf.refuses s m d h.0.0 w f (own_value s c h.0))
-        (λ v m f g. lr.refuses m t e (left k q os)
-        (none_outside_after w (lf.ok s m v w f).steady) g (rest_cut w f c h.0) h.1) o;
+    keeps = record {
+      ok = λ s t v w o.
+          let h = values_of_both first rest o in
+          let i = lf.keeps.ok s h.middle v.0 w h.first_ran in
+          let j = lr.keeps.ok h.middle t v.1 (none_outside_after w i.steady) h.rest_ran in
+          record {
+            steady = steady_trans i.steady j.steady;
+            read = λ e.
+                let after = j.read e in
+                let p = step_back k fv lf.own b i (read_cut after) in
+                read_off reading.value (both_named k q lf.own lr.named) p.cut (
+                  rw (← p.own) (i.read (none_left k q lf.own b (read_cut after))),
+                  rw p.leaves after.read,
+                );
+            all = λ os c g. j.all (left k q os) (rest_cut i c g.0) g.1;
+          };
+      err = λ s t e w o os c h. refused_both first rest
+          (λ d m f. lf.keeps.err s m d w f h.0.0 (own_value s c h.0))
+          (λ v m f g. let i = lf.keeps.ok s m v w f in
+          lr.keeps.err m t e (none_outside_after w i.steady) g (left k q os) (rest_cut i c h.0) h.1)
+          o;
+    };
   }

@@ -1,47 +1,44 @@
 -- Each parser keeps to the laws of its form to a program, where its inner parsers do.
-use Rattle.std.proofs.Common.{◌≡◌, ℕ, Bool, true, false, not, ◌&&◌, List, [], ◌∷◌, ◌++◌, Option}
-use Rattle.std.proofs.Common.{Some, None, refl, sym, ap, ◌∙◌, bytes_eq, ⊎_elim, true≢false}
-use Rattle.std.proofs.lemmas.Bool.{and_parts, false_from_ne_true}
-use Rattle.std.proofs.{Common.append-nil, Common.inl, Common.inr, lemmas.Slice.Eq.bytes_eq-Decides}
-use Rattle.std.specs.{Option.option_map_or, List.list_all}
+use Rattle.std.proofs.Common.{Bool, List, None, Some, [], false, not, true, ℕ, ◌&&◌, ◌++◌, ◌∷◌, ◌≡◌}
+use Rattle.std.proofs.{Common.sym, lemmas.Bool.false_from_ne_true, lemmas.Slice.Eq.bytes_eq-Decides}
+use Rattle.std.proofs.{Common.append-nil, Common.bytes_eq, Common.true≢false, lemmas.Bool.and_parts}
+use Rattle.std.proofs.Common.{Option, ap, refl, ◌∙◌}
+use Rattle.std.specs.{List.list_all, Option.option_map_or}
 use Rattle.bpaf_doc.specs.Names.{Names}
 use Rattle.bpaf_base.specs.{Items.command_word, Items.is_command_word, declared.arg.Arg.Arg}
 use Rattle.bpaf_line.specs.Situation.{Context, beginning}
-use Rattle.bpaf_laws.specs.Command.{Called, is_one_of, opening_words}
-use Rattle.bpaf_laws.specs.{Product.BothOutcome, Product.ProductOutcome, Choice.ChoiceOutcome}
-use Rattle.bpaf_laws.specs.{Repeat.LastOutcome, Reading.Outcome}
-use Rattle.bpaf_exact.specs.Flat.{ErrorClass, Refused, FieldKind, ByName, Before, FieldLaw}
-use Rattle.bpaf_exact.specs.Flat.{FieldsLaw, both_reading, keys, Variables}
-use Rattle.bpaf_exact.specs.Single.{RepeatOutcome, repeated, Groups, Gap, SingleLaw, OwnList}
-use Rattle.bpaf_exact.specs.Wrappers.{Closure, Decides, map_closure, ClosedEval, OptionalEval}
-use Rattle.bpaf_exact.specs.Wrappers.{ClosedValue, FallbackEval, FallbackValue}
-use Rattle.bpaf_exact.specs.ProgramForm.{ProgramForm, no_program, alternative, single, complete}
-use Rattle.bpaf_exact.specs.ProgramForm.{product, commands, before_commands, NamedLaw, EndLaw}
-use Rattle.bpaf_exact.specs.ProgramForm.{FormLaw, Agrees, program_if, program_closed}
-use Rattle.bpaf_exact.specs.ProgramForm.{program_dressed, completed, program_optional}
-use Rattle.bpaf_exact.specs.ProgramForm.{are_words_apart, program_choice, choice_only}
-use Rattle.bpaf_exact.specs.ProgramForm.{program_field, may_follow, is_named, program_both}
-use Rattle.bpaf_exact.specs.ProgramForm.{program_alone, program_con, whole_program, program_value}
-use Rattle.bpaf_exact.specs.ProgramForm.{is_program, is_record, program_command, product_roles}
-use Rattle.bpaf_exact.specs.ProgramForm.{product_reading, whole_value}
-use Rattle.bpaf_exact.specs.Programs.{CellsValue, ProgramLaw, CommandEval, are_plain, WordsApart}
-use Rattle.bpaf_exact.specs.Record.{line_cells, RunAnswer, Accepted, RunRan, IsAcceptedOrWant}
-use Rattle.bpaf_exact.specs.Pieces.{Roles, no_roles, either, LinePiece}
-use Rattle.bpaf_exact.specs.{Gathered.some_closure, Gathered.LastOf, Programs.IsSpelledLine}
-use Rattle.bpaf_exact.specs.{Names.Owns, Names.are_all_apart, Record.last_reading}
-use Rattle.bpaf_exact.specs.Theorem.{RunsExactly}
-use Rattle.bpaf_exact.proofs.Wrappers.{alternative_single, closed_alternative, closed_single}
-use Rattle.bpaf_exact.proofs.Wrappers.{closed_law, single_law, optional_law, fallback_law}
-use Rattle.bpaf_exact.proofs.Records.{named_both_law, named_con_law, named_last_law, con_law}
-use Rattle.bpaf_exact.proofs.Commands.{closed_program, closed_commands, optional_commands}
-use Rattle.bpaf_exact.proofs.Names.{foreign_of, apart_of_names, either_owns, both_hold}
-use Rattle.bpaf_exact.proofs.BeforeCommands.{before_law, con_program}
-use Rattle.bpaf_exact.proofs.Narrow.{AllowsNoMore, narrower_gives, narrower_field, narrower_fields}
-use Rattle.bpaf_exact.proofs.Narrow.{narrower_alternative, narrower_single}
-use Rattle.bpaf_exact.proofs.Repeat.{repeat_law, some_agrees_on, last_of_law}
-use Rattle.bpaf_exact.proofs.Exact.{exact, run_sound, all_whole, run_complete, first_cells_are}
-use Rattle.bpaf_exact.proofs.{Programs.command_law, Programs.record_program, Choice.choice_law}
-use Rattle.bpaf_exact.proofs.{Commands.choice_commands, Records.last_law, Product.both_law}
+use Rattle.bpaf_laws.specs.{Choice.ChoiceOutcome, Command.opening_words, Product.ProductOutcome}
+use Rattle.bpaf_laws.specs.{Command.is_one_of, Product.BothOutcome, Repeat.LastOutcome}
+use Rattle.bpaf_laws.specs.{Command.Called, Reading.Outcome}
+use Rattle.bpaf_exact.proofs.Commands.{choice_commands, closed_commands, optional_commands}
+use Rattle.bpaf_exact.proofs.Records.{last_law, named_both_law, named_con_law, named_last_law}
+use Rattle.bpaf_exact.proofs.Wrappers.{alternative_single, closed_law, closed_single, optional_law}
+use Rattle.bpaf_exact.proofs.{BeforeCommands.con_program, Wrappers.closed_alternative}
+use Rattle.bpaf_exact.proofs.{BeforeCommands.before_law, Choice.choice_law, Commands.closed_program}
+use Rattle.bpaf_exact.proofs.{Exact.first_cells_are, Programs.record_program, Repeat.some_agrees_on}
+use Rattle.bpaf_exact.proofs.{Names.apart_of_names, Programs.command_law, Wrappers.fallback_law}
+use Rattle.bpaf_exact.proofs.{Exact.run_complete, Narrow.AllowsNoMore, Wrappers.single_law}
+use Rattle.bpaf_exact.proofs.{Exact.exact, Names.either_owns, Repeat.last_of_law, Repeat.repeat_law}
+use Rattle.bpaf_exact.proofs.{Exact.all_whole, Exact.run_sound, Names.foreign_of, Product.both_law}
+use Rattle.bpaf_exact.proofs.{Names.both_hold, Narrow.narrower, Records.con_law}
+use Rattle.bpaf_exact.specs.Flat.{ErrorClass, FieldKind, FieldLaw, FieldsLaw, Refused, both_reading}
+use Rattle.bpaf_exact.specs.ProgramForm.{ProgramForm, before_commands, complete, no_program, single}
+use Rattle.bpaf_exact.specs.ProgramForm.{Agrees, EndLaw, alternative, commands, product, program_if}
+use Rattle.bpaf_exact.specs.ProgramForm.{FormLaw, program_closed, program_dressed, program_optional}
+use Rattle.bpaf_exact.specs.ProgramForm.{are_words_apart, may_follow, program_choice, program_field}
+use Rattle.bpaf_exact.specs.ProgramForm.{NamedLaw, completed, is_named, program_alone, program_both}
+use Rattle.bpaf_exact.specs.ProgramForm.{choice_only, program_command, program_value, whole_program}
+use Rattle.bpaf_exact.specs.ProgramForm.{product_reading, product_roles, program_con, whole_value}
+use Rattle.bpaf_exact.specs.Programs.{CellsValue, CommandEval, IsSpelledLine, ProgramLaw, are_plain}
+use Rattle.bpaf_exact.specs.Record.{Accepted, IsAcceptedOrWant, RunAnswer, last_reading, line_cells}
+use Rattle.bpaf_exact.specs.Wrappers.{ClosedValue, Closure, FallbackEval, OptionalEval, map_closure}
+use Rattle.bpaf_exact.specs.{Gathered.some_closure, ProgramForm.is_program, Wrappers.FallbackValue}
+use Rattle.bpaf_exact.specs.{Names.are_all_apart, ProgramForm.is_record, Single.RepeatOutcome}
+use Rattle.bpaf_exact.specs.{Programs.WordsApart, Theorem.RunsExactly, Wrappers.ClosedEval}
+use Rattle.bpaf_exact.specs.{Gathered.LastOf, Pieces.LinePiece, Single.SingleLaw, Wrappers.Decides}
+use Rattle.bpaf_exact.specs.{Flat.Variables, Pieces.no_roles, Single.OwnList, Single.repeated}
+use Rattle.bpaf_exact.specs.{Flat.ByName, Pieces.Roles, Pieces.either, Record.RunRan, Single.Groups}
+use Rattle.bpaf_exact.specs.{Flat.Before, Flat.cells, Flat.keys, Names.Owns, Single.Gap}
 
 -- where a test holds
 if_law : (env : Variables) {T : Type 0} (outcome : Outcome T) (names : List Names)
@@ -293,15 +290,12 @@ program_command_law env T inner apart called names words s l =
       owns = law.owns;
     })
 
--- no is no yes
-nobody : false ≡ true → ⊥
-nobody e = cc
-
 -- fields that may follow keep apart
 follows : (k : FieldKind) (q : Roles) {r : Roles} {own : List Names} (others : List Names)
     → Owns (keys k q) own → Owns r others → may_follow k own others ≡ true → Before k q r
 follows ByName q others a b h = apart_of_names a b h
-follows _ q {r} [] a b h = λ i. foreign_of (r i) (false_from_ne_true _ (λ e. nobody (b.own i e)))
+follows _ q {r} [] a b h =
+    λ i. foreign_of (r i) (false_from_ne_true _ (λ e. let none = b.own i e in cc))
 follows _ q (names ∷ others) a b h = absurd cc
 
 -- a field before others
@@ -359,11 +353,13 @@ pub runs_as_program : (V : Type 0) (outcome : Outcome V) (names : List Names)
     × ((u : V) → program_value s (line_cells context) u
     → IsAcceptedOrWant (program_value s (line_cells context)) a)
 runs_as_program V outcome names words s h context l spelled a ran =
-    let law = (program_law context.env V outcome names words s h l).program in (
+    let law = (program_law context.env V outcome names words s h l).program.keeps in (
       run_sound (program_value s)
-          (λ t v o n. law.ok (beginning context) t v all_whole spelled o n) ran,
-      λ u value. run_complete (program_value s) (λ t x o. law.answers (beginning context) t x u
-          all_whole o (rw (first_cells_are context) value)) ran,
+          (λ t v o. (law.ok (beginning context) t v all_whole o).read spelled) ran,
+      λ u value. let here : program_value s (cells (beginning context)) u
+          = rw (first_cells_are context) value in run_complete (program_value s)
+          (λ t v o. (law.ok (beginning context) t v all_whole o).all u here)
+          (λ t e o. law.err (beginning context) t e all_whole o u here) ran,
     )
 
 -- each answer of a run of a flat record is exact
@@ -373,46 +369,49 @@ pub runs_exactly : (V : Type 0) (outcome : Outcome V) (names : List Names)
 runs_exactly V outcome names words s h context l a r =
     exact (record_law context.env V outcome names words s h l) r
 
--- an outcome that allows no more keeps to the same laws
-narrower_program : {env : Variables} {V : Type 0} {a b : Outcome V} → AllowsNoMore V a b
-    → {r : Roles} (value : CellsValue V) → ProgramLaw env V a r value → ProgramLaw env V b r value
-narrower_program {env} n value l = record {
-  others = l.others;
-  deep = λ s t v w o. l.deep s t v w (n.value s t v o);
-  ok = λ s t v w spelled o e. l.ok s t v w spelled (n.value s t v o) e;
-  answers = λ s t x u w o h. narrower_gives env n
-      (λ d e t same m. sym same ∙ m) s (λ y v g. l.answers s v y u w g h) x t o;
-}
+-- an outcome that allows no more keeps to the same laws of a program
+narrower_program : {env : Variables} {V : Type 0} {a b : Outcome V} → AllowsNoMore V a b → {r : Roles}
+    {value : CellsValue V} → ProgramLaw env V a r value → ProgramLaw env V b r value
+narrower_program n l = record { others = l.others; keeps = narrower n l.keeps }
 
--- so it does with any form
+-- and of any form
 pub narrower_form : (env : Variables) (T : Type 0) (a b : Outcome T) → AllowsNoMore T a b
     → (names : List Names) (words : List (List ℕ)) (s : ProgramForm T)
     → FormLaw env a names words s → FormLaw env b names words s
 narrower_form env T a b n names words no_program l = tt
 narrower_form env T a b n names words (alternative wide q value) l =
-    (narrower_alternative env n value l.0, l.1)
-narrower_form env T a b n names words (single wide k q group gap) l =
-    (narrower_single env n l.0, l.1)
+    (record { named = l.0.named; keeps = narrower n l.0.keeps }, l.1)
+narrower_form env T a b n names words (single wide k q group gap) l = (
+  record {
+    own = l.0.own;
+    words = l.0.words;
+    starts = l.0.starts;
+    no_absent = l.0.no_absent;
+    keeps = narrower n l.0.keeps;
+  },
+  l.1,
+)
 narrower_form env T a b n names words (complete wide k q value) l =
-    (narrower_field env n value l.0, l.1)
-narrower_form env T a b n names words (product wide named q fields) l =
-    (narrower_fields env n l.0, l.1, by_name named l.2)
+    (record { own = l.0.own; keeps = narrower n l.0.keeps }, l.1)
+narrower_form env T a b n names words (product wide named q fields) l = (
+  record { named = l.0.named; has_each = l.0.has_each; keeps = narrower n l.0.keeps },
+  l.1,
+  by_name named l.2,
+)
   where
     by_name : (all : Bool) → NamedLaw env all a q fields.value → NamedLaw env all b q fields.value
-    by_name true l = narrower_field env n fields.value l
+    by_name true l = record { own = l.own; keeps = narrower n l.keeps }
     by_name false l = tt
 narrower_form env T a b n names words (commands false value) l = record {
   roles = l.roles;
   commands = record {
-    program = narrower_program n value l.commands.program;
+    program = narrower_program n l.commands.program;
     opened = l.commands.opened;
-    none = λ s t x w o c. narrower_gives env n
-        (λ d e u same. ⊎_elim (λ m. inl (sym same ∙ m)) (λ m. inr (sym same ∙ m.0, m.1, m.2))) s
-        (λ y u g. l.commands.none s u y w g c) x t o;
+    none = narrower n l.commands.none;
   };
   owns = l.owns;
 }
 narrower_form env T a b n names words (commands true value) l =
-    record { roles = l.roles; program = narrower_program n value l.program; owns = l.owns }
+    record { roles = l.roles; program = narrower_program n l.program; owns = l.owns }
 narrower_form env T a b n names words (before_commands value) l =
-    record { roles = l.roles; program = narrower_program n value l.program; owns = l.owns }
+    record { roles = l.roles; program = narrower_program n l.program; owns = l.owns }

@@ -1,34 +1,34 @@
 -- Of each combinator: its values say what is told of them, where those of its inner parsers do.
-use Rattle.std.proofs.Common.{◌≡◌, ℕ, Bool, true, false, List, [], ◌∷◌, ◌++◌, Some, None, not, ◌&&◌}
-use Rattle.std.proofs.Common.{refl, zero, suc, arith, inl, inr}
-use Rattle.std.proofs.lemmas.Bool.{and_parts}
+use Rattle.std.proofs.Common.{Bool, List, None, Some, [], false, not, true, ℕ, ◌&&◌, ◌++◌, ◌∷◌, ◌≡◌}
+use Rattle.std.proofs.{Common.arith, Common.refl, Common.suc, Common.zero, lemmas.Bool.and_parts}
+use Rattle.std.proofs.Common.{inl, inr}
 use Rattle.std.specs.List.{Contains}
 use Rattle.bpaf_doc.specs.Names.{Names}
 use Rattle.bpaf_laws.specs.{Command.Called, Command.opening_words, Reading.Outcome}
-use Rattle.bpaf_exact.specs.Says.{SaidKind, form_kind, of_kind, repeated_kind, Said, Says, FormSays}
-use Rattle.bpaf_exact.specs.ProgramForm.{ProgramForm, no_program, alternative, single, complete}
-use Rattle.bpaf_exact.specs.ProgramForm.{product, commands, before_commands, FormLaw, program_if}
-use Rattle.bpaf_exact.specs.ProgramForm.{program_closed, program_dressed, completed, whole_value}
-use Rattle.bpaf_exact.specs.ProgramForm.{program_optional, program_choice, choice_only}
-use Rattle.bpaf_exact.specs.ProgramForm.{program_field, program_both, program_alone, program_con}
-use Rattle.bpaf_exact.specs.ProgramForm.{whole_program, program_value, is_program, program_command}
-use Rattle.bpaf_exact.specs.ProgramForm.{are_words_apart, product_roles}
-use Rattle.bpaf_exact.specs.Programs.{CellsValue, ChoiceValue, OptionalCommands, are_plain}
-use Rattle.bpaf_exact.specs.ProgramSays.{ProgramSaid, of_pieces, of_cells, ProgramFieldsSaid}
-use Rattle.bpaf_exact.specs.ProgramSays.{of_all_pieces, of_all_cells, IsSaid, CellsSay}
-use Rattle.bpaf_exact.specs.ProgramSays.{ProgramFormSays, ProgramSays, ProgramFieldsSay, cells_said}
-use Rattle.bpaf_exact.specs.ProgramSays.{said_choice, said_alone, said_both, said_con, said_closed}
-use Rattle.bpaf_exact.specs.ProgramSays.{said_command, said_dressed, said_optional, said_fallback}
-use Rattle.bpaf_exact.specs.ProgramSays.{said_last, said_repeat, fields_said_inside, CutSays}
-use Rattle.bpaf_exact.specs.Wrappers.{ClosedValue, FallbackValue, OptionalValue, Closure}
-use Rattle.bpaf_exact.specs.Single.{OwnList, repeated, Groups, Gap}
-use Rattle.bpaf_exact.specs.{Flat.ByName, Flat.Variables, Flat.FieldKind, ProgramSays.FieldThenSays}
-use Rattle.bpaf_exact.specs.{Names.are_all_apart, Pieces.LinePiece, Gathered.LastOf}
-use Rattle.bpaf_exact.proofs.Says.{alone_says, both_say, choice_into, choice_says, closed_says}
-use Rattle.bpaf_exact.proofs.Says.{con_says, field_owned, field_says, optional_says, owned}
-use Rattle.bpaf_exact.proofs.Says.{record_says, unless_says, fallback_says, OwnsKeys, last_says}
-use Rattle.bpaf_exact.proofs.{Sharing.cut_fit, Sharing.taken_own, Says.listed_says, Says.WholeSays}
-use Rattle.bpaf_exact.proofs.{ProgramForm.whole_law, Cuts.read_cut}
+use Rattle.bpaf_exact.proofs.Says.{alone_says, choice_into, choice_says, closed_says, optional_says}
+use Rattle.bpaf_exact.proofs.Says.{both_say, con_says, field_owned, owned, record_says, unless_says}
+use Rattle.bpaf_exact.proofs.{ProgramForm.whole_law, Says.whole_form_says, Sharing.taken_own}
+use Rattle.bpaf_exact.proofs.{Says.fallback_by, Says.field_says, Says.listed_says, Sharing.cut_fit}
+use Rattle.bpaf_exact.proofs.{Cuts.read_cut, Says.OwnsKeys, Says.WholeSays, Says.list_says}
+use Rattle.bpaf_exact.specs.ProgramForm.{ProgramForm, before_commands, complete, no_program, single}
+use Rattle.bpaf_exact.specs.ProgramForm.{alternative, commands, product, program_closed, program_if}
+use Rattle.bpaf_exact.specs.ProgramForm.{FormLaw, program_choice, program_dressed, program_optional}
+use Rattle.bpaf_exact.specs.ProgramForm.{program_alone, program_field, program_value, whole_program}
+use Rattle.bpaf_exact.specs.ProgramForm.{are_words_apart, choice_only, program_command, whole_value}
+use Rattle.bpaf_exact.specs.ProgramSays.{IsSaid, ProgramSaid, of_all_cells, of_all_pieces, of_cells}
+use Rattle.bpaf_exact.specs.ProgramSays.{ProgramFieldsSaid, ProgramFormSays, ProgramSays, of_pieces}
+use Rattle.bpaf_exact.specs.ProgramSays.{CellsSay, cells_said, said_alone, said_choice, said_closed}
+use Rattle.bpaf_exact.specs.ProgramSays.{said_both, said_command, said_con, said_dressed, said_last}
+use Rattle.bpaf_exact.specs.ProgramSays.{CutSays, ProgramFieldsSay, fields_said_inside, said_repeat}
+use Rattle.bpaf_exact.specs.Says.{FormSays, Said, SaidKind, Says, form_kind, of_kind, repeated_kind}
+use Rattle.bpaf_exact.specs.Wrappers.{ClosedValue, Closure, FallbackValue, OptionalValue}
+use Rattle.bpaf_exact.specs.{Pieces.LinePiece, ProgramForm.product_roles, ProgramSays.said_optional}
+use Rattle.bpaf_exact.specs.{Gathered.LastOf, ProgramSays.FieldThenSays, ProgramSays.said_fallback}
+use Rattle.bpaf_exact.specs.{ProgramForm.program_both, Programs.OptionalCommands, Says.FallbackSays}
+use Rattle.bpaf_exact.specs.ProgramForm.{completed, is_program, program_con}
+use Rattle.bpaf_exact.specs.{Names.are_all_apart, Programs.CellsValue, Programs.ChoiceValue}
+use Rattle.bpaf_exact.specs.{Flat.FieldKind, Flat.Variables, Programs.are_plain, Single.repeated}
+use Rattle.bpaf_exact.specs.{Flat.ByName, Says.LastSays, Single.Gap, Single.Groups, Single.OwnList}
 
 -- where a test holds
 cells_if : {T : Type 0} (b : Bool) (s : ProgramForm T) (said : CellsValue T)
@@ -89,7 +89,14 @@ module _ {P Q T : Type 0} (inside : Q → P) (q : Q) {s : ProgramForm T} where
       → ProgramSays names s kind said (inside q)
       → ProgramSays names (completed repeated (LastOf T) s) (repeated_kind kind)
       (said_last inside said) q
-  program_last_says {said = of_pieces said} h = record { by = last_says h.by }
+  program_last_says {said = of_pieces said} h = record {
+    by = whole_form_says repeated_kind (λ k. refl) (LastOf T) (LastSays (said (inside q)))
+        (λ group gap fronts absent os v m. record {
+          values = m.0 ++ v ∷ [];
+          told = list_says (said (inside q)) group gap fronts absent os (m.0 ++ v ∷ []) m.1;
+          is = record { before = m.0; is = refl };
+        }) h.by;
+  }
   program_last_says {said = of_cells said} h =
       record { by = completed_cells repeated (LastOf T) s (said (inside q)) (λ cs v. ⊥) h.by }
 
@@ -98,7 +105,11 @@ module _ {P Q T : Type 0} (inside : Q → P) (q : Q) {s : ProgramForm T} where
       → ProgramSays names s kind said (inside q) → (f : Q → Closure (Unit {0}) T)
       → ProgramSays names (completed (λ k. k) (λ group gap. FallbackValue T group gap (f q)) s) kind
       (said_fallback inside f said) q
-  program_fallback_says {said = of_pieces said} h f = record { by = fallback_says (f q) h.by }
+  program_fallback_says {said = of_pieces said} h f = record {
+    by = whole_form_says (λ j. j) (λ k. refl) (λ group gap. FallbackValue T group gap (f q))
+        (FallbackSays (said (inside q)) ((f q).yes tt)) (λ group gap fronts absent.
+        fallback_by (said (inside q)) group gap fronts absent (f q)) h.by;
+  }
   program_fallback_says {said = of_cells said} h f = record {
     by = completed_cells (λ k. k) (λ group gap. FallbackValue T group gap (f q)) s
         (said (inside q)) (λ cs v. ⊥) h.by;

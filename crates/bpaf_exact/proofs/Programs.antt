@@ -1,34 +1,33 @@
 -- A command over a program keeps to the laws of commands, and a named field before them to those of
 -- a program.
-use Rattle.std.proofs.Common.{◌≡◌, ◌≤◌, ◌<◌, ℕ, zero, suc, true, false, not, ◌&&◌, List, [], ◌∷◌}
-use Rattle.std.proofs.Common.{length, Option, Some, None, Result, Ok, refl, sym, ap, ◌∙◌, subst}
-use Rattle.std.proofs.Common.{inl, inr, ⊎_elim, arith, true≢false, if◌then◌else◌, bytes_eq}
-use Rattle.std.proofs.lemmas.Bool.{cases_lt, cases_Bool, false_from_ne_true}
-use Rattle.std.proofs.{lemmas.Slice.Eq.bytes_eq-Decides, lemmas.Bool.Decides.nat_tests}
-use Rattle.std.proofs.lemmas.List.{length_push}
-use Rattle.std.specs.{Option.option_map_or, List.list_any}
-use Rattle.bpaf_base.specs.declared.arg.Arg.TheVariants.{Short, Long}
-use Rattle.bpaf_base.specs.{declared.arg.Arg.Arg, Items.any_item}
-use Rattle.bpaf_line.specs.Situation.{Situation, in_scope, is_taken, item_at}
-use Rattle.bpaf_line.specs.{declared.error.Error.Error, Taking.open_item}
-use Rattle.bpaf_line.proofs.Places.{open_in_scope, taken_here, taken_other, taken_stays}
-use Rattle.bpaf_line.proofs.Matches.{match_is_open, open_item_there}
-use Rattle.bpaf_laws.specs.Command.{Called, IsNotOpened, IsOpenedAt, inside, is_one_of}
-use Rattle.bpaf_laws.specs.{Command.opening_words, Reading.Outcome, Choice.depth}
-use Rattle.bpaf_exact.specs.Flat.{cells, first_cells, NonePresent, IsWholeIn, FieldsLaw}
-use Rattle.bpaf_exact.specs.Programs.{CellsValue, Opens, opens_here, opens_later, OpensNone}
-use Rattle.bpaf_exact.specs.Programs.{is_dashed, is_spelled, IsSpelledLine, AllSpelled, no_cell}
-use Rattle.bpaf_exact.specs.Programs.{empty_cell, spelled_cell, are_plain, CommandValue, ProgramLaw}
-use Rattle.bpaf_exact.specs.Programs.{FindsNoCommand, CommandsLaw, CommandEval, command_value}
-use Rattle.bpaf_exact.specs.Programs.{command_leftover, command_refused, command_missing}
-use Rattle.bpaf_exact.specs.Pieces.{Cells, Roles, pieces, IsNamed, is_key, Alone, One}
-use Rattle.bpaf_exact.specs.Alternative.{TakesFirst, NotOwn, first_one, first_later}
-use Rattle.bpaf_exact.specs.Flat.{FieldsReading, ReadOff, Variables}
-use Rattle.bpaf_exact.specs.Programs.{command_memory, GivesAll}
-use Rattle.bpaf_exact.proofs.Places.{same_item, closed_item, TakenOne, take_one}
-use Rattle.bpaf_exact.proofs.{Records.count_none, Records.fields_give, Product.no_own_in_cut}
-use Rattle.bpaf_exact.proofs.{Choice.HasItem, Choice.has_item, Counts.open_present, Names.both_hold}
-use Rattle.bpaf_exact.proofs.{Matching.match_of, Cells.begin_at, Cuts.read_cut}
+use Rattle.std.proofs.Common.{List, [], false, length, not, suc, true, zero, ℕ, ◌&&◌, ◌<◌, ◌≡◌, ◌≤◌}
+use Rattle.std.proofs.Common.{Err, None, Ok, Option, Some, ap, inl, inr, refl, subst, sym, ◌∙◌, ◌∷◌}
+use Rattle.std.proofs.{lemmas.Bool.false_from_ne_true, lemmas.Slice.Eq.bytes_eq-Decides}
+use Rattle.std.proofs.{Common.if◌then◌else◌, lemmas.Bool.Decides.nat_tests, lemmas.List.length_push}
+use Rattle.std.proofs.{Common.true≢false, lemmas.Bool.cases_Bool, lemmas.Bool.cases_lt}
+use Rattle.std.proofs.Common.{arith, bytes_eq, ⊎_elim}
+use Rattle.std.specs.{List.list_any, Option.option_map_or}
+use Rattle.bpaf_base.specs.declared.arg.Arg.TheVariants.{Long, Short}
+use Rattle.bpaf_base.specs.{Items.any_item, declared.arg.Arg.Arg}
+use Rattle.bpaf_line.proofs.{Matches.match_is_open, Matches.open_item_there, Places.open_in_scope}
+use Rattle.bpaf_line.proofs.Places.{taken_here, taken_other, taken_stays}
+use Rattle.bpaf_line.specs.{Situation.Situation, Situation.in_scope, declared.error.Error.Error}
+use Rattle.bpaf_line.specs.{Situation.is_taken, Situation.item_at, Taking.open_item}
+use Rattle.bpaf_laws.specs.Command.{Called, IsNotOpened, IsOpenedAt, is_one_of, opening_words}
+use Rattle.bpaf_laws.specs.{Choice.depth, Command.inside, Reading.Outcome}
+use Rattle.bpaf_exact.proofs.{Counts.open_present, Places.closed_item, Product.no_own_in_cut}
+use Rattle.bpaf_exact.proofs.{Matching.match_of, Places.same_item, Records.count_none}
+use Rattle.bpaf_exact.proofs.{Choice.has_item, Names.both_hold, Places.TakenOne, Places.take_one}
+use Rattle.bpaf_exact.proofs.{Cells.begin_at, Choice.HasItem, Cuts.read_cut}
+use Rattle.bpaf_exact.specs.Flat.{FieldsLaw, FieldsReading, IsWholeIn, OfMemory, cells, first_cells}
+use Rattle.bpaf_exact.specs.Pieces.{Alone, Cells, IsNamed, One, Roles, is_key, pieces}
+use Rattle.bpaf_exact.specs.Programs.{CellsValue, IsSpelledLine, OpensNone, opens_here, opens_later}
+use Rattle.bpaf_exact.specs.Programs.{AllSpelled, Opens, empty_cell, is_dashed, is_spelled, no_cell}
+use Rattle.bpaf_exact.specs.Programs.{CommandEval, CommandsLaw, ProgramLaw, are_plain, spelled_cell}
+use Rattle.bpaf_exact.specs.Programs.{CommandValue, FindsNoCommand, command_leftover, command_value}
+use Rattle.bpaf_exact.specs.Programs.{ProgramTook, command_memory, command_missing, command_refused}
+use Rattle.bpaf_exact.specs.Alternative.{TakesFirst, first_later, first_one}
+use Rattle.bpaf_exact.specs.{Alternative.NotOwn, Flat.ReadOff, Flat.Variables, Flat.class}
 
 -- A command's word on cells.
 
@@ -46,13 +45,10 @@ opens_one words (opens_here h) (opens_here i) = refl
 opens_one words (opens_later o) (opens_later p) = ap (λ z. None ∷ z) (opens_one words o p)
 
 -- where the first thing stands that is a word
-record FirstWord (words : List (List ℕ)) (at : ℕ → Option Arg) (n : ℕ) : Type 0 where
-  place : ℕ
-  item : Arg
-  within : place < n
-  is : at place ≡ Some item
-  named : is_one_of words item ≡ true
-  before : (q : ℕ) → q < place → at q ≡ None
+abbrev FirstWord : List (List ℕ) → (ℕ → Option Arg) → ℕ → Type 0
+FirstWord words at n =
+    (p : ℕ) × (k : Arg) × (p < n) × (at p ≡ Some k) × (is_one_of words k ≡ true)
+    × ((q : ℕ) → q < p → at q ≡ None)
 
 -- cells that a word opens have it as their first thing
 word_of : {words : List (List ℕ)} {at : ℕ → Option Arg} (n : ℕ) {ds : Cells}
@@ -64,24 +60,12 @@ word_of {words} {at} (suc n) o = by_head (at zero) refl o (λ fs. word_of n)
         → Opens words (c ∷ first_cells (λ q. at (suc q)) n) es
         → ((fs : Cells) → Opens words (first_cells (λ q. at (suc q)) n) fs → FirstWord words
         (λ q. at (suc q)) n) → FirstWord words at (suc n)
-    by_head (Some k) e (opens_here h) behind = record {
-      place = zero;
-      item = k;
-      within = omega arith;
-      is = e;
-      named = h;
-      before = λ q l. absurd (omega arith);
-    }
+    by_head (Some k) e (opens_here h) behind =
+        (zero, k, omega arith, e, h, λ q l. absurd (omega arith))
     by_head None e (opens_later {ds = fs} o) behind =
         let w = behind fs o in
-        record {
-          place = suc w.place;
-          item = w.item;
-          within = let l = w.within in omega arith;
-          is = w.is;
-          named = w.named;
-          before = later w.before;
-        }
+        let l = w.2 in
+        (suc w.0, w.1, omega arith, w.3, w.4, later w.5)
       where
         later : {p : ℕ} → ((q : ℕ) → q < p → at (suc q) ≡ None) → (q : ℕ) → q < suc p → at q ≡ None
         later before zero l = e
@@ -217,11 +201,11 @@ pub opens_none : {words : List (List ℕ)} (s : Situation) → IsNotOpened words
 unfolding cells
 opens_none {words} s none ds o =
     let w = word_of (length s.context.line) o in
-    let there = open_item_there s w.place w.item w.is in
-    true≢false (sym (ap (λ z. option_map_or (is_one_of words) z false) there.1 ∙ w.named)
-    ∙ none w.place (record {
-      matches = ap (λ z. option_map_or any_item z false) w.is;
-      first = λ q l. ap (λ z. option_map_or any_item z false) (w.before q l);
+    let there = open_item_there s w.0 w.1 w.3 in
+    true≢false (sym (ap (λ z. option_map_or (is_one_of words) z false) there.1 ∙ w.4)
+    ∙ none w.0 (record {
+      matches = ap (λ z. option_map_or any_item z false) w.3;
+      first = λ q l. ap (λ z. option_map_or any_item z false) (w.5 q l);
     }))
 
 -- A command keeps to the laws, where its program does.
@@ -241,52 +225,50 @@ module _ {env : Variables} (T : Type 0) (inner : Outcome T) (r : Roles) (value :
       → value (cells (inside called s p)) v → opened_value (cells s) v
   from_behind {s} {p} at h = (cells (inside called s p), opens_cells called s p at, h)
 
-  -- the path gets no shorter
-  command_deep : (s t : Situation) (v : T) → IsWholeIn env s → CommandEval T inner called s (Ok v) t
-      → depth s ≤ depth t
-  command_deep s t v w (command_value {p} at i e) =
-      let a = deeper_behind called s p at in
-      let b = l.deep (inside called s p) t v (whole_behind called s p at w) i in
-      omega arith
+  -- and the other way
+  value_behind : {s : Situation} {p : ℕ} {u : T} → IsOpenedAt words s p → opened_value (cells s) u
+      → value (cells (inside called s p)) u
+  value_behind {s} {p} at h = rw (← opens_one words h.1 (opens_cells called s p at)) h.2
 
   -- an Ok took the word, and has the value of what is behind it
-  command_ok : (s t : Situation) (v : T) → IsWholeIn env s → IsSpelledLine s.context
-      → CommandEval T inner called s (Ok v) t → NonePresent (cells t) → opened_value (cells s) v
-  command_ok s t v w spelled (command_value {p} at i e) n =
-      from_behind at (l.ok (inside called s p) t v (whole_behind called s p at w) spelled i n)
+  command_took : (s t : Situation) (v : T) → IsWholeIn env s → CommandEval T inner called s (Ok v) t
+      → ProgramTook T opened_value s v t
+  command_took s t v w (command_value {p} at i e) =
+      let a = l.keeps.ok (inside called s p) t v (whole_behind called s p at w) i in
+      record {
+        deep = let b = deeper_behind called s p at in let d = a.deep in omega arith;
+        read = λ spelled n. from_behind at (a.read spelled n);
+        all = λ u h. let g = a.all u (value_behind at h) in (from_behind at g.0, g.1);
+      }
 
-  -- what its program answers behind the word where there is a value
-  answer_behind : {s m : Situation} {p : ℕ} {a : Result T Error} {u : T} → IsWholeIn env s
-      → IsOpenedAt words s p → inner (inside called s p) a m → opened_value (cells s) u
-      → GivesAll (value (cells (inside called s p))) a m
-  answer_behind {s} {m} {p} {a} {u} w at i h =
-      l.answers (inside called s p) m a u (whole_behind called s p at w) i
-      (rw (← opens_one words h.1 (opens_cells called s p at)) h.2)
+  -- where it has a value, a refusal is want of memory
+  command_refuses : (s t : Situation) (e : Error) → IsWholeIn env s
+      → CommandEval T inner called s (Err e) t → (u : T) → opened_value (cells s) u
+      → class e ≡ OfMemory
+  command_refuses s t e w (command_leftover {v = x} {p} {m} at i left) u h =
+      let a = l.keeps.ok (inside called s p) m x (whole_behind called s p at w) i in
+      absurd (left (open_present m ∙ count_none (a.all u (value_behind at h)).1))
+  command_refuses s t e w (command_refused {d} {p} {m} at i spared) u h =
+      absurd (spared (l.keeps.err (inside called s p) m d (whole_behind called s p at w) i u
+      (value_behind at h)))
+  command_refuses s t e w (command_missing none c) u h = absurd (opens_none s none h.0 h.1)
+  command_refuses s t e w (command_memory c) u h = c
 
-  -- where it has a value each answer is one, or want of memory
-  command_answers : (s t : Situation) (a : Result T Error) (u : T) → IsWholeIn env s
-      → CommandEval T inner called s a t → opened_value (cells s) u
-      → GivesAll (opened_value (cells s)) a t
-  command_answers s t a u w (command_value at i e) h =
-      let g = answer_behind w at i h in
-      (from_behind at g.0, g.1)
-  command_answers s t a u w (command_leftover {m} at i left) h =
-      absurd (left (open_present m ∙ count_none (answer_behind w at i h).1))
-  command_answers s t a u w (command_refused at i spared) h =
-      absurd (spared (answer_behind w at i h))
-  command_answers s t a u w (command_missing none e) h = absurd (opens_none s none h.0 h.1)
-  command_answers s t a u w (command_memory e) h = e
+  -- where no word is the first thing present there is no value,
+  none_took : (s t : Situation) (v : T) → IsWholeIn env s → CommandEval T inner called s (Ok v) t
+      → OpensNone words (cells s) → ⊥
+  none_took s t v w (command_value {p} at i e) n = n _ (opens_cells called s p at)
 
-  -- where no word is the first thing present it is missing
-  command_none : (s t : Situation) (a : Result T Error) → IsWholeIn env s
-      → CommandEval T inner called s a t → OpensNone words (cells s) → FindsNoCommand s a t
+  -- and it is missing
+  none_refuses : (s t : Situation) (e : Error) → IsWholeIn env s
+      → CommandEval T inner called s (Err e) t → OpensNone words (cells s)
+      → FindsNoCommand s (class e) t
   unfolding cells
-  command_none s t a w (command_value {p} at i e) n = absurd (n _ (opens_cells called s p at))
-  command_none s t a w (command_leftover {p} at i left) n = absurd (n _ (opens_cells called s p at))
-  command_none s t a w (command_refused {p} at i spared) n =
+  none_refuses s t e w (command_leftover {p} at i left) n = absurd (n _ (opens_cells called s p at))
+  none_refuses s t e w (command_refused {p} at i spared) n =
       absurd (n _ (opens_cells called s p at))
-  command_none s t a w (command_missing none e) n = inr (e, refl, refl)
-  command_none s t a w (command_memory e) n = inl e
+  none_refuses s t e w (command_missing none c) n = inr (c, refl, refl)
+  none_refuses s t e w (command_memory c) n = inl c
 
   -- the laws
   pub command_law : CommandsLaw env T (CommandEval T inner called) r words opened_value
@@ -294,12 +276,10 @@ module _ {env : Variables} (T : Type 0) (inner : Outcome T) (r : Roles) (value :
     program = record {
       others = λ q n a cs v s h.
           opens_pieces plain n s h.1 ∙ l.others q n a h.0 v (opens_spelled s h.1) h.2;
-      deep = command_deep;
-      ok = command_ok;
-      answers = command_answers;
+      keeps = record { ok = command_took; err = command_refuses };
     };
     opened = λ cs v h. (h.0, h.1);
-    none = command_none;
+    none = record { ok = none_took; err = none_refuses };
   }
 
 -- A flat record is a program.
@@ -309,7 +289,17 @@ module _ {env : Variables} {V : Type 0} {outcome : Outcome V} {r : Roles}
   pub record_program : ProgramLaw env V outcome r (ReadOff V r reading.value)
   record_program = record {
     others = λ q n a cs v s h. no_own_in_cut n a (read_cut h);
-    deep = λ s t v w o. let e = ap length (l.steady s t v w o).path in omega arith;
-    ok = λ s t v w spelled o. l.ok s t v w o;
-    answers = λ s t a u w o h. fields_give l a w o (read_cut h) (l.has_each h.cut_into u h.read);
+    keeps = record {
+      ok = λ s t v w o.
+          let i = l.keeps.ok s t v w o in
+          record {
+            deep = let e = ap length i.steady.path in omega arith;
+            read = λ spelled. i.read;
+            all = λ u h.
+                let n = i.all h.cut_into (read_cut h) (l.has_each h.cut_into u h.read) in
+                (i.read n, n);
+          };
+      err = λ s t e w o u h.
+          l.keeps.err s t e w o h.cut_into (read_cut h) (l.has_each h.cut_into u h.read);
+    };
   }

@@ -1,12 +1,12 @@
 -- A kept value is a field that takes no piece.
-use Rattle.std.proofs.Common.{List, [], refl}
-use Rattle.bpaf_laws.specs.{Default.GivesClone, Pure.PureOutcome}
+use Rattle.std.proofs.Common.{List, None, [], refl}
 use Rattle.bpaf_doc.specs.Names.{Names}
-use Rattle.bpaf_exact.specs.Flat.{ByName, cells, Variables}
-use Rattle.bpaf_exact.specs.Pieces.{LinePiece, takes_none}
-use Rattle.bpaf_exact.specs.{Says.Says, Says.of_kind, ProgramForm.FormLaw, Leaves.pure_field}
-use Rattle.bpaf_exact.proofs.{Records.none_of_nobody, Records.current_cells, Classes.memory_class}
-use Rattle.bpaf_exact.proofs.ProgramForm.{no_names}
+use Rattle.bpaf_line.specs.Situation.{with_current}
+use Rattle.bpaf_laws.specs.{Default.GivesClone, Pure.PureOutcome}
+use Rattle.bpaf_exact.proofs.{Classes.memory_class, Records.current_cells, Records.none_of_nobody}
+use Rattle.bpaf_exact.proofs.{Product.steady_refl, ProgramForm.no_names, Records.same_steady}
+use Rattle.bpaf_exact.specs.{Flat.ByName, Leaves.pure_field, Pieces.takes_none, ProgramForm.FormLaw}
+use Rattle.bpaf_exact.specs.{Flat.Variables, Flat.cells, Pieces.LinePiece, Says.Says, Says.of_kind}
 
 module _ (T : Type 0) (clones : T → T → Type 0) (kept : T) where
   -- what it stands for
@@ -19,20 +19,16 @@ module _ (T : Type 0) (clones : T → T → Type 0) (kept : T) where
   pure_field_law = (
     record {
       own = record { only_keys = λ k h. refl };
-      ok = λ s t v w o. rw o.1 (record {
-        steady = record {
-          context = refl;
-          start = refl;
-          end = refl;
-          path = refl;
-          keeps = λ p taken. taken;
-        };
-        takes = rw (current_cells s) takes_none;
-        read = λ none. o.0;
-        rest = λ none. none;
-      });
-      takes_all = λ s t v u w o h. none_of_nobody (cells t);
-      refuses = λ s t e v w o h. memory_class e.0 o.0;
+      keeps = record {
+        ok = λ s t v w o. rw o.1 (record {
+          steady = same_steady steady_refl;
+          takes = rw (current_cells s) takes_none;
+          read = λ none. o.0;
+          rest = λ none. none;
+          all = λ u h. none_of_nobody (cells (with_current s None));
+        });
+        err = λ s t e w o v h. memory_class e.0 o.0;
+      };
     },
     no_names,
   )

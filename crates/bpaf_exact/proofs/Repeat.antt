@@ -1,25 +1,24 @@
 -- Repeats of a field that keeps to the laws of one evaluation, and what `some` and `last` make of
 -- one.
-use Rattle.std.proofs.Common.{◌≡◌, ◌<◌, ◌≤◌, Bool, true, false, List, [], ◌∷◌, None, Ok, Err, refl}
-use Rattle.std.proofs.Common.{sym, ap, ◌∙◌, subst, arith, inl, inr, ◌⊎◌, true≢false, ◌++◌}
+use Rattle.std.proofs.Common.{Bool, Err, List, None, [], false, refl, sym, true, ◌<◌, ◌∷◌, ◌≡◌, ◌≤◌}
+use Rattle.std.proofs.Common.{Ok, ap, arith, inl, inr, subst, true≢false, ◌++◌, ◌∙◌, ◌⊎◌}
 use Rattle.bpaf_line.specs.{Situation.Situation, Situation.open_count, declared.error.Error.Error}
-use Rattle.bpaf_laws.specs.Repeat.{Turns, stops, rests, is_nil, LastOutcome, UntilRest}
-use Rattle.bpaf_laws.specs.{Turn.TurnOutcome, Reading.Outcome}
-use Rattle.bpaf_exact.specs.Pieces.{Cells, Roles, LinePiece, pieces, TakesPieces, takes_none}
-use Rattle.bpaf_exact.specs.Flat.{OfMemory, OfMissing, class, cells, IsWholeIn, Steady, FieldKind}
-use Rattle.bpaf_exact.specs.Flat.{ByName, OneWord, EachWord, front, back, OwnItems, FieldLaw}
-use Rattle.bpaf_exact.specs.Single.{Groups, Own, own_none, own_more, TakesAny, Readable, Gap}
-use Rattle.bpaf_exact.specs.Single.{TookGroup, SingleOk, gave_absent, took, SingleErr, of_memory}
-use Rattle.bpaf_exact.specs.Single.{of_missing, of_absent, of_piece, SingleLaw, OwnList, listed}
-use Rattle.bpaf_exact.specs.Single.{listed_and_absent, only_absent, repeated, Stops, nothing_found}
-use Rattle.bpaf_exact.specs.Single.{caught, CanCatch, catch_missing, catch_other, RepeatOutcome}
-use Rattle.bpaf_exact.specs.{Flat.Variables, Flat.FieldTook, Flat.NoKeysLeft, Pieces.takes_more}
-use Rattle.bpaf_exact.specs.{Single.ReadsWords, Single.present_count, Wrappers.AgreesOn}
-use Rattle.bpaf_exact.specs.Gathered.{some_closure, LastOf}
-use Rattle.bpaf_exact.proofs.Classes.{memory_class, stops_at, goes_on}
-use Rattle.bpaf_exact.proofs.Fronts.{back_all, each_nil, nil_each, no_keys_left, never_nil}
-use Rattle.bpaf_exact.proofs.Product.{none_outside_after, steady_refl, steady_trans}
-use Rattle.bpaf_exact.proofs.Counts.{open_present, takes_any_fewer}
+use Rattle.bpaf_laws.specs.{Reading.Outcome, Repeat.LastOutcome, Repeat.UntilRest, Turn.TurnOutcome}
+use Rattle.bpaf_laws.specs.Repeat.{Turns, is_nil, rests, stops}
+use Rattle.bpaf_exact.proofs.{Classes.stops_at, Counts.takes_any_fewer, Product.none_outside_after}
+use Rattle.bpaf_exact.proofs.{Classes.memory_class, Counts.open_present, Product.steady_trans}
+use Rattle.bpaf_exact.proofs.{Fronts.never_nil, Fronts.no_keys_left, Product.steady_refl}
+use Rattle.bpaf_exact.proofs.{Classes.goes_on, Fronts.back_all, Fronts.each_nil, Fronts.nil_each}
+use Rattle.bpaf_exact.specs.Flat.{FieldKind, IsWholeIn, OfMemory, OfMissing, OneWord, Steady, class}
+use Rattle.bpaf_exact.specs.Flat.{ByName, EachWord, FieldLaw, FieldTook, OwnItems, Variables, cells}
+use Rattle.bpaf_exact.specs.Pieces.{Cells, LinePiece, TakesPieces, pieces, takes_more, takes_none}
+use Rattle.bpaf_exact.specs.Single.{Groups, Readable, TakesAny, TookGroup, own_more, own_none, took}
+use Rattle.bpaf_exact.specs.Single.{Gap, Own, SingleErr, SingleOk, of_absent, of_memory, of_missing}
+use Rattle.bpaf_exact.specs.Single.{OwnList, SingleLaw, gave_absent, listed_and_absent, only_absent}
+use Rattle.bpaf_exact.specs.Single.{Stops, catch_missing, listed, nothing_found, of_piece, repeated}
+use Rattle.bpaf_exact.specs.Single.{CanCatch, ReadsWords, RepeatOutcome, catch_other, present_count}
+use Rattle.bpaf_exact.specs.{Flat.ErrorClass, Flat.front, Gathered.some_closure, Wrappers.AgreesOn}
+use Rattle.bpaf_exact.specs.{Flat.back, Gathered.LastOf, Pieces.Roles, Single.caught}
 
 -- one piece at least is some
 pub any_some : {q : Roles} {cs ds : Cells} → TakesAny q cs ds → TakesPieces q cs ds
@@ -46,19 +45,19 @@ pub same_count : (s m : Situation) → cells m ≡ cells s → open_count m ≡ 
 same_count s m e = open_present m ∙ (ap present_count e ∙ sym (open_present s))
 
 -- a turn that took nothing stops at what can be caught
-pub stops_by : {s m : Situation} {e : Error} → CanCatch e
+pub stops_by : {s m : Situation} {e : Error} → CanCatch (class e)
     → (class e ≡ OfMissing → cells m ≡ cells s) → Stops e s m
 stops_by {s} {m} (catch_missing c) same = nothing_found c (same_count s m (same c))
 stops_by (catch_other c) same = caught c
 
 -- a turn stops at what can be caught
-pub stopped_by : {s m : Situation} {e : Error} → Stops e s m → CanCatch e
+pub stopped_by : {s m : Situation} {e : Error} → Stops e s m → CanCatch (class e)
 stopped_by (nothing_found c same) = catch_missing c
 stopped_by (caught c) = catch_other c
 
 -- where it can be caught there is no piece, and no absent value
 pub catch_none : {T : Type 0} {k : FieldKind} {q : Roles} {group : Groups T} {gap : Gap T}
-    {s m : Situation} {e : Error} → CanCatch e → SingleErr T k q group gap s e m
+    {s m : Situation} {c : ErrorClass} → CanCatch c → SingleErr T k q group gap s c m
     → (gap.has ≡ false) × (front k (pieces q (cells s)) ≡ [])
 catch_none h (of_missing c g p same) = (g, p)
 catch_none (catch_missing h) (of_memory c) = absurd cc
@@ -144,8 +143,8 @@ module _ {env : Variables} {T : Type 0} {inner : Outcome T} {k : FieldKind} {q :
   }
 
   -- a turn that stops after a value
-  stop_after : {s m : Situation} {e : Error} → Stops e s m → SingleErr T k q group gap s e m
-      → Took s [] s
+  stop_after : {s m : Situation} {e : Error} → Stops e s m
+      → SingleErr T k q group gap s (class e) m → Took s [] s
   stop_after h refused =
       let a = catch_none (stopped_by h) refused in
       let g = a.0 in
@@ -178,15 +177,15 @@ module _ {env : Variables} {T : Type 0} {inner : Outcome T} {k : FieldKind} {q :
   -- a turn after a value that stops
   stop_took : (s : Situation) {t : Situation} → IsWholeIn env s
       → TurnOutcome inner false false s (Ok None) t → Took s [] t
-  stop_took s {t} w (inl o) = enough_took o.3 (l.ok s t o.0 w o.1)
-  stop_took s w (inr o) = rw o.1 (stop_after (stops_at o.0.3) (l.err s o.0.1 o.0.0 w o.0.2))
+  stop_took s {t} w (inl o) = enough_took o.3 (l.keeps.ok s t o.0 w o.1)
+  stop_took s w (inr o) = rw o.1 (stop_after (stops_at o.0.3) (l.keeps.err s o.0.1 o.0.0 w o.0.2))
 
   -- Once it has the first value, a repeat that answers has read all its pieces.
   later_took : (vs : List T) {s m t : Situation} → IsWholeIn env s → Turns inner false false s vs m
       → TurnOutcome inner false false m (Ok None) t → Took s vs t
   later_took [] {s} w turns stop = stop_took s w (rw turns stop)
   later_took (v ∷ vs) {s} w turns stop =
-      step_took (took_item s turns.0 turns.1.1) (l.ok s turns.0 v w turns.1.0)
+      step_took (took_item s turns.0 turns.1.1) (l.keeps.ok s turns.0 v w turns.1.0)
       (λ st. later_took vs (none_outside_after w st) turns.2 stop)
 
   -- a repeat from its start
@@ -252,7 +251,7 @@ module _ {env : Variables} {T : Type 0} {inner : Outcome T} {k : FieldKind} {q :
 
   -- a first turn that stops
   first_stop : (s : Situation) {m : Situation} {e : Error} → Stops e s m
-      → SingleErr T k q group gap s e m → RepeatTook s [] s
+      → SingleErr T k q group gap s (class e) m → RepeatTook s [] s
   first_stop s h refused =
       let a = catch_none (stopped_by h) refused in record {
         steady = steady_refl;
@@ -265,7 +264,7 @@ module _ {env : Variables} {T : Type 0} {inner : Outcome T} {k : FieldKind} {q :
   first_stopped : {s t : Situation} → IsWholeIn env s → TurnOutcome inner false true s (Ok None) t
       → RepeatTook s [] t
   first_stopped w (inl o) = absurd (true≢false o.2)
-  first_stopped {s} w (inr o) = rw o.1 (first_stop s (stops_at o.0.3) (l.err s o.0.1 o.0.0 w o.0.2))
+  first_stopped {s} w (inr o) = rw o.1 (first_stop s (stops_at o.0.3) (l.keeps.err s o.0.1 o.0.0 w o.0.2))
 
   -- so did turns from the first one on, until one stops
   turns_took : (first : Bool) (vs : List T) {s m t : Situation} → IsWholeIn env s
@@ -273,7 +272,7 @@ module _ {env : Variables} {T : Type 0} {inner : Outcome T} {k : FieldKind} {q :
       → RepeatTook s vs t
   turns_took first [] w turns stop = first_stopped w (rw turns stop)
   turns_took first (v ∷ vs) {s} w turns stop =
-      first_step (l.ok s turns.0 v w turns.1.0)
+      first_step (l.keeps.ok s turns.0 v w turns.1.0)
       (λ st. later_took vs (none_outside_after w st) turns.2 stop)
 
   -- A repeat that answers has read all its pieces.
@@ -281,7 +280,7 @@ module _ {env : Variables} {T : Type 0} {inner : Outcome T} {k : FieldKind} {q :
       → RepeatOutcome inner idle s (Ok vs) t → RepeatTook s vs t
   repeat_took false {vs} w o = turns_took true vs w o.steps o.stop
   repeat_took true {vs} w (stops run) = turns_took false vs w run.steps run.stop
-  repeat_took true {s} {t} w (rests v e ran same) = rw e (first_idle s t w same (l.ok s t v w ran))
+  repeat_took true {s} {t} w (rests v e ran same) = rw e (first_idle s t w same (l.keeps.ok s t v w ran))
 
   -- Where the pieces can be read a refusal comes for want of memory alone.
 
@@ -311,7 +310,7 @@ module _ {env : Variables} {T : Type 0} {inner : Outcome T} {k : FieldKind} {q :
   -- where the pieces can be read a refusal is want of memory
   failed_gives : {s t : Situation} {e : Error} {ws : List T} → IsWholeIn env s
       → (gap.has ≡ true → (a : T) × gap.absent a) → OwnView (own s) ws → (Stops e s t → ⊥)
-      → SingleErr T k q group gap s e t → class e ≡ OfMemory
+      → SingleErr T k q group gap s (class e) t → class e ≡ OfMemory
   failed_gives w ab o n (of_memory c) = c
   failed_gives w ab o n (of_missing c g p same) = absurd (n (stops_by c same))
   failed_gives w ab o n (of_absent c g p none) = let a = ab g in absurd (none a.0 a.1)
@@ -324,7 +323,7 @@ module _ {env : Variables} {T : Type 0} {inner : Outcome T} {k : FieldKind} {q :
       → (gap.has ≡ true → (a : T) × gap.absent a) → OwnView (own s) ws
       → TurnOutcome inner false first s (Err e) t → class e ≡ OfMemory
   turn_fails first {s} {t} e w ab view (inl o) =
-      failed_gives w ab view (goes_on e o.1) (l.err s t e w o.0)
+      failed_gives w ab view (goes_on e o.1) (l.keeps.err s t e w o.0)
   turn_fails first e w ab view (inr o) = memory_class e.0 o.0
 
   -- and so do turns
@@ -336,7 +335,7 @@ module _ {env : Variables} {T : Type 0} {inner : Outcome T} {k : FieldKind} {q :
       turn_fails last e w ab (own_view o)
       (subst (λ z. TurnOutcome inner false last z (Err e) t) (sym turns) fails)
   turns_fail first last (v ∷ vs) {s} w ab o turns fails =
-      let on = on_step o (l.ok s turns.0 v w turns.1.0) in
+      let on = on_step o (l.keeps.ok s turns.0 v w turns.1.0) in
       turns_fail false last vs (none_outside_after w on.0) ab on.2 turns.2 fails
 
   -- where there is an own list all can be read, and the absent value is there
@@ -367,15 +366,16 @@ module _ {env : Variables} {T : Type 0} {inner : Outcome T} {k : FieldKind} {q :
       (OwnList T group gap)
   repeat_law idle = record {
     own = own_repeated;
-    ok = λ s t vs w f. let i = repeat_took idle w f in record {
-      steady = i.steady;
-      takes = i.takes;
-      read = λ n. i.list;
-      rest = λ n. i.none;
+    keeps = record {
+      ok = λ s t vs w f. let i = repeat_took idle w f in record {
+        steady = i.steady;
+        takes = i.takes;
+        read = λ n. i.list;
+        rest = λ n. i.none;
+        all = λ ws o. no_keys_left (repeated k) q (cells t) _ i.none;
+      };
+      err = λ s t e w f ws o. repeat_fails idle t e w f o;
     };
-    takes_all = λ s t vs ws w f o.
-        no_keys_left (repeated k) q (cells t) _ (repeat_took idle w f).none;
-    refuses = λ s t e ws w f o. repeat_fails idle t e w f o;
   }
 
   -- the laws of the list
@@ -419,7 +419,7 @@ module _ {env : Variables} {T : Type 0} {inner : Outcome T} {k : FieldKind} {q :
       → UntilRest inner s [] m → inner m (Ok v) t → ⊥
   again_ok s {m} t v w f g =
       let i = repeat_took true w f in
-      by_empty (empty_list refl i.list) i.none (l.ok m t v (none_outside_after w i.steady) g)
+      by_empty (empty_list refl i.list) i.none (l.keeps.ok m t v (none_outside_after w i.steady) g)
     where
       by_empty : Nothing (front (repeated k) (pieces q (cells s)))
           → pieces q (cells m) ≡ back (repeated k) (pieces q (cells s))
@@ -432,8 +432,14 @@ module _ {env : Variables} {T : Type 0} {inner : Outcome T} {k : FieldKind} {q :
   last_took : (s t : Situation) (v : T) → IsWholeIn env s → LastOutcome inner s (Ok v) t
       → FieldTook T (repeated k) q (LastOf T group gap) s v t
   last_took s t v w (inl o) =
-      let i = rl.ok s t (o.0 ++ v ∷ []) w o.1 in
-      record { steady = i.steady; takes = i.takes; read = λ n. (o.0, i.read n); rest = i.rest }
+      let i = rl.keeps.ok s t (o.0 ++ v ∷ []) w o.1 in
+      record {
+        steady = i.steady;
+        takes = i.takes;
+        read = λ n. (o.0, i.read n);
+        rest = i.rest;
+        all = λ u h. i.all (h.0 ++ u ∷ []) h.1;
+      }
   last_took s t v w (inr o) = absurd (again_ok s t v w o.1 o.2)
 
   -- where the list has a last value it isn't empty
@@ -442,21 +448,13 @@ module _ {env : Variables} {T : Type 0} {inner : Outcome T} {k : FieldKind} {q :
   never_empty {v} w f h =
       never_nil h.0 v [] (empty_nothing (empty_list refl (repeat_took true w f).list) h.1)
 
-  -- so all is taken,
-  last_takes : (s t : Situation) (x v : T) → IsWholeIn env s → LastOutcome inner s (Ok x) t
-      → LastOf T group gap (front (repeated k) (pieces q (cells s))) v
-      → NoKeysLeft (repeated k) q (cells t)
-  last_takes s t x v w (inl o) h = rl.takes_all s t (o.0 ++ x ∷ []) (h.0 ++ v ∷ []) w o.1 h.1
-  last_takes s t x v w (inr o) h = absurd (never_empty w o.1 h)
-
-  -- and a refusal is want of memory
-  last_refuses : (s t : Situation) (e : Error) (v : T) → IsWholeIn env s
-      → LastOutcome inner s (Err e) t
-      → LastOf T group gap (front (repeated k) (pieces q (cells s))) v → class e ≡ OfMemory
-  last_refuses s t e v w (inl o) h = rl.refuses s t e (h.0 ++ v ∷ []) w o h.1
-  last_refuses s t e v w (inr o) h = absurd (never_empty w o.1 h)
+  -- so a refusal is want of memory
+  last_refuses : (s t : Situation) (e : Error) → IsWholeIn env s → LastOutcome inner s (Err e) t
+      → (v : T) → LastOf T group gap (front (repeated k) (pieces q (cells s))) v
+      → class e ≡ OfMemory
+  last_refuses s t e w (inl o) v h = rl.keeps.err s t e w o (h.0 ++ v ∷ []) h.1
+  last_refuses s t e w (inr o) v h = absurd (never_empty w o.1 h)
 
   -- last keeps to the laws of a field
   pub last_of_law : FieldLaw env T (LastOutcome inner) (repeated k) q (LastOf T group gap)
-  last_of_law =
-      record { own = rl.own; ok = last_took; takes_all = last_takes; refuses = last_refuses }
+  last_of_law = record { own = rl.own; keeps = record { ok = last_took; err = last_refuses } }

@@ -1,40 +1,38 @@
 -- The value of each flat field says of its pieces what its parser says.
-use Rattle.std.proofs.Common.{◌≡◌, ℕ, Bool, true, false, List, [], ◌∷◌, ◌++◌, Option, Some, None}
-use Rattle.std.proofs.Common.{◌&&◌, ◌||◌, not, refl, sym, ap, ◌∙◌, subst, append-nil, inl, inr}
+use Rattle.std.proofs.Common.{Bool, List, None, Option, Some, [], false, true, ◌&&◌, ◌++◌, ◌∷◌, ◌≡◌}
+use Rattle.std.proofs.Common.{ap, append-nil, inl, inr, not, refl, subst, sym, ℕ, ◌||◌, ◌∙◌}
+use Rattle.std.specs.{Option.IsSomeRelated, Option.is_none, Prelude.MatchBool}
 use Rattle.bpaf_doc.specs.Names.{Names}
-use Rattle.bpaf_exact.specs.Pieces.{Roles, LinePiece, One, Two, is_own, mine, others, either}
-use Rattle.bpaf_exact.specs.Flat.{FieldKind, ByName, OneWord, FieldsReading, keys, front, back}
-use Rattle.bpaf_exact.specs.Single.{Groups, Gap, FrontOf, Own, own_none, own_more, OwnList, listed}
-use Rattle.bpaf_exact.specs.Single.{listed_and_absent, only_absent, SingleValue, gap_of, repeated}
-use Rattle.bpaf_exact.specs.Wrappers.{Closure, OptionalValue, FallbackValue}
-use Rattle.bpaf_exact.specs.Leaves.{flag_field, flag_roles, FlagValue, argument_field}
-use Rattle.bpaf_exact.specs.Leaves.{argument_group, argument_roles, key_field, ArgumentValue}
-use Rattle.bpaf_exact.specs.ProgramForm.{ProgramForm, FormLaw, no_program, alternative, single}
-use Rattle.bpaf_exact.specs.ProgramForm.{complete, product, commands, before_commands, program_if}
-use Rattle.bpaf_exact.specs.ProgramForm.{program_closed, program_choice, completed}
-use Rattle.bpaf_exact.specs.ProgramForm.{program_optional, program_field, is_named, may_follow}
-use Rattle.bpaf_exact.specs.ProgramForm.{program_both, program_alone, program_con, whole_program}
-use Rattle.bpaf_exact.specs.Says.{SaidKind, form_kind, of_kind, keyed, repeated_kind, AllOwn, Fits}
-use Rattle.bpaf_exact.specs.Says.{Said, FlagSays, says_present, says_absent, says_variable}
-use Rattle.bpaf_exact.specs.Says.{ArgumentSays, says_variable_text, says_text, says_last_text}
-use Rattle.bpaf_exact.specs.Says.{WordSays, EitherSays, says_this, says_that, MadeSays}
-use Rattle.bpaf_exact.specs.Says.{OptionalSays, says_some, says_none, FallbackSays, says_own}
-use Rattle.bpaf_exact.specs.Says.{says_kept, FrontSays, RepeatSays, says_in_turn, says_alone}
-use Rattle.bpaf_exact.specs.Says.{LastSays, FieldsSaid, RecordSays, FormSays, Says, FieldsFormSays}
-use Rattle.bpaf_exact.specs.{Says.FieldsSay, Says.its_pieces, Says.words_after, Record.last_reading}
-use Rattle.bpaf_exact.specs.{Flat.both_reading, Flat.Variables, Leaves.WordValue, Leaves.word_by}
-use Rattle.bpaf_exact.specs.{Names.Owns, Names.are_all_apart, Alternative.either_value}
-use Rattle.bpaf_exact.specs.{Pieces.no_roles, Gathered.LastOf}
-use Rattle.bpaf_laws.specs.{Flag.value_without_key, Environment.first_set, Reading.Outcome}
+use Rattle.bpaf_text.specs.Named.{KeyWithValue, Named as Key}
+use Rattle.bpaf_laws.specs.{Environment.first_set, Flag.value_without_key, Reading.Outcome}
 use Rattle.bpaf_laws.specs.Repeat.{is_nil}
-use Rattle.std.specs.{Option.is_none, Option.IsSomeRelated, Prelude.MatchBool}
-use Rattle.bpaf_exact.proofs.Sharing.{mine_rest, others_fit, others_rest, rest_fit, apart_none}
-use Rattle.bpaf_exact.proofs.Sharing.{each_own, first_fits, no_fits, own_fit, second_fits}
-use Rattle.bpaf_exact.proofs.Sharing.{mine_keyed, others_unkeyed, mine_within, first_within}
-use Rattle.bpaf_exact.proofs.Sharing.{second_within, mine_of_others, mine_none, others_none}
-use Rattle.bpaf_exact.proofs.Sharing.{all_mine, others_both, none_behind}
-use Rattle.bpaf_exact.proofs.{Fronts.all_front, Fronts.never_nil, Names.apart_of_names}
-use Rattle.bpaf_text.specs.Named.{Named as Key, KeyWithValue}
+use Rattle.bpaf_exact.proofs.Sharing.{apart_none, mine_rest, no_fits, others_fit, own_fit, rest_fit}
+use Rattle.bpaf_exact.proofs.Sharing.{each_own, first_fits, mine_keyed, others_rest, others_unkeyed}
+use Rattle.bpaf_exact.proofs.Sharing.{all_mine, first_within, mine_none, second_fits, second_within}
+use Rattle.bpaf_exact.proofs.{Names.apart_of_names, Sharing.mine_of_others, Sharing.mine_within}
+use Rattle.bpaf_exact.proofs.Sharing.{none_behind, others_both, others_none}
+use Rattle.bpaf_exact.proofs.Fronts.{all_front, never_nil}
+use Rattle.bpaf_exact.specs.Flat.{ByName, FieldKind, FieldsReading, back, both_reading, front, keys}
+use Rattle.bpaf_exact.specs.Leaves.{ArgumentValue, FlagValue, argument_field, flag_field, key_field}
+use Rattle.bpaf_exact.specs.Pieces.{LinePiece, One, Roles, either, is_own, mine, no_roles, others}
+use Rattle.bpaf_exact.specs.ProgramForm.{FormLaw, ProgramForm, alternative, before_commands, single}
+use Rattle.bpaf_exact.specs.ProgramForm.{commands, complete, no_program, program_closed, program_if}
+use Rattle.bpaf_exact.specs.ProgramForm.{completed, program_choice, program_field, program_optional}
+use Rattle.bpaf_exact.specs.ProgramForm.{is_named, may_follow, product, program_alone, program_both}
+use Rattle.bpaf_exact.specs.Says.{AllOwn, Fits, FlagSays, SaidKind, form_kind, keyed, repeated_kind}
+use Rattle.bpaf_exact.specs.Says.{ArgumentSays, Said, says_absent, says_present, says_variable_text}
+use Rattle.bpaf_exact.specs.Says.{WordSays, of_kind, says_text, says_that, says_this, says_variable}
+use Rattle.bpaf_exact.specs.Says.{EitherSays, FallbackSays, OptionalSays, says_last_text, says_some}
+use Rattle.bpaf_exact.specs.Says.{FrontSays, MadeSays, says_in_turn, says_kept, says_none, says_own}
+use Rattle.bpaf_exact.specs.Says.{FieldsFormSays, FieldsSay, FormSays, RepeatSays, Says, says_alone}
+use Rattle.bpaf_exact.specs.Single.{FrontOf, Gap, Groups, Own, OwnList, listed_and_absent, own_none}
+use Rattle.bpaf_exact.specs.Single.{SingleValue, gap_of, listed, only_absent, own_more, repeated}
+use Rattle.bpaf_exact.specs.{Alternative.either_value, Leaves.flag_roles, ProgramForm.whole_program}
+use Rattle.bpaf_exact.specs.{Leaves.argument_group, ProgramForm.program_con, Wrappers.OptionalValue}
+use Rattle.bpaf_exact.specs.{Leaves.argument_roles, Names.are_all_apart, Wrappers.FallbackValue}
+use Rattle.bpaf_exact.specs.{Flat.OneWord, Leaves.WordValue, Record.last_reading, Says.words_after}
+use Rattle.bpaf_exact.specs.{Says.FieldsSaid, Says.RecordSays, Says.its_pieces, Wrappers.Closure}
+use Rattle.bpaf_exact.specs.{Flat.Variables, Leaves.word_by, Names.Owns, Pieces.Two}
 
 -- Leaves.
 
@@ -44,6 +42,16 @@ front_says : {T : Type 0} (value : LinePiece → T → Type 0) {said : Said T}
     → FrontOf T value os v rest → FrontSays said os v rest
 front_says value each os rest v h =
     record { part = h.0 ∷ []; is = h.1; some = λ e. cc; told = each h.0 v h.2 }
+
+-- a key, where each of its pieces, its groups and what stands for none say so
+key_says : {T : Type 0} {said : Said T} {names : List Names} (wide may_choose : Bool) (q : Roles)
+    {each : LinePiece → T → Type 0} {group : Groups T} (gap : Gap T)
+    → ((o : LinePiece) (v : T) → each o v → said (o ∷ []) v)
+    → ((os rest : List LinePiece) (v : T) → group os v rest → FrontSays said os v rest)
+    → ((v : T) → gap.absent v → said [] v)
+    → Says names (key_field wide may_choose q each group gap) (of_kind ByName) said
+key_says wide true q gap piece groups none = record { by = (refl, piece) }
+key_says wide false q gap piece groups none = record { by = (refl, groups, none) }
 
 -- a flag
 module _ {T : Type 0} (clones : T → T → Type 0) (present : T) where
@@ -61,24 +69,14 @@ module _ {T : Type 0} (clones : T → T → Type 0) (present : T) where
   flag_gap_says (Some a) None v m = says_absent a refl refl refl m
   flag_gap_says absent (Some text) v m = says_variable text refl refl m
 
-  -- whichever it may be
-  key_says : {names : List Names} (wide may_choose : Bool) (key : Key) {absent : Option T}
-      {set : Option (List ℕ)}
-      → Says names (key_field wide may_choose (flag_roles key.names) (FlagValue (clones present))
-      (FrontOf T (FlagValue (clones present)))
-      (gap_of clones (value_without_key present absent set))) (of_kind ByName)
-      (FlagSays clones present absent set)
-  key_says wide true key = record { by = (refl, present_piece) }
-  key_says wide false key {absent} {set} = record {
-    by = (refl, front_says (FlagValue (clones present)) present_piece, flag_gap_says absent set);
-  }
-
   -- so it is with its field
   pub flag_says : {names : List Names} (key : Key) (absent : Option T) (variables : Variables)
       → Says names (flag_field clones key present absent variables) (of_kind ByName)
       (FlagSays clones present absent (first_set variables key.envs))
   flag_says key absent variables =
-      key_says (not (is_nil key.envs)) (is_nil key.envs && is_none absent) key
+      key_says (not (is_nil key.envs)) (is_nil key.envs && is_none absent) (flag_roles key.names) _
+      present_piece (front_says (FlagValue (clones present)) present_piece)
+      (flag_gap_says absent (first_set variables key.envs))
 
 -- an argument
 module _ {T : Type 0} (means : List ℕ → T → Type 0) where
@@ -105,23 +103,16 @@ module _ {T : Type 0} (means : List ℕ → T → Type 0) where
   argument_gap_says None v m = absurd m
   argument_gap_says (Some text) v m = says_variable_text text refl refl m
 
-  -- whichever it may be
-  option_says : {names : List Names} (wide may_choose : Bool) (argument : KeyWithValue)
-      {set : Option (List ℕ)}
-      → Says names (key_field wide may_choose (argument_roles argument.adjacent
-      argument.named.names) (ArgumentValue means) (argument_group means argument.last)
-      (gap_of means set)) (of_kind ByName) (ArgumentSays means argument.last set)
-  option_says wide true argument = record { by = (refl, pair_piece) }
-  option_says wide false argument {set} =
-      record { by = (refl, argument_group_says argument.last, argument_gap_says set) }
-
   -- so it is with its field
   pub argument_says : {names : List Names} (argument : KeyWithValue) (variables : Variables)
       → Says names (argument_field means argument variables) (of_kind ByName)
       (ArgumentSays means argument.last (first_set variables argument.named.envs))
   argument_says argument variables =
-      option_says (argument.adjacent || not (is_nil argument.named.envs))
-      (is_nil argument.named.envs && not argument.last) argument
+      key_says (argument.adjacent || not (is_nil argument.named.envs))
+      (is_nil argument.named.envs && not argument.last)
+      (argument_roles argument.adjacent argument.named.names) _ pair_piece
+      (argument_group_says argument.last)
+      (argument_gap_says (first_set variables argument.named.envs))
 
 -- what the value of a word by itself says
 pub word_says : {T : Type 0} (accepts : Bool → Bool) (means : List ℕ → T → Type 0) (o : LinePiece)
@@ -227,7 +218,7 @@ module _ {T : Type 0} (said : Said T) (group : Groups T) (gap : Gap T)
       own_more (fronts os rest v g) (turns_say rest vs more)
 
   -- the values of a repeat
-  list_says : (os : List LinePiece) (vs : List T) → OwnList T group gap os vs
+  pub list_says : (os : List LinePiece) (vs : List T) → OwnList T group gap os vs
       → RepeatSays said os vs
   list_says os vs (listed h o) = says_in_turn (turns_say os vs o)
   list_says os (v ∷ vs) (listed_and_absent h a o) = says_in_turn (turns_say os (v ∷ vs) o)
@@ -240,27 +231,29 @@ module _ {T : Type 0} (said : Said T) (group : Groups T) (gap : Gap T)
   optional_by os None e = says_none refl e.0
 
   -- one, or what stands in its place
-  fallback_by : (f : Closure (Unit {0}) T) (os : List LinePiece) (v : T)
+  pub fallback_by : (f : Closure (Unit {0}) T) (os : List LinePiece) (v : T)
       → FallbackValue T group gap f os v → FallbackSays said (f.yes tt) os v
   fallback_by f os v (inl h) = says_own (whole_says os v h)
   fallback_by f os v (inr e) = says_kept e.0 e.2
 
 -- a repeat or default round a field, of which each value says so
-whole_form_says : {T B : Type 0} {kind : FieldKind → FieldKind} (lift : SaidKind → SaidKind)
+pub whole_form_says : {T B : Type 0} {kind : FieldKind → FieldKind} (lift : SaidKind → SaidKind)
     → ((k : FieldKind) → lift (of_kind k) ≡ of_kind (kind k))
     → (value : Groups T → Gap T → List LinePiece → B → Type 0) {said : Said T} (whole : Said B)
     → ((group : Groups T) (gap : Gap T) → ((os rest : List LinePiece) (v : T) → group os v rest
     → FrontSays said os v rest) → ((v : T) → gap.absent v
     → said [] v) → (os : List LinePiece) (v : B) → value group gap os v → whole os v)
-    → (names : List Names) (j : SaidKind) (s : ProgramForm T) → FormSays names s j said
-    → FormSays names (completed kind value s) (lift j) whole
-whole_form_says lift lifts value whole each names j (alternative wide q one) h = (
-  ap lift h.0 ∙ lifts ByName,
-  λ os v all. each _ _ (front_says one h.1) (λ v none. absurd none) os v,
-)
-whole_form_says lift lifts value whole each names j (single wide k q group gap) h =
-    (ap lift h.0 ∙ lifts k, λ os v all. each group gap h.1 h.2 os v)
-whole_form_says lift lifts value whole each names j _ h = tt
+    → {names : List Names} {j : SaidKind} {s : ProgramForm T} → Says names s j said
+    → Says names (completed kind value s) (lift j) whole
+whole_form_says lift lifts value whole each {s = alternative wide q one} h = record {
+  by = (
+    ap lift h.by.0 ∙ lifts ByName,
+    λ os v all. each _ _ (front_says one h.by.1) (λ v none. absurd none) os v,
+  );
+}
+whole_form_says lift lifts value whole each {s = single wide k q group gap} h =
+    record { by = (ap lift h.by.0 ∙ lifts k, λ os v all. each group gap h.by.1 h.by.2 os v) }
+whole_form_says lift lifts value whole each h = record { by = tt }
 
 -- own items are those with one of these names
 abbrev pub FormOwns : {T : Type 0} → List Names → ProgramForm T → Type 0
@@ -295,60 +288,24 @@ field_says {s = product wide true q fields} {names} own h = record {
 field_says {s = product wide false q fields} own h = record { by = h.by }
 field_says {s = commands optional value} own h = absurd h.by
 field_says {s = before_commands value} own h = absurd h.by
-field_says {T} {s} {kind} {names} {said} own h = record {
-  by = whole_form_says (λ j. j) (λ k. refl) (SingleValue T) said (whole_says said)
-      names kind s h.by;
-}
+field_says {T} {said} own h =
+    whole_form_says (λ j. j) (λ k. refl) (SingleValue T) said (whole_says said) h
 
 -- under `optional`
 pub optional_says : {T : Type 0} {s : ProgramForm T} {kind : SaidKind} {names : List Names}
     {said : Said T} → Says names s kind said → Says names (program_optional s) kind
     (OptionalSays said)
 optional_says {s = commands optional value} h = absurd h.by
-optional_says {T} {s} {kind} {names} {said} h = record {
-  by = whole_form_says (λ j. j) (λ k. refl) (OptionalValue T) (OptionalSays said)
-      (optional_by said) names kind s h.by;
-}
-
--- under a fallback
-pub fallback_says : {T : Type 0} (f : Closure (Unit {0}) T) {s : ProgramForm T} {kind : SaidKind}
-    {names : List Names} {said : Said T} → Says names s kind said
-    → Says names (completed (λ k. k) (λ group gap. FallbackValue T group gap f) s) kind
-    (FallbackSays said (f.yes tt))
-fallback_says {T} f {s} {said} h = record {
-  by = whole_form_says (λ j. j) (λ k. refl) (λ group gap. FallbackValue T group gap f)
-      (FallbackSays said (f.yes tt))
-      (λ group gap fronts absent. fallback_by said group gap fronts absent f) _ _ s h.by;
-}
-
--- under a repeat, as a list
-repeat_says : {T : Type 0} {s : ProgramForm T} {kind : SaidKind} {names : List Names}
-    {said : Said T} → Says names s kind said
-    → Says names (completed repeated (OwnList T) s) (repeated_kind kind) (RepeatSays said)
-repeat_says {T} {s} {said} h = record {
-  by = whole_form_says repeated_kind (λ k. refl) (OwnList T) (RepeatSays said)
-      (list_says said) _ _ s h.by;
-}
+optional_says {T} {said} h =
+    whole_form_says (λ j. j) (λ k. refl) (OptionalValue T) (OptionalSays said) (optional_by said) h
 
 -- under `many`, `some`, `collect` or `count`
 pub listed_says : {T B : Type 0} (f : Closure (List T) B) {s : ProgramForm T} {kind : SaidKind}
     {names : List Names} {said : Said T} → Says names s kind said
     → Says names (program_closed f (completed repeated (OwnList T) s)) (repeated_kind kind)
     (MadeSays (RepeatSays said) f)
-listed_says f h = closed_says (repeat_says h)
-
--- under `last`
-pub last_says : {T : Type 0} {s : ProgramForm T} {kind : SaidKind} {names : List Names}
-    {said : Said T} → Says names s kind said
-    → Says names (completed repeated (LastOf T) s) (repeated_kind kind) (LastSays said)
-last_says {T} {s} {said} h = record {
-  by = whole_form_says repeated_kind (λ k. refl) (LastOf T) (LastSays said)
-      (λ group gap fronts absent os v m. record {
-        values = m.0 ++ v ∷ [];
-        told = list_says said group gap fronts absent os (m.0 ++ v ∷ []) m.1;
-        is = record { before = m.0; is = refl };
-      }) _ _ s h.by;
-}
+listed_says {T} f {said} h = closed_says (whole_form_says repeated_kind (λ k. refl) (OwnList T)
+    (RepeatSays said) (list_says said) h)
 
 -- without `catch`
 pub unless_says : {T : Type 0} (catch : Bool) {s : ProgramForm T} {kind : SaidKind}

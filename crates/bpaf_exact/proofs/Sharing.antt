@@ -1,25 +1,20 @@
 -- Pieces that are shared out by roles are shared out by names.
-use Rattle.std.proofs.Common.{◌≡◌, Bool, true, false, List, [], ◌∷◌, refl, sym, ap, ◌∙◌}
-use Rattle.std.proofs.Common.{if◌then◌else◌, not, ◌++◌, ◌||◌, ◌&&◌, ◌⊎◌, ⊎_elim, inl, inr, ap₂}
-use Rattle.std.proofs.{lemmas.Bool.and_right, lemmas.Bool.not-true, Common.append-nil}
+use Rattle.std.proofs.Common.{Bool, List, false, if◌then◌else◌, not, refl, sym, true, ◌∙◌, ◌∷◌, ◌≡◌}
+use Rattle.std.proofs.Common.{[], ap, append-nil, ap₂, inl, inr, true≢false, ◌&&◌, ◌++◌, ◌||◌, ◌⊎◌}
 use Rattle.std.proofs.{lemmas.List.Elements.filter-append, lemmas.List.Folds.list_any-append}
+use Rattle.std.proofs.lemmas.Bool.{and_right, false_from_ne_true, not-true}
+use Rattle.std.proofs.Common.{⊎_elim}
 use Rattle.std.specs.Prelude.{filter}
-use Rattle.bpaf_base.specs.declared.arg.Arg.TheVariants.{Word, PosWord}
-use Rattle.bpaf_base.specs.{Items.is_key_of, Items.is_positional, declared.arg.Arg.Arg}
-use Rattle.bpaf_exact.specs.Pieces.{Cells, Cut, argument, at_end, flag, passed, word, Takes}
-use Rattle.bpaf_exact.specs.Pieces.{no_cells, empty_stays, other_stays, takes_flag, takes_argument}
-use Rattle.bpaf_exact.specs.Pieces.{Role, Foreign, Roles, LinePiece, One, Two, is_own_role, is_own}
-use Rattle.bpaf_exact.specs.Pieces.{mine, others, either, either_role}
-use Rattle.bpaf_exact.specs.Names.{are_all_apart, Owns, is_key_of_any}
-use Rattle.bpaf_exact.specs.Says.{EachOwn, Fits, first_item, keyed, unkeyed}
-use Rattle.bpaf_exact.specs.{ProgramForm.may_follow, Flat.OneWord}
-use Rattle.bpaf_exact.proofs.Names.{one_list, or_true}
 use Rattle.bpaf_doc.specs.Names.{Names}
-
--- a test that holds of no item fails
-fails : (c : Bool) → (c ≡ true → true ≡ false) → c ≡ false
-fails true h = h refl
-fails false h = refl
+use Rattle.bpaf_base.specs.declared.arg.Arg.TheVariants.{PosWord, Word}
+use Rattle.bpaf_base.specs.{Items.is_key_of, Items.is_positional, declared.arg.Arg.Arg}
+use Rattle.bpaf_exact.proofs.Names.{one_list, or_true}
+use Rattle.bpaf_exact.specs.Pieces.{Cells, Takes, argument, at_end, empty_stays, flag, passed, word}
+use Rattle.bpaf_exact.specs.Pieces.{Cut, Foreign, no_cells, other_stays, takes_argument, takes_flag}
+use Rattle.bpaf_exact.specs.Pieces.{LinePiece, One, Roles, Two, either, is_own, is_own_role, others}
+use Rattle.bpaf_exact.specs.Says.{EachOwn, Fits, first_item, keyed, unkeyed}
+use Rattle.bpaf_exact.specs.{Names.are_all_apart, Names.is_key_of_any, ProgramForm.may_follow}
+use Rattle.bpaf_exact.specs.{Flat.OneWord, Names.Owns, Pieces.Role, Pieces.either_role, Pieces.mine}
 
 -- two tests that hold of the same are one
 same_truth : (a b : Bool) → (a ≡ true → b ≡ true) → (b ≡ true → a ≡ true) → a ≡ b
@@ -114,7 +109,8 @@ module _ (r : Roles) (names : List Names) where
         let own = ap is_own_role e in (own ∙ sym (owned.own k own), cut_fit c)
     cut_fit (word {w} h c) =
         let none = no_key names w h in (
-          fails (is_own_role (r w)) (λ e. sym (owned.own w e) ∙ none) ∙ sym none,
+          false_from_ne_true (is_own_role (r w)) (λ e. true≢false (sym (owned.own w e) ∙ none))
+              ∙ sym none,
           cut_fit c,
         )
 
@@ -238,7 +234,7 @@ others_both q r = kept_twice (λ o. not (is_own r o)) (λ o. not (is_own q o))
 pub none_behind : {r : Roles} (own behind : List Names) → Owns r behind
     → may_follow (OneWord false) own behind ≡ true → (k : Arg) → is_own_role (r k) ≡ false
 none_behind {r} own [] owned e k =
-    fails (is_own_role (r k)) (λ own. let none = owned.own k own in absurd cc)
+    false_from_ne_true (is_own_role (r k)) (λ own. let none = owned.own k own in cc)
 none_behind own (names ∷ behind) owned e k = absurd cc
 
 -- behind a positional field nothing begins with another's key

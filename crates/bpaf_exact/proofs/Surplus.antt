@@ -46,29 +46,32 @@ closed_no_surplus f (single wide k q group gap) h = λ os rest v g. h os rest g.
 closed_no_surplus f (complete wide k q value) h = λ o p os v i. h o p os i.from i.read
 closed_no_surplus f _ h = tt
 
+-- what a repeat or default makes of a field, where it leaves two without a value, has no surplus
+completed_once : {T B : Type 0} (value : Groups T → Gap T → List LinePiece → B → Type 0)
+    → ((group : Groups T) (gap : Gap T) → OneByOne group → AtMostOne (value group gap))
+    → (s : ProgramForm T) → HasNoSurplus s → HasNoSurplus (completed (λ k. k) value s)
+completed_once value once (alternative wide q each) h = once _ (gap_of each None) (front_one each)
+completed_once value once (single wide k q group gap) h = once group gap h
+completed_once value once _ h = tt
+
 -- a field without a repeat or default has no surplus
 pub field_no_surplus : {T : Type 0} (s : ProgramForm T) → HasNoSurplus s
     → HasNoSurplus (program_field s)
-field_no_surplus (alternative wide q value) h = single_once (gap_of value None) (front_one value)
-field_no_surplus (single wide k q group gap) h = single_once gap h
 field_no_surplus (product wide named q fields) h = absurd h
 field_no_surplus (complete wide k q value) h = h
-field_no_surplus _ h = tt
+field_no_surplus {T} s h = completed_once (SingleValue T) (λ group. single_once) s h
 
 -- nor has what may be left out
 pub optional_no_surplus : {T : Type 0} (s : ProgramForm T) → HasNoSurplus s
     → HasNoSurplus (completed (λ k. k) (OptionalValue T) s)
-optional_no_surplus (alternative wide q value) h = optional_once _ (front_one value)
-optional_no_surplus (single wide k q group gap) h = optional_once gap h
-optional_no_surplus _ h = tt
+optional_no_surplus {T} = completed_once (OptionalValue T) (λ group. optional_once)
 
 -- nor what has a value that stands for it
 pub fallback_no_surplus : {T : Type 0} (f : Closure (Unit {0}) T) (s : ProgramForm T)
     → HasNoSurplus s
     → HasNoSurplus (completed (λ k. k) (λ group gap. FallbackValue T group gap f) s)
-fallback_no_surplus f (alternative wide q value) h = fallback_once _ (front_one value) f
-fallback_no_surplus f (single wide k q group gap) h = fallback_once gap h f
-fallback_no_surplus f _ h = tt
+fallback_no_surplus {T} f = completed_once (λ group gap. FallbackValue T group gap f)
+    (λ group gap one. fallback_once gap one f)
 
 -- whether `catch` is set changes nothing there
 pub unless_no_surplus : {T : Type 0} (catch : Bool) (s : ProgramForm T) → HasNoSurplus s

@@ -1,67 +1,72 @@
 -- Closures, optional and fallback keep to the laws; alternatives are fields, and closures round
 -- them and round single fields are such.
-use Rattle.std.proofs.Common.{◌≡◌, false, List, [], Option, Some, None, Ok, Err, refl, sym, ap, ◌∙◌}
-use Rattle.std.proofs.Common.{subst, inl, inr, ◌∷◌, ◌⊎◌}
-use Rattle.bpaf_line.specs.{declared.error.Error.Error, Situation.Situation}
+use Rattle.std.proofs.Common.{Err, List, None, Ok, Option, Some, [], ap, false, refl, sym, ◌∙◌, ◌≡◌}
+use Rattle.std.proofs.Common.{inl, inr, subst, ⊎_elim, ◌∷◌, ◌⊎◌}
+use Rattle.std.specs.Option.{IsSomeRelated, is_some}
+use Rattle.bpaf_line.specs.{Situation.Situation, declared.error.Error.Error}
 use Rattle.bpaf_laws.specs.Reading.{Outcome}
-use Rattle.bpaf_exact.specs.Flat.{ErrorClass, OfMemory, OfMissing, class, cells, IsWholeIn}
-use Rattle.bpaf_exact.specs.Flat.{FieldKind, ByName, OneWord, EachWord, front, back, NoKeysLeft}
-use Rattle.bpaf_exact.specs.Flat.{FieldTook, FieldLaw, Variables, Refused, Steady}
-use Rattle.bpaf_exact.specs.Single.{Groups, Own, own_none, Readable, Gap, SingleOk, gave_absent}
-use Rattle.bpaf_exact.specs.Single.{took, SingleErr, of_memory, of_missing, of_absent, of_piece}
-use Rattle.bpaf_exact.specs.Single.{ReadsWords, SingleLaw, SingleValue, CanCatch, FrontOf, own_more}
-use Rattle.bpaf_exact.specs.Single.{gap_of, TookGroup, catch_missing}
-use Rattle.bpaf_exact.specs.Wrappers.{Closure, Decides, AgreesOn, ClosedEval, closed_yes, closed_no}
-use Rattle.bpaf_exact.specs.Wrappers.{closed_memory, closed_err, ClosedValue, OptionalEval}
-use Rattle.bpaf_exact.specs.Wrappers.{optional_some, optional_none, optional_err, optional_memory}
-use Rattle.bpaf_exact.specs.Wrappers.{OptionalValue, FallbackEval, fallback_ok, fallback_given}
-use Rattle.bpaf_exact.specs.Wrappers.{fallback_no, fallback_memory, fallback_err, FallbackValue}
-use Rattle.bpaf_exact.specs.Pieces.{Roles, LinePiece, pieces, takes_none}
-use Rattle.bpaf_exact.specs.Alternative.{TakesFirst, HasBad, bad_here, bad_later, AlternativeOk}
-use Rattle.bpaf_exact.specs.Alternative.{AlternativeErr, alternative_memory, alternative_missing}
-use Rattle.bpaf_exact.specs.Alternative.{alternative_refused, AlternativeLaw}
-use Rattle.bpaf_exact.specs.Wrappers.{closed_gap}
-use Rattle.bpaf_exact.proofs.Repeat.{any_some, same_takes, catch_none, stopped_by, stops_by}
-use Rattle.bpaf_exact.proofs.First.{first_pieces, first_takes, takes_nonempty, bad_given_back}
+use Rattle.bpaf_exact.proofs.First.{first_pieces, first_takes, head_stays, takes_nonempty}
+use Rattle.bpaf_exact.proofs.Repeat.{any_some, catch_none, same_takes, stopped_by, stops_by}
 use Rattle.bpaf_exact.proofs.{Fronts.back_all, Fronts.no_keys_left, Product.steady_refl}
-use Rattle.bpaf_exact.proofs.First.{bad_nonempty}
-use Rattle.std.specs.Option.{is_some, IsSomeRelated}
+use Rattle.bpaf_exact.specs.Alternative.{AlternativeErr, AlternativeOk, HasBad, bad_here, bad_later}
+use Rattle.bpaf_exact.specs.Alternative.{AlternativeLaw, alternative_missing, alternative_refused}
+use Rattle.bpaf_exact.specs.Flat.{ByName, ErrorClass, FieldKind, IsWholeIn, OfMissing, cells, class}
+use Rattle.bpaf_exact.specs.Flat.{EachWord, FieldTook, NoKeysLeft, OfMemory, Variables, back, front}
+use Rattle.bpaf_exact.specs.Single.{Gap, Groups, Own, Readable, SingleErr, SingleOk, own_none, took}
+use Rattle.bpaf_exact.specs.Single.{CanCatch, SingleLaw, of_absent, of_memory, of_missing, of_piece}
+use Rattle.bpaf_exact.specs.Single.{FrontOf, ReadsWords, SingleValue, gap_of, gave_absent, own_more}
+use Rattle.bpaf_exact.specs.Wrappers.{AgreesOn, ClosedEval, Closure, Decides, closed_no, closed_yes}
+use Rattle.bpaf_exact.specs.Wrappers.{closed_memory, fallback_given, optional_memory, optional_some}
+use Rattle.bpaf_exact.specs.Wrappers.{ClosedValue, closed_err, closed_gap, fallback_no, fallback_ok}
+use Rattle.bpaf_exact.specs.Wrappers.{FallbackValue, OptionalValue, fallback_memory, optional_none}
+use Rattle.bpaf_exact.specs.Wrappers.{FallbackEval, OptionalEval, fallback_err, optional_err}
+use Rattle.bpaf_exact.specs.{Alternative.FirstUnread, Alternative.alternative_memory, Flat.FieldLaw}
+use Rattle.bpaf_exact.specs.{Alternative.TakesFirst, Pieces.takes_none, Single.catch_missing}
+use Rattle.bpaf_exact.specs.{Flat.OneWord, Pieces.LinePiece, Pieces.pieces, Single.TookGroup}
+use Rattle.bpaf_exact.specs.{Flat.Keeps, Flat.Refused, Flat.Steady, Pieces.Cells, Pieces.Roles}
+
+-- what a closure makes of an outcome keeps to what follows of each answer inside
+pub closed_keeps : {env : Variables} {A B : Type 0} {inner : Outcome A} {f : Closure A B}
+    (c : ErrorClass) {gives : Situation → A → Situation → Type 0}
+    {gave : Situation → B → Situation → Type 0}
+    {refuses refused : Situation → ErrorClass → Situation → Type 0} → Keeps env A inner gives refuses
+    → ((s t : Situation) (x : A) (v : B) → gives s x t → f.yes x v → gave s v t)
+    → ((s t : Situation) (x : A) → gives s x t → f.no x → refused s c t)
+    → ((s t : Situation) → refused s OfMemory t)
+    → ((s t : Situation) (d : ErrorClass) → refuses s d t → refused s d t)
+    → Keeps env B (ClosedEval A B inner f c) gave refused
+closed_keeps {env} {A} {B} {inner} {f} c {gave} {refused} l accepts declines wants fails =
+    record { ok = by_ok; err = by_err }
+  where
+    by_ok : (s t : Situation) (v : B) → IsWholeIn env s → ClosedEval A B inner f c s (Ok v) t
+        → gave s v t
+    by_ok s t v w (closed_yes {x} i y) = accepts s t x v (l.ok s t x w i) y
+
+    by_err : (s t : Situation) (e : Error) → IsWholeIn env s
+        → ClosedEval A B inner f c s (Err e) t → refused s (class e) t
+    by_err s t e w (closed_no {x} i n g) =
+        subst (λ z. refused s z t) (sym g) (declines s t x (l.ok s t x w i) n)
+    by_err s t e w (closed_memory i m) = subst (λ z. refused s z t) (sym m) (wants s t)
+    by_err s t e w (closed_err i) = fails s t (class e) (l.err s t e w i)
 
 -- outer closures
 module _ {env : Variables} {A B : Type 0} {inner : Outcome A} {k : FieldKind} {q : Roles}
     {value : List LinePiece → A → Type 0} (l : FieldLaw env A inner k q value) {f : Closure A B}
     (agrees : (os : List LinePiece) → AgreesOn (value os) f) (c : ErrorClass) where
-  -- a value that the closure gave
-  closed_ok : (s t : Situation) (v : B) → IsWholeIn env s → ClosedEval A B inner f c s (Ok v) t
-      → FieldTook B k q (ClosedValue value f) s v t
-  closed_ok s t v w (closed_yes {x} i y) =
-      let a = l.ok s t x w i in
-      record {
-        steady = a.steady;
-        takes = a.takes;
-        read = λ n. record { from = x; read = a.read n; made = y };
-        rest = a.rest;
-      }
-
-  -- where the portion has a value it takes all,
-  closed_takes : (s t : Situation) (u v : B) → IsWholeIn env s → ClosedEval A B inner f c s (Ok u) t
-      → ClosedValue value f (front k (pieces q (cells s))) v → NoKeysLeft k q (cells t)
-  closed_takes s t u v w (closed_yes {x} i y) h = l.takes_all s t x h.from w i h.read
-
-  -- and a refusal is want of memory
-  closed_refuses : (s t : Situation) (e : Error) (v : B) → IsWholeIn env s
-      → ClosedEval A B inner f c s (Err e) t
-      → ClosedValue value f (front k (pieces q (cells s))) v → class e ≡ OfMemory
-  closed_refuses s t e v w (closed_no {x} i n g) h =
-      let read = (l.ok s t x w i).read (l.takes_all s t x h.from w i h.read) in
-      absurd (agrees (front k (pieces q (cells s))) h.from x v h.read read h.made n)
-  closed_refuses s t e v w (closed_memory i m) h = m
-  closed_refuses s t e v w (closed_err i) h = l.refuses s t e h.from w i h.read
-
   -- a closure round a field is one
   pub closed_law : FieldLaw env B (ClosedEval A B inner f c) k q (ClosedValue value f)
-  closed_law =
-      record { own = l.own; ok = closed_ok; takes_all = closed_takes; refuses = closed_refuses }
+  closed_law = record {
+    own = l.own;
+    keeps = closed_keeps c l.keeps (λ s t x v a y. record {
+      steady = a.steady;
+      takes = a.takes;
+      read = λ n. record { from = x; read = a.read n; made = y };
+      rest = a.rest;
+      all = λ w h. a.all h.from h.read;
+    }) (λ s t x a n w h. absurd (agrees (front k (pieces q (cells s))) h.from x w h.read
+        (a.read (a.all h.from h.read)) h.made n)) (λ s t w h. refl)
+        (λ s t d r w h. r h.from h.read);
+  }
 
 module _ {env : Variables} {T : Type 0} {inner : Outcome T} {k : FieldKind} {q : Roles}
     {group : Groups T} {gap : Gap T} (l : SingleLaw env T inner k q group gap) where
@@ -80,22 +85,6 @@ module _ {env : Variables} {T : Type 0} {inner : Outcome T} {k : FieldKind} {q :
       u.by_front (pieces q (cells s)) v (pieces q (cells t)) (up tt)
   took_read (EachWord b) s t u n up = absurd u
 
-  -- one evaluation, as that of a field
-  single_took : {s t : Situation} {v : T} → SingleOk T k q group gap s v t
-      → FieldTook T k q (SingleValue T group gap) s v t
-  single_took (gave_absent h p ab same st) = record {
-    steady = st;
-    takes = same_takes same;
-    read = λ n. inr (p, ab);
-    rest = λ n. nothing_left p (ap (pieces q) same);
-  }
-  single_took {s} {t} (took h) = record {
-    steady = h.steady;
-    takes = any_some h.takes;
-    read = λ n. inl (took_read k s t l.words n h.read).0;
-    rest = λ n. (took_read k s t l.words n h.read).1;
-  }
-
   -- what the front means the pieces mean
   of_front : (z : FieldKind) {os : List LinePiece} {v : T} → ReadsWords z group
       → group (front z os) v [] → group os v (back z os)
@@ -108,16 +97,33 @@ module _ {env : Variables} {T : Type 0} {inner : Outcome T} {k : FieldKind} {q :
   not_empty os {v} e g = l.starts v [] (subst (λ z. group z v []) e g)
 
   -- where the portion has a value, all is taken
-  ok_takes : {s t : Situation} {v w : T} → SingleOk T k q group gap s v t
+  took_takes : {s t : Situation} {v w : T} → TookGroup T k q group s v t
       → SingleValue T group gap (front k (pieces q (cells s))) w
       → pieces q (cells t) ≡ back k (pieces q (cells s))
-  ok_takes (gave_absent h p ab same st) view = nothing_left p (ap (pieces q) same)
-  ok_takes {w} (took h) (inl g) = (h.readable w _ (of_front k l.words g)).1
-  ok_takes (took h) (inr e) = absurd (h.found e.0)
+  took_takes {w} h (inl g) = (h.readable w _ (of_front k l.words g)).1
+  took_takes h (inr e) = absurd (h.found e.0)
+
+  -- one evaluation, as that of a field
+  single_took : {s t : Situation} {v : T} → SingleOk T k q group gap s v t
+      → FieldTook T k q (SingleValue T group gap) s v t
+  single_took {t} (gave_absent h p ab same st) = record {
+    steady = st;
+    takes = same_takes same;
+    read = λ n. inr (p, ab);
+    rest = λ n. nothing_left p (ap (pieces q) same);
+    all = λ w g. no_keys_left k q (cells t) _ (nothing_left p (ap (pieces q) same));
+  }
+  single_took {s} {t} (took h) = record {
+    steady = h.steady;
+    takes = any_some h.takes;
+    read = λ n. inl (took_read k s t l.words n h.read).0;
+    rest = λ n. (took_read k s t l.words n h.read).1;
+    all = λ w g. no_keys_left k q (cells t) _ (took_takes h g);
+  }
 
   -- and a refusal is want of memory
-  err_gives : {s t : Situation} {e : Error} {w : T} → SingleErr T k q group gap s e t
-      → SingleValue T group gap (front k (pieces q (cells s))) w → class e ≡ OfMemory
+  err_gives : {s t : Situation} {c : ErrorClass} {w : T} → SingleErr T k q group gap s c t
+      → SingleValue T group gap (front k (pieces q (cells s))) w → c ≡ OfMemory
   err_gives (of_memory c) v = c
   err_gives (of_missing c h p same) (inl g) = absurd (not_empty _ p g)
   err_gives {w} (of_missing c h p same) (inr x) = absurd (l.no_absent w h x.1)
@@ -126,140 +132,127 @@ module _ {env : Variables} {T : Type 0} {inner : Outcome T} {k : FieldKind} {q :
   err_gives {w} (of_piece c ne n) (inl g) = absurd (n w _ (of_front k l.words g))
   err_gives (of_piece c ne n) (inr x) = absurd (ne x.0)
 
-  -- so it is of each answer
-  single_takes : (s t : Situation) (v w : T) → IsWholeIn env s → inner s (Ok v) t
-      → SingleValue T group gap (front k (pieces q (cells s))) w → NoKeysLeft k q (cells t)
-  single_takes s t v w h i g = no_keys_left k q (cells t) _ (ok_takes (l.ok s t v h i) g)
-
   -- a field without a repeat or default keeps to the laws of a field
   pub single_law : FieldLaw env T inner k q (SingleValue T group gap)
   single_law = record {
     own = l.own;
-    ok = λ s t v w i. single_took (l.ok s t v w i);
-    takes_all = single_takes;
-    refuses = λ s t e w h i g. err_gives (l.err s t e h i) g;
+    keeps = record {
+      ok = λ s t v w i. single_took (l.keeps.ok s t v w i);
+      err = λ s t e w i v g. err_gives (l.keeps.err s t e w i) g;
+    };
   }
 
   -- optional
-
-  -- a value that may be left out
-  optional_ok : (s t : Situation) (v : Option T) → IsWholeIn env s → OptionalEval T inner s (Ok v) t
-      → FieldTook (Option T) k q (OptionalValue T group gap) s v t
-  optional_ok s t v w (optional_some {v = x} i) =
-      let a = single_took (l.ok s t x w i) in
-      record { steady = a.steady; takes = a.takes; read = λ n. a.read n; rest = a.rest }
-  optional_ok s t v w (optional_none {e} {m} i h) =
-      let a = catch_none (stopped_by h) (l.err s m e w i) in
-      record {
-        steady = steady_refl;
-        takes = takes_none;
-        read = λ n. (a.1, a.0);
-        rest = λ n. nothing_left a.1 refl;
-      }
-
-  -- where the portion has a value, Some took all
-  some_takes : {s t : Situation} {x : T} (v : Option T) → IsWholeIn env s → inner s (Ok x) t
-      → SingleOk T k q group gap s x t → OptionalValue T group gap (front k (pieces q (cells s))) v
-      → NoKeysLeft k q (cells t)
-  some_takes {s} {t} {x} (Some y) w i o g = single_takes s t x y w i g
-  some_takes None w i (gave_absent h p ab same st) n = let b = n.1 in absurd cc
-  some_takes None w i (took h) n = absurd (h.found n.0)
 
   -- None took all that is there
   none_takes : (s : Situation) → front k (pieces q (cells s)) ≡ [] → NoKeysLeft k q (cells s)
   none_takes s none = no_keys_left k q (cells s) _ (nothing_left none refl)
 
+  -- where the portion has a value, Some took all
+  some_takes : {s t : Situation} {x : T} (v : Option T) → SingleOk T k q group gap s x t
+      → OptionalValue T group gap (front k (pieces q (cells s))) v → NoKeysLeft k q (cells t)
+  some_takes (Some y) o g = (single_took o).all y g
+  some_takes None (gave_absent h p ab same st) n = let b = n.1 in absurd cc
+  some_takes None (took h) n = absurd (h.found n.0)
+
+  -- a value that may be left out
+  optional_ok : (s t : Situation) (v : Option T) → IsWholeIn env s → OptionalEval T inner s (Ok v) t
+      → FieldTook (Option T) k q (OptionalValue T group gap) s v t
+  optional_ok s t v w (optional_some {v = x} i) =
+      let o = l.keeps.ok s t x w i in
+      let a = single_took o in
+      record {
+        steady = a.steady;
+        takes = a.takes;
+        read = λ n. a.read n;
+        rest = a.rest;
+        all = λ u g. some_takes u o g;
+      }
+  optional_ok s t v w (optional_none {e} {m} i h) =
+      let a = catch_none (stopped_by h) (l.keeps.err s m e w i) in
+      record {
+        steady = steady_refl;
+        takes = takes_none;
+        read = λ n. (a.1, a.0);
+        rest = λ n. nothing_left a.1 refl;
+        all = λ u g. none_takes s a.1;
+      }
+
   -- where nothing is there, what isn't caught is want of memory
-  none_fails : {s t : Situation} {e : Error}
-      → (CanCatch e → (class e ≡ OfMissing → cells t ≡ cells s) → ⊥)
-      → front k (pieces q (cells s)) ≡ [] → gap.has ≡ false → SingleErr T k q group gap s e t
-      → class e ≡ OfMemory
+  none_fails : {s t : Situation} {c : ErrorClass}
+      → (CanCatch c → (c ≡ OfMissing → cells t ≡ cells s) → ⊥)
+      → front k (pieces q (cells s)) ≡ [] → gap.has ≡ false → SingleErr T k q group gap s c t
+      → c ≡ OfMemory
   none_fails n p b (of_memory c) = c
   none_fails n p b (of_missing c g p' same) = absurd (n c same)
   none_fails n p b (of_absent c g p' x) = absurd cc
   none_fails n p b (of_piece c ne x) = absurd (ne p)
 
-  -- where the portion has a value, all is taken
-  optional_takes : (s t : Situation) (u v : Option T) → IsWholeIn env s
-      → OptionalEval T inner s (Ok u) t → OptionalValue T group gap (front k (pieces q (cells s))) v
-      → NoKeysLeft k q (cells t)
-  optional_takes s t u v w (optional_some {v = x} i) g = some_takes v w i (l.ok s t x w i) g
-  optional_takes s t u v w (optional_none {e} {m} i h) g =
-      none_takes s (catch_none (stopped_by h) (l.err s m e w i)).1
-
-  -- and a refusal is want of memory
-  optional_refuses : (s t : Situation) (e : Error) (v : Option T) → IsWholeIn env s
-      → OptionalEval T inner s (Err e) t
+  -- where the portion has a value, a refusal is want of memory
+  optional_refuses : (s t : Situation) (e : Error) → IsWholeIn env s
+      → OptionalEval T inner s (Err e) t → (v : Option T)
       → OptionalValue T group gap (front k (pieces q (cells s))) v → class e ≡ OfMemory
-  optional_refuses s t e (Some y) w (optional_err i n) g = err_gives (l.err s t e w i) g
-  optional_refuses s t e None w (optional_err i n) g =
-      none_fails (λ c same. n (stops_by c same)) g.0 g.1 (l.err s t e w i)
-  optional_refuses s t e v w (optional_memory c) g = c
+  optional_refuses s t e w (optional_err i n) (Some y) g = err_gives (l.keeps.err s t e w i) g
+  optional_refuses s t e w (optional_err i n) None g =
+      none_fails (λ c same. n (stops_by c same)) g.0 g.1 (l.keeps.err s t e w i)
+  optional_refuses s t e w (optional_memory c) v g = c
 
   -- what may be left out keeps to the laws of a field
   pub optional_law : FieldLaw env (Option T) (OptionalEval T inner) k q (OptionalValue T group gap)
-  optional_law = record {
-    own = l.own;
-    ok = optional_ok;
-    takes_all = optional_takes;
-    refuses = optional_refuses;
-  }
+  optional_law = record { own = l.own; keeps = record { ok = optional_ok; err = optional_refuses } }
 
   -- fallback
 
   module _ {f : Closure (Unit {0}) T} (decides : Decides f) where
+    -- an own value took all that has a value
+    own_takes : {s t : Situation} {v w : T} → SingleOk T k q group gap s v t
+        → FallbackValue T group gap f (front k (pieces q (cells s))) w → NoKeysLeft k q (cells t)
+    own_takes {w} o (inl g) = (single_took o).all w g
+    own_takes (gave_absent g p ab same st) (inr e) = let h = e.1 in absurd cc
+    own_takes (took g) (inr e) = absurd (g.found e.0)
+
     fallback_took : (s t : Situation) (v : T) → IsWholeIn env s → FallbackEval T inner f s (Ok v) t
         → FieldTook T k q (FallbackValue T group gap f) s v t
     fallback_took s t v w (fallback_ok i) =
-        let a = single_took (l.ok s t v w i) in
-        record { steady = a.steady; takes = a.takes; read = λ n. inl (a.read n); rest = a.rest }
+        let o = l.keeps.ok s t v w i in
+        let a = single_took o in
+        record {
+          steady = a.steady;
+          takes = a.takes;
+          read = λ n. inl (a.read n);
+          rest = a.rest;
+          all = λ u g. own_takes o g;
+        }
     fallback_took s t v w (fallback_given {e} {m} i h y) =
-        let a = catch_none h (l.err s m e w i) in
+        let a = catch_none h (l.keeps.err s m e w i) in
         record {
           steady = steady_refl;
           takes = takes_none;
           read = λ n. inr (a.1, a.0, y);
           rest = λ n. nothing_left a.1 refl;
+          all = λ u g. none_takes s a.1;
         }
-
-    kept_ok : {s t : Situation} {v : T} → front k (pieces q (cells s)) ≡ [] → gap.has ≡ false
-        → SingleOk T k q group gap s v t → ⊥
-    kept_ok e h (gave_absent g p ab same st) = cc
-    kept_ok e h (took g) = g.found e
 
     own_missing : (s : Situation) {v : T} → (gap.has ≡ false) × (front k (pieces q (cells s)) ≡ [])
         → SingleValue T group gap (front k (pieces q (cells s))) v → ⊥
     own_missing s a (inl z) = not_empty _ a.1 z
     own_missing s {v} a (inr z) = l.no_absent v a.0 z.1
 
-    -- where the portion has a value, all is taken
-    fallback_takes : (s t : Situation) (u v : T) → IsWholeIn env s
-        → FallbackEval T inner f s (Ok u) t
-        → FallbackValue T group gap f (front k (pieces q (cells s))) v → NoKeysLeft k q (cells t)
-    fallback_takes s t u v w (fallback_ok i) (inl g) = single_takes s t u v w i g
-    fallback_takes s t u v w (fallback_ok i) (inr e) = absurd (kept_ok e.0 e.1 (l.ok s t u w i))
-    fallback_takes s t u v w (fallback_given {e} {m} i h y) g =
-        none_takes s (catch_none h (l.err s m e w i)).1
-
-    -- and a refusal is want of memory
-    fallback_refuses : (s t : Situation) (g : Error) (v : T) → IsWholeIn env s
-        → FallbackEval T inner f s (Err g) t
+    -- where the portion has a value, a refusal is want of memory
+    fallback_refuses : (s t : Situation) (g : Error) → IsWholeIn env s
+        → FallbackEval T inner f s (Err g) t → (v : T)
         → FallbackValue T group gap f (front k (pieces q (cells s))) v → class g ≡ OfMemory
-    fallback_refuses s t g v w (fallback_no {e} {m} i h n c) (inl o) =
-        absurd (own_missing s (catch_none h (l.err s m e w i)) o)
-    fallback_refuses s t g v w (fallback_no i h n c) (inr p) = absurd (decides tt v p.2 n)
-    fallback_refuses s t g v w (fallback_memory c) view = c
-    fallback_refuses s t g v w (fallback_err {m} i n) (inl o) = err_gives (l.err s m g w i) o
-    fallback_refuses s t g v w (fallback_err {m} i n) (inr p) =
-        none_fails (λ c same. n c) p.0 p.1 (l.err s m g w i)
+    fallback_refuses s t g w (fallback_no {e} {m} i h n c) v (inl o) =
+        absurd (own_missing s (catch_none h (l.keeps.err s m e w i)) o)
+    fallback_refuses s t g w (fallback_no i h n c) v (inr p) = absurd (decides tt v p.2 n)
+    fallback_refuses s t g w (fallback_memory c) v view = c
+    fallback_refuses s t g w (fallback_err {m} i n) v (inl o) = err_gives (l.keeps.err s m g w i) o
+    fallback_refuses s t g w (fallback_err {m} i n) v (inr p) =
+        none_fails (λ c same. n c) p.0 p.1 (l.keeps.err s m g w i)
 
     pub fallback_law : FieldLaw env T (FallbackEval T inner f) k q (FallbackValue T group gap f)
-    fallback_law = record {
-      own = l.own;
-      ok = fallback_took;
-      takes_all = fallback_takes;
-      refuses = fallback_refuses;
-    }
+    fallback_law =
+        record { own = l.own; keeps = record { ok = fallback_took; err = fallback_refuses } }
 
 -- Pieces that can't be read have no own list.
 pub own_bad : {T : Type 0} (value : LinePiece → T → Type 0) {os : List LinePiece} {vs : List T}
@@ -305,20 +298,35 @@ module _ {env : Variables} {T : Type 0} {outcome : Outcome T} {q : Roles}
     {value : LinePiece → T → Type 0} (l : AlternativeLaw env T outcome q value) where
   -- its value is that of the first piece, where all others can be read
   alternative_reads : {s t : Situation} {v : T} (a : AlternativeOk T q value s v t)
-      → TakesFirst q (cells s) a.piece (cells t) ⊎ HasBad T value (pieces q (cells t))
+      → TakesFirst q (cells s) a.piece (cells t) ⊎ FirstUnread T q value (cells s)
       → (vs : List T) × Own T (FrontOf T value) (pieces q (cells t)) vs
       → FrontOf T value (pieces q (cells s)) v (pieces q (cells t))
   alternative_reads a (inl f) o = (a.piece, first_pieces q l.named f, a.means)
-  alternative_reads a (inr b) o = absurd (own_bad value b o.1)
+  alternative_reads {v} a (inr z) o =
+      let stays = head_stays l.named a.takes z.2 (λ e. z.3 v (rw (← e) a.means)) in
+      absurd (own_bad value (rw stays.1 (bad_here z.3)) o.1)
+
+  -- a first piece that can be read is the one that was taken
+  alternative_readable : {s t : Situation} {v : T} (a : AlternativeOk T q value s v t)
+      → TakesFirst q (cells s) a.piece (cells t) ⊎ FirstUnread T q value (cells s) → (w : T)
+      (rest : List LinePiece) → FrontOf T value (pieces q (cells s)) w rest
+      → FrontOf T value (pieces q (cells s)) v rest × (pieces q (cells t) ≡ rest)
+  alternative_readable a (inl f) w rest g = front_alone value (first_pieces q l.named f) a.means g
+  alternative_readable a (inr z) w rest g =
+      let d : z.0 ∷ z.1 ≡ g.0 ∷ rest = sym z.2 ∙ g.1 in
+      let e : g.0 ≡ z.0 = cc in
+      absurd (z.3 w (rw (← e) g.2))
 
   -- its refusal, as that of one evaluation
-  alternative_err : {s t : Situation} {e : Error} → AlternativeErr T q value s e t
-      → SingleErr T ByName q (FrontOf T value) (gap_of value None) s e t
+  alternative_err : {s t : Situation} {c : ErrorClass} → AlternativeErr T q value s c t
+      → SingleErr T ByName q (FrontOf T value) (gap_of value None) s c t
   alternative_err (alternative_memory c) = of_memory c
   alternative_err (alternative_missing c p same st) =
       of_missing (catch_missing c) refl p (λ c. same)
-  alternative_err (alternative_refused c p b n) =
-      of_piece c (bad_nonempty b) (λ w rest g. n g.0 rest w g.1 g.2)
+  alternative_err (alternative_refused c p z) =
+      of_piece c (λ none. let d : z.0 ∷ z.1 ≡ [] = sym z.2 ∙ none in cc) (λ w rest g.
+      let d : z.0 ∷ z.1 ≡ g.0 ∷ rest = sym z.2 ∙ g.1 in
+      let e : g.0 ≡ z.0 = cc in z.3 w (rw (← e) g.2))
 
   -- so it keeps to the laws of one evaluation
   pub alternative_single : SingleLaw env T outcome ByName q (FrontOf T value) (gap_of value None)
@@ -327,17 +335,18 @@ module _ {env : Variables} {T : Type 0} {outcome : Outcome T} {q : Roles}
     words = tt;
     starts = λ v rest g. let e = g.1 in cc;
     no_absent = λ v h a. a;
-    ok = λ s t v w o.
-        let a = l.ok s t v w o in
-        took (record {
-          steady = a.steady;
-          takes = record { piece = a.piece; middle = cells t; one = a.takes; more = takes_none };
-          found = takes_nonempty a.takes;
-          read = alternative_reads a a.first;
-          readable = λ x rest g.
-              front_alone value (first_pieces q l.named (a.readable g.0 rest x g.1 g.2)) a.means g;
-        });
-    err = λ s t e w o. alternative_err (l.err s t e w o);
+    keeps = record {
+      ok = λ s t v w o.
+          let a = l.keeps.ok s t v w o in
+          took (record {
+            steady = a.steady;
+            takes = record { piece = a.piece; middle = cells t; one = a.takes; more = takes_none };
+            found = takes_nonempty a.takes;
+            read = alternative_reads a a.first;
+            readable = alternative_readable a a.first;
+          });
+      err = λ s t e w o. alternative_err (l.keeps.err s t e w o);
+    };
   }
 
 -- inner closures round an alternative
@@ -345,68 +354,42 @@ module _ {env : Variables} {A B : Type 0} {inner : Outcome A} {q : Roles}
     {value : LinePiece → A → Type 0} (l : AlternativeLaw env A inner q value) {f : Closure A B}
     (agrees : (o : LinePiece) → AgreesOn (value o) f) where
   -- a piece that can't be read can't be read through a closure either
-  closed_bad : {os : List LinePiece} → HasBad A value os → HasBad B (ClosedValue value f) os
-  closed_bad (bad_here n) = bad_here (λ v c. n c.from c.read)
-  closed_bad (bad_later h) = bad_later (closed_bad h)
+  closed_unread : (cs : Cells) → FirstUnread A q value cs → FirstUnread B q (ClosedValue value f) cs
+  closed_unread cs z = (z.0, z.1, z.2, λ v c. z.3 c.from c.read)
 
-  -- nor can one whose value the closure refuses
-  refused_value : {x : A} {o : LinePiece} → value o x → f.no x → (v : B) → ClosedValue value f o v
-      → ⊥
-  refused_value {x} {o} g n v c = agrees o c.from x v c.read g c.made n
-
-  -- a value that the closure gave
-  closed_alternative_ok : (s t : Situation) (v : B) → IsWholeIn env s
-      → ClosedEval A B inner f Refused s (Ok v) t → AlternativeOk B q (ClosedValue value f) s v t
-  closed_alternative_ok s t v w (closed_yes {x} i y) =
-      let a = l.ok s t x w i in
-      record {
-        steady = a.steady;
-        piece = a.piece;
-        takes = a.takes;
-        means = record { from = x; read = a.means; made = y };
-        first = by_first a.first;
-        readable = λ o os u e c. a.readable o os c.from e c.read;
-      }
-    where
-      by_first : {o : LinePiece}
-          → TakesFirst q (cells s) o (cells t) ⊎ HasBad A value (pieces q (cells t))
-          → TakesFirst q (cells s) o (cells t) ⊎ HasBad B (ClosedValue value f) (pieces q (cells t))
-      by_first (inl h) = inl h
-      by_first (inr h) = inr (closed_bad h)
-
-  -- a value that the closure refuses is that of a piece which can't be read through it
-  no_bad : {s t : Situation} {x : A} (a : AlternativeOk A q value s x t) → f.no x
-      → TakesFirst q (cells s) a.piece (cells t) ⊎ HasBad A value (pieces q (cells t))
-      → HasBad B (ClosedValue value f) (pieces q (cells s))
-  no_bad a n (inl h) = rw (first_pieces q l.named h) (bad_here (refused_value a.means n))
-  no_bad a n (inr h) = closed_bad (bad_given_back l.named a.takes h)
+  -- where the closure refuses its value, the first piece can't be read through it
+  no_unread : {s t : Situation} {x : A} (a : AlternativeOk A q value s x t) → f.no x
+      → TakesFirst q (cells s) a.piece (cells t) ⊎ FirstUnread A q value (cells s)
+      → FirstUnread B q (ClosedValue value f) (cells s)
+  no_unread {t} a n (inl h) = (
+    a.piece,
+    pieces q (cells t),
+    first_pieces q l.named h,
+    λ v c. agrees a.piece c.from _ v c.read a.means c.made n,
+  )
+  no_unread {s} a n (inr z) = closed_unread (cells s) z
 
   -- an inner refusal is passed on
-  err_closed : {s t : Situation} {e : Error} → AlternativeErr A q value s e t
-      → AlternativeErr B q (ClosedValue value f) s e t
+  err_closed : {s t : Situation} {c : ErrorClass} → AlternativeErr A q value s c t
+      → AlternativeErr B q (ClosedValue value f) s c t
   err_closed (alternative_memory c) = alternative_memory c
   err_closed (alternative_missing c p same st) = alternative_missing c p same st
-  err_closed (alternative_refused c p b n) =
-      alternative_refused c p (closed_bad b) (λ o os v h g. n o os g.from h g.read)
-
-  -- a refusal, of the closure or from inside
-  closed_alternative_err : (s t : Situation) (e : Error) → IsWholeIn env s
-      → ClosedEval A B inner f Refused s (Err e) t → AlternativeErr B q (ClosedValue value f) s e t
-  closed_alternative_err s t e w (closed_no {x} i n c) =
-      let a = l.ok s t x w i in
-      alternative_refused c a.steady.path (no_bad a n a.first) (λ o os v h g.
-      let p = first_pieces q l.named (a.readable o os g.from h g.read) in
-      let d : a.piece ∷ pieces q (cells t) ≡ o ∷ os = sym p ∙ h in
-      let r : o ≡ a.piece = cc in
-      refused_value a.means n v (rw (← r) g))
-  closed_alternative_err s t e w (closed_memory i c) = alternative_memory c
-  closed_alternative_err s t e w (closed_err i) = err_closed (l.err s t e w i)
+  err_closed {s} (alternative_refused c p z) = alternative_refused c p (closed_unread (cells s) z)
 
   -- a closure round an alternative is one
   pub closed_alternative : AlternativeLaw env B (ClosedEval A B inner f Refused) q
       (ClosedValue value f)
-  closed_alternative =
-      record { named = l.named; ok = closed_alternative_ok; err = closed_alternative_err }
+  closed_alternative = record {
+    named = l.named;
+    keeps = closed_keeps Refused l.keeps (λ s t x v a y. record {
+      steady = a.steady;
+      piece = a.piece;
+      takes = a.takes;
+      means = record { from = x; read = a.means; made = y };
+      first = ⊎_elim (λ h. inl h) (λ z. inr (closed_unread (cells s) z)) a.first;
+    }) (λ s t x a n. alternative_refused refl a.steady.path (no_unread a n a.first))
+        (λ s t. alternative_memory refl) (λ s t c. err_closed);
+  }
 
 -- inner closures round a field without a repeat or default
 module _ {env : Variables} {A B : Type 0} {inner : Outcome A} {k : FieldKind} {q : Roles}
@@ -417,21 +400,16 @@ module _ {env : Variables} {A B : Type 0} {inner : Outcome A} {k : FieldKind} {q
   abbrev closed_group : Groups B
   closed_group os v rest = ClosedValue (λ x a. group x a rest) f os v
 
-  -- a list of inner values of the pieces
-  record InnerList (os : List LinePiece) : Type 0 where
-    list : List A
-    own : Own A group os list
-
   -- what can be read through a closure can be read without it
-  inner_list : {os : List LinePiece} {vs : List B} → Own B closed_group os vs → InnerList os
-  inner_list own_none = record { list = []; own = own_none }
-  inner_list (own_more g o) = let i = inner_list o in
-      record { list = g.from ∷ i.list; own = own_more g.read i.own }
+  inner_list : {os : List LinePiece} {vs : List B} → Own B closed_group os vs
+      → (us : List A) × Own A group os us
+  inner_list own_none = ([], own_none)
+  inner_list (own_more g o) = let i = inner_list o in (g.from ∷ i.0, own_more g.read i.1)
 
   -- the same, by the kind of the field
   inner_readable : (z : FieldKind) (os : List LinePiece) → Readable z closed_group os
       → Readable z group os
-  inner_readable ByName os r = let i = inner_list r.1 in (i.list, i.own)
+  inner_readable ByName os r = inner_list r.1
   inner_readable _ os r = tt
 
   -- with a closure a field reads words as before
@@ -466,35 +444,21 @@ module _ {env : Variables} {A B : Type 0} {inner : Outcome A} {k : FieldKind} {q
   })
 
   -- a value that the closure refused
-  no_single : {s t : Situation} (x : A) {e : Error} → class e ≡ Refused → f.no x
-      → SingleOk A k q group gap s x t → SingleErr B k q closed_group (closed_gap gap f) s e t
-  no_single x c n (gave_absent h p ab same st) =
-      of_absent c h p (λ v a. gap_agrees a.0 x v a.1 ab a.2 n)
-  no_single {s} x c n (took h) =
-      of_piece c h.found (λ w rest g. agrees (pieces q (cells s)) rest g.from x w g.read
+  no_single : {s t : Situation} (x : A) → f.no x → SingleOk A k q group gap s x t
+      → SingleErr B k q closed_group (closed_gap gap f) s Refused t
+  no_single x n (gave_absent h p ab same st) =
+      of_absent refl h p (λ v a. gap_agrees a.0 x v a.1 ab a.2 n)
+  no_single {s} x n (took h) =
+      of_piece refl h.found (λ w rest g. agrees (pieces q (cells s)) rest g.from x w g.read
       (h.readable g.from rest g.read).0 g.made n)
 
   -- an inner refusal is passed on
-  err_single : {s t : Situation} {e : Error} → SingleErr A k q group gap s e t
-      → SingleErr B k q closed_group (closed_gap gap f) s e t
+  err_single : {s t : Situation} {c : ErrorClass} → SingleErr A k q group gap s c t
+      → SingleErr B k q closed_group (closed_gap gap f) s c t
   err_single (of_memory c) = of_memory c
   err_single (of_missing c h p same) = of_missing c h p same
   err_single (of_absent c h p n) = of_absent c h p (λ v a. n a.0 a.1)
   err_single (of_piece c ne n) = of_piece c ne (λ w rest g. n g.from rest g.read)
-
-  -- a value of one evaluation
-  closed_single_ok : (s t : Situation) (v : B) → IsWholeIn env s
-      → ClosedEval A B inner f Refused s (Ok v) t
-      → SingleOk B k q closed_group (closed_gap gap f) s v t
-  closed_single_ok s t v w (closed_yes {x} i y) = yes_single x y (l.ok s t x w i)
-
-  -- a refusal of one evaluation
-  closed_single_err : (s t : Situation) (e : Error) → IsWholeIn env s
-      → ClosedEval A B inner f Refused s (Err e) t
-      → SingleErr B k q closed_group (closed_gap gap f) s e t
-  closed_single_err s t e w (closed_no {x} i n c) = no_single x c n (l.ok s t x w i)
-  closed_single_err s t e w (closed_memory i c) = of_memory c
-  closed_single_err s t e w (closed_err i) = err_single (l.err s t e w i)
 
   -- a closure round a single field is one
   pub closed_single : SingleLaw env B (ClosedEval A B inner f Refused) k q closed_group
@@ -504,6 +468,6 @@ module _ {env : Variables} {A B : Type 0} {inner : Outcome A} {k : FieldKind} {q
     words = closed_words k l.words;
     starts = λ v rest g. l.starts g.from rest g.read;
     no_absent = λ v h a. l.no_absent a.0 h a.1;
-    ok = closed_single_ok;
-    err = closed_single_err;
+    keeps = closed_keeps Refused l.keeps (λ s t x v a y. yes_single x y a)
+        (λ s t x a n. no_single x n a) (λ s t. of_memory refl) (λ s t c. err_single);
   }

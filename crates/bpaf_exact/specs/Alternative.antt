@@ -1,12 +1,12 @@
 -- Required flags and arguments, and choices of them: each piece has its value by itself.
-use Rattle.std.specs.Prelude.{◌≡◌, true, List, [], ◌∷◌, Option, Some, None, Ok, Err, ◌⊎◌, MatchBool}
+use Rattle.std.specs.Prelude.{◌≡◌, true, List, [], ◌∷◌, Option, Some, None, ◌⊎◌, MatchBool}
 use Rattle.bpaf_base.specs.declared.arg.Arg.{Arg}
-use Rattle.bpaf_line.specs.{declared.error.Error.Error, Situation.Situation}
+use Rattle.bpaf_line.specs.Situation.{Situation}
 use Rattle.bpaf_laws.specs.Reading.{Outcome}
 use Rattle.bpaf_exact.specs.Pieces.{Cells, Roles, Foreign, Alone, WithNext, LinePiece, One, Two}
 use Rattle.bpaf_exact.specs.Pieces.{is_value, is_own, pieces, TakesPiece, IsNamed}
-use Rattle.bpaf_exact.specs.Flat.{OfMemory, OfMissing, Refused, class, cells, IsWholeIn, Steady}
-use Rattle.bpaf_exact.specs.Flat.{Variables}
+use Rattle.bpaf_exact.specs.Flat.{ErrorClass, OfMemory, OfMissing, Refused, cells, Steady}
+use Rattle.bpaf_exact.specs.Flat.{Variables, Keeps}
 
 -- no item of the field's own
 abbrev pub NotOwn : Roles → Option Arg → Type 0
@@ -27,6 +27,11 @@ pub data HasBad (T : Type 0) (value : LinePiece → T → Type 0) : List LinePie
       → HasBad T value (o ∷ os)
   bad_later : {o : LinePiece} {os : List LinePiece} → HasBad T value os → HasBad T value (o ∷ os)
 
+-- the first piece can't be read
+abbrev pub FirstUnread : (T : Type 0) → Roles → (LinePiece → T → Type 0) → Cells → Type 0
+FirstUnread T q value cs =
+    (o : LinePiece) × (os : List LinePiece) × (pieces q cs ≡ o ∷ os) × ((w : T) → value o w → ⊥)
+
 -- an answer of an alternative: it took one own piece that has the value
 pub record AlternativeOk (T : Type 0) (q : Roles) (value : LinePiece → T → Type 0) (s : Situation)
     (v : T) (t : Situation) : Type 0 where
@@ -34,32 +39,23 @@ pub record AlternativeOk (T : Type 0) (q : Roles) (value : LinePiece → T → T
   pub piece : LinePiece
   pub takes : TakesPiece q (cells s) piece (cells t)
   pub means : value piece v
-  -- it took the first piece, or a piece that can't be read stays
-  pub first : TakesFirst q (cells s) piece (cells t) ⊎ HasBad T value (pieces q (cells t))
-  -- where the first piece can be read, that is the one
-  pub readable : (o : LinePiece) (os : List LinePiece) (w : T) → pieces q (cells s) ≡ o ∷ os
-      → value o w → TakesFirst q (cells s) piece (cells t)
+  -- it is the first piece, or that can't be read
+  pub first : TakesFirst q (cells s) piece (cells t) ⊎ FirstUnread T q value (cells s)
 
 -- a refusal of an alternative
 pub data AlternativeErr (T : Type 0) (q : Roles) (value : LinePiece → T → Type 0) (s : Situation)
-    (e : Error) (t : Situation) : Type 0 where
-  alternative_memory : class e ≡ OfMemory → AlternativeErr T q value s e t
-  alternative_missing : class e ≡ OfMissing → pieces q (cells s) ≡ [] → cells t ≡ cells s
-      → Steady s t → AlternativeErr T q value s e t
-  -- the first piece can't be read
-  alternative_refused : class e ≡ Refused → t.path ≡ s.path → HasBad T value (pieces q (cells s))
-      → ((o : LinePiece) (os : List LinePiece) (w : T) → pieces q (cells s) ≡ o ∷ os → value o w
-      → ⊥)
-      → AlternativeErr T q value s e t
+    (c : ErrorClass) (t : Situation) : Type 0 where
+  alternative_memory : c ≡ OfMemory → AlternativeErr T q value s c t
+  alternative_missing : c ≡ OfMissing → pieces q (cells s) ≡ [] → cells t ≡ cells s
+      → Steady s t → AlternativeErr T q value s c t
+  alternative_refused : c ≡ Refused → t.path ≡ s.path → FirstUnread T q value (cells s)
+      → AlternativeErr T q value s c t
 
 -- the laws of a required flag or argument, or of a choice of them
 pub record AlternativeLaw (variables : Variables) (T : Type 0) (outcome : Outcome T) (q : Roles)
     (value : LinePiece → T → Type 0) : Type 0 where
   pub named : IsNamed q
-  pub ok : (s t : Situation) (v : T) → IsWholeIn variables s → outcome s (Ok v) t
-      → AlternativeOk T q value s v t
-  pub err : (s t : Situation) (e : Error) → IsWholeIn variables s → outcome s (Err e) t
-      → AlternativeErr T q value s e t
+  pub keeps : Keeps variables T outcome (AlternativeOk T q value) (AlternativeErr T q value)
 
 -- a piece has the value that the alternative gives that it belongs to
 abbrev pub either_value : {T : Type 0} → Roles → (LinePiece → T → Type 0) → (LinePiece → T → Type 0)

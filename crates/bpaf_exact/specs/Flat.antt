@@ -1,17 +1,16 @@
 -- What a flat field keeps to when it is evaluated: its answer and what it takes depend on its own
 -- pieces alone.
-use Rattle.std.specs.Prelude.{◌≡◌, ◌<◌, ℕ, zero, suc, Bool, true, false, List, [], ◌∷◌, length}
-use Rattle.std.specs.Prelude.{Option, None, Ok, Err, if◌then◌else◌, not, take, drop, filter}
-use Rattle.std.specs.List.{before_first}
-use Rattle.bpaf_line.specs.declared.error.Message.TheVariants.{Missing}
-use Rattle.bpaf_line.specs.Situation.{Situation, is_taken}
-use Rattle.bpaf_line.specs.{declared.error.Error.Error, declared.error.Message.Message}
-use Rattle.bpaf_line.specs.{Messages.is_memory, Messages.can_catch, Taking.open_item}
+use Rattle.std.specs.Prelude.{Bool, List, Option, [], false, length, suc, true, zero, ◌<◌, ◌∷◌, ◌≡◌}
+use Rattle.std.specs.{List.before_first, Prelude.None, Prelude.filter, Prelude.if◌then◌else◌}
+use Rattle.std.specs.Prelude.{Err, Ok, drop, not, take, ℕ}
+use Rattle.bpaf_base.specs.{Items.is_positional, declared.arg.Arg.Arg}
+use Rattle.bpaf_line.specs.{declared.error.Error.Error, declared.error.Message.TheVariants.Missing}
+use Rattle.bpaf_line.specs.{Messages.is_memory, Situation.Situation, declared.error.Message.Message}
+use Rattle.bpaf_line.specs.{Messages.can_catch, Situation.is_taken, Taking.open_item}
 use Rattle.bpaf_laws.specs.Reading.{Outcome}
-use Rattle.bpaf_exact.specs.Pieces.{Cells, Roles, Foreign, LinePiece, One, Two, is_own, no_roles}
-use Rattle.bpaf_exact.specs.Pieces.{stands_behind, word_roles, IsNamed, Apart, Cut, pieces}
-use Rattle.bpaf_exact.specs.Pieces.{TakesPieces, Takes, either, roles_of, Alone}
-use Rattle.bpaf_base.specs.{declared.arg.Arg.Arg, Items.is_positional}
+use Rattle.bpaf_exact.specs.Pieces.{Cells, Foreign, LinePiece, One, is_own, no_roles, stands_behind}
+use Rattle.bpaf_exact.specs.Pieces.{Apart, Cut, IsNamed, Roles, Takes, TakesPieces, Two, word_roles}
+use Rattle.bpaf_exact.specs.Pieces.{Alone, either, pieces, roles_of}
 
 -- the classes of refusals
 pub data ErrorClass : Type 0 where
@@ -124,26 +123,31 @@ abbrev pub NoKeysLeft : FieldKind → Roles → Cells → Type 0
 NoKeysLeft ByName q cs = pieces q cs ≡ []
 NoKeysLeft k q cs = Unit {0}
 
+-- what an outcome keeps to where the environment has these variables: by where it begins and where
+-- it leads, which values it gives, and of which classes its refusals are
+pub record Keeps (variables : Variables) (T : Type 0) (outcome : Outcome T)
+    (gives : Situation → T → Situation → Type 0)
+    (refuses : Situation → ErrorClass → Situation → Type 0) : Type 0 where
+  pub ok : (s t : Situation) (v : T) → IsWholeIn variables s → outcome s (Ok v) t → gives s v t
+  pub err : (s t : Situation) (e : Error) → IsWholeIn variables s → outcome s (Err e) t
+      → refuses s (class e) t
+
 -- An answer of a field: it takes pieces of its own alone, and if none of a named field's is left
--- over, the answer is a value of its portion.
+-- over, the answer is a value of its portion. Where that has a value, none is.
 pub record FieldTook (T : Type 0) (k : FieldKind) (q : Roles) (value : List LinePiece → T → Type 0)
     (s : Situation) (v : T) (t : Situation) : Type 0 where
   pub steady : Steady s t
   pub takes : TakesPieces q (cells s) (cells t)
   pub read : NoKeysLeft k q (cells t) → value (front k (pieces q (cells s))) v
   pub rest : NoKeysLeft k q (cells t) → pieces q (cells t) ≡ back k (pieces q (cells s))
+  pub all : (w : T) → value (front k (pieces q (cells s))) w → NoKeysLeft k q (cells t)
 
--- The laws of a flat field. Where its portion has a value, an answer leaves none of a named field's
--- keys, and a refusal is want of memory.
+-- The laws of a flat field. Where its portion has a value, a refusal is want of memory.
 pub record FieldLaw (variables : Variables) (T : Type 0) (outcome : Outcome T) (k : FieldKind)
     (q : Roles) (value : List LinePiece → T → Type 0) : Type 0 where
   pub own : OwnItems k q
-  pub ok : (s t : Situation) (v : T) → IsWholeIn variables s → outcome s (Ok v) t
-      → FieldTook T k q value s v t
-  pub takes_all : (s t : Situation) (v w : T) → IsWholeIn variables s → outcome s (Ok v) t
-      → value (front k (pieces q (cells s))) w → NoKeysLeft k q (cells t)
-  pub refuses : (s t : Situation) (e : Error) (w : T) → IsWholeIn variables s → outcome s (Err e) t
-      → value (front k (pieces q (cells s))) w → class e ≡ OfMemory
+  pub keeps : Keeps variables T outcome (FieldTook T k q value)
+      (λ s c t. (w : T) → value (front k (pieces q (cells s))) w → c ≡ OfMemory)
 
 -- the values of a list of fields are read off the pieces that a line is cut into: their own, and
 -- each word by itself; nothing is left
@@ -165,19 +169,21 @@ pub record FieldsReading (V : Type 0) : Type 1 where
   pub value : List LinePiece → V → Type 0
   pub each : List LinePiece → Type 0
 
--- the laws of a list of flat fields; where each has a value, an answer leaves nothing, and a
--- refusal is want of memory
+-- an answer of a list of flat fields: where it leaves nothing, it is read off; and where each has a
+-- value, it leaves nothing
+pub record FieldsTook (V : Type 0) (r : Roles) (reading : FieldsReading V) (s : Situation) (v : V)
+    (t : Situation) : Type 0 where
+  pub steady : Steady s t
+  pub read : NonePresent (cells t) → ReadOff V r reading.value (cells s) v
+  pub all : (os : List LinePiece) → Cut r (cells s) os → reading.each os → NonePresent (cells t)
+
+-- the laws of a list of flat fields; where each has a value, a refusal is want of memory
 pub record FieldsLaw (variables : Variables) (V : Type 0) (outcome : Outcome V) (r : Roles)
     (reading : FieldsReading V) : Type 0 where
   pub named : IsNamed r
-  pub steady : (s t : Situation) (v : V) → IsWholeIn variables s → outcome s (Ok v) t → Steady s t
-  pub ok : (s t : Situation) (v : V) → IsWholeIn variables s → outcome s (Ok v) t
-      → NonePresent (cells t) → ReadOff V r reading.value (cells s) v
   pub has_each : (os : List LinePiece) (v : V) → reading.value os v → reading.each os
-  pub takes_all : (s t : Situation) (v : V) (os : List LinePiece) → IsWholeIn variables s
-      → outcome s (Ok v) t → Cut r (cells s) os → reading.each os → NonePresent (cells t)
-  pub refuses : (s t : Situation) (e : Error) (os : List LinePiece) → IsWholeIn variables s
-      → outcome s (Err e) t → Cut r (cells s) os → reading.each os → class e ≡ OfMemory
+  pub keeps : Keeps variables V outcome (FieldsTook V r reading)
+      (λ s c t. (os : List LinePiece) → Cut r (cells s) os → reading.each os → c ≡ OfMemory)
 
 -- a field before others: their keys are apart, and after a positional field no named one stands
 abbrev pub Before : FieldKind → Roles → Roles → Type 0

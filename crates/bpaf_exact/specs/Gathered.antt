@@ -1,8 +1,7 @@
 -- many, some and last: what they make of the own list.
-use Rattle.std.specs.Prelude.{◌≡◌, List, [], ◌∷◌, ◌++◌}
-use Rattle.std.specs.Global.{Vec}
-use Rattle.bpaf_exact.specs.Single.{Groups, Gap, OwnList}
-use Rattle.bpaf_exact.specs.{Pieces.LinePiece, Wrappers.Closure, Wrappers.map_closure}
+use Rattle.std.specs.{Global.Vec, Prelude.List, Prelude.[], Prelude.◌++◌, Prelude.◌∷◌, Prelude.◌≡◌}
+use Rattle.bpaf_exact.specs.{Pieces.LinePiece, Single.Gap, Wrappers.Closure, Wrappers.map_closure}
+use Rattle.bpaf_exact.specs.Single.{Groups, OwnList}
 
 -- many: the list
 abbrev pub list_closure : (T : Type 0) → Closure (List T) (Vec T)

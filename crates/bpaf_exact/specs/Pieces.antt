@@ -1,9 +1,8 @@
 -- How a flat record sees a line: its places, cut into pieces, which the fields share out.
-use Rattle.std.specs.Prelude.{◌≡◌, Bool, true, false, List, [], ◌∷◌, Option, Some, None}
-use Rattle.std.specs.Prelude.{if◌then◌else◌, filter, not}
-use Rattle.std.specs.Option.{is_some}
-use Rattle.bpaf_base.specs.declared.arg.Arg.TheVariants.{Short, Long, PosWord}
-use Rattle.bpaf_base.specs.{Items.value_text, Items.is_positional, declared.arg.Arg.Arg}
+use Rattle.std.specs.Prelude.{Bool, List, Option, Some, [], false, filter, if◌then◌else◌, true, ◌≡◌}
+use Rattle.std.specs.{Option.is_some, Prelude.None, Prelude.not, Prelude.◌∷◌}
+use Rattle.bpaf_base.specs.declared.arg.Arg.TheVariants.{Long, PosWord, Short}
+use Rattle.bpaf_base.specs.{Items.is_positional, Items.value_text, declared.arg.Arg.Arg}
 
 -- the places of a line, each with the item that is present there, if one is
 abbrev pub Cells : Type 0

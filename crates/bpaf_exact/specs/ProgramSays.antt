@@ -1,17 +1,16 @@
 -- What the values of a program with commands say: each named field of its own pieces, and the rest of
 -- what is left without these.
-use Rattle.std.specs.{Prelude.List, Prelude.[], Prelude.Option, List.Contains}
+use Rattle.std.specs.{List.Contains, Prelude.List, Prelude.Option, Prelude.[]}
 use Rattle.bpaf_doc.specs.Names.{Names}
 use Rattle.bpaf_laws.specs.{Command.Called, Command.opening_words, Reading.Outcome}
-use Rattle.bpaf_exact.specs.Pieces.{Cells, Roles, LinePiece, Cut}
-use Rattle.bpaf_exact.specs.ProgramForm.{ProgramForm, FormLaw, no_program, commands}
-use Rattle.bpaf_exact.specs.ProgramForm.{before_commands, product_roles, whole_program}
-use Rattle.bpaf_exact.specs.Programs.{CellsValue, ChoiceValue, CommandValue, FieldThen}
-use Rattle.bpaf_exact.specs.Says.{EitherSays, FallbackSays, FieldsSaid, FieldsSay, LastSays}
-use Rattle.bpaf_exact.specs.Says.{MadeSays, OneOfSays, OptionalSays, RecordSays, RepeatSays, Said}
-use Rattle.bpaf_exact.specs.Says.{SaidKind, Says, its_pieces, words_after}
-use Rattle.bpaf_exact.specs.Wrappers.{ClosedValue, Closure}
-use Rattle.bpaf_exact.specs.{Flat.Variables, Names.Owns, Programs.OptionalCommands}
+use Rattle.bpaf_exact.specs.ProgramForm.{ProgramForm, before_commands, product_roles, whole_program}
+use Rattle.bpaf_exact.specs.Programs.{CellsValue, ChoiceValue, CommandValue, OptionalCommands}
+use Rattle.bpaf_exact.specs.Says.{EitherSays, FieldsSaid, FieldsSay, LastSays, MadeSays, RecordSays}
+use Rattle.bpaf_exact.specs.Says.{FallbackSays, OneOfSays, OptionalSays, RepeatSays, Said, SaidKind}
+use Rattle.bpaf_exact.specs.{ProgramForm.commands, ProgramForm.no_program, Wrappers.ClosedValue}
+use Rattle.bpaf_exact.specs.{Names.Owns, Pieces.LinePiece, ProgramForm.FormLaw, Programs.FieldThen}
+use Rattle.bpaf_exact.specs.{Flat.Variables, Says.its_pieces, Says.words_after, Wrappers.Closure}
+use Rattle.bpaf_exact.specs.{Pieces.Cells, Pieces.Cut, Pieces.Roles, Says.Says}
 
 -- what the value of each parser of a type says: of the pieces that are its own; or, where it ends in
 -- commands, of the cells of its scope

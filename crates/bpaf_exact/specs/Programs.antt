@@ -10,8 +10,8 @@ use Rattle.bpaf_line.specs.Situation.{Situation, Context, item_in, open_count, w
 use Rattle.bpaf_laws.specs.Command.{Called, IsNotOpened, IsOpenedAt, inside, is_one_of}
 use Rattle.bpaf_laws.specs.{Choice.depth, Command.opening_words, Reading.Outcome}
 use Rattle.bpaf_exact.specs.Pieces.{Cells, Roles, LinePiece, pieces, Apart, IsNamed, Takes}
-use Rattle.bpaf_exact.specs.Flat.{OfMemory, OfMissing, class, cells, NonePresent, IsWholeIn}
-use Rattle.bpaf_exact.specs.Flat.{Variables}
+use Rattle.bpaf_exact.specs.Flat.{ErrorClass, OfMemory, OfMissing, class, cells, NonePresent}
+use Rattle.bpaf_exact.specs.Flat.{Variables, Keeps}
 
 -- which values some cells have
 abbrev pub CellsValue : Type 0 → Type 1
@@ -91,29 +91,27 @@ LeavesToOthers {V = V} r value =
     (q : Roles) → IsNamed q → Apart q r → (cs : Cells) (v : V) → AllSpelled cs → value cs v
     → pieces q cs ≡ []
 
--- the answer is one of these values, with nothing left, or it is want of memory
-abbrev pub GivesAll : {V : Type 0} → (V → Type 0) → Result V Error → Situation → Type 0
-GivesAll value (Ok v) t = value v × NonePresent (cells t)
-GivesAll value (Err e) t = class e ≡ OfMemory
+-- an answer of a program: where it leaves nothing it is one of its values; and where it has a value,
+-- the answer is one, and leaves nothing
+pub record ProgramTook (V : Type 0) (value : CellsValue V) (s : Situation) (v : V)
+    (t : Situation) : Type 0 where
+  pub deep : depth s ≤ depth t
+  pub read : IsSpelledLine s.context → NonePresent (cells t) → value (cells s) v
+  pub all : (w : V) → value (cells s) w → value (cells s) v × NonePresent (cells t)
 
 -- The laws of a program, and of commands as the last field of one, with the items that may stand in
--- it. Where it has a value, each answer is one, with nothing left, or it is want of memory.
+-- it. Where it has a value, a refusal is want of memory.
 pub record ProgramLaw (variables : Variables) (V : Type 0) (outcome : Outcome V) (r : Roles)
-    (value : CellsValue V)
-    : Type 0 where
+    (value : CellsValue V) : Type 0 where
   pub others : LeavesToOthers r value
-  pub deep : (s t : Situation) (v : V) → IsWholeIn variables s → outcome s (Ok v) t
-      → depth s ≤ depth t
-  pub ok : (s t : Situation) (v : V) → IsWholeIn variables s → IsSpelledLine s.context
-      → outcome s (Ok v) t → NonePresent (cells t) → value (cells s) v
-  pub answers : (s t : Situation) (a : Result V Error) (w : V) → IsWholeIn variables s
-      → outcome s a t → value (cells s) w → GivesAll (value (cells s)) a t
+  pub keeps : Keeps variables V outcome (ProgramTook V value)
+      (λ s c t. (w : V) → value (cells s) w → c ≡ OfMemory)
 
--- the word is missing, and nothing is taken; or memory is wanted
-abbrev pub FindsNoCommand : {T : Type 0} → Situation → Result T Error → Situation → Type 0
-FindsNoCommand s (Ok v) t = ⊥
-FindsNoCommand s (Err e) t =
-    (class e ≡ OfMemory) ⊎ ((class e ≡ OfMissing) × (cells t ≡ cells s) × (t.path ≡ s.path))
+-- a refusal of such a class says that the word is missing, and nothing is taken; or that memory is
+-- wanted
+abbrev pub FindsNoCommand : Situation → ErrorClass → Situation → Type 0
+FindsNoCommand s c t =
+    (c ≡ OfMemory) ⊎ ((c ≡ OfMissing) × (cells t ≡ cells s) × (t.path ≡ s.path))
 
 -- The laws of a command, or a choice of them, with its words: what has a value is opened by one of
 -- them; where none is the first thing present it is missing.
@@ -121,8 +119,8 @@ pub record CommandsLaw (variables : Variables) (T : Type 0) (outcome : Outcome T
     (words : List (List ℕ)) (value : CellsValue T) : Type 0 where
   pub program : ProgramLaw variables T outcome r value
   pub opened : (cs : Cells) (v : T) → value cs v → (ds : Cells) × Opens words cs ds
-  pub none : (s t : Situation) (a : Result T Error) → IsWholeIn variables s → outcome s a t
-      → OpensNone words (cells s) → FindsNoCommand s a t
+  pub none : Keeps variables T outcome (λ s v t. OpensNone words (cells s) → ⊥)
+      (λ s c t. OpensNone words (cells s) → FindsNoCommand s c t)
 
 -- What runs behind a command's word: a value only where nothing is left present.
 pub data CommandEval (T : Type 0) (inner : Outcome T) (called : Called) (s : Situation)

@@ -1,15 +1,14 @@
 -- A flat field without a repeat or default: one evaluation, and what repeats and defaults make of
 -- it.
-use Rattle.std.specs.Prelude.{◌≡◌, ℕ, suc, Bool, true, false, List, [], ◌∷◌, Option, Some, None, Ok}
-use Rattle.std.specs.Prelude.{Err, is_some, ◌⊎◌}
-use Rattle.std.specs.Option.{IsSomeRelated}
-use Rattle.bpaf_line.specs.{declared.error.Error.Error, Situation.Situation, Situation.open_count}
+use Rattle.std.specs.Prelude.{Bool, List, None, Ok, Option, Some, [], false, suc, true, ℕ, ◌∷◌, ◌≡◌}
+use Rattle.std.specs.{Option.IsSomeRelated, Prelude.Err, Prelude.is_some, Prelude.◌⊎◌}
+use Rattle.bpaf_line.specs.{Situation.Situation, Situation.open_count, declared.error.Error.Error}
+use Rattle.bpaf_laws.specs.Repeat.{ListOutcome, UntilFault, UntilRest}
 use Rattle.bpaf_laws.specs.Reading.{Outcome}
-use Rattle.bpaf_laws.specs.Repeat.{ListOutcome, UntilRest, UntilFault}
-use Rattle.bpaf_exact.specs.Pieces.{Cells, Roles, LinePiece, pieces, TakesPiece, TakesPieces}
-use Rattle.bpaf_exact.specs.Flat.{OfMemory, OfMissing, Caught, Refused, class, cells, IsWholeIn}
-use Rattle.bpaf_exact.specs.Flat.{Steady, FieldKind, ByName, OneWord, EachWord, front, back}
-use Rattle.bpaf_exact.specs.Flat.{OwnItems, Variables}
+use Rattle.bpaf_exact.specs.Flat.{ErrorClass, FieldKind, OfMemory, OfMissing, Refused, cells, class}
+use Rattle.bpaf_exact.specs.Pieces.{Cells, LinePiece, Roles, TakesPiece, TakesPieces, pieces}
+use Rattle.bpaf_exact.specs.Flat.{EachWord, OneWord, OwnItems, Variables, front}
+use Rattle.bpaf_exact.specs.Flat.{ByName, Caught, Keeps, Steady, back}
 
 -- how one evaluation reads a value off the front of the own pieces, and which it leaves
 abbrev pub Groups : Type 0 → Type 1
@@ -68,25 +67,25 @@ pub data SingleOk (T : Type 0) (k : FieldKind) (q : Roles) (group : Groups T) (g
   -- the value of the first group
   took : TookGroup T k q group s v t → SingleOk T k q group gap s v t
 
--- an error that can be caught, for a missing item or otherwise
-pub data CanCatch (e : Error) : Type 0 where
-  catch_missing : class e ≡ OfMissing → CanCatch e
-  catch_other : class e ≡ Caught → CanCatch e
+-- refusals of the class can be caught, for a missing item or otherwise
+pub data CanCatch (c : ErrorClass) : Type 0 where
+  catch_missing : c ≡ OfMissing → CanCatch c
+  catch_other : c ≡ Caught → CanCatch c
 
 -- a refusal of one evaluation
 pub data SingleErr (T : Type 0) (k : FieldKind) (q : Roles) (group : Groups T) (gap : Gap T)
-    (s : Situation) (e : Error) (t : Situation) : Type 0 where
-  of_memory : class e ≡ OfMemory → SingleErr T k q group gap s e t
+    (s : Situation) (c : ErrorClass) (t : Situation) : Type 0 where
+  of_memory : c ≡ OfMemory → SingleErr T k q group gap s c t
   -- no piece, and no value for that; where it says that an item is missing, nothing was taken
-  of_missing : CanCatch e → gap.has ≡ false → front k (pieces q (cells s)) ≡ []
-      → (class e ≡ OfMissing → cells t ≡ cells s) → SingleErr T k q group gap s e t
+  of_missing : CanCatch c → gap.has ≡ false → front k (pieces q (cells s)) ≡ []
+      → (c ≡ OfMissing → cells t ≡ cells s) → SingleErr T k q group gap s c t
   -- no piece, and the absent value is refused
-  of_absent : class e ≡ Refused → gap.has ≡ true → front k (pieces q (cells s)) ≡ []
-      → ((v : T) → gap.absent v → ⊥) → SingleErr T k q group gap s e t
+  of_absent : c ≡ Refused → gap.has ≡ true → front k (pieces q (cells s)) ≡ []
+      → ((v : T) → gap.absent v → ⊥) → SingleErr T k q group gap s c t
   -- a piece that can't be read
-  of_piece : class e ≡ Refused → (front k (pieces q (cells s)) ≡ [] → ⊥)
+  of_piece : c ≡ Refused → (front k (pieces q (cells s)) ≡ [] → ⊥)
       → ((w : T) (rest : List LinePiece) → group (pieces q (cells s)) w rest → ⊥)
-      → SingleErr T k q group gap s e t
+      → SingleErr T k q group gap s c t
 
 -- a positional field without a repeat reads its first word alone, none behind what it stops at; and
 -- so it does of all that a repeat of it takes
@@ -115,10 +114,7 @@ pub record SingleLaw (variables : Variables) (T : Type 0) (outcome : Outcome T) 
   pub words : ReadsWords k group
   pub starts : (v : T) (rest : List LinePiece) → group [] v rest → ⊥
   pub no_absent : (v : T) → gap.has ≡ false → gap.absent v → ⊥
-  pub ok : (s t : Situation) (v : T) → IsWholeIn variables s → outcome s (Ok v) t
-      → SingleOk T k q group gap s v t
-  pub err : (s t : Situation) (e : Error) → IsWholeIn variables s → outcome s (Err e) t
-      → SingleErr T k q group gap s e t
+  pub keeps : Keeps variables T outcome (SingleOk T k q group gap) (SingleErr T k q group gap)
 
 -- The own list under a repeat; the absent value must be there also where it isn't used: the repeat
 -- asks once more.
