@@ -7,8 +7,7 @@ use Rattle.bpaf_base.specs.Items.{is_command_word}
 use Rattle.bpaf_line.specs.{declared.error.Error.Error, declared.error.Message.TheVariants.Missing}
 use Rattle.bpaf_line.specs.{Conflicts.ConflictsSaved, declared.error.Message.Message}
 use Rattle.bpaf_line.specs.{Messages.is_memory, Messages.is_wrong_input, Situation.Situation}
-use Rattle.bpaf_laws.proofs.ChoiceLaws.{ComesFrom, both_refused, chosen_from, first_won, second_won}
-use Rattle.bpaf_laws.proofs.ChoiceLaws.{first_refused, first_stands, second_refused, second_stands}
+use Rattle.bpaf_laws.proofs.ChoiceLaws.{of_chosen}
 use Rattle.bpaf_laws.specs.{Choice.ChoiceOutcome, Command.is_one_of, Spared.IsNotMemory}
 use Rattle.bpaf_laws.specs.{Choice.Chosen, Choice.branch_of, Reading.Outcome, Turn.is_untouched}
 use Rattle.bpaf_laws.specs.Choice.{OneOk, depth}
@@ -177,6 +176,13 @@ record Alike (m t : Situation) : Type 0 where
 alike_same : {m t : Situation} → t ≡ m → Alike m t
 alike_same e = record { cells_alike = ap cells e; depth_alike = ap depth e }
 
+-- and one after another
+alike_then : {l m t : Situation} → Alike l m → Alike m t → Alike l t
+alike_then e f = record {
+  cells_alike = f.cells_alike ∙ e.cells_alike;
+  depth_alike = f.depth_alike ∙ e.depth_alike;
+}
+
 -- and where conflicts are saved
 alike_saved : {m : Situation} (other : Situation) {t : Situation} {place : ℕ}
     → ConflictsSaved m other place t → Alike m t
@@ -197,20 +203,32 @@ module _ {env : Variables} (T : Type 0) (a b : Outcome T) (ra rb : Roles) (wa wb
     of_first : {m : Situation} → a s (Ok v) m → Alike m t → BranchOk s v t
     of_second : {m : Situation} → b s (Ok v) m → Alike m t → BranchOk s v t
 
+  -- an answer of a branch or of the choice, where it is a value, is one of a branch
+  abbrev OfBranch : Situation → Result T Error → Situation → Type 0
+  OfBranch s (Ok v) t = BranchOk s v t
+  OfBranch s (Err e) t = Unit {0}
+
+  -- also with conflicts saved
+  saved_too : {s m loser t : Situation} {v : T} {place : ℕ} → ConflictsSaved m loser place t
+      → BranchOk s v m → BranchOk s v t
+  saved_too {loser = loser} c (of_first i e) = of_first i (alike_then e (alike_saved loser c))
+  saved_too {loser = loser} c (of_second i e) = of_second i (alike_then e (alike_saved loser c))
+
+  -- one of the first
+  by_first : {s t : Situation} (r : Result T Error) → a s r t → OfBranch s r t
+  by_first (Ok v) i = of_first i (alike_same refl)
+  by_first (Err e) i = tt
+
+  -- and of the second
+  by_second : {s t : Situation} (r : Result T Error) → b s r t → OfBranch s r t
+  by_second (Ok v) i = of_second i (alike_same refl)
+  by_second (Err e) i = tt
+
   -- each
   branch_ok : {s t : Situation} {v : T} → ChoiceOutcome a b s (Ok v) t → BranchOk s v t
-  branch_ok {s} {t} {v} o = by_origin (chosen_from s o.a o.sa o.b o.sb (Ok v) t o.chosen)
-    where
-      by_origin : ComesFrom s o.a o.sa o.b o.sb (Ok v) t → BranchOk s v t
-      by_origin (first_stands is left) = of_first (rw is o.first_ran) (alike_same left)
-      by_origin (second_stands is left) = of_second (rw is o.second_ran) (alike_same left)
-      by_origin (first_won x place is answer saved) =
-          of_first (rw (answer ∙ sym is) o.first_ran) (alike_saved o.sb saved)
-      by_origin (second_won x place is answer saved) =
-          of_second (rw (answer ∙ sym is) o.second_ran) (alike_saved o.sa saved)
-      by_origin (first_refused e is answer left) = absurd cc
-      by_origin (second_refused e is answer left) = absurd cc
-      by_origin (both_refused e f both is other combined answer left) = absurd cc
+  branch_ok {s} {t} {v} o = of_chosen s (OfBranch s) (λ v m loser place t c h. saved_too c h)
+      (λ e m h. tt) (λ e f g m n c h i. tt) o.a o.sa o.b o.sb (Ok v) t o.chosen
+      (by_first o.a o.first_ran) (by_second o.b o.second_ran)
 
   -- what opens the first doesn't open the second
   second_closed : {cs : Cells} {u : T} → va cs u → OpensNone wb cs
