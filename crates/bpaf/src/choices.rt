@@ -7,7 +7,7 @@ ghost use Rattle.bpaf_laws.specs.Choices.{LeftmostOfAll};
 ghost use Rattle.bpaf_laws.specs.{Spared.IsNotMemory, Spared.WithoutMemory, ShownNames.all_shorts};
 ghost use Rattle.bpaf_laws.proofs.{ChoicesLaws.choices_lawful, ShownNames.choices_show};
 
-use bpaf_core::{Branch, Parser, Start, is_want, or_meta, this_or_that};
+use bpaf_core::{Parser, Start, or_meta, or_parser};
 use bpaf_doc::{Meta, Text};
 use bpaf_line::{Error, Message, State};
 use std::alloc::{AllocError, Global};
@@ -42,47 +42,10 @@ fn choose_from<T: Drop, P: Parser<T>>(first: &P, rest: &[P], state: &mut State) 
     ensures { Nested ChoiceOutcome P.outcome (P.outcome first.now) rest.now
         state.old result state.new }
 {
-    if rest.is_empty() {
-        return first.eval(state);
-    }
-    choose_several(first, rest, state)
-}
-
-/// The answer of a parser and of one or more after it, each of which may take its place.
-///
-/// It stands apart, so that a choice of one parser costs no more than that parser.
-fn choose_several<T: Drop, P: Parser<T>>(
-    first: &P,
-    rest: &[P],
-    state: &mut State,
-) -> Result<T, Error>
-    requires first { P.can_eval first.now }
-    requires rest { All P.can_eval rest.now }
-    requires several { (length rest.now == 0) ≡ false }
-    ensures { Nested ChoiceOutcome P.outcome (P.outcome first.now) rest.now
-        state.old result state.new }
-{
     let start = Start::of(state);
     let mut answer = first.eval(state);
     for parser in rest {
-        if is_want(&answer) {
-            state.undo(start.mark);
-            return answer;
-        }
-        let this = match Branch::leave(state, start) {
-            Ok(this) => this,
-            Err(refused) => {
-                drop(answer);
-                return Err(Error::from(refused));
-            }
-        };
-        let other = parser.eval(state);
-        if is_want(&other) {
-            drop(answer);
-            state.undo(start.mark);
-            return other;
-        }
-        answer = this_or_that(state, start, answer, this, other);
+        answer = or_parser(state, start, answer, parser);
     }
     answer
 }

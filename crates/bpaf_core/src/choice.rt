@@ -2,6 +2,7 @@
 ghost use Rattle.bpaf_laws.specs.Choice.{ChoiceOutcome, ChoiceReads, ChoiceDescribes, LeftmostWins};
 ghost use Rattle.bpaf_laws.specs.Spared.{IsNotMemory, WithoutMemory};
 ghost use Rattle.bpaf_laws.specs.ShownNames.{joined_shorts};
+ghost use Rattle.bpaf_parts.specs.Branches.{HasAnswered, IsStart, start_of};
 ghost use Rattle.bpaf_laws.proofs.{ChoiceLaws.choice_lawful, ShownNames.choice_shows};
 
 use crate::parser::Parser;
@@ -10,6 +11,42 @@ use bpaf_line::{Error, State};
 use bpaf_parts::{Branch, Start, is_want, or_meta, this_or_that};
 use std::alloc::{AllocError, Global};
 
+/// The answer of a choice of which the first branch answered this, from a start that lies behind
+/// the state, and whose second one is a parser; [`this_or_that`] tells which answer stands. Want of
+/// memory in either is refused at once, with the state as at the start.
+///
+/// It is public for choices in the crates of this repository, not for callers.
+pub fn or_parser<T: Drop, P: Parser<T>>(
+    state: &mut State,
+    start: Start,
+    first: Result<T, Error>,
+    parser: &P,
+) -> Result<T, Error>
+    requires parser { P.can_eval parser.now }
+    requires start { IsStart start state.old }
+    ensures { ChoiceOutcome (HasAnswered (start_of start state.old) first state.old)
+        (P.outcome parser.now) (start_of start state.old) result state.new }
+{
+    if is_want(&first) {
+        state.undo(start.mark);
+        return first;
+    }
+    let this = match Branch::leave(state, start) {
+        Ok(this) => this,
+        Err(error) => {
+            drop(first);
+            return Err(Error::from(error));
+        }
+    };
+    let second = parser.eval(state);
+    if is_want(&second) {
+        drop(first);
+        state.undo(start.mark);
+        return second;
+    }
+    this_or_that(state, start, first, this, second)
+}
+
 /// One of two parsers (bpaf's `ParseOrElse`, in `structs.rs`).
 #[derive(Drop)]
 pub struct ParseOrElse<A, B> {
@@ -17,8 +54,7 @@ pub struct ParseOrElse<A, B> {
     pub that: B,
 }
 
-/// Both are evaluated, each from the same situation, the first one first; [`this_or_that`] tells
-/// which answer stands. Want of memory in either is refused at once, with the state as before.
+/// Both are evaluated, each from the same situation, the first one first ([`or_parser`]).
 impl<T: Drop, A: Parser<T>, B: Parser<T>> Parser<T> for ParseOrElse<A, B> {
     ghost can_eval = { λ p. A.can_eval p.this × B.can_eval p.that };
 
@@ -44,24 +80,7 @@ impl<T: Drop, A: Parser<T>, B: Parser<T>> Parser<T> for ParseOrElse<A, B> {
     {
         let start = Start::of(state);
         let first = self.this.eval(state);
-        if is_want(&first) {
-            state.undo(start.mark);
-            return first;
-        }
-        let this = match Branch::leave(state, start) {
-            Ok(this) => this,
-            Err(error) => {
-                drop(first);
-                return Err(Error::from(error));
-            }
-        };
-        let second = self.that.eval(state);
-        if is_want(&second) {
-            drop(first);
-            state.undo(start.mark);
-            return second;
-        }
-        this_or_that(state, start, first, this, second)
+        or_parser(state, start, first, &self.that)
     }
 
     fn meta(&self, alloc: Global) -> Result<Meta, AllocError> {

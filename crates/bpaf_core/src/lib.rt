@@ -25,9 +25,9 @@
 //!   present at the start and one (clause `repeat_is_bounded`), and none catches want of memory
 //!   (clause `memory_is_never_caught`).
 //! - [`ParseOrElse`] is one of two parsers, both evaluated from the same state: the table of
-//!   [`this_or_that`] tells which answer stands. That function, [`Start`], [`Branch`], [`or_meta`]
-//!   and [`is_want`] are for the crates of this repository, not for callers. The branch that took
-//!   the leftmost place taken by only one of them wins (clause `leftmost_wins`).
+//!   [`bpaf_parts::this_or_that`] tells which answer stands. [`or_parser`], [`Start`] and
+//!   [`or_meta`] are for the crates of this repository, not for callers. The branch that took the
+//!   leftmost place taken by only one of them wins (clause `leftmost_wins`).
 //! - [`ParseHide`] names no missing item in its refusals (specs/Hide.antt); [`ParseUsage`],
 //!   [`ParseGroupHelp`] and [`ParseWithGroupHelp`] change only what is shown: their outcome, their
 //!   readings and their law are those of the parser inside.
@@ -65,10 +65,8 @@ mod usage;
 pub use bpaf_keys::{CommandNames, ExtraParams, Info};
 pub use bpaf_messages::{earlier_key, leftover, render};
 pub use bpaf_pages::{HelpTexts, render_help, usage_of};
-pub use bpaf_parts::{
-    Branch, Start, given_by, is_want, or_meta, read_text, this_or_that, value_or_refusal,
-};
-pub use choice::ParseOrElse;
+pub use bpaf_parts::{Start, given_by, or_meta, read_text, value_or_refusal};
+pub use choice::{ParseOrElse, or_parser};
 pub use collect::ParseCollect;
 pub use commands::{ParseCommand, command};
 pub use count::{ParseCount, ParseLast};

@@ -1,12 +1,12 @@
 -- Choices of any number of parsers: one parser after another.
-use Rattle.std.proofs.Common.{◌≡◌, true, false, List, [], ◌∷◌, ◌++◌, Result, Ok, Err, length, ◌==◌}
-use Rattle.std.proofs.Common.{◌⊎◌, refl, sym, subst, inr, true≢false}
+use Rattle.std.proofs.Common.{◌≡◌, List, [], ◌∷◌, ◌++◌, Result}
+use Rattle.std.proofs.Common.{refl, sym, subst}
 use Rattle.bpaf_doc.specs.Shape.{Shape}
-use Rattle.bpaf_line.specs.{Messages.is_memory, Situation.Situation, declared.error.Error.Error}
+use Rattle.bpaf_line.specs.{Situation.Situation, declared.error.Error.Error}
 use Rattle.bpaf_laws.specs.Spared.{IsNotMemory, Spares, WithoutMemory}
-use Rattle.bpaf_laws.specs.Choice.{is_want, IsWant, Chosen, ChoiceOutcome}
+use Rattle.bpaf_laws.specs.Choice.{ChoiceOutcome}
 use Rattle.bpaf_laws.specs.Choice.{ChoiceDescribes, either_shape}
-use Rattle.bpaf_laws.proofs.Choosing.{choice_within, ran_outcome}
+use Rattle.bpaf_laws.proofs.Choosing.{choice_within}
 use Rattle.bpaf_laws.specs.{Reading.Outcome, Choices.Nested, Choices.ChoicesOutcome}
 
 -- one more parser at the end
@@ -18,33 +18,13 @@ nested_more choice meaning before [] p = refl
 nested_more choice meaning before (q ∷ ps) p =
     nested_more choice meaning (choice before (meaning q)) ps p
 
-module _ {T P : Type 0} (outcome : P → Outcome T) where
-  -- one more parser's answer
-  pub one_more : (before : Outcome T) (ps : List P) (p : P) (s : Situation) (a : Result T Error)
-      (sa : Situation) (b : Result T Error) (sb : Situation) (r : Result T Error) (t : Situation)
-      → Nested ChoiceOutcome outcome before ps s a sa → outcome p s b sb → is_want a ≡ false
-      → is_want b ≡ false → Chosen s a sa b sb r t ⊎ IsWant s r t
-      → Nested ChoiceOutcome outcome before (ps ++ p ∷ []) s r t
-  one_more before ps p s a sa b sb r t first second x y chosen =
-      subst (λ combined. combined s r t) (sym (nested_more ChoiceOutcome outcome before ps p))
-      (ran_outcome (Nested ChoiceOutcome outcome before ps) (outcome p) s a sa b sb r t first
-      second x y chosen)
-
-  -- want of memory is the answer at once, and leaves all as before
-  want_of_later : (before : Outcome T) (s : Situation) (e : Error) (ps : List P)
-      → is_memory e.0 ≡ true → before s (Err e) s
-      → Nested ChoiceOutcome outcome before ps s (Err e) s
-  want_of_later before s e [] want at = at
-  want_of_later before s e (p ∷ ps) want at =
-      want_of_later (ChoiceOutcome before (outcome p)) s e ps want (inr (want, refl))
-
-  -- want of memory, where there are parsers after the first
-  pub wants : (before : Outcome T) (s : Situation) (r : Result T Error) (ps : List P)
-      → (length ps == 0) ≡ false → is_want r ≡ true → Nested ChoiceOutcome outcome before ps s r s
-  wants before s (Ok v) ps some want = absurd (true≢false (sym want))
-  wants before s (Err e) [] some want = absurd (true≢false some)
-  wants before s (Err e) (p ∷ ps) some want =
-      want_of_later (ChoiceOutcome before (outcome p)) s e ps want (inr (want, refl))
+-- one more parser's answer
+pub one_more : {T P : Type 0} (outcome : P → Outcome T) (before : Outcome T) (ps : List P) (p : P)
+    (s : Situation) (r : Result T Error) (t : Situation)
+    → ChoiceOutcome (Nested ChoiceOutcome outcome before ps) (outcome p) s r t
+    → Nested ChoiceOutcome outcome before (ps ++ p ∷ []) s r t
+one_more outcome before ps p s r t chosen =
+    subst (λ combined. combined s r t) (sym (nested_more ChoiceOutcome outcome before ps p)) chosen
 
 -- one more parser is shown
 pub one_more_shown : {P : Type 0} (describes : P → Shape → Type 0) (before : Shape → Type 0)

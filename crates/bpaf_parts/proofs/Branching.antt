@@ -2,11 +2,19 @@
 use Rattle.std.proofs.Common.{◌≡◌, ◌⊎◌, Result, ap, sym, subst, ◌∙◌}
 use Rattle.bpaf_line.specs.Marks.{KeepsMarks, undone, redone}
 use Rattle.bpaf_line.specs.{declared.error.Error.Error, Situation.Situation, Situation.open_count}
-use Rattle.bpaf_laws.specs.Reading.{Outcome, Readings}
-use Rattle.bpaf_laws.specs.{Choice.Chosen, Choice.IsWant, Laws.Lawful}
-use Rattle.bpaf_laws.proofs.Keeping.{keeps_of}
-use Rattle.bpaf_parts.specs.Branches.{IsStart, LedTo, IsBranch, start_of, end_of}
+use Rattle.bpaf_line.proofs.Marks.{fits_undone, undone_twice}
+use Rattle.bpaf_laws.specs.Choice.{Chosen, ChoiceOutcome, IsWant}
+use Rattle.bpaf_laws.specs.Reading.{Outcome}
+use Rattle.bpaf_laws.proofs.Choosing.{choice_within}
+use Rattle.bpaf_parts.specs.Branches.{HasAnswered, IsStart, LedTo, start_of, end_of}
 use Rattle.bpaf_parts.specs.{declared.branch.Branch.Branch, declared.branch.Start.Start}
+
+-- what lies behind a situation that can go back to a start can go back to it too
+pub start_behind : {start : Start} {t : Situation} → IsStart start t → IsStart start (start_of start t)
+start_behind {start} {t} begins = record {
+  fits = fits_undone start.mark t begins.fits;
+  left = begins.left ∙ sym (ap open_count (undone_twice start.mark t));
+}
 
 module _ {s : Situation} {start : Start} (begins : IsStart start s)
     (back : undone start.mark s ≡ s) where
@@ -21,22 +29,18 @@ module _ {s : Situation} {start : Start} (begins : IsStart start s)
     left = begins.left ∙ sym (ap open_count (keeps.same start.mark begins.fits));
   }
 
-  -- two evaluations from the start, one after the other: the second one begins where the first did
-  pub second_keeps : {T : Type 0} {first second : Outcome T} {reads others : Readings T}
-      → Lawful T first reads → Lawful T second others → {a b : Result T Error} {sa m sb : Situation}
-      → first s a sa → m ≡ undone start.mark sa → second m b sb → (m ≡ s) × KeepsMarks s sb
-  second_keeps {second = second} law other {a} {b} {sa} {m} {sb} ran gone then_ran =
-      let again : m ≡ s = gone ∙ start_back (keeps_of law s a sa ran).marks in
-      (again, (keeps_of other s b sb (subst (λ w. second w b sb) again then_ran)).marks)
+  -- a choice of what was answered there is one of the branch that answered
+  pub answered_choice : {T : Type 0} (first second : Outcome T) {a : Result T Error} {t : Situation}
+      (r : Result T Error) (u : Situation) → first s a t → KeepsMarks s t
+      → ChoiceOutcome (HasAnswered (start_of start t) a t) second (start_of start t) r u
+      → ChoiceOutcome first second s r u
+  answered_choice first second {a} {t} r u ran keeps chosen =
+      choice_within (HasAnswered s a t) second first second
+      (λ w v b was spared. rw (was.0, was.1, was.2) ran) (λ w v b ran spared. ran) s u r
+      (subst (λ w. ChoiceOutcome (HasAnswered w a t) second w r u) (start_back keeps) chosen)
 
   module _ {branch : Branch} {sa t : Situation} (led : LedTo branch s sa)
       (keeps : KeepsMarks s t) where
-    -- a branch that led on from the start can be done from there again
-    pub branch_kept : IsBranch start branch t
-    branch_kept =
-        subst (λ o. LedTo branch o (redone branch.steps o)) (sym (start_back keeps))
-        (subst (LedTo branch s) (sym led.there) led)
-
     -- so what is chosen is chosen of where both led
     pub chosen_kept : {T : Type 0} (a b r : Result T Error) (u : Situation)
         → Chosen (start_of start t) a (end_of start branch t) b t r u

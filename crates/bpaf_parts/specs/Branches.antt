@@ -1,7 +1,9 @@
 -- Branches of a choice: where they begin, and where each led to.
-use Rattle.std.specs.Prelude.{◌≡◌, length}
+use Rattle.std.specs.Prelude.{◌≡◌, length, Result}
 use Rattle.bpaf_line.specs.Situation.{Situation, open_count}
 use Rattle.bpaf_line.specs.Marks.{Fits, CanRedo, undone, redone}
+use Rattle.bpaf_line.specs.declared.error.Error.{Error}
+use Rattle.bpaf_laws.specs.Reading.{Outcome}
 use Rattle.bpaf_parts.specs.{declared.branch.Start.Start, declared.branch.Branch.Branch}
 
 -- a parse can go back to the start, in which so many items are present
@@ -27,3 +29,7 @@ end_of start branch t = redone branch.steps (start_of start t)
 -- a branch begins at the start that lies behind a situation
 abbrev pub IsBranch : Start → Branch → Situation → Type 0
 IsBranch start branch t = LedTo branch (start_of start t) (end_of start branch t)
+
+-- what was answered from a situation, and where that led
+abbrev pub HasAnswered : {T : Type 0} → Situation → Result T Error → Situation → Outcome T
+HasAnswered s a t from r u = (from ≡ s) × (r ≡ a) × (u ≡ t)
