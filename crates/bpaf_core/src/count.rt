@@ -1,8 +1,8 @@
 //! How many values a parser gives, and the last of them.
 ghost use Rattle.bpaf_laws.specs.Repeat.{CountOutcome, LastOutcome, ListReads, ManyDescribes};
-ghost use Rattle.bpaf_laws.specs.Repeat.{SomeDescribes};
+ghost use Rattle.bpaf_laws.specs.Repeat.{EndsIn, SomeDescribes, UntilFault, UntilRest};
 ghost use Rattle.bpaf_laws.specs.{Transform.MapReads, Spared.IsNotMemory, Spared.WithoutMemory};
-ghost use Rattle.std.specs.Prelude.{◌≡◌, List, ℕ, length, [], ◌∷◌, ◌++◌};
+ghost use Rattle.std.specs.Prelude.{◌≡◌, IfErr, IfOk, List, ℕ, length, [], ◌∷◌, ◌++◌};
 ghost use Rattle.bpaf_laws.proofs.RepeatLaws.{count_lawful, last_lawful};
 ghost use Rattle.bpaf_laws.proofs.ShownNames.{many_shows, some_shows};
 
@@ -14,40 +14,50 @@ use bpaf_parts::{many_meta, some_meta};
 use std::alloc::{AllocError, Global};
 use std::marker::PhantomData;
 
-/// The number of values, until a turn stops or a value took nothing, which is counted.
-fn count_values<T: Drop, P: Parser<T>>(parser: &P, state: &mut State) -> Result<usize, Error>
+/// How many values there were, and the last of them.
+#[derive(Drop)]
+struct Counted<T> {
+    count: usize,
+    last: Option<T>,
+}
+
+/// The values until a turn stops, or one took nothing, which is counted too.
+fn count_values<T: Drop, P: Parser<T>>(parser: &P, state: &mut State) -> Result<Counted<T>, Error>
     requires { P.can_eval parser.now }
-    ensures { CountOutcome (P.outcome parser.now) state.old result state.new }
+    ensures ok { IfOk result (λ counted. (values : List T)
+        × UntilRest (P.outcome parser.now) state.old values state.new
+        × (counted.count ≡ length values) × EndsIn values counted.last) }
+    ensures err { IfErr result (λ e. UntilFault (P.outcome parser.now) state.old e state.new) }
 {
     let present_at_start = state.len();
     let mut left = present_at_start;
     let mut count = 0;
-    while let Some(_) = parse_option(parser, state, false, count == 0)? {
+    let mut last = None;
+    while let Some(value) = parse_option(parser, state, false, last.is_none())? {
         count += 1;
+        last = Some(value);
         if state.len() == left {
-            return Ok(count);
+            return Ok(Counted { count, last });
         }
         left = state.len();
     }
-    Ok(count)
+    Ok(Counted { count, last })
 }
 
-/// The last value before a turn stops, or one that took nothing; without a value what the parser
-/// answers once more.
+/// How many of these values there are.
+fn number_of_values<T: Drop, P: Parser<T>>(parser: &P, state: &mut State) -> Result<usize, Error>
+    requires { P.can_eval parser.now }
+    ensures { CountOutcome (P.outcome parser.now) state.old result state.new }
+{
+    Ok(count_values(parser, state)?.count)
+}
+
+/// The last of these values; without one what the parser answers once more.
 fn last_value<T: Drop, P: Parser<T>>(parser: &P, state: &mut State) -> Result<T, Error>
     requires { P.can_eval parser.now }
     ensures { LastOutcome (P.outcome parser.now) state.old result state.new }
 {
-    let mut left = state.len();
-    let mut last = None;
-    while let Some(value) = parse_option(parser, state, false, last.is_none())? {
-        if state.len() == left {
-            return Ok(value);
-        }
-        left = state.len();
-        last = Some(value);
-    }
-    match last {
+    match count_values(parser, state)?.last {
         Some(value) => Ok(value),
         None => parser.eval(state),
     }
@@ -80,7 +90,7 @@ impl<T: Drop, P: Parser<T>> Parser<usize> for ParseCount<P, T> {
         ensures memory_is_never_caught { IsNotMemory result →
             CountOutcome (WithoutMemory (P.outcome self.now.inner)) state.old result state.new }
     {
-        count_values(&self.inner, state)
+        number_of_values(&self.inner, state)
     }
 
     fn meta(&self, alloc: Global) -> Result<Meta, AllocError> {

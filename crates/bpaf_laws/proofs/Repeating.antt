@@ -7,7 +7,8 @@ use Rattle.std.specs.{Prelude.vec_len, Global.Vec}
 use Rattle.bpaf_line.specs.{Messages.is_memory, Situation.Situation, Situation.open_count}
 use Rattle.bpaf_line.specs.{declared.error.Error.Error, declared.error.Message.TheVariants.Memory}
 use Rattle.bpaf_laws.proofs.CountingLaws.{open_count-falls}
-use Rattle.bpaf_laws.specs.Repeat.{is_nil, Turns, UntilRest, stops, rests, ManyOutcome, LastOutcome}
+use Rattle.bpaf_laws.specs.Repeat.{EndsIn, is_nil, Turns, UntilRest, stops, rests, ManyOutcome}
+use Rattle.bpaf_laws.specs.Repeat.{LastOutcome}
 use Rattle.bpaf_laws.specs.{Reading.Readings, Reading.Outcome, Laws.Lawful, Turn.TurnOutcome}
 use Rattle.bpaf_laws.proofs.RepeatLaws.{took_item, steps_more, values_bounded, step_falls}
 
@@ -68,11 +69,6 @@ pub steps_refused : {T : Type 0} (inner : Outcome T) (r : Result (Vec T) Error) 
 steps_refused inner (Err e) catches s t vs steps is =
     record { values = vs; last = t; steps = steps; fails = inr (ap is_memory is, refl) }
 steps_refused inner (Ok v) catches s t vs steps is = absurd is
-
--- the last value of a list, where it has one
-abbrev pub EndsIn : {T : Type 0} → List T → Option T → Type 0
-EndsIn values None = values ≡ []
-EndsIn {T} values (Some v) = (before : List T) × (values ≡ before ++ v ∷ [])
 
 -- what `is_none` answers
 none_if : {T : Type 0} (o : Option T) (b : Bool) → is_some o ≡ not b → b ≡ is_none o

@@ -1,6 +1,6 @@
 -- Repeats: turns of one inner parser, one after another.
 use Rattle.std.specs.Prelude.{◌≡◌, ◌⊎◌, ℕ, ◌+◌, ◌<◌, ◌≤◌, Bool, true, false, List, [], ◌∷◌, ◌++◌}
-use Rattle.std.specs.Prelude.{length, Ok, Err, Some, None, ⊤}
+use Rattle.std.specs.Prelude.{length, Ok, Err, Option, Some, None, ⊤}
 use Rattle.std.specs.Global.{Vec}
 use Rattle.bpaf_doc.specs.Shape.{Shape, Many, Optional, Required}
 use Rattle.bpaf_line.specs.Situation.{Situation, open_count}
@@ -92,6 +92,11 @@ abbrev pub CountOutcome : {T : Type 0} → Outcome T → Outcome ℕ
 CountOutcome {T} inner s (Ok n) t =
     (values : List T) × UntilRest inner s values t × (n ≡ length values)
 CountOutcome inner s (Err e) t = UntilFault inner s e t
+
+-- the last value of a list, where it has one
+abbrev pub EndsIn : {T : Type 0} → List T → Option T → Type 0
+EndsIn values None = values ≡ []
+EndsIn {T} values (Some v) = (before : List T) × (values ≡ before ++ v ∷ [])
 
 -- last: the last value; without one, what the inner parser answers when it is evaluated once more
 abbrev pub LastOutcome : {T : Type 0} → Outcome T → Outcome T
