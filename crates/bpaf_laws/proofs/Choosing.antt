@@ -79,18 +79,6 @@ choice_spared first second s t r ran spared =
     choice_within first second (WithoutMemory first) (WithoutMemory second)
     (λ s t r ran spared. (ran, spared)) (λ s t r ran spared. (ran, spared)) s t r ran
 
--- want of memory of a branch is the answer, where all is as before
-pub want_outcome : {T : Type 0} (first second : Outcome T) (s : Situation) (r : Result T Error)
-    (t : Situation) → is_want r ≡ true → t ≡ s → ChoiceOutcome first second s r t
-want_outcome first second s (Ok v) t want same = absurd (true≢false (sym want))
-want_outcome first second s (Err e) t want same = inr (want, same)
-
--- also where the leftmost wins
-pub want_leftmost : {T : Type 0} (first second : Outcome T) (s : Situation) (r : Result T Error)
-    (t : Situation) → is_want r ≡ true → t ≡ s → LeftmostWins first second s r t
-want_leftmost first second s (Ok v) t want same = absurd (true≢false (sym want))
-want_leftmost first second s (Err e) t want same = inr (want, same)
-
 -- of two situations the leftmost place of the one is that of the other
 pub leftmost_of_other : (s other : Situation) (p : ℕ) → IsLeftmost s other p → IsLeftmost other s p
 leftmost_of_other s other p h = record {

@@ -12,10 +12,6 @@ use Rattle.bpaf_laws.specs.Repeat.{LastOutcome}
 use Rattle.bpaf_laws.specs.{Reading.Readings, Reading.Outcome, Laws.Lawful, Turn.TurnOutcome}
 use Rattle.bpaf_laws.proofs.RepeatLaws.{took_item, steps_more, values_bounded, step_falls}
 
--- a number above nothing isn't nothing
-not_zero : (n : ℕ) → 0 < n → (n == 0) ≡ false
-not_zero n above = grind (arith, nat_tests)
-
 -- a list without values is one of length nothing
 pub length_nil : {T : Type 0} (xs : List T) → (length xs == 0) ≡ is_nil xs
 length_nil xs = grind (arith, nat_tests)
@@ -24,10 +20,6 @@ length_nil xs = grind (arith, nat_tests)
 pub vec_nil : {T : Type 0} (values : Vec T) → (vec_len values == 0) ≡ is_nil values.items
 vec_nil values =
     subst (λ n. (n == 0) ≡ is_nil values.items) (sym values.ok.0) (length_nil values.items)
-
--- a count of values is nothing where there is no value
-pub count_nil : {T : Type 0} (n : ℕ) (xs : List T) → n ≡ length xs → (n == 0) ≡ is_nil xs
-count_nil n xs counted = ap (λ k. k == 0) counted ∙ length_nil xs
 
 -- a turn that answered a value, at the test for the first one
 step_at : {T : Type 0} (inner : Outcome T) (catches : Bool) (m : Situation) (vs : List T) (b : Bool)
@@ -135,9 +127,3 @@ module _ {T : Type 0} {inner : Outcome T} {reads : Readings T} (law : Lawful T i
           let fewer = took_item inner false m t v at in
           let bound = values_bounded law false s (x ∷ xs) m steps in
           inr (omega arith)
-
--- without a value, what the inner parser answers when it is evaluated once more
-pub last_answers : {T : Type 0} (inner : Outcome T) (s m : Situation) → UntilRest inner s [] m
-    → (r : Result T Error) (t : Situation) → inner m r t → LastOutcome inner s r t
-last_answers inner s m run (Ok v) t o = inr (m, run, o)
-last_answers inner s m run (Err e) t o = inr (m, run, o)

@@ -67,10 +67,3 @@ value_is_open s p text value = of_test (is_open s (p + 1)) (item_at s (p + 1)) v
         → (b ≡ true) × (option_and_then value_text at ≡ Some text)
     of_test true at e = (refl, e)
     of_test false at e = cc
-
--- where no place below one has a match, nor that place, no place below the next one has
-pub none_more : (test : Arg → Bool) (s : Situation) (n : ℕ)
-    → ((q : ℕ) → q < n → is_match test s q ≡ false) → is_match test s n ≡ false
-    → (q : ℕ) → q < n + 1 → is_match test s q ≡ false
-none_more test s n none here q within = ⊎_elim (λ (same : q ≡ n). ap (is_match test s) same ∙ here)
-    (λ (other : q ≢ n). none q (omega arith)) (cases_eq q n)
