@@ -5,7 +5,11 @@ use Rattle.bpaf_index.specs.Chained.{Chained, IsNextOf, IsPlaceOf}
 
 -- the classes, the beginnings and the names
 abbrev pub chained_of : Inside → Chained
-chained_of s = record { classes = s.classes.items; heads = s.heads.items; names = s.names }
+chained_of s = record {
+  classes = s.links.value.classes.items;
+  heads = s.heads.items;
+  names = s.links.value.names;
+}
 
 -- each place has its next one, each class is one of those that have a beginning, and each chain
 -- begins at one of its places

@@ -24,19 +24,33 @@ const SHORT_LINE: usize = 32;
 ///
 /// Contracts see the classes, the beginnings and the names (`Chained`).
 pub struct Chains {
+    links: Box<Links>,
+    heads: Vec<usize>,
+}
+
+/// The classes of names and of places, and each place's next one: what no walk changes.
+struct Links {
     names: NameClasses,
     classes: Vec<usize>,
     next: Vec<usize>,
-    heads: Vec<usize>,
+}
+
+/// One call, as of the chains.
+impl Drop for Links {
+    fn drop(self) {
+        let Links {
+            names: _names,
+            classes: _classes,
+            next: _next,
+        } = self;
+    }
 }
 
 /// One call, so that a function that drops a state isn't checked for each part of it.
 impl Drop for Chains {
     fn drop(self) {
         let Chains {
-            names: _names,
-            classes: _classes,
-            next: _next,
+            links: _links,
             heads: _heads,
         } = self;
     }
@@ -51,7 +65,7 @@ impl Model for Chains {
 
     ghost view = { chained_of };
 
-    ghost invariant = { λ s. IsLinked s.classes.items s.next.items s.heads.items };
+    ghost invariant = { λ s. IsLinked s.links.value.classes.items s.links.value.next.items s.heads.items };
 }
 
 impl Chains {
@@ -80,10 +94,13 @@ impl Chains {
         let mut next = vec![in alloc; keys; keys]?;
         let mut heads = vec![in alloc; keys; OWN_CLASSES + keys]?;
         link(&classes, &mut next, &mut heads);
-        Ok(Chains {
+        let links = Links {
             names,
             classes,
             next,
+        };
+        Ok(Chains {
+            links: Box::new(alloc, links)?,
             heads,
         })
     }
@@ -92,14 +109,14 @@ impl Chains {
     pub fn first_short(&self, name: char) -> usize
         ensures { IsChainStart self.now (Short name false []) result }
     {
-        self.first_of(self.names.class_of_short(name))
+        self.first_of(self.links.names.class_of_short(name))
     }
 
     /// The place at which to begin to look for a long name.
     pub fn first_long(&self, name: &Text) -> usize
         ensures { IsChainStart self.now (Long name.now false []) result }
     {
-        self.first_of(self.names.class_of_long(name))
+        self.first_of(self.links.names.class_of_long(name))
     }
 
     /// The place at which to begin to look for a word.
@@ -125,14 +142,14 @@ impl Chains {
         ensures { IsNextOf self.now.classes (slice_index self.now.classes place) (place + 1)
             result }
     {
-        self.next[place]
+        self.links.next[place]
     }
 
     /// How many places there are.
     pub fn len(&self) -> usize
         ensures { result ≡ length self.now.classes }
     {
-        self.classes.len()
+        self.links.classes.len()
     }
 
     /// The first place from one on along its chain whose bit is not set.
@@ -155,7 +172,7 @@ impl Chains {
         ensures { AreBehind items.now (has_bit words.now) self.new }
     {
         if place < self.len() {
-            let class = self.classes[place];
+            let class = self.links.classes[place];
             let head = self.heads[class];
             let first = self.first_clear(words, head);
             self.heads[class] = first;
@@ -170,7 +187,7 @@ impl Chains {
         if place >= self.len() {
             return;
         }
-        let class = self.classes[place];
+        let class = self.links.classes[place];
         let head = self.heads[class].min(place);
         self.heads[class] = head;
     }

@@ -12,7 +12,7 @@ returns c =
     let classes = c.in_ok-names.classes.items in
     let size : length classes ≡ c.args.keys =
     c.in_ok-names.ensures.size ∙ length-take-le c.args.keys line c.requires.within in
-    behind_nothing _ line (omega (arith, size, c.requires.within))
+    rw c.in_ok-new.ensures.ok (behind_nothing _ line (omega (arith, size, c.requires.within))
     (classes_of_front names line c.args.keys classes size c.requires.within
     c.in_ok-names.ensures.classes)
     (subst (HasNoKeyFrom line) (sym size) c.requires.keyless)
@@ -28,4 +28,4 @@ returns c =
       length-take-le c.args.keys line c.requires.within,
       c.deref_mut-2.ensures.len,
       c.in_ok-heads.ensures.len,
-    )))))
+    ))))))
