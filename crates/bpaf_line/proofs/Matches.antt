@@ -1,8 +1,8 @@
 -- Matches: a first item that passes a test is present, in scope, and passes it.
-use Rattle.std.proofs.Common.{◌≡◌, ◌≢◌, ℕ, ◌+◌, ◌<◌, Bool, true, false, not, ◌||◌, List, [], Option}
-use Rattle.std.proofs.Common.{Some, None, refl, ap, ◌∙◌, arith, ⊎_elim, if◌then◌else◌}
+use Rattle.std.proofs.Common.{◌≡◌, ℕ, ◌+◌, Bool, true, false, not, ◌||◌, List, [], Option}
+use Rattle.std.proofs.Common.{Some, None, refl, if◌then◌else◌}
 use Rattle.std.proofs.Common.{option_and_then, length, slice_get, get_or, nat_lt}
-use Rattle.std.proofs.{lemmas.Bool.cases_eq, lemmas.Option.slice_get-get_or}
+use Rattle.std.proofs.{lemmas.Option.slice_get-get_or}
 use Rattle.std.specs.Option.{option_map_or}
 use Rattle.bpaf_base.specs.declared.arg.Arg.TheVariants.{ArgWord}
 use Rattle.bpaf_base.specs.{declared.arg.Arg.Arg, Items.value_text, Items.any_item}
