@@ -162,7 +162,8 @@ pub early_set : {line : List Arg} {set : ℕ → Bool} {chains : Chained} {class
     {from p : ℕ} → AreBehind line set chains → IsChainStartOf chains class from
     → p < length chains.classes → class ≡ Some (slice_index chains.classes p) → p < from
     → set p ≡ true
-early_set {p} h start below at early = h.passed p below (omega (arith, early, start.begins p below at))
+early_set {p} h start below at early =
+    h.passed p below (omega (arith, early, start.begins p below at))
 
 -- chains that begin at their first places stand behind nothing
 pub behind_nothing : (chains : Chained) (line : List Arg) → length chains.classes ≤ length line

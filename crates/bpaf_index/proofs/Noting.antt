@@ -27,7 +27,7 @@ pub noted_long : (shorts : List (ℕ × ℕ)) (old new : BTreeMap (String Global
     → Updates string_cmp old new kept (Some next)
     → IsNoted (record { shorts = shorts; longs = old.entries })
     (record { shorts = shorts; longs = new.entries }) item next next
-noted_long shorts old new kept next item {attached} {word} {name} long is none updates = rw long (record {
+noted_long shorts old new kept next item {name = name} long is none updates = rw long (record {
   has = finds name ∙ ap (λ b. if b then Some next else get_by_text old name)
       ((bytes_eq-Decides name name).1 refl);
   others = others;
@@ -42,9 +42,9 @@ noted_long shorts old new kept next item {attached} {word} {name} long is none u
         → (get_by_text new text ≡ get_by_text old text)
         ⊎ ((get_by_text old text ≡ None) × (get_by_text new text ≡ Some next))
     of_test text true e = inr (
-      subst (λ x. get_by_text old x ≡ None)
-          ((bytes_eq-Decides name text).0 e)
-          (subst (λ i. class_of (record { shorts = shorts; longs = old.entries }) i ≡ None) long none),
+      subst (λ x. get_by_text old x ≡ None) ((bytes_eq-Decides name text).0 e)
+          (subst (λ i. class_of (record { shorts = shorts; longs = old.entries }) i ≡ None) long
+          none),
       finds text ∙ ap (λ b. if b then Some next else get_by_text old text) e,
     )
     of_test text false e =
@@ -66,5 +66,6 @@ pub classes_of_front : (names : Naming) (line : List Arg) (n : ℕ) (classes : L
     → AreClassesOf names line classes
 classes_of_front names line n classes size within h p item inside found =
     let below : p < n = omega (arith, inside, size) in
-    h p item inside (slice_get_read (take n line) n p item (sym (length-take-le n line within)) below
+    h p item inside (slice_get_read (take n line) n p item (sym (length-take-le n line within))
+    below
     (sym (get_or-take n line p item below ∙ get_or_from_slice_get line p item item found)))

@@ -61,8 +61,8 @@ pub record HasWalked (classes : List ℕ) (passes : ℕ → Bool) (low p : ℕ) 
   pub passed : (k q : ℕ) → IsPlaceOf classes k low → low ≤ q → q < p → slice_index classes q ≡ k
       → passes q ≡ true
 
--- the place at which the chain of a class begins, if there is one: a place of the class, or past them
--- all; no place of the class has a chain that begins earlier
+-- the place at which the chain of a class begins, if there is one: a place of the class, or past
+-- them all; no place of the class has a chain that begins earlier
 pub record IsChainStartOf (chains : Chained) (class : Option ℕ) (p : ℕ) : Type 0 where
   pub place : (k : ℕ) → class ≡ Some k → IsPlaceOf chains.classes k p
   pub begins : (q : ℕ) → q < length chains.classes

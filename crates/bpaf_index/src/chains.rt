@@ -65,7 +65,8 @@ impl Model for Chains {
 
     ghost view = { chained_of };
 
-    ghost invariant = { λ s. IsLinked s.links.value.classes.items s.links.value.next.items s.heads.items };
+    ghost invariant = { λ s.
+        IsLinked s.links.value.classes.items s.links.value.next.items s.heads.items };
 }
 
 impl Chains {

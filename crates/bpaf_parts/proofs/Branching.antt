@@ -10,7 +10,8 @@ use Rattle.bpaf_parts.specs.Branches.{HasAnswered, IsStart, LedTo, start_of, end
 use Rattle.bpaf_parts.specs.{declared.branch.Branch.Branch, declared.branch.Start.Start}
 
 -- what lies behind a situation that can go back to a start can go back to it too
-pub start_behind : {start : Start} {t : Situation} → IsStart start t → IsStart start (start_of start t)
+pub start_behind : {start : Start} {t : Situation} → IsStart start t
+    → IsStart start (start_of start t)
 start_behind {start} {t} begins = record {
   fits = fits_undone start.mark t begins.fits;
   left = begins.left ∙ sym (ap open_count (undone_twice start.mark t));

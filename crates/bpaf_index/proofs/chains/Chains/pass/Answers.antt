@@ -26,8 +26,8 @@ begins c = get_or_read c.self.inside.heads.items c.index-class.result.now _
     c.index-head.ensures 0
 
 -- it was walked from there
-walked : (c : After-self-1) → HasWalked c.self.inside.links.value.classes.items (has_bit c.args.words.now)
-    c.index-head.result.now c.first_clear-first.result
+walked : (c : After-self-1) → HasWalked c.self.inside.links.value.classes.items
+    (has_bit c.args.words.now) c.index-head.result.now c.first_clear-first.result
 walked c = subst (λ t. HasWalked t.classes (has_bit c.args.words.now) c.index-head.result.now
     c.first_clear-first.result) (sym c.self.view_is) c.first_clear-first.ensures
 
