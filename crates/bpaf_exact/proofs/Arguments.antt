@@ -115,7 +115,8 @@ module _ (argument : KeyWithValue) where
     variable_read {s} {text} {v} same read m =
         let here = subst (λ z. first_set z argument.named.envs ≡ Some text) same read.set in
         subst (Unread s (Ok v)) (sym read.left) (subst (λ gap. NoneRead T gap
-        (argument.named.envs ≡ [] → ⊥) s (Ok v) (with_current s None)) (ap (gap_of means) (sym here))
+        (argument.named.envs ≡ [] → ⊥) s (Ok v) (with_current s None))
+        (ap (gap_of means) (sym here))
         (none_absent refl m (current_cells s) (same_steady steady_refl)))
 
     -- one that means no value is refused
@@ -244,7 +245,8 @@ module _ (argument : KeyWithValue) where
         nothing v (rw (← ap item_text word ∙ a.text_is) g.3)
 
     -- where a key has no value, the pieces have none
-    bare_refused : (s : Situation) {t : Situation} {c : ErrorClass} {k : Arg} {tail : List LinePiece}
+    bare_refused : (s : Situation) {t : Situation} {c : ErrorClass} {k : Arg}
+        {tail : List LinePiece}
         → c ≡ Refused → (some : List LinePiece) → pieces q (cells s) ≡ some ++ pieces q (cells t)
         → pieces q (cells t) ≡ One k ∷ tail
         → SingleErr T ByName q (LastGroup T means) (gap means variables) s c t
@@ -258,7 +260,8 @@ module _ (argument : KeyWithValue) where
         → s.context.env ≡ variables → ArgumentFails means argument s m t
         → SingleErr T ByName q (LastGroup T means) (gap means variables) s (class e) t
     last_err e Memory c same o = of_memory c
-    last_err {s} e (ParseFailed place fault) c same o = ⊎_elim (λ takes. let got = takes_all takes in
+    last_err {s} e (ParseFailed place fault) c same o = ⊎_elim
+        (λ takes. let got = takes_all takes in
         of_piece c (takes_nonempty got.0.any.one) (fault_group got.0 got.1 o.2.0))
         (λ read. none_err (no_key s read.no_key) (variable_fault means variables same read c o.2.0))
         o.1
@@ -302,8 +305,8 @@ module _ (argument : KeyWithValue) where
         (λ takes. let m = takes_pair once takes in
         read_fault c m.steady.path (first_pieces q named m.takes) (λ none. absurd cc)
         (λ v y. o.2.0 v (rw (← m.text_is) y)))
-        (λ read. read_none (no_key s read.no_key) (variable_fault means variables same read c o.2.0))
-        o.1
+        (λ read. read_none (no_key s read.no_key)
+        (variable_fault means variables same read c o.2.0)) o.1
     fails_read {s} {t} (NoArgument key metavar) c same o =
         let left = subst (λ b. TakesBefore b argument s t) once o.1 in
         let lacks = subst (λ z. LacksText argument z (NoArgument key metavar)) left o.0 in

@@ -198,7 +198,8 @@ fallback_form_law env {T} inner gives f decides gave refused names words s l =
         (⊎_elim (λ kept. fallback_err kept.1 (kept_class e.0 kept.2))
         (λ memory. fallback_memory (memory_class e.0 memory)) o.0)
     by_answer s t (Err e) (inr o) = rw o.0.1 (⊎_elim (λ memory. fallback_memory memory)
-        (λ told. fallback_no o.0.0.2 (caught_class o.0.0.0.0 o.0.0.3) told.0 told.1) (refused e o.1))
+        (λ told. fallback_no o.0.0.2 (caught_class o.0.0.0.0 o.0.0.3) told.0 told.1)
+        (refused e o.1))
 
 -- a kept value
 pub fallback_law : (env : Variables) (T : Type 0) (inner : Outcome T) (clones : T → T → Type 0)

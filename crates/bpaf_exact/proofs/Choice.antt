@@ -190,8 +190,9 @@ module _ (T : Type 0) {qa qb r : Roles} (u : Union qa qb r) (va : LinePiece → 
     piece = a.piece;
     takes = rw e (takes_left u a.takes);
     means = rw (same_a a.piece x (takes_own a.takes)) a.means;
-    first = rw e (won_first
-        (some_head (pieces r (cells s)) (takes_nonempty (takes_left u a.takes))).2 a.takes o a.first);
+    first =
+        let head = some_head (pieces r (cells s)) (takes_nonempty (takes_left u a.takes)) in
+        rw e (won_first head.2 a.takes o a.first);
   }
 
 module _ {env : Variables} (T : Type 0) (a b : Outcome T) (qa qb : Roles)
@@ -321,7 +322,7 @@ module _ {env : Variables} (T : Type 0) (a b : Outcome T) (qa qb : Roles)
       alone_ok (second_won (lb.keeps.ok s sb y w g) other steady_refl refl) o
   equal_ok s sa sb (Err e) (Err d) w f g hf hg o = let i = o.0.2 in absurd cc
 
-  -- where one can't read its first piece, and the other can't or has none, that of both can't be read
+  -- where neither can read its first piece, if it has one, that of both can't be read
   both_unread : (cs : Cells) → (pieces (either qa qb) cs ≡ [] → ⊥)
       → (pieces qa cs ≡ []) ⊎ FirstUnread T qa va cs → (pieces qb cs ≡ []) ⊎ FirstUnread T qb vb cs
       → FirstUnread T (either qa qb) vr cs
@@ -330,8 +331,10 @@ module _ {env : Variables} (T : Type 0) (a b : Outcome T) (qa qb : Roles)
       (head.0, head.1, head.2, by_owner (owner cs u head.2))
     where
       by_owner : {o : LinePiece} → HeadOf qa cs o ⊎ HeadOf qb cs o → (w : T) → vr o w → ⊥
-      by_owner (inl h) = ⊎_elim (λ none. let i = h.1 in absurd cc) (head_unread qa cs same_first h) f
-      by_owner (inr h) = ⊎_elim (λ none. let i = h.1 in absurd cc) (head_unread qb cs same_second h) g
+      by_owner (inl h) =
+          ⊎_elim (λ none. let i = h.1 in absurd cc) (head_unread qa cs same_first h) f
+      by_owner (inr h) =
+          ⊎_elim (λ none. let i = h.1 in absurd cc) (head_unread qb cs same_second h) g
 
   -- with a refusal of either class
   by_class : {s : Situation} {c : ErrorClass} → (c ≡ OfMemory) ⊎ (c ≡ Refused)
@@ -377,12 +380,15 @@ module _ {env : Variables} (T : Type 0) (a b : Outcome T) (qa qb : Roles)
   equal_err s g (Ok x) (Ok y) w f h hf hg (inl o) = let i = o.1.0 in absurd cc
   equal_err s {sa} {sb} {t} g (Ok x) (Ok y) w f h hf hg (inr o) =
       absurd (not_winner (branch_of x sa) (branch_of y sb) o.1.0 g t o.1.2)
-  equal_err s {sa} g (Ok x) (Err e) w f h hf hg o = absurd (one_no_refusal (la.keeps.ok s sa x w f) o)
-  equal_err s {sb} g (Err e) (Ok y) w f h hf hg o = absurd (one_no_refusal (lb.keeps.ok s sb y w h) o)
+  equal_err s {sa} g (Ok x) (Err e) w i j hx hy o =
+      absurd (one_no_refusal (la.keeps.ok s sa x w i) o)
+  equal_err s {sb} g (Err e) (Ok y) w i j hx hy o =
+      absurd (one_no_refusal (lb.keeps.ok s sb y w j) o)
   equal_err s {sa} {sb} g (Err e) (Err d) w f h hf hg o =
       let given = o.0.2 in
       let same : o.0.0 ≡ g = cc in
-      rw (o.1, ← same) (both_failed s e d hf hg o.0.1 (la.keeps.err s sa e w f) (lb.keeps.err s sb d w h))
+      rw (o.1, ← same)
+      (both_failed s e d hf hg o.0.1 (la.keeps.err s sa e w f) (lb.keeps.err s sb d w h))
 
   -- a refusal of the choice is that of an alternative
   choice_err : (s t : Situation) (e : Error) → IsWholeIn env s → ChoiceOutcome a b s (Err e) t

@@ -42,7 +42,8 @@ module _ {A B : Type 0} (inner : Outcome A) (r : Roles) {value : CellsValue A} {
       deep = i.deep;
       read = λ spelled n. record { from = x; read = i.read spelled n; made = y };
       all = λ w h. let g = i.all h.from h.read in (record { from = x; read = g.0; made = y }, g.1);
-    }) (λ s t x i n w h. absurd (agrees (cells s) h.from x w h.read (i.all h.from h.read).0 h.made n))
+    }) (λ s t x i n w h.
+        absurd (agrees (cells s) h.from x w h.read (i.all h.from h.read).0 h.made n))
         (λ s t w h. refl) (λ s t d refuses w h. refuses h.from h.read);
   }
 
@@ -53,8 +54,9 @@ module _ {A B : Type 0} (inner : Outcome A) (r : Roles) {value : CellsValue A} {
   closed_commands l = record {
     program = closed_program l.program;
     opened = λ cs v h. l.opened cs h.from h.read;
-    none = closed_keeps c l.none (λ s t x v never y. never) (λ s t x never n none. absurd (never none))
-        (λ s t none. inl refl) (λ s t d refuses. refuses);
+    none = closed_keeps c l.none (λ s t x v never y. never)
+        (λ s t x never n none. absurd (never none)) (λ s t none. inl refl)
+        (λ s t d refuses. refuses);
   }
 
 -- Commands that may be left out.

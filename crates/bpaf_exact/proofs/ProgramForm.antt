@@ -370,8 +370,9 @@ runs_exactly V outcome names words s h context l a r =
     exact (record_law context.env V outcome names words s h l) r
 
 -- an outcome that allows no more keeps to the same laws of a program
-narrower_program : {env : Variables} {V : Type 0} {a b : Outcome V} → AllowsNoMore V a b → {r : Roles}
-    {value : CellsValue V} → ProgramLaw env V a r value → ProgramLaw env V b r value
+narrower_program : {env : Variables} {V : Type 0} {a b : Outcome V} {r : Roles}
+    {value : CellsValue V} → AllowsNoMore V a b → ProgramLaw env V a r value
+    → ProgramLaw env V b r value
 narrower_program n l = record { others = l.others; keeps = narrower n l.keeps }
 
 -- and of any form

@@ -90,9 +90,9 @@ same_steady a =
 -- what a constructor makes of the values of fields keeps to what follows of each answer of theirs
 pub con_keeps : {env : Variables} {A B : Type 0} {fields : Outcome A} {makes : A → B → Type 0}
     {gives : Situation → A → Situation → Type 0} {gave : Situation → B → Situation → Type 0}
-    {refuses refused : Situation → ErrorClass → Situation → Type 0} → Keeps env A fields gives refuses
-    → ((s m : Situation) (x : A) (v : B) → gives s x m → makes x v
-    → gave s v (with_current m None))
+    {refuses refused : Situation → ErrorClass → Situation → Type 0}
+    → Keeps env A fields gives refuses → ((s m : Situation) (x : A) (v : B) → gives s x m
+    → makes x v → gave s v (with_current m None))
     → ((s m : Situation) (c : ErrorClass) → refuses s c m → refused s c (with_current m None))
     → Keeps env B (ProductOutcome fields makes) gave refused
 con_keeps l answers fails = record {
@@ -126,8 +126,7 @@ con_law makes l = record {
 
 -- The pieces of two fields together.
 
--- Where a test keeps the pieces of some items, that have the same role to a field, and of no others,
--- those are the field's.
+-- Where a test keeps the pieces of a field's own items alone, those are the field's.
 module _ (p q r : Roles) (test : LinePiece → Bool) where
   -- what it makes of the pieces that begin with an item
   data Kept (k : Arg) : Type 0 where

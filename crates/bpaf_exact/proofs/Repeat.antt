@@ -109,13 +109,20 @@ module _ {env : Variables} {T : Type 0} {inner : Outcome T} {k : FieldKind} {q :
       by_kind (OneWord b) u g = u.of_each os v rest g
       by_kind (EachWord b) u g = absurd u
 
-  -- what a repeat took, once it has the first value
-  record Took (s : Situation) (vs : List T) (t : Situation) : Type 0 where
+  -- what a repeat took: all its pieces, of which this is said
+  record Took (told : List LinePiece → Type 0) (s t : Situation) : Type 0 where
     steady : Steady s t
     takes : TakesPieces q (cells s) (cells t)
     none : pieces q (cells t) ≡ left s
-    list : Own T group (own s) vs
-    absent : gap.has ≡ true → (a : T) × gap.absent a
+    list : told (own s)
+
+  -- once it has the first value
+  abbrev Later : List T → List LinePiece → Type 0
+  Later vs os = Own T group os vs × (gap.has ≡ true → (a : T) × gap.absent a)
+
+  -- from its start
+  abbrev Whole : List T → List LinePiece → Type 0
+  Whole vs os = OwnList T group gap os vs
 
   -- where a piece was taken fewer items are present
   fewer_count : (s m : Situation) → TakesAny q (cells s) (cells m) → open_count m < open_count s
@@ -125,75 +132,64 @@ module _ {env : Variables} {T : Type 0} {inner : Outcome T} {k : FieldKind} {q :
       let c = open_present s in
       omega arith
 
-  -- a value after the first one took an item
-  took_item : (s m : Situation) → (false ≡ true) ⊎ (open_count m < open_count s)
-      → open_count m < open_count s
-  took_item s m (inl e) = absurd cc
-  took_item s m (inr fewer) = fewer
-
   -- a repeat that ends where there is no piece
-  ended : {s t : Situation} → Steady s t → front k (pieces q (cells s)) ≡ [] → cells t ≡ cells s
-      → (gap.has ≡ true → (a : T) × gap.absent a) → Took s [] t
-  ended {s} st p e ab = record {
+  ended : (told : List LinePiece → Type 0) {s t : Situation} → Steady s t
+      → front k (pieces q (cells s)) ≡ [] → cells t ≡ cells s → told [] → Took told s t
+  ended told {s} st p e list = record {
     steady = st;
     takes = same_takes e;
     none = ap (pieces q) e ∙ all_left s p;
-    list = rw (own_none_left s p) own_none;
-    absent = ab;
+    list = rw (own_none_left s p) list;
   }
 
   -- a turn that stops after a value
   stop_after : {s m : Situation} {e : Error} → Stops e s m
-      → SingleErr T k q group gap s (class e) m → Took s [] s
+      → SingleErr T k q group gap s (class e) m → Took (Later []) s s
   stop_after h refused =
       let a = catch_none (stopped_by h) refused in
       let g = a.0 in
-      ended steady_refl a.1 refl (λ i. absurd cc)
+      ended (Later []) steady_refl a.1 refl (own_none, λ i. absurd cc)
 
   -- one value more
-  took_more : {s m t : Situation} {v : T} {vs : List T} → TookGroup T k q group s v m → Took m vs t
-      → Took s (v ∷ vs) t
-  took_more h i = record {
-    steady = steady_trans h.steady i.steady;
-    takes = some_trans (any_some h.takes) i.takes;
-    none = i.none ∙ (by_group (h.read (readable k _ i.list))).1;
-    list = own_more (by_group (h.read (readable k _ i.list))).0 i.list;
-    absent = i.absent;
-  }
+  took_more : {s m t : Situation} {v : T} {vs : List T} → TookGroup T k q group s v m
+      → Took (Later vs) m t → Took (Later (v ∷ vs)) s t
+  took_more h i =
+      let g = by_group (h.read (readable k _ i.list.0)) in
+      record {
+        steady = steady_trans h.steady i.steady;
+        takes = some_trans (any_some h.takes) i.takes;
+        none = i.none ∙ g.1;
+        list = (own_more g.0 i.list.0, i.list.1);
+      }
 
   -- a turn after a value took something
-  step_took : {s m t : Situation} {v : T} {vs : List T} → open_count m < open_count s
-      → SingleOk T k q group gap s v m → (Steady s m → Took m vs t) → Took s (v ∷ vs) t
-  step_took {s} {m} fewer (gave_absent h p ab same st) i =
+  step_took : {s m t : Situation} {v : T} {vs : List T}
+      → (false ≡ true) ⊎ (open_count m < open_count s) → SingleOk T k q group gap s v m
+      → (Steady s m → Took (Later vs) m t) → Took (Later (v ∷ vs)) s t
+  step_took (inl e) o i = absurd cc
+  step_took {s} {m} (inr fewer) (gave_absent h p ab same st) i =
       let h = same_count s m same in absurd (omega arith)
-  step_took fewer (took h) i = took_more h (i h.steady)
+  step_took (inr fewer) (took h) i = took_more h (i h.steady)
 
   -- a value that took nothing ends it
   enough_took : {s t : Situation} {v : T} → open_count s ≤ open_count t
-      → SingleOk T k q group gap s v t → Took s [] t
-  enough_took {v} same (gave_absent h p ab e st) = ended st p e (λ i. (v, ab))
+      → SingleOk T k q group gap s v t → Took (Later []) s t
+  enough_took {v} same (gave_absent h p ab e st) =
+      ended (Later []) st p e (own_none, λ i. (v, ab))
   enough_took {s} {t} same (took h) = let f = fewer_count s t h.takes in absurd (omega arith)
 
   -- a turn after a value that stops
   stop_took : (s : Situation) {t : Situation} → IsWholeIn env s
-      → TurnOutcome inner false false s (Ok None) t → Took s [] t
+      → TurnOutcome inner false false s (Ok None) t → Took (Later []) s t
   stop_took s {t} w (inl o) = enough_took o.3 (l.keeps.ok s t o.0 w o.1)
   stop_took s w (inr o) = rw o.1 (stop_after (stops_at o.0.3) (l.keeps.err s o.0.1 o.0.0 w o.0.2))
 
   -- Once it has the first value, a repeat that answers has read all its pieces.
   later_took : (vs : List T) {s m t : Situation} → IsWholeIn env s → Turns inner false false s vs m
-      → TurnOutcome inner false false m (Ok None) t → Took s vs t
+      → TurnOutcome inner false false m (Ok None) t → Took (Later vs) s t
   later_took [] {s} w turns stop = stop_took s w (rw turns stop)
-  later_took (v ∷ vs) {s} w turns stop =
-      step_took (took_item s turns.0 turns.1.1) (l.keeps.ok s turns.0 v w turns.1.0)
+  later_took (v ∷ vs) {s} w turns stop = step_took turns.1.1 (l.keeps.ok s turns.0 v w turns.1.0)
       (λ st. later_took vs (none_outside_after w st) turns.2 stop)
-
-  -- a repeat from its start
-  pub record RepeatTook (s : Situation) (vs : List T) (t : Situation) : Type 0 where
-    pub steady : Steady s t
-    pub takes : TakesPieces q (cells s) (cells t)
-    pub none : pieces q (cells t) ≡ left s
-    pub list : OwnList T group gap (own s) vs
 
   -- no piece has no own list but the empty one
   pub own_nil : {os : List LinePiece} {vs : List T} → os ≡ [] → Own T group os vs → vs ≡ []
@@ -207,26 +203,22 @@ module _ {env : Variables} {T : Type 0} {inner : Outcome T} {k : FieldKind} {q :
   with_absent true e ab o = let a = ab e in listed_and_absent e a.1 o
   with_absent false e ab o = listed e o
 
-  -- the absent value alone
-  absent_alone : (s t : Situation) {v : T} {us : List T} → us ≡ [] → gap.has ≡ true
-      → front k (pieces q (cells s)) ≡ [] → gap.absent v → OwnList T group gap (own s) (v ∷ us)
-  absent_alone s t e h p ab = rw (own_none_left s p, e) (only_absent h ab)
-
   -- where the cells are the same the same pieces are taken
   same_own : (s m : Situation) → cells m ≡ cells s → own m ≡ own s
   same_own s m same = ap (λ cs. front (repeated k) (pieces q cs)) same
 
   -- the first turn
   first_step : {s m t : Situation} {v : T} {us : List T} → SingleOk T k q group gap s v m
-      → (Steady s m → Took m us t) → RepeatTook s (v ∷ us) t
-  first_step {s} {m} {us} (gave_absent h p ab same st) more =
+      → (Steady s m → Took (Later us) m t) → Took (Whole (v ∷ us)) s t
+  first_step {s} {m} {v} {us} (gave_absent h p ab same st) more =
       let i = more st in
-      let none : us ≡ [] = own_nil (same_own s m same ∙ own_none_left s p) i.list in
+      let nothing = own_none_left s p in
+      let none : us ≡ [] = own_nil (same_own s m same ∙ nothing) i.list.0 in
       record {
         steady = steady_trans st i.steady;
         takes = some_trans (same_takes same) i.takes;
         none = i.none ∙ (ap (λ cs. back (repeated k) (pieces q cs)) same);
-        list = absent_alone s m none h p ab;
+        list = rw (nothing, none) (only_absent h ab);
       }
   first_step (took h) more =
       let i = took_more h (more h.steady) in
@@ -234,53 +226,41 @@ module _ {env : Variables} {T : Type 0} {inner : Outcome T} {k : FieldKind} {q :
         steady = i.steady;
         takes = i.takes;
         none = i.none;
-        list = with_absent gap.has refl i.absent i.list;
+        list = with_absent gap.has refl i.list.1 i.list.0;
       }
 
   -- a first value that took nothing
-  first_idle : (s t : Situation) {v : T} → IsWholeIn env s → open_count s ≤ open_count t
-      → SingleOk T k q group gap s v t → RepeatTook s (v ∷ []) t
-  first_idle s t w e (gave_absent h p ab same st) = record {
-    steady = st;
-    takes = same_takes same;
-    none = ap (pieces q) same ∙ all_left s p;
-    list = absent_alone s t refl h p ab;
-  }
-  first_idle s t w e (took h) = let f = fewer_count s t h.takes in
-      absurd (omega arith)
+  first_idle : (s t : Situation) {v : T} → open_count s ≤ open_count t
+      → SingleOk T k q group gap s v t → Took (Whole (v ∷ [])) s t
+  first_idle s t {v} e (gave_absent h p ab same st) =
+      ended (Whole (v ∷ [])) st p same (only_absent h ab)
+  first_idle s t e (took h) = let f = fewer_count s t h.takes in absurd (omega arith)
 
   -- a first turn that stops
-  first_stop : (s : Situation) {m : Situation} {e : Error} → Stops e s m
-      → SingleErr T k q group gap s (class e) m → RepeatTook s [] s
-  first_stop s h refused =
-      let a = catch_none (stopped_by h) refused in record {
-        steady = steady_refl;
-        takes = takes_none;
-        none = all_left s a.1;
-        list = listed a.0 (rw (own_none_left s a.1) own_none);
-      }
-
-  -- a first turn that stops read all
   first_stopped : {s t : Situation} → IsWholeIn env s → TurnOutcome inner false true s (Ok None) t
-      → RepeatTook s [] t
+      → Took (Whole []) s t
   first_stopped w (inl o) = absurd (true≢false o.2)
-  first_stopped {s} w (inr o) = rw o.1 (first_stop s (stops_at o.0.3) (l.keeps.err s o.0.1 o.0.0 w o.0.2))
+  first_stopped {s} w (inr o) =
+      let refused = l.keeps.err s o.0.1 o.0.0 w o.0.2 in
+      let a = catch_none (stopped_by {s = s} {m = o.0.1} (stops_at o.0.3)) refused in
+      rw o.1 (ended (Whole []) steady_refl a.1 refl (listed a.0 own_none))
 
   -- so did turns from the first one on, until one stops
   turns_took : (first : Bool) (vs : List T) {s m t : Situation} → IsWholeIn env s
       → Turns inner false first s vs m → TurnOutcome inner false (is_nil vs) m (Ok None) t
-      → RepeatTook s vs t
+      → Took (Whole vs) s t
   turns_took first [] w turns stop = first_stopped w (rw turns stop)
   turns_took first (v ∷ vs) {s} w turns stop =
       first_step (l.keeps.ok s turns.0 v w turns.1.0)
       (λ st. later_took vs (none_outside_after w st) turns.2 stop)
 
   -- A repeat that answers has read all its pieces.
-  pub repeat_took : (idle : Bool) {s t : Situation} {vs : List T} → IsWholeIn env s
-      → RepeatOutcome inner idle s (Ok vs) t → RepeatTook s vs t
+  repeat_took : (idle : Bool) {s t : Situation} {vs : List T} → IsWholeIn env s
+      → RepeatOutcome inner idle s (Ok vs) t → Took (Whole vs) s t
   repeat_took false {vs} w o = turns_took true vs w o.steps o.stop
   repeat_took true {vs} w (stops m turns stop) = turns_took false vs w turns stop
-  repeat_took true {s} {t} w (rests v e ran same) = rw e (first_idle s t w same (l.keeps.ok s t v w ran))
+  repeat_took true {s} {t} w (rests v e ran same) =
+      rw e (first_idle s t same (l.keeps.ok s t v w ran))
 
   -- Where the pieces can be read a refusal comes for want of memory alone.
 

@@ -29,7 +29,8 @@ use Rattle.bpaf_exact.specs.{Flat.Keeps, Flat.Refused, Flat.Steady, Pieces.Cells
 pub closed_keeps : {env : Variables} {A B : Type 0} {inner : Outcome A} {f : Closure A B}
     (c : ErrorClass) {gives : Situation → A → Situation → Type 0}
     {gave : Situation → B → Situation → Type 0}
-    {refuses refused : Situation → ErrorClass → Situation → Type 0} → Keeps env A inner gives refuses
+    {refuses refused : Situation → ErrorClass → Situation → Type 0}
+    → Keeps env A inner gives refuses
     → ((s t : Situation) (x : A) (v : B) → gives s x t → f.yes x v → gave s v t)
     → ((s t : Situation) (x : A) → gives s x t → f.no x → refused s c t)
     → ((s t : Situation) → refused s OfMemory t)

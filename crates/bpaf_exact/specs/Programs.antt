@@ -91,8 +91,8 @@ LeavesToOthers {V = V} r value =
     (q : Roles) → IsNamed q → Apart q r → (cs : Cells) (v : V) → AllSpelled cs → value cs v
     → pieces q cs ≡ []
 
--- an answer of a program: where it leaves nothing it is one of its values; and where it has a value,
--- the answer is one, and leaves nothing
+-- an answer of a program: where it leaves nothing it is one of its values; and where there is one,
+-- it is one and leaves nothing
 pub record ProgramTook (V : Type 0) (value : CellsValue V) (s : Situation) (v : V)
     (t : Situation) : Type 0 where
   pub deep : depth s ≤ depth t
