@@ -98,43 +98,6 @@ keeps_other_some nq nr a (takes_more t more) = keeps_other_some nq nr a more ∙
 
 -- The pieces of a field's own are those of the cut that begin with one of its keys.
 
--- the key of a flag, as a piece of the field's own or of others
-flag_mine : (q : Roles) (x y : Role) (k : Arg) (cs : Cells) {os ps : List LinePiece}
-    → either_role x y ≡ Alone → os ≡ ps
-    → begin_piece x k cs os ≡ (if is_own_role x then (One k ∷ ps) else ps)
-flag_mine q Foreign y k cs e h = h
-flag_mine q Alone y k cs e h = ap (λ z. One k ∷ z) h
-flag_mine q WithNext y k cs e h = cc
-
--- the key of an argument, in the same way
-argument_mine : (x y : Role) (k w : Arg) (cs : Cells) {os ps : List LinePiece}
-    → either_role x y ≡ WithNext → is_value w ≡ true → os ≡ ps
-    → begin_piece x k (Some w ∷ cs) os ≡ (if is_own_role x then (Two k w ∷ ps) else ps)
-argument_mine Foreign y k w cs e v h = h
-argument_mine Alone y k w cs e v h = cc
-argument_mine WithNext y k w cs e v h =
-    let n : with_next k (Some w ∷ cs) ≡ Two k w = ap (λ b. if b then Two k w else One k) v in cc
-
--- a word, in the same way
-foreign_mine : (x : Role) (w : Arg) (cs : Cells) (o : LinePiece) {os ps : List LinePiece}
-    → x ≡ Foreign → os ≡ ps → begin_piece x w cs os ≡ (if is_own_role x then (o ∷ ps) else ps)
-foreign_mine Foreign w cs o e h = h
-foreign_mine _ w cs o e h = cc
-
--- the pieces of a field's own are those of the cut that begin with its keys
-pub pieces_of_cut : {q : Roles} (r : Roles) {cs : Cells} {os : List LinePiece} → IsNamed q
-    → Cut (either q r) cs os → pieces q cs ≡ mine q os
-pieces_of_cut r n at_end = refl
-pieces_of_cut r n (passed c) = pieces_of_cut r n c
-pieces_of_cut {q} r n (flag {k} {cs} e c) = flag_mine q (q k) (r k) k cs e (pieces_of_cut r n c)
-pieces_of_cut {q} r n (argument {k} {w} {cs} e v c) =
-    argument_mine (q k) (r k) k w cs e v
-    (begin_at w cs (pieces q cs) (value_foreign n v) ∙ pieces_of_cut r n c)
-pieces_of_cut {q} r n (word {w} {cs} h c) =
-    foreign_mine (q w) w cs (One w) (word_foreign n h) (pieces_of_cut r n c)
-
--- The other way: a piece given back to its place.
-
 -- an item that isn't the one's has the role that it has to the other
 pub either_right : (x : Role) {y : Role} → x ≡ Foreign → either_role x y ≡ y
 either_right Foreign e = refl
@@ -145,6 +108,32 @@ pub either_own : (x y z : Role) → x ≡ z → is_own_role z ≡ true → eithe
 either_own Foreign y Foreign e h = cc
 either_own Foreign y _ e h = cc
 either_own _ y z e h = e
+
+-- an item begins a piece where it is the field's own
+own_begin : (x : Role) (k : Arg) (cs : Cells) (o : LinePiece) {os ps : List LinePiece}
+    → (is_own_role x ≡ true → begin_piece x k cs os ≡ o ∷ os) → os ≡ ps
+    → begin_piece x k cs os ≡ (if is_own_role x then (o ∷ ps) else ps)
+own_begin Foreign k cs o f h = h
+own_begin Alone k cs o f h = f refl ∙ ap (λ z. o ∷ z) h
+own_begin WithNext k cs o f h = f refl ∙ ap (λ z. o ∷ z) h
+
+-- the pieces of a field's own are those of the cut that begin with its keys
+pub pieces_of_cut : {q : Roles} (r : Roles) {cs : Cells} {os : List LinePiece} → IsNamed q
+    → Cut (either q r) cs os → pieces q cs ≡ mine q os
+pieces_of_cut r n at_end = refl
+pieces_of_cut r n (passed c) = pieces_of_cut r n c
+pieces_of_cut {q} r n (flag {k} {cs} e c) = own_begin (q k) k cs (One k)
+    (λ own. begin_at k cs (pieces q cs) (sym (either_own (q k) (r k) (q k) refl own) ∙ e))
+    (pieces_of_cut r n c)
+pieces_of_cut {q} r n (argument {k} {w} {cs} e v c) = own_begin (q k) k (Some w ∷ cs) (Two k w)
+    (λ own. begin_at k (Some w ∷ cs) (pieces q (Some w ∷ cs))
+    (sym (either_own (q k) (r k) (q k) refl own) ∙ e)
+    ∙ ap (λ b. (if b then Two k w else One k) ∷ pieces q (Some w ∷ cs)) v)
+    (begin_at w cs (pieces q cs) (value_foreign n v) ∙ pieces_of_cut r n c)
+pieces_of_cut {q} r n (word {w} {cs} h c) = own_begin (q w) w cs (One w)
+    (λ own. let f = ap is_own_role (word_foreign n h) in absurd cc) (pieces_of_cut r n c)
+
+-- The other way: a piece given back to its place.
 
 -- a piece of the field's own isn't one of others
 pub others_own : (q : Roles) (o : LinePiece) (os : List LinePiece) → is_own q o ≡ true
