@@ -24,6 +24,13 @@ use Rattle.bpaf_exact.specs.Wrappers.{FallbackEval, fallback_err, fallback_ok, m
 use Rattle.bpaf_exact.specs.{Gathered.list_closure, Gathered.some_closure, Single.RepeatOutcome}
 use Rattle.bpaf_exact.specs.{Single.OwnList, Single.repeated, Wrappers.fallback_no}
 
+-- where a parser keeps to the laws of its form, so does what is made of it, with the same keys
+abbrev pub Lifts : {A B : Type 0} → Variables → Outcome A → Outcome B
+    → (ProgramForm A → ProgramForm B) → Type 1
+Lifts {A} env inner outer form =
+    (names : List Names) (words : List (List ℕ)) (s : ProgramForm A)
+    → FormLaw env inner names words s → FormLaw env outer names [] (form s)
+
 -- Each keeps to the laws of its form: map
 pub map_law : (env : Variables) (A B : Type 0) (inner : Outcome A) (answers : A → B → Type 0)
     (names : List Names) (words : List (List ℕ)) (s : ProgramForm A)
@@ -75,9 +82,8 @@ guard_law env A inner checks message names words s g l =
 
 -- optional
 pub optional_law : (env : Variables) (T : Type 0) (inner : Outcome T) (catch : Bool)
-    (names : List Names) (words : List (List ℕ)) (s : ProgramForm T)
-    → FormLaw env inner names words s → FormLaw env (TurnOutcome inner catch true) names []
-    (program_if (not catch) (program_optional s))
+    → Lifts env inner (TurnOutcome inner catch true)
+    (λ s. program_if (not catch) (program_optional s))
 optional_law env T inner true names words s l = tt
 optional_law env T inner false names words s l =
     narrower_form env (Option T) _ _ (no_more by_answer) names [] (program_optional s)
@@ -115,9 +121,7 @@ repeated_form_law env {B} inner idle false {f} {c} outcome within names words s 
 
 -- many
 pub many_law : (env : Variables) (T : Type 0) (inner : Outcome T) (catch : Bool)
-    (names : List Names) (words : List (List ℕ)) (s : ProgramForm T)
-    → FormLaw env inner names words s
-    → FormLaw env (ManyOutcome inner catch) names [] (repeated_form catch (list_closure T) s)
+    → Lifts env inner (ManyOutcome inner catch) (repeated_form catch (list_closure T))
 many_law env T inner catch names words s =
     repeated_form_law env inner false catch (ManyOutcome inner) by_answer names words s
     (never_refuses (list_closure T) (λ x n. n) _)
@@ -129,9 +133,8 @@ many_law env T inner catch names words s =
 
 -- some
 pub some_law : (env : Variables) (T : Type 0) (inner : Outcome T) (catch : Bool)
-    (message : List ℕ) (names : List Names) (words : List (List ℕ)) (s : ProgramForm T)
-    → FormLaw env inner names words s → FormLaw env (SomeOutcome inner catch message) names []
-    (repeated_form catch (some_closure T) s)
+    (message : List ℕ)
+    → Lifts env inner (SomeOutcome inner catch message) (repeated_form catch (some_closure T))
 some_law env T inner catch message names words s l =
     repeated_form_law env inner false catch (λ c. SomeOutcome inner c message) by_answer
     names words s (some_agrees env inner names words s l) l
@@ -146,10 +149,8 @@ some_law env T inner catch message names words s l =
 
 -- collect
 pub collect_law : (env : Variables) (T C : Type 0) (inner : Outcome T) (catch : Bool)
-    (fills : List T → C → Type 0) (names : List Names) (words : List (List ℕ))
-    (s : ProgramForm T) → FormLaw env inner names words s
-    → FormLaw env (CollectOutcome inner catch fills) names []
-    (repeated_form catch (map_closure fills) s)
+    (fills : List T → C → Type 0)
+    → Lifts env inner (CollectOutcome inner catch fills) (repeated_form catch (map_closure fills))
 collect_law env T C inner catch fills names words s =
     repeated_form_law env inner false catch (λ c. CollectOutcome inner c fills) by_answer
     names words s (never_refuses (map_closure fills) (λ x n. n) _)
@@ -161,10 +162,9 @@ collect_law env T C inner catch fills names words s =
     by_answer s t (Err e) (inr o) = closed_memory o.1 (memory_class e.0 o.2)
 
 -- count
-pub count_law : (env : Variables) (T : Type 0) (inner : Outcome T) (names : List Names)
-    (words : List (List ℕ)) (s : ProgramForm T) → FormLaw env inner names words s
-    → FormLaw env (CountOutcome inner) names []
-    (repeated_form false (map_closure (λ vs n. n ≡ length vs)) s)
+pub count_law : (env : Variables) (T : Type 0) (inner : Outcome T)
+    → Lifts env inner (CountOutcome inner)
+    (repeated_form false (map_closure (λ vs n. n ≡ length vs)))
 count_law env T inner names words s =
     repeated_form_law env inner true false (λ c. CountOutcome inner) by_answer names words s
     (never_refuses (map_closure (λ vs n. n ≡ length vs)) (λ x n. n) _)
@@ -182,9 +182,8 @@ count_law env T inner names words s =
 fallback_form_law : (env : Variables) {T : Type 0} (inner : Outcome T) (gives : Gives T)
     (f : Closure (Unit {0}) T) → Decides f → ((v : T) → gives (Ok v) → f.yes tt v)
     → ((e : Error) → gives (Err e) → (class e ≡ OfMemory) ⊎ (f.no tt × (class e ≡ Caught)))
-    → (names : List Names) (words : List (List ℕ)) (s : ProgramForm T)
-    → FormLaw env inner names words s → FormLaw env (FallbackOutcome inner gives) names []
-    (completed (λ k. k) (λ group gap. FallbackValue T group gap f) s)
+    → Lifts env inner (FallbackOutcome inner gives)
+    (completed (λ k. k) (λ group gap. FallbackValue T group gap f))
 fallback_form_law env {T} inner gives f decides gave refused names words s l =
     narrower_form env T _ _ (no_more by_answer) names [] _
     (program_fallback_law env T inner names words s l f decides)
@@ -203,10 +202,8 @@ fallback_form_law env {T} inner gives f decides gave refused names words s l =
 
 -- a kept value
 pub fallback_law : (env : Variables) (T : Type 0) (inner : Outcome T) (clones : T → T → Type 0)
-    (kept : T) (names : List Names) (words : List (List ℕ)) (s : ProgramForm T)
-    → FormLaw env inner names words s
-    → FormLaw env (FallbackOutcome inner (GivesClone clones kept)) names []
-    (completed (λ k. k) (λ group gap. FallbackValue T group gap (map_closure (λ u. clones kept))) s)
+    (kept : T) → Lifts env inner (FallbackOutcome inner (GivesClone clones kept))
+    (completed (λ k. k) (λ group gap. FallbackValue T group gap (map_closure (λ u. clones kept))))
 fallback_law env T inner clones kept =
     fallback_form_law env inner (GivesClone clones kept) (map_closure (λ u. clones kept))
     (λ u v y n. n) (λ v g. g) (λ e g. inl (memory_class e.0 g))

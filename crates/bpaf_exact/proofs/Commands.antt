@@ -8,7 +8,8 @@ use Rattle.bpaf_line.specs.{declared.error.Error.Error, declared.error.Message.T
 use Rattle.bpaf_line.specs.{Conflicts.ConflictsSaved, declared.error.Message.Message}
 use Rattle.bpaf_line.specs.{Messages.is_memory, Messages.is_wrong_input, Situation.Situation}
 use Rattle.bpaf_laws.proofs.ChoiceLaws.{ComesFrom, both_refused, chosen_from, first_won, second_won}
-use Rattle.bpaf_laws.proofs.ChoiceLaws.{first_refused, first_stands, second_refused, second_stands}
+use Rattle.bpaf_laws.proofs.ChoiceLaws.{chosen_at_equal, first_refused, first_stands, second_stands}
+use Rattle.bpaf_laws.proofs.ChoiceLaws.{second_refused}
 use Rattle.bpaf_laws.specs.{Choice.ChoiceOutcome, Command.is_one_of, Spared.IsNotMemory}
 use Rattle.bpaf_laws.specs.{Choice.Chosen, Choice.branch_of, Reading.Outcome, Turn.is_untouched}
 use Rattle.bpaf_laws.specs.Choice.{OneOk, depth}
@@ -311,22 +312,14 @@ module _ {env : Variables} (T : Type 0) (a b : Outcome T) (ra rb : Roles) (wa wb
   none_chosen s {sa} (Ok x) y w i j hx hy na nb chosen = absurd (la.none.ok s sa x w i na)
   none_chosen s {sb} (Err d) (Ok y) w i j hx hy na nb chosen = absurd (lb.none.ok s sb y w j nb)
   none_chosen s {sa} {sb} {t} (Err d) (Err e) {g} w i j hx hy na nb chosen =
+      let k = passed s sa d hx (la.none.err s sa d w i na) in
       let l = passed s sb e hy (lb.none.err s sb e w j nb) in
-      by_depth (passed s sa d hx (la.none.err s sa d w i na)) l chosen
-    where
-      by_depth : Passed s d sa → Passed s e sb
-          → Chosen {T = T} s (Err d) sa (Err e) sb (Err g) t → FindsNoCommand s (class g) t
-      by_depth k l (inl deeper) =
-          let same = ap length (k.2 ∙ sym l.2) in let more = deeper.0 in absurd (omega arith)
-      by_depth k l (inr (inl deeper)) =
-          let same = ap length (k.2 ∙ sym l.2) in let more = deeper.0 in absurd (omega arith)
-      by_depth k l (inr (inr equal)) =
-          let o = equal.1 in
-          let given = o.0.2 in
-          let same : o.0.0 ≡ g = cc in
-          ⊎_elim
-          (λ missing. inr (ap class (sym same) ∙ missing, ap cells o.1, ap (λ z. z.path) o.1))
-          (λ memory. inl (ap class (sym same) ∙ memory)) (combined_missing d.0 e.0 k.0 l.0 o.0.1)
+      let o = chosen_at_equal {T = T} s (Err d) sa (Err e) sb (Err g) t (ap length (k.2 ∙ sym l.2))
+      chosen in
+      let given = o.0.2 in
+      let same : o.0.0 ≡ g = cc in
+      ⊎_elim (λ missing. inr (ap class (sym same) ∙ missing, ap cells o.1, ap (λ z. z.path) o.1))
+      (λ memory. inl (ap class (sym same) ∙ memory)) (combined_missing d.0 e.0 k.0 l.0 o.0.1)
 
   -- where no word opens anything no branch has a value
   none_branch : {s t : Situation} {v : T} → IsWholeIn env s → OpensNone (wa ++ wb) (cells s)
