@@ -1,16 +1,16 @@
 -- A cut line holds together.
-use Rattle.std.proofs.Common.{◌≡◌, ℕ, true, List, [], ◌∷◌, ◌++◌, Some, None, refl, sym, ap, ◌∙◌}
-use Rattle.std.proofs.lemmas.List.Elements.{All-nil, All-cons, filter-append}
-use Rattle.std.proofs.{Common.not, lemmas.List.append_assoc}
+use Rattle.std.proofs.Common.{List, None, Some, [], ap, not, refl, sym, true, ◌++◌, ◌∙◌, ◌∷◌, ◌≡◌}
+use Rattle.std.proofs.{Common.ℕ, lemmas.List.Elements.All-cons, lemmas.List.Elements.filter-append}
+use Rattle.std.proofs.{lemmas.List.Elements.All-nil, lemmas.List.append_assoc}
 use Rattle.std.specs.List.{AllPass}
-use Rattle.bpaf_base.specs.declared.arg.Arg.TheVariants.{ArgWord}
-use Rattle.bpaf_base.specs.{Items.is_positional, declared.arg.Arg.Arg}
-use Rattle.bpaf_exact.specs.Pieces.{Cells, Roles, Alone, WithNext, LinePiece, One, Two, is_value}
-use Rattle.bpaf_exact.specs.Pieces.{is_key, is_own_role, is_own, others, IsNamed, Cut, at_end}
-use Rattle.bpaf_exact.specs.Pieces.{passed, flag, argument, word}
-use Rattle.bpaf_exact.specs.Accepted.{HasItsValue, EndsInKey, is_word_alone, HoldsTogether}
-use Rattle.bpaf_exact.proofs.Cells.{value_not_key, word_not_key, value_foreign, word_foreign}
-use Rattle.bpaf_exact.proofs.Cells.{others_own, others_foreign}
+use Rattle.bpaf_base.specs.{declared.arg.Arg.Arg, declared.arg.Arg.TheVariants.ArgWord}
+use Rattle.bpaf_base.specs.Items.{is_positional}
+use Rattle.bpaf_exact.proofs.Cells.{others_foreign, value_foreign, value_not_key}
+use Rattle.bpaf_exact.proofs.Cells.{others_own, word_foreign, word_not_key}
+use Rattle.bpaf_exact.specs.Pieces.{Alone, Cells, LinePiece, One, Roles, WithNext, is_key, is_value}
+use Rattle.bpaf_exact.specs.Pieces.{IsNamed, Two, at_end, flag, is_own, is_own_role, others, passed}
+use Rattle.bpaf_exact.specs.Accepted.{HasItsValue, HoldsTogether, is_word_alone}
+use Rattle.bpaf_exact.specs.{Accepted.EndsInKey, Pieces.Cut, Pieces.argument, Pieces.word}
 
 -- A cut line holds together.
 module _ (r : Roles) (n : IsNamed r) where

@@ -19,15 +19,15 @@ use Rattle.bpaf_exact.proofs.First.{HeadOf, TookLeft, both_nil, first_mine, swap
 use Rattle.bpaf_exact.proofs.First.{either_union, left_here, left_later, takes_left, takes_nonempty}
 use Rattle.bpaf_exact.proofs.{Counts.open_present, Product.none_outside_after, Product.steady_trans}
 use Rattle.bpaf_exact.proofs.{Counts.takes_fewer, Product.steady_refl, Records.mine_of_both}
-use Rattle.bpaf_exact.proofs.{First.Union, Places.closed_item, Places.same_cells}
-use Rattle.bpaf_exact.proofs.{First.never_same, First.not_left, First.owner, Places.same_item}
-use Rattle.bpaf_exact.specs.Alternative.{AlternativeErr, AlternativeOk, alternative_missing}
-use Rattle.bpaf_exact.specs.Alternative.{FirstUnread, TakesFirst, alternative_refused, either_value}
+use Rattle.bpaf_exact.proofs.{First.Union, First.never_same, Places.closed_item, Places.same_cells}
+use Rattle.bpaf_exact.proofs.{First.not_left, First.owner, Places.same_item}
+use Rattle.bpaf_exact.specs.Alternative.{FirstUnread, TakesFirst, alternative_missing, either_value}
 use Rattle.bpaf_exact.specs.Flat.{ErrorClass, IsWholeIn, OfMemory, OfMissing, Refused, cells, class}
 use Rattle.bpaf_exact.specs.Pieces.{Cells, LinePiece, One, Two, either, is_own, is_own_role, pieces}
 use Rattle.bpaf_exact.specs.Pieces.{Apart, Roles, TakesPiece, takes_later, takes_one, takes_two}
-use Rattle.bpaf_exact.specs.Alternative.{AlternativeLaw, alternative_memory}
-use Rattle.bpaf_exact.specs.{Flat.Steady, Flat.Variables, Flat.first_cells, Pieces.mine}
+use Rattle.bpaf_exact.specs.Alternative.{alternative_memory, alternative_refused}
+use Rattle.bpaf_exact.specs.{Alternative.AlternativeErr, Alternative.AlternativeLaw, Flat.Variables}
+use Rattle.bpaf_exact.specs.{Alternative.AlternativeOk, Flat.Steady, Flat.first_cells, Pieces.mine}
 
 -- the same scope of the same line
 pub record SameScope (m n : Situation) : Type 0 where

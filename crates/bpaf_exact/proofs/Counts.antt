@@ -1,15 +1,15 @@
 -- How many items are present, before and after pieces are taken.
-use Rattle.std.proofs.Common.{◌≡◌, ℕ, zero, suc, ◌+◌, ◌<◌, ◌≤◌, Bool, true, false, ◌∷◌, length}
-use Rattle.std.proofs.Common.{Option, Some, None, refl, ◌∙◌, if◌then◌else◌, arith}
-use Rattle.std.specs.Option.{option_map_or, is_some}
-use Rattle.bpaf_base.specs.{declared.arg.Arg.Arg, Items.any_item}
-use Rattle.bpaf_line.specs.Situation.{Situation, open_count, count_below, is_open, item_at}
-use Rattle.bpaf_line.specs.Taking.{open_item}
+use Rattle.std.proofs.Common.{Bool, Option, false, length, suc, true, zero, ◌+◌, ◌<◌, ◌∷◌, ◌≡◌, ◌≤◌}
+use Rattle.std.proofs.Common.{None, Some, arith, if◌then◌else◌, refl, ℕ, ◌∙◌}
+use Rattle.std.specs.Option.{is_some, option_map_or}
+use Rattle.bpaf_base.specs.{Items.any_item, declared.arg.Arg.Arg}
 use Rattle.bpaf_index.proofs.Counts.{count_below-same, count_below-some}
 use Rattle.bpaf_line.proofs.{Matches.open_has_item, Places.open_in_line}
-use Rattle.bpaf_exact.specs.Pieces.{Cells, Roles, LinePiece, TakesPiece}
-use Rattle.bpaf_exact.specs.Pieces.{takes_later, TakesPieces, takes_none, takes_more}
-use Rattle.bpaf_exact.specs.{Flat.cells, Flat.first_cells, Single.present_count, Single.TakesAny}
+use Rattle.bpaf_line.specs.Situation.{Situation, count_below, open_count}
+use Rattle.bpaf_line.specs.{Situation.is_open, Situation.item_at, Taking.open_item}
+use Rattle.bpaf_exact.specs.Pieces.{Cells, Roles, TakesPiece, TakesPieces, takes_later, takes_none}
+use Rattle.bpaf_exact.specs.{Flat.cells, Flat.first_cells, Pieces.takes_more, Single.present_count}
+use Rattle.bpaf_exact.specs.{Pieces.LinePiece, Single.TakesAny}
 
 -- a piece taken leaves fewer items
 pub takes_fewer : {q : Roles} {cs ds : Cells} {o : LinePiece} → TakesPiece q cs o ds

@@ -1,13 +1,13 @@
 -- At most one cut exists, and a value is read off one; and cuts of words alone.
-use Rattle.std.proofs.Common.{◌≡◌, Bool, true, false, List, [], ◌∷◌, Some, None, refl, ap, ◌∙◌}
-use Rattle.std.proofs.Common.{if◌then◌else◌, inr, sym}
-use Rattle.bpaf_base.specs.{declared.arg.Arg.Arg, Items.is_positional}
-use Rattle.bpaf_exact.specs.Flat.{NonePresent, no_place, none_here, ReadOff, IsWords}
-use Rattle.bpaf_exact.specs.Pieces.{Cells, Role, Foreign, Alone, WithNext, Roles, LinePiece, One}
-use Rattle.bpaf_exact.specs.Pieces.{Two, IsNamed, Cut, at_end, passed, flag, argument, word, either}
-use Rattle.bpaf_exact.specs.Pieces.{word_roles, is_own_role, Takes, no_cells, empty_stays}
-use Rattle.bpaf_exact.specs.Pieces.{other_stays, takes_flag, takes_argument, pieces}
-use Rattle.bpaf_exact.proofs.Cells.{CutsOff, word_foreign, begin_at}
+use Rattle.std.proofs.Common.{Bool, List, None, Some, [], ap, false, if◌then◌else◌, refl, true, ◌≡◌}
+use Rattle.std.proofs.Common.{inr, sym, ◌∙◌, ◌∷◌}
+use Rattle.bpaf_base.specs.{Items.is_positional, declared.arg.Arg.Arg}
+use Rattle.bpaf_exact.proofs.Cells.{CutsOff, begin_at, word_foreign}
+use Rattle.bpaf_exact.specs.Flat.{IsWords, NonePresent, ReadOff, no_place, none_here}
+use Rattle.bpaf_exact.specs.Pieces.{Alone, Cells, Foreign, IsNamed, LinePiece, One, Roles, WithNext}
+use Rattle.bpaf_exact.specs.Pieces.{Cut, Role, Two, at_end, either, flag, is_own_role, passed, word}
+use Rattle.bpaf_exact.specs.Pieces.{Takes, argument, empty_stays, no_cells, other_stays, word_roles}
+use Rattle.bpaf_exact.specs.Pieces.{pieces, takes_argument, takes_flag}
 
 -- the pieces taken and what is left are told by the cells
 pub one_take : {q : Roles} {cs ds es : Cells} {os ps : List LinePiece} → Takes q cs os ds

@@ -4,11 +4,11 @@ use Rattle.std.proofs.Common.{ap, arith, if◌then◌else◌, inl, inr, refl, �
 use Rattle.bpaf_base.specs.declared.arg.Arg.{Arg}
 use Rattle.bpaf_exact.proofs.Cells.{either_right, keeps_other, nil_foreign, nil_rest, value_foreign}
 use Rattle.bpaf_exact.proofs.Cells.{begin_at, either_own, same_next}
-use Rattle.bpaf_exact.specs.Alternative.{TakesFirst, first_later, first_one, first_two}
 use Rattle.bpaf_exact.specs.Pieces.{Alone, Cells, Foreign, LinePiece, One, Role, WithNext, is_value}
 use Rattle.bpaf_exact.specs.Pieces.{Apart, IsNamed, Roles, begin_piece, either, is_own, is_own_role}
 use Rattle.bpaf_exact.specs.Pieces.{TakesPiece, Two, takes_later, takes_one, takes_two, with_next}
-use Rattle.bpaf_exact.specs.{Pieces.pieces}
+use Rattle.bpaf_exact.specs.Alternative.{TakesFirst, first_later, first_one}
+use Rattle.bpaf_exact.specs.{Alternative.first_two, Pieces.pieces}
 
 -- taking the first piece is taking one
 pub first_takes : {q : Roles} {cs ds : Cells} {o : LinePiece} → TakesFirst q cs o ds

@@ -1,13 +1,13 @@
 -- What fields keep to, and what their values say: of a field before others, as of those others.
-use Rattle.std.proofs.Common.{ℕ, List, ◌++◌}
+use Rattle.std.proofs.Common.{List, ℕ, ◌++◌}
 use Rattle.bpaf_doc.specs.Names.{Names}
 use Rattle.bpaf_laws.specs.{Product.BothOutcome, Reading.Outcome}
-use Rattle.bpaf_exact.specs.ProgramForm.{ProgramForm, FormLaw, program_alone, program_both}
-use Rattle.bpaf_exact.specs.ProgramSays.{FieldsKeep, ProgramFieldsSaid, ProgramSaid, ProgramSays}
-use Rattle.bpaf_exact.specs.ProgramSays.{fields_said_inside, said_alone, said_both}
-use Rattle.bpaf_exact.specs.{ProgramForm.program_field, Says.SaidKind, Flat.Variables}
 use Rattle.bpaf_exact.proofs.ProgramForm.{program_alone_law, program_both_law, program_field_law}
 use Rattle.bpaf_exact.proofs.ProgramSays.{inside_say, program_alone_says, program_both_say}
+use Rattle.bpaf_exact.specs.ProgramForm.{ProgramForm, program_alone, program_both, program_field}
+use Rattle.bpaf_exact.specs.ProgramSays.{FieldsKeep, ProgramSaid, ProgramSays, fields_said_inside}
+use Rattle.bpaf_exact.specs.{Flat.Variables, ProgramSays.ProgramFieldsSaid, ProgramSays.said_alone}
+use Rattle.bpaf_exact.specs.{ProgramForm.FormLaw, ProgramSays.said_both, Says.SaidKind}
 
 -- the last field
 pub keep_last : {env : Variables} {P R A : Type 0} (last : R → P) (r : R) (outcome : Outcome A)

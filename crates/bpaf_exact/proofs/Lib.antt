@@ -8,10 +8,6 @@ pub mod Names
 pub mod Product
 pub mod Repeat
 pub mod Wrappers
-pub mod Matching
-pub mod Flags
-pub mod Arguments
-pub mod Positionals
 pub mod Choice
 pub mod Records
 pub mod Narrow
@@ -33,3 +29,4 @@ pub mod PieceByPiece
 pub mod Needed
 pub mod ProgramSays
 pub mod Pure
+pub mod Leaves

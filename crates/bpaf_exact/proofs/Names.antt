@@ -1,16 +1,16 @@
 -- Fields whose keys are apart have no item in common.
-use Rattle.std.proofs.Common.{◌≡◌, Bool, true, false, not, ◌||◌, List, [], ◌∷◌, ◌++◌, refl, ◌==◌}
-use Rattle.std.proofs.Common.{sym, ap, ◌∙◌, ⊎_elim, bytes_eq}
-use Rattle.std.specs.List.{list_all, list_any}
-use Rattle.std.proofs.lemmas.Bool.{eqb-true, false_from_ne_true, and_parts, or_cases}
+use Rattle.std.proofs.Common.{Bool, List, [], ap, false, not, refl, sym, true, ◌++◌, ◌||◌, ◌∷◌, ◌≡◌}
+use Rattle.std.proofs.lemmas.Bool.{and_parts, eqb-true, false_from_ne_true, or_cases}
 use Rattle.std.proofs.{lemmas.List.Folds.list_any-append, lemmas.Slice.Eq.bytes_eq-Decides}
+use Rattle.std.proofs.Common.{bytes_eq, ⊎_elim, ◌==◌, ◌∙◌}
+use Rattle.std.specs.List.{list_all, list_any}
 use Rattle.bpaf_doc.specs.Names.{Names}
-use Rattle.bpaf_base.specs.declared.arg.Arg.{Arg}
-use Rattle.bpaf_base.specs.declared.arg.Arg.TheVariants.{Short, Long}
-use Rattle.bpaf_base.specs.Items.{is_among, is_text_among, is_key_of}
-use Rattle.bpaf_exact.specs.Pieces.{Role, Foreign, Roles, is_own_role, is_key, Apart, either}
-use Rattle.bpaf_exact.specs.Pieces.{either_role}
-use Rattle.bpaf_exact.specs.Names.{is_key_of_any, are_apart, are_all_apart, Owns}
+use Rattle.bpaf_base.specs.declared.arg.Arg.TheVariants.{Long, Short}
+use Rattle.bpaf_base.specs.{Items.is_key_of, Items.is_text_among, declared.arg.Arg.Arg}
+use Rattle.bpaf_base.specs.Items.{is_among}
+use Rattle.bpaf_exact.specs.{Names.are_all_apart, Names.is_key_of_any, Pieces.is_own_role}
+use Rattle.bpaf_exact.specs.{Names.are_apart, Pieces.Foreign, Pieces.either_role, Pieces.is_key}
+use Rattle.bpaf_exact.specs.{Names.Owns, Pieces.Apart, Pieces.Role, Pieces.Roles, Pieces.either}
 
 -- where a test holds of each element of a list, and another of one, both hold of one
 pub both_hold : {X C : Type 0} (test pick : X → Bool)

@@ -1,6 +1,6 @@
 -- An outcome that allows no more than another keeps to the same laws.
-use Rattle.std.proofs.Common.{◌≡◌, Result, Ok, Err, refl, subst}
-use Rattle.bpaf_line.specs.{declared.error.Error.Error, Situation.Situation}
+use Rattle.std.proofs.Common.{Err, Ok, Result, refl, subst, ◌≡◌}
+use Rattle.bpaf_line.specs.{Situation.Situation, declared.error.Error.Error}
 use Rattle.bpaf_laws.specs.Reading.{Outcome}
 use Rattle.bpaf_exact.specs.Flat.{ErrorClass, Keeps, Variables, class}
 

@@ -1,14 +1,21 @@
--- From places to cells: the first place that is wanted, and what is left when it is taken.
-use Rattle.std.proofs.Common.{◌≡◌, ◌≢◌, ℕ, suc, zero, ◌<◌, Bool, true, false, not, ◌&&◌, List, []}
-use Rattle.std.proofs.Common.{◌∷◌, Option, Some, None, refl, ap, ap₂, ◌∙◌, if◌then◌else◌, arith}
-use Rattle.bpaf_base.specs.declared.arg.Arg.{Arg}
-use Rattle.bpaf_line.specs.Situation.{Situation, is_open, is_taken, in_scope, item_at, take_place}
-use Rattle.bpaf_line.specs.Taking.{open_item}
-use Rattle.bpaf_line.proofs.Places.{taken_here, taken_other, taken_stays}
-use Rattle.bpaf_exact.specs.Pieces.{Cells, Alone, WithNext, Roles, LinePiece, One, Two, is_value}
-use Rattle.bpaf_exact.specs.Alternative.{NotOwn, TakesFirst, first_one, first_two, first_later}
-use Rattle.bpaf_exact.specs.{Pieces.with_next, Pieces.pieces, Flat.first_cells, Flat.Steady}
-use Rattle.bpaf_exact.proofs.Cells.{begin_at}
+-- From places to cells: the first place that is wanted, what is left when it is taken, and its piece.
+use Rattle.std.proofs.Common.{Bool, List, None, Option, Some, [], add-one, ap, arith, if◌then◌else◌}
+use Rattle.std.proofs.Common.{ap₂, false, length, not, option_and_then, refl, suc, true, zero, ◌&&◌}
+use Rattle.std.proofs.Common.{sym, ℕ, ◌<◌, ◌||◌, ◌∙◌, ◌∷◌, ◌≡◌, ◌≢◌}
+use Rattle.std.specs.Option.{is_some, option_map_or}
+use Rattle.bpaf_doc.specs.Names.{Names}
+use Rattle.bpaf_base.specs.declared.arg.Arg.TheVariants.{ArgWord, Word}
+use Rattle.bpaf_base.specs.{Items.is_key_of, Items.value_text, declared.arg.Arg.Arg}
+use Rattle.bpaf_base.specs.Items.{item_text}
+use Rattle.bpaf_line.proofs.{Matches.open_item_there, Places.open_in_line, Places.taken_other}
+use Rattle.bpaf_line.proofs.Places.{taken_here, taken_stays}
+use Rattle.bpaf_line.specs.Situation.{Situation, in_scope, is_open, is_taken, item_at, take_place}
+use Rattle.bpaf_line.specs.Taking.{HasNone, IsFirst, is_match, open_item, value_after}
+use Rattle.bpaf_exact.proofs.{Cells.begin_at, Names.named_key}
+use Rattle.bpaf_exact.specs.Alternative.{NotOwn, TakesFirst, first_later, first_one, first_two}
+use Rattle.bpaf_exact.specs.Pieces.{Alone, Cells, Foreign, IsNamed, LinePiece, One, Roles, WithNext}
+use Rattle.bpaf_exact.specs.Pieces.{Role, Two, is_key, is_own_role, is_value, pieces, with_next}
+use Rattle.bpaf_exact.specs.{Flat.Steady, Flat.cells, Flat.first_cells, Names.Owns}
 
 -- taking a place changes what is taken and the current place alone
 pub take_steady : {s : Situation} {p : ℕ} → Steady s (take_place s p)
@@ -193,3 +200,157 @@ open_two s p =
       others = λ q other next. same_item s (take_place m (suc p)) q refl refl
           (taken_other m (suc p) q next ∙ taken_other s p q other);
     }
+
+-- The item of a match, and its piece.
+
+-- the item of a match
+pub record Match (test : Arg → Bool) (s : Situation) (p : ℕ) : Type 0 where
+  pub item : Arg
+  pub is : open_item s p ≡ Some item
+  pub passes : test item ≡ true
+  pub in_line : p < length s.context.line
+
+-- a place with a match has an item that passes the test
+pub match_of : (test : Arg → Bool) (s : Situation) (p : ℕ) → is_match test s p ≡ true
+    → Match test s p
+match_of test s p e = by_item (open_item s p) refl e
+  where
+    by_item : (c : Option Arg) → open_item s p ≡ c → option_map_or test c false ≡ true
+        → Match test s p
+    by_item None f h = absurd cc
+    by_item (Some k) f h = record {
+      item = k;
+      is = f;
+      passes = h;
+      in_line = open_in_line s p (open_item_there s p k f).0;
+    }
+
+-- a role by a test
+pub record ByTest (test : Arg → Bool) (r : Roles) (own : Role) : Type 0 where
+  pub yes : (k : Arg) → test k ≡ true → r k ≡ own
+  pub no : (k : Arg) → test k ≡ false → r k ≡ Foreign
+
+-- the roles that a test gives
+pub by_test : {test : Arg → Bool} {own : Role}
+    → ByTest test (λ k. if test k then own else Foreign) own
+by_test {own} = record {
+  yes = λ k e. ap (λ b. if b then own else Foreign) e;
+  no = λ k e. ap (λ b. if b then own else Foreign) e;
+}
+
+-- only keys have a role by a test that asks for names
+pub test_named : (test : Arg → Bool) (names : Names) (own : Role)
+    → ((k : Arg) → test k ≡ true → is_key_of names k ≡ true)
+    → IsNamed (λ k. if test k then own else Foreign)
+test_named test names own asks =
+    record { only_keys = λ k h. by_key k (test k) h (λ e. named_key names k (asks k e)) }
+  where
+    by_key : (k : Arg) (b : Bool) → is_key k ≡ false → (b ≡ true → is_key k ≡ true)
+        → (if b then own else Foreign) ≡ Foreign
+    by_key k true h f = let g = f refl in absurd cc
+    by_key k false h f = refl
+
+-- where a place has no match, nothing of the field's own is there
+not_own : {test : Arg → Bool} {r : Roles} {own : Role} (s : Situation) (p : ℕ) → ByTest test r own
+    → is_match test s p ≡ false → NotOwn r (open_item s p)
+not_own {test} {r} s p t e =
+    elim (open_item s p) as (λ c. option_map_or test c false ≡ false → NotOwn r c)
+    [ None ↦ λ h. tt | Some k ↦ λ h. t.no k h ] e
+
+-- nothing of the field's own stands before the first match
+none_before : {test : Arg → Bool} {r : Roles} {own : Role} {s : Situation} {p : ℕ}
+    → ByTest test r own → IsFirst test s p → NoneBefore r (open_item s) p
+none_before {s} t f = record { before = λ q l. not_own s q t (f.first q l) }
+
+-- without a match there is no piece
+pub no_pieces : {test : Arg → Bool} {r : Roles} {own : Role} (s : Situation) → ByTest test r own
+    → HasNone test s → pieces r (cells s) ≡ []
+unfolding cells
+no_pieces {r} s t none =
+    none_present r (open_item s) (length s.context.line) (λ p. not_own s p t (none p))
+
+-- the first match, taken by itself
+pub one_taken : {test : Arg → Bool} {r : Roles} {s : Situation} {p : ℕ} → ByTest test r Alone
+    → IsFirst test s p → (m : Match test s p)
+    → TakesFirst r (cells s) (One m.item) (cells (take_place s p))
+unfolding cells
+one_taken {s} {p} t f m =
+    take_one (length s.context.line) p m.in_line m.is (t.yes m.item m.passes)
+    (none_before t f) (open_one s p)
+
+-- the value behind a key
+pub record Behind (s : Situation) (p : ℕ) (text : List ℕ) : Type 0 where
+  pub item : Arg
+  pub is : open_item s (suc p) ≡ Some item
+  pub value : is_value item ≡ true
+  pub text_is : item_text item ≡ text
+  pub in_line : suc p < length s.context.line
+
+-- the text of a value is that of its item
+value_is : (w : Arg) {text : List ℕ} → value_text w ≡ Some text
+    → (is_some (value_text w) ≡ true) × (item_text w ≡ text)
+value_is (ArgWord own) e = (refl, cc)
+value_is (Word own) e = (refl, cc)
+value_is _ e = absurd cc
+
+-- a text behind a key is that of an item there
+pub behind_of : (s : Situation) {p : ℕ} {text : List ℕ} → value_after s p ≡ Some text
+    → Behind s p text
+behind_of s {p} {text} e =
+    by_item (open_item s (suc p)) refl
+    (ap (λ q. option_and_then value_text (open_item s q)) (sym (add-one p)) ∙ e)
+  where
+    by_item : (c : Option Arg) → open_item s (suc p) ≡ c → option_and_then value_text c ≡ Some text
+        → Behind s p text
+    by_item None f h = absurd cc
+    by_item (Some w) f h =
+        let v = value_is w h in
+        record {
+          item = w;
+          is = f;
+          value = v.0;
+          text_is = v.1;
+          in_line = open_in_line s (suc p) (open_item_there s (suc p) w f).0;
+        }
+
+-- where no text is behind a key, no value is there
+none_behind : (s : Situation) (p : ℕ) → value_after s p ≡ None → (w : Arg)
+    → open_item s (suc p) ≡ Some w → is_value w ≡ true → ⊥
+none_behind s p e w f v =
+    let g : value_text w ≡ None = sym (ap (option_and_then value_text) f)
+    ∙ (ap (λ q. option_and_then value_text (open_item s q)) (sym (add-one p)) ∙ e) in
+    let h : is_some (value_text w) ≡ false = ap is_some g in
+    cc
+
+-- the situation with a key and its value taken
+abbrev pub taken_pair : Situation → ℕ → Situation
+taken_pair s p = take_place (take_place s p) (suc p)
+
+-- the first match, taken with the value behind it
+pub two_taken : {test : Arg → Bool} {r : Roles} (s : Situation) {p : ℕ} {text : List ℕ}
+    → ByTest test r WithNext → IsFirst test s p → (m : Match test s p) (b : Behind s p text)
+    → TakesFirst r (cells s) (Two m.item b.item) (cells (taken_pair s p))
+unfolding cells
+two_taken s {p} t f m b =
+    take_two (length s.context.line) p b.in_line m.is b.is (t.yes m.item m.passes) b.value
+    (none_before t f) (open_two s p)
+
+-- the first match heads the pieces as it stands, where no value is behind it
+pub bare_taken : {test : Arg → Bool} {r : Roles} {s : Situation} {p : ℕ} → ByTest test r WithNext
+    → IsFirst test s p → (m : Match test s p) → value_after s p ≡ None → BareHead r (cells s) m.item
+unfolding cells
+bare_taken {s} {p} t f m e =
+    bare_first (length s.context.line) p m.in_line m.is
+    (t.yes m.item m.passes) (none_before t f) (none_behind s p e)
+
+-- a role that a test gives is one of the field's own where the test holds
+own_test : (b : Bool) (x : Role) → is_own_role (if b then x else Foreign) ≡ true → b ≡ true
+own_test true x e = refl
+own_test false x e = absurd cc
+
+-- and each of these has one of the names
+pub test_owns : {test : Arg → Bool} {names : Names} (own : Role)
+    → ((k : Arg) → test k ≡ true → is_key_of names k ≡ true)
+    → Owns (λ k. if test k then own else Foreign) (names ∷ [])
+test_owns {test} own asks =
+    record { own = λ k e. ap (λ b. b || false) (asks k (own_test (test k) own e)) }

@@ -23,7 +23,7 @@ use Rattle.bpaf_exact.proofs.ProgramForm.{program_field_law}
 use Rattle.bpaf_exact.proofs.OneView.{alone_view, argument_view, both_view, con_view, field_view}
 use Rattle.bpaf_exact.proofs.OneView.{fallback_view, flag_view, many_view, optional_field_view}
 use Rattle.bpaf_exact.proofs.ByTables.{fallback_law, many_law, optional_law}
-use Rattle.bpaf_exact.proofs.{Arguments.argument_field_law, Flags.flag_field_law, OneView.word_view}
+use Rattle.bpaf_exact.proofs.{Leaves.argument_field_law, Leaves.flag_field_law, OneView.word_view}
 use Rattle.bpaf_program.specs.Values.{IsKept, MeansText, String}
 
 -- a form that this outcome, of a parser with these keys, keeps to, and whose values look alike

@@ -17,7 +17,7 @@ use Rattle.bpaf_exact.specs.Pieces.{Cut, LinePiece, One, Roles, Two, Alone, IsNa
 use Rattle.bpaf_exact.specs.Pieces.{is_own_role, is_value, others, stands_behind}
 use Rattle.bpaf_exact.specs.Says.{RepeatSays, WordSays, first_item}
 use Rattle.bpaf_exact.specs.{Flat.OneWord, Flat.back, Flat.front, Record.line_cells}
-use Rattle.bpaf_exact.proofs.{Fronts.of_front_one, Matching.test_named, PieceByPiece.word_values}
+use Rattle.bpaf_exact.proofs.{Fronts.of_front_one, Places.test_named, PieceByPiece.word_values}
 use Rattle.bpaf_record.proofs.OnLine.{cut_kept, on_line}
 
 -- the items behind `--` that begin pieces
