@@ -5,8 +5,8 @@ use Rattle.std.proofs.{lemmas.List.Elements.All-nil, lemmas.List.append_assoc}
 use Rattle.std.specs.List.{AllPass}
 use Rattle.bpaf_base.specs.{declared.arg.Arg.Arg, declared.arg.Arg.TheVariants.ArgWord}
 use Rattle.bpaf_base.specs.Items.{is_positional}
-use Rattle.bpaf_exact.proofs.Cells.{others_foreign, value_foreign, value_not_key}
-use Rattle.bpaf_exact.proofs.Cells.{others_own, word_foreign, word_not_key}
+use Rattle.bpaf_exact.proofs.Cuts.{others_foreign, value_foreign, value_not_key}
+use Rattle.bpaf_exact.proofs.Cuts.{others_own, word_foreign, word_not_key}
 use Rattle.bpaf_exact.specs.Pieces.{Alone, Cells, LinePiece, One, Roles, WithNext, is_key, is_value}
 use Rattle.bpaf_exact.specs.Pieces.{IsNamed, Two, at_end, flag, is_own, is_own_role, others, passed}
 use Rattle.bpaf_exact.specs.Accepted.{HasItsValue, HoldsTogether, is_word_alone}

@@ -14,13 +14,13 @@ use Rattle.bpaf_line.specs.{Situation.is_taken, Taking.open_item}
 use Rattle.bpaf_laws.proofs.ChoiceLaws.{chosen_at_equal, not_winner}
 use Rattle.bpaf_laws.specs.Choice.{BranchesEval, ChoiceOutcome, EqualDepths, Winner, branch_of}
 use Rattle.bpaf_laws.specs.{Choice.OneOk, Reading.Outcome, Spared.IsNotMemory, Turn.is_untouched}
-use Rattle.bpaf_exact.proofs.Classes.{combined_missing, combined_refused, memory_class, not_memory}
-use Rattle.bpaf_exact.proofs.First.{HeadOf, TookLeft, both_nil, first_mine, swap_union, union_named}
-use Rattle.bpaf_exact.proofs.First.{either_union, left_here, left_later, takes_left, takes_nonempty}
-use Rattle.bpaf_exact.proofs.{Counts.open_present, Product.none_outside_after, Product.steady_trans}
-use Rattle.bpaf_exact.proofs.{Counts.takes_fewer, Product.steady_refl, Records.mine_of_both}
-use Rattle.bpaf_exact.proofs.{First.Union, First.never_same, Places.closed_item, Places.same_cells}
-use Rattle.bpaf_exact.proofs.{First.not_left, First.owner, Places.same_item}
+use Rattle.bpaf_exact.proofs.Cuts.{HeadOf, TookLeft, both_nil, either_union, first_mine, swap_union}
+use Rattle.bpaf_exact.proofs.Cuts.{Union, left_later, never_same, not_left, takes_left, union_named}
+use Rattle.bpaf_exact.proofs.{Classes.combined_missing, Cuts.left_here, Product.none_outside_after}
+use Rattle.bpaf_exact.proofs.{Classes.combined_refused, Classes.memory_class, Product.mine_of_both}
+use Rattle.bpaf_exact.proofs.{Counts.open_present, Cuts.takes_nonempty, Product.steady_trans}
+use Rattle.bpaf_exact.proofs.{Classes.not_memory, Counts.takes_fewer, Product.steady_refl}
+use Rattle.bpaf_exact.proofs.{Cuts.owner, Places.closed_item, Places.same_cells, Places.same_item}
 use Rattle.bpaf_exact.specs.Alternative.{FirstUnread, TakesFirst, alternative_missing, either_value}
 use Rattle.bpaf_exact.specs.Flat.{ErrorClass, IsWholeIn, OfMemory, OfMissing, Refused, cells, class}
 use Rattle.bpaf_exact.specs.Pieces.{Cells, LinePiece, One, Two, either, is_own, is_own_role, pieces}

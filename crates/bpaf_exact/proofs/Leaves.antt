@@ -1,4 +1,4 @@
--- Flags, arguments and positional words keep to the laws.
+-- Flags, arguments, positional words and kept values keep to the laws.
 use Rattle.std.proofs.Common.{Bool, Err, List, None, Ok, Option, Result, [], add-one, if◌then◌else◌}
 use Rattle.std.proofs.Common.{Some, ap, false, inl, inr, map, not, option_and_then, refl, sym, take}
 use Rattle.std.proofs.Common.{subst, true, true≢false, ⊎_elim, ◌&&◌, ◌++◌, ◌||◌, ◌∙◌, ◌∷◌, ◌≡◌, ◌⊎◌}
@@ -15,32 +15,34 @@ use Rattle.bpaf_line.specs.{declared.error.Error.Error, declared.error.Message.M
 use Rattle.bpaf_line.specs.{Situation.Situation, Taking.HasNone, Taking.TakesFlag, Taking.TakesText}
 use Rattle.bpaf_text.specs.Named.{KeyWithValue, Named as Key, argument_part, flag_part}
 use Rattle.bpaf_laws.specs.Argument.{ArgumentFails, ArgumentOutcome, HasNoKey, IsNowhere, LacksText}
-use Rattle.bpaf_laws.specs.Argument.{TakesBefore, TakesKeyWithText, TakesOwnText, is_key_with_value}
 use Rattle.bpaf_laws.specs.Environment.{IsAbsence, MissesItem, first_set, is_set}
-use Rattle.bpaf_laws.specs.{Argument.ReadsVariable, Argument.TakesKeysWithTexts, Flag.FlagOutcome}
-use Rattle.bpaf_laws.specs.{Flag.FlagFails, Flag.value_without_key, Reading.Outcome, Repeat.is_nil}
+use Rattle.bpaf_laws.specs.{Argument.TakesKeysWithTexts, Argument.is_key_with_value, Flag.FlagFails}
+use Rattle.bpaf_laws.specs.Argument.{ReadsVariable, TakesBefore, TakesKeyWithText}
+use Rattle.bpaf_laws.specs.{Argument.TakesOwnText, Default.GivesClone, Flag.value_without_key}
+use Rattle.bpaf_laws.specs.{Flag.FlagOutcome, Pure.PureOutcome, Reading.Outcome, Repeat.is_nil}
+use Rattle.bpaf_exact.proofs.Fronts.{back_more, each_front, front_more, of_front_more, of_front_one}
 use Rattle.bpaf_exact.proofs.Places.{bare_taken, behind_of, by_test, match_of, no_pieces, one_taken}
 use Rattle.bpaf_exact.proofs.Places.{ByTest, take_steady, test_named, test_owns, two_taken}
-use Rattle.bpaf_exact.proofs.{First.takes_nonempty, Fronts.of_front_more, Records.current_cells}
-use Rattle.bpaf_exact.proofs.{Fronts.of_front_one, Product.steady_refl, Product.steady_trans}
-use Rattle.bpaf_exact.proofs.{First.first_pieces, Records.same_steady, Wrappers.took_front}
-use Rattle.bpaf_exact.proofs.{First.first_takes, Fronts.each_front, Wrappers.gap_empty}
-use Rattle.bpaf_exact.proofs.{Cells.begin_at, Fronts.back_more, Fronts.front_more, Fronts.front_nil}
-use Rattle.bpaf_exact.proofs.{Cuts.never_two, Fronts.back_one, Fronts.front_one, Fronts.never_nil}
-use Rattle.bpaf_exact.specs.Alternative.{AlternativeErr, TakesFirst, alternative_missing, first_one}
-use Rattle.bpaf_exact.specs.Alternative.{AlternativeOk, alternative_refused, first_later, first_two}
+use Rattle.bpaf_exact.proofs.Product.{current_cells, none_of_nobody, same_steady, steady_trans}
+use Rattle.bpaf_exact.proofs.{Classes.memory_class, Cuts.takes_nonempty}
+use Rattle.bpaf_exact.proofs.{Product.steady_refl, Wrappers.gap_empty, Wrappers.took_front}
+use Rattle.bpaf_exact.proofs.{Cuts.first_pieces, Cuts.first_takes, Cuts.never_two, Fronts.front_nil}
+use Rattle.bpaf_exact.proofs.{Cuts.begin_at, Fronts.back_one, Fronts.front_one, Fronts.never_nil}
+use Rattle.bpaf_exact.specs.Alternative.{AlternativeOk, TakesFirst, alternative_memory, first_later}
 use Rattle.bpaf_exact.specs.Flat.{ByName, Caught, EachWord, FieldKind, OfMemory, OfMissing, OneWord}
 use Rattle.bpaf_exact.specs.Flat.{ErrorClass, Refused, Steady, Variables, back, cells, class, front}
 use Rattle.bpaf_exact.specs.Leaves.{FlagValue, LastGroup, WordValue, argument_field, argument_group}
 use Rattle.bpaf_exact.specs.Leaves.{ArgumentValue, WordEval, argument_roles, flag_field, flag_roles}
-use Rattle.bpaf_exact.specs.Leaves.{key_field, word_fault, word_memory, word_missing, word_passed}
+use Rattle.bpaf_exact.specs.Leaves.{pure_field, word_fault, word_memory, word_missing, word_passed}
 use Rattle.bpaf_exact.specs.Pieces.{Alone, Cells, IsNamed, One, Roles, Two, WithNext, stands_behind}
 use Rattle.bpaf_exact.specs.Pieces.{LinePiece, pieces, takes_more, takes_none, word_roles}
 use Rattle.bpaf_exact.specs.Single.{FrontOf, Gap, Groups, SingleErr, SingleOk, TakesAny, WordByWord}
 use Rattle.bpaf_exact.specs.Single.{SingleLaw, catch_other, gap_of, of_absent, of_missing, of_piece}
-use Rattle.bpaf_exact.specs.{Alternative.alternative_memory, Leaves.word_read, Single.catch_missing}
-use Rattle.bpaf_exact.specs.{ProgramForm.FormLaw, Single.gave_absent, Single.of_memory, Single.took}
-use Rattle.bpaf_exact.specs.{Flat.class_of, Flat.is_behind, Leaves.word_by, Names.Owns}
+use Rattle.bpaf_exact.specs.Single.{catch_missing, gave_absent, of_memory, took}
+use Rattle.bpaf_exact.specs.Alternative.{alternative_missing, alternative_refused}
+use Rattle.bpaf_exact.specs.{Alternative.AlternativeErr, Alternative.first_one, ProgramForm.FormLaw}
+use Rattle.bpaf_exact.specs.{Alternative.first_two, Leaves.key_field, Leaves.word_read, Names.Owns}
+use Rattle.bpaf_exact.specs.{Flat.class_of, Flat.is_behind, Leaves.word_by, Says.Says, Says.of_kind}
 
 -- a refusal that names a missing item says that items are missing
 misses : (s : Situation) (part : Option Part) (m : Message) → MissesItem s part m
@@ -236,7 +238,8 @@ module _ {T : Type 0} (clones : T → T → Type 0) (key : Key) (present : T) (a
   key_read s takes y =
       let m = match_of (is_key_of key.names) s takes.0 takes.1.matches in
       let h = one_taken by_test takes.1 m in
-      rw takes.2 (read_first take_steady h (first_pieces flag_items flag_named h) (λ none. absurd cc) y)
+      let is = first_pieces flag_items flag_named h in
+      rw takes.2 (read_first take_steady h is (λ none. absurd cc) y)
 
   -- and so is what stands for none
   absent_read : {s t : Situation} {v : T} → HasNone (is_key_of key.names) s → t ≡ s
@@ -754,3 +757,31 @@ word_by_law env T accepts means = (word_law clear, record { own = λ k e. absurd
         → is_behind o ≡ false
     clear stops (One w) v y = stands_before accepts stops (stands_behind w) y.0
     clear stops (Two k w) v y = absurd y
+
+-- Kept values.
+
+module _ (T : Type 0) (clones : T → T → Type 0) (kept : T) where
+  -- the laws
+  pub pure_field_law : {env : Variables}
+      → FormLaw env (PureOutcome (GivesClone clones kept)) [] [] (pure_field (clones kept))
+  pure_field_law = (
+    record {
+      own = record { only_keys = λ k h. refl };
+      keeps = record {
+        ok = λ s t v w o. rw o.1 (record {
+          steady = same_steady steady_refl;
+          takes = rw (current_cells s) takes_none;
+          read = λ none. o.0;
+          rest = λ none. none;
+          all = λ u h. none_of_nobody (cells (with_current s None));
+        });
+        err = λ s t e w o v h. memory_class e.0 o.0;
+      };
+    },
+    record { own = λ k e. absurd cc },
+  )
+
+-- its value says what it is, whatever the pieces are
+pub pure_says : {T : Type 0} {names : List Names} (given : T → Type 0)
+    → Says names (pure_field given) (of_kind ByName) (λ os v. given v)
+pure_says given = record { by = (refl, λ os v all h. h) }

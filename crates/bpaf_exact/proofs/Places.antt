@@ -1,4 +1,5 @@
--- From places to cells: the first place that is wanted, what is left when it is taken, and its piece.
+-- From places to cells: the first place that is wanted, its piece, and what is left when it is
+-- taken.
 use Rattle.std.proofs.Common.{Bool, List, None, Option, Some, [], add-one, ap, arith, if◌then◌else◌}
 use Rattle.std.proofs.Common.{ap₂, false, length, not, option_and_then, refl, suc, true, zero, ◌&&◌}
 use Rattle.std.proofs.Common.{sym, ℕ, ◌<◌, ◌||◌, ◌∙◌, ◌∷◌, ◌≡◌, ◌≢◌}
@@ -11,7 +12,7 @@ use Rattle.bpaf_line.proofs.{Matches.open_item_there, Places.open_in_line, Place
 use Rattle.bpaf_line.proofs.Places.{taken_here, taken_stays}
 use Rattle.bpaf_line.specs.Situation.{Situation, in_scope, is_open, is_taken, item_at, take_place}
 use Rattle.bpaf_line.specs.Taking.{HasNone, IsFirst, is_match, open_item, value_after}
-use Rattle.bpaf_exact.proofs.{Cells.begin_at, Names.named_key}
+use Rattle.bpaf_exact.proofs.{Cuts.begin_at, Names.named_key}
 use Rattle.bpaf_exact.specs.Alternative.{NotOwn, TakesFirst, first_later, first_one, first_two}
 use Rattle.bpaf_exact.specs.Pieces.{Alone, Cells, Foreign, IsNamed, LinePiece, One, Roles, WithNext}
 use Rattle.bpaf_exact.specs.Pieces.{Role, Two, is_key, is_own_role, is_value, pieces, with_next}

@@ -1,44 +1,129 @@
--- Each parser keeps to the laws of its form to a program, where its inner parsers do.
-use Rattle.std.proofs.Common.{Bool, List, None, Some, [], false, not, true, ℕ, ◌&&◌, ◌++◌, ◌∷◌, ◌≡◌}
-use Rattle.std.proofs.{Common.sym, lemmas.Bool.false_from_ne_true, lemmas.Slice.Eq.bytes_eq-Decides}
-use Rattle.std.proofs.{Common.append-nil, Common.bytes_eq, Common.true≢false, lemmas.Bool.and_parts}
-use Rattle.std.proofs.Common.{Option, ap, refl, ◌∙◌}
+-- Each parser keeps to the laws of its form to a program, where its inner parsers do; and the theorem
+-- of exactness: a run answers a value of the record or the program, or want of memory.
+use Rattle.std.proofs.Common.{Bool, Err, List, None, Ok, Option, Some, [], ap, append-nil, bytes_eq}
+use Rattle.std.proofs.Common.{arith, if◌then◌else◌, length, nat_le, not, refl, slice_get, sym, true}
+use Rattle.std.proofs.Common.{false, nat_lt, true≢false, zero, ◌&&◌, ◌++◌, ◌<◌, ◌||◌, ◌∙◌, ◌∷◌, ◌≡◌}
+use Rattle.std.proofs.{Common.ℕ, lemmas.Bool.false_from_ne_true, lemmas.Slice.Eq.bytes_eq-Decides}
+use Rattle.std.proofs.lemmas.Bool.{and_parts, le-leb, lt-ltb}
 use Rattle.std.specs.{List.list_all, Option.option_map_or}
 use Rattle.bpaf_doc.specs.Names.{Names}
 use Rattle.bpaf_base.specs.{Items.command_word, Items.is_command_word, declared.arg.Arg.Arg}
-use Rattle.bpaf_line.specs.Situation.{Context, beginning}
+use Rattle.bpaf_line.specs.Situation.{Context, Situation, beginning, is_marker, item_in}
+use Rattle.bpaf_line.specs.{Taking.open_item, declared.error.Error.Error}
 use Rattle.bpaf_laws.specs.{Choice.ChoiceOutcome, Command.opening_words, Product.ProductOutcome}
 use Rattle.bpaf_laws.specs.{Command.is_one_of, Product.BothOutcome, Repeat.LastOutcome}
 use Rattle.bpaf_laws.specs.{Command.Called, Reading.Outcome}
-use Rattle.bpaf_exact.proofs.Commands.{choice_commands, closed_commands, optional_commands}
-use Rattle.bpaf_exact.proofs.Records.{last_law, named_both_law, named_con_law, named_last_law}
-use Rattle.bpaf_exact.proofs.Wrappers.{alternative_single, closed_law, closed_single, optional_law}
-use Rattle.bpaf_exact.proofs.{BeforeCommands.con_program, Wrappers.closed_alternative}
-use Rattle.bpaf_exact.proofs.{BeforeCommands.before_law, Choice.choice_law, Commands.closed_program}
-use Rattle.bpaf_exact.proofs.{Exact.first_cells_are, Programs.record_program, Repeat.some_agrees_on}
-use Rattle.bpaf_exact.proofs.{Names.apart_of_names, Programs.command_law, Wrappers.fallback_law}
-use Rattle.bpaf_exact.proofs.{Exact.run_complete, Narrow.AllowsNoMore, Wrappers.single_law}
-use Rattle.bpaf_exact.proofs.{Exact.exact, Names.either_owns, Repeat.last_of_law, Repeat.repeat_law}
-use Rattle.bpaf_exact.proofs.{Exact.all_whole, Exact.run_sound, Names.foreign_of, Product.both_law}
-use Rattle.bpaf_exact.proofs.{Names.both_hold, Narrow.narrower, Records.con_law}
-use Rattle.bpaf_exact.specs.Flat.{ErrorClass, FieldKind, FieldLaw, FieldsLaw, Refused, both_reading}
-use Rattle.bpaf_exact.specs.ProgramForm.{ProgramForm, before_commands, complete, no_program, single}
-use Rattle.bpaf_exact.specs.ProgramForm.{Agrees, EndLaw, alternative, commands, product, program_if}
-use Rattle.bpaf_exact.specs.ProgramForm.{FormLaw, program_closed, program_dressed, program_optional}
-use Rattle.bpaf_exact.specs.ProgramForm.{are_words_apart, may_follow, program_choice, program_field}
-use Rattle.bpaf_exact.specs.ProgramForm.{NamedLaw, completed, is_named, program_alone, program_both}
-use Rattle.bpaf_exact.specs.ProgramForm.{choice_only, program_command, program_value, whole_program}
-use Rattle.bpaf_exact.specs.ProgramForm.{product_reading, product_roles, program_con, whole_value}
+use Rattle.bpaf_exact.proofs.Commands.{before_law, choice_commands, closed_commands, closed_program}
+use Rattle.bpaf_exact.proofs.Product.{both_law, count_none, last_law, named_both_law, named_con_law}
+use Rattle.bpaf_exact.proofs.Wrappers.{alternative_single, closed_law, closed_single, fallback_law}
+use Rattle.bpaf_exact.proofs.{Commands.optional_commands, Cuts.one_cut, Wrappers.closed_alternative}
+use Rattle.bpaf_exact.proofs.{Commands.con_program, Product.named_last_law, Programs.record_program}
+use Rattle.bpaf_exact.proofs.{Names.apart_of_names, Repeat.some_agrees_on, Wrappers.optional_law}
+use Rattle.bpaf_exact.proofs.{Counts.open_present, Product.none_counted, Programs.command_law}
+use Rattle.bpaf_exact.proofs.{Narrow.AllowsNoMore, Repeat.last_of_law, Wrappers.single_law}
+use Rattle.bpaf_exact.proofs.{Choice.choice_law, Names.either_owns, Places.same_cells}
+use Rattle.bpaf_exact.proofs.{Names.both_hold, Names.foreign_of, Narrow.narrower, Repeat.repeat_law}
+use Rattle.bpaf_exact.proofs.{Cuts.read_cut, Product.con_law}
+use Rattle.bpaf_exact.specs.Flat.{Before, ErrorClass, FieldKind, FieldLaw, FieldsLaw, FieldsReading}
+use Rattle.bpaf_exact.specs.Flat.{ByName, IsWholeIn, NonePresent, OfMemory, Variables, both_reading}
+use Rattle.bpaf_exact.specs.ProgramForm.{Agrees, FormLaw, ProgramForm, alternative, are_words_apart}
+use Rattle.bpaf_exact.specs.ProgramForm.{NamedLaw, before_commands, choice_only, commands, complete}
+use Rattle.bpaf_exact.specs.ProgramForm.{EndLaw, completed, is_program, may_follow, product_reading}
+use Rattle.bpaf_exact.specs.ProgramForm.{is_named, is_record, product, product_roles, program_alone}
+use Rattle.bpaf_exact.specs.ProgramForm.{program_both, program_choice, program_command, program_con}
+use Rattle.bpaf_exact.specs.ProgramForm.{no_program, program_closed, program_dressed, program_field}
+use Rattle.bpaf_exact.specs.ProgramForm.{program_if, program_optional, program_value, whole_program}
 use Rattle.bpaf_exact.specs.Programs.{CellsValue, CommandEval, IsSpelledLine, ProgramLaw, are_plain}
-use Rattle.bpaf_exact.specs.Record.{Accepted, IsAcceptedOrWant, RunAnswer, last_reading, line_cells}
-use Rattle.bpaf_exact.specs.Wrappers.{ClosedValue, Closure, FallbackEval, OptionalEval, map_closure}
-use Rattle.bpaf_exact.specs.{Gathered.some_closure, ProgramForm.is_program, Wrappers.FallbackValue}
-use Rattle.bpaf_exact.specs.{Names.are_all_apart, ProgramForm.is_record, Single.RepeatOutcome}
-use Rattle.bpaf_exact.specs.{Programs.WordsApart, Theorem.RunsExactly, Wrappers.ClosedEval}
-use Rattle.bpaf_exact.specs.{Gathered.LastOf, Pieces.LinePiece, Single.SingleLaw, Wrappers.Decides}
-use Rattle.bpaf_exact.specs.{Flat.Variables, Pieces.no_roles, Single.OwnList, Single.repeated}
-use Rattle.bpaf_exact.specs.{Flat.ByName, Pieces.Roles, Pieces.either, Record.RunRan, Single.Groups}
-use Rattle.bpaf_exact.specs.{Flat.Before, Flat.cells, Flat.keys, Names.Owns, Single.Gap}
+use Rattle.bpaf_exact.specs.Record.{IsAcceptedOrWant, IsExact, IsNoValue, RecordValue, last_reading}
+use Rattle.bpaf_exact.specs.Record.{Accepted, RunAnswer, RunRan, line_cells, run_refusal, run_value}
+use Rattle.bpaf_exact.specs.Single.{Gap, Groups, OwnList, RepeatOutcome, SingleLaw, repeated}
+use Rattle.bpaf_exact.specs.Wrappers.{ClosedEval, ClosedValue, Closure, FallbackEval, FallbackValue}
+use Rattle.bpaf_exact.specs.{Gathered.some_closure, ProgramForm.whole_value, Wrappers.OptionalEval}
+use Rattle.bpaf_exact.specs.{Names.are_all_apart, Programs.WordsApart, Wrappers.map_closure}
+use Rattle.bpaf_exact.specs.{ProgramForm.single, Record.run_leftover, Theorem.RunsExactly}
+use Rattle.bpaf_exact.specs.{Gathered.LastOf, Pieces.LinePiece, Record.run_memory, Wrappers.Decides}
+use Rattle.bpaf_exact.specs.{Flat.ReadOff, Flat.Refused, Flat.cells, Pieces.either, Pieces.no_roles}
+use Rattle.bpaf_exact.specs.{Flat.class, Flat.keys, Names.Owns, Pieces.Cut, Pieces.Roles}
+
+-- at the beginning each item is present, but for the marker
+open_at_first : (context : Context) (p : ℕ) → p < length context.line
+    → open_item (beginning context) p ≡ item_in context p
+open_at_first context p l =
+    by_tests (nat_le zero p) (nat_lt p (length context.line)) (is_marker context.marker p)
+    (le-leb zero p (omega arith)) (lt-ltb p (length context.line) l) (slice_get context.line p)
+  where
+    by_tests : (above inside marker : Bool) → above ≡ true → inside ≡ true → (at : Option Arg)
+        → (if ((above && inside) && not (not inside || (marker || false))) then
+        (if marker then None else at) else None) ≡ (if marker then None else at)
+    by_tests true true true e f at = refl
+    by_tests true true false e f at = refl
+    by_tests true false marker e f at = absurd cc
+    by_tests false inside marker e f at = absurd cc
+
+-- the cells with which parsing begins are those of the line
+pub first_cells_are : (context : Context) → cells (beginning context) ≡ line_cells context
+unfolding cells
+first_cells_are context = same_cells (item_in context) (length context.line) (open_at_first context)
+
+-- at the beginning the scope is the whole line
+pub all_whole : {context : Context} → IsWholeIn context.env (beginning context)
+all_whole = record { end = refl; front = λ p l. absurd (omega arith); environment = refl }
+
+-- no value is none
+pub no_value : {V : Type 0} (a : RunAnswer V) {v : V} → IsNoValue a → a ≡ Accepted v → ⊥
+no_value (Accepted x) n h = n
+no_value _ n h = cc
+
+-- A run, by what the outcome answers at the beginning.
+module _ {V : Type 0} {outcome : Outcome V} {context : Context} (value : CellsValue V) where
+  -- a value comes only where the outcome gives it and leaves nothing
+  pub run_sound : ((t : Situation) (v : V) → outcome (beginning context) (Ok v) t → NonePresent
+      (cells t)
+      → value (cells (beginning context)) v) → {a : RunAnswer V} → RunRan V outcome
+      (beginning context) a → (v : V) → a ≡ Accepted v → value (line_cells context) v
+  run_sound ok (run_value {v = x} {t} o e) v h =
+      let d : x ≡ v = cc in
+      rw (← first_cells_are context, ← d)
+      (ok t x o (none_counted (cells t) (sym (open_present t) ∙ e)))
+  run_sound ok {a} (run_leftover o e n) v h = absurd (no_value a n h)
+  run_sound ok (run_memory o e) v h = absurd cc
+  run_sound ok {a} (run_refusal o e n) v h = absurd (no_value a n h)
+
+  -- each answer is one where each of the outcome is one, with nothing left, or want of memory
+  pub run_complete : ((t : Situation) (v : V) → outcome (beginning context) (Ok v) t
+      → value (cells (beginning context)) v × NonePresent (cells t))
+      → ((t : Situation) (e : Error) → outcome (beginning context) (Err e) t → class e ≡ OfMemory)
+      → {a : RunAnswer V} → RunRan V outcome (beginning context) a
+      → IsAcceptedOrWant (value (line_cells context)) a
+  run_complete all want (run_value {v = x} {t} o e) = rw (← first_cells_are context) (all t x o).0
+  run_complete all want (run_leftover {v = x} {t} o e n) =
+      absurd (e (open_present t ∙ count_none (all t x o).1))
+  run_complete all want (run_memory o e) = tt
+  run_complete all want (run_refusal {e = x} {t} o e n) = absurd (e (want t x o))
+
+module _ {V : Type 0} {outcome : Outcome V} {r : Roles} {reading : FieldsReading V}
+    {context : Context} (l : FieldsLaw context.env V outcome r reading) where
+  -- a value comes only where it is one of the record's
+  sound : {a : RunAnswer V} → RunRan V outcome (beginning context) a → (v : V) → a ≡ Accepted v
+      → RecordValue r reading.value context v
+  sound = run_sound (ReadOff V r reading.value)
+      (λ t v o. (l.keeps.ok (beginning context) t v all_whole o).read)
+
+  -- THE THEOREM: on every line each answer of a run is a value of the record, want of memory, or a
+  -- refusal where the record has no value; for the line has one cut.
+  pub exact : {a : RunAnswer V} → RunRan V outcome (beginning context) a
+      → IsExact V r reading context a
+  exact ran = record {
+    sound = sound ran;
+    complete = λ os c h. let here : Cut r (cells (beginning context)) os
+        = rw (first_cells_are context) c in
+        run_complete (ReadOff V r reading.value)
+        (λ t v o. let i = l.keeps.ok (beginning context) t v all_whole o in
+        let n = i.all os here h in (i.read n, n))
+        (λ t e o. l.keeps.err (beginning context) t e all_whole o os here h) ran;
+    refused = λ os c none v h. let i = sound ran v h in
+        none (rw (← one_cut l.named (read_cut i) c) (l.has_each i.cut_into v i.read));
+  }
 
 -- where a test holds
 if_law : (env : Variables) {T : Type 0} (outcome : Outcome T) (names : List Names)

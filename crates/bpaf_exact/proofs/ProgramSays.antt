@@ -7,9 +7,9 @@ use Rattle.bpaf_doc.specs.Names.{Names}
 use Rattle.bpaf_laws.specs.{Command.Called, Command.opening_words, Reading.Outcome}
 use Rattle.bpaf_exact.proofs.Says.{alone_says, choice_into, choice_says, closed_says, optional_says}
 use Rattle.bpaf_exact.proofs.Says.{both_say, con_says, field_owned, owned, record_says, unless_says}
-use Rattle.bpaf_exact.proofs.{ProgramForm.whole_law, Says.whole_form_says, Sharing.taken_own}
-use Rattle.bpaf_exact.proofs.{Says.fallback_by, Says.field_says, Says.listed_says, Sharing.cut_fit}
-use Rattle.bpaf_exact.proofs.{Cuts.read_cut, Says.OwnsKeys, Says.WholeSays, Says.list_says}
+use Rattle.bpaf_exact.proofs.{ProgramForm.whole_law, Says.fallback_by, Says.whole_form_says}
+use Rattle.bpaf_exact.proofs.{Names.taken_own, Says.WholeSays, Says.field_says, Says.listed_says}
+use Rattle.bpaf_exact.proofs.{Cuts.read_cut, Names.cut_fit, Says.OwnsKeys, Says.list_says}
 use Rattle.bpaf_exact.specs.ProgramForm.{ProgramForm, before_commands, complete, no_program, single}
 use Rattle.bpaf_exact.specs.ProgramForm.{alternative, commands, product, program_closed, program_if}
 use Rattle.bpaf_exact.specs.ProgramForm.{FormLaw, program_choice, program_dressed, program_optional}

@@ -16,9 +16,9 @@ use Rattle.bpaf_line.specs.{Situation.is_taken, Situation.item_at, Taking.open_i
 use Rattle.bpaf_laws.specs.Command.{Called, IsNotOpened, IsOpenedAt, is_one_of, opening_words}
 use Rattle.bpaf_laws.specs.{Choice.depth, Command.inside, Reading.Outcome}
 use Rattle.bpaf_exact.proofs.{Counts.open_present, Places.closed_item, Product.no_own_in_cut}
-use Rattle.bpaf_exact.proofs.{Cells.begin_at, Choice.has_item, Places.same_item, Records.count_none}
+use Rattle.bpaf_exact.proofs.{Choice.HasItem, Choice.has_item, Places.same_item, Product.count_none}
 use Rattle.bpaf_exact.proofs.{Names.both_hold, Places.TakenOne, Places.match_of, Places.take_one}
-use Rattle.bpaf_exact.proofs.{Choice.HasItem, Cuts.read_cut}
+use Rattle.bpaf_exact.proofs.Cuts.{begin_at, read_cut}
 use Rattle.bpaf_exact.specs.Flat.{FieldsLaw, FieldsReading, IsWholeIn, OfMemory, cells, first_cells}
 use Rattle.bpaf_exact.specs.Pieces.{Alone, Cells, IsNamed, One, Roles, is_key, pieces}
 use Rattle.bpaf_exact.specs.Programs.{CellsValue, IsSpelledLine, OpensNone, opens_here, opens_later}

@@ -5,10 +5,10 @@ use Rattle.std.proofs.Common.{Ok, ap, arith, inl, inr, subst, true≢false, ◌+
 use Rattle.bpaf_line.specs.{Situation.Situation, Situation.open_count, declared.error.Error.Error}
 use Rattle.bpaf_laws.specs.{Reading.Outcome, Repeat.LastOutcome, Repeat.UntilRest, Turn.TurnOutcome}
 use Rattle.bpaf_laws.specs.Repeat.{Turns, is_nil, rests, stops}
+use Rattle.bpaf_exact.proofs.Fronts.{back_all, each_nil, never_nil, nil_each, no_keys_left}
 use Rattle.bpaf_exact.proofs.{Classes.stops_at, Counts.takes_any_fewer, Product.none_outside_after}
 use Rattle.bpaf_exact.proofs.{Classes.memory_class, Counts.open_present, Product.steady_trans}
-use Rattle.bpaf_exact.proofs.{Fronts.never_nil, Fronts.no_keys_left, Product.steady_refl}
-use Rattle.bpaf_exact.proofs.{Classes.goes_on, Fronts.back_all, Fronts.each_nil, Fronts.nil_each}
+use Rattle.bpaf_exact.proofs.{Classes.goes_on, Cuts.some_trans, Product.steady_refl}
 use Rattle.bpaf_exact.specs.Flat.{FieldKind, IsWholeIn, OfMemory, OfMissing, OneWord, Steady, class}
 use Rattle.bpaf_exact.specs.Flat.{ByName, EachWord, FieldLaw, FieldTook, OwnItems, Variables, cells}
 use Rattle.bpaf_exact.specs.Pieces.{Cells, LinePiece, TakesPieces, pieces, takes_more, takes_none}
@@ -23,12 +23,6 @@ use Rattle.bpaf_exact.specs.{Flat.back, Gathered.LastOf, Pieces.Roles, Single.ca
 -- one piece at least is some
 pub any_some : {q : Roles} {cs ds : Cells} → TakesAny q cs ds → TakesPieces q cs ds
 any_some t = takes_more t.one t.more
-
--- some pieces, and some more
-pub some_trans : {q : Roles} {cs ds es : Cells} → TakesPieces q cs ds → TakesPieces q ds es
-    → TakesPieces q cs es
-some_trans takes_none b = b
-some_trans (takes_more t more) b = takes_more t (some_trans more b)
 
 -- where the cells are the same none was taken
 pub same_takes : {q : Roles} {cs ds : Cells} → ds ≡ cs → TakesPieces q cs ds

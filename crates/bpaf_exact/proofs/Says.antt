@@ -6,12 +6,11 @@ use Rattle.bpaf_doc.specs.Names.{Names}
 use Rattle.bpaf_text.specs.Named.{KeyWithValue, Named as Key}
 use Rattle.bpaf_laws.specs.{Environment.first_set, Flag.value_without_key, Reading.Outcome}
 use Rattle.bpaf_laws.specs.Repeat.{is_nil}
-use Rattle.bpaf_exact.proofs.Sharing.{apart_none, mine_rest, no_fits, others_fit, own_fit, rest_fit}
-use Rattle.bpaf_exact.proofs.Sharing.{each_own, first_fits, mine_keyed, others_rest, others_unkeyed}
-use Rattle.bpaf_exact.proofs.Sharing.{all_mine, first_within, mine_none, second_fits, second_within}
-use Rattle.bpaf_exact.proofs.{Names.apart_of_names, Sharing.mine_of_others, Sharing.mine_within}
-use Rattle.bpaf_exact.proofs.Sharing.{none_behind, others_both, others_none}
-use Rattle.bpaf_exact.proofs.Fronts.{all_front, never_nil}
+use Rattle.bpaf_exact.proofs.Names.{apart_none, first_fits, mine_rest, no_fits, others_fit, own_fit}
+use Rattle.bpaf_exact.proofs.Names.{first_within, mine_keyed, others_rest, others_unkeyed, rest_fit}
+use Rattle.bpaf_exact.proofs.Names.{apart_of_names, each_own, mine_none, second_fits, second_within}
+use Rattle.bpaf_exact.proofs.Names.{all_mine, mine_of_others, mine_within, none_behind, others_both}
+use Rattle.bpaf_exact.proofs.{Fronts.all_front, Fronts.never_nil, Names.others_none}
 use Rattle.bpaf_exact.specs.Flat.{ByName, FieldKind, FieldsReading, back, both_reading, front, keys}
 use Rattle.bpaf_exact.specs.Leaves.{ArgumentValue, FlagValue, argument_field, flag_field, key_field}
 use Rattle.bpaf_exact.specs.Pieces.{LinePiece, One, Roles, either, is_own, mine, no_roles, others}

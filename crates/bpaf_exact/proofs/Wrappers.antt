@@ -5,9 +5,9 @@ use Rattle.std.proofs.Common.{inl, inr, subst, ⊎_elim, ◌∷◌, ◌⊎◌}
 use Rattle.std.specs.Option.{IsSomeRelated, is_some}
 use Rattle.bpaf_line.specs.{Situation.Situation, declared.error.Error.Error}
 use Rattle.bpaf_laws.specs.Reading.{Outcome}
-use Rattle.bpaf_exact.proofs.First.{first_pieces, first_takes, head_stays, takes_nonempty}
 use Rattle.bpaf_exact.proofs.Repeat.{any_some, catch_none, same_takes, stopped_by, stops_by}
-use Rattle.bpaf_exact.proofs.{Fronts.back_all, Fronts.no_keys_left, Product.steady_refl}
+use Rattle.bpaf_exact.proofs.{Cuts.takes_nonempty, Fronts.no_keys_left, Product.steady_refl}
+use Rattle.bpaf_exact.proofs.{Cuts.first_pieces, Cuts.first_takes, Cuts.head_stays, Fronts.back_all}
 use Rattle.bpaf_exact.specs.Alternative.{AlternativeErr, AlternativeOk, HasBad, bad_here, bad_later}
 use Rattle.bpaf_exact.specs.Alternative.{AlternativeLaw, alternative_missing, alternative_refused}
 use Rattle.bpaf_exact.specs.Flat.{ByName, ErrorClass, FieldKind, IsWholeIn, OfMissing, cells, class}
