@@ -24,25 +24,25 @@ use Rattle.bpaf_exact.proofs.Fronts.{back_more, each_front, front_more, of_front
 use Rattle.bpaf_exact.proofs.Places.{bare_taken, behind_of, by_test, match_of, no_pieces, one_taken}
 use Rattle.bpaf_exact.proofs.Places.{ByTest, take_steady, test_named, test_owns, two_taken}
 use Rattle.bpaf_exact.proofs.Product.{current_cells, none_of_nobody, same_steady, steady_trans}
-use Rattle.bpaf_exact.proofs.{Classes.memory_class, Cuts.takes_nonempty}
-use Rattle.bpaf_exact.proofs.{Product.steady_refl, Wrappers.gap_empty, Wrappers.took_front}
-use Rattle.bpaf_exact.proofs.{Cuts.first_pieces, Cuts.first_takes, Cuts.never_two, Fronts.front_nil}
-use Rattle.bpaf_exact.proofs.{Cuts.begin_at, Fronts.back_one, Fronts.front_one, Fronts.never_nil}
+use Rattle.bpaf_exact.proofs.{Classes.memory_class, Product.steady_refl}
+use Rattle.bpaf_exact.proofs.{Cuts.first_pieces, Wrappers.gap_empty, Wrappers.took_front}
+use Rattle.bpaf_exact.proofs.{Cuts.first_takes, Cuts.some_trans, Fronts.front_nil, Fronts.front_one}
+use Rattle.bpaf_exact.proofs.{Cuts.begin_at, Cuts.never_two, Fronts.back_one, Fronts.never_nil}
 use Rattle.bpaf_exact.specs.Alternative.{AlternativeOk, TakesFirst, alternative_memory, first_later}
+use Rattle.bpaf_exact.specs.Alternative.{AlternativeErr, alternative_missing, first_one, first_two}
 use Rattle.bpaf_exact.specs.Flat.{ByName, Caught, EachWord, FieldKind, OfMemory, OfMissing, OneWord}
 use Rattle.bpaf_exact.specs.Flat.{ErrorClass, Refused, Steady, Variables, back, cells, class, front}
 use Rattle.bpaf_exact.specs.Leaves.{FlagValue, LastGroup, WordValue, argument_field, argument_group}
 use Rattle.bpaf_exact.specs.Leaves.{ArgumentValue, WordEval, argument_roles, flag_field, flag_roles}
 use Rattle.bpaf_exact.specs.Leaves.{pure_field, word_fault, word_memory, word_missing, word_passed}
 use Rattle.bpaf_exact.specs.Pieces.{Alone, Cells, IsNamed, One, Roles, Two, WithNext, stands_behind}
-use Rattle.bpaf_exact.specs.Pieces.{LinePiece, pieces, takes_more, takes_none, word_roles}
+use Rattle.bpaf_exact.specs.Pieces.{TakesPiece, TakesPieces, takes_more, takes_none, word_roles}
 use Rattle.bpaf_exact.specs.Single.{FrontOf, Gap, Groups, SingleErr, SingleOk, TakesAny, WordByWord}
 use Rattle.bpaf_exact.specs.Single.{SingleLaw, catch_other, gap_of, of_absent, of_missing, of_piece}
-use Rattle.bpaf_exact.specs.Single.{catch_missing, gave_absent, of_memory, took}
-use Rattle.bpaf_exact.specs.Alternative.{alternative_missing, alternative_refused}
-use Rattle.bpaf_exact.specs.{Alternative.AlternativeErr, Alternative.first_one, ProgramForm.FormLaw}
-use Rattle.bpaf_exact.specs.{Alternative.first_two, Leaves.key_field, Leaves.word_read, Names.Owns}
-use Rattle.bpaf_exact.specs.{Flat.class_of, Flat.is_behind, Leaves.word_by, Says.Says, Says.of_kind}
+use Rattle.bpaf_exact.specs.{Alternative.alternative_refused, Flat.is_behind, Single.catch_missing}
+use Rattle.bpaf_exact.specs.{Leaves.key_field, ProgramForm.FormLaw, Single.gave_absent, Single.took}
+use Rattle.bpaf_exact.specs.{Leaves.word_by, Leaves.word_read, Pieces.LinePiece, Single.of_memory}
+use Rattle.bpaf_exact.specs.{Flat.class_of, Names.Owns, Pieces.pieces, Says.Says, Says.of_kind}
 
 -- a refusal that names a missing item says that items are missing
 misses : (s : Situation) (part : Option Part) (m : Message) → MissesItem s part m
@@ -314,6 +314,13 @@ bare_spoils [] tail (pair ∷ before) k j w e = cc
 bare_spoils (o ∷ some) tail [] k j w e = absurd (never_nil some (One k) tail cc)
 bare_spoils (o ∷ some) tail (pair ∷ before) k j w e = bare_spoils some tail before k j w cc
 
+-- some pieces taken, and then one, are at least one
+any_last : {q : Roles} {cs ms ds : Cells} {o : LinePiece} → TakesPieces q cs ms
+    → TakesPiece q ms o ds → TakesAny q cs ds
+any_last takes_none t = record { piece = _; middle = _; one = t; more = takes_none }
+any_last (takes_more u more) t =
+    record { piece = _; middle = _; one = u; more = some_trans more (takes_more t takes_none) }
+
 -- the first key of some roles and its value, which has this text, are the first piece
 pub record TookPair (q : Roles) (s t : Situation) (text : List ℕ) : Type 0 where
   pub key : Arg
@@ -404,110 +411,97 @@ module _ (argument : KeyWithValue) where
   module _ {T : Type 0} (means : List ℕ → T → Type 0)
       (all : argument.last ≡ true) (variables : Variables) where
     -- some keys that were taken with their texts are the first pieces
-    took_some : (s t : Situation) (texts : List (List ℕ)) → TakesKeysWithTexts argument s texts t
-        → (some : List LinePiece) × (pieces q (cells s) ≡ some ++ pieces q (cells t))
-    took_some s t [] same = ([], ap (λ z. pieces q (cells z)) (sym same))
-    took_some s t (text ∷ texts) o =
-        let m = took_pair s o.0 text o.1 in
-        let rest = took_some o.0 t texts o.2 in (
-          Two m.key m.word ∷ rest.0,
-          first_pieces q named m.takes ∙ ap (λ z. Two m.key m.word ∷ z) rest.1,
-        )
-
-    -- all of them are the pieces, and this is the text of the last one
-    record TookAll (s t : Situation) (text : List ℕ) : Type 0 where
+    record TookSome (s t : Situation) : Type 0 where
       before : List (Arg × Arg)
-      key : Arg
-      word : Arg
-      text_is : item_text word ≡ text
-      is : pieces q (cells s) ≡ pairs before ++ Two key word ∷ pieces q (cells t)
-      any : TakesAny q (cells s) (cells t)
+      is : pieces q (cells s) ≡ pairs before ++ pieces q (cells t)
+      takes : TakesPieces q (cells s) (cells t)
       steady : Steady s t
 
-    -- one key with its text
-    all_one : {s t : Situation} {text : List ℕ} → TookPair q s t text → TookAll s t text
-    all_one {t} m = record {
-      before = [];
-      key = m.key;
-      word = m.word;
-      text_is = m.text_is;
-      is = first_pieces q named m.takes;
-      any = record {
-        piece = Two m.key m.word;
-        middle = cells t;
-        one = first_takes m.takes;
-        more = takes_none;
-      };
-      steady = m.steady;
-    }
-
     -- one before others
-    all_more : (s m t : Situation) (x text : List ℕ) → TookPair q s m x → TookAll m t text
-        → TookAll s t text
-    all_more s m t x text first rest = record {
+    some_more : {s m t : Situation} {text : List ℕ} → TookPair q s m text → TookSome m t
+        → TookSome s t
+    some_more first rest = record {
       before = (first.key, first.word) ∷ rest.before;
-      key = rest.key;
-      word = rest.word;
-      text_is = rest.text_is;
       is = first_pieces q named first.takes ∙ ap (λ z. Two first.key first.word ∷ z) rest.is;
-      any = record {
-        piece = Two first.key first.word;
-        middle = cells m;
-        one = first_takes first.takes;
-        more = takes_more rest.any.one rest.any.more;
-      };
+      takes = takes_more (first_takes first.takes) rest.takes;
       steady = steady_trans first.steady rest.steady;
     }
 
+    -- keys with their texts
+    took_some : (s t : Situation) (texts : List (List ℕ)) → TakesKeysWithTexts argument s texts t
+        → TookSome s t
+    took_some s t [] same =
+        rw same (record { before = []; is = refl; takes = takes_none; steady = steady_refl })
+    took_some s t (text ∷ texts) o =
+        some_more (took_pair s o.0 text o.1) (took_some o.0 t texts o.2)
+
+    -- some keys and then a last one, of which none is left behind
+    abbrev TookAll : Situation → Situation → List ℕ → Type 0
+    TookAll s t text =
+        (m : Situation) × TookSome s m × TookPair q m t text × (pieces q (cells t) ≡ [])
+
     -- keys with their texts, of which this is the last
     took_texts : (s t : Situation) (text : List ℕ) (before : List (List ℕ))
-        → TakesKeysWithTexts argument s (before ++ text ∷ []) t → TookAll s t text
-    took_texts s t text [] o = rw o.2 (all_one (took_pair s o.0 text o.1))
-    took_texts s t text (x ∷ before) o =
-        all_more s o.0 t x text (took_pair s o.0 x o.1) (took_texts o.0 t text before o.2)
+        → TakesKeysWithTexts argument s (before ++ text ∷ []) t → pieces q (cells t) ≡ []
+        → TookAll s t text
+    took_texts s t text [] o none = (
+      s,
+      took_some s s [] refl,
+      subst (λ z. TookPair q s z text) (sym o.2)
+          (took_pair s o.0 text o.1),
+      none,
+    )
+    took_texts s t text (x ∷ before) o none =
+        let rest = took_texts o.0 t text before o.2 none in
+        (rest.0, some_more (took_pair s o.0 x o.1) rest.1, rest.2, rest.3)
 
-    -- all its keys were taken, and none is left
+    -- all its keys were taken
     takes_all : {s t : Situation} {text : List ℕ} → TakesOwnText argument.last argument s text t
-        → TookAll s t text × (pieces q (cells t) ≡ [])
+        → TookAll s t text
     takes_all {s} {t} {text} takes =
         let last = subst (λ b. TakesOwnText b argument s text t) all takes in
-        (took_texts s t text last.before last.taken, no_key t last.no_more)
+        took_texts s t text last.before last.taken (no_key t last.no_more)
 
     -- the pieces, up to the last one
-    whole : {s t : Situation} {text : List ℕ} (a : TookAll s t text) → pieces q (cells t) ≡ []
-        → pieces q (cells s) ≡ pairs a.before ++ Two a.key a.word ∷ []
-    whole a none = a.is ∙ ap (λ z. pairs a.before ++ Two a.key a.word ∷ z) none
+    whole : {s t : Situation} {text : List ℕ} (a : TookAll s t text)
+        → pieces q (cells s) ≡ pairs a.1.before ++ Two a.2.key a.2.word ∷ []
+    whole a = a.1.is ∙ ap (λ z. pairs a.1.before ++ z)
+        (first_pieces q named a.2.takes ∙ ap (λ z. Two a.2.key a.2.word ∷ z) a.3)
+
+    -- there are some
+    some_there : {s t : Situation} {text : List ℕ} → TookAll s t text → pieces q (cells s) ≡ [] → ⊥
+    some_there a none =
+        never_nil (pairs a.1.before) (Two a.2.key a.2.word) [] (sym (whole a) ∙ none)
 
     -- a value is that of the last piece
-    last_read : {s t : Situation} {text : List ℕ} (v : T) (a : TookAll s t text)
-        → pieces q (cells t) ≡ [] → means text v
+    last_read : {s t : Situation} {text : List ℕ} (v : T) → TookAll s t text → means text v
         → SingleOk T ByName q (LastGroup T means) (gap means variables) s v t
-    last_read {s} {t} v a none m =
+    last_read {s} {t} v a m =
         let group : (rest : List LinePiece) → rest ≡ []
         → LastGroup T means (pieces q (cells s)) v rest = (λ rest ends. (
-          a.before,
-          (a.key, a.word),
-          whole a none,
-          rw a.text_is m,
+          a.1.before,
+          (a.2.key, a.2.word),
+          whole a,
+          rw a.2.text_is m,
           ends,
         )) in
         took (record {
-          steady = a.steady;
-          takes = a.any;
-          found = takes_nonempty a.any.one;
-          read = λ r. group (pieces q (cells t)) none;
-          readable = λ x rest g. (group rest g.4, none ∙ sym g.4);
+          steady = steady_trans a.1.steady a.2.steady;
+          takes = any_last a.1.takes (first_takes a.2.takes);
+          found = some_there a;
+          read = λ r. group (pieces q (cells t)) a.3;
+          readable = λ x rest g. (group rest g.4, a.3 ∙ sym g.4);
         })
 
     -- where a last text means no value, the pieces have none
-    fault_group : {s t : Situation} {text : List ℕ} (a : TookAll s t text)
-        → pieces q (cells t) ≡ [] → ((v : T) → means text v → ⊥)
+    fault_group : {s t : Situation} {text : List ℕ} → TookAll s t text
+        → ((v : T) → means text v → ⊥)
         → (v : T) (rest : List LinePiece) → LastGroup T means (pieces q (cells s)) v rest → ⊥
-    fault_group a none nothing v rest g =
-        let same : Two g.1.0 g.1.1 ≡ Two a.key a.word = last_same (pairs g.0) (pairs a.before)
-        (sym g.2 ∙ whole a none) in
-        let word : g.1.1 ≡ a.word = cc in
-        nothing v (rw (← ap item_text word ∙ a.text_is) g.3)
+    fault_group a nothing v rest g =
+        let same : Two g.1.0 g.1.1 ≡ Two a.2.key a.2.word = last_same (pairs g.0)
+        (pairs a.1.before) (sym g.2 ∙ whole a) in
+        let word : g.1.1 ≡ a.2.word = cc in
+        nothing v (rw (← ap item_text word ∙ a.2.text_is) g.3)
 
     -- where a key has no value, the pieces have none
     bare_refused : (s : Situation) {t : Situation} {c : ErrorClass} {k : Arg}
@@ -527,14 +521,14 @@ module _ (argument : KeyWithValue) where
     last_err e Memory c same o = of_memory c
     last_err {s} e (ParseFailed place fault) c same o = ⊎_elim
         (λ takes. let got = takes_all takes in
-        of_piece c (takes_nonempty got.0.any.one) (fault_group got.0 got.1 o.2.0))
+        of_piece c (some_there got) (fault_group got o.2.0))
         (λ read. none_err (no_key s read.no_key) (variable_fault means variables same read c o.2.0))
         o.1
     last_err {s} {t} e (NoArgument key metavar) c same o =
         let before = subst (λ b. TakesBefore b argument s t) all o.1 in
         let m = match_of (is_key_with_value argument) t key o.0.0.matches in
         let some = took_some s t before.0 before.1 in
-        bare_refused s c some.0 some.1 (bare_taken test o.0.0 m o.0.1).is
+        bare_refused s c (pairs some.before) some.is (bare_taken test o.0.0 m o.0.1).is
     last_err {s} e other c same o =
         none_err (no_key s o.0) (nowhere means variables other c same o.1 o.2)
 
@@ -547,7 +541,7 @@ module _ (argument : KeyWithValue) where
       starts = λ v rest g. never_nil (pairs g.0) (Two g.1.0 g.1.1) [] (sym g.2);
       no_absent = gap_empty means _;
       keeps = record {
-        ok = λ s t v w o. ⊎_elim (λ takes. let got = takes_all takes in last_read v got.0 got.1 o.2)
+        ok = λ s t v w o. ⊎_elim (λ takes. last_read v (takes_all takes) o.2)
             (λ read. none_ok (no_key s read.no_key)
             (variable_read means variables w.environment read o.2)) o.1;
         err = λ s t e w o. last_err e e.0 refl w.environment o;
