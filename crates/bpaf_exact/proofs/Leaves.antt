@@ -22,12 +22,12 @@ use Rattle.bpaf_laws.specs.{Argument.TakesOwnText, Default.GivesClone, Flag.valu
 use Rattle.bpaf_laws.specs.{Flag.FlagOutcome, Pure.PureOutcome, Reading.Outcome, Repeat.is_nil}
 use Rattle.bpaf_exact.proofs.Fronts.{back_more, each_front, front_more, of_front_more, of_front_one}
 use Rattle.bpaf_exact.proofs.Places.{bare_taken, behind_of, by_test, match_of, no_pieces, one_taken}
-use Rattle.bpaf_exact.proofs.Places.{ByTest, take_steady, test_named, test_owns, two_taken}
 use Rattle.bpaf_exact.proofs.Product.{current_cells, none_of_nobody, same_steady, steady_trans}
-use Rattle.bpaf_exact.proofs.{Classes.memory_class, Product.steady_refl}
-use Rattle.bpaf_exact.proofs.{Cuts.first_pieces, Wrappers.gap_empty, Wrappers.took_front}
-use Rattle.bpaf_exact.proofs.{Cuts.first_takes, Cuts.some_trans, Fronts.front_nil, Fronts.front_one}
-use Rattle.bpaf_exact.proofs.{Cuts.begin_at, Cuts.never_two, Fronts.back_one, Fronts.never_nil}
+use Rattle.bpaf_exact.proofs.{Classes.memory_class, Product.steady_refl, Wrappers.took_front}
+use Rattle.bpaf_exact.proofs.{Cuts.first_pieces, Places.take_steady, Wrappers.gap_empty}
+use Rattle.bpaf_exact.proofs.{Cuts.first_takes, Cuts.never_two, Fronts.front_nil, Places.test_named}
+use Rattle.bpaf_exact.proofs.{Cuts.some_trans, Fronts.front_one, Fronts.never_nil, Places.test_owns}
+use Rattle.bpaf_exact.proofs.{Cuts.begin_at, Fronts.back_one, Places.ByTest, Places.two_taken}
 use Rattle.bpaf_exact.specs.Alternative.{AlternativeOk, TakesFirst, alternative_memory, first_later}
 use Rattle.bpaf_exact.specs.Alternative.{AlternativeErr, alternative_missing, first_one, first_two}
 use Rattle.bpaf_exact.specs.Flat.{ByName, Caught, EachWord, FieldKind, OfMemory, OfMissing, OneWord}

@@ -16,7 +16,6 @@ pub mod OneView
 pub mod Agreeing
 pub mod Accepted
 pub mod Surplus
-pub mod Says
 pub mod Keeping
 pub mod Fronts
 pub mod PieceByPiece

@@ -24,7 +24,7 @@
 //!   (`HasNoSurplus`), nor does an occurrence that can't be read (proofs/Surplus.antt).
 //! - What the value of a field says of its own pieces, whatever the other fields are and whatever
 //!   stands round it, is told by names (specs/Says.antt), and follows of each form
-//!   (proofs/Says.antt, one lemma for each combinator).
+//!   (proofs/ProgramSays.antt, one lemma for each combinator).
 //! - A line may have several values that differ in what contracts don't see, such as the room of a
 //!   text. Where closures can't tell apart what looks alike, the values of a line look alike
 //!   (specs/OneView.antt, `values_look_one` and `runs_to_one` of proofs/OneView.antt).
