@@ -11,8 +11,8 @@ use Rattle.bpaf_laws.specs.Transform.{GuardOutcome, MapOutcome, ParseOutcome}
 use Rattle.bpaf_laws.specs.{Hide.HideOutcome, Hide.hidden, Reading.Outcome, Turn.TurnOutcome}
 use Rattle.bpaf_exact.proofs.Classes.{caught_class, goes_on, kept_class, memory_class, stops_at}
 use Rattle.bpaf_exact.proofs.ProgramForm.{narrower_form, program_fallback_law, program_optional_law}
-use Rattle.bpaf_exact.proofs.ProgramForm.{never_refuses, program_closed_law, program_dressed_law}
-use Rattle.bpaf_exact.proofs.{Narrow.no_more, ProgramForm.listed_law, ProgramForm.some_agrees}
+use Rattle.bpaf_exact.proofs.ProgramForm.{never_refuses, no_more, program_dressed_law, some_agrees}
+use Rattle.bpaf_exact.proofs.ProgramForm.{listed_law, program_closed_law}
 use Rattle.bpaf_exact.specs.Flat.{Caught, ErrorClass, OfMemory, Refused, Variables, class, class_of}
 use Rattle.bpaf_exact.specs.ProgramForm.{Agrees, ProgramForm, completed, program_closed, program_if}
 use Rattle.bpaf_exact.specs.ProgramForm.{FormLaw, program_dressed, program_optional}

@@ -4,11 +4,8 @@ pub mod Classes
 pub mod Cuts
 pub mod Names
 pub mod Product
-pub mod Repeat
 pub mod Wrappers
 pub mod Choice
-pub mod Narrow
-pub mod Programs
 pub mod Commands
 pub mod ProgramForm
 pub mod ByTables
@@ -16,7 +13,6 @@ pub mod OneView
 pub mod Agreeing
 pub mod Accepted
 pub mod Surplus
-pub mod Keeping
 pub mod Fronts
 pub mod PieceByPiece
 pub mod Needed

@@ -1,10 +1,11 @@
--- Each parser keeps to the laws of its form to a program, where its inner parsers do; and the theorem
--- of exactness: a run answers a value of the record or the program, or want of memory.
-use Rattle.std.proofs.Common.{Bool, Err, List, None, Ok, Option, Some, [], ap, append-nil, bytes_eq}
-use Rattle.std.proofs.Common.{arith, if◌then◌else◌, length, nat_le, not, refl, slice_get, sym, true}
-use Rattle.std.proofs.Common.{false, nat_lt, true≢false, zero, ◌&&◌, ◌++◌, ◌<◌, ◌||◌, ◌∙◌, ◌∷◌, ◌≡◌}
-use Rattle.std.proofs.{Common.ℕ, lemmas.Bool.false_from_ne_true, lemmas.Slice.Eq.bytes_eq-Decides}
-use Rattle.std.proofs.lemmas.Bool.{and_parts, le-leb, lt-ltb}
+-- Each parser keeps to the laws of its form to a program, where its inner parsers do; so does an
+-- outcome that allows no more; and the theorem of exactness.
+use Rattle.std.proofs.Common.{Bool, List, None, Ok, Option, Result, Some, [], ap, append-nil, arith}
+use Rattle.std.proofs.Common.{Err, bytes_eq, if◌then◌else◌, length, nat_le, nat_lt, refl, slice_get}
+use Rattle.std.proofs.lemmas.Bool.{and_parts, false_from_ne_true, le-leb, lt-ltb}
+use Rattle.std.proofs.{Common.false, Common.true≢false, Common.ℕ, lemmas.Slice.Eq.bytes_eq-Decides}
+use Rattle.std.proofs.Common.{not, subst, true, zero, ◌&&◌, ◌++◌}
+use Rattle.std.proofs.Common.{sym, ◌<◌, ◌||◌, ◌∙◌, ◌∷◌, ◌≡◌}
 use Rattle.std.specs.{List.list_all, Option.option_map_or}
 use Rattle.bpaf_doc.specs.Names.{Names}
 use Rattle.bpaf_base.specs.{Items.command_word, Items.is_command_word, declared.arg.Arg.Arg}
@@ -14,18 +15,17 @@ use Rattle.bpaf_laws.specs.{Choice.ChoiceOutcome, Command.opening_words, Product
 use Rattle.bpaf_laws.specs.{Command.is_one_of, Product.BothOutcome, Repeat.LastOutcome}
 use Rattle.bpaf_laws.specs.{Command.Called, Reading.Outcome}
 use Rattle.bpaf_exact.proofs.Commands.{before_law, choice_commands, closed_commands, closed_program}
+use Rattle.bpaf_exact.proofs.Commands.{command_law, con_program, optional_commands, record_program}
 use Rattle.bpaf_exact.proofs.Product.{both_law, count_none, last_law, named_both_law, named_con_law}
-use Rattle.bpaf_exact.proofs.Wrappers.{alternative_single, closed_law, closed_single, fallback_law}
-use Rattle.bpaf_exact.proofs.{Commands.optional_commands, Cuts.one_cut, Wrappers.closed_alternative}
-use Rattle.bpaf_exact.proofs.{Commands.con_program, Product.named_last_law, Programs.record_program}
-use Rattle.bpaf_exact.proofs.{Names.apart_of_names, Repeat.some_agrees_on, Wrappers.optional_law}
-use Rattle.bpaf_exact.proofs.{Counts.open_present, Product.none_counted, Programs.command_law}
-use Rattle.bpaf_exact.proofs.{Narrow.AllowsNoMore, Repeat.last_of_law, Wrappers.single_law}
-use Rattle.bpaf_exact.proofs.{Choice.choice_law, Names.either_owns, Places.same_cells}
-use Rattle.bpaf_exact.proofs.{Names.both_hold, Names.foreign_of, Narrow.narrower, Repeat.repeat_law}
-use Rattle.bpaf_exact.proofs.{Cuts.read_cut, Product.con_law}
+use Rattle.bpaf_exact.proofs.Wrappers.{alternative_single, closed_single, fallback_law, last_of_law}
+use Rattle.bpaf_exact.proofs.Wrappers.{closed_alternative, closed_law, optional_law, some_agrees_on}
+use Rattle.bpaf_exact.proofs.{Names.apart_of_names, Product.named_last_law, Product.none_counted}
+use Rattle.bpaf_exact.proofs.{Counts.open_present, Wrappers.repeat_law, Wrappers.single_law}
+use Rattle.bpaf_exact.proofs.{Choice.choice_law, Cuts.one_cut, Names.either_owns, Places.same_cells}
+use Rattle.bpaf_exact.proofs.{Cuts.read_cut, Names.both_hold, Names.foreign_of, Product.con_law}
 use Rattle.bpaf_exact.specs.Flat.{Before, ErrorClass, FieldKind, FieldLaw, FieldsLaw, FieldsReading}
-use Rattle.bpaf_exact.specs.Flat.{ByName, IsWholeIn, NonePresent, OfMemory, Variables, both_reading}
+use Rattle.bpaf_exact.specs.Flat.{ByName, IsWholeIn, Keeps, NonePresent, OfMemory, ReadOff, Refused}
+use Rattle.bpaf_exact.specs.Pieces.{Cut, LinePiece, Roles, either, no_roles}
 use Rattle.bpaf_exact.specs.ProgramForm.{Agrees, FormLaw, ProgramForm, alternative, are_words_apart}
 use Rattle.bpaf_exact.specs.ProgramForm.{NamedLaw, before_commands, choice_only, commands, complete}
 use Rattle.bpaf_exact.specs.ProgramForm.{EndLaw, completed, is_program, may_follow, product_reading}
@@ -41,9 +41,31 @@ use Rattle.bpaf_exact.specs.Wrappers.{ClosedEval, ClosedValue, Closure, Fallback
 use Rattle.bpaf_exact.specs.{Gathered.some_closure, ProgramForm.whole_value, Wrappers.OptionalEval}
 use Rattle.bpaf_exact.specs.{Names.are_all_apart, Programs.WordsApart, Wrappers.map_closure}
 use Rattle.bpaf_exact.specs.{ProgramForm.single, Record.run_leftover, Theorem.RunsExactly}
-use Rattle.bpaf_exact.specs.{Gathered.LastOf, Pieces.LinePiece, Record.run_memory, Wrappers.Decides}
-use Rattle.bpaf_exact.specs.{Flat.ReadOff, Flat.Refused, Flat.cells, Pieces.either, Pieces.no_roles}
-use Rattle.bpaf_exact.specs.{Flat.class, Flat.keys, Names.Owns, Pieces.Cut, Pieces.Roles}
+use Rattle.bpaf_exact.specs.{Flat.Variables, Flat.both_reading, Record.run_memory, Wrappers.Decides}
+use Rattle.bpaf_exact.specs.{Flat.cells, Flat.class, Flat.keys, Gathered.LastOf, Names.Owns}
+
+-- what b allows a allows too, of a refusal one of the same class
+pub record AllowsNoMore (T : Type 0) (a b : Outcome T) : Type 0 where
+  pub value : (s t : Situation) (v : T) → b s (Ok v) t → a s (Ok v) t
+  pub refusal : (s t : Situation) (e : Error) → b s (Err e) t
+      → (d : Error) × a s (Err d) t × (class d ≡ class e)
+
+-- so it is where it allows each answer itself
+pub no_more : {T : Type 0} {a b : Outcome T}
+    → ((s t : Situation) (r : Result T Error) → b s r t → a s r t) → AllowsNoMore T a b
+no_more f =
+    record { value = λ s t v o. f s t (Ok v) o; refusal = λ s t e o. (e, f s t (Err e) o, refl) }
+
+-- it keeps to what that keeps to
+pub narrower : {env : Variables} {T : Type 0} {a b : Outcome T}
+    {gives : Situation → T → Situation → Type 0}
+    {refuses : Situation → ErrorClass → Situation → Type 0} → AllowsNoMore T a b
+    → Keeps env T a gives refuses → Keeps env T b gives refuses
+narrower {refuses} n l = record {
+  ok = λ s t v w o. l.ok s t v w (n.value s t v o);
+  err = λ s t e w o. let other = n.refusal s t e o in
+      subst (λ c. refuses s c t) other.2 (l.err s t other.0 w other.1);
+}
 
 -- at the beginning each item is present, but for the marker
 open_at_first : (context : Context) (p : ℕ) → p < length context.line

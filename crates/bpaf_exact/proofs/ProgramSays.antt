@@ -1,5 +1,5 @@
--- The value of each flat field says of its pieces what its parser says; and of each combinator, its
--- values say what is told of them, where those of its inner parsers do.
+-- The value of each flat field says of its pieces what its parser says; the values of each combinator
+-- say what is told of them, where those of its inner parsers do; and what fields keep to.
 use Rattle.std.proofs.Common.{Bool, List, None, Option, Some, [], ap, append-nil, arith, false, inl}
 use Rattle.std.proofs.Common.{inr, not, refl, subst, suc, sym, true, zero, ℕ, ◌&&◌, ◌++◌, ◌||◌, ◌∙◌}
 use Rattle.std.proofs.{Common.◌∷◌, Common.◌≡◌, lemmas.Bool.and_parts}
@@ -7,11 +7,12 @@ use Rattle.std.specs.{List.Contains, Option.IsSomeRelated, Option.is_none, Prelu
 use Rattle.bpaf_doc.specs.Names.{Names}
 use Rattle.bpaf_text.specs.Named.{KeyWithValue, Named as Key}
 use Rattle.bpaf_laws.specs.{Command.opening_words, Environment.first_set, Flag.value_without_key}
-use Rattle.bpaf_laws.specs.{Command.Called, Reading.Outcome, Repeat.is_nil}
+use Rattle.bpaf_laws.specs.{Command.Called, Product.BothOutcome, Reading.Outcome, Repeat.is_nil}
 use Rattle.bpaf_exact.proofs.Names.{all_mine, apart_none, cut_fit, each_own, first_fits, mine_keyed}
 use Rattle.bpaf_exact.proofs.Names.{apart_of_names, first_within, mine_none, mine_rest, mine_within}
 use Rattle.bpaf_exact.proofs.Names.{mine_of_others, none_behind, others_both, others_none, rest_fit}
 use Rattle.bpaf_exact.proofs.Names.{no_fits, others_fit, others_rest, others_unkeyed, second_within}
+use Rattle.bpaf_exact.proofs.ProgramForm.{program_alone_law, program_both_law, program_field_law}
 use Rattle.bpaf_exact.proofs.{Fronts.all_front, Names.second_fits, ProgramForm.whole_law}
 use Rattle.bpaf_exact.proofs.{Cuts.read_cut, Fronts.never_nil, Names.own_fit, Names.taken_own}
 use Rattle.bpaf_exact.specs.Alternative.{either_value}
@@ -31,11 +32,11 @@ use Rattle.bpaf_exact.specs.ProgramForm.{program_closed, program_dressed, progra
 use Rattle.bpaf_exact.specs.ProgramForm.{FormLaw, program_value, single, whole_program, whole_value}
 use Rattle.bpaf_exact.specs.ProgramForm.{product, program_optional}
 use Rattle.bpaf_exact.specs.ProgramSays.{CellsSay, CutSays, FieldThenSays, IsSaid, ProgramFieldsSay}
+use Rattle.bpaf_exact.specs.ProgramSays.{FieldsKeep, ProgramFieldsSaid, ProgramFormSays, cells_said}
 use Rattle.bpaf_exact.specs.ProgramSays.{ProgramSaid, ProgramSays, fields_said_inside, of_all_cells}
-use Rattle.bpaf_exact.specs.ProgramSays.{ProgramFieldsSaid, ProgramFormSays, cells_said, said_alone}
 use Rattle.bpaf_exact.specs.ProgramSays.{of_all_pieces, of_cells, of_pieces, said_both, said_choice}
-use Rattle.bpaf_exact.specs.ProgramSays.{said_command, said_dressed, said_fallback, said_optional}
-use Rattle.bpaf_exact.specs.ProgramSays.{said_closed, said_con, said_last, said_repeat}
+use Rattle.bpaf_exact.specs.ProgramSays.{said_alone, said_closed, said_command, said_con, said_last}
+use Rattle.bpaf_exact.specs.ProgramSays.{said_dressed, said_fallback, said_optional, said_repeat}
 use Rattle.bpaf_exact.specs.Programs.{CellsValue, ChoiceValue, OptionalCommands, are_plain}
 use Rattle.bpaf_exact.specs.Record.{last_reading}
 use Rattle.bpaf_exact.specs.Says.{ArgumentSays, EitherSays, FallbackSays, FieldsFormSays, FieldsSay}
@@ -911,3 +912,41 @@ program_con_says env {A} fields q outcome names makes {s} {said = of_all_cells s
     by_form (product wide named r fields) h = absurd h
     by_form (before_commands value) h = closed_said h
     by_form _ h = tt
+
+-- the last field
+pub keep_last : {env : Variables} {P R A : Type 0} (last : R → P) (r : R) (outcome : Outcome A)
+    (kind : P → SaidKind) (names : P → List Names) (words : List (List ℕ)) (s : ProgramForm A)
+    (said : ProgramSaid P A) → FormLaw env outcome (names (last r)) words s
+    → ProgramSays (names (last r)) s (kind (last r)) said (last r)
+    → FieldsKeep env outcome (names (last r)) (program_alone (program_field s))
+    (said_alone last kind names said) r
+keep_last {env} {A} last r outcome kind names words s said law says = record {
+  law = program_alone_law env A outcome (names (last r)) words (program_field s)
+      (program_field_law env A outcome (names (last r)) words s law);
+  says = program_alone_says env last outcome kind names words law says;
+}
+
+-- fields that stand inside of others
+pub keep_inside : {env : Variables} {P R V : Type 0} (inside : R → P) (r : R) {outcome : Outcome V}
+    {names : List Names} {s : ProgramForm V} {said : ProgramFieldsSaid P V}
+    → FieldsKeep env outcome names s said (inside r)
+    → FieldsKeep env outcome names s (fields_said_inside inside said) r
+keep_inside inside r kept = record { law = kept.law; says = inside_say inside kept.says }
+
+-- a field before such fields
+pub keep_before : {env : Variables} {P Q R A B : Type 0} (first : R → P) (rest : R → Q) (r : R)
+    (outcome : Outcome A) (kind : P → SaidKind) (names : P → List Names) (words : List (List ℕ))
+    (s : ProgramForm A) (said : ProgramSaid P A) → FormLaw env outcome (names (first r)) words s
+    → ProgramSays (names (first r)) s (kind (first r)) said (first r) → {behind : Outcome B}
+    {others : List Names} {t : ProgramForm B} {more : ProgramFieldsSaid Q B}
+    → FieldsKeep env behind others t more (rest r)
+    → FieldsKeep env (BothOutcome outcome behind) (names (first r) ++ others)
+    (program_both (names (first r)) others (program_field s) t) (said_both first rest kind names
+    said more) r
+keep_before {env} {A} {B} first rest r outcome kind names words s said law says {behind} {others}
+    {t} kept = record {
+      law = program_both_law env A B outcome behind (names (first r)) others words (program_field s)
+          t (program_field_law env A outcome (names (first r)) words s law) kept.law;
+      says = program_both_say first rest r outcome behind kind names words others env law kept.law
+          says kept.says;
+    }

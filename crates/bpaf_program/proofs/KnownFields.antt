@@ -12,7 +12,7 @@ use Rattle.bpaf_exact.proofs.ByTables.{fallback_law, many_law, optional_law}
 use Rattle.bpaf_record.specs.Grammar.{Grammar, argument, command_words, keys_of, program_form, word}
 use Rattle.bpaf_record.specs.Positional.{positional_law}
 use Rattle.bpaf_program.specs.KnownFields.{known_default, known_many, known_optional, known_switch}
-use Rattle.bpaf_exact.proofs.{Leaves.flag_field_law, Narrow.no_more, ProgramForm.narrower_form}
+use Rattle.bpaf_exact.proofs.{Leaves.flag_field_law, ProgramForm.no_more, ProgramForm.narrower_form}
 use Rattle.bpaf_laws.proofs.Clones.{fallback_kept}
 use Rattle.bpaf_program.specs.{KnownParser.IsKnownParser, Values.IsKept}
 

@@ -14,7 +14,7 @@ use Rattle.bpaf.specs.{Known.known_names, Run.RunsWords}
 use Rattle.bpaf_exact.specs.ProgramForm.{is_program, program_field}
 use Rattle.bpaf_exact.proofs.ProgramForm.{narrower_form, program_alone_law, program_both_law}
 use Rattle.bpaf_exact.proofs.ProgramForm.{program_choice_law, program_con_law, program_field_law}
-use Rattle.bpaf_exact.proofs.{Narrow.AllowsNoMore, Narrow.no_more, ByTables.map_law}
+use Rattle.bpaf_exact.proofs.{ProgramForm.AllowsNoMore, ProgramForm.no_more, ByTables.map_law}
 use Rattle.bpaf_record.specs.Commands.{plain_command_law}
 use Rattle.bpaf_record.specs.Grammar.{Grammar, alone, both, choice, command_words, keys_of}
 use Rattle.bpaf_record.specs.{Grammar.program_form, Program.AnswersAsProgram}

@@ -9,7 +9,7 @@ use Rattle.bpaf_exact.specs.ProgramForm.{program_con, program_field, program_val
 use Rattle.bpaf_exact.specs.Programs.{CellsValue, ChoiceValue, CommandValue, FieldThen, Opens}
 use Rattle.bpaf_exact.proofs.Commands.{opens_apart, opens_left, opens_right}
 use Rattle.bpaf_exact.proofs.ProgramForm.{words_apart}
-use Rattle.bpaf_exact.proofs.{Cuts.one_take, OneView.values_look_one, Programs.opens_one}
+use Rattle.bpaf_exact.proofs.{Cuts.one_take, OneView.values_look_one, Commands.opens_one}
 use Rattle.bpaf_exact.specs.{OneView.Alike, OneView.pair_view, Pieces.Cells, Pieces.LinePiece}
 use Rattle.bpaf_exact.specs.{Pieces.Roles, Record.line_cells, Wrappers.ClosedValue}
 use Rattle.bpaf_record.specs.Program.{IsProgramValueOf}

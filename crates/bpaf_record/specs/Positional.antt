@@ -10,7 +10,7 @@ use Rattle.bpaf_exact.specs.Leaves.{WordValue, WordEval, word_by, word_fault, wo
 use Rattle.bpaf_exact.specs.{Flat.class, Flat.class_of, Flat.Variables, Leaves.word_missing}
 use Rattle.bpaf_exact.specs.{Leaves.word_passed, Leaves.word_read, ProgramForm.FormLaw, Pieces.One}
 use Rattle.bpaf_exact.proofs.Leaves.{stands_before, word_by_law, word_is}
-use Rattle.bpaf_exact.proofs.{Narrow.no_more, ProgramForm.narrower_form}
+use Rattle.bpaf_exact.proofs.{ProgramForm.no_more, ProgramForm.narrower_form}
 use Rattle.bpaf.specs.declared.leaves.positional.Position.{Position}
 use Rattle.bpaf.specs.Positional.{PositionalOutcome, PositionalFails, accepts}
 
