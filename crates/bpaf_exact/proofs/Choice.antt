@@ -1,10 +1,10 @@
 -- A choice of two alternatives is one.
-use Rattle.std.proofs.Common.{Bool, [], false, length, not, suc, true, zero, ℕ, ◌&&◌, ◌<◌, ◌∷◌, ◌≡◌}
+use Rattle.std.proofs.Common.{Bool, [], false, length, suc, true, zero, ℕ, ◌&&◌, ◌<◌, ◌∷◌, ◌≡◌}
 use Rattle.std.proofs.Common.{Err, List, None, Ok, Option, Result, Some, ap₂, refl, subst, sym, ◌∙◌}
 use Rattle.std.proofs.Common.{ap, arith, inl, inr, nat_le, nat_lt, true≢false, ⊎_elim, ◌≤◌, ◌⊎◌}
 use Rattle.std.proofs.lemmas.Bool.{and_parts, cases_lt, eqb-true, le-leb, not-false, not-true}
 use Rattle.std.proofs.lemmas.Bool.{lt-ltb}
-use Rattle.std.specs.{Option.option_map_or, Prelude.MatchBool}
+use Rattle.std.specs.{Prelude.MatchBool}
 use Rattle.bpaf_base.specs.{Items.any_item, declared.arg.Arg.Arg}
 use Rattle.bpaf_line.proofs.{Matches.open_has_item, Places.present_in_line}
 use Rattle.bpaf_line.specs.{Conflicts.ConflictsSaved, Situation.item_in, declared.error.Error.Error}
@@ -16,11 +16,11 @@ use Rattle.bpaf_laws.specs.Choice.{BranchesEval, ChoiceOutcome, EqualDepths, Win
 use Rattle.bpaf_laws.specs.{Choice.OneOk, Reading.Outcome, Spared.IsNotMemory, Turn.is_untouched}
 use Rattle.bpaf_exact.proofs.Cuts.{HeadOf, TookLeft, both_nil, either_union, first_mine, swap_union}
 use Rattle.bpaf_exact.proofs.Cuts.{Union, left_later, never_same, not_left, takes_left, union_named}
-use Rattle.bpaf_exact.proofs.{Classes.combined_missing, Cuts.left_here, Product.none_outside_after}
-use Rattle.bpaf_exact.proofs.{Classes.combined_refused, Classes.memory_class, Product.mine_of_both}
-use Rattle.bpaf_exact.proofs.{Counts.open_present, Cuts.takes_nonempty, Product.steady_trans}
-use Rattle.bpaf_exact.proofs.{Classes.not_memory, Counts.takes_fewer, Product.steady_refl}
-use Rattle.bpaf_exact.proofs.{Cuts.owner, Places.closed_item, Places.same_cells, Places.same_item}
+use Rattle.bpaf_exact.proofs.Places.{Match, closed_item, match_of, same_cells, same_item}
+use Rattle.bpaf_exact.proofs.Product.{mine_of_both, none_outside_after, steady_refl, steady_trans}
+use Rattle.bpaf_exact.proofs.{Classes.combined_missing, Classes.combined_refused, Cuts.left_here}
+use Rattle.bpaf_exact.proofs.{Classes.memory_class, Counts.open_present, Cuts.takes_nonempty}
+use Rattle.bpaf_exact.proofs.{Classes.not_memory, Counts.takes_fewer, Cuts.owner}
 use Rattle.bpaf_exact.specs.Alternative.{FirstUnread, TakesFirst, alternative_missing, either_value}
 use Rattle.bpaf_exact.specs.Flat.{ErrorClass, IsWholeIn, OfMemory, OfMissing, Refused, cells, class}
 use Rattle.bpaf_exact.specs.Pieces.{Cells, LinePiece, One, Two, either, is_own, is_own_role, pieces}
@@ -72,34 +72,18 @@ left_cells other (suc n) (suc p) l e f same =
     left_later (same zero (omega arith)) (left_cells (λ q. other (suc q)) n p (omega arith) e f
     (λ q i. same (suc q) (omega arith)))
 
--- an item is there
-pub record HasItem (s : Situation) (p : ℕ) : Type 0 where
-  pub item : Arg
-  pub is : open_item s p ≡ Some item
-
--- what isn't taken is open
+-- where a place isn't taken an item is there
 pub has_item : {env : Variables} {s : Situation} {p : ℕ} → IsWholeIn env s → is_taken s p ≡ false
-    → HasItem s p
+    → Match any_item s p
 has_item {s} {p} w free =
     let l = present_in_line s p free in
     let a : s.start ≤ p = ⊎_elim
     (λ (ahead : p < s.start). absurd (true≢false (sym (w.front p ahead) ∙ free)))
     (λ (within : s.start ≤ p). within) (cases_lt p s.start) in
     let b = w.end in
-    by_item (open_item s p) refl (open_has_item s p
-    (open_if (nat_le s.start p) (nat_lt p s.end) (is_taken s p) (le-leb s.start p (omega arith))
-    (lt-ltb p s.end (omega arith)) free))
-  where
-    open_if : (a b c : Bool) → a ≡ true → b ≡ true → c ≡ false → ((a && b) && not c) ≡ true
-    open_if true true false e f g = refl
-    open_if true true true e f g = absurd cc
-    open_if true false c e f g = absurd cc
-    open_if false b c e f g = absurd cc
-
-    by_item : (c : Option Arg) → open_item s p ≡ c → option_map_or any_item c false ≡ true
-        → HasItem s p
-    by_item None f h = absurd cc
-    by_item (Some k) f h = record { item = k; is = f }
+    let c = le-leb s.start p (omega arith) in
+    let d = lt-ltb p s.end (omega arith) in
+    match_of any_item s p (open_has_item s p (rw (c, d, free) refl))
 
 -- the one that took the leftmost place that only one took, by their cells
 left_of : {env : Variables} {s m n : Situation} {p : ℕ} → IsWholeIn env s → Steady s m → Steady s n

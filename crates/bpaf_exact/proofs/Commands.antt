@@ -22,14 +22,14 @@ use Rattle.bpaf_laws.specs.Command.{Called, IsNotOpened, IsOpenedAt, is_one_of, 
 use Rattle.bpaf_laws.specs.{Choice.ChoiceOutcome, Product.BothOutcome, Product.ProductOutcome}
 use Rattle.bpaf_laws.specs.{Choice.branch_of, Command.inside, Spared.IsNotMemory, Turn.is_untouched}
 use Rattle.bpaf_laws.specs.{Choice.Chosen, Choice.OneOk, Choice.depth, Reading.Outcome}
-use Rattle.bpaf_exact.proofs.Classes.{combined_missing, is_missing_of, memory_class, not_memory}
 use Rattle.bpaf_exact.proofs.Cuts.{begin_at, nil_foreign, nil_rest, one_take, value_foreign}
-use Rattle.bpaf_exact.proofs.Places.{TakenOne, closed_item, match_of, same_item, take_one}
+use Rattle.bpaf_exact.proofs.Places.{Match, TakenOne, closed_item, match_of, same_item, take_one}
 use Rattle.bpaf_exact.proofs.Product.{count_none, no_own_in_cut, none_outside_after, values_of_both}
+use Rattle.bpaf_exact.proofs.Classes.{combined_missing, is_missing_of, memory_class}
 use Rattle.bpaf_exact.proofs.{Choice.saved_steady, Product.refused_both, Wrappers.closed_keeps}
-use Rattle.bpaf_exact.proofs.{Counts.open_present, Names.first_within, Names.second_within}
-use Rattle.bpaf_exact.proofs.{Choice.cells_same, Choice.same_scope, Product.con_keeps}
-use Rattle.bpaf_exact.proofs.{Choice.HasItem, Choice.has_item, Cuts.read_cut, Names.both_hold}
+use Rattle.bpaf_exact.proofs.{Classes.not_memory, Counts.open_present, Names.second_within}
+use Rattle.bpaf_exact.proofs.{Choice.cells_same, Choice.same_scope, Names.first_within}
+use Rattle.bpaf_exact.proofs.{Choice.has_item, Cuts.read_cut, Names.both_hold, Product.con_keeps}
 use Rattle.bpaf_exact.specs.Flat.{ByName, ErrorClass, FieldLaw, FieldTook, FieldsLaw, FieldsReading}
 use Rattle.bpaf_exact.specs.Flat.{IsWholeIn, NonePresent, OfMemory, OfMissing, ReadOff, first_cells}
 use Rattle.bpaf_exact.specs.Flat.{Variables, cells, class, is_missing, no_place, none_here}
@@ -208,7 +208,7 @@ module _ (called : Called) (s : Situation) (p : ℕ)
         (cases_Bool (is_taken s q)));
   }
     where
-      never : (q : ℕ) → q < p → HasItem s q → ⊥
+      never : (q : ℕ) → q < p → Match any_item s q → ⊥
       never q before i = let e = i.is in let f = none_before q before in cc
 
   -- the path is longer behind it

@@ -1,11 +1,10 @@
 -- Fields whose keys are apart have no item in common, and pieces that are shared out by roles are
 -- shared out by names.
-use Rattle.std.proofs.Common.{Bool, List, append-nil, ap₂, bytes_eq, false, if◌then◌else◌, inl, inr}
-use Rattle.std.proofs.Common.{[], ap, not, refl, sym, true, true≢false, ◌&&◌, ◌++◌, ◌==◌, ◌||◌, ◌∙◌}
+use Rattle.std.proofs.Common.{Bool, List, [], append-nil, ap₂, bytes_eq, false, if◌then◌else◌, refl}
+use Rattle.std.proofs.Common.{ap, not, sym, true, true≢false, ◌&&◌, ◌++◌, ◌==◌, ◌||◌, ◌∙◌, ◌∷◌, ◌≡◌}
 use Rattle.std.proofs.lemmas.Bool.{and_parts, and_right, eqb-true, false_from_ne_true, not-true}
 use Rattle.std.proofs.{lemmas.List.Elements.filter-append, lemmas.List.Folds.list_any-append}
 use Rattle.std.proofs.{Common.⊎_elim, lemmas.Bool.or_cases, lemmas.Slice.Eq.bytes_eq-Decides}
-use Rattle.std.proofs.Common.{◌∷◌, ◌≡◌, ◌⊎◌}
 use Rattle.std.specs.{List.list_all, List.list_any, Prelude.filter}
 use Rattle.bpaf_doc.specs.Names.{Names}
 use Rattle.bpaf_base.specs.declared.arg.Arg.TheVariants.{Long, PosWord, Short, Word}
@@ -103,6 +102,16 @@ same_truth true b f g = sym (f refl)
 same_truth false true f g = g refl
 same_truth false false f g = refl
 
+-- of two tests of which each holds where one of two others does, that don't both hold, each is that
+shared : (a b x y : Bool) → (a || b) ≡ (x || y) → (a ≡ true → x ≡ true) → (b ≡ true → y ≡ true)
+    → (x ≡ true → y ≡ true → ⊥) → (a ≡ x) × (b ≡ y)
+shared true b x y e f g never =
+    let h = f refl in (sym h, same_truth b y g (λ t. absurd (never h t)))
+shared false true x y e f g never =
+    let h = g refl in (same_truth false x f (λ t. absurd (never t h)), sym h)
+shared false false true y e f g never = absurd cc
+shared false false false y e f g never = (refl, e)
+
 -- Filters.
 
 -- of what a test keeps, a second keeps what a third does that holds where both do
@@ -199,39 +208,21 @@ module _ (r : Roles) (names : List Names) where
 module _ {q r : Roles} {own behind : List Names} (owned : Owns q own) (owned_behind : Owns r behind)
     (apart : are_all_apart own behind ≡ true) where
   -- one of both is one of either
-  either_first : (o : LinePiece) → is_own (either q r) o ≡ true
-      → (is_own q o ≡ true) ⊎ (is_own r o ≡ true)
-  either_first o e = by_role (q (first_item o)) refl
-    where
-      by_role : (x : Role) → q (first_item o) ≡ x → (is_own q o ≡ true) ⊎ (is_own r o ≡ true)
-      by_role Foreign f = inr (own_first r o ∙ (sym (ap (λ x. is_own_role
-          (either_role x (r (first_item o)))) f) ∙ (sym (own_first (either q r) o) ∙ e)))
-      by_role _ f = inl (own_first q o ∙ ap is_own_role f)
+  either_is : (o : LinePiece) → is_own (either q r) o ≡ (is_own q o || is_own r o)
+  either_is (One k) = either_own (q k) (r k)
+  either_is (Two k w) = either_own (q k) (r k)
 
-  -- the first
-  pub first_fits : (os : List LinePiece) → Fits (own ++ behind) (either q r) os → Fits own q os
-  first_fits [] fits = tt
-  first_fits (o ∷ os) fits = (
-    same_truth _ _ (own_keyed q own owned o)
-        ((λ f. ⊎_elim (λ one. one) (λ other. absurd (one_list own behind (first_item o) apart f
-        (own_keyed r behind owned_behind o other)))
-        (either_first o (fits.0 ∙ (list_any-append (λ names. is_key_of names (first_item o)) own
-        behind ∙ ap (λ b. b || is_key_of_any behind (first_item o)) f))))),
-    first_fits os fits.1,
-  )
-
-  -- the second
-  pub second_fits : (os : List LinePiece) → Fits (own ++ behind) (either q r) os → Fits behind r os
-  second_fits [] fits = tt
-  second_fits (o ∷ os) fits = (
-    same_truth _ _ (own_keyed r behind owned_behind o) ((λ f. ⊎_elim
-        (λ one. absurd (one_list own behind (first_item o) apart (own_keyed q own owned o one) f))
-        (λ other. other)
-        (either_first o (fits.0 ∙ (list_any-append (λ names. is_key_of names (first_item o)) own
-        behind ∙ (ap (λ b. is_key_of_any own (first_item o) || b) f ∙ or_true
-        (is_key_of_any own (first_item o)))))))),
-    second_fits os fits.1,
-  )
+  -- each has its own
+  pub both_fits : (os : List LinePiece) → Fits (own ++ behind) (either q r) os
+      → Fits own q os × Fits behind r os
+  both_fits [] fits = (tt, tt)
+  both_fits (o ∷ os) fits =
+      let rest = both_fits os fits.1 in
+      let k = first_item o in
+      let here = shared (is_own q o) (is_own r o) (is_key_of_any own k) (is_key_of_any behind k)
+      (sym (either_is o) ∙ fits.0 ∙ list_any-append (λ names. is_key_of names k) own behind)
+      (own_keyed q own owned o) (own_keyed r behind owned_behind o) (one_list own behind k apart) in
+      ((here.0, rest.0), (here.1, rest.1))
 
 -- the own ones of pieces are all one's own
 pub each_own : (q : Roles) (os : List LinePiece) → EachOwn q (mine q os)

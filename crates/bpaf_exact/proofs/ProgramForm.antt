@@ -1,11 +1,10 @@
 -- Each parser keeps to the laws of its form to a program, where its inner parsers do; so does an
 -- outcome that allows no more; and the theorem of exactness.
 use Rattle.std.proofs.Common.{Bool, List, None, Ok, Option, Result, Some, [], ap, append-nil, arith}
-use Rattle.std.proofs.Common.{Err, bytes_eq, if◌then◌else◌, length, nat_le, nat_lt, refl, slice_get}
-use Rattle.std.proofs.lemmas.Bool.{and_parts, false_from_ne_true, le-leb, lt-ltb}
-use Rattle.std.proofs.{Common.false, Common.true≢false, Common.ℕ, lemmas.Slice.Eq.bytes_eq-Decides}
-use Rattle.std.proofs.Common.{not, subst, true, zero, ◌&&◌, ◌++◌}
-use Rattle.std.proofs.Common.{sym, ◌<◌, ◌||◌, ◌∙◌, ◌∷◌, ◌≡◌}
+use Rattle.std.proofs.Common.{Err, bytes_eq, false, if◌then◌else◌, length, slice_get, true≢false, ℕ}
+use Rattle.std.proofs.Common.{not, refl, subst, sym, true, zero, ◌&&◌, ◌++◌, ◌<◌, ◌||◌, ◌∙◌, ◌∷◌}
+use Rattle.std.proofs.{Common.◌≡◌, lemmas.Bool.false_from_ne_true, lemmas.Slice.Eq.bytes_eq-Decides}
+use Rattle.std.proofs.lemmas.Bool.{and_parts, le-leb, lt-ltb}
 use Rattle.std.specs.{List.list_all, Option.option_map_or}
 use Rattle.bpaf_doc.specs.Names.{Names}
 use Rattle.bpaf_base.specs.{Items.command_word, Items.is_command_word, declared.arg.Arg.Arg}
@@ -71,16 +70,14 @@ narrower {refuses} n l = record {
 open_at_first : (context : Context) (p : ℕ) → p < length context.line
     → open_item (beginning context) p ≡ item_in context p
 open_at_first context p l =
-    by_tests (nat_le zero p) (nat_lt p (length context.line)) (is_marker context.marker p)
-    (le-leb zero p (omega arith)) (lt-ltb p (length context.line) l) (slice_get context.line p)
+    let a = le-leb zero p (omega arith) in
+    let b = lt-ltb p (length context.line) l in
+    rw (a, b) (by_marker (is_marker context.marker p) (slice_get context.line p))
   where
-    by_tests : (above inside marker : Bool) → above ≡ true → inside ≡ true → (at : Option Arg)
-        → (if ((above && inside) && not (not inside || (marker || false))) then
-        (if marker then None else at) else None) ≡ (if marker then None else at)
-    by_tests true true true e f at = refl
-    by_tests true true false e f at = refl
-    by_tests true false marker e f at = absurd cc
-    by_tests false inside marker e f at = absurd cc
+    by_marker : (m : Bool) (at : Option Arg)
+        → (if not (m || false) then (if m then None else at) else None) ≡ (if m then None else at)
+    by_marker true at = refl
+    by_marker false at = refl
 
 -- the cells with which parsing begins are those of the line
 pub first_cells_are : (context : Context) → cells (beginning context) ≡ line_cells context

@@ -8,13 +8,13 @@ use Rattle.bpaf_doc.specs.Names.{Names}
 use Rattle.bpaf_text.specs.Named.{KeyWithValue, Named as Key}
 use Rattle.bpaf_laws.specs.{Command.opening_words, Environment.first_set, Flag.value_without_key}
 use Rattle.bpaf_laws.specs.{Command.Called, Product.BothOutcome, Reading.Outcome, Repeat.is_nil}
-use Rattle.bpaf_exact.proofs.Names.{all_mine, apart_none, cut_fit, each_own, first_fits, mine_keyed}
-use Rattle.bpaf_exact.proofs.Names.{apart_of_names, first_within, mine_none, mine_rest, mine_within}
-use Rattle.bpaf_exact.proofs.Names.{mine_of_others, none_behind, others_both, others_none, rest_fit}
-use Rattle.bpaf_exact.proofs.Names.{no_fits, others_fit, others_rest, others_unkeyed, second_within}
+use Rattle.bpaf_exact.proofs.Names.{apart_none, apart_of_names, first_within, mine_keyed, mine_none}
+use Rattle.bpaf_exact.proofs.Names.{all_mine, mine_of_others, mine_within, none_behind, others_both}
+use Rattle.bpaf_exact.proofs.Names.{cut_fit, each_own, mine_rest, others_fit, others_none, rest_fit}
 use Rattle.bpaf_exact.proofs.ProgramForm.{program_alone_law, program_both_law, program_field_law}
-use Rattle.bpaf_exact.proofs.{Fronts.all_front, Names.second_fits, ProgramForm.whole_law}
-use Rattle.bpaf_exact.proofs.{Cuts.read_cut, Fronts.never_nil, Names.own_fit, Names.taken_own}
+use Rattle.bpaf_exact.proofs.{Names.others_unkeyed, Names.second_within, ProgramForm.whole_law}
+use Rattle.bpaf_exact.proofs.{Cuts.read_cut, Fronts.all_front, Fronts.never_nil, Names.others_rest}
+use Rattle.bpaf_exact.proofs.Names.{both_fits, no_fits, own_fit, taken_own}
 use Rattle.bpaf_exact.specs.Alternative.{either_value}
 use Rattle.bpaf_exact.specs.Flat.{ByName, FieldKind, FieldsReading, OneWord, Variables, back, front}
 use Rattle.bpaf_exact.specs.Flat.{both_reading, keys}
@@ -360,8 +360,8 @@ alone_says {T} {names} {s} {kind} {said} own_keys h = record { by = by_form s ow
         ∙ (ap (mine q) (sym same)
         ∙ (mine_within q (either q no_roles) (first_within q no_roles) whole
         ∙ mine_keyed q names whole
-        (first_fits owned (record { own = λ k e. absurd cc }) (apart_none names)
-        whole (subst (λ own. Fits own (either q no_roles) whole) (sym (append-nil names)) fits)))))
+        (both_fits owned (record { own = λ k e. absurd cc }) (apart_none names)
+        whole (subst (λ own. Fits own (either q no_roles) whole) (sym (append-nil names)) fits)).0)))
         (each (mine q os) v (each_own q os) m.0)
     own k q value owned each whole os v fits m same =
         rw (others_none (either no_roles no_roles) (λ k. refl) os) (each (front k os) v tt m.0)
@@ -403,11 +403,11 @@ module _ {A B : Type 0} (own : List Names) {behind : List Names} (said : Said A)
       let both = either q r in (
         subst (λ z. said z v.0) (sym (mine_within q both (first_within q r) os)
             ∙ (ap (mine q) (sym same) ∙ (mine_within q both (first_within q r) whole
-            ∙ mine_keyed q own whole (first_fits owned owned_behind may whole fits))))
+            ∙ mine_keyed q own whole (both_fits owned owned_behind may whole fits).0)))
             (each (mine q os) v.0 (each_own q os) m.0),
         subst (λ z. rest_said whole z v.1) (others_both q r os) (rest_each whole (others q os) v.1
-            (second_fits owned owned_behind may whole fits)
-            (others_fit q r behind os (second_fits owned owned_behind may os fit)) m.1
+            (both_fits owned owned_behind may whole fits).1
+            (others_fit q r behind os (both_fits owned owned_behind may os fit).1) m.1
             (sym (mine_within r both (second_within q r) whole) ∙ (ap (mine r) same
             ∙ (mine_within r both (second_within q r) os
             ∙ sym (mine_of_others q r (λ k e. apart.right k e) os))))),
