@@ -565,39 +565,55 @@ module _ {env : Variables} {T : Type 0} {inner : Outcome T} {k : FieldKind} {q :
 
   -- optional
 
-  -- None took all that is there
-  none_takes : (s : Situation) → front k (pieces q (cells s)) ≡ [] → NoKeysLeft k q (cells s)
-  none_takes s none = no_keys_left k q (cells s) _ (nothing_left none refl)
+  -- where nothing is there, and nothing stands for that, there is no value
+  none_given : {s t : Situation} {v : T} → (front k (pieces q (cells s)) ≡ []) × (gap.has ≡ false)
+      → SingleOk T k q group gap s v t → ⊥
+  none_given none (gave_absent h p ab same st) = let b = none.1 in cc
+  none_given none (took h) = h.found none.0
 
-  -- where the portion has a value, Some took all
-  some_takes : {s t : Situation} {x : T} (v : Option T) → SingleOk T k q group gap s x t
-      → OptionalValue T group gap (front k (pieces q (cells s))) v → NoKeysLeft k q (cells t)
-  some_takes (Some y) o g = (single_took o).all y g
-  some_takes None (gave_absent h p ab same st) n = let b = n.1 in absurd cc
-  some_takes None (took h) n = absurd (h.found n.0)
+  module _ {B : Type 0} (value : List LinePiece → B → Type 0) where
+    -- an own value, as one with a default
+    own_took : {s t : Situation} {x : T} {v : B} → SingleOk T k q group gap s x t
+        → (SingleValue T group gap (front k (pieces q (cells s))) x
+        → value (front k (pieces q (cells s))) v)
+        → ((u : B) → value (front k (pieces q (cells s))) u
+        → ((y : T) × SingleValue T group gap (front k (pieces q (cells s))) y)
+        ⊎ ((front k (pieces q (cells s)) ≡ []) × (gap.has ≡ false))) → FieldTook B k q value s v t
+    own_took o kept own =
+        let a = single_took o in
+        record {
+          steady = a.steady;
+          takes = a.takes;
+          read = λ n. kept (a.read n);
+          rest = a.rest;
+          all = λ u g. ⊎_elim (λ i. a.all i.0 i.1) (λ none. absurd (none_given none o)) (own u g);
+        }
+
+    -- and what stands for none
+    given_took : {s : Situation} {v : B} → front k (pieces q (cells s)) ≡ []
+        → value (front k (pieces q (cells s))) v → FieldTook B k q value s v s
+    given_took {s} none given = record {
+      steady = steady_refl;
+      takes = takes_none;
+      read = λ n. given;
+      rest = λ n. nothing_left none refl;
+      all = λ u g. no_keys_left k q (cells s) _ (nothing_left none refl);
+    }
 
   -- a value that may be left out
   optional_ok : (s t : Situation) (v : Option T) → IsWholeIn env s → OptionalEval T inner s (Ok v) t
       → FieldTook (Option T) k q (OptionalValue T group gap) s v t
   optional_ok s t v w (optional_some {v = x} i) =
-      let o = l.keeps.ok s t x w i in
-      let a = single_took o in
-      record {
-        steady = a.steady;
-        takes = a.takes;
-        read = λ n. a.read n;
-        rest = a.rest;
-        all = λ u g. some_takes u o g;
-      }
+      own_took (OptionalValue T group gap) (l.keeps.ok s t x w i) (λ g. g) own
+    where
+      own : (u : Option T) → OptionalValue T group gap (front k (pieces q (cells s))) u
+          → ((y : T) × SingleValue T group gap (front k (pieces q (cells s))) y)
+          ⊎ ((front k (pieces q (cells s)) ≡ []) × (gap.has ≡ false))
+      own (Some y) g = inl (y, g)
+      own None none = inr none
   optional_ok s t v w (optional_none {e} {m} i h) =
       let a = catch_none (stopped_by h) (l.keeps.err s m e w i) in
-      record {
-        steady = steady_refl;
-        takes = takes_none;
-        read = λ n. (a.1, a.0);
-        rest = λ n. nothing_left a.1 refl;
-        all = λ u g. none_takes s a.1;
-      }
+      given_took (OptionalValue T group gap) a.1 (a.1, a.0)
 
   -- where nothing is there, what isn't caught is want of memory
   none_fails : {s t : Situation} {c : ErrorClass}
@@ -625,34 +641,14 @@ module _ {env : Variables} {T : Type 0} {inner : Outcome T} {k : FieldKind} {q :
   -- fallback
 
   module _ {f : Closure (Unit {0}) T} (decides : Decides f) where
-    -- an own value took all that has a value
-    own_takes : {s t : Situation} {v w : T} → SingleOk T k q group gap s v t
-        → FallbackValue T group gap f (front k (pieces q (cells s))) w → NoKeysLeft k q (cells t)
-    own_takes {w} o (inl g) = (single_took o).all w g
-    own_takes (gave_absent g p ab same st) (inr e) = let h = e.1 in absurd cc
-    own_takes (took g) (inr e) = absurd (g.found e.0)
-
     fallback_took : (s t : Situation) (v : T) → IsWholeIn env s → FallbackEval T inner f s (Ok v) t
         → FieldTook T k q (FallbackValue T group gap f) s v t
     fallback_took s t v w (fallback_ok i) =
-        let o = l.keeps.ok s t v w i in
-        let a = single_took o in
-        record {
-          steady = a.steady;
-          takes = a.takes;
-          read = λ n. inl (a.read n);
-          rest = a.rest;
-          all = λ u g. own_takes o g;
-        }
+        own_took (FallbackValue T group gap f) (l.keeps.ok s t v w i) (λ g. inl g)
+        (λ u. ⊎_elim (λ g. inl (u, g)) (λ none. inr (none.0, none.1)))
     fallback_took s t v w (fallback_given {e} {m} i h y) =
         let a = catch_none h (l.keeps.err s m e w i) in
-        record {
-          steady = steady_refl;
-          takes = takes_none;
-          read = λ n. inr (a.1, a.0, y);
-          rest = λ n. nothing_left a.1 refl;
-          all = λ u g. none_takes s a.1;
-        }
+        given_took (FallbackValue T group gap f) a.1 (inr (a.1, a.0, y))
 
     own_missing : (s : Situation) {v : T} → (gap.has ≡ false) × (front k (pieces q (cells s)) ≡ [])
         → SingleValue T group gap (front k (pieces q (cells s))) v → ⊥
