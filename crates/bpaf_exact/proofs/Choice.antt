@@ -22,7 +22,7 @@ use Rattle.bpaf_exact.proofs.{Classes.combined_missing, Classes.combined_refused
 use Rattle.bpaf_exact.proofs.{Classes.memory_class, Counts.open_present, Cuts.takes_nonempty}
 use Rattle.bpaf_exact.proofs.{Classes.not_memory, Counts.takes_fewer, Cuts.owner}
 use Rattle.bpaf_exact.specs.Alternative.{FirstUnread, TakesFirst, alternative_missing, either_value}
-use Rattle.bpaf_exact.specs.Flat.{ErrorClass, IsWholeIn, OfMemory, OfMissing, Refused, cells, class}
+use Rattle.bpaf_exact.specs.Flat.{ErrorClass, IsWholeIn, OfMemory, Refused, cells, class}
 use Rattle.bpaf_exact.specs.Pieces.{Cells, LinePiece, One, Two, either, is_own, is_own_role, pieces}
 use Rattle.bpaf_exact.specs.Pieces.{Apart, Roles, TakesPiece, takes_later, takes_one, takes_two}
 use Rattle.bpaf_exact.specs.Alternative.{alternative_memory, alternative_refused}
@@ -326,12 +326,6 @@ module _ {env : Variables} (T : Type 0) (a b : Outcome T) (qa qb : Roles)
   by_class (inl c) z = alternative_memory c
   by_class (inr c) z = alternative_refused c refl z
 
-  -- where neither has a piece, the choice has none
-  both_missing : {s : Situation} {c : ErrorClass} → (c ≡ OfMissing) ⊎ (c ≡ OfMemory)
-      → pieces (either qa qb) (cells s) ≡ [] → AlternativeErr T (either qa qb) vr s c s
-  both_missing (inl c) h = alternative_missing c h refl steady_refl
-  both_missing (inr c) h = alternative_memory c
-
   -- both branches refused
   both_failed : (s : Situation) {m n : Situation} (e f : Error) {g : Error} → is_memory e.0 ≡ false
       → is_memory f.0 ≡ false → Combines e.0 f.0 g.0 → AlternativeErr T qa va s (class e) m
@@ -339,7 +333,9 @@ module _ {env : Variables} (T : Type 0) (a b : Outcome T) (qa qb : Roles)
   both_failed s e f x y c (alternative_memory p) j = absurd (not_memory e.0 x p)
   both_failed s e f x y c i (alternative_memory q) = absurd (not_memory f.0 y q)
   both_failed s e f x y c (alternative_missing p i same st) (alternative_missing q j alike steady) =
-      both_missing (combined_missing e.0 f.0 p q c) (both_nil (cells s) u i j)
+      let none = both_nil (cells s) u i j in
+      ⊎_elim (λ missing. alternative_missing missing none refl steady_refl)
+      (λ memory. alternative_memory memory) (combined_missing e.0 f.0 p q c)
   both_failed s e f x y c (alternative_missing p i same st) (alternative_refused q path z) =
       by_class (combined_refused e.0 f.0 (inr q) (inl p) (inr q) c)
       (both_unread (cells s) (some_both (swap_union u) (cells s) z) (inl i) (inr z))

@@ -23,7 +23,7 @@ use Rattle.bpaf_laws.specs.{Choice.ChoiceOutcome, Product.BothOutcome, Product.P
 use Rattle.bpaf_laws.specs.{Choice.branch_of, Command.inside, Spared.IsNotMemory, Turn.is_untouched}
 use Rattle.bpaf_laws.specs.{Choice.Chosen, Choice.OneOk, Choice.depth, Reading.Outcome}
 use Rattle.bpaf_exact.proofs.Cuts.{begin_at, nil_foreign, nil_rest, one_take, value_foreign}
-use Rattle.bpaf_exact.proofs.Places.{Match, TakenOne, closed_item, match_of, same_item, take_one}
+use Rattle.bpaf_exact.proofs.Places.{TakenOne, closed_item, match_of, same_item, take_one}
 use Rattle.bpaf_exact.proofs.Product.{count_none, no_own_in_cut, none_outside_after, values_of_both}
 use Rattle.bpaf_exact.proofs.Classes.{combined_missing, is_missing_of, memory_class}
 use Rattle.bpaf_exact.proofs.{Choice.saved_steady, Product.refused_both, Wrappers.closed_keeps}
@@ -148,10 +148,6 @@ cells_spelled s all =
 
 -- A command's word in a situation.
 
--- outside the scope nothing is open
-closed_outside : (s : Situation) (p : ℕ) → in_scope s p ≡ false → open_item s p ≡ None
-closed_outside s p e = ap (λ b. if (b && not (is_taken s p)) then item_at s p else None) e
-
 -- where not any item is open none is
 not_any : (c : Option Arg) → option_map_or any_item c false ≡ false → c ≡ None
 not_any None e = refl
@@ -163,10 +159,6 @@ module _ (called : Called) (s : Situation) (p : ℕ)
   abbrev behind : Situation
   behind = inside called s p
 
-  -- the word is in scope
-  word_in_scope : (s.start ≤ p) × (p < s.end)
-  word_in_scope = open_in_scope s p (match_is_open any_item s p at.first.matches)
-
   -- nothing is open before it
   none_before : (q : ℕ) → q < p → open_item s q ≡ None
   none_before q l = not_any (open_item s q) (at.first.first q l)
@@ -175,8 +167,9 @@ module _ (called : Called) (s : Situation) (p : ℕ)
   behind_one : TakenOne (open_item s) (open_item behind) p
   behind_one = record {
     gone = closed_item behind p (taken_here s p);
-    others = λ q other. ⊎_elim (λ (before : q < p). closed_outside behind q (outside before)
-        ∙ sym (none_before q before))
+    others = λ q other. ⊎_elim (λ (before : q < p).
+        ap (λ b. if (b && not (is_taken behind q)) then item_at behind q else None)
+        (outside before) ∙ sym (none_before q before))
         (λ (after : p ≤ q). same_item s behind q (same_scope after) refl
         (taken_other s p q other)) (cases_lt q p);
   }
@@ -185,7 +178,9 @@ module _ (called : Called) (s : Situation) (p : ℕ)
       outside before = grind (arith, nat_tests)
 
       same_scope : {q : ℕ} → p ≤ q → in_scope behind q ≡ in_scope s q
-      same_scope after = let within = word_in_scope in grind (arith, nat_tests)
+      same_scope after =
+          let within = open_in_scope s p (match_is_open any_item s p at.first.matches) in
+          grind (arith, nat_tests)
 
   -- it opens the cells, and leaves those behind it
   pub opens_cells : Opens (opening_words called) (cells s) (cells behind)
@@ -204,16 +199,10 @@ module _ (called : Called) (s : Situation) (p : ℕ)
     end = w.end;
     environment = w.environment;
     front = λ q before. taken_stays s p q (⊎_elim (λ (taken : is_taken s q ≡ true). taken)
-        (λ (free : is_taken s q ≡ false). absurd (never q before (has_item w free)))
+        (λ (free : is_taken s q ≡ false). absurd (
+        let e = (has_item w free).is in let f = none_before q before in cc))
         (cases_Bool (is_taken s q)));
   }
-    where
-      never : (q : ℕ) → q < p → Match any_item s q → ⊥
-      never q before i = let e = i.is in let f = none_before q before in cc
-
-  -- the path is longer behind it
-  pub deeper_behind : depth s ≤ depth behind
-  deeper_behind = let e = length_push s.path called.name in omega arith
 
 -- where no word opens a situation none opens its cells
 pub opens_none : {words : List (List ℕ)} (s : Situation) → IsNotOpened words s
@@ -256,7 +245,7 @@ module _ {env : Variables} (T : Type 0) (inner : Outcome T) (r : Roles) (value :
   command_took s t v w (command_value {p} at i e) =
       let a = l.keeps.ok (inside called s p) t v (whole_behind called s p at w) i in
       record {
-        deep = let b = deeper_behind called s p at in let d = a.deep in omega arith;
+        deep = let b = length_push s.path called.name in let d = a.deep in omega arith;
         read = λ spelled n. from_behind at (a.read spelled n);
         all = λ u h. let g = a.all u (value_behind at h) in (from_behind at g.0, g.1);
       }

@@ -323,14 +323,10 @@ none_behind s p e w f v =
     let h : is_some (value_text w) ≡ false = ap is_some g in
     cc
 
--- the situation with a key and its value taken
-abbrev pub taken_pair : Situation → ℕ → Situation
-taken_pair s p = take_place (take_place s p) (suc p)
-
 -- the first match, taken with the value behind it
 pub two_taken : {test : Arg → Bool} {r : Roles} (s : Situation) {p : ℕ} {text : List ℕ}
     → ByTest test r WithNext → IsFirst test s p → (m : Match test s p) (b : Behind s p text)
-    → TakesFirst r (cells s) (Two m.item b.item) (cells (taken_pair s p))
+    → TakesFirst r (cells s) (Two m.item b.item) (cells (take_place (take_place s p) (suc p)))
 unfolding cells
 two_taken s {p} t f m b =
     take_two (length s.context.line) p b.in_line m.is b.is (t.yes m.item m.passes) b.value

@@ -383,10 +383,6 @@ module _ {A B : Type 0} (own : List Names) {behind : List Names} (said : Said A)
     (rest_said : FieldsSaid B) (q : Roles) {r : Roles} (first : List LinePiece → A → Type 0)
     (fields : FieldsReading B) (owned_behind : Owns r behind)
     (rest_each : FieldsFormSays behind (product false true r fields) rest_said) where
-  -- what a field of a kind says
-  abbrev FirstSays : FieldKind → Type 0
-  FirstSays k = (os : List LinePiece) (v : A) → AllOwn k q os → first os v → said os v
-
   -- what it and those behind it say
   abbrev KindSays : FieldKind → Type 0
   KindSays k =
@@ -396,7 +392,9 @@ module _ {A B : Type 0} (own : List Names) {behind : List Names} (said : Said A)
       → said (its_pieces (of_kind k) own whole (others (either (keys k q) r) os)) v.0
       × rest_said whole (words_after (of_kind k) (others (either (keys k q) r) os)) v.1
 
-  kind_says : (k : FieldKind) → FirstSays k → Owns (keys k q) own → may_follow k own behind ≡ true
+  kind_says : (k : FieldKind)
+      → ((os : List LinePiece) (v : A) → AllOwn k q os → first os v → said os v)
+      → Owns (keys k q) own → may_follow k own behind ≡ true
       → KindSays k
   kind_says ByName each owned may whole os v fits fit m same =
       let apart = apart_of_names owned owned_behind may in

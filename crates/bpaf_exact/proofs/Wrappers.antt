@@ -87,10 +87,6 @@ module _ {env : Variables} {T : Type 0} {inner : Outcome T} {k : FieldKind} {q :
   own_none_left : (s : Situation) → front k (pieces q (cells s)) ≡ [] → own s ≡ []
   own_none_left s none = each_nil k (pieces q (cells s)) none
 
-  -- and leaves all
-  all_left : (s : Situation) → front k (pieces q (cells s)) ≡ [] → pieces q (cells s) ≡ left s
-  all_left s none = sym (back_all (repeated k) (own_none_left s none))
-
   -- a group at the front of all pieces is one at the front of those
   by_group : {os : List LinePiece} {v : T} {rest : List LinePiece} → group os v rest
       → group (front (repeated k) os) v (front (repeated k) rest)
@@ -144,7 +140,7 @@ module _ {env : Variables} {T : Type 0} {inner : Outcome T} {k : FieldKind} {q :
   ended told {s} st p e list = record {
     steady = st;
     takes = same_takes e;
-    none = ap (pieces q) e ∙ all_left s p;
+    none = ap (pieces q) e ∙ sym (back_all (repeated k) (own_none_left s p));
     list = rw (own_none_left s p) list;
   }
 
@@ -650,17 +646,13 @@ module _ {env : Variables} {T : Type 0} {inner : Outcome T} {k : FieldKind} {q :
         let a = catch_none h (l.keeps.err s m e w i) in
         given_took (FallbackValue T group gap f) a.1 (inr (a.1, a.0, y))
 
-    own_missing : (s : Situation) {v : T} → (gap.has ≡ false) × (front k (pieces q (cells s)) ≡ [])
-        → SingleValue T group gap (front k (pieces q (cells s))) v → ⊥
-    own_missing s a (inl z) = not_empty _ a.1 z
-    own_missing s {v} a (inr z) = l.no_absent v a.0 z.1
-
     -- where the portion has a value, a refusal is want of memory
     fallback_refuses : (s t : Situation) (g : Error) → IsWholeIn env s
         → FallbackEval T inner f s (Err g) t → (v : T)
         → FallbackValue T group gap f (front k (pieces q (cells s))) v → class g ≡ OfMemory
     fallback_refuses s t g w (fallback_no {e} {m} i h n c) v (inl o) =
-        absurd (own_missing s (catch_none h (l.keeps.err s m e w i)) o)
+        let a = catch_none h (l.keeps.err s m e w i) in
+        absurd (⊎_elim (not_empty _ a.1) (λ z. l.no_absent v a.0 z.1) o)
     fallback_refuses s t g w (fallback_no i h n c) v (inr p) = absurd (decides tt v p.2 n)
     fallback_refuses s t g w (fallback_memory c) v view = c
     fallback_refuses s t g w (fallback_err {m} i n) v (inl o) = err_gives (l.keeps.err s m g w i) o
