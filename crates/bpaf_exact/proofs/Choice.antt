@@ -370,14 +370,6 @@ module _ {env : Variables} (T : Type 0) (a b : Outcome T) (qa qb : Roles)
       rw (o.1, ← same)
       (both_failed s e d hf hg o.0.1 (la.keeps.err s sa e w f) (lb.keeps.err s sb d w h))
 
-  -- a refusal of the choice is that of an alternative
-  choice_err : (s t : Situation) (e : Error) → IsWholeIn env s → ChoiceOutcome a b s (Err e) t
-      → AlternativeErr T (either qa qb) vr s (class e) t
-  choice_err s t e w (inl o) =
-      equal_err s e o.a o.b w o.first_ran o.second_ran o.first_spared o.second_spared
-      (equally_deep w o)
-  choice_err s t e w (inr o) = alternative_memory (memory_class e.0 o.0)
-
   -- a choice of two alternatives whose keys are apart is an alternative
   pub choice_law : AlternativeLaw env T (ChoiceOutcome a b) (either qa qb) (either_value qa va vb)
   choice_law = record {
@@ -386,6 +378,8 @@ module _ {env : Variables} (T : Type 0) (a b : Outcome T) (qa qb : Roles)
       ok = λ s t v w o.
           equal_ok s o.sa o.sb o.a o.b w o.first_ran o.second_ran o.first_spared o.second_spared
           (equally_deep w o);
-      err = choice_err;
+      err = λ s t e w. ⊎_elim
+          (λ o. equal_err s e o.a o.b w o.first_ran o.second_ran o.first_spared o.second_spared
+          (equally_deep w o)) (λ o. alternative_memory (memory_class e.0 o.0));
     };
   }

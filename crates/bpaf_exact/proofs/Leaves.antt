@@ -27,11 +27,11 @@ use Rattle.bpaf_exact.proofs.{Classes.memory_class, Product.steady_refl, Wrapper
 use Rattle.bpaf_exact.proofs.{Cuts.first_pieces, Places.take_steady, Wrappers.gap_empty}
 use Rattle.bpaf_exact.proofs.{Cuts.first_takes, Cuts.never_two, Fronts.front_nil, Places.test_named}
 use Rattle.bpaf_exact.proofs.{Cuts.some_trans, Fronts.front_one, Fronts.never_nil, Places.test_owns}
-use Rattle.bpaf_exact.proofs.{Cuts.begin_at, Fronts.back_one, Places.ByTest, Places.two_taken}
+use Rattle.bpaf_exact.proofs.{Cuts.begin_at, Fronts.back_one, Places.two_taken}
 use Rattle.bpaf_exact.specs.Alternative.{AlternativeOk, TakesFirst, alternative_memory, first_later}
 use Rattle.bpaf_exact.specs.Alternative.{AlternativeErr, alternative_missing, first_one, first_two}
 use Rattle.bpaf_exact.specs.Flat.{ByName, Caught, EachWord, FieldKind, OfMemory, OfMissing, OneWord}
-use Rattle.bpaf_exact.specs.Flat.{ErrorClass, Refused, Steady, Variables, back, cells, class, front}
+use Rattle.bpaf_exact.specs.Flat.{Refused, Steady, Variables, back, cells, class, front}
 use Rattle.bpaf_exact.specs.Leaves.{FlagValue, LastGroup, WordValue, argument_field, argument_group}
 use Rattle.bpaf_exact.specs.Leaves.{ArgumentValue, WordEval, argument_roles, flag_field, flag_roles}
 use Rattle.bpaf_exact.specs.Leaves.{pure_field, word_fault, word_memory, word_missing, word_passed}
@@ -338,10 +338,6 @@ module _ (argument : KeyWithValue) where
   abbrev gap : {T : Type 0} → (List ℕ → T → Type 0) → Variables → Gap T
   gap means variables = gap_of means (first_set variables argument.named.envs)
 
-  -- they are the keys that the argument looks for
-  pub test : ByTest (is_key_with_value argument) q WithNext
-  test = by_test
-
   -- they are keys
   pub named : IsNamed q
   named = test_named (is_key_with_value argument) argument.named.names WithNext
@@ -361,13 +357,13 @@ module _ (argument : KeyWithValue) where
         key = m.item;
         word = b.item;
         text_is = b.text_is;
-        takes = two_taken s test takes.first m b;
+        takes = two_taken s by_test takes.first m b;
         steady = steady_trans take_steady take_steady;
       })
 
   -- no key: there is no piece
   pub no_key : (s : Situation) → HasNoKey argument s → pieces q (cells s) ≡ []
-  no_key s none = no_pieces s test none
+  no_key s none = no_pieces s by_test none
 
   -- the text of an argument behind its key
   takes_pair : argument.last ≡ false → {s t : Situation} {text : List ℕ}
@@ -493,42 +489,29 @@ module _ (argument : KeyWithValue) where
           readable = λ x rest g. (group rest g.4, a.3 ∙ sym g.4);
         })
 
-    -- where a last text means no value, the pieces have none
-    fault_group : {s t : Situation} {text : List ℕ} → TookAll s t text
-        → ((v : T) → means text v → ⊥)
-        → (v : T) (rest : List LinePiece) → LastGroup T means (pieces q (cells s)) v rest → ⊥
-    fault_group a nothing v rest g =
-        let same : Two g.1.0 g.1.1 ≡ Two a.2.key a.2.word = last_same (pairs g.0)
-        (pairs a.1.before) (sym g.2 ∙ whole a) in
-        let word : g.1.1 ≡ a.2.word = cc in
-        nothing v (rw (← ap item_text word ∙ a.2.text_is) g.3)
-
-    -- where a key has no value, the pieces have none
-    bare_refused : (s : Situation) {t : Situation} {c : ErrorClass} {k : Arg}
-        {tail : List LinePiece}
-        → c ≡ Refused → (some : List LinePiece) → pieces q (cells s) ≡ some ++ pieces q (cells t)
-        → pieces q (cells t) ≡ One k ∷ tail
-        → SingleErr T ByName q (LastGroup T means) (gap means variables) s c t
-    bare_refused s {k} {tail} c some first is =
-        let there : pieces q (cells s) ≡ some ++ One k ∷ tail = first ∙ ap (λ z. some ++ z) is in
-        of_piece c (λ none. never_nil some (One k) tail (sym there ∙ none))
-        (λ v rest g. bare_spoils some tail g.0 k g.1.0 g.1.1 (sym there ∙ g.2))
-
     -- a refusal: no piece, one without a value, or a last one that means none
     last_err : {s t : Situation} (e : Error) (m : Message) → class e ≡ class_of m
         → s.context.env ≡ variables → ArgumentFails means argument s m t
         → SingleErr T ByName q (LastGroup T means) (gap means variables) s (class e) t
     last_err e Memory c same o = of_memory c
     last_err {s} e (ParseFailed place fault) c same o = ⊎_elim
-        (λ takes. let got = takes_all takes in
-        of_piece c (some_there got) (fault_group got o.2.0))
+        (λ takes. let a = takes_all takes in of_piece c (some_there a) (λ v rest g.
+        let pair : Two g.1.0 g.1.1 ≡ Two a.2.key a.2.word = last_same (pairs g.0)
+        (pairs a.1.before) (sym g.2 ∙ whole a) in
+        let word : g.1.1 ≡ a.2.word = cc in
+        o.2.0 v (rw (← ap item_text word ∙ a.2.text_is) g.3)))
         (λ read. none_err (no_key s read.no_key) (variable_fault means variables same read c o.2.0))
         o.1
     last_err {s} {t} e (NoArgument key metavar) c same o =
         let before = subst (λ b. TakesBefore b argument s t) all o.1 in
-        let m = match_of (is_key_with_value argument) t key o.0.0.matches in
         let some = took_some s t before.0 before.1 in
-        bare_refused s c (pairs some.before) some.is (bare_taken test o.0.0 m o.0.1).is
+        let first = pairs some.before in
+        let m = match_of (is_key_with_value argument) t key o.0.0.matches in
+        let bare = bare_taken by_test o.0.0 m o.0.1 in
+        let there : pieces q (cells s) ≡ first ++ One m.item ∷ bare.tail =
+        some.is ∙ ap (λ z. first ++ z) bare.is in
+        of_piece c (λ none. never_nil first (One m.item) bare.tail (sym there ∙ none))
+        (λ v rest g. bare_spoils first bare.tail g.0 m.item g.1.0 g.1.1 (sym there ∙ g.2))
     last_err {s} e other c same o =
         none_err (no_key s o.0) (nowhere means variables other c same o.1 o.2)
 
@@ -570,7 +553,7 @@ module _ (argument : KeyWithValue) where
         let left = subst (λ b. TakesBefore b argument s t) once o.1 in
         let lacks = subst (λ z. LacksText argument z (NoArgument key metavar)) left o.0 in
         let m = match_of (is_key_with_value argument) s key lacks.0.matches in
-        read_fault c (ap (λ z. z.path) left) (bare_taken test lacks.0 m lacks.1).is
+        read_fault c (ap (λ z. z.path) left) (bare_taken by_test lacks.0 m lacks.1).is
         (λ none. absurd cc) (λ v y. y)
     argument_fails {s} other c same o =
         read_none (no_key s o.0) (nowhere means variables other c same o.1 o.2)
@@ -638,10 +621,6 @@ module _ {T : Type 0} {b : Bool} {value : LinePiece → T → Type 0}
   abbrev group : Groups T
   group = FrontOf T value
 
-  -- the words are the positional items
-  word_test : ByTest is_positional word_roles Alone
-  word_test = by_test
-
   -- the first word heads the pieces
   word_pieces : {cs ds : Cells} {o : LinePiece} → TakesFirst word_roles cs o ds
       → pieces word_roles cs ≡ o ∷ pieces word_roles ds
@@ -670,7 +649,7 @@ module _ {T : Type 0} {b : Bool} {value : LinePiece → T → Type 0}
       rw takes.taken (record {
         word = m.item;
         text_is = sym (ap (option_and_then word_text) at) ∙ takes.is;
-        takes = one_taken word_test takes.first m;
+        takes = one_taken by_test takes.first m;
         steady = take_steady;
       })
 
@@ -693,7 +672,7 @@ module _ {T : Type 0} {b : Bool} {value : LinePiece → T → Type 0}
       (some_front m.word _ (λ h. (word_is m.word strict text m.text_is).1 ∙ before h))
       (λ x. n m.word x m.text_is)
   word_reads s t (Err e) (word_missing none c) =
-      read_none (ap (front (OneWord b)) (no_pieces s word_test none) ∙ front_nil (OneWord b))
+      read_none (ap (front (OneWord b)) (no_pieces s by_test none) ∙ front_nil (OneWord b))
       (none_missing (inl c) refl (λ missing. refl))
   word_reads s t (Err e) (word_passed {text} h takes c) =
       let m = took_word takes in

@@ -165,20 +165,21 @@ own_first r (One k) = refl
 own_first r (Two k w) = refl
 
 module _ (r : Roles) (names : List Names) where
-  -- where the own pieces are those that begin with a key of one's names, they are those,
+  -- where the own pieces are those that begin with a key of one's names, a test of the one keeps what
+  -- it does of the other
+  fits_kept : (f : Bool → Bool) (os : List LinePiece) → Fits names r os
+      → filter (λ o. f (is_own r o)) os ≡ filter (λ o. f (is_key_of_any names (first_item o))) os
+  fits_kept f [] fits = refl
+  fits_kept f (o ∷ os) fits =
+      ap₂ (λ b z. if b then (o ∷ z) else z) (ap f fits.0) (fits_kept f os fits.1)
+
+  -- so they are those,
   pub mine_keyed : (os : List LinePiece) → Fits names r os → mine r os ≡ keyed names os
-  mine_keyed [] fits = refl
-  mine_keyed (o ∷ os) fits =
-      ap (λ c. if c then (o ∷ mine r os) else mine r os) fits.0
-      ∙ ap (λ z. if is_key_of_any names (first_item o) then (o ∷ z) else z) (mine_keyed os fits.1)
+  mine_keyed = fits_kept (λ b. b)
 
   -- and those of others the rest
   pub others_unkeyed : (os : List LinePiece) → Fits names r os → others r os ≡ unkeyed names os
-  others_unkeyed [] fits = refl
-  others_unkeyed (o ∷ os) fits =
-      ap (λ c. if not c then (o ∷ others r os) else others r os) fits.0
-      ∙ ap (λ z. if not (is_key_of_any names (first_item o)) then (o ∷ z) else z)
-      (others_unkeyed os fits.1)
+  others_unkeyed = fits_kept not
 
   module _ (owned : Owns r names) where
     -- an own piece begins with one

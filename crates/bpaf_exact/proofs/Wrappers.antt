@@ -32,10 +32,6 @@ use Rattle.bpaf_exact.specs.{Alternative.TakesFirst, Alternative.alternative_mem
 use Rattle.bpaf_exact.specs.{Alternative.bad_later, Gathered.some_closure, Single.present_count}
 use Rattle.bpaf_exact.specs.{Gathered.LastOf, Single.Stops, Single.repeated, Single.took}
 
--- one piece at least is some
-pub any_some : {q : Roles} {cs ds : Cells} → TakesAny q cs ds → TakesPieces q cs ds
-any_some t = takes_more t.one t.more
-
 -- where the cells are the same none was taken
 pub same_takes : {q : Roles} {cs ds : Cells} → ds ≡ cs → TakesPieces q cs ds
 same_takes e = rw e takes_none
@@ -159,7 +155,7 @@ module _ {env : Variables} {T : Type 0} {inner : Outcome T} {k : FieldKind} {q :
       let g = by_group (h.read (readable k _ i.list.0)) in
       record {
         steady = steady_trans h.steady i.steady;
-        takes = some_trans (any_some h.takes) i.takes;
+        takes = takes_more h.takes.one (some_trans h.takes.more i.takes);
         none = i.none ∙ g.1;
         list = (own_more g.0 i.list.0, i.list.1);
       }
@@ -532,7 +528,7 @@ module _ {env : Variables} {T : Type 0} {inner : Outcome T} {k : FieldKind} {q :
   }
   single_took {s} {t} (took h) = record {
     steady = h.steady;
-    takes = any_some h.takes;
+    takes = takes_more h.takes.one h.takes.more;
     read = λ n. inl (took_read k s t l.words n h.read).0;
     rest = λ n. (took_read k s t l.words n h.read).1;
     all = λ w g. no_keys_left k q (cells t) _ (took_takes h g);
