@@ -20,8 +20,8 @@ use Rattle.bpaf_laws.proofs.ChoiceLaws.{both_refused, first_stands, second_stand
 use Rattle.bpaf_laws.proofs.ChoiceLaws.{ComesFrom, first_won}
 use Rattle.bpaf_laws.specs.Command.{Called, IsNotOpened, IsOpenedAt, is_one_of, opening_words}
 use Rattle.bpaf_laws.specs.{Choice.ChoiceOutcome, Product.BothOutcome, Product.ProductOutcome}
-use Rattle.bpaf_laws.specs.{Choice.branch_of, Command.inside, Spared.IsNotMemory, Turn.is_untouched}
-use Rattle.bpaf_laws.specs.{Choice.Chosen, Choice.OneOk, Choice.depth, Reading.Outcome}
+use Rattle.bpaf_laws.specs.{Command.inside, Spared.IsNotMemory, Turn.is_untouched}
+use Rattle.bpaf_laws.specs.{Choice.Chosen, Choice.depth, Reading.Outcome}
 use Rattle.bpaf_exact.proofs.Cuts.{begin_at, nil_foreign, nil_rest, one_take, value_foreign}
 use Rattle.bpaf_exact.proofs.Places.{TakenOne, closed_item, match_of, same_item, take_one}
 use Rattle.bpaf_exact.proofs.Product.{count_none, no_own_in_cut, none_outside_after, values_of_both}
@@ -562,21 +562,15 @@ module _ {env : Variables} {T : Type 0} {inner : Outcome T} {r : Roles} {words :
     all = none_all stops (l.program.keeps.err s m e w i);
   }
 
-  -- where none is found nothing stops but want of memory
-  none_stops : {s t : Situation} {e : Error} → FindsNoCommand s (class e) t
-      → (Stops e s t → ⊥) → class e ≡ OfMemory
-  none_stops (inl memory) goes = memory
-  none_stops {s} {t} (inr found) goes =
-      absurd (goes (nothing_found found.0
-      (open_present t ∙ ap present_count found.1 ∙ sym (open_present s))))
-
   -- where there is a value, a refusal is want of memory
   optional_refuses : (s t : Situation) (e : Error) → IsWholeIn env s
       → OptionalEval T inner s (Err e) t → (u : Option T) → optional (cells s) u
       → class e ≡ OfMemory
   optional_refuses s t e w (optional_err i goes) (Some x) h = l.program.keeps.err s t e w i x h
   optional_refuses s t e w (optional_err i goes) None n =
-      none_stops (l.none.err s t e w i (none_opens n)) goes
+      ⊎_elim (λ memory. memory) (λ found. absurd (goes (nothing_found found.0
+      (open_present t ∙ ap present_count found.1 ∙ sym (open_present s)))))
+      (l.none.err s t e w i (none_opens n))
   optional_refuses s t e w (optional_memory m) u h = m
 
   -- the laws
@@ -706,21 +700,15 @@ module _ {env : Variables} (T : Type 0) (a b : Outcome T) (ra rb : Roles) (wa wb
   passed s m e h (inl memory) = absurd (not_memory e.0 h memory)
   passed s m e h (inr found) = found
 
-  -- a missing command is no wrong input beside a value
-  no_fault : {s m t : Situation} {x : T} {e g : Error} → class e ≡ OfMissing
-      → OneOk s (branch_of x m) e (Err g) t → ⊥
-  no_fault {s} {m} {e} c (inl o) =
-      true≢false (sym (and_parts (is_untouched s m) (is_wrong_input e.0) o.0).1
-      ∙ missing_input e.0 (is_missing_of e.0 c))
-  no_fault c (inr o) = let h = o.1.0 in cc
-
-  -- nor is its path longer, so no refusal is chosen
+  -- it is no wrong input beside a value, nor is its path longer, so no refusal is chosen
   never_refused : {s m n t : Situation} {x : T} {e g : Error} → depth s ≤ depth m → Passed s e n
       → Chosen s (Ok x) m (Err e) n (Err g) t → ⊥
   never_refused less k (inl deeper) = let given = deeper.1 in cc
   never_refused less k (inr (inl deeper)) =
       let same = ap length k.2 in let more = deeper.0 in absurd (omega arith)
-  never_refused less k (inr (inr equal)) = no_fault k.0 equal.1
+  never_refused {s} {m} {e} less k (inr (inr equal)) = ⊎_elim
+      (λ o. true≢false (sym (and_parts (is_untouched s m) (is_wrong_input e.0) o.0).1
+      ∙ missing_input e.0 (is_missing_of e.0 k.0))) (λ o. let h = o.1.0 in cc) equal.1
 
   -- where the first has a value none is
   first_fails : (s : Situation) {sa sb t : Situation} (x y : Result T Error) {g : Error} {u : T}

@@ -9,7 +9,7 @@ use Rattle.bpaf_line.specs.Situation.{Situation, count_below, open_count}
 use Rattle.bpaf_line.specs.{Situation.is_open, Situation.item_at, Taking.open_item}
 use Rattle.bpaf_exact.specs.Pieces.{Cells, Roles, TakesPiece, TakesPieces, takes_later, takes_none}
 use Rattle.bpaf_exact.specs.{Flat.cells, Flat.first_cells, Pieces.takes_more, Single.present_count}
-use Rattle.bpaf_exact.specs.{Pieces.LinePiece, Single.TakesAny}
+use Rattle.bpaf_exact.specs.{Pieces.LinePiece}
 
 -- a piece taken leaves fewer items
 pub takes_fewer : {q : Roles} {cs ds : Cells} {o : LinePiece} → TakesPiece q cs o ds
@@ -24,12 +24,6 @@ pub takes_some_fewer : {q : Roles} {cs ds : Cells} → TakesPieces q cs ds
 takes_some_fewer takes_none = omega arith
 takes_some_fewer (takes_more t more) =
     let i = takes_fewer t in let j = takes_some_fewer more in omega arith
-
--- at least one piece taken leaves fewer
-pub takes_any_fewer : {q : Roles} {cs ds : Cells} → TakesAny q cs ds
-    → present_count ds < present_count cs
-takes_any_fewer t = let i = takes_fewer t.one in let j = takes_some_fewer t.more in
-    omega arith
 
 -- the count of a set of places, with the first place set apart
 count_first : (set : ℕ → Bool) (n : ℕ) → count_below set (suc n)

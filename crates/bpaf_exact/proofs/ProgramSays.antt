@@ -39,7 +39,7 @@ use Rattle.bpaf_exact.specs.ProgramSays.{said_alone, said_closed, said_command, 
 use Rattle.bpaf_exact.specs.ProgramSays.{said_dressed, said_fallback, said_optional, said_repeat}
 use Rattle.bpaf_exact.specs.Programs.{CellsValue, ChoiceValue, OptionalCommands, are_plain}
 use Rattle.bpaf_exact.specs.Record.{last_reading}
-use Rattle.bpaf_exact.specs.Says.{ArgumentSays, EitherSays, FallbackSays, FieldsFormSays, FieldsSay}
+use Rattle.bpaf_exact.specs.Says.{ArgumentSays, FallbackSays, FieldsFormSays, FieldsSay}
 use Rattle.bpaf_exact.specs.Says.{AllOwn, FieldsSaid, Fits, FlagSays, FormSays, FrontSays, LastSays}
 use Rattle.bpaf_exact.specs.Says.{MadeSays, RecordSays, RepeatSays, Said, SaidKind, Says, form_kind}
 use Rattle.bpaf_exact.specs.Says.{OptionalSays, WordSays, its_pieces, keyed, of_kind, repeated_kind}
@@ -204,16 +204,6 @@ choice_into {T} m n names own others words more j k {said} from_this from_that
 choice_into m n names own others words more j k from_this from_that (commands optional value) b g
     h = absurd g
 choice_into m n names own others words more j k from_this from_that _ _ g h = tt
-
--- of two
-pub choice_says : {T : Type 0} {m n names : List Names} (own others : List Names)
-    (words more : List (List ℕ))
-    {a b : ProgramForm T} {j k : SaidKind} {this that : Said T} → Says m a j this → Says n b k that
-    → Says names (program_choice own others words more a b) (of_kind ByName) (EitherSays this that)
-choice_says {m} {n} {names} own others words more {a} {b} {j} {k} g h = record {
-  by = choice_into m n names own others words more j k
-      (λ os v m. says_this m) (λ os v m. says_that m) a b g.by h.by;
-}
 
 -- Repeats and defaults.
 
@@ -384,18 +374,14 @@ module _ {A B : Type 0} (own : List Names) {behind : List Names} (said : Said A)
     (fields : FieldsReading B) (owned_behind : Owns r behind)
     (rest_each : FieldsFormSays behind (product false true r fields) rest_said) where
   -- what it and those behind it say
-  abbrev KindSays : FieldKind → Type 0
-  KindSays k =
-      (whole os : List LinePiece) (v : A × B) → Fits (own ++ behind) (either (keys k q) r) whole
+  kind_says : (k : FieldKind)
+      → ((os : List LinePiece) (v : A) → AllOwn k q os → first os v → said os v)
+      → Owns (keys k q) own → may_follow k own behind ≡ true → (whole os : List LinePiece)
+      (v : A × B) → Fits (own ++ behind) (either (keys k q) r) whole
       → Fits (own ++ behind) (either (keys k q) r) os → (both_reading k q first fields).value os v
       → mine (either (keys k q) r) whole ≡ mine (either (keys k q) r) os
       → said (its_pieces (of_kind k) own whole (others (either (keys k q) r) os)) v.0
       × rest_said whole (words_after (of_kind k) (others (either (keys k q) r) os)) v.1
-
-  kind_says : (k : FieldKind)
-      → ((os : List LinePiece) (v : A) → AllOwn k q os → first os v → said os v)
-      → Owns (keys k q) own → may_follow k own behind ≡ true
-      → KindSays k
   kind_says ByName each owned may whole os v fits fit m same =
       let apart = apart_of_names owned owned_behind may in
       let both = either q r in (
@@ -804,7 +790,10 @@ program_choice_says {P} {Q} {T} this that r own others words more {s} {t} {a} {b
         → ProgramFormSays own s j a (this r) → ProgramFormSays others t k b (that r)
         → ProgramFormSays (own ++ others) (program_choice own others words more s t)
         (of_kind ByName) (said_choice this that a b) r
-    by_said (of_pieces a) (of_pieces b) h g = choice_says own others words more h g
+    by_said (of_pieces a) (of_pieces b) h g = record {
+      by = choice_into own others (own ++ others) own others words more j k
+          (λ os v m. says_this m) (λ os v m. says_that m) s t h.by g.by;
+    }
     by_said (of_cells a) (of_cells b) h g = both_cells s t (a (this r)) (b (that r)) h g
     by_said (of_cells a) (of_pieces b) h g = first_cells s t (a (this r)) (b (that r)) h g.by
     by_said (of_pieces a) (of_cells b) h g = second_cells s t (a (this r)) (b (that r)) h.by g

@@ -7,11 +7,12 @@ use Rattle.std.specs.Option.{IsSomeRelated, is_some}
 use Rattle.bpaf_line.specs.{Situation.Situation, Situation.open_count, declared.error.Error.Error}
 use Rattle.bpaf_laws.specs.{Reading.Outcome, Repeat.LastOutcome, Repeat.UntilRest, Turn.TurnOutcome}
 use Rattle.bpaf_laws.specs.Repeat.{Turns, is_nil, rests, stops}
-use Rattle.bpaf_exact.proofs.Fronts.{back_all, each_nil, never_nil, nil_each, no_keys_left}
-use Rattle.bpaf_exact.proofs.{Counts.takes_any_fewer, Cuts.first_pieces, Product.none_outside_after}
+use Rattle.bpaf_exact.proofs.{Classes.stops_at, Counts.takes_some_fewer, Product.none_outside_after}
 use Rattle.bpaf_exact.proofs.{Classes.memory_class, Counts.open_present, Product.steady_trans}
-use Rattle.bpaf_exact.proofs.{Classes.stops_at, Cuts.takes_nonempty, Product.steady_refl}
-use Rattle.bpaf_exact.proofs.{Classes.goes_on, Cuts.first_takes, Cuts.head_stays, Cuts.some_trans}
+use Rattle.bpaf_exact.proofs.{Cuts.takes_nonempty, Fronts.no_keys_left, Product.steady_refl}
+use Rattle.bpaf_exact.proofs.{Counts.takes_fewer, Cuts.first_pieces, Cuts.first_takes}
+use Rattle.bpaf_exact.proofs.{Classes.goes_on, Cuts.head_stays, Cuts.some_trans, Fronts.never_nil}
+use Rattle.bpaf_exact.proofs.Fronts.{back_all, each_nil, nil_each}
 use Rattle.bpaf_exact.specs.Alternative.{AlternativeErr, AlternativeLaw, AlternativeOk, FirstUnread}
 use Rattle.bpaf_exact.specs.Alternative.{HasBad, alternative_missing, alternative_refused, bad_here}
 use Rattle.bpaf_exact.specs.Flat.{EachWord, ErrorClass, FieldKind, FieldTook, IsWholeIn, NoKeysLeft}
@@ -125,7 +126,8 @@ module _ {env : Variables} {T : Type 0} {inner : Outcome T} {k : FieldKind} {q :
   -- where a piece was taken fewer items are present
   fewer_count : (s m : Situation) → TakesAny q (cells s) (cells m) → open_count m < open_count s
   fewer_count s m t =
-      let a = takes_any_fewer t in
+      let a = takes_fewer t.one in
+      let d = takes_some_fewer t.more in
       let b = open_present m in
       let c = open_present s in
       omega arith
@@ -139,14 +141,6 @@ module _ {env : Variables} {T : Type 0} {inner : Outcome T} {k : FieldKind} {q :
     none = ap (pieces q) e ∙ sym (back_all (repeated k) (own_none_left s p));
     list = rw (own_none_left s p) list;
   }
-
-  -- a turn that stops after a value
-  stop_after : {s m : Situation} {e : Error} → Stops e s m
-      → SingleErr T k q group gap s (class e) m → Took (Later []) s s
-  stop_after h refused =
-      let a = catch_none (stopped_by h) refused in
-      let g = a.0 in
-      ended (Later []) steady_refl a.1 refl (own_none, λ i. absurd cc)
 
   -- one value more
   took_more : {s m t : Situation} {v : T} {vs : List T} → TookGroup T k q group s v m
@@ -180,7 +174,11 @@ module _ {env : Variables} {T : Type 0} {inner : Outcome T} {k : FieldKind} {q :
   stop_took : (s : Situation) {t : Situation} → IsWholeIn env s
       → TurnOutcome inner false false s (Ok None) t → Took (Later []) s t
   stop_took s {t} w (inl o) = enough_took o.3 (l.keeps.ok s t o.0 w o.1)
-  stop_took s w (inr o) = rw o.1 (stop_after (stops_at o.0.3) (l.keeps.err s o.0.1 o.0.0 w o.0.2))
+  stop_took s w (inr o) =
+      let refused = l.keeps.err s o.0.1 o.0.0 w o.0.2 in
+      let a = catch_none (stopped_by {s = s} {m = o.0.1} (stops_at o.0.3)) refused in
+      let g = a.0 in
+      rw o.1 (ended (Later []) steady_refl a.1 refl (own_none, λ i. absurd cc))
 
   -- Once it has the first value, a repeat that answers has read all its pieces.
   later_took : (vs : List T) {s m t : Situation} → IsWholeIn env s → Turns inner false false s vs m
