@@ -1,9 +1,9 @@
 -- A command over a program, a named field before others, the last of which are commands, closures
 -- round commands, choices of them, and commands that may be left out keep to the laws.
-use Rattle.std.proofs.Common.{Bool, Err, List, None, Ok, Option, Result, Some, [], ap, arith, false}
+use Rattle.std.proofs.Common.{Err, List, None, Ok, Option, Result, Some, [], ap, arith, false}
 use Rattle.std.proofs.Common.{bytes_eq, if◌then◌else◌, inl, inr, length, not, refl, subst, suc, sym}
 use Rattle.std.proofs.Common.{true, true≢false, zero, ⊎_elim, ◌&&◌, ◌++◌, ◌<◌, ◌||◌, ◌∙◌, ◌∷◌, ◌≡◌}
-use Rattle.std.proofs.lemmas.Bool.{and_parts, cases_Bool, cases_lt, false_from_ne_true}
+use Rattle.std.proofs.lemmas.Bool.{and_parts, cases_Bool, cases_lt, false_from_ne_true, or_right}
 use Rattle.std.proofs.{lemmas.List.Folds.list_any-append, lemmas.Slice.Eq.bytes_eq-Decides}
 use Rattle.std.proofs.{Common.ℕ, Common.◌≤◌, lemmas.Bool.Decides.nat_tests, lemmas.List.length_push}
 use Rattle.std.specs.{List.list_any, Option.option_map_or}
@@ -18,10 +18,10 @@ use Rattle.bpaf_line.specs.{Messages.is_memory, Messages.is_wrong_input, Taking.
 use Rattle.bpaf_laws.proofs.ChoiceLaws.{chosen_at_equal, chosen_from, first_refused, second_refused}
 use Rattle.bpaf_laws.proofs.ChoiceLaws.{both_refused, first_stands, second_stands, second_won}
 use Rattle.bpaf_laws.proofs.ChoiceLaws.{ComesFrom, first_won}
-use Rattle.bpaf_laws.specs.Command.{Called, IsNotOpened, IsOpenedAt, is_one_of, opening_words}
-use Rattle.bpaf_laws.specs.{Choice.ChoiceOutcome, Product.BothOutcome, Product.ProductOutcome}
-use Rattle.bpaf_laws.specs.{Command.inside, Spared.IsNotMemory, Turn.is_untouched}
-use Rattle.bpaf_laws.specs.{Choice.Chosen, Choice.depth, Reading.Outcome}
+use Rattle.bpaf_laws.specs.{Choice.ChoiceOutcome, Command.opening_words, Product.ProductOutcome}
+use Rattle.bpaf_laws.specs.{Command.IsNotOpened, Command.IsOpenedAt, Product.BothOutcome}
+use Rattle.bpaf_laws.specs.{Choice.Chosen, Command.is_one_of, Spared.IsNotMemory, Turn.is_untouched}
+use Rattle.bpaf_laws.specs.{Choice.depth, Command.Called, Command.inside, Reading.Outcome}
 use Rattle.bpaf_exact.proofs.Cuts.{begin_at, nil_foreign, nil_rest, one_take, value_foreign}
 use Rattle.bpaf_exact.proofs.Places.{TakenOne, closed_item, match_of, same_item, take_one}
 use Rattle.bpaf_exact.proofs.Product.{count_none, no_own_in_cut, none_outside_after, values_of_both}
@@ -600,11 +600,7 @@ pub opens_right : (words others : List (List ℕ)) {cs ds : Cells} → Opens oth
     → Opens (words ++ others) cs ds
 opens_right words others (opens_here {k} h) =
     opens_here (list_any-append (λ word. is_command_word word k) words others
-    ∙ by_test (is_one_of words k) h)
-  where
-    by_test : (a : Bool) {b : Bool} → b ≡ true → (a || b) ≡ true
-    by_test true e = refl
-    by_test false e = e
+    ∙ or_right (is_one_of words k) (is_one_of others k) h)
 opens_right words others (opens_later o) = opens_later (opens_right words others o)
 
 -- words that are apart don't open the same cells

@@ -2,9 +2,10 @@
 -- shared out by names.
 use Rattle.std.proofs.Common.{Bool, List, [], append-nil, ap₂, bytes_eq, false, if◌then◌else◌, refl}
 use Rattle.std.proofs.Common.{ap, not, sym, true, true≢false, ◌&&◌, ◌++◌, ◌==◌, ◌||◌, ◌∙◌, ◌∷◌, ◌≡◌}
-use Rattle.std.proofs.lemmas.Bool.{and_parts, and_right, eqb-true, false_from_ne_true, not-true}
+use Rattle.std.proofs.lemmas.Bool.{and_parts, and_right, both_ways, eqb-true, false_from_ne_true}
 use Rattle.std.proofs.{lemmas.List.Elements.filter-append, lemmas.List.Folds.list_any-append}
-use Rattle.std.proofs.{Common.⊎_elim, lemmas.Bool.or_cases, lemmas.Slice.Eq.bytes_eq-Decides}
+use Rattle.std.proofs.{lemmas.Bool.not-true, lemmas.Bool.or_cases, lemmas.Slice.Eq.bytes_eq-Decides}
+use Rattle.std.proofs.{Common.⊎_elim, lemmas.Bool.or_left, lemmas.Bool.or_right}
 use Rattle.std.specs.{List.list_all, List.list_any, Prelude.filter}
 use Rattle.bpaf_doc.specs.Names.{Names}
 use Rattle.bpaf_base.specs.declared.arg.Arg.TheVariants.{Long, PosWord, Short, Word}
@@ -28,21 +29,16 @@ both_hold test pick f (x ∷ xs) all any =
     ⊎_elim (λ here. f x each.0 here) (λ later. both_hold test pick f xs each.1 later)
     (or_cases (pick x) (list_any pick xs) any)
 
--- a test and its opposite don't both hold
-never_both : (b : Bool) → not b ≡ true → b ≡ true → ⊥
-never_both true e f = cc
-never_both false e f = cc
-
 -- an item is a key of at most one of two that are apart
 one_owner : (own others : Names) (k : Arg) → are_apart own others ≡ true → is_key_of own k ≡ true
     → is_key_of others k ≡ true → ⊥
 one_owner own others (Short c attached whole) apart e f =
     both_hold (λ name. not (is_among others.shorts name)) (λ name. name == c)
-    (λ name t h. never_both (is_among others.shorts name) t (rw (eqb-true name c h) f)) own.shorts
+    (λ name t h. both_ways (is_among others.shorts name) (not-true _ t) (rw (eqb-true name c h) f)) own.shorts
     (and_parts _ _ apart).0 e
 one_owner own others (Long name attached whole) apart e f =
     both_hold (λ other. not (is_text_among others.longs other)) (λ other. bytes_eq other name)
-    (λ other t h. never_both (is_text_among others.longs other) t
+    (λ other t h. both_ways (is_text_among others.longs other) (not-true _ t)
     (rw ((bytes_eq-Decides other name).0 h) f)) own.longs (and_parts _ _ apart).1 e
 one_owner own others _ apart e f = cc
 
@@ -74,19 +70,13 @@ either_own : (x y : Role) → is_own_role (either_role x y) ≡ (is_own_role x |
 either_own Foreign y = refl
 either_own _ y = refl
 
--- either, where the second holds
-pub or_true : (b : Bool) → (b || true) ≡ true
-or_true true = refl
-or_true false = refl
-
 -- the keys of two fields together
 pub either_owns : {q r : Roles} {keys others : List Names} → Owns q keys → Owns r others
     → Owns (either q r) (keys ++ others)
 either_owns {q} {r} {keys} {others} a b = record {
   own = λ k e. list_any-append (λ names. is_key_of names k) keys others ∙ ⊎_elim
-      (λ (one : is_own_role (q k) ≡ true). ap (λ z. z || is_key_of_any others k) (a.own k one))
-      (λ (other : is_own_role (r k) ≡ true).
-      ap (λ z. is_key_of_any keys k || z) (b.own k other) ∙ or_true (is_key_of_any keys k))
+      (λ (one : is_own_role (q k) ≡ true). or_left _ (is_key_of_any others k) (a.own k one))
+      (λ (other : is_own_role (r k) ≡ true). or_right (is_key_of_any keys k) _ (b.own k other))
       (or_cases (is_own_role (q k)) (is_own_role (r k)) (sym (either_own (q k) (r k)) ∙ e));
 }
 

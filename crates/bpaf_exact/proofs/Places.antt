@@ -3,6 +3,7 @@
 use Rattle.std.proofs.Common.{Bool, List, None, Option, Some, [], add-one, ap, arith, if◌then◌else◌}
 use Rattle.std.proofs.Common.{ap₂, false, length, not, option_and_then, refl, suc, true, zero, ◌&&◌}
 use Rattle.std.proofs.Common.{sym, ℕ, ◌<◌, ◌||◌, ◌∙◌, ◌∷◌, ◌≡◌, ◌≢◌}
+use Rattle.std.proofs.lemmas.Bool.{and_right, both_ways, false_from_ne_true}
 use Rattle.std.specs.Option.{is_some, option_map_or}
 use Rattle.bpaf_doc.specs.Names.{Names}
 use Rattle.bpaf_base.specs.declared.arg.Arg.TheVariants.{ArgWord, Word}
@@ -135,14 +136,11 @@ bare_next : {k : Arg} (at : ℕ → Option Arg) (n : ℕ)
 bare_next at zero none = refl
 bare_next {k} at (suc n) none = by_cell (at zero) none
   where
-    by_value : (w : Arg) (b : Bool) → (b ≡ true → ⊥) → (if b then Two k w else One k) ≡ One k
-    by_value w true f = absurd (f refl)
-    by_value w false f = refl
-
     by_cell : (c : Option Arg) → ((w : Arg) → c ≡ Some w → is_value w ≡ true → ⊥)
         → with_next k (c ∷ first_cells (λ q. at (suc q)) n) ≡ One k
     by_cell None f = refl
-    by_cell (Some w) f = by_value w (is_value w) (f w refl)
+    by_cell (Some w) f = ap (λ b. if b then Two k w else One k)
+        (false_from_ne_true (is_value w) (f w refl))
 
 -- a key at the front
 bare_key : (r : Roles) {c : Option Arg} (k : Arg) (cs : Cells) → c ≡ Some k → r k ≡ WithNext
@@ -168,12 +166,8 @@ bare_first {r} {at} (suc n) (suc p) l e h none bare =
 
 -- nothing is open at a place that is taken
 pub closed_item : (s : Situation) (p : ℕ) → is_taken s p ≡ true → open_item s p ≡ None
-closed_item s p e = ap (λ b. if (in_scope s p && not b) then item_at s p else None) e
-    ∙ by_scope (in_scope s p)
-  where
-    by_scope : (b : Bool) → (if (b && false) then item_at s p else None) ≡ None
-    by_scope true = refl
-    by_scope false = refl
+closed_item s p e = ap (λ b. if b then item_at s p else None)
+    (and_right (in_scope s p) (not (is_taken s p)) (ap not e))
 
 -- a place where as much is taken as before has the item that it had
 pub same_item : (s t : Situation) (p : ℕ) → in_scope t p ≡ in_scope s p → item_at t p ≡ item_at s p
@@ -243,13 +237,10 @@ by_test {own} = record {
 pub test_named : (test : Arg → Bool) (names : Names) (own : Role)
     → ((k : Arg) → test k ≡ true → is_key_of names k ≡ true)
     → IsNamed (λ k. if test k then own else Foreign)
-test_named test names own asks =
-    record { only_keys = λ k h. by_key k (test k) h (λ e. named_key names k (asks k e)) }
-  where
-    by_key : (k : Arg) (b : Bool) → is_key k ≡ false → (b ≡ true → is_key k ≡ true)
-        → (if b then own else Foreign) ≡ Foreign
-    by_key k true h f = let g = f refl in absurd cc
-    by_key k false h f = refl
+test_named test names own asks = record {
+  only_keys = λ k h. ap (λ b. if b then own else Foreign) (false_from_ne_true (test k)
+      (λ e. both_ways (is_key k) h (named_key names k (asks k e))));
+}
 
 -- where a place has no match, nothing of the field's own is there
 not_own : {test : Arg → Bool} {r : Roles} {own : Role} (s : Situation) (p : ℕ) → ByTest test r own
