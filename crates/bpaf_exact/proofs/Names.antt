@@ -2,10 +2,10 @@
 -- shared out by names.
 use Rattle.std.proofs.Common.{Bool, List, [], append-nil, ap₂, bytes_eq, false, if◌then◌else◌, refl}
 use Rattle.std.proofs.Common.{ap, not, sym, true, true≢false, ◌&&◌, ◌++◌, ◌==◌, ◌||◌, ◌∙◌, ◌∷◌, ◌≡◌}
-use Rattle.std.proofs.lemmas.Bool.{and_parts, and_right, both_ways, eqb-true, false_from_ne_true}
+use Rattle.std.proofs.lemmas.Bool.{and_parts, both_ways, eqb-true, false_from_ne_true}
+use Rattle.std.proofs.lemmas.Bool.{and_from, not-true, or_cases, or_left, or_right}
 use Rattle.std.proofs.{lemmas.List.Elements.filter-append, lemmas.List.Folds.list_any-append}
-use Rattle.std.proofs.{lemmas.Bool.not-true, lemmas.Bool.or_cases, lemmas.Slice.Eq.bytes_eq-Decides}
-use Rattle.std.proofs.{Common.⊎_elim, lemmas.Bool.or_left, lemmas.Bool.or_right}
+use Rattle.std.proofs.{Common.⊎_elim, lemmas.Slice.Eq.bytes_eq-Decides}
 use Rattle.std.specs.{List.list_all, List.list_any, Prelude.filter}
 use Rattle.bpaf_doc.specs.Names.{Names}
 use Rattle.bpaf_base.specs.declared.arg.Arg.TheVariants.{Long, PosWord, Short, Word}
@@ -34,7 +34,8 @@ one_owner : (own others : Names) (k : Arg) → are_apart own others ≡ true →
     → is_key_of others k ≡ true → ⊥
 one_owner own others (Short c attached whole) apart e f =
     both_hold (λ name. not (is_among others.shorts name)) (λ name. name == c)
-    (λ name t h. both_ways (is_among others.shorts name) (not-true _ t) (rw (eqb-true name c h) f)) own.shorts
+    (λ name t h. both_ways (is_among others.shorts name) (not-true _ t)
+    (rw (eqb-true name c h) f)) own.shorts
     (and_parts _ _ apart).0 e
 one_owner own others (Long name attached whole) apart e f =
     both_hold (λ other. not (is_text_among others.longs other)) (λ other. bytes_eq other name)
@@ -118,11 +119,8 @@ kept_twice p q both same (o ∷ os) = by_test (q o) (same o) (kept_twice p q bot
 -- what both keep is what one does that never holds without the other
 kept_within : {p q : LinePiece → Bool} → ((o : LinePiece) → p o ≡ true → q o ≡ true)
     → (os : List LinePiece) → filter p (filter q os) ≡ filter p os
-kept_within {p} {q} part = kept_twice p q p (λ o. by_tests (p o) (part o))
-  where
-    by_tests : (a : Bool) {b : Bool} → (a ≡ true → b ≡ true) → a ≡ (b && a)
-    by_tests true f = sym (ap (λ c. c && true) (f refl))
-    by_tests false {b} f = sym (and_right b false refl)
+kept_within {p} {q} part = kept_twice p q p (λ o. same_truth (p o) (q o && p o)
+    (λ e. and_from (q o) (p o) (part o e) e) (λ e. (and_parts (q o) (p o) e).1))
 
 -- where a test never holds nothing is kept
 kept_none : {p : LinePiece → Bool} → ((o : LinePiece) → p o ≡ false) → (os : List LinePiece)
@@ -135,11 +133,9 @@ kept_none {p} none (o ∷ os) =
 kept_neither : {p q : LinePiece → Bool} → ((o : LinePiece) → q o ≡ true → p o ≡ false)
     → (os : List LinePiece) → filter p (filter q os) ≡ []
 kept_neither {p} {q} apart os =
-    kept_twice p q (λ o. false) (λ o. by_tests (q o) (apart o)) os ∙ kept_none (λ o. refl) os
-  where
-    by_tests : (a : Bool) {b : Bool} → (a ≡ true → b ≡ false) → false ≡ (a && b)
-    by_tests true f = sym (f refl)
-    by_tests false f = refl
+    kept_twice p q (λ o. false) (λ o. sym (false_from_ne_true (q o && p o) (λ e.
+    let h = and_parts (q o) (p o) e in both_ways (p o) (apart o h.0) h.1))) os
+    ∙ kept_none (λ o. refl) os
 
 -- a word is no key
 no_key : (names : List Names) (w : Arg) → is_positional w ≡ true → is_key_of_any names w ≡ false
@@ -155,8 +151,8 @@ own_first r (One k) = refl
 own_first r (Two k w) = refl
 
 module _ (r : Roles) (names : List Names) where
-  -- where the own pieces are those that begin with a key of one's names, a test of the one keeps what
-  -- it does of the other
+  -- where the own pieces are those that begin with a key of one's names, a test keeps the same of
+  -- the one as of the other
   fits_kept : (f : Bool → Bool) (os : List LinePiece) → Fits names r os
       → filter (λ o. f (is_own r o)) os ≡ filter (λ o. f (is_key_of_any names (first_item o))) os
   fits_kept f [] fits = refl

@@ -1,5 +1,5 @@
--- The value of each flat field says of its pieces what its parser says; the values of each combinator
--- say what is told of them, where those of its inner parsers do; and what fields keep to.
+-- The value of each flat field says of its pieces what its parser says; the values of each
+-- combinator say what is told of them, where those of its inner parsers do; and what fields keep to.
 use Rattle.std.proofs.Common.{Bool, List, None, Option, Some, [], ap, append-nil, arith, false, inl}
 use Rattle.std.proofs.Common.{inr, not, refl, subst, suc, sym, true, zero, ℕ, ◌&&◌, ◌++◌, ◌||◌, ◌∙◌}
 use Rattle.std.proofs.{Common.◌∷◌, Common.◌≡◌, lemmas.Bool.and_parts}
@@ -351,7 +351,8 @@ alone_says {T} {names} {s} {kind} {said} own_keys h = record { by = by_form s ow
         ∙ (mine_within q (either q no_roles) (first_within q no_roles) whole
         ∙ mine_keyed q names whole
         (both_fits owned (record { own = λ k e. absurd cc }) (apart_none names)
-        whole (subst (λ own. Fits own (either q no_roles) whole) (sym (append-nil names)) fits)).0)))
+        whole (subst (λ own. Fits own (either q no_roles) whole) (sym (append-nil names))
+        fits)).0)))
         (each (mine q os) v (each_own q os) m.0)
     own k q value owned each whole os v fits m same =
         rw (others_none (either no_roles no_roles) (λ k. refl) os) (each (front k os) v tt m.0)
