@@ -17,14 +17,14 @@ use Rattle.bpaf_exact.proofs.{Classes.memory_class, Classes.not_memory, Cuts.som
 use Rattle.bpaf_exact.proofs.Cuts.{empty_cut, to_none, words_cut}
 use Rattle.bpaf_exact.specs.Flat.{Before, ErrorClass, FieldKind, FieldLaw, FieldTook, FieldsReading}
 use Rattle.bpaf_exact.specs.Flat.{FieldsLaw, HasValue, IsWholeIn, NoKeysLeft, NonePresent, OfMemory}
-use Rattle.bpaf_exact.specs.Flat.{ByName, Keeps, OwnItems, Steady, back, both_reading, cells, class}
+use Rattle.bpaf_exact.specs.Flat.{ByName, KeepsTo, OwnItems, Steady, Variables, both_reading, cells}
 use Rattle.bpaf_exact.specs.Pieces.{Alone, Apart, Cells, Cut, Foreign, LinePiece, Role, TakesPieces}
 use Rattle.bpaf_exact.specs.Pieces.{IsNamed, Roles, WithNext, argument, at_end, begin_piece, either}
 use Rattle.bpaf_exact.specs.Pieces.{flag, is_own, is_own_role, no_roles, others, passed, takes_more}
 use Rattle.bpaf_exact.specs.{Single.present_count, Wrappers.ClosedValue, Wrappers.map_closure}
 use Rattle.bpaf_exact.specs.{Flat.portion, Pieces.takes_none, Pieces.with_next, Record.last_reading}
-use Rattle.bpaf_exact.specs.{Flat.Variables, Flat.no_place, Flat.none_here, Pieces.pieces}
-use Rattle.bpaf_exact.specs.{Flat.front, Flat.keys, Flat.left, Pieces.One, Pieces.mine, Pieces.word}
+use Rattle.bpaf_exact.specs.{Flat.no_place, Flat.none_here, Pieces.mine, Pieces.pieces, Pieces.word}
+use Rattle.bpaf_exact.specs.{Flat.back, Flat.class, Flat.front, Flat.keys, Flat.left, Pieces.One}
 
 -- what isn't taken stays in the scope
 pub none_outside_after : {env : Variables} {s t : Situation} → IsWholeIn env s → Steady s t
@@ -311,10 +311,10 @@ same_steady a =
 pub con_keeps : {env : Variables} {A B : Type 0} {fields : Outcome A} {makes : A → B → Type 0}
     {gives : Situation → A → Situation → Type 0} {gave : Situation → B → Situation → Type 0}
     {refuses refused : Situation → ErrorClass → Situation → Type 0}
-    → Keeps env A fields gives refuses → ((s m : Situation) (x : A) (v : B) → gives s x m
+    → KeepsTo env A fields gives refuses → ((s m : Situation) (x : A) (v : B) → gives s x m
     → makes x v → gave s v (with_current m None))
     → ((s m : Situation) (c : ErrorClass) → refuses s c m → refused s c (with_current m None))
-    → Keeps env B (ProductOutcome fields makes) gave refused
+    → KeepsTo env B (ProductOutcome fields makes) gave refused
 con_keeps l answers fails = record {
   ok = λ s t v w o. rw o.4 (answers s o.0 o.1 v (l.ok s o.0 o.1 w o.2) o.3);
   err = λ s t e w o. rw o.2 (fails s o.0 (class e) (l.err s o.0 e w o.1));

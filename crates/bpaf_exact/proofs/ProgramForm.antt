@@ -23,7 +23,7 @@ use Rattle.bpaf_exact.proofs.{Counts.open_present, Wrappers.repeat_law, Wrappers
 use Rattle.bpaf_exact.proofs.{Choice.choice_law, Cuts.one_cut, Names.either_owns, Places.same_cells}
 use Rattle.bpaf_exact.proofs.{Cuts.read_cut, Names.both_hold, Names.foreign_of, Product.con_law}
 use Rattle.bpaf_exact.specs.Flat.{Before, ErrorClass, FieldKind, FieldLaw, FieldsLaw, FieldsReading}
-use Rattle.bpaf_exact.specs.Flat.{ByName, IsWholeIn, Keeps, NonePresent, OfMemory, ReadOff, Refused}
+use Rattle.bpaf_exact.specs.Flat.{ByName, IsWholeIn, KeepsTo, OfMemory, ReadOff, Refused, Variables}
 use Rattle.bpaf_exact.specs.Pieces.{Cut, LinePiece, Roles, either, no_roles}
 use Rattle.bpaf_exact.specs.ProgramForm.{Agrees, FormLaw, ProgramForm, alternative, are_words_apart}
 use Rattle.bpaf_exact.specs.ProgramForm.{NamedLaw, before_commands, choice_only, commands, complete}
@@ -40,8 +40,8 @@ use Rattle.bpaf_exact.specs.Wrappers.{ClosedEval, ClosedValue, Closure, Fallback
 use Rattle.bpaf_exact.specs.{Gathered.some_closure, ProgramForm.whole_value, Wrappers.OptionalEval}
 use Rattle.bpaf_exact.specs.{Names.are_all_apart, Programs.WordsApart, Wrappers.map_closure}
 use Rattle.bpaf_exact.specs.{ProgramForm.single, Record.run_leftover, Theorem.RunsExactly}
-use Rattle.bpaf_exact.specs.{Flat.Variables, Flat.both_reading, Record.run_memory, Wrappers.Decides}
-use Rattle.bpaf_exact.specs.{Flat.cells, Flat.class, Flat.keys, Gathered.LastOf, Names.Owns}
+use Rattle.bpaf_exact.specs.{Flat.NonePresent, Flat.both_reading, Flat.cells, Record.run_memory}
+use Rattle.bpaf_exact.specs.{Flat.class, Flat.keys, Gathered.LastOf, Names.Owns, Wrappers.Decides}
 
 -- what b allows a allows too, of a refusal one of the same class
 pub record AllowsNoMore (T : Type 0) (a b : Outcome T) : Type 0 where
@@ -59,7 +59,7 @@ no_more f =
 pub narrower : {env : Variables} {T : Type 0} {a b : Outcome T}
     {gives : Situation → T → Situation → Type 0}
     {refuses : Situation → ErrorClass → Situation → Type 0} → AllowsNoMore T a b
-    → Keeps env T a gives refuses → Keeps env T b gives refuses
+    → KeepsTo env T a gives refuses → KeepsTo env T b gives refuses
 narrower {refuses} n l = record {
   ok = λ s t v w o. l.ok s t v w (n.value s t v o);
   err = λ s t e w o. let other = n.refusal s t e o in

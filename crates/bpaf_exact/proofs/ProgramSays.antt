@@ -1,5 +1,5 @@
 -- The value of each flat field says of its pieces what its parser says; the values of each
--- combinator say what is told of them, where those of its inner parsers do; and what fields keep to.
+-- combinator say what is told of them, where those of its inner parsers do; what fields keep to.
 use Rattle.std.proofs.Common.{Bool, List, None, Option, Some, [], ap, append-nil, arith, false, inl}
 use Rattle.std.proofs.Common.{inr, not, refl, subst, suc, sym, true, zero, ℕ, ◌&&◌, ◌++◌, ◌||◌, ◌∙◌}
 use Rattle.std.proofs.{Common.◌∷◌, Common.◌≡◌, lemmas.Bool.and_parts}

@@ -17,7 +17,7 @@ use Rattle.bpaf_exact.specs.Alternative.{AlternativeErr, AlternativeLaw, Alterna
 use Rattle.bpaf_exact.specs.Alternative.{HasBad, alternative_missing, alternative_refused, bad_here}
 use Rattle.bpaf_exact.specs.Flat.{EachWord, ErrorClass, FieldKind, FieldTook, IsWholeIn, NoKeysLeft}
 use Rattle.bpaf_exact.specs.Flat.{ByName, FieldLaw, OfMemory, OfMissing, OneWord, OwnItems, Refused}
-use Rattle.bpaf_exact.specs.Flat.{Keeps, Steady, Variables, back, cells, class, front}
+use Rattle.bpaf_exact.specs.Flat.{KeepsTo, Steady, Variables, back, cells, class, front}
 use Rattle.bpaf_exact.specs.Pieces.{Cells, LinePiece, TakesPieces, pieces, takes_more, takes_none}
 use Rattle.bpaf_exact.specs.Single.{CanCatch, FrontOf, Gap, Own, OwnList, ReadsWords, RepeatOutcome}
 use Rattle.bpaf_exact.specs.Single.{Readable, SingleErr, SingleLaw, SingleOk, SingleValue, TakesAny}
@@ -440,12 +440,12 @@ pub closed_keeps : {env : Variables} {A B : Type 0} {inner : Outcome A} {f : Clo
     (c : ErrorClass) {gives : Situation → A → Situation → Type 0}
     {gave : Situation → B → Situation → Type 0}
     {refuses refused : Situation → ErrorClass → Situation → Type 0}
-    → Keeps env A inner gives refuses
+    → KeepsTo env A inner gives refuses
     → ((s t : Situation) (x : A) (v : B) → gives s x t → f.yes x v → gave s v t)
     → ((s t : Situation) (x : A) → gives s x t → f.no x → refused s c t)
     → ((s t : Situation) → refused s OfMemory t)
     → ((s t : Situation) (d : ErrorClass) → refuses s d t → refused s d t)
-    → Keeps env B (ClosedEval A B inner f c) gave refused
+    → KeepsTo env B (ClosedEval A B inner f c) gave refused
 closed_keeps {env} {A} {B} {inner} {f} c {gave} {refused} l accepts declines wants fails =
     record { ok = by_ok; err = by_err }
   where
