@@ -1,10 +1,10 @@
 -- A choice of two alternatives is one.
-use Rattle.std.proofs.Common.{Bool, [], false, length, suc, true, zero, ℕ, ◌&&◌, ◌<◌, ◌∷◌, ◌≡◌}
-use Rattle.std.proofs.Common.{Err, List, None, Ok, Option, Result, Some, ap₂, refl, subst, sym, ◌∙◌}
-use Rattle.std.proofs.Common.{ap, arith, inl, inr, nat_le, nat_lt, true≢false, ⊎_elim, ◌≤◌, ◌⊎◌}
+use Rattle.std.proofs.Common.{Bool, Err, [], false, length, suc, true, zero, ℕ, ◌&&◌, ◌<◌, ◌∷◌, ◌≡◌}
+use Rattle.std.proofs.Common.{List, None, Ok, Option, Result, Some, ap, ap₂, arith, subst, sym, ◌∙◌}
 use Rattle.std.proofs.lemmas.Bool.{and_parts, cases_lt, eqb-true, le-leb, not-false, not-true}
-use Rattle.std.proofs.lemmas.Bool.{lt-ltb}
-use Rattle.std.specs.{Prelude.MatchBool}
+use Rattle.std.proofs.{Common.nat_le, Common.nat_lt, Common.true≢false, lemmas.Bool.lt-ltb}
+use Rattle.std.proofs.Common.{inl, inr, refl, ⊎_elim, ◌≤◌, ◌⊎◌}
+use Rattle.std.specs.Prelude.{MatchBool}
 use Rattle.bpaf_base.specs.{Items.any_item, declared.arg.Arg.Arg}
 use Rattle.bpaf_line.proofs.{Matches.open_has_item, Places.present_in_line}
 use Rattle.bpaf_line.specs.{Conflicts.ConflictsSaved, Situation.item_in, declared.error.Error.Error}
@@ -15,19 +15,19 @@ use Rattle.bpaf_laws.proofs.ChoiceLaws.{chosen_at_equal, not_winner}
 use Rattle.bpaf_laws.specs.Choice.{BranchesEval, ChoiceOutcome, EqualDepths, Winner, branch_of}
 use Rattle.bpaf_laws.specs.{Choice.OneOk, Reading.Outcome, Spared.IsNotMemory, Turn.is_untouched}
 use Rattle.bpaf_exact.proofs.Cuts.{HeadOf, TookLeft, both_nil, either_union, first_mine, swap_union}
-use Rattle.bpaf_exact.proofs.Cuts.{Union, left_later, never_same, not_left, takes_left, union_named}
-use Rattle.bpaf_exact.proofs.Places.{Match, closed_item, match_of, same_cells, same_item}
+use Rattle.bpaf_exact.proofs.Places.{closed_item, open_present, same_cells, same_item, takes_fewer}
 use Rattle.bpaf_exact.proofs.Product.{mine_of_both, none_outside_after, steady_refl, steady_trans}
-use Rattle.bpaf_exact.proofs.{Classes.combined_missing, Classes.combined_refused, Cuts.left_here}
-use Rattle.bpaf_exact.proofs.{Classes.memory_class, Counts.open_present, Cuts.takes_nonempty}
-use Rattle.bpaf_exact.proofs.{Classes.not_memory, Counts.takes_fewer, Cuts.owner}
+use Rattle.bpaf_exact.proofs.{Classes.combined_missing, Classes.combined_refused, Cuts.union_named}
+use Rattle.bpaf_exact.proofs.{Classes.memory_class, Classes.not_memory, Cuts.takes_nonempty}
+use Rattle.bpaf_exact.proofs.{Cuts.left_later, Cuts.never_same, Cuts.takes_left, Places.match_of}
+use Rattle.bpaf_exact.proofs.{Cuts.Union, Cuts.left_here, Cuts.not_left, Cuts.owner, Places.Match}
 use Rattle.bpaf_exact.specs.Alternative.{FirstUnread, TakesFirst, alternative_missing, either_value}
-use Rattle.bpaf_exact.specs.Flat.{ErrorClass, IsWholeIn, OfMemory, Refused, cells, class}
+use Rattle.bpaf_exact.specs.Flat.{ErrorClass, IsWholeIn, OfMemory, Refused, Variables, cells, class}
 use Rattle.bpaf_exact.specs.Pieces.{Cells, LinePiece, One, Two, either, is_own, is_own_role, pieces}
 use Rattle.bpaf_exact.specs.Pieces.{Apart, Roles, TakesPiece, takes_later, takes_one, takes_two}
 use Rattle.bpaf_exact.specs.Alternative.{alternative_memory, alternative_refused}
-use Rattle.bpaf_exact.specs.{Alternative.AlternativeErr, Alternative.AlternativeLaw, Flat.Variables}
-use Rattle.bpaf_exact.specs.{Alternative.AlternativeOk, Flat.Steady, Flat.first_cells, Pieces.mine}
+use Rattle.bpaf_exact.specs.{Alternative.AlternativeErr, Alternative.AlternativeLaw, Flat.Steady}
+use Rattle.bpaf_exact.specs.{Alternative.AlternativeOk, Flat.first_cells, Pieces.mine}
 
 -- the same scope of the same line
 pub record SameScope (m n : Situation) : Type 0 where

@@ -1,11 +1,11 @@
 -- A command over a program, a named field before others, the last of which are commands, closures
 -- round commands, choices of them, and commands that may be left out keep to the laws.
-use Rattle.std.proofs.Common.{Err, List, None, Ok, Option, Result, Some, [], ap, arith, false}
-use Rattle.std.proofs.Common.{bytes_eq, if◌then◌else◌, inl, inr, length, not, refl, subst, suc, sym}
-use Rattle.std.proofs.Common.{true, true≢false, zero, ⊎_elim, ◌&&◌, ◌++◌, ◌<◌, ◌||◌, ◌∙◌, ◌∷◌, ◌≡◌}
+use Rattle.std.proofs.Common.{Err, List, None, Ok, Option, Result, Some, [], arith, bytes_eq, false}
+use Rattle.std.proofs.Common.{ap, if◌then◌else◌, inl, inr, length, not, refl, subst, suc, sym, true}
+use Rattle.std.proofs.Common.{true≢false, zero, ⊎_elim, ◌&&◌, ◌++◌, ◌<◌, ◌||◌, ◌∙◌, ◌∷◌, ◌≡◌, ◌≤◌}
 use Rattle.std.proofs.lemmas.Bool.{and_parts, cases_Bool, cases_lt, false_from_ne_true, or_right}
 use Rattle.std.proofs.{lemmas.List.Folds.list_any-append, lemmas.Slice.Eq.bytes_eq-Decides}
-use Rattle.std.proofs.{Common.ℕ, Common.◌≤◌, lemmas.Bool.Decides.nat_tests, lemmas.List.length_push}
+use Rattle.std.proofs.{Common.ℕ, lemmas.Bool.Decides.nat_tests, lemmas.List.length_push}
 use Rattle.std.specs.{List.list_any, Option.option_map_or}
 use Rattle.bpaf_base.specs.declared.arg.Arg.TheVariants.{Long, Short}
 use Rattle.bpaf_base.specs.{Items.any_item, Items.is_command_word, declared.arg.Arg.Arg}
@@ -23,13 +23,13 @@ use Rattle.bpaf_laws.specs.{Command.IsNotOpened, Command.IsOpenedAt, Product.Bot
 use Rattle.bpaf_laws.specs.{Choice.Chosen, Command.is_one_of, Spared.IsNotMemory, Turn.is_untouched}
 use Rattle.bpaf_laws.specs.{Choice.depth, Command.Called, Command.inside, Reading.Outcome}
 use Rattle.bpaf_exact.proofs.Cuts.{begin_at, nil_foreign, nil_rest, one_take, value_foreign}
-use Rattle.bpaf_exact.proofs.Places.{TakenOne, closed_item, match_of, same_item, take_one}
+use Rattle.bpaf_exact.proofs.Places.{TakenOne, closed_item, match_of, open_present, same_item}
 use Rattle.bpaf_exact.proofs.Product.{count_none, no_own_in_cut, none_outside_after, values_of_both}
 use Rattle.bpaf_exact.proofs.Classes.{combined_missing, is_missing_of, memory_class}
 use Rattle.bpaf_exact.proofs.{Choice.saved_steady, Product.refused_both, Wrappers.closed_keeps}
-use Rattle.bpaf_exact.proofs.{Classes.not_memory, Counts.open_present, Names.second_within}
-use Rattle.bpaf_exact.proofs.{Choice.cells_same, Choice.same_scope, Names.first_within}
-use Rattle.bpaf_exact.proofs.{Choice.has_item, Cuts.read_cut, Names.both_hold, Product.con_keeps}
+use Rattle.bpaf_exact.proofs.{Classes.not_memory, Names.first_within, Names.second_within}
+use Rattle.bpaf_exact.proofs.{Choice.cells_same, Choice.same_scope, Product.con_keeps}
+use Rattle.bpaf_exact.proofs.{Choice.has_item, Cuts.read_cut, Names.both_hold, Places.take_one}
 use Rattle.bpaf_exact.specs.Flat.{ByName, ErrorClass, FieldLaw, FieldTook, FieldsLaw, FieldsReading}
 use Rattle.bpaf_exact.specs.Flat.{IsWholeIn, NonePresent, OfMemory, OfMissing, ReadOff, first_cells}
 use Rattle.bpaf_exact.specs.Flat.{Variables, cells, class, is_missing, no_place, none_here}

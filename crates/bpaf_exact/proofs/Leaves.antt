@@ -22,27 +22,27 @@ use Rattle.bpaf_laws.specs.{Argument.TakesOwnText, Default.GivesClone, Flag.valu
 use Rattle.bpaf_laws.specs.{Flag.FlagOutcome, Pure.PureOutcome, Reading.Outcome, Repeat.is_nil}
 use Rattle.bpaf_exact.proofs.Fronts.{back_more, each_front, front_more, of_front_more, of_front_one}
 use Rattle.bpaf_exact.proofs.Places.{bare_taken, behind_of, by_test, match_of, no_pieces, one_taken}
-use Rattle.bpaf_exact.proofs.Product.{current_cells, none_of_nobody, same_steady, steady_trans}
-use Rattle.bpaf_exact.proofs.{Classes.memory_class, Product.steady_refl, Wrappers.took_front}
-use Rattle.bpaf_exact.proofs.{Cuts.first_pieces, Places.take_steady, Wrappers.gap_empty}
-use Rattle.bpaf_exact.proofs.{Cuts.first_takes, Cuts.never_two, Fronts.front_nil, Places.test_named}
-use Rattle.bpaf_exact.proofs.{Cuts.some_trans, Fronts.front_one, Fronts.never_nil, Places.test_owns}
-use Rattle.bpaf_exact.proofs.{Cuts.begin_at, Fronts.back_one, Places.two_taken}
+use Rattle.bpaf_exact.proofs.{Classes.memory_class, Product.current_cells, Product.none_of_nobody}
+use Rattle.bpaf_exact.proofs.Product.{same_steady, steady_refl, steady_trans}
+use Rattle.bpaf_exact.proofs.{Places.take_steady, Wrappers.gap_empty, Wrappers.took_front}
+use Rattle.bpaf_exact.proofs.{Cuts.begin_at, Cuts.first_pieces, Cuts.first_takes, Places.test_named}
+use Rattle.bpaf_exact.proofs.{Cuts.some_trans, Fronts.front_nil, Fronts.front_one, Fronts.never_nil}
+use Rattle.bpaf_exact.proofs.{Cuts.never_two, Fronts.back_one, Places.test_owns, Places.two_taken}
 use Rattle.bpaf_exact.specs.Alternative.{AlternativeOk, TakesFirst, alternative_memory, first_later}
 use Rattle.bpaf_exact.specs.Alternative.{AlternativeErr, alternative_missing, first_one, first_two}
 use Rattle.bpaf_exact.specs.Flat.{ByName, Caught, EachWord, FieldKind, OfMemory, OfMissing, OneWord}
-use Rattle.bpaf_exact.specs.Flat.{Refused, Steady, Variables, back, cells, class, front}
+use Rattle.bpaf_exact.specs.Flat.{Steady, Variables, back, cells, class, class_of, front, is_behind}
 use Rattle.bpaf_exact.specs.Leaves.{FlagValue, LastGroup, WordValue, argument_field, argument_group}
 use Rattle.bpaf_exact.specs.Leaves.{ArgumentValue, WordEval, argument_roles, flag_field, flag_roles}
 use Rattle.bpaf_exact.specs.Leaves.{pure_field, word_fault, word_memory, word_missing, word_passed}
 use Rattle.bpaf_exact.specs.Pieces.{Alone, Cells, IsNamed, One, Roles, Two, WithNext, stands_behind}
-use Rattle.bpaf_exact.specs.Pieces.{TakesPiece, TakesPieces, takes_more, takes_none, word_roles}
 use Rattle.bpaf_exact.specs.Single.{FrontOf, Gap, Groups, SingleErr, SingleOk, TakesAny, WordByWord}
 use Rattle.bpaf_exact.specs.Single.{SingleLaw, catch_other, gap_of, of_absent, of_missing, of_piece}
-use Rattle.bpaf_exact.specs.{Alternative.alternative_refused, Flat.is_behind, Single.catch_missing}
-use Rattle.bpaf_exact.specs.{Leaves.key_field, ProgramForm.FormLaw, Single.gave_absent, Single.took}
-use Rattle.bpaf_exact.specs.{Leaves.word_by, Leaves.word_read, Pieces.LinePiece, Single.of_memory}
-use Rattle.bpaf_exact.specs.{Flat.class_of, Names.Owns, Pieces.pieces, Says.Says, Says.of_kind}
+use Rattle.bpaf_exact.specs.Single.{catch_missing, gave_absent, of_memory, took}
+use Rattle.bpaf_exact.specs.{Alternative.alternative_refused, Leaves.key_field, ProgramForm.FormLaw}
+use Rattle.bpaf_exact.specs.{Flat.Refused, Pieces.TakesPiece, Pieces.TakesPieces, Pieces.takes_more}
+use Rattle.bpaf_exact.specs.{Leaves.word_by, Leaves.word_read, Pieces.takes_none, Pieces.word_roles}
+use Rattle.bpaf_exact.specs.{Names.Owns, Pieces.LinePiece, Pieces.pieces, Says.Says, Says.of_kind}
 
 -- a refusal that names a missing item says that items are missing
 misses : (s : Situation) (part : Option Part) (m : Message) → MissesItem s part m

@@ -1,5 +1,4 @@
 pub mod Places
-pub mod Counts
 pub mod Classes
 pub mod Cuts
 pub mod Names
@@ -11,7 +10,6 @@ pub mod ProgramForm
 pub mod ByTables
 pub mod OneView
 pub mod Agreeing
-pub mod Accepted
 pub mod Surplus
 pub mod Fronts
 pub mod PieceByPiece

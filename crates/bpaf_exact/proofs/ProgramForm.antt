@@ -19,7 +19,7 @@ use Rattle.bpaf_exact.proofs.Product.{both_law, count_none, last_law, named_both
 use Rattle.bpaf_exact.proofs.Wrappers.{alternative_single, closed_single, fallback_law, last_of_law}
 use Rattle.bpaf_exact.proofs.Wrappers.{closed_alternative, closed_law, optional_law, some_agrees_on}
 use Rattle.bpaf_exact.proofs.{Names.apart_of_names, Product.named_last_law, Product.none_counted}
-use Rattle.bpaf_exact.proofs.{Counts.open_present, Wrappers.repeat_law, Wrappers.single_law}
+use Rattle.bpaf_exact.proofs.{Places.open_present, Wrappers.repeat_law, Wrappers.single_law}
 use Rattle.bpaf_exact.proofs.{Choice.choice_law, Cuts.one_cut, Names.either_owns, Places.same_cells}
 use Rattle.bpaf_exact.proofs.{Cuts.read_cut, Names.both_hold, Names.foreign_of, Product.con_law}
 use Rattle.bpaf_exact.specs.Flat.{Before, ErrorClass, FieldKind, FieldLaw, FieldsLaw, FieldsReading}

@@ -39,13 +39,13 @@ use Rattle.bpaf_exact.specs.ProgramSays.{said_alone, said_closed, said_command, 
 use Rattle.bpaf_exact.specs.ProgramSays.{said_dressed, said_fallback, said_optional, said_repeat}
 use Rattle.bpaf_exact.specs.Programs.{CellsValue, ChoiceValue, OptionalCommands, are_plain}
 use Rattle.bpaf_exact.specs.Record.{last_reading}
-use Rattle.bpaf_exact.specs.Says.{ArgumentSays, FallbackSays, FieldsFormSays, FieldsSay}
-use Rattle.bpaf_exact.specs.Says.{AllOwn, FieldsSaid, Fits, FlagSays, FormSays, FrontSays, LastSays}
-use Rattle.bpaf_exact.specs.Says.{MadeSays, RecordSays, RepeatSays, Said, SaidKind, Says, form_kind}
-use Rattle.bpaf_exact.specs.Says.{OptionalSays, WordSays, its_pieces, keyed, of_kind, repeated_kind}
-use Rattle.bpaf_exact.specs.Says.{says_alone, says_in_turn, says_kept, says_last_text, says_present}
-use Rattle.bpaf_exact.specs.Says.{says_absent, says_none, says_own, says_some, says_text, says_that}
-use Rattle.bpaf_exact.specs.Says.{says_this, says_variable, says_variable_text, words_after}
+use Rattle.bpaf_exact.specs.Says.{ArgumentSays, FallbackSays, FieldsFormSays, FieldsSaid, FieldsSay}
+use Rattle.bpaf_exact.specs.Says.{AllOwn, Fits, FlagSays, FormSays, FrontSays, LastSays, RecordSays}
+use Rattle.bpaf_exact.specs.Says.{MadeSays, OptionalSays, RepeatSays, SaidKind, WordSays, form_kind}
+use Rattle.bpaf_exact.specs.Says.{Said, Says, its_pieces, keyed, of_kind, repeated_kind, says_alone}
+use Rattle.bpaf_exact.specs.Says.{says_absent, says_in_turn, says_last_text, says_own, says_present}
+use Rattle.bpaf_exact.specs.Says.{says_kept, says_none, says_some, says_text, says_that, says_this}
+use Rattle.bpaf_exact.specs.Says.{says_variable, says_variable_text, words_after}
 use Rattle.bpaf_exact.specs.Single.{FrontOf, Gap, Groups, Own, OwnList, SingleValue, gap_of, listed}
 use Rattle.bpaf_exact.specs.Single.{listed_and_absent, only_absent, own_more, own_none, repeated}
 use Rattle.bpaf_exact.specs.Wrappers.{ClosedValue, Closure, FallbackValue, OptionalValue}

@@ -7,10 +7,10 @@ use Rattle.std.specs.Option.{IsSomeRelated, is_some}
 use Rattle.bpaf_line.specs.{Situation.Situation, Situation.open_count, declared.error.Error.Error}
 use Rattle.bpaf_laws.specs.{Reading.Outcome, Repeat.LastOutcome, Repeat.UntilRest, Turn.TurnOutcome}
 use Rattle.bpaf_laws.specs.Repeat.{Turns, is_nil, rests, stops}
-use Rattle.bpaf_exact.proofs.{Classes.stops_at, Counts.takes_some_fewer, Product.none_outside_after}
-use Rattle.bpaf_exact.proofs.{Classes.memory_class, Counts.open_present, Product.steady_trans}
-use Rattle.bpaf_exact.proofs.{Cuts.takes_nonempty, Fronts.no_keys_left, Product.steady_refl}
-use Rattle.bpaf_exact.proofs.{Counts.takes_fewer, Cuts.first_pieces, Cuts.first_takes}
+use Rattle.bpaf_exact.proofs.{Classes.stops_at, Places.takes_some_fewer, Product.none_outside_after}
+use Rattle.bpaf_exact.proofs.{Classes.memory_class, Cuts.takes_nonempty, Product.steady_trans}
+use Rattle.bpaf_exact.proofs.{Fronts.no_keys_left, Places.open_present, Product.steady_refl}
+use Rattle.bpaf_exact.proofs.{Cuts.first_pieces, Cuts.first_takes, Places.takes_fewer}
 use Rattle.bpaf_exact.proofs.{Classes.goes_on, Cuts.head_stays, Cuts.some_trans, Fronts.never_nil}
 use Rattle.bpaf_exact.proofs.Fronts.{back_all, each_nil, nil_each}
 use Rattle.bpaf_exact.specs.Alternative.{AlternativeErr, AlternativeLaw, AlternativeOk, FirstUnread}

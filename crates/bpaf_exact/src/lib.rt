@@ -20,7 +20,7 @@
 //! - A line that is cut holds together (`HoldsTogether`, specs/Accepted.antt): each key is one of
 //!   the record's, behind an argument's key stands its value, which no positional field gets, an
 //!   attached value stands nowhere else, and what is left to positional fields are words
-//!   (`cut_holds_together`, proofs/Accepted.antt). An occurrence or a word too many leaves no value
+//!   (`cut_holds_together`, proofs/Cuts.antt). An occurrence or a word too many leaves no value
 //!   (`HasNoSurplus`), nor does an occurrence that can't be read (proofs/Surplus.antt).
 //! - What the value of a field says of its own pieces, whatever the other fields are and whatever
 //!   stands round it, is told by names (specs/Says.antt), and follows of each form
