@@ -7,7 +7,6 @@ pub mod Wrappers
 pub mod Choice
 pub mod Commands
 pub mod ProgramForm
-pub mod ByTables
 pub mod OneView
 pub mod Agreeing
 pub mod Surplus

@@ -625,8 +625,8 @@ module _ {env : Variables} {T : Type 0} {inner : Outcome T} {k : FieldKind} {q :
   optional_refuses s t e w (optional_memory c) v g = c
 
   -- what may be left out keeps to the laws of a field
-  pub optional_law : FieldLaw env (Option T) (OptionalEval T inner) k q (OptionalValue T group gap)
-  optional_law = record { own = l.own; keeps = record { ok = optional_ok; err = optional_refuses } }
+  pub optional_field : FieldLaw env (Option T) (OptionalEval T inner) k q (OptionalValue T group gap)
+  optional_field = record { own = l.own; keeps = record { ok = optional_ok; err = optional_refuses } }
 
   -- fallback
 
@@ -653,8 +653,8 @@ module _ {env : Variables} {T : Type 0} {inner : Outcome T} {k : FieldKind} {q :
     fallback_refuses s t g w (fallback_err {m} i n) v (inr p) =
         none_fails (λ c same. n c) p.0 p.1 (l.keeps.err s m g w i)
 
-    pub fallback_law : FieldLaw env T (FallbackEval T inner f) k q (FallbackValue T group gap f)
-    fallback_law =
+    pub fallback_field : FieldLaw env T (FallbackEval T inner f) k q (FallbackValue T group gap f)
+    fallback_field =
         record { own = l.own; keeps = record { ok = fallback_took; err = fallback_refuses } }
 
 -- Pieces that can't be read have no own list.

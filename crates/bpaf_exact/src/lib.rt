@@ -37,6 +37,6 @@
 //!   specs/ProgramSays.antt and proofs/ProgramSays.antt.
 //!
 //! Proofs that closures, repeats, choices and products keep to these laws by their tables stand in
-//! proofs/: proofs/ByTables.antt and proofs/ProgramForm.antt have one lemma for each type of parser,
+//! proofs/: proofs/ProgramForm.antt has one lemma for each type of parser,
 //! and the theorems.
 #![tactic(auto)]
