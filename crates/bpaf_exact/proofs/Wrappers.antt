@@ -70,6 +70,13 @@ catch_none (catch_other h) (of_absent c g p n) = absurd cc
 catch_none (catch_missing h) (of_piece c p n) = absurd cc
 catch_none (catch_other h) (of_piece c p n) = absurd cc
 
+-- where nothing is there, and nothing stands for that, there is no value
+none_given : {T : Type 0} {k : FieldKind} {q : Roles} {group : Groups T} {gap : Gap T}
+    {s t : Situation} {v : T} → (front k (pieces q (cells s)) ≡ []) × (gap.has ≡ false)
+    → SingleOk T k q group gap s v t → ⊥
+none_given none (gave_absent h p ab same st) = let b = none.1 in cc
+none_given none (took h) = h.found none.0
+
 module _ {env : Variables} {T : Type 0} {inner : Outcome T} {k : FieldKind} {q : Roles}
     {group : Groups T} {gap : Gap T} (l : SingleLaw env T inner k q group gap) where
   -- the pieces that a repeat takes
@@ -294,21 +301,14 @@ module _ {env : Variables} {T : Type 0} {inner : Outcome T} {k : FieldKind} {q :
   failed_gives w ab (view_more v rest us x g o) n (of_piece c ne none) =
       let f = of_group g in absurd (none v f.0 f.1)
 
-  -- where the pieces can be read, a turn fails for want of memory alone
-  turn_fails : (first : Bool) {s t : Situation} (e : Error) {ws : List T} → IsWholeIn env s
-      → (gap.has ≡ true → (a : T) × gap.absent a) → OwnView (own s) ws
-      → TurnOutcome inner false first s (Err e) t → class e ≡ OfMemory
-  turn_fails first {s} {t} e w ab view (inl o) =
-      failed_gives w ab view (goes_on e o.1) (l.keeps.err s t e w o.0)
-  turn_fails first e w ab view (inr o) = memory_class e.0 o.0
-
-  -- and so do turns
+  -- where the pieces can be read, turns fail for want of memory alone
   turns_fail : (first last : Bool) (vs : List T) {s m t : Situation} {e : Error} {ws : List T}
       → IsWholeIn env s → (gap.has ≡ true → (a : T) × gap.absent a) → Own T group (own s) ws
       → Turns inner false first s vs m → TurnOutcome inner false last m (Err e) t
       → class e ≡ OfMemory
-  turns_fail first last [] {t} {e} w ab o turns fails =
-      turn_fails last e w ab (own_view o)
+  turns_fail first last [] {s} {t = t} {e} w ab o turns fails =
+      ⊎_elim (λ f. failed_gives w ab (own_view o) (goes_on e f.1) (l.keeps.err s t e w f.0))
+      (λ f. memory_class e.0 f.0)
       (subst (λ z. TurnOutcome inner false last z (Err e) t) (sym turns) fails)
   turns_fail first last (v ∷ vs) {s} w ab o turns fails =
       let on = on_step o (l.keeps.ok s turns.0 v w turns.1.0) in
@@ -384,12 +384,6 @@ module _ {env : Variables} {T : Type 0} {inner : Outcome T} {k : FieldKind} {q :
   pub some_agrees_on : (os : List LinePiece) → AgreesOn (OwnList T group gap os) (some_closure T)
   some_agrees_on os x y v ox oy g n = g.1 (empty_nothing (empty_list n oy) ox)
 
-  -- where there was nothing once more nothing is answered
-  again_never : {m t : Situation} {v : T} → gap.has ≡ false → front k (pieces q (cells m)) ≡ []
-      → SingleOk T k q group gap m v t → ⊥
-  again_never h p (gave_absent g p' ab same st) = cc
-  again_never h p (took g) = g.found p
-
   -- so the evaluation after an empty list answers no value
   again_ok : (s : Situation) {m : Situation} (t : Situation) (v : T) → IsWholeIn env s
       → UntilRest inner s [] m → inner m (Ok v) t → ⊥
@@ -402,7 +396,7 @@ module _ {env : Variables} {T : Type 0} {inner : Outcome T} {k : FieldKind} {q :
           → SingleOk T k q group gap m v t → ⊥
       by_empty (nothing h e) p o =
           let same : pieces q (cells m) ≡ pieces q (cells s) = p ∙ back_all (repeated k) e in
-          again_never h (nil_each k _ (ap (front (repeated k)) same ∙ e)) o
+          none_given (nil_each k _ (ap (front (repeated k)) same ∙ e), h) o
 
   -- a last value is that of the own list
   last_took : (s t : Situation) (v : T) → IsWholeIn env s → LastOutcome inner s (Ok v) t
@@ -554,12 +548,6 @@ module _ {env : Variables} {T : Type 0} {inner : Outcome T} {k : FieldKind} {q :
   }
 
   -- optional
-
-  -- where nothing is there, and nothing stands for that, there is no value
-  none_given : {s t : Situation} {v : T} → (front k (pieces q (cells s)) ≡ []) × (gap.has ≡ false)
-      → SingleOk T k q group gap s v t → ⊥
-  none_given none (gave_absent h p ab same st) = let b = none.1 in cc
-  none_given none (took h) = h.found none.0
 
   module _ {B : Type 0} (value : List LinePiece → B → Type 0) where
     -- an own value, as one with a default
