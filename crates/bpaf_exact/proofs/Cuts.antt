@@ -73,18 +73,13 @@ pub nil_foreign : (x : Role) (k : Arg) (cs : Cells) (os : List LinePiece)
 nil_foreign Foreign k cs os e = refl
 nil_foreign _ k cs os e = cc
 
--- An item that is no value makes no piece of two.
-no_value_next : {k : Arg} (w : Arg) (cs : Cells) → is_value w ≡ false
-    → with_next k (Some w ∷ cs) ≡ One k
-no_value_next {k} w cs h = ap (λ b. if b then Two k w else One k) h
-
 -- taking a piece leaves what a key before it has next to it
 pub same_next : {q : Roles} (k : Arg) {cs ds : Cells} {o : LinePiece} → IsNamed q
     → TakesPiece q cs o ds → with_next k ds ≡ with_next k cs
-same_next k n (takes_one {k = j} {cs} e) =
-    sym (no_value_next j cs (own_not_value j n (ap is_own_role e)))
-same_next k n (takes_two {k = j} {w} {cs} e v) =
-    sym (no_value_next j (Some w ∷ cs) (own_not_value j n (ap is_own_role e)))
+same_next k n (takes_one {k = j} e) =
+    sym (ap (λ b. if b then Two k j else One k) (own_not_value j n (ap is_own_role e)))
+same_next k n (takes_two {k = j} e v) =
+    sym (ap (λ b. if b then Two k j else One k) (own_not_value j n (ap is_own_role e)))
 same_next k n (takes_later {c = None} t) = refl
 same_next k n (takes_later {c = Some j} t) = refl
 

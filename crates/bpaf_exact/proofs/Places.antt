@@ -3,7 +3,7 @@
 use Rattle.std.proofs.Common.{Bool, List, None, Option, Some, [], add-one, ap, arith, if◌then◌else◌}
 use Rattle.std.proofs.Common.{ap₂, false, length, not, option_and_then, refl, suc, true, zero, ◌&&◌}
 use Rattle.std.proofs.Common.{sym, ℕ, ◌+◌, ◌<◌, ◌||◌, ◌∙◌, ◌∷◌, ◌≡◌, ◌≢◌, ◌≤◌}
-use Rattle.std.proofs.lemmas.Bool.{and_right, both_ways, false_from_ne_true}
+use Rattle.std.proofs.lemmas.Bool.{and_right, both_ways, false_from_ne_true, true_from_ne_false}
 use Rattle.std.specs.Option.{is_some, option_map_or}
 use Rattle.bpaf_doc.specs.Names.{Names}
 use Rattle.bpaf_base.specs.declared.arg.Arg.TheVariants.{ArgWord, Word}
@@ -335,17 +335,14 @@ bare_taken {s} {p} t f m e =
     bare_first (length s.context.line) p m.in_line m.is
     (t.yes m.item m.passes) (none_before t f) (none_behind s p e)
 
--- a role that a test gives is one of the field's own where the test holds
-own_test : (b : Bool) (x : Role) → is_own_role (if b then x else Foreign) ≡ true → b ≡ true
-own_test true x e = refl
-own_test false x e = absurd cc
-
--- and each of these has one of the names
+-- the own ones of a role by such a test have one of the names
 pub test_owns : {test : Arg → Bool} {names : Names} (own : Role)
     → ((k : Arg) → test k ≡ true → is_key_of names k ≡ true)
     → Owns (λ k. if test k then own else Foreign) (names ∷ [])
-test_owns {test} own asks =
-    record { own = λ k e. ap (λ b. b || false) (asks k (own_test (test k) own e)) }
+test_owns {test} own asks = record {
+  own = λ k e. ap (λ b. b || false) (asks k (true_from_ne_false (test k) (λ f.
+      let g = ap (λ b. is_own_role (if b then own else Foreign)) f in cc)));
+}
 
 -- a piece taken leaves fewer items
 pub takes_fewer : {q : Roles} {cs ds : Cells} {o : LinePiece} → TakesPiece q cs o ds
