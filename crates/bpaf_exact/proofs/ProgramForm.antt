@@ -22,10 +22,10 @@ use Rattle.bpaf_exact.proofs.Classes.{caught_class, goes_on, kept_class, memory_
 use Rattle.bpaf_exact.proofs.Commands.{before_law, choice_commands, closed_commands, closed_program}
 use Rattle.bpaf_exact.proofs.Commands.{command_law, con_program, optional_commands, record_program}
 use Rattle.bpaf_exact.proofs.Product.{both_law, count_none, last_law, named_both_law, named_con_law}
-use Rattle.bpaf_exact.proofs.Wrappers.{alternative_single, closed_law, fallback_field, last_of_law}
-use Rattle.bpaf_exact.proofs.Wrappers.{closed_alternative, optional_field, repeat_law, single_law}
-use Rattle.bpaf_exact.proofs.{Names.apart_of_names, Product.named_last_law, Wrappers.some_agrees_on}
-use Rattle.bpaf_exact.proofs.{Places.open_present, Product.none_counted, Wrappers.closed_single}
+use Rattle.bpaf_exact.proofs.Wrappers.{alternative_single, closed_law, fallback_field, left_out_law}
+use Rattle.bpaf_exact.proofs.Wrappers.{closed_alternative, last_of_law, repeat_law, some_agrees_on}
+use Rattle.bpaf_exact.proofs.{Names.apart_of_names, Product.named_last_law, Wrappers.closed_single}
+use Rattle.bpaf_exact.proofs.{Places.open_present, Product.none_counted, Wrappers.single_law}
 use Rattle.bpaf_exact.proofs.{Choice.choice_law, Cuts.one_cut, Names.either_owns, Places.same_cells}
 use Rattle.bpaf_exact.proofs.{Cuts.read_cut, Names.both_hold, Names.foreign_of, Product.con_law}
 use Rattle.bpaf_exact.specs.Flat.{Before, ErrorClass, FieldKind, FieldLaw, FieldsLaw, FieldsReading}
@@ -260,8 +260,8 @@ pub program_optional_law : (env : Variables) {T : Type 0} (inner : Outcome T) (n
 program_optional_law env inner names words (commands false value) l =
     record { roles = l.roles; program = optional_commands l.commands; owns = l.owns }
 program_optional_law env inner names words (alternative wide q value) l =
-    (optional_field (alternative_single l.0), l.1)
-program_optional_law env inner names words (single wide k q group gap) l = (optional_field l.0, l.1)
+    (left_out_law (alternative_single l.0), l.1)
+program_optional_law env inner names words (single wide k q group gap) l = (left_out_law l.0, l.1)
 program_optional_law env inner names words _ l = tt
 
 -- an item is one word

@@ -613,8 +613,8 @@ module _ {env : Variables} {T : Type 0} {inner : Outcome T} {k : FieldKind} {q :
   optional_refuses s t e w (optional_memory c) v g = c
 
   -- what may be left out keeps to the laws of a field
-  pub optional_field : FieldLaw env (Option T) (OptionalEval T inner) k q (OptionalValue T group gap)
-  optional_field = record { own = l.own; keeps = record { ok = optional_ok; err = optional_refuses } }
+  pub left_out_law : FieldLaw env (Option T) (OptionalEval T inner) k q (OptionalValue T group gap)
+  left_out_law = record { own = l.own; keeps = record { ok = optional_ok; err = optional_refuses } }
 
   -- fallback
 
