@@ -1,11 +1,11 @@
 -- The premise of exactness, of closures that can't tell apart the values on the same pieces.
-use Rattle.std.proofs.Common.{◌≡◌, ℕ, List, sym, ◌∙◌}
+use Rattle.std.proofs.Common.{List, sym, ℕ, ◌∙◌, ◌≡◌}
 use Rattle.bpaf_text.specs.{Meaning.SpellsUnsigned, Named.KeyWithValue}
-use Rattle.bpaf_exact.specs.ProgramForm.{Agrees, ProgramForm, alternative, commands, complete}
-use Rattle.bpaf_exact.specs.ProgramForm.{product, program_closed, single}
-use Rattle.bpaf_exact.specs.{OneView.Alike, OneView.HasOneView, Leaves.argument_field}
-use Rattle.bpaf_exact.specs.{Wrappers.AgreesOn, Wrappers.Closure, Wrappers.Decides, Flat.Variables}
 use Rattle.bpaf_exact.proofs.OneView.{argument_view, closed_view}
+use Rattle.bpaf_exact.specs.ProgramForm.{Agrees, ProgramForm, alternative, commands, program_closed}
+use Rattle.bpaf_exact.specs.{Leaves.argument_field, ProgramForm.complete, ProgramForm.product}
+use Rattle.bpaf_exact.specs.{OneView.HasOneView, ProgramForm.single, Wrappers.AgreesOn}
+use Rattle.bpaf_exact.specs.{Flat.Variables, OneView.Alike, Wrappers.Closure, Wrappers.Decides}
 
 -- a closure that accepts both or refuses both of what looks alike
 module _ {A B X : Type 0} {see : A → X} {f : Closure A B}

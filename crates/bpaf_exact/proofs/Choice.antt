@@ -1,10 +1,10 @@
 -- A choice of two alternatives is one.
-use Rattle.std.proofs.Common.{Bool, [], false, length, not, suc, true, zero, ℕ, ◌&&◌, ◌<◌, ◌∷◌, ◌≡◌}
-use Rattle.std.proofs.Common.{Err, List, None, Ok, Option, Result, Some, ap₂, refl, subst, sym, ◌∙◌}
-use Rattle.std.proofs.Common.{ap, arith, inl, inr, nat_le, nat_lt, true≢false, ⊎_elim, ◌≤◌, ◌⊎◌}
+use Rattle.std.proofs.Common.{Bool, Err, [], false, length, suc, true, zero, ℕ, ◌&&◌, ◌<◌, ◌∷◌, ◌≡◌}
+use Rattle.std.proofs.Common.{List, None, Ok, Option, Result, Some, ap, ap₂, arith, subst, sym, ◌∙◌}
 use Rattle.std.proofs.lemmas.Bool.{and_parts, cases_lt, eqb-true, le-leb, not-false, not-true}
-use Rattle.std.proofs.lemmas.Bool.{lt-ltb}
-use Rattle.std.specs.{Option.option_map_or, Prelude.MatchBool}
+use Rattle.std.proofs.{Common.nat_le, Common.nat_lt, Common.true≢false, lemmas.Bool.lt-ltb}
+use Rattle.std.proofs.Common.{inl, inr, refl, ⊎_elim, ◌≤◌, ◌⊎◌}
+use Rattle.std.specs.Prelude.{MatchBool}
 use Rattle.bpaf_base.specs.{Items.any_item, declared.arg.Arg.Arg}
 use Rattle.bpaf_line.proofs.{Matches.open_has_item, Places.present_in_line}
 use Rattle.bpaf_line.specs.{Conflicts.ConflictsSaved, Situation.item_in, declared.error.Error.Error}
@@ -14,20 +14,20 @@ use Rattle.bpaf_line.specs.{Situation.is_taken, Taking.open_item}
 use Rattle.bpaf_laws.proofs.ChoiceLaws.{chosen_at_equal, not_winner}
 use Rattle.bpaf_laws.specs.Choice.{BranchesEval, ChoiceOutcome, EqualDepths, Winner, branch_of}
 use Rattle.bpaf_laws.specs.{Choice.OneOk, Reading.Outcome, Spared.IsNotMemory, Turn.is_untouched}
-use Rattle.bpaf_exact.proofs.Classes.{combined_missing, combined_refused, memory_class, not_memory}
-use Rattle.bpaf_exact.proofs.First.{HeadOf, TookLeft, both_nil, first_mine, swap_union, union_named}
-use Rattle.bpaf_exact.proofs.First.{either_union, left_here, left_later, takes_left, takes_nonempty}
-use Rattle.bpaf_exact.proofs.{Counts.open_present, Product.none_outside_after, Product.steady_trans}
-use Rattle.bpaf_exact.proofs.{Counts.takes_fewer, Product.steady_refl, Records.mine_of_both}
-use Rattle.bpaf_exact.proofs.{First.Union, Places.closed_item, Places.same_cells}
-use Rattle.bpaf_exact.proofs.{First.never_same, First.not_left, First.owner, Places.same_item}
-use Rattle.bpaf_exact.specs.Alternative.{AlternativeErr, AlternativeOk, alternative_missing}
-use Rattle.bpaf_exact.specs.Alternative.{FirstUnread, TakesFirst, alternative_refused, either_value}
-use Rattle.bpaf_exact.specs.Flat.{ErrorClass, IsWholeIn, OfMemory, OfMissing, Refused, cells, class}
+use Rattle.bpaf_exact.proofs.Cuts.{HeadOf, TookLeft, both_nil, either_union, first_mine, swap_union}
+use Rattle.bpaf_exact.proofs.Places.{closed_item, open_present, same_cells, same_item, takes_fewer}
+use Rattle.bpaf_exact.proofs.Product.{mine_of_both, none_outside_after, steady_refl, steady_trans}
+use Rattle.bpaf_exact.proofs.{Classes.combined_missing, Classes.combined_refused, Cuts.union_named}
+use Rattle.bpaf_exact.proofs.{Classes.memory_class, Classes.not_memory, Cuts.takes_nonempty}
+use Rattle.bpaf_exact.proofs.{Cuts.left_later, Cuts.never_same, Cuts.takes_left, Places.match_of}
+use Rattle.bpaf_exact.proofs.{Cuts.Union, Cuts.left_here, Cuts.not_left, Cuts.owner, Places.Match}
+use Rattle.bpaf_exact.specs.Alternative.{FirstUnread, TakesFirst, alternative_missing, either_value}
+use Rattle.bpaf_exact.specs.Flat.{ErrorClass, IsWholeIn, OfMemory, Refused, Variables, cells, class}
 use Rattle.bpaf_exact.specs.Pieces.{Cells, LinePiece, One, Two, either, is_own, is_own_role, pieces}
 use Rattle.bpaf_exact.specs.Pieces.{Apart, Roles, TakesPiece, takes_later, takes_one, takes_two}
-use Rattle.bpaf_exact.specs.Alternative.{AlternativeLaw, alternative_memory}
-use Rattle.bpaf_exact.specs.{Flat.Steady, Flat.Variables, Flat.first_cells, Pieces.mine}
+use Rattle.bpaf_exact.specs.Alternative.{alternative_memory, alternative_refused}
+use Rattle.bpaf_exact.specs.{Alternative.AlternativeErr, Alternative.AlternativeLaw, Flat.Steady}
+use Rattle.bpaf_exact.specs.{Alternative.AlternativeOk, Flat.first_cells, Pieces.mine}
 
 -- the same scope of the same line
 pub record SameScope (m n : Situation) : Type 0 where
@@ -72,34 +72,18 @@ left_cells other (suc n) (suc p) l e f same =
     left_later (same zero (omega arith)) (left_cells (λ q. other (suc q)) n p (omega arith) e f
     (λ q i. same (suc q) (omega arith)))
 
--- an item is there
-pub record HasItem (s : Situation) (p : ℕ) : Type 0 where
-  pub item : Arg
-  pub is : open_item s p ≡ Some item
-
--- what isn't taken is open
+-- where a place isn't taken an item is there
 pub has_item : {env : Variables} {s : Situation} {p : ℕ} → IsWholeIn env s → is_taken s p ≡ false
-    → HasItem s p
+    → Match any_item s p
 has_item {s} {p} w free =
     let l = present_in_line s p free in
     let a : s.start ≤ p = ⊎_elim
     (λ (ahead : p < s.start). absurd (true≢false (sym (w.front p ahead) ∙ free)))
     (λ (within : s.start ≤ p). within) (cases_lt p s.start) in
     let b = w.end in
-    by_item (open_item s p) refl (open_has_item s p
-    (open_if (nat_le s.start p) (nat_lt p s.end) (is_taken s p) (le-leb s.start p (omega arith))
-    (lt-ltb p s.end (omega arith)) free))
-  where
-    open_if : (a b c : Bool) → a ≡ true → b ≡ true → c ≡ false → ((a && b) && not c) ≡ true
-    open_if true true false e f g = refl
-    open_if true true true e f g = absurd cc
-    open_if true false c e f g = absurd cc
-    open_if false b c e f g = absurd cc
-
-    by_item : (c : Option Arg) → open_item s p ≡ c → option_map_or any_item c false ≡ true
-        → HasItem s p
-    by_item None f h = absurd cc
-    by_item (Some k) f h = record { item = k; is = f }
+    let c = le-leb s.start p (omega arith) in
+    let d = lt-ltb p s.end (omega arith) in
+    match_of any_item s p (open_has_item s p (rw (c, d, free) refl))
 
 -- the one that took the leftmost place that only one took, by their cells
 left_of : {env : Variables} {s m n : Situation} {p : ℕ} → IsWholeIn env s → Steady s m → Steady s n
@@ -190,8 +174,9 @@ module _ (T : Type 0) {qa qb r : Roles} (u : Union qa qb r) (va : LinePiece → 
     piece = a.piece;
     takes = rw e (takes_left u a.takes);
     means = rw (same_a a.piece x (takes_own a.takes)) a.means;
-    first = rw e (won_first
-        (some_head (pieces r (cells s)) (takes_nonempty (takes_left u a.takes))).2 a.takes o a.first);
+    first =
+        let head = some_head (pieces r (cells s)) (takes_nonempty (takes_left u a.takes)) in
+        rw e (won_first head.2 a.takes o a.first);
   }
 
 module _ {env : Variables} (T : Type 0) (a b : Outcome T) (qa qb : Roles)
@@ -321,7 +306,7 @@ module _ {env : Variables} (T : Type 0) (a b : Outcome T) (qa qb : Roles)
       alone_ok (second_won (lb.keeps.ok s sb y w g) other steady_refl refl) o
   equal_ok s sa sb (Err e) (Err d) w f g hf hg o = let i = o.0.2 in absurd cc
 
-  -- where one can't read its first piece, and the other can't or has none, that of both can't be read
+  -- where neither can read its first piece, if it has one, that of both can't be read
   both_unread : (cs : Cells) → (pieces (either qa qb) cs ≡ [] → ⊥)
       → (pieces qa cs ≡ []) ⊎ FirstUnread T qa va cs → (pieces qb cs ≡ []) ⊎ FirstUnread T qb vb cs
       → FirstUnread T (either qa qb) vr cs
@@ -330,20 +315,16 @@ module _ {env : Variables} (T : Type 0) (a b : Outcome T) (qa qb : Roles)
       (head.0, head.1, head.2, by_owner (owner cs u head.2))
     where
       by_owner : {o : LinePiece} → HeadOf qa cs o ⊎ HeadOf qb cs o → (w : T) → vr o w → ⊥
-      by_owner (inl h) = ⊎_elim (λ none. let i = h.1 in absurd cc) (head_unread qa cs same_first h) f
-      by_owner (inr h) = ⊎_elim (λ none. let i = h.1 in absurd cc) (head_unread qb cs same_second h) g
+      by_owner (inl h) =
+          ⊎_elim (λ none. let i = h.1 in absurd cc) (head_unread qa cs same_first h) f
+      by_owner (inr h) =
+          ⊎_elim (λ none. let i = h.1 in absurd cc) (head_unread qb cs same_second h) g
 
   -- with a refusal of either class
   by_class : {s : Situation} {c : ErrorClass} → (c ≡ OfMemory) ⊎ (c ≡ Refused)
       → FirstUnread T (either qa qb) vr (cells s) → AlternativeErr T (either qa qb) vr s c s
   by_class (inl c) z = alternative_memory c
   by_class (inr c) z = alternative_refused c refl z
-
-  -- where neither has a piece, the choice has none
-  both_missing : {s : Situation} {c : ErrorClass} → (c ≡ OfMissing) ⊎ (c ≡ OfMemory)
-      → pieces (either qa qb) (cells s) ≡ [] → AlternativeErr T (either qa qb) vr s c s
-  both_missing (inl c) h = alternative_missing c h refl steady_refl
-  both_missing (inr c) h = alternative_memory c
 
   -- both branches refused
   both_failed : (s : Situation) {m n : Situation} (e f : Error) {g : Error} → is_memory e.0 ≡ false
@@ -352,7 +333,9 @@ module _ {env : Variables} (T : Type 0) (a b : Outcome T) (qa qb : Roles)
   both_failed s e f x y c (alternative_memory p) j = absurd (not_memory e.0 x p)
   both_failed s e f x y c i (alternative_memory q) = absurd (not_memory f.0 y q)
   both_failed s e f x y c (alternative_missing p i same st) (alternative_missing q j alike steady) =
-      both_missing (combined_missing e.0 f.0 p q c) (both_nil (cells s) u i j)
+      let none = both_nil (cells s) u i j in
+      ⊎_elim (λ missing. alternative_missing missing none refl steady_refl)
+      (λ memory. alternative_memory memory) (combined_missing e.0 f.0 p q c)
   both_failed s e f x y c (alternative_missing p i same st) (alternative_refused q path z) =
       by_class (combined_refused e.0 f.0 (inr q) (inl p) (inr q) c)
       (both_unread (cells s) (some_both (swap_union u) (cells s) z) (inl i) (inr z))
@@ -377,20 +360,15 @@ module _ {env : Variables} (T : Type 0) (a b : Outcome T) (qa qb : Roles)
   equal_err s g (Ok x) (Ok y) w f h hf hg (inl o) = let i = o.1.0 in absurd cc
   equal_err s {sa} {sb} {t} g (Ok x) (Ok y) w f h hf hg (inr o) =
       absurd (not_winner (branch_of x sa) (branch_of y sb) o.1.0 g t o.1.2)
-  equal_err s {sa} g (Ok x) (Err e) w f h hf hg o = absurd (one_no_refusal (la.keeps.ok s sa x w f) o)
-  equal_err s {sb} g (Err e) (Ok y) w f h hf hg o = absurd (one_no_refusal (lb.keeps.ok s sb y w h) o)
+  equal_err s {sa} g (Ok x) (Err e) w i j hx hy o =
+      absurd (one_no_refusal (la.keeps.ok s sa x w i) o)
+  equal_err s {sb} g (Err e) (Ok y) w i j hx hy o =
+      absurd (one_no_refusal (lb.keeps.ok s sb y w j) o)
   equal_err s {sa} {sb} g (Err e) (Err d) w f h hf hg o =
       let given = o.0.2 in
       let same : o.0.0 ≡ g = cc in
-      rw (o.1, ← same) (both_failed s e d hf hg o.0.1 (la.keeps.err s sa e w f) (lb.keeps.err s sb d w h))
-
-  -- a refusal of the choice is that of an alternative
-  choice_err : (s t : Situation) (e : Error) → IsWholeIn env s → ChoiceOutcome a b s (Err e) t
-      → AlternativeErr T (either qa qb) vr s (class e) t
-  choice_err s t e w (inl o) =
-      equal_err s e o.a o.b w o.first_ran o.second_ran o.first_spared o.second_spared
-      (equally_deep w o)
-  choice_err s t e w (inr o) = alternative_memory (memory_class e.0 o.0)
+      rw (o.1, ← same)
+      (both_failed s e d hf hg o.0.1 (la.keeps.err s sa e w f) (lb.keeps.err s sb d w h))
 
   -- a choice of two alternatives whose keys are apart is an alternative
   pub choice_law : AlternativeLaw env T (ChoiceOutcome a b) (either qa qb) (either_value qa va vb)
@@ -400,6 +378,8 @@ module _ {env : Variables} (T : Type 0) (a b : Outcome T) (qa qb : Roles)
       ok = λ s t v w o.
           equal_ok s o.sa o.sb o.a o.b w o.first_ran o.second_ran o.first_spared o.second_spared
           (equally_deep w o);
-      err = choice_err;
+      err = λ s t e w. ⊎_elim
+          (λ o. equal_err s e o.a o.b w o.first_ran o.second_ran o.first_spared o.second_spared
+          (equally_deep w o)) (λ o. alternative_memory (memory_class e.0 o.0));
     };
   }

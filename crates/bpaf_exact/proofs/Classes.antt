@@ -112,7 +112,8 @@ stops_at {e} {s} {m} h = by_class (class e) refl (sym (stop_is e.0 (is_untouched
 pub goes_on : (e : Error) {s m : Situation} → stops_step false e.0 (is_untouched s m) ≡ false
     → Stops e s m → ⊥
 goes_on e {s} {m} h (nothing_found c same) =
-    true≢false (sym (stop_is e.0 (is_untouched s m) c ∙ eq-eqb (open_count m) (open_count s) same) ∙ h)
+    let untouched = eq-eqb (open_count m) (open_count s) same in
+    true≢false (sym (stop_is e.0 (is_untouched s m) c ∙ untouched) ∙ h)
 goes_on e {s} {m} h (caught c) = true≢false (sym (stop_is e.0 (is_untouched s m) c) ∙ h)
 
 -- a refusal of that class says that items are missing

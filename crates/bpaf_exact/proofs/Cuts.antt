@@ -1,13 +1,258 @@
--- At most one cut exists, and a value is read off one; and cuts of words alone.
-use Rattle.std.proofs.Common.{◌≡◌, Bool, true, false, List, [], ◌∷◌, Some, None, refl, ap, ◌∙◌}
-use Rattle.std.proofs.Common.{if◌then◌else◌, inr, sym}
-use Rattle.bpaf_base.specs.{declared.arg.Arg.Arg, Items.is_positional}
-use Rattle.bpaf_exact.specs.Flat.{NonePresent, no_place, none_here, ReadOff, IsWords}
-use Rattle.bpaf_exact.specs.Pieces.{Cells, Role, Foreign, Alone, WithNext, Roles, LinePiece, One}
-use Rattle.bpaf_exact.specs.Pieces.{Two, IsNamed, Cut, at_end, passed, flag, argument, word, either}
-use Rattle.bpaf_exact.specs.Pieces.{word_roles, is_own_role, Takes, no_cells, empty_stays}
-use Rattle.bpaf_exact.specs.Pieces.{other_stays, takes_flag, takes_argument, pieces}
-use Rattle.bpaf_exact.proofs.Cells.{CutsOff, word_foreign, begin_at}
+-- What taking pieces does to the other pieces and to the cut; that at most one cut exists, and a
+-- value is read off one; cuts of words alone; the first piece, of two fields together too; and that
+-- a cut line holds together.
+use Rattle.std.proofs.Common.{Bool, List, None, Option, Some, arith, false, if◌then◌else◌, inl, inr}
+use Rattle.std.proofs.Common.{[], length, not, refl, sym, true, ℕ, ⊎_elim, ◌++◌, ◌<◌, ◌∙◌, ◌∷◌, ◌≡◌}
+use Rattle.std.proofs.{lemmas.Bool.false_from_ne_true, lemmas.List.Elements.filter-append}
+use Rattle.std.proofs.{Common.◌⊎◌, lemmas.List.Elements.All-cons, lemmas.List.Elements.All-nil}
+use Rattle.std.proofs.{Common.ap, lemmas.List.append_assoc}
+use Rattle.std.specs.List.{AllPass}
+use Rattle.bpaf_base.specs.declared.arg.Arg.TheVariants.{ArgWord, Long, Short, Word}
+use Rattle.bpaf_base.specs.{Items.is_positional, declared.arg.Arg.Arg}
+use Rattle.bpaf_exact.specs.Flat.{IsWords, NonePresent, ReadOff, no_place, none_here}
+use Rattle.bpaf_exact.specs.Pieces.{Alone, Apart, Cells, Cut, Foreign, LinePiece, One, Roles, Takes}
+use Rattle.bpaf_exact.specs.Pieces.{IsNamed, Role, TakesPiece, TakesPieces, Two, WithNext, argument}
+use Rattle.bpaf_exact.specs.Pieces.{at_end, begin_piece, either, either_role, empty_stays, is_value}
+use Rattle.bpaf_exact.specs.Pieces.{flag, is_key, is_own, is_own_role, mine, others, passed, pieces}
+use Rattle.bpaf_exact.specs.Pieces.{other_stays, takes_argument, takes_flag, takes_more, takes_none}
+use Rattle.bpaf_exact.specs.Pieces.{takes_later, takes_one, takes_two, with_next, word, word_roles}
+use Rattle.bpaf_exact.specs.{Accepted.HoldsTogether, Alternative.first_later, Alternative.first_one}
+use Rattle.bpaf_exact.specs.{Accepted.is_word_alone, Alternative.TakesFirst, Alternative.first_two}
+use Rattle.bpaf_exact.specs.{Accepted.EndsInKey, Accepted.HasItsValue, Pieces.no_cells}
+
+-- a value is no key
+pub value_not_key : (w : Arg) → is_value w ≡ true → is_key w ≡ false
+value_not_key (Short c a t) h = cc
+value_not_key (Long c a t) h = cc
+value_not_key _ h = refl
+
+-- a word is no key
+pub word_not_key : (w : Arg) → is_positional w ≡ true → is_key w ≡ false
+word_not_key (Short c a t) h = cc
+word_not_key (Long c a t) h = cc
+word_not_key _ h = refl
+
+-- an item of a named field is no value
+pub own_not_value : {q : Roles} (k : Arg) → IsNamed q → is_own_role (q k) ≡ true
+    → is_value k ≡ false
+own_not_value {q} (ArgWord t) n h = let e : is_own_role (q (ArgWord t))
+    ≡ false = ap is_own_role (n.only_keys (ArgWord t) refl) in cc
+own_not_value {q} (Word t) n h =
+    let e : is_own_role (q (Word t)) ≡ false = ap is_own_role (n.only_keys (Word t) refl) in cc
+own_not_value _ n h = refl
+
+-- a value belongs to no named field
+pub value_foreign : {q : Roles} {w : Arg} → IsNamed q → is_value w ≡ true → q w ≡ Foreign
+value_foreign {w} n h = n.only_keys w (value_not_key w h)
+
+-- nor does a word
+pub word_foreign : {q : Roles} {w : Arg} → IsNamed q → is_positional w ≡ true → q w ≡ Foreign
+word_foreign {w} n h = n.only_keys w (word_not_key w h)
+
+-- alike pieces behind an item, and alike items next to it, make alike pieces
+begin_cong : (x : Role) (k : Arg) (cs ds : Cells) {os ps : List LinePiece}
+    → with_next k ds ≡ with_next k cs → ps ≡ os → begin_piece x k ds ps ≡ begin_piece x k cs os
+begin_cong Foreign k cs ds h e = e
+begin_cong Alone k cs ds h e = ap (λ z. One k ∷ z) e
+begin_cong WithNext k cs ds h e = cc
+
+-- an item begins a piece by its role
+pub begin_at : {x y : Role} (k : Arg) (cs : Cells) (os : List LinePiece) → x ≡ y
+    → begin_piece x k cs os ≡ begin_piece y k cs os
+begin_at k cs os e = ap (λ z. begin_piece z k cs os) e
+
+-- where no piece begins there is none behind
+pub nil_rest : (x : Role) (k : Arg) (cs : Cells) {os : List LinePiece} → begin_piece x k cs os ≡ []
+    → os ≡ []
+nil_rest Foreign k cs e = e
+nil_rest _ k cs e = cc
+
+-- and the item isn't the field's own
+pub nil_foreign : (x : Role) (k : Arg) (cs : Cells) (os : List LinePiece)
+    → begin_piece x k cs os ≡ [] → x ≡ Foreign
+nil_foreign Foreign k cs os e = refl
+nil_foreign _ k cs os e = cc
+
+-- taking a piece leaves what a key before it has next to it
+pub same_next : {q : Roles} (k : Arg) {cs ds : Cells} {o : LinePiece} → IsNamed q
+    → TakesPiece q cs o ds → with_next k ds ≡ with_next k cs
+same_next k n (takes_one {k = j} e) =
+    sym (ap (λ b. if b then Two k j else One k) (own_not_value j n (ap is_own_role e)))
+same_next k n (takes_two {k = j} e v) =
+    sym (ap (λ b. if b then Two k j else One k) (own_not_value j n (ap is_own_role e)))
+same_next k n (takes_later {c = None} t) = refl
+same_next k n (takes_later {c = Some j} t) = refl
+
+-- What one takes of its own leaves the pieces of another as they are.
+pub keeps_other : {q r : Roles} {cs ds : Cells} {o : LinePiece} → IsNamed q → IsNamed r → Apart q r
+    → TakesPiece q cs o ds → pieces r ds ≡ pieces r cs
+keeps_other {r} nq nr a (takes_one {k} {cs} e) =
+    sym (begin_at k cs (pieces r cs) (a.left k (ap is_own_role e)))
+keeps_other {r} nq nr a (takes_two {k} {w} {cs} e v) =
+    sym (begin_at k (Some w ∷ cs) (pieces r (Some w ∷ cs)) (a.left k (ap is_own_role e))
+    ∙ begin_at w cs (pieces r cs) (value_foreign nr v))
+keeps_other nq nr a (takes_later {c = None} t) = keeps_other nq nr a t
+keeps_other {r} nq nr a (takes_later {c = Some k} {cs} {ds} t) =
+    begin_cong (r k) k cs ds (same_next k nq t) (keeps_other nq nr a t)
+
+-- so do some pieces
+pub keeps_other_some : {q r : Roles} {cs ds : Cells} → IsNamed q → IsNamed r → Apart q r
+    → TakesPieces q cs ds → pieces r ds ≡ pieces r cs
+keeps_other_some nq nr a takes_none = refl
+keeps_other_some nq nr a (takes_more t more) = keeps_other_some nq nr a more ∙ keeps_other nq nr a t
+
+-- The pieces of a field's own are those of the cut that begin with one of its keys.
+
+-- an item that isn't the one's has the role that it has to the other
+pub either_right : (x : Role) {y : Role} → x ≡ Foreign → either_role x y ≡ y
+either_right Foreign e = refl
+either_right _ e = absurd cc
+
+-- an item of the one is of the same role to both
+pub either_own : (x y z : Role) → x ≡ z → is_own_role z ≡ true → either_role x y ≡ z
+either_own Foreign y Foreign e h = cc
+either_own Foreign y _ e h = cc
+either_own _ y z e h = e
+
+-- an item begins a piece where it is the field's own
+own_begin : (x : Role) (k : Arg) (cs : Cells) (o : LinePiece) {os ps : List LinePiece}
+    → (is_own_role x ≡ true → begin_piece x k cs os ≡ o ∷ os) → os ≡ ps
+    → begin_piece x k cs os ≡ (if is_own_role x then (o ∷ ps) else ps)
+own_begin Foreign k cs o f h = h
+own_begin Alone k cs o f h = f refl ∙ ap (λ z. o ∷ z) h
+own_begin WithNext k cs o f h = f refl ∙ ap (λ z. o ∷ z) h
+
+-- the pieces of a field's own are those of the cut that begin with its keys
+pub pieces_of_cut : {q : Roles} (r : Roles) {cs : Cells} {os : List LinePiece} → IsNamed q
+    → Cut (either q r) cs os → pieces q cs ≡ mine q os
+pieces_of_cut r n at_end = refl
+pieces_of_cut r n (passed c) = pieces_of_cut r n c
+pieces_of_cut {q} r n (flag {k} {cs} e c) = own_begin (q k) k cs (One k)
+    (λ own. begin_at k cs (pieces q cs) (sym (either_own (q k) (r k) (q k) refl own) ∙ e))
+    (pieces_of_cut r n c)
+pieces_of_cut {q} r n (argument {k} {w} {cs} e v c) = own_begin (q k) k (Some w ∷ cs) (Two k w)
+    (λ own. begin_at k (Some w ∷ cs) (pieces q (Some w ∷ cs))
+    (sym (either_own (q k) (r k) (q k) refl own) ∙ e)
+    ∙ ap (λ b. (if b then Two k w else One k) ∷ pieces q (Some w ∷ cs)) v)
+    (begin_at w cs (pieces q cs) (value_foreign n v) ∙ pieces_of_cut r n c)
+pieces_of_cut {q} r n (word {w} {cs} h c) = own_begin (q w) w cs (One w)
+    (λ own. let f = ap is_own_role (word_foreign n h) in absurd cc) (pieces_of_cut r n c)
+
+-- The other way: a piece given back to its place.
+
+-- a piece of the field's own isn't one of others
+pub others_own : (q : Roles) (o : LinePiece) (os : List LinePiece) → is_own q o ≡ true
+    → others q (o ∷ os) ≡ others q os
+others_own q o os h = ap (λ b. if not b then (o ∷ others q os) else others q os) h
+
+-- a piece of others is
+pub others_foreign : (q : Roles) {o : LinePiece} (os : List LinePiece) → is_own q o ≡ false
+    → others q (o ∷ os) ≡ o ∷ others q os
+others_foreign q {o} os h = ap (λ b. if not b then (o ∷ others q os) else others q os) h
+
+-- some pieces, and some more
+pub some_trans : {q : Roles} {cs ds es : Cells} → TakesPieces q cs ds → TakesPieces q ds es
+    → TakesPieces q cs es
+some_trans takes_none b = b
+some_trans (takes_more t more) b = takes_more t (some_trans more b)
+
+-- a cut with the same pieces of others
+pub record CutAlike (q r : Roles) (cs : Cells) (os : List LinePiece) : Type 0 where
+  pub now : List LinePiece
+  pub cut : Cut r cs now
+  pub alike : others q now ≡ others q os
+
+-- with one piece more in front
+cut_more : {q r : Roles} {o : LinePiece} {cs ds : Cells} {os : List LinePiece} → CutAlike q r cs os
+    → ((ps : List LinePiece) → Cut r cs ps → Cut r ds (o ∷ ps)) → CutAlike q r ds (o ∷ os)
+cut_more {q} {o} i on = record {
+  now = o ∷ i.now;
+  cut = on i.now i.cut;
+  alike = ap (λ z. if not (is_own q o) then (o ∷ z) else z) i.alike;
+}
+
+-- a field's own pieces are ones of a cut by these keys: keys, or words
+pub record CutsOff (q r : Roles) : Type 0 where
+  pub alone : (k : Arg) → q k ≡ Alone
+      → (r k ≡ Alone) ⊎ ((is_positional k ≡ true) × (r k ≡ Foreign))
+  pub pair : (k : Arg) → q k ≡ WithNext → (r k ≡ WithNext) × (is_positional k ≡ false)
+  pub value : (k w : Arg) → r k ≡ WithNext → is_value w ≡ true → q w ≡ Foreign
+
+-- so are those of a named field
+pub named_cuts : {q : Roles} (r : Roles) → IsNamed q → CutsOff q (either q r)
+named_cuts {q} r n = record {
+  alone = λ k e. inl (either_own (q k) (r k) Alone e refl);
+  pair = λ k e. (
+    either_own (q k) (r k) WithNext e refl,
+    false_from_ne_true (is_positional k) (λ h. let f = word_foreign n h in cc),
+  );
+  value = λ k w e v. value_foreign n v;
+}
+
+-- a piece given back to its place is cut off there again
+pub put_back : {q r : Roles} {cs ds : Cells} {o : LinePiece} {os : List LinePiece} → CutsOff q r
+    → TakesPiece q cs o ds → Cut r ds os → CutAlike q r cs os
+put_back {q} f (takes_one {k} e) (passed {os} c) = record {
+  now = One k ∷ os;
+  cut = ⊎_elim (λ key. flag key c) (λ there. word there.0 c) (f.alone k e);
+  alike = others_own q (One k) os (ap is_own_role e);
+}
+put_back {q} f (takes_two {k} {w} e v) (passed (passed {os} c)) = record {
+  now = Two k w ∷ os;
+  cut = argument (f.pair k e).0 v c;
+  alike = others_own q (Two k w) os (ap is_own_role e);
+}
+put_back f (takes_later {c = None} t) (passed c) = let i = put_back f t c in
+    record { now = i.now; cut = passed i.cut; alike = i.alike }
+put_back f (takes_later {c = Some k} t) (flag e c) = cut_more (put_back f t c) (λ ps. flag e)
+put_back f (takes_later {c = Some k} (takes_later {c = Some w} t)) (argument e v c) =
+    cut_more (put_back f t c) (λ ps. argument e v)
+put_back f (takes_later {c = Some k} t) (word h c) = cut_more (put_back f t c) (λ ps. word h)
+
+-- so are some pieces
+pub put_back_some : {q r : Roles} {cs ds : Cells} {os : List LinePiece} → CutsOff q r
+    → TakesPieces q cs ds → Cut r ds os → CutAlike q r cs os
+put_back_some {os} f takes_none c = record { now = os; cut = c; alike = refl }
+put_back_some f (takes_more t more) c =
+    let i = put_back_some f more c in
+    let j = put_back f t i.cut in
+    record { now = j.now; cut = j.cut; alike = j.alike ∙ i.alike }
+
+-- what is left of a cut when a piece is taken
+pub take_from : {q r : Roles} {cs ds : Cells} {o : LinePiece} {os : List LinePiece} → CutsOff q r
+    → TakesPiece q cs o ds → Cut r cs os → CutAlike q r ds os
+take_from {q} f (takes_one {k} e) (flag {os} g c) =
+    record { now = os; cut = passed c; alike = sym (others_own q (One k) os (ap is_own_role e)) }
+take_from f (takes_one {k} e) (argument g v c) =
+    absurd (⊎_elim (λ key. cc) (λ there. let h = there.1 in cc) (f.alone k e))
+take_from {q} f (takes_one {k} e) (word {os} h c) =
+    record { now = os; cut = passed c; alike = sym (others_own q (One k) os (ap is_own_role e)) }
+take_from f (takes_two {k} e v) (flag g c) = let h = (f.pair k e).0 in absurd cc
+take_from {q} f (takes_two {k} {w} e v) (argument {os} g u c) = record {
+  now = os;
+  cut = passed (passed c);
+  alike = sym (others_own q (Two k w) os (ap is_own_role e));
+}
+take_from f (takes_two {k} e v) (word h c) = let g = (f.pair k e).1 in absurd cc
+take_from f (takes_later {c = None} t) (passed c) = let i = take_from f t c in
+    record { now = i.now; cut = passed i.cut; alike = i.alike }
+take_from f (takes_later {c = Some k} t) (flag e c) = cut_more (take_from f t c) (λ ps. flag e)
+take_from f (takes_later {c = Some k} (takes_later {c = Some w} t)) (argument e v c) =
+    cut_more (take_from f t c) (λ ps. argument e v)
+take_from f (takes_later {c = Some k} (takes_one {k = w} e')) (argument e v c) =
+    let g = f.value k w e v in absurd cc
+take_from f (takes_later {c = Some k} (takes_two {k = w} e' v')) (argument e v c) =
+    let g = f.value k w e v in absurd cc
+take_from f (takes_later {c = Some k} t) (word h c) = cut_more (take_from f t c) (λ ps. word h)
+
+-- when some pieces are
+pub take_some_from : {q r : Roles} {cs ds : Cells} {os : List LinePiece} → CutsOff q r
+    → TakesPieces q cs ds → Cut r cs os → CutAlike q r ds os
+take_some_from {os} f takes_none c = record { now = os; cut = c; alike = refl }
+take_some_from f (takes_more t more) c =
+    let j = take_from f t c in
+    let i = take_some_from f more j.cut in
+    record { now = i.now; cut = i.cut; alike = i.alike ∙ j.alike }
 
 -- the pieces taken and what is left are told by the cells
 pub one_take : {q : Roles} {cs ds es : Cells} {os ps : List LinePiece} → Takes q cs os ds
@@ -144,3 +389,397 @@ pub cut_empty : {r : Roles} {cs : Cells} {os : List LinePiece} → Cut r cs os �
 cut_empty at_end e = no_place
 cut_empty (passed c) e = none_here (cut_empty c e)
 cut_empty _ e = absurd cc
+
+-- taking the first piece is taking one
+pub first_takes : {q : Roles} {cs ds : Cells} {o : LinePiece} → TakesFirst q cs o ds
+    → TakesPiece q cs o ds
+first_takes (first_one e) = takes_one e
+first_takes (first_two e v) = takes_two e v
+first_takes (first_later n t) = takes_later (first_takes t)
+
+-- a key and its value are one piece
+pub pair_pieces : {q : Roles} {k w : Arg} (cs : Cells) → IsNamed q → q k ≡ WithNext
+    → is_value w ≡ true → pieces q (Some k ∷ (Some w ∷ cs)) ≡ Two k w ∷ pieces q cs
+pair_pieces {q} {k} {w} cs n e v =
+    let a = begin_at k (Some w ∷ cs) (pieces q (Some w ∷ cs)) e in
+    let b = begin_at w cs (pieces q cs) (value_foreign n v) in
+    let c = ap (λ b. if b then Two k w else One k) v in
+    cc
+
+-- The first piece heads the list.
+pub first_pieces : (q : Roles) {cs ds : Cells} {o : LinePiece} → IsNamed q → TakesFirst q cs o ds
+    → pieces q cs ≡ o ∷ pieces q ds
+first_pieces q n (first_one {k} {cs} e) = begin_at k cs (pieces q cs) e
+first_pieces q n (first_two {cs} e v) = pair_pieces cs n e v
+first_pieces q n (first_later {c = None} h t) = first_pieces q n t
+first_pieces q n (first_later {c = Some k} {cs} {ds} h t) =
+    let a = begin_at k cs (pieces q cs) h in
+    let b = begin_at k ds (pieces q ds) h in
+    let i = first_pieces q n t in
+    cc
+
+-- what was taken was there
+pub takes_nonempty : {q : Roles} {cs ds : Cells} {o : LinePiece} → TakesPiece q cs o ds
+    → pieces q cs ≡ [] → ⊥
+takes_nonempty {q} (takes_one {k} {cs} e) h = let f = nil_foreign (q k) k cs (pieces q cs) h in cc
+takes_nonempty {q} (takes_two {k} {w} {cs} e v) h =
+    let f = nil_foreign (q k) k (Some w ∷ cs) (pieces q (Some w ∷ cs)) h in cc
+takes_nonempty (takes_later {c = None} t) h = takes_nonempty t h
+takes_nonempty {q} (takes_later {c = Some k} {cs} t) h = takes_nonempty t (nil_rest (q k) k cs h)
+
+-- where another piece than the first is taken, that stays the first
+pub head_stays : {q : Roles} {cs ds : Cells} {taken o : LinePiece} {os : List LinePiece}
+    → IsNamed q → TakesPiece q cs taken ds → pieces q cs ≡ o ∷ os → (taken ≡ o → ⊥)
+    → (ps : List LinePiece) × (pieces q ds ≡ o ∷ ps)
+head_stays {q} n (takes_one {k} {cs} e) h other =
+    let a = begin_at k cs (pieces q cs) e in absurd (other cc)
+head_stays n (takes_two {cs} e v) h other = let a = pair_pieces cs n e v in absurd (other cc)
+head_stays n (takes_later {c = None} t) h other = head_stays n t h other
+head_stays {q} {o} {os} n (takes_later {c = Some k} {cs} {ds} t) h other =
+    by_role (q k) refl (λ e. head_stays n t e other)
+  where
+    by_role : (x : Role) → q k ≡ x
+        → (pieces q cs ≡ o ∷ os → (ps : List LinePiece) × (pieces q ds ≡ o ∷ ps))
+        → (ps : List LinePiece) × (pieces q (Some k ∷ ds) ≡ o ∷ ps)
+    by_role Foreign e on =
+        let i = on (sym (begin_at k cs (pieces q cs) e) ∙ h) in
+        (i.0, begin_at k ds (pieces q ds) e ∙ i.1)
+    by_role Alone e on =
+        let a = begin_at k cs (pieces q cs) e in
+        let b = begin_at k ds (pieces q ds) e in
+        (pieces q ds, cc)
+    by_role WithNext e on =
+        let a = begin_at k cs (pieces q cs) e in
+        let b = begin_at k ds (pieces q ds) e in
+        let c = same_next k n t in
+        (pieces q ds, cc)
+
+-- the items of two fields together
+pub record Union (qa qb r : Roles) : Type 0 where
+  pub apart : Apart qa qb
+  pub named_left : IsNamed qa
+  pub named_right : IsNamed qb
+  pub left : (k : Arg) → is_own_role (qa k) ≡ true → r k ≡ qa k
+  pub right : (k : Arg) → is_own_role (qb k) ≡ true → r k ≡ qb k
+  pub none : (k : Arg) → qa k ≡ Foreign → qb k ≡ Foreign → r k ≡ Foreign
+
+-- the items of two fields, in the other order
+pub swap_union : {qa qb r : Roles} → Union qa qb r → Union qb qa r
+swap_union u = record {
+  apart = record { left = u.apart.right; right = u.apart.left };
+  named_left = u.named_right;
+  named_right = u.named_left;
+  left = u.right;
+  right = u.left;
+  none = λ k a b. u.none k b a;
+}
+
+-- the items of two fields that share none
+pub either_union : {qa qb : Roles} → IsNamed qa → IsNamed qb → Apart qa qb
+    → Union qa qb (either qa qb)
+either_union {qa} {qb} na nb a = record {
+  apart = a;
+  named_left = na;
+  named_right = nb;
+  left = λ k e. either_own (qa k) (qb k) (qa k) refl e;
+  right = λ k e. either_right (qa k) (a.right k e);
+  none = λ k e f. either_right (qa k) e ∙ f;
+}
+
+-- they are keys
+pub union_named : {qa qb r : Roles} → Union qa qb r → IsNamed r
+union_named u = record {
+  only_keys = λ k h. u.none k (u.named_left.only_keys k h) (u.named_right.only_keys k h);
+}
+
+-- an item of the first keeps its role
+left_role : {qa qb r : Roles} {k : Arg} {x : Role} → Union qa qb r → is_own_role x ≡ true → qa k ≡ x
+    → r k ≡ x
+left_role {k} u h e = u.left k (ap is_own_role e ∙ h) ∙ e
+
+-- what the first takes both take
+pub takes_left : {qa qb r : Roles} {cs ds : Cells} {o : LinePiece} → Union qa qb r
+    → TakesPiece qa cs o ds → TakesPiece r cs o ds
+takes_left u (takes_one e) = takes_one (left_role u refl e)
+takes_left u (takes_two e v) = takes_two (left_role u refl e) v
+takes_left u (takes_later t) = takes_later (takes_left u t)
+
+-- a piece is its key's
+pub own_next : (q : Roles) (k : Arg) (cs : Cells) → is_own q (with_next k cs) ≡ is_own_role (q k)
+own_next q k (Some w ∷ cs) =
+    elim (is_value w) as (λ b. is_own q (if b then Two k w else One k) ≡ is_own_role (q k))
+    [ true ↦ refl | false ↦ refl ]
+own_next q k _ = refl
+
+-- the key of the piece that an item begins
+head_key : (q : Roles) (x : Role) (k : Arg) (cs : Cells) (os : List LinePiece) (o : LinePiece)
+    {ps : List LinePiece} → is_own_role x ≡ true → begin_piece x k cs os ≡ o ∷ ps
+    → is_own q o ≡ is_own_role (q k)
+head_key q Foreign k cs os o h e = absurd cc
+head_key q Alone k cs os o h e = let d : One k ≡ o = cc in ap (is_own q) (sym d)
+head_key q WithNext k cs os o h e =
+    let d : with_next k cs ≡ o = cc in ap (is_own q) (sym d) ∙ own_next q k cs
+
+-- what an item is to each of two fields
+pub data Belongs (qa qb r : Roles) (k : Arg) : Type 0 where
+  to_first : is_own_role (qa k) ≡ true → r k ≡ qa k → qb k ≡ Foreign → Belongs qa qb r k
+  to_second : is_own_role (qb k) ≡ true → r k ≡ qb k → qa k ≡ Foreign → Belongs qa qb r k
+  to_none : qa k ≡ Foreign → qb k ≡ Foreign → r k ≡ Foreign → Belongs qa qb r k
+
+-- an item belongs to one of both, or to neither
+pub belongs : {qa qb r : Roles} {k : Arg} → Union qa qb r → Belongs qa qb r k
+belongs {qa} {qb} {r} {k} u = by_role (qa k) (qb k) refl refl
+  where
+    by_role : (x y : Role) → qa k ≡ x → qb k ≡ y → Belongs qa qb r k
+    by_role Foreign Foreign e f = to_none e f (u.none k e f)
+    by_role Foreign _ e f = let h = ap is_own_role f in to_second h (u.right k h) e
+    by_role _ y e f = let h = ap is_own_role e in to_first h (u.left k h) (u.apart.left k h)
+
+-- the first piece of both is the first piece of its owner
+abbrev pub HeadOf : Roles → Cells → LinePiece → Type 0
+HeadOf q cs o = (tail : List LinePiece) × (pieces q cs ≡ o ∷ tail) × (is_own q o ≡ true)
+
+-- the first piece of both is that of one of them
+pub owner : {qa qb r : Roles} (cs : Cells) {o : LinePiece} {os : List LinePiece} → Union qa qb r
+    → pieces r cs ≡ o ∷ os → HeadOf qa cs o ⊎ HeadOf qb cs o
+owner [] u e = absurd cc
+owner (None ∷ cs) u e = owner cs u e
+owner {qa} {qb} {r} (Some k ∷ cs) {o} u e =
+    by_owner (belongs u) (λ h. owner cs u (sym (begin_at k cs (pieces r cs) h) ∙ e))
+  where
+    own_head : (q : Roles) (x : Role) → q k ≡ x → r k ≡ x → is_own_role x ≡ true
+        → HeadOf q (Some k ∷ cs) o
+    own_head q Foreign f g h = absurd cc
+    own_head q Alone f g h =
+        let a = begin_at k cs (pieces r cs) g in
+        let b = begin_at k cs (pieces q cs) f in
+        let d : One k ≡ o = cc in
+        (pieces q cs, cc, ap (is_own q) (sym d) ∙ ap is_own_role f)
+    own_head q WithNext f g h =
+        let a = begin_at k cs (pieces r cs) g in
+        let b = begin_at k cs (pieces q cs) f in
+        let d : with_next k cs ≡ o = cc in
+        (pieces q cs, cc, ap (is_own q) (sym d) ∙ (own_next q k cs ∙ ap is_own_role f))
+
+    by_owner : Belongs qa qb r k → (r k ≡ Foreign → HeadOf qa cs o ⊎ HeadOf qb cs o)
+        → HeadOf qa (Some k ∷ cs) o ⊎ HeadOf qb (Some k ∷ cs) o
+    by_owner (to_first h g f) i = inl (own_head qa (qa k) refl g h)
+    by_owner (to_second h g f) i = inr (own_head qb (qb k) refl g h)
+    by_owner (to_none f g h) i =
+        ⊎_elim (λ a. inl ((a.0, begin_at k cs (pieces qa cs) f ∙ a.1, a.2)))
+        (λ b. inr ((b.0, begin_at k cs (pieces qb cs) g ∙ b.1, b.2))) (i h)
+
+-- An item that isn't the first field's own goes before the first piece only where it isn't the
+-- other's either.
+not_either : {qa qb r : Roles} {k : Arg} (cs : Cells) {o : LinePiece} {os : List LinePiece}
+    → Union qa qb r → qa k ≡ Foreign → is_own qa o ≡ true → pieces r (Some k ∷ cs) ≡ o ∷ os
+    → (r k ≡ Foreign) × (pieces r cs ≡ o ∷ os)
+not_either {qa} {qb} {r} {k} cs {o} {os} u f h e = by_owner (belongs u)
+  where
+    by_owner : Belongs qa qb r k → (r k ≡ Foreign) × (pieces r cs ≡ o ∷ os)
+    by_owner (to_first g x y) = let z = ap is_own_role f in absurd cc
+    by_owner (to_second g x y) =
+        let d = head_key qa (r k) k cs (pieces r cs) o (ap is_own_role x ∙ g) e in
+        let z = ap is_own_role f in
+        absurd cc
+    by_owner (to_none x y z) = (z, sym (begin_at k cs (pieces r cs) z) ∙ e)
+
+-- Where the first piece of both is the first field's, the first field's first is the first of both.
+pub first_mine : {qa qb r : Roles} {cs ds : Cells} {oa o : LinePiece} {os : List LinePiece}
+    → Union qa qb r → pieces r cs ≡ o ∷ os → is_own qa o ≡ true → TakesFirst qa cs oa ds
+    → TakesFirst r cs oa ds
+first_mine u e h (first_one x) = first_one (left_role u refl x)
+first_mine u e h (first_two x v) = first_two (left_role u refl x) v
+first_mine u e h (first_later {c = None} n t) = first_later tt (first_mine u e h t)
+first_mine u e h (first_later {c = Some k} {cs} n t) =
+    let d = not_either cs u n h e in
+    first_later d.0 (first_mine u d.1 h t)
+
+-- where neither has a piece both have none
+pub both_nil : {qa qb r : Roles} (cs : Cells) → Union qa qb r → pieces qa cs ≡ []
+    → pieces qb cs ≡ [] → pieces r cs ≡ []
+both_nil [] u e f = refl
+both_nil (None ∷ cs) u e f = both_nil cs u e f
+both_nil {qa} {qb} {r} (Some k ∷ cs) u e f =
+    begin_at k cs (pieces r cs)
+    (u.none k (nil_foreign (qa k) k cs (pieces qa cs) e) (nil_foreign (qb k) k cs (pieces qb cs) f))
+    ∙ both_nil cs u (nil_rest (qa k) k cs e) (nil_rest (qb k) k cs f)
+
+-- the left one took the leftmost place that only one of the two took
+pub data TookLeft : Cells → Cells → Type 0 where
+  left_here : {x : Arg} {cs ds : Cells} → TookLeft (None ∷ cs) (Some x ∷ ds)
+  left_later : {c d : Option Arg} {cs ds : Cells} → c ≡ d → TookLeft cs ds
+      → TookLeft (c ∷ cs) (d ∷ ds)
+
+-- If the first piece of both is the second field's and it took that, the first field took nothing
+-- further left.
+pub not_left : {qa qb r : Roles} {cs ca cb : Cells} {oa ob o : LinePiece} {os : List LinePiece}
+    → Union qa qb r → pieces r cs ≡ o ∷ os → is_own qb o ≡ true → TakesPiece qa cs oa ca
+    → TakesFirst qb cs ob cb → TookLeft ca cb → ⊥
+not_left u e h (takes_later t) (first_one x) (left_later same l) = cc
+not_left u e h (takes_later t) (first_two x v) (left_later same l) = cc
+not_left u e h (takes_later {c = None} t) (first_later n s) (left_later same l) =
+    not_left u e h t s l
+not_left {qa} {qb} {r} u e h (takes_later {c = Some k} {cs} t) (first_later n s)
+    (left_later same l) = not_left u (not_either cs (swap_union u) n h e).1 h t s l
+not_left u e h (takes_one {k} x) (first_one y) l = let z = u.apart.left k (ap is_own_role x) in cc
+not_left u e h (takes_one {k} x) (first_two y v) l = let z = u.apart.left k (ap is_own_role x) in cc
+not_left {qa} {qb} {r} u e h (takes_one {k} {cs} x) (first_later n s) l =
+    let d = not_either cs (swap_union u) n h e in
+    let f = u.left k (ap is_own_role x) in
+    let g = d.0 in
+    cc
+not_left u e h (takes_two {k} x w) (first_one y) l = let z = u.apart.left k (ap is_own_role x) in cc
+not_left u e h (takes_two {k} x w) (first_two y v) l =
+    let z = u.apart.left k (ap is_own_role x) in cc
+not_left {qa} {qb} {r} u e h (takes_two {k} {w = j} {cs} x w) (first_later n s) l =
+    let d = not_either (Some j ∷ cs) (swap_union u) n h e in
+    let f = u.left k (ap is_own_role x) in
+    let g = d.0 in
+    cc
+
+-- Two fields never leave the same items.
+begin_length : (x : Role) (k : Arg) (cs ds : Cells) (os ps : List LinePiece) → length os < length ps
+    → length (begin_piece x k cs os) < length (begin_piece x k ds ps)
+begin_length Foreign k cs ds os ps h = h
+begin_length _ k cs ds os ps h = omega arith
+
+-- taking a piece leaves fewer
+takes_shorter : {q : Roles} {cs ds : Cells} {o : LinePiece} → IsNamed q → TakesPiece q cs o ds
+    → length (pieces q ds) < length (pieces q cs)
+takes_shorter {q} n (takes_one {k} {cs} e) =
+    let d = ap length (begin_at k cs (pieces q cs) e) in omega arith
+takes_shorter n (takes_two {cs} e v) = let d = ap length (pair_pieces cs n e v) in omega arith
+takes_shorter n (takes_later {c = None} t) = takes_shorter n t
+takes_shorter {q} n (takes_later {c = Some k} {cs} {ds} t) =
+    begin_length (q k) k ds cs (pieces q ds) (pieces q cs) (takes_shorter n t)
+
+-- two that share no item never leave the same cells
+pub never_same : {qa qb r : Roles} {cs ca cb : Cells} {oa ob : LinePiece} → Union qa qb r
+    → TakesPiece qa cs oa ca → TakesPiece qb cs ob cb → ca ≡ cb → ⊥
+never_same {qa} u s t e =
+    let a = takes_shorter u.named_left s in
+    let b = ap length (keeps_other u.named_right u.named_left
+    (record { left = u.apart.right; right = u.apart.left }) t) in
+    let c = ap (λ z. length (pieces qa z)) e in
+    omega arith
+
+-- A cut line holds together.
+module _ (r : Roles) (n : IsNamed r) where
+  -- an argument's key with its value on a line that is cut on either side of them
+  has_its_value : {before after : Cells} {os : List LinePiece} {k : Arg} (value : Arg)
+      {behind : Cells} {earlier later : List LinePiece} → r k ≡ WithNext → is_value value ≡ true
+      → after ≡ Some value ∷ behind → Cut r before earlier → Cut r behind later
+      → os ≡ earlier ++ (Two k value ∷ later) → HasItsValue r before k after os
+  has_its_value {k} value {behind} {earlier} {later} e v next cut_before cut_behind is = record {
+    value = value;
+    may_be_one = v;
+    behind = behind;
+    next = next;
+    earlier = earlier;
+    later = later;
+    cut_before = cut_before;
+    cut_behind = cut_behind;
+    one_piece = is;
+    words = ap (others r) is ∙ (filter-append (λ o. not (is_own r o)) earlier (Two k value ∷ later)
+        ∙ ap (λ z. others r earlier ++ z) (others_own r (Two k value) later (ap is_own_role e)));
+  }
+
+  -- what an item of a cut line is: a flag's key, an argument's key, its value, or a word
+  data Item (before : Cells) (k : Arg) (after : Cells) (os : List LinePiece) : Type 0 where
+    flag_key : r k ≡ Alone → Item before k after os
+    argument_key : r k ≡ WithNext → HasItsValue r before k after os → Item before k after os
+    value_of_key : is_value k ≡ true → EndsInKey r before → Item before k after os
+    positional : is_positional k ≡ true → Item before k after os
+
+  -- it is the same where more stands before it
+  further : (front : Cells) (ps : List LinePiece)
+      → ((cs : Cells) (os : List LinePiece) → Cut r cs os → Cut r (front ++ cs) (ps ++ os))
+      → {before : Cells} {k : Arg} {after : Cells} {os : List LinePiece} → Item before k after os
+      → Item (front ++ before) k after (ps ++ os)
+  further front ps c (flag_key e) = flag_key e
+  further front ps c {before} {k} (argument_key e h) =
+      argument_key e (has_its_value h.value e h.may_be_one
+      h.next (c before h.earlier h.cut_before) h.cut_behind
+      (ap (λ z. ps ++ z) h.one_piece ∙ sym (append_assoc ps h.earlier (Two k h.value ∷ h.later))))
+  further front ps c (value_of_key v i) =
+      value_of_key v (record {
+        before = front ++ i.before;
+        key = i.key;
+        is = ap (λ z. front ++ z) i.is ∙ sym (append_assoc front i.before (Some i.key ∷ []));
+        wants_value = i.wants_value;
+      })
+  further front ps c (positional h) = positional h
+
+  -- each item of a cut line is one of these
+  item_of : (before : Cells) {k : Arg} {after : Cells} {os : List LinePiece}
+      → Cut r (before ++ (Some k ∷ after)) os → Item before k after os
+  item_of [] (flag e c) = flag_key e
+  item_of [] (argument {w} e v c) = argument_key e (has_its_value w e v refl at_end c refl)
+  item_of [] (word h c) = positional h
+  item_of (None ∷ b) (passed c) = further (None ∷ []) [] (λ cs ps d. passed d) (item_of b c)
+  item_of (Some j ∷ []) (flag e c) =
+      further (Some j ∷ []) (One j ∷ []) (λ cs ps d. flag e d) (item_of [] c)
+  item_of (Some j ∷ []) (argument e v c) =
+      value_of_key v (record { before = []; key = j; is = refl; wants_value = e })
+  item_of (Some j ∷ []) (word h c) =
+      further (Some j ∷ []) (One j ∷ []) (λ cs ps d. word h d) (item_of [] c)
+  item_of (Some j ∷ (None ∷ b)) (flag e c) =
+      further (Some j ∷ []) (One j ∷ []) (λ cs ps d. flag e d) (item_of (None ∷ b) c)
+  item_of (Some j ∷ (None ∷ b)) (word h c) =
+      further (Some j ∷ []) (One j ∷ []) (λ cs ps d. word h d) (item_of (None ∷ b) c)
+  item_of (Some j ∷ (Some w ∷ b)) (flag e c) =
+      further (Some j ∷ []) (One j ∷ []) (λ cs ps d. flag e d) (item_of (Some w ∷ b) c)
+  item_of (Some j ∷ (Some w ∷ b)) (argument e v c) =
+      further (Some j ∷ (Some w ∷ [])) (Two j w ∷ []) (λ cs ps d. argument e v d) (item_of b c)
+  item_of (Some j ∷ (Some w ∷ b)) (word h c) =
+      further (Some j ∷ []) (One j ∷ []) (λ cs ps d. word h d) (item_of (Some w ∷ b) c)
+
+  -- a key is one of the record's
+  own_key : {before after : Cells} {os : List LinePiece} {k : Arg} → Item before k after os
+      → is_key k ≡ true → is_own_role (r k) ≡ true
+  own_key (flag_key e) h = ap is_own_role e
+  own_key (argument_key e i) h = ap is_own_role e
+  own_key {k} (value_of_key v i) h = let f = value_not_key k v in cc
+  own_key {k} (positional p) h = let f = word_not_key k p in cc
+
+  -- an argument's key has its value
+  own_value : {before after : Cells} {os : List LinePiece} {k : Arg} → Item before k after os
+      → r k ≡ WithNext → HasItsValue r before k after os
+  own_value (flag_key e) h = cc
+  own_value (argument_key e i) h = i
+  own_value (value_of_key v i) h = let f = value_foreign n v in cc
+  own_value (positional p) h = let f = word_foreign n p in cc
+
+  -- an attached value stands behind such a key
+  behind_key : {before after : Cells} {os : List LinePiece} {text : List ℕ}
+      → Item before (ArgWord text) after os → EndsInKey r before
+  behind_key {text} (flag_key e) = let f = n.only_keys (ArgWord text) refl in cc
+  behind_key {text} (argument_key e i) = let f = n.only_keys (ArgWord text) refl in cc
+  behind_key (value_of_key v i) = i
+  behind_key (positional p) = cc
+
+  -- what begins with none of the keys are words
+  words_alone : {cs : Cells} {os : List LinePiece} → Cut r cs os
+      → AllPass is_word_alone (others r os)
+  words_alone at_end = All-nil (λ o. is_word_alone o ≡ true)
+  words_alone (passed c) = words_alone c
+  words_alone (flag {k} {os} e c) = rw (others_own r (One k) os (ap is_own_role e)) (words_alone c)
+  words_alone (argument {k} {w} {os} e v c) =
+      rw (others_own r (Two k w) os (ap is_own_role e)) (words_alone c)
+  words_alone (word {w} {os} h c) =
+      rw (others_foreign r os (ap is_own_role (word_foreign n h)))
+      (All-cons (λ o. is_word_alone o ≡ true) (One w) (others r os) h (words_alone c))
+
+  -- a cut line holds together
+  pub cut_holds_together : (cs : Cells) (os : List LinePiece) → Cut r cs os → HoldsTogether r cs os
+  cut_holds_together cs os c = record {
+    keys = λ before after k e. own_key (at e);
+    values = λ before after k e. own_value (at e);
+    attached = λ before after text e. behind_key (at e);
+    words = words_alone c;
+  }
+    where
+      at : {before after : Cells} {k : Arg} → cs ≡ before ++ (Some k ∷ after)
+          → Item before k after os
+      at {before} e = item_of before (rw (← e) c)

@@ -1,12 +1,12 @@
 -- What a field takes of pieces, and what it leaves.
-use Rattle.std.proofs.Common.{◌≡◌, Bool, true, false, List, [], ◌∷◌, ap, refl, if◌then◌else◌, ◌++◌}
-use Rattle.std.proofs.Common.{◌&&◌, ◌∙◌, sym, not, take, drop, length, append-nil}
+use Rattle.std.proofs.Common.{Bool, List, [], ap, false, if◌then◌else◌, refl, true, ◌&&◌, ◌++◌, ◌≡◌}
+use Rattle.std.proofs.{Common.take, lemmas.List.Sums.take_while-cons, lemmas.List.take-append-drop}
+use Rattle.std.proofs.{Common.append-nil, Math.Seq.drop-append_seam, lemmas.List.append_assoc}
+use Rattle.std.proofs.Common.{drop, length, not, sym, ◌∙◌, ◌∷◌}
 use Rattle.std.specs.List.{position_or_len}
-use Rattle.std.proofs.lemmas.List.{append_assoc, take-append-drop}
-use Rattle.std.proofs.{Math.Seq.drop-append_seam, lemmas.List.Sums.take_while-cons}
-use Rattle.bpaf_exact.specs.Flat.{FieldKind, ByName, OneWord, EachWord, back, front, NoKeysLeft}
-use Rattle.bpaf_exact.specs.Pieces.{Cells, LinePiece, Roles, pieces}
-use Rattle.bpaf_exact.specs.{Flat.is_behind, Single.repeated}
+use Rattle.bpaf_exact.specs.{Flat.FieldKind, Flat.NoKeysLeft, Pieces.LinePiece, Single.repeated}
+use Rattle.bpaf_exact.specs.{Flat.EachWord, Flat.OneWord, Flat.front, Flat.is_behind, Pieces.pieces}
+use Rattle.bpaf_exact.specs.{Flat.ByName, Flat.back, Pieces.Cells, Pieces.Roles}
 
 -- a list that something stands in isn't empty
 pub never_nil : {T : Type 0} (before : List T) (x : T) (behind : List T)

@@ -1,16 +1,23 @@
--- Fields whose keys are apart have no item in common.
-use Rattle.std.proofs.Common.{◌≡◌, Bool, true, false, not, ◌||◌, List, [], ◌∷◌, ◌++◌, refl, ◌==◌}
-use Rattle.std.proofs.Common.{sym, ap, ◌∙◌, ⊎_elim, bytes_eq}
-use Rattle.std.specs.List.{list_all, list_any}
-use Rattle.std.proofs.lemmas.Bool.{eqb-true, false_from_ne_true, and_parts, or_cases}
-use Rattle.std.proofs.{lemmas.List.Folds.list_any-append, lemmas.Slice.Eq.bytes_eq-Decides}
+-- Fields whose keys are apart have no item in common, and pieces that are shared out by roles are
+-- shared out by names.
+use Rattle.std.proofs.Common.{Bool, List, [], append-nil, ap₂, bytes_eq, false, if◌then◌else◌, refl}
+use Rattle.std.proofs.Common.{ap, not, sym, true, true≢false, ◌&&◌, ◌++◌, ◌==◌, ◌||◌, ◌∙◌, ◌∷◌, ◌≡◌}
+use Rattle.std.proofs.lemmas.Bool.{and_from, and_parts, both_ways, eqb-true, false_from_ne_true}
+use Rattle.std.proofs.{lemmas.List.Elements.filter-append, lemmas.List.Folds.list_any-append}
+use Rattle.std.proofs.{lemmas.Bool.not-true, lemmas.Bool.or_cases, lemmas.Slice.Eq.bytes_eq-Decides}
+use Rattle.std.proofs.{Common.⊎_elim, lemmas.Bool.or_left, lemmas.Bool.or_right}
+use Rattle.std.specs.{List.list_all, List.list_any, Prelude.filter}
 use Rattle.bpaf_doc.specs.Names.{Names}
-use Rattle.bpaf_base.specs.declared.arg.Arg.{Arg}
-use Rattle.bpaf_base.specs.declared.arg.Arg.TheVariants.{Short, Long}
-use Rattle.bpaf_base.specs.Items.{is_among, is_text_among, is_key_of}
-use Rattle.bpaf_exact.specs.Pieces.{Role, Foreign, Roles, is_own_role, is_key, Apart, either}
-use Rattle.bpaf_exact.specs.Pieces.{either_role}
-use Rattle.bpaf_exact.specs.Names.{is_key_of_any, are_apart, are_all_apart, Owns}
+use Rattle.bpaf_base.specs.declared.arg.Arg.TheVariants.{Long, PosWord, Short, Word}
+use Rattle.bpaf_base.specs.{Items.is_positional, Items.is_text_among, declared.arg.Arg.Arg}
+use Rattle.bpaf_base.specs.Items.{is_among, is_key_of}
+use Rattle.bpaf_exact.specs.Pieces.{Apart, Cells, Cut, LinePiece, One, Role, Roles, Takes, argument}
+use Rattle.bpaf_exact.specs.Pieces.{Foreign, at_end, either, either_role, empty_stays, flag, is_key}
+use Rattle.bpaf_exact.specs.Pieces.{Two, is_own, is_own_role, no_cells, other_stays, others, passed}
+use Rattle.bpaf_exact.specs.{Names.are_all_apart, Pieces.takes_argument, ProgramForm.may_follow}
+use Rattle.bpaf_exact.specs.{Flat.OneWord, Names.are_apart, Names.is_key_of_any, Pieces.takes_flag}
+use Rattle.bpaf_exact.specs.{Pieces.mine, Pieces.word, Says.EachOwn, Says.first_item, Says.unkeyed}
+use Rattle.bpaf_exact.specs.{Names.Owns, Says.Fits, Says.keyed}
 
 -- where a test holds of each element of a list, and another of one, both hold of one
 pub both_hold : {X C : Type 0} (test pick : X → Bool)
@@ -22,21 +29,17 @@ both_hold test pick f (x ∷ xs) all any =
     ⊎_elim (λ here. f x each.0 here) (λ later. both_hold test pick f xs each.1 later)
     (or_cases (pick x) (list_any pick xs) any)
 
--- a test and its opposite don't both hold
-never_both : (b : Bool) → not b ≡ true → b ≡ true → ⊥
-never_both true e f = cc
-never_both false e f = cc
-
 -- an item is a key of at most one of two that are apart
 one_owner : (own others : Names) (k : Arg) → are_apart own others ≡ true → is_key_of own k ≡ true
     → is_key_of others k ≡ true → ⊥
-one_owner own others (Short c attached word) apart e f =
+one_owner own others (Short c attached whole) apart e f =
     both_hold (λ name. not (is_among others.shorts name)) (λ name. name == c)
-    (λ name t h. never_both (is_among others.shorts name) t (rw (eqb-true name c h) f)) own.shorts
+    (λ name t h. both_ways (is_among others.shorts name) (not-true _ t)
+    (rw (eqb-true name c h) f)) own.shorts
     (and_parts _ _ apart).0 e
-one_owner own others (Long name attached word) apart e f =
+one_owner own others (Long name attached whole) apart e f =
     both_hold (λ other. not (is_text_among others.longs other)) (λ other. bytes_eq other name)
-    (λ other t h. never_both (is_text_among others.longs other) t
+    (λ other t h. both_ways (is_text_among others.longs other) (not-true _ t)
     (rw ((bytes_eq-Decides other name).0 h) f)) own.longs (and_parts _ _ apart).1 e
 one_owner own others _ apart e f = cc
 
@@ -68,24 +71,278 @@ either_own : (x y : Role) → is_own_role (either_role x y) ≡ (is_own_role x |
 either_own Foreign y = refl
 either_own _ y = refl
 
--- either, where the second holds
-pub or_true : (b : Bool) → (b || true) ≡ true
-or_true true = refl
-or_true false = refl
-
 -- the keys of two fields together
 pub either_owns : {q r : Roles} {keys others : List Names} → Owns q keys → Owns r others
     → Owns (either q r) (keys ++ others)
 either_owns {q} {r} {keys} {others} a b = record {
   own = λ k e. list_any-append (λ names. is_key_of names k) keys others ∙ ⊎_elim
-      (λ (one : is_own_role (q k) ≡ true). ap (λ z. z || is_key_of_any others k) (a.own k one))
-      (λ (other : is_own_role (r k) ≡ true).
-      ap (λ z. is_key_of_any keys k || z) (b.own k other) ∙ or_true (is_key_of_any keys k))
+      (λ (one : is_own_role (q k) ≡ true). or_left _ (is_key_of_any others k) (a.own k one))
+      (λ (other : is_own_role (r k) ≡ true). or_right (is_key_of_any keys k) _ (b.own k other))
       (or_cases (is_own_role (q k)) (is_own_role (r k)) (sym (either_own (q k) (r k)) ∙ e));
 }
 
 -- only keys have names
 pub named_key : (names : Names) (k : Arg) → is_key_of names k ≡ true → is_key k ≡ true
-named_key names (Short c attached word) h = refl
-named_key names (Long name attached word) h = refl
+named_key names (Short c attached whole) h = refl
+named_key names (Long name attached whole) h = refl
 named_key names _ h = absurd cc
+
+-- two tests that hold of the same are one
+same_truth : (a b : Bool) → (a ≡ true → b ≡ true) → (b ≡ true → a ≡ true) → a ≡ b
+same_truth true b f g = sym (f refl)
+same_truth false true f g = g refl
+same_truth false false f g = refl
+
+-- of two tests of which each holds where one of two others does, that don't both hold, each is that
+shared : (a b x y : Bool) → (a || b) ≡ (x || y) → (a ≡ true → x ≡ true) → (b ≡ true → y ≡ true)
+    → (x ≡ true → y ≡ true → ⊥) → (a ≡ x) × (b ≡ y)
+shared true b x y e f g never =
+    let h = f refl in (sym h, same_truth b y g (λ t. absurd (never h t)))
+shared false true x y e f g never =
+    let h = g refl in (same_truth false x f (λ t. absurd (never t h)), sym h)
+shared false false true y e f g never = absurd cc
+shared false false false y e f g never = (refl, e)
+
+-- Filters.
+
+-- of what a test keeps, a second keeps what a third does that holds where both do
+kept_twice : (p q both : LinePiece → Bool) → ((o : LinePiece) → both o ≡ (q o && p o))
+    → (os : List LinePiece) → filter p (filter q os) ≡ filter both os
+kept_twice p q both same [] = refl
+kept_twice p q both same (o ∷ os) = by_test (q o) (same o) (kept_twice p q both same os)
+  where
+    by_test : (b : Bool) → both o ≡ (b && p o) → filter p (filter q os) ≡ filter both os
+        → filter p (if b then (o ∷ filter q os) else filter q os) ≡ filter both (o ∷ os)
+    by_test true e h = ap₂ (λ c z. if c then (o ∷ z) else z) (sym e) h
+    by_test false e h = h ∙ sym (ap (λ c. if c then (o ∷ filter both os) else filter both os) e)
+
+-- what both keep is what one does that never holds without the other
+kept_within : {p q : LinePiece → Bool} → ((o : LinePiece) → p o ≡ true → q o ≡ true)
+    → (os : List LinePiece) → filter p (filter q os) ≡ filter p os
+kept_within {p} {q} part = kept_twice p q p (λ o. same_truth (p o) (q o && p o)
+    (λ e. and_from (q o) (p o) (part o e) e) (λ e. (and_parts (q o) (p o) e).1))
+
+-- where a test never holds nothing is kept
+kept_none : {p : LinePiece → Bool} → ((o : LinePiece) → p o ≡ false) → (os : List LinePiece)
+    → filter p os ≡ []
+kept_none none [] = refl
+kept_none {p} none (o ∷ os) =
+    ap (λ c. if c then (o ∷ filter p os) else filter p os) (none o) ∙ kept_none none os
+
+-- so it is where it never holds of what another kept
+kept_neither : {p q : LinePiece → Bool} → ((o : LinePiece) → q o ≡ true → p o ≡ false)
+    → (os : List LinePiece) → filter p (filter q os) ≡ []
+kept_neither {p} {q} apart os =
+    kept_twice p q (λ o. false) (λ o. sym (false_from_ne_true (q o && p o) (λ e.
+    let h = and_parts (q o) (p o) e in both_ways (p o) (apart o h.0) h.1))) os
+    ∙ kept_none (λ o. refl) os
+
+-- a word is no key
+no_key : (names : List Names) (w : Arg) → is_positional w ≡ true → is_key_of_any names w ≡ false
+no_key [] (Word text) h = refl
+no_key (own ∷ names) (Word text) h = no_key names (Word text) h
+no_key [] (PosWord text) h = refl
+no_key (own ∷ names) (PosWord text) h = no_key names (PosWord text) h
+no_key names _ h = absurd cc
+
+-- a piece is one's own by its first item
+own_first : (r : Roles) (o : LinePiece) → is_own r o ≡ is_own_role (r (first_item o))
+own_first r (One k) = refl
+own_first r (Two k w) = refl
+
+module _ (r : Roles) (names : List Names) where
+  -- where the own pieces are those that begin with a key of one's names, a test keeps the same of
+  -- the one as of the other
+  fits_kept : (f : Bool → Bool) (os : List LinePiece) → Fits names r os
+      → filter (λ o. f (is_own r o)) os ≡ filter (λ o. f (is_key_of_any names (first_item o))) os
+  fits_kept f [] fits = refl
+  fits_kept f (o ∷ os) fits =
+      ap₂ (λ b z. if b then (o ∷ z) else z) (ap f fits.0) (fits_kept f os fits.1)
+
+  -- so they are those,
+  pub mine_keyed : (os : List LinePiece) → Fits names r os → mine r os ≡ keyed names os
+  mine_keyed = fits_kept (λ b. b)
+
+  -- and those of others the rest
+  pub others_unkeyed : (os : List LinePiece) → Fits names r os → others r os ≡ unkeyed names os
+  others_unkeyed = fits_kept not
+
+  module _ (owned : Owns r names) where
+    -- an own piece begins with one
+    own_keyed : (o : LinePiece) → is_own r o ≡ true → is_key_of_any names (first_item o) ≡ true
+    own_keyed o e = owned.own (first_item o) (sym (own_first r o) ∙ e)
+
+    -- pieces that are all one's own do
+    pub own_fit : (os : List LinePiece) → EachOwn r os → Fits names r os
+    own_fit [] all = tt
+    own_fit (o ∷ os) all = (all.0 ∙ sym (own_keyed o all.0), own_fit os all.1)
+
+    -- so do those of a cut by one's keys
+    pub cut_fit : {cs : Cells} {os : List LinePiece} → Cut r cs os → Fits names r os
+    cut_fit at_end = tt
+    cut_fit (passed c) = cut_fit c
+    cut_fit (flag {k} e c) = let own = ap is_own_role e in (own ∙ sym (owned.own k own), cut_fit c)
+    cut_fit (argument {k} e v c) =
+        let own = ap is_own_role e in (own ∙ sym (owned.own k own), cut_fit c)
+    cut_fit (word {w} h c) =
+        let none = no_key names w h in (
+          false_from_ne_true (is_own_role (r w)) (λ e. true≢false (sym (owned.own w e) ∙ none))
+              ∙ sym none,
+          cut_fit c,
+        )
+
+-- of two whose names are apart, each has the pieces that begin with its own
+module _ {q r : Roles} {own behind : List Names} (owned : Owns q own) (owned_behind : Owns r behind)
+    (apart : are_all_apart own behind ≡ true) where
+  -- one of both is one of either
+  either_is : (o : LinePiece) → is_own (either q r) o ≡ (is_own q o || is_own r o)
+  either_is (One k) = either_own (q k) (r k)
+  either_is (Two k w) = either_own (q k) (r k)
+
+  -- each has its own
+  pub both_fits : (os : List LinePiece) → Fits (own ++ behind) (either q r) os
+      → Fits own q os × Fits behind r os
+  both_fits [] fits = (tt, tt)
+  both_fits (o ∷ os) fits =
+      let rest = both_fits os fits.1 in
+      let k = first_item o in
+      let here = shared (is_own q o) (is_own r o) (is_key_of_any own k) (is_key_of_any behind k)
+      (sym (either_is o) ∙ fits.0 ∙ list_any-append (λ names. is_key_of names k) own behind)
+      (own_keyed q own owned o) (own_keyed r behind owned_behind o) (one_list own behind k apart) in
+      ((here.0, rest.0), (here.1, rest.1))
+
+-- the own ones of pieces are all one's own
+pub each_own : (q : Roles) (os : List LinePiece) → EachOwn q (mine q os)
+each_own q [] = tt
+each_own q (o ∷ os) =
+    elim (is_own q o) as (λ b. is_own q o ≡ b → EachOwn q (mine q os)
+    → EachOwn q (if b then (o ∷ mine q os) else mine q os))
+    [ true ↦ λ e all. (e, all) | false ↦ λ e all. all ] refl (each_own q os)
+
+-- so are those taken from cells
+pub taken_own : {q : Roles} {cs ds : Cells} {os : List LinePiece} → Takes q cs os ds → EachOwn q os
+taken_own no_cells = tt
+taken_own (empty_stays t) = taken_own t
+taken_own (other_stays e t) = taken_own t
+taken_own (takes_flag e t) = (ap is_own_role e, taken_own t)
+taken_own (takes_argument e v t) = (ap is_own_role e, taken_own t)
+
+-- where each own item of the one is one of the other, its pieces are among the other's
+pub mine_within : (q r : Roles) → ((k : Arg) → is_own_role (q k) ≡ true → is_own_role (r k) ≡ true)
+    → (os : List LinePiece) → mine q (mine r os) ≡ mine q os
+mine_within q r part =
+    kept_within (λ o e. own_first r o ∙ part (first_item o) (sym (own_first q o) ∙ e))
+
+-- an own item of the first is one of either, and so is one of the second
+pub first_within : (q r : Roles) (k : Arg) → is_own_role (q k) ≡ true
+    → is_own_role (either q r k) ≡ true
+first_within q r k =
+    elim (q k) as (λ x. is_own_role x ≡ true → is_own_role (either_role x (r k)) ≡ true)
+    [ Foreign ↦ λ e. absurd cc | _ ↦ λ e. refl ]
+
+-- the second
+pub second_within : (q r : Roles) (k : Arg) → is_own_role (r k) ≡ true
+    → is_own_role (either q r k) ≡ true
+second_within q r k =
+    elim (q k) as (λ x. is_own_role (r k) ≡ true → is_own_role (either_role x (r k)) ≡ true)
+    [ Foreign ↦ λ e. e | _ ↦ λ e. refl ]
+
+-- what is another's own isn't among one's own
+pub mine_of_others : (p q : Roles) → ((k : Arg) → is_own_role (q k) ≡ true → p k ≡ Foreign)
+    → (os : List LinePiece) → mine q (others p os) ≡ mine q os
+mine_of_others p q apart = kept_within (λ o e. ap not (own_first p o ∙ ap is_own_role
+    (apart (first_item o) (sym (own_first q o) ∙ e))))
+
+module _ (q : Roles) (none : (k : Arg) → is_own_role (q k) ≡ false) where
+  -- where no item is one's own, no piece is,
+  pub mine_none : (os : List LinePiece) → mine q os ≡ []
+  mine_none = kept_none (λ o. own_first q o ∙ none (first_item o))
+
+  -- and each is another's
+  pub others_none : (os : List LinePiece) → others q os ≡ os
+  others_none [] = refl
+  others_none (o ∷ os) =
+      ap (λ c. if not c then (o ∷ others q os) else others q os)
+      (own_first q o ∙ none (first_item o)) ∙ ap (λ z. o ∷ z) (others_none os)
+
+-- where no piece is another's, each is one's own
+pub all_mine : (q : Roles) (os : List LinePiece) → others q os ≡ [] → mine q os ≡ os
+all_mine q [] e = refl
+all_mine q (o ∷ os) e =
+    elim (is_own q o) as (λ b. (if not b then (o ∷ others q os) else others q os) ≡ []
+    → (others q os ≡ [] → mine q os ≡ os) → (if b then (o ∷ mine q os) else mine q os) ≡ o ∷ os)
+    [ true ↦ λ f h. ap (λ z. o ∷ z) (h f) | false ↦ λ f h. cc ] e (all_mine q os)
+
+-- what is neither's is no piece of both
+pub others_both : (q r : Roles) (os : List LinePiece)
+    → others r (others q os) ≡ others (either q r) os
+others_both q r = kept_twice (λ o. not (is_own r o)) (λ o. not (is_own q o))
+    (λ o. not (is_own (either q r) o)) by_piece
+  where
+    by_roles : (x y : Role)
+        → not (is_own_role (either_role x y)) ≡ (not (is_own_role x) && not (is_own_role y))
+    by_roles Foreign y = refl
+    by_roles _ y = refl
+
+    by_piece : (o : LinePiece)
+        → not (is_own (either q r) o) ≡ (not (is_own q o) && not (is_own r o))
+    by_piece (One k) = by_roles (q k) (r k)
+    by_piece (Two k w) = by_roles (q k) (r k)
+
+-- behind a positional field no item is another field's own
+pub none_behind : {r : Roles} (own behind : List Names) → Owns r behind
+    → may_follow (OneWord false) own behind ≡ true → (k : Arg) → is_own_role (r k) ≡ false
+none_behind {r} own [] owned e k =
+    false_from_ne_true (is_own_role (r k)) (λ own. let none = owned.own k own in cc)
+none_behind own (names ∷ behind) owned e k = absurd cc
+
+-- behind a positional field nothing begins with another's key
+pub no_fits : (r : Roles) (own behind : List Names) → may_follow (OneWord false) own behind ≡ true
+    → ((k : Arg) → is_own_role (r k) ≡ false) → (os : List LinePiece) → Fits behind r os
+no_fits r own [] may none [] = tt
+no_fits r own [] may none (o ∷ os) =
+    (own_first r o ∙ none (first_item o), no_fits r own [] may none os)
+no_fits r own (names ∷ behind) may none os = absurd cc
+
+-- all names are apart from none
+pub apart_none : (names : List Names) → are_all_apart names [] ≡ true
+apart_none [] = refl
+apart_none (own ∷ names) = apart_none names
+
+-- Of a product with words, which stands last in another: the pieces that begin with its keys, and
+-- the words that are left to it.
+
+-- what is left of pieces without those of others fits as they do
+pub others_fit : (q r : Roles) (names : List Names) (os : List LinePiece) → Fits names r os
+    → Fits names r (others q os)
+others_fit q r names [] fit = tt
+others_fit q r names (o ∷ os) fit =
+    elim (is_own q o) as (λ b. Fits names r (if not b then (o ∷ others q os) else others q os))
+    [ true ↦ others_fit q r names os fit.1 | false ↦ (fit.0, others_fit q r names os fit.1) ]
+
+-- so do those that it is told of
+pub rest_fit : (r : Roles) (names : List Names) (whole os : List LinePiece) → Fits names r whole
+    → Fits names r os → Fits names r (keyed names whole ++ others r os)
+rest_fit r names [] os fits fit = others_fit r r names os fit
+rest_fit r names (o ∷ whole) os fits fit =
+    elim (is_key_of_any names (first_item o)) as (λ b. Fits names r
+    ((if b then (o ∷ keyed names whole) else keyed names whole) ++ others r os)) [
+      | true ↦ (fits.0, rest_fit r names whole os fits.1 fit)
+      | false ↦ rest_fit r names whole os fits.1 fit
+    ]
+
+-- its own are those of the whole line
+pub mine_rest : (r : Roles) (names : List Names) (whole os : List LinePiece) → Fits names r whole
+    → mine r (keyed names whole ++ others r os) ≡ mine r whole
+mine_rest r names whole os fits =
+    filter-append (is_own r) (keyed names whole) (others r os)
+    ∙ ap₂ ◌++◌ (ap (mine r) (sym (mine_keyed r names whole fits)) ∙ mine_within r r (λ k e. e)
+    whole) (kept_neither (λ o. not-true (is_own r o)) os) ∙ append-nil (mine r whole)
+
+-- and those of others are the words that are left
+pub others_rest : (r : Roles) (names : List Names) (whole os : List LinePiece) → Fits names r whole
+    → others r (keyed names whole ++ others r os) ≡ others r os
+others_rest r names whole os fits =
+    filter-append (λ o. not (is_own r o)) (keyed names whole) (others r os)
+    ∙ ap₂ ◌++◌ (ap (others r) (sym (mine_keyed r names whole fits))
+    ∙ kept_neither (λ o. ap not) whole) (kept_within (λ o e. e) os)

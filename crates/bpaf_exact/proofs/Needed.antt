@@ -1,11 +1,11 @@
 -- Which values need a piece of their own: those of which nothing is said without one.
-use Rattle.std.proofs.Common.{◌≡◌, ◌≢◌, ℕ, Bool, List, [], ◌∷◌, ◌++◌, Option, None, refl, sym, ◌∙◌}
-use Rattle.bpaf_exact.specs.Says.{Said, FlagSays, says_present, says_absent, ArgumentSays}
-use Rattle.bpaf_exact.specs.Says.{says_variable, says_variable_text, says_text, says_last_text}
-use Rattle.bpaf_exact.specs.Says.{MadeSays, FrontSays, RepeatSays, says_in_turn, says_alone}
-use Rattle.bpaf_exact.specs.{Says.LastSays, Pieces.LinePiece, Pieces.Two, Single.Own}
-use Rattle.bpaf_exact.specs.{Single.own_none, Single.own_more, Wrappers.Closure}
+use Rattle.std.proofs.Common.{Bool, List, None, Option, [], refl, sym, ℕ, ◌++◌, ◌∙◌, ◌∷◌, ◌≡◌, ◌≢◌}
 use Rattle.bpaf_exact.proofs.Fronts.{never_nil}
+use Rattle.bpaf_exact.specs.Says.{ArgumentSays, Said, says_absent, says_present, says_variable_text}
+use Rattle.bpaf_exact.specs.{Pieces.Two, Says.says_in_turn, Says.says_last_text, Says.says_variable}
+use Rattle.bpaf_exact.specs.{Pieces.LinePiece, Says.RepeatSays, Says.says_alone, Wrappers.Closure}
+use Rattle.bpaf_exact.specs.{Says.FrontSays, Says.says_text, Single.own_more, Single.own_none}
+use Rattle.bpaf_exact.specs.{Says.FlagSays, Says.LastSays, Says.MadeSays, Single.Own}
 
 -- no value says so of no piece
 pub record NeedsPiece {T : Type 0} (said : Said T) : Type 0 where

@@ -8,9 +8,9 @@ use Rattle.bpaf_base.specs.Items.{item_text}
 use Rattle.bpaf_line.specs.Situation.{Context}
 use Rattle.bpaf_text.specs.Named.{KeyWithValue, Named as Key}
 use Rattle.bpaf_laws.specs.{Environment.first_set, Reading.Outcome, Repeat.is_nil}
-use Rattle.bpaf_exact.proofs.{ProgramForm.runs_exactly, Repeat.own_nil, Wrappers.alternative_single}
-use Rattle.bpaf_exact.proofs.{Arguments.last_same, ProgramForm.record_law, ProgramForm.whole_law}
-use Rattle.bpaf_exact.proofs.{Commands.none_opens, Cuts.one_cut, Cuts.one_take, Cuts.read_cut}
+use Rattle.bpaf_exact.proofs.{Cuts.one_take, ProgramForm.runs_exactly, Wrappers.alternative_single}
+use Rattle.bpaf_exact.proofs.{Commands.none_opens, ProgramForm.record_law, ProgramForm.whole_law}
+use Rattle.bpaf_exact.proofs.{Cuts.one_cut, Cuts.read_cut, Leaves.last_same, Wrappers.own_nil}
 use Rattle.bpaf_exact.specs.Leaves.{ArgumentValue, FlagValue, WordValue, argument_field, flag_field}
 use Rattle.bpaf_exact.specs.Leaves.{argument_group, argument_roles, flag_roles, key_field, word_by}
 use Rattle.bpaf_exact.specs.OneView.{Alike, HasOneView, LooksLike, OneGroup, RunsToOne, pair_view}

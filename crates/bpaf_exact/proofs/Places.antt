@@ -1,14 +1,27 @@
--- From places to cells: the first place that is wanted, and what is left when it is taken.
-use Rattle.std.proofs.Common.{◌≡◌, ◌≢◌, ℕ, suc, zero, ◌<◌, Bool, true, false, not, ◌&&◌, List, []}
-use Rattle.std.proofs.Common.{◌∷◌, Option, Some, None, refl, ap, ap₂, ◌∙◌, if◌then◌else◌, arith}
-use Rattle.bpaf_base.specs.declared.arg.Arg.{Arg}
-use Rattle.bpaf_line.specs.Situation.{Situation, is_open, is_taken, in_scope, item_at, take_place}
-use Rattle.bpaf_line.specs.Taking.{open_item}
+-- From places to cells: the first place that is wanted, its piece, and what is left when it is
+-- taken; and how many items are present.
+use Rattle.std.proofs.Common.{Bool, List, None, Option, Some, [], add-one, ap, arith, if◌then◌else◌}
+use Rattle.std.proofs.Common.{ap₂, false, length, not, option_and_then, refl, suc, true, zero, ◌&&◌}
+use Rattle.std.proofs.Common.{sym, ℕ, ◌+◌, ◌<◌, ◌||◌, ◌∙◌, ◌∷◌, ◌≡◌, ◌≢◌, ◌≤◌}
+use Rattle.std.proofs.lemmas.Bool.{and_right, both_ways, false_from_ne_true, true_from_ne_false}
+use Rattle.std.specs.Option.{is_some, option_map_or}
+use Rattle.bpaf_doc.specs.Names.{Names}
+use Rattle.bpaf_base.specs.declared.arg.Arg.TheVariants.{ArgWord, Word}
+use Rattle.bpaf_base.specs.{Items.any_item, Items.is_key_of, Items.value_text, declared.arg.Arg.Arg}
+use Rattle.bpaf_base.specs.Items.{item_text}
+use Rattle.bpaf_index.proofs.Counts.{count_below-same, count_below-some}
+use Rattle.bpaf_line.proofs.{Matches.open_has_item, Matches.open_item_there, Places.open_in_line}
 use Rattle.bpaf_line.proofs.Places.{taken_here, taken_other, taken_stays}
-use Rattle.bpaf_exact.specs.Pieces.{Cells, Alone, WithNext, Roles, LinePiece, One, Two, is_value}
-use Rattle.bpaf_exact.specs.Alternative.{NotOwn, TakesFirst, first_one, first_two, first_later}
-use Rattle.bpaf_exact.specs.{Pieces.with_next, Pieces.pieces, Flat.first_cells, Flat.Steady}
-use Rattle.bpaf_exact.proofs.Cells.{begin_at}
+use Rattle.bpaf_line.specs.Situation.{count_below, in_scope, is_open, is_taken, item_at, open_count}
+use Rattle.bpaf_line.specs.{Situation.Situation, Situation.take_place, Taking.value_after}
+use Rattle.bpaf_line.specs.Taking.{HasNone, IsFirst, is_match, open_item}
+use Rattle.bpaf_exact.proofs.{Cuts.begin_at, Names.named_key}
+use Rattle.bpaf_exact.specs.Pieces.{Alone, Cells, Foreign, LinePiece, One, Role, Roles, TakesPieces}
+use Rattle.bpaf_exact.specs.Pieces.{IsNamed, TakesPiece, Two, WithNext, is_key, is_own_role, pieces}
+use Rattle.bpaf_exact.specs.Pieces.{is_value, takes_later, takes_more, takes_none, with_next}
+use Rattle.bpaf_exact.specs.Alternative.{TakesFirst, first_later, first_one}
+use Rattle.bpaf_exact.specs.{Alternative.NotOwn, Alternative.first_two, Single.present_count}
+use Rattle.bpaf_exact.specs.{Flat.Steady, Flat.cells, Flat.first_cells, Names.Owns}
 
 -- taking a place changes what is taken and the current place alone
 pub take_steady : {s : Situation} {p : ℕ} → Steady s (take_place s p)
@@ -127,14 +140,11 @@ bare_next : {k : Arg} (at : ℕ → Option Arg) (n : ℕ)
 bare_next at zero none = refl
 bare_next {k} at (suc n) none = by_cell (at zero) none
   where
-    by_value : (w : Arg) (b : Bool) → (b ≡ true → ⊥) → (if b then Two k w else One k) ≡ One k
-    by_value w true f = absurd (f refl)
-    by_value w false f = refl
-
     by_cell : (c : Option Arg) → ((w : Arg) → c ≡ Some w → is_value w ≡ true → ⊥)
         → with_next k (c ∷ first_cells (λ q. at (suc q)) n) ≡ One k
     by_cell None f = refl
-    by_cell (Some w) f = by_value w (is_value w) (f w refl)
+    by_cell (Some w) f = ap (λ b. if b then Two k w else One k)
+        (false_from_ne_true (is_value w) (f w refl))
 
 -- a key at the front
 bare_key : (r : Roles) {c : Option Arg} (k : Arg) (cs : Cells) → c ≡ Some k → r k ≡ WithNext
@@ -160,12 +170,8 @@ bare_first {r} {at} (suc n) (suc p) l e h none bare =
 
 -- nothing is open at a place that is taken
 pub closed_item : (s : Situation) (p : ℕ) → is_taken s p ≡ true → open_item s p ≡ None
-closed_item s p e = ap (λ b. if (in_scope s p && not b) then item_at s p else None) e
-    ∙ by_scope (in_scope s p)
-  where
-    by_scope : (b : Bool) → (if (b && false) then item_at s p else None) ≡ None
-    by_scope true = refl
-    by_scope false = refl
+closed_item s p e = ap (λ b. if b then item_at s p else None)
+    (and_right (in_scope s p) (not (is_taken s p)) (ap not e))
 
 -- a place where as much is taken as before has the item that it had
 pub same_item : (s t : Situation) (p : ℕ) → in_scope t p ≡ in_scope s p → item_at t p ≡ item_at s p
@@ -193,3 +199,212 @@ open_two s p =
       others = λ q other next. same_item s (take_place m (suc p)) q refl refl
           (taken_other m (suc p) q next ∙ taken_other s p q other);
     }
+
+-- The item of a match, and its piece.
+
+-- the item of a match
+pub record Match (test : Arg → Bool) (s : Situation) (p : ℕ) : Type 0 where
+  pub item : Arg
+  pub is : open_item s p ≡ Some item
+  pub passes : test item ≡ true
+  pub in_line : p < length s.context.line
+
+-- a place with a match has an item that passes the test
+pub match_of : (test : Arg → Bool) (s : Situation) (p : ℕ) → is_match test s p ≡ true
+    → Match test s p
+match_of test s p e = by_item (open_item s p) refl e
+  where
+    by_item : (c : Option Arg) → open_item s p ≡ c → option_map_or test c false ≡ true
+        → Match test s p
+    by_item None f h = absurd cc
+    by_item (Some k) f h = record {
+      item = k;
+      is = f;
+      passes = h;
+      in_line = open_in_line s p (open_item_there s p k f).0;
+    }
+
+-- a role by a test
+pub record ByTest (test : Arg → Bool) (r : Roles) (own : Role) : Type 0 where
+  pub yes : (k : Arg) → test k ≡ true → r k ≡ own
+  pub no : (k : Arg) → test k ≡ false → r k ≡ Foreign
+
+-- the roles that a test gives
+pub by_test : {test : Arg → Bool} {own : Role}
+    → ByTest test (λ k. if test k then own else Foreign) own
+by_test {own} = record {
+  yes = λ k e. ap (λ b. if b then own else Foreign) e;
+  no = λ k e. ap (λ b. if b then own else Foreign) e;
+}
+
+-- only keys have a role by a test that asks for names
+pub test_named : (test : Arg → Bool) (names : Names) (own : Role)
+    → ((k : Arg) → test k ≡ true → is_key_of names k ≡ true)
+    → IsNamed (λ k. if test k then own else Foreign)
+test_named test names own asks = record {
+  only_keys = λ k h. ap (λ b. if b then own else Foreign) (false_from_ne_true (test k)
+      (λ e. both_ways (is_key k) h (named_key names k (asks k e))));
+}
+
+-- where a place has no match, nothing of the field's own is there
+not_own : {test : Arg → Bool} {r : Roles} {own : Role} (s : Situation) (p : ℕ) → ByTest test r own
+    → is_match test s p ≡ false → NotOwn r (open_item s p)
+not_own {test} {r} s p t e =
+    elim (open_item s p) as (λ c. option_map_or test c false ≡ false → NotOwn r c)
+    [ None ↦ λ h. tt | Some k ↦ λ h. t.no k h ] e
+
+-- nothing of the field's own stands before the first match
+none_before : {test : Arg → Bool} {r : Roles} {own : Role} {s : Situation} {p : ℕ}
+    → ByTest test r own → IsFirst test s p → NoneBefore r (open_item s) p
+none_before {s} t f = record { before = λ q l. not_own s q t (f.first q l) }
+
+-- without a match there is no piece
+pub no_pieces : {test : Arg → Bool} {r : Roles} {own : Role} (s : Situation) → ByTest test r own
+    → HasNone test s → pieces r (cells s) ≡ []
+unfolding cells
+no_pieces {r} s t none =
+    none_present r (open_item s) (length s.context.line) (λ p. not_own s p t (none p))
+
+-- the first match, taken by itself
+pub one_taken : {test : Arg → Bool} {r : Roles} {s : Situation} {p : ℕ} → ByTest test r Alone
+    → IsFirst test s p → (m : Match test s p)
+    → TakesFirst r (cells s) (One m.item) (cells (take_place s p))
+unfolding cells
+one_taken {s} {p} t f m =
+    take_one (length s.context.line) p m.in_line m.is (t.yes m.item m.passes)
+    (none_before t f) (open_one s p)
+
+-- the value behind a key
+pub record Behind (s : Situation) (p : ℕ) (text : List ℕ) : Type 0 where
+  pub item : Arg
+  pub is : open_item s (suc p) ≡ Some item
+  pub value : is_value item ≡ true
+  pub text_is : item_text item ≡ text
+  pub in_line : suc p < length s.context.line
+
+-- the text of a value is that of its item
+value_is : (w : Arg) {text : List ℕ} → value_text w ≡ Some text
+    → (is_some (value_text w) ≡ true) × (item_text w ≡ text)
+value_is (ArgWord own) e = (refl, cc)
+value_is (Word own) e = (refl, cc)
+value_is _ e = absurd cc
+
+-- a text behind a key is that of an item there
+pub behind_of : (s : Situation) {p : ℕ} {text : List ℕ} → value_after s p ≡ Some text
+    → Behind s p text
+behind_of s {p} {text} e =
+    by_item (open_item s (suc p)) refl
+    (ap (λ q. option_and_then value_text (open_item s q)) (sym (add-one p)) ∙ e)
+  where
+    by_item : (c : Option Arg) → open_item s (suc p) ≡ c → option_and_then value_text c ≡ Some text
+        → Behind s p text
+    by_item None f h = absurd cc
+    by_item (Some w) f h =
+        let v = value_is w h in
+        record {
+          item = w;
+          is = f;
+          value = v.0;
+          text_is = v.1;
+          in_line = open_in_line s (suc p) (open_item_there s (suc p) w f).0;
+        }
+
+-- where no text is behind a key, no value is there
+none_behind : (s : Situation) (p : ℕ) → value_after s p ≡ None → (w : Arg)
+    → open_item s (suc p) ≡ Some w → is_value w ≡ true → ⊥
+none_behind s p e w f v =
+    let g : value_text w ≡ None = sym (ap (option_and_then value_text) f)
+    ∙ (ap (λ q. option_and_then value_text (open_item s q)) (sym (add-one p)) ∙ e) in
+    let h : is_some (value_text w) ≡ false = ap is_some g in
+    cc
+
+-- the first match, taken with the value behind it
+pub two_taken : {test : Arg → Bool} {r : Roles} (s : Situation) {p : ℕ} {text : List ℕ}
+    → ByTest test r WithNext → IsFirst test s p → (m : Match test s p) (b : Behind s p text)
+    → TakesFirst r (cells s) (Two m.item b.item) (cells (take_place (take_place s p) (suc p)))
+unfolding cells
+two_taken s {p} t f m b =
+    take_two (length s.context.line) p b.in_line m.is b.is (t.yes m.item m.passes) b.value
+    (none_before t f) (open_two s p)
+
+-- the first match heads the pieces as it stands, where no value is behind it
+pub bare_taken : {test : Arg → Bool} {r : Roles} {s : Situation} {p : ℕ} → ByTest test r WithNext
+    → IsFirst test s p → (m : Match test s p) → value_after s p ≡ None → BareHead r (cells s) m.item
+unfolding cells
+bare_taken {s} {p} t f m e =
+    bare_first (length s.context.line) p m.in_line m.is
+    (t.yes m.item m.passes) (none_before t f) (none_behind s p e)
+
+-- the own ones of a role by such a test have one of the names
+pub test_owns : {test : Arg → Bool} {names : Names} (own : Role)
+    → ((k : Arg) → test k ≡ true → is_key_of names k ≡ true)
+    → Owns (λ k. if test k then own else Foreign) (names ∷ [])
+test_owns {test} own asks = record {
+  own = λ k e. ap (λ b. b || false) (asks k (true_from_ne_false (test k) (λ f.
+      let g = ap (λ b. is_own_role (if b then own else Foreign)) f in cc)));
+}
+
+-- a piece taken leaves fewer items
+pub takes_fewer : {q : Roles} {cs ds : Cells} {o : LinePiece} → TakesPiece q cs o ds
+    → present_count ds < present_count cs
+takes_fewer (takes_later {c = None} t) = takes_fewer t
+takes_fewer (takes_later {c = Some x} t) = let i = takes_fewer t in omega arith
+takes_fewer _ = omega arith
+
+-- some pieces taken leave no more
+pub takes_some_fewer : {q : Roles} {cs ds : Cells} → TakesPieces q cs ds
+    → present_count ds ≤ present_count cs
+takes_some_fewer takes_none = omega arith
+takes_some_fewer (takes_more t more) =
+    let i = takes_fewer t in let j = takes_some_fewer more in omega arith
+
+-- the count of a set of places, with the first place set apart
+count_first : (set : ℕ → Bool) (n : ℕ) → count_below set (suc n)
+    ≡ (if set zero then (count_below (λ p. set (suc p)) n + 1) else count_below
+    (λ p. set (suc p)) n)
+count_first set zero = refl
+count_first set (suc n) =
+    by_test (set (suc n)) (set zero) (count_below (λ p. set (suc p)) n) (count_first set n)
+  where
+    by_test : (last first : Bool) {a : ℕ} (b : ℕ) → a ≡ (if first then (b + 1) else b)
+        → (if last then (a + 1) else a) ≡ (if first then ((if last then (b + 1) else b) + 1) else
+        (if last then (b + 1) else b))
+    by_test true true b e = omega arith
+    by_test true false b e = omega arith
+    by_test false true b e = e
+    by_test false false b e = e
+
+-- the places at which something stands are as many as the items there
+count_cells : (at : ℕ → Option Arg) (n : ℕ)
+    → count_below (λ p. is_some (at p)) n ≡ present_count (first_cells at n)
+count_cells at zero = refl
+count_cells at (suc n) = count_first (λ p. is_some (at p)) n
+    ∙ by_head (at zero) _ (count_cells (λ p. at (suc p)) n)
+  where
+    by_head : (c : Option Arg) {a : ℕ} (cs : Cells) → a ≡ present_count cs
+        → (if is_some c then (a + 1) else a) ≡ present_count (c ∷ cs)
+    by_head None cs e = e
+    by_head (Some x) cs e = omega arith
+
+-- a place that is present and in scope has an item
+open_some : (s : Situation) (p : ℕ) → is_open s p ≡ is_some (open_item s p)
+open_some s p = by_test (is_open s p) (item_at s p) (λ h. open_has_item s p h)
+  where
+    by_test : (b : Bool) (at : Option Arg)
+        → (b ≡ true → option_map_or any_item (if b then at else None) false ≡ true)
+        → b ≡ is_some (if b then at else None)
+    by_test true None h = let e = h refl in absurd cc
+    by_test _ _ h = refl
+
+-- the count of what is open is that of the cells
+pub open_present : (s : Situation) → open_count s ≡ present_count (cells s)
+unfolding cells
+open_present s =
+    count_below-same (is_open s) (λ p. is_some (open_item s p)) (length s.context.line)
+    (λ p l. open_some s p) ∙ count_cells (open_item s) (length s.context.line)
+
+-- an open place is counted
+pub open_counted : (s : Situation) (p : ℕ) → is_open s p ≡ true → open_count s ≡ 0 → ⊥
+open_counted s p there none =
+    let some = count_below-some (is_open s) _ p (open_in_line s p there) there in
+    omega arith

@@ -1,44 +1,158 @@
--- Each parser keeps to the laws of its form to a program, where its inner parsers do.
-use Rattle.std.proofs.Common.{Bool, List, None, Some, [], false, not, true, ℕ, ◌&&◌, ◌++◌, ◌∷◌, ◌≡◌}
-use Rattle.std.proofs.{Common.sym, lemmas.Bool.false_from_ne_true, lemmas.Slice.Eq.bytes_eq-Decides}
-use Rattle.std.proofs.{Common.append-nil, Common.bytes_eq, Common.true≢false, lemmas.Bool.and_parts}
-use Rattle.std.proofs.Common.{Option, ap, refl, ◌∙◌}
-use Rattle.std.specs.{List.list_all, Option.option_map_or}
+-- Each parser keeps to the laws of its form to a program, where its inner parsers do, by its table
+-- too; so does an outcome that allows no more; and the theorem of exactness.
+use Rattle.std.proofs.Common.{Bool, List, None, Ok, Option, Result, Some, [], ap, append-nil, arith}
+use Rattle.std.proofs.Common.{Err, bytes_eq, false, if◌then◌else◌, inl, inr, length, not, slice_get}
+use Rattle.std.proofs.Common.{refl, subst, sym, true, true≢false, zero, ℕ, ⊎_elim, ◌&&◌, ◌++◌, ◌||◌}
+use Rattle.std.proofs.{Common.◌<◌, lemmas.Bool.false_from_ne_true, lemmas.Slice.Eq.bytes_eq-Decides}
+use Rattle.std.proofs.{Common.◌∙◌, lemmas.Bool.and_parts, lemmas.Bool.le-leb, lemmas.Bool.lt-ltb}
+use Rattle.std.proofs.Common.{◌∷◌, ◌≡◌, ◌⊎◌}
+use Rattle.std.specs.{Global.Vec, List.list_all, Option.option_map_or}
 use Rattle.bpaf_doc.specs.Names.{Names}
 use Rattle.bpaf_base.specs.{Items.command_word, Items.is_command_word, declared.arg.Arg.Arg}
-use Rattle.bpaf_line.specs.Situation.{Context, beginning}
-use Rattle.bpaf_laws.specs.{Choice.ChoiceOutcome, Command.opening_words, Product.ProductOutcome}
-use Rattle.bpaf_laws.specs.{Command.is_one_of, Product.BothOutcome, Repeat.LastOutcome}
-use Rattle.bpaf_laws.specs.{Command.Called, Reading.Outcome}
-use Rattle.bpaf_exact.proofs.Commands.{choice_commands, closed_commands, optional_commands}
-use Rattle.bpaf_exact.proofs.Records.{last_law, named_both_law, named_con_law, named_last_law}
-use Rattle.bpaf_exact.proofs.Wrappers.{alternative_single, closed_law, closed_single, optional_law}
-use Rattle.bpaf_exact.proofs.{BeforeCommands.con_program, Wrappers.closed_alternative}
-use Rattle.bpaf_exact.proofs.{BeforeCommands.before_law, Choice.choice_law, Commands.closed_program}
-use Rattle.bpaf_exact.proofs.{Exact.first_cells_are, Programs.record_program, Repeat.some_agrees_on}
-use Rattle.bpaf_exact.proofs.{Names.apart_of_names, Programs.command_law, Wrappers.fallback_law}
-use Rattle.bpaf_exact.proofs.{Exact.run_complete, Narrow.AllowsNoMore, Wrappers.single_law}
-use Rattle.bpaf_exact.proofs.{Exact.exact, Names.either_owns, Repeat.last_of_law, Repeat.repeat_law}
-use Rattle.bpaf_exact.proofs.{Exact.all_whole, Exact.run_sound, Names.foreign_of, Product.both_law}
-use Rattle.bpaf_exact.proofs.{Names.both_hold, Narrow.narrower, Records.con_law}
-use Rattle.bpaf_exact.specs.Flat.{ErrorClass, FieldKind, FieldLaw, FieldsLaw, Refused, both_reading}
-use Rattle.bpaf_exact.specs.ProgramForm.{ProgramForm, before_commands, complete, no_program, single}
-use Rattle.bpaf_exact.specs.ProgramForm.{Agrees, EndLaw, alternative, commands, product, program_if}
-use Rattle.bpaf_exact.specs.ProgramForm.{FormLaw, program_closed, program_dressed, program_optional}
-use Rattle.bpaf_exact.specs.ProgramForm.{are_words_apart, may_follow, program_choice, program_field}
-use Rattle.bpaf_exact.specs.ProgramForm.{NamedLaw, completed, is_named, program_alone, program_both}
-use Rattle.bpaf_exact.specs.ProgramForm.{choice_only, program_command, program_value, whole_program}
-use Rattle.bpaf_exact.specs.ProgramForm.{product_reading, product_roles, program_con, whole_value}
+use Rattle.bpaf_line.specs.Situation.{Context, Situation, beginning, is_marker, item_in}
+use Rattle.bpaf_line.specs.{declared.error.Error.Error, declared.error.Message.TheVariants.Missing}
+use Rattle.bpaf_line.specs.{Taking.open_item, declared.error.Message.Message}
+use Rattle.bpaf_laws.specs.Default.{FallbackOutcome, Gives, GivesAnswer, GivesClone}
+use Rattle.bpaf_laws.specs.Repeat.{CollectOutcome, CountOutcome, LastOutcome, ManyOutcome, is_nil}
+use Rattle.bpaf_laws.specs.{Product.ProductOutcome, Transform.GuardOutcome, Transform.ParseOutcome}
+use Rattle.bpaf_laws.specs.{Choice.ChoiceOutcome, Command.opening_words, Transform.MapOutcome}
+use Rattle.bpaf_laws.specs.{Command.is_one_of, Hide.hidden, Product.BothOutcome, Repeat.SomeOutcome}
+use Rattle.bpaf_laws.specs.{Command.Called, Hide.HideOutcome, Reading.Outcome, Turn.TurnOutcome}
+use Rattle.bpaf_exact.proofs.Classes.{caught_class, goes_on, kept_class, memory_class, stops_at}
+use Rattle.bpaf_exact.proofs.Commands.{before_law, choice_commands, closed_commands, closed_program}
+use Rattle.bpaf_exact.proofs.Commands.{command_law, con_program, optional_commands, record_program}
+use Rattle.bpaf_exact.proofs.Product.{both_law, count_none, last_law, named_both_law, named_con_law}
+use Rattle.bpaf_exact.proofs.Wrappers.{alternative_single, closed_law, fallback_field, left_out_law}
+use Rattle.bpaf_exact.proofs.Wrappers.{closed_alternative, last_of_law, repeat_law, some_agrees_on}
+use Rattle.bpaf_exact.proofs.{Names.apart_of_names, Product.named_last_law, Wrappers.closed_single}
+use Rattle.bpaf_exact.proofs.{Places.open_present, Product.none_counted, Wrappers.single_law}
+use Rattle.bpaf_exact.proofs.{Choice.choice_law, Cuts.one_cut, Names.either_owns, Places.same_cells}
+use Rattle.bpaf_exact.proofs.{Cuts.read_cut, Names.both_hold, Names.foreign_of, Product.con_law}
+use Rattle.bpaf_exact.specs.Flat.{Before, ErrorClass, FieldKind, FieldLaw, FieldsLaw, FieldsReading}
+use Rattle.bpaf_exact.specs.Flat.{ByName, Caught, IsWholeIn, KeepsTo, NonePresent, ReadOff, Refused}
+use Rattle.bpaf_exact.specs.Flat.{OfMemory, Variables, both_reading, cells, class, class_of, keys}
+use Rattle.bpaf_exact.specs.ProgramForm.{Agrees, FormLaw, ProgramForm, alternative, are_words_apart}
+use Rattle.bpaf_exact.specs.ProgramForm.{NamedLaw, before_commands, choice_only, commands, complete}
+use Rattle.bpaf_exact.specs.ProgramForm.{EndLaw, completed, is_program, may_follow, product_reading}
+use Rattle.bpaf_exact.specs.ProgramForm.{is_named, is_record, product, product_roles, program_alone}
+use Rattle.bpaf_exact.specs.ProgramForm.{program_both, program_choice, program_command, program_con}
+use Rattle.bpaf_exact.specs.ProgramForm.{no_program, program_closed, program_dressed, program_field}
+use Rattle.bpaf_exact.specs.ProgramForm.{program_if, program_optional, program_value, whole_program}
 use Rattle.bpaf_exact.specs.Programs.{CellsValue, CommandEval, IsSpelledLine, ProgramLaw, are_plain}
-use Rattle.bpaf_exact.specs.Record.{Accepted, IsAcceptedOrWant, RunAnswer, last_reading, line_cells}
-use Rattle.bpaf_exact.specs.Wrappers.{ClosedValue, Closure, FallbackEval, OptionalEval, map_closure}
-use Rattle.bpaf_exact.specs.{Gathered.some_closure, ProgramForm.is_program, Wrappers.FallbackValue}
-use Rattle.bpaf_exact.specs.{Names.are_all_apart, ProgramForm.is_record, Single.RepeatOutcome}
-use Rattle.bpaf_exact.specs.{Programs.WordsApart, Theorem.RunsExactly, Wrappers.ClosedEval}
-use Rattle.bpaf_exact.specs.{Gathered.LastOf, Pieces.LinePiece, Single.SingleLaw, Wrappers.Decides}
-use Rattle.bpaf_exact.specs.{Flat.Variables, Pieces.no_roles, Single.OwnList, Single.repeated}
-use Rattle.bpaf_exact.specs.{Flat.ByName, Pieces.Roles, Pieces.either, Record.RunRan, Single.Groups}
-use Rattle.bpaf_exact.specs.{Flat.Before, Flat.cells, Flat.keys, Names.Owns, Single.Gap}
+use Rattle.bpaf_exact.specs.Record.{IsAcceptedOrWant, IsExact, IsNoValue, RecordValue, last_reading}
+use Rattle.bpaf_exact.specs.Record.{Accepted, RunAnswer, RunRan, line_cells, run_refusal, run_value}
+use Rattle.bpaf_exact.specs.Single.{Gap, Groups, OwnList, RepeatOutcome, SingleLaw, repeated}
+use Rattle.bpaf_exact.specs.Wrappers.{ClosedEval, ClosedValue, Closure, FallbackEval, FallbackValue}
+use Rattle.bpaf_exact.specs.Wrappers.{Decides, answer_closure, closed_err, closed_memory, closed_no}
+use Rattle.bpaf_exact.specs.Wrappers.{fallback_given, fallback_memory, fallback_no, optional_memory}
+use Rattle.bpaf_exact.specs.Wrappers.{guard_closure, optional_none, optional_some, parse_closure}
+use Rattle.bpaf_exact.specs.Wrappers.{OptionalEval, fallback_err, fallback_ok, optional_err}
+use Rattle.bpaf_exact.specs.{Gathered.list_closure, Gathered.some_closure, ProgramForm.whole_value}
+use Rattle.bpaf_exact.specs.{Names.are_all_apart, Programs.WordsApart, Wrappers.map_closure}
+use Rattle.bpaf_exact.specs.{Record.run_leftover, Theorem.RunsExactly, Wrappers.closed_yes}
+use Rattle.bpaf_exact.specs.{Pieces.LinePiece, Pieces.either, ProgramForm.single, Record.run_memory}
+use Rattle.bpaf_exact.specs.{Gathered.LastOf, Names.Owns, Pieces.Cut, Pieces.Roles, Pieces.no_roles}
+
+-- what b allows a allows too, of a refusal one of the same class
+pub record AllowsNoMore (T : Type 0) (a b : Outcome T) : Type 0 where
+  pub value : (s t : Situation) (v : T) → b s (Ok v) t → a s (Ok v) t
+  pub refusal : (s t : Situation) (e : Error) → b s (Err e) t
+      → (d : Error) × a s (Err d) t × (class d ≡ class e)
+
+-- so it is where it allows each answer itself
+pub no_more : {T : Type 0} {a b : Outcome T}
+    → ((s t : Situation) (r : Result T Error) → b s r t → a s r t) → AllowsNoMore T a b
+no_more f =
+    record { value = λ s t v o. f s t (Ok v) o; refusal = λ s t e o. (e, f s t (Err e) o, refl) }
+
+-- it keeps to what that keeps to
+pub narrower : {env : Variables} {T : Type 0} {a b : Outcome T}
+    {gives : Situation → T → Situation → Type 0}
+    {refuses : Situation → ErrorClass → Situation → Type 0} → AllowsNoMore T a b
+    → KeepsTo env T a gives refuses → KeepsTo env T b gives refuses
+narrower {refuses} n l = record {
+  ok = λ s t v w o. l.ok s t v w (n.value s t v o);
+  err = λ s t e w o. let other = n.refusal s t e o in
+      subst (λ c. refuses s c t) other.2 (l.err s t other.0 w other.1);
+}
+
+-- at the beginning each item is present, but for the marker
+open_at_first : (context : Context) (p : ℕ) → p < length context.line
+    → open_item (beginning context) p ≡ item_in context p
+open_at_first context p l =
+    let a = le-leb zero p (omega arith) in
+    let b = lt-ltb p (length context.line) l in
+    rw (a, b) (by_marker (is_marker context.marker p) (slice_get context.line p))
+  where
+    by_marker : (m : Bool) (at : Option Arg)
+        → (if not (m || false) then (if m then None else at) else None) ≡ (if m then None else at)
+    by_marker true at = refl
+    by_marker false at = refl
+
+-- the cells with which parsing begins are those of the line
+pub first_cells_are : (context : Context) → cells (beginning context) ≡ line_cells context
+unfolding cells
+first_cells_are context = same_cells (item_in context) (length context.line) (open_at_first context)
+
+-- at the beginning the scope is the whole line
+pub all_whole : {context : Context} → IsWholeIn context.env (beginning context)
+all_whole = record { end = refl; front = λ p l. absurd (omega arith); environment = refl }
+
+-- no value is none
+pub no_value : {V : Type 0} (a : RunAnswer V) {v : V} → IsNoValue a → a ≡ Accepted v → ⊥
+no_value (Accepted x) n h = n
+no_value _ n h = cc
+
+-- A run, by what the outcome answers at the beginning.
+module _ {V : Type 0} {outcome : Outcome V} {context : Context} (value : CellsValue V) where
+  -- a value comes only where the outcome gives it and leaves nothing
+  pub run_sound : ((t : Situation) (v : V) → outcome (beginning context) (Ok v) t → NonePresent
+      (cells t)
+      → value (cells (beginning context)) v) → {a : RunAnswer V} → RunRan V outcome
+      (beginning context) a → (v : V) → a ≡ Accepted v → value (line_cells context) v
+  run_sound ok (run_value {v = x} {t} o e) v h =
+      let d : x ≡ v = cc in
+      rw (← first_cells_are context, ← d)
+      (ok t x o (none_counted (cells t) (sym (open_present t) ∙ e)))
+  run_sound ok {a} (run_leftover o e n) v h = absurd (no_value a n h)
+  run_sound ok (run_memory o e) v h = absurd cc
+  run_sound ok {a} (run_refusal o e n) v h = absurd (no_value a n h)
+
+  -- each answer is one where each of the outcome is one, with nothing left, or want of memory
+  pub run_complete : ((t : Situation) (v : V) → outcome (beginning context) (Ok v) t
+      → value (cells (beginning context)) v × NonePresent (cells t))
+      → ((t : Situation) (e : Error) → outcome (beginning context) (Err e) t → class e ≡ OfMemory)
+      → {a : RunAnswer V} → RunRan V outcome (beginning context) a
+      → IsAcceptedOrWant (value (line_cells context)) a
+  run_complete all want (run_value {v = x} {t} o e) = rw (← first_cells_are context) (all t x o).0
+  run_complete all want (run_leftover {v = x} {t} o e n) =
+      absurd (e (open_present t ∙ count_none (all t x o).1))
+  run_complete all want (run_memory o e) = tt
+  run_complete all want (run_refusal {e = x} {t} o e n) = absurd (e (want t x o))
+
+module _ {V : Type 0} {outcome : Outcome V} {r : Roles} {reading : FieldsReading V}
+    {context : Context} (l : FieldsLaw context.env V outcome r reading) where
+  -- a value comes only where it is one of the record's
+  sound : {a : RunAnswer V} → RunRan V outcome (beginning context) a → (v : V) → a ≡ Accepted v
+      → RecordValue r reading.value context v
+  sound = run_sound (ReadOff V r reading.value)
+      (λ t v o. (l.keeps.ok (beginning context) t v all_whole o).read)
+
+  -- THE THEOREM: on every line each answer of a run is a value of the record, want of memory, or a
+  -- refusal where the record has no value; for the line has one cut.
+  pub exact : {a : RunAnswer V} → RunRan V outcome (beginning context) a
+      → IsExact V r reading context a
+  exact ran = record {
+    sound = sound ran;
+    complete = λ os c h. let here : Cut r (cells (beginning context)) os
+        = rw (first_cells_are context) c in
+        run_complete (ReadOff V r reading.value)
+        (λ t v o. let i = l.keeps.ok (beginning context) t v all_whole o in
+        let n = i.all os here h in (i.read n, n))
+        (λ t e o. l.keeps.err (beginning context) t e all_whole o os here h) ran;
+    refused = λ os c none v h. let i = sound ran v h in
+        none (rw (← one_cut l.named (read_cut i) c) (l.has_each i.cut_into v i.read));
+  }
 
 -- where a test holds
 if_law : (env : Variables) {T : Type 0} (outcome : Outcome T) (names : List Names)
@@ -137,7 +251,7 @@ module _ (env : Variables) (T : Type 0) (inner : Outcome T) (names : List Names)
       (completed (λ k. k) (λ group gap. FallbackValue T group gap f) s)
   program_fallback_law f decides =
       completed_law (λ group gap. FallbackValue T group gap f) (λ k q o. o)
-      (λ k q group gap l. fallback_law l decides) words [] s l
+      (λ k q group gap l. fallback_field l decides) words [] s l
 
 -- what may be left out
 pub program_optional_law : (env : Variables) {T : Type 0} (inner : Outcome T) (names : List Names)
@@ -146,8 +260,8 @@ pub program_optional_law : (env : Variables) {T : Type 0} (inner : Outcome T) (n
 program_optional_law env inner names words (commands false value) l =
     record { roles = l.roles; program = optional_commands l.commands; owns = l.owns }
 program_optional_law env inner names words (alternative wide q value) l =
-    (optional_law (alternative_single l.0), l.1)
-program_optional_law env inner names words (single wide k q group gap) l = (optional_law l.0, l.1)
+    (left_out_law (alternative_single l.0), l.1)
+program_optional_law env inner names words (single wide k q group gap) l = (left_out_law l.0, l.1)
 program_optional_law env inner names words _ l = tt
 
 -- an item is one word
@@ -370,8 +484,9 @@ runs_exactly V outcome names words s h context l a r =
     exact (record_law context.env V outcome names words s h l) r
 
 -- an outcome that allows no more keeps to the same laws of a program
-narrower_program : {env : Variables} {V : Type 0} {a b : Outcome V} → AllowsNoMore V a b → {r : Roles}
-    {value : CellsValue V} → ProgramLaw env V a r value → ProgramLaw env V b r value
+narrower_program : {env : Variables} {V : Type 0} {a b : Outcome V} {r : Roles}
+    {value : CellsValue V} → AllowsNoMore V a b → ProgramLaw env V a r value
+    → ProgramLaw env V b r value
 narrower_program n l = record { others = l.others; keeps = narrower n l.keeps }
 
 -- and of any form
@@ -415,3 +530,217 @@ narrower_form env T a b n names words (commands true value) l =
     record { roles = l.roles; program = narrower_program n l.program; owns = l.owns }
 narrower_form env T a b n names words (before_commands value) l =
     record { roles = l.roles; program = narrower_program n l.program; owns = l.owns }
+
+-- By their tables.
+
+-- where a parser keeps to the laws of its form, so does what is made of it, with the same keys
+abbrev pub Lifts : {A B : Type 0} → Variables → Outcome A → Outcome B
+    → (ProgramForm A → ProgramForm B) → Type 1
+Lifts {A} env inner outer form =
+    (names : List Names) (words : List (List ℕ)) (s : ProgramForm A)
+    → FormLaw env inner names words s → FormLaw env outer names [] (form s)
+
+-- Each keeps to the laws of its form: map
+pub map_law : (env : Variables) (A B : Type 0) (inner : Outcome A) (answers : A → B → Type 0)
+    (names : List Names) (words : List (List ℕ)) (s : ProgramForm A)
+    → FormLaw env inner names words s
+    → FormLaw env (MapOutcome inner answers) names words (program_closed (map_closure answers) s)
+map_law env A B inner answers names words s l =
+    narrower_form env B _ _ (no_more by_answer) names words _
+    (program_closed_law env inner (map_closure answers) names words s
+    (never_refuses (map_closure answers) (λ x n. n) s) l)
+  where
+    by_answer : (s t : Situation) (r : Result B Error) → MapOutcome inner answers s r t
+        → ClosedEval A B inner (map_closure answers) Refused s r t
+    by_answer s t (Ok v) o = closed_yes o.1 o.2
+    by_answer s t (Err e) o = closed_err o
+
+-- parse
+pub parse_law : (env : Variables) (A B E : Type 0) (inner : Outcome A)
+    (answers : A → Result B E → Type 0) (shown : E → Option (List ℕ)) (names : List Names)
+    (words : List (List ℕ)) (s : ProgramForm A) → Agrees (parse_closure answers) s
+    → FormLaw env inner names words s → FormLaw env (ParseOutcome inner answers shown) names words
+    (program_closed (parse_closure answers) s)
+parse_law env A B E inner answers shown names words s g l =
+    narrower_form env B _ _ (no_more by_answer) names words _
+    (program_closed_law env inner (parse_closure answers) names words s g l)
+  where
+    by_answer : (s t : Situation) (r : Result B Error) → ParseOutcome inner answers shown s r t
+        → ClosedEval A B inner (parse_closure answers) Refused s r t
+    by_answer s t (Ok v) o = closed_yes o.1 o.2
+    by_answer s t (Err e) (inl o) = closed_err o
+    by_answer s t (Err e) (inr o) = ⊎_elim (λ memory. closed_memory o.1 (ap class_of memory))
+        (λ told. closed_no o.1 (o.2, o.3) (ap class_of told.1)) o.4
+
+-- guard
+pub guard_law : (env : Variables) (A : Type 0) (inner : Outcome A) (checks : A → Bool → Type 0)
+    (message : List ℕ) (names : List Names) (words : List (List ℕ)) (s : ProgramForm A)
+    → Agrees (guard_closure checks) s → FormLaw env inner names words s
+    → FormLaw env (GuardOutcome inner checks message) names words
+    (program_closed (guard_closure checks) s)
+guard_law env A inner checks message names words s g l =
+    narrower_form env A _ _ (no_more by_answer) names words _
+    (program_closed_law env inner (guard_closure checks) names words s g l)
+  where
+    by_answer : (s t : Situation) (r : Result A Error) → GuardOutcome inner checks message s r t
+        → ClosedEval A A inner (guard_closure checks) Refused s r t
+    by_answer s t (Ok v) o = closed_yes o.0 (refl, o.1)
+    by_answer s t (Err e) (inl o) = closed_err o
+    by_answer s t (Err e) (inr o) = ⊎_elim (λ told. closed_no o.1 o.2 (ap class_of told))
+        (λ memory. closed_memory o.1 (ap class_of memory)) o.3
+
+-- optional
+pub optional_law : (env : Variables) (T : Type 0) (inner : Outcome T) (catch : Bool)
+    → Lifts env inner (TurnOutcome inner catch true)
+    (λ s. program_if (not catch) (program_optional s))
+optional_law env T inner true names words s l = tt
+optional_law env T inner false names words s l =
+    narrower_form env (Option T) _ _ (no_more by_answer) names [] (program_optional s)
+    (program_optional_law env inner names words s l)
+  where
+    by_answer : (s t : Situation) (r : Result (Option T) Error) → TurnOutcome inner false true s r t
+        → OptionalEval T inner s r t
+    by_answer s t (Ok (Some v)) o = optional_some o.0
+    by_answer s t (Ok None) (inl o) = absurd (true≢false o.2)
+    by_answer s t (Ok None) (inr o) = rw o.1 (optional_none o.0.2 (stops_at o.0.3))
+    by_answer s t (Err e) (inl o) = optional_err o.0 (goes_on e o.1)
+    by_answer s t (Err e) (inr o) = optional_memory (memory_class e.0 o.0)
+
+-- Repeats.
+
+-- what a repeat makes of a field, by what is made of its list; with `catch` it is none
+abbrev pub repeated_form : {T B : Type 0} → Bool → Closure (List T) B → ProgramForm T
+    → ProgramForm B
+repeated_form {T} catch f s =
+    program_if (not catch) (program_closed f (completed repeated (OwnList T) s))
+
+-- what answers no more than a closure on the list of a repeat, where it has no `catch`, keeps to
+-- the laws of its form
+repeated_form_law : (env : Variables) {T B : Type 0} (inner : Outcome T) (idle catch : Bool)
+    {f : Closure (List T) B} {c : ErrorClass} (outcome : Bool → Outcome B)
+    → ((s t : Situation) (r : Result B Error) → outcome false s r t
+    → ClosedEval (List T) B (RepeatOutcome inner idle) f c s r t)
+    → (names : List Names) (words : List (List ℕ)) (s : ProgramForm T)
+    → Agrees f (completed repeated (OwnList T) s) → FormLaw env inner names words s
+    → FormLaw env (outcome catch) names [] (repeated_form catch f s)
+repeated_form_law env inner idle true outcome within names words s agrees l = tt
+repeated_form_law env {B} inner idle false {f} {c} outcome within names words s agrees l =
+    narrower_form env B _ _ (no_more within) names [] _
+    (listed_law env inner idle f c names words s agrees l)
+
+-- many
+pub many_law : (env : Variables) (T : Type 0) (inner : Outcome T) (catch : Bool)
+    → Lifts env inner (ManyOutcome inner catch) (repeated_form catch (list_closure T))
+many_law env T inner catch names words s =
+    repeated_form_law env inner false catch (ManyOutcome inner) by_answer names words s
+    (never_refuses (list_closure T) (λ x n. n) _)
+  where
+    by_answer : (s t : Situation) (r : Result (Vec T) Error) → ManyOutcome inner false s r t
+        → ClosedEval (List T) (Vec T) (RepeatOutcome inner false) (list_closure T) Refused s r t
+    by_answer s t (Ok v) o = closed_yes o refl
+    by_answer s t (Err e) o = closed_err o
+
+-- some
+pub some_law : (env : Variables) (T : Type 0) (inner : Outcome T) (catch : Bool)
+    (message : List ℕ)
+    → Lifts env inner (SomeOutcome inner catch message) (repeated_form catch (some_closure T))
+some_law env T inner catch message names words s l =
+    repeated_form_law env inner false catch (λ c. SomeOutcome inner c message) by_answer
+    names words s (some_agrees env inner names words s l) l
+  where
+    by_answer : (s t : Situation) (r : Result (Vec T) Error) → SomeOutcome inner false message s r t
+        → ClosedEval (List T) (Vec T) (RepeatOutcome inner false) (some_closure T) Caught s r t
+    by_answer s t (Ok v) o = closed_yes o.0 (refl, λ none. true≢false (sym (ap is_nil none) ∙ o.1))
+    by_answer s t (Err e) (inl o) = closed_err o
+    by_answer s t (Err e) (inr o) =
+        ⊎_elim (λ told. closed_no o.0 refl (ap class_of told))
+        (λ memory. closed_memory o.0 (ap class_of memory)) o.1
+
+-- collect
+pub collect_law : (env : Variables) (T C : Type 0) (inner : Outcome T) (catch : Bool)
+    (fills : List T → C → Type 0)
+    → Lifts env inner (CollectOutcome inner catch fills) (repeated_form catch (map_closure fills))
+collect_law env T C inner catch fills names words s =
+    repeated_form_law env inner false catch (λ c. CollectOutcome inner c fills) by_answer
+    names words s (never_refuses (map_closure fills) (λ x n. n) _)
+  where
+    by_answer : (s t : Situation) (r : Result C Error) → CollectOutcome inner false fills s r t
+        → ClosedEval (List T) C (RepeatOutcome inner false) (map_closure fills) Refused s r t
+    by_answer s t (Ok v) o = closed_yes o.1 o.2
+    by_answer s t (Err e) (inl o) = closed_err o
+    by_answer s t (Err e) (inr o) = closed_memory o.1 (memory_class e.0 o.2)
+
+-- count
+pub count_law : (env : Variables) (T : Type 0) (inner : Outcome T)
+    → Lifts env inner (CountOutcome inner)
+    (repeated_form false (map_closure (λ vs n. n ≡ length vs)))
+count_law env T inner names words s =
+    repeated_form_law env inner true false (λ c. CountOutcome inner) by_answer names words s
+    (never_refuses (map_closure (λ vs n. n ≡ length vs)) (λ x n. n) _)
+  where
+    by_answer : (s t : Situation) (r : Result ℕ Error) → CountOutcome inner s r t
+        → ClosedEval (List T) ℕ (RepeatOutcome inner true)
+        (map_closure (λ vs n. n ≡ length vs)) Refused s r t
+    by_answer s t (Ok n) o = closed_yes o.1 o.2
+    by_answer s t (Err e) o = closed_err o
+
+-- Defaults.
+
+-- what gives a value in place of an inner one, as a closure on nothing does, keeps to the laws of
+-- its form
+fallback_form_law : (env : Variables) {T : Type 0} (inner : Outcome T) (gives : Gives T)
+    (f : Closure (Unit {0}) T) → Decides f → ((v : T) → gives (Ok v) → f.yes tt v)
+    → ((e : Error) → gives (Err e) → (class e ≡ OfMemory) ⊎ (f.no tt × (class e ≡ Caught)))
+    → Lifts env inner (FallbackOutcome inner gives)
+    (completed (λ k. k) (λ group gap. FallbackValue T group gap f))
+fallback_form_law env {T} inner gives f decides gave refused names words s l =
+    narrower_form env T _ _ (no_more by_answer) names [] _
+    (program_fallback_law env T inner names words s l f decides)
+  where
+    by_answer : (s t : Situation) (r : Result T Error) → FallbackOutcome inner gives s r t
+        → FallbackEval T inner f s r t
+    by_answer s t (Ok v) (inl o) = fallback_ok o
+    by_answer s t (Ok v) (inr o) =
+        rw o.0.1 (fallback_given o.0.0.2 (caught_class o.0.0.0.0 o.0.0.3) (gave v o.1))
+    by_answer s t (Err e) (inl o) = rw o.1
+        (⊎_elim (λ kept. fallback_err kept.1 (kept_class e.0 kept.2))
+        (λ memory. fallback_memory (memory_class e.0 memory)) o.0)
+    by_answer s t (Err e) (inr o) = rw o.0.1 (⊎_elim (λ memory. fallback_memory memory)
+        (λ told. fallback_no o.0.0.2 (caught_class o.0.0.0.0 o.0.0.3) told.0 told.1)
+        (refused e o.1))
+
+-- a kept value
+pub fallback_law : (env : Variables) (T : Type 0) (inner : Outcome T) (clones : T → T → Type 0)
+    (kept : T) → Lifts env inner (FallbackOutcome inner (GivesClone clones kept))
+    (completed (λ k. k) (λ group gap. FallbackValue T group gap (map_closure (λ u. clones kept))))
+fallback_law env T inner clones kept =
+    fallback_form_law env inner (GivesClone clones kept) (map_closure (λ u. clones kept))
+    (λ u v y n. n) (λ v g. g) (λ e g. inl (memory_class e.0 g))
+
+-- a closure's value
+pub fallback_with_law : (env : Variables) (T E : Type 0) (inner : Outcome T)
+    (answers : Result T E → Type 0) (shown : E → Option (List ℕ)) (names : List Names)
+    (words : List (List ℕ)) (s : ProgramForm T) → Decides (answer_closure answers)
+    → FormLaw env inner names words s
+    → FormLaw env (FallbackOutcome inner (GivesAnswer answers shown)) names []
+    (completed (λ k. k) (λ group gap. FallbackValue T group gap (answer_closure answers)) s)
+fallback_with_law env T E inner answers shown names words s decides =
+    fallback_form_law env inner (GivesAnswer answers shown) (answer_closure answers) decides
+    (λ v g. g) (λ e g. ⊎_elim (λ memory. inl (ap class_of memory))
+    (λ told. inr ((g.0, g.1), ap class_of told.1)) g.2) names words s
+
+-- a hidden refusal is one of the same class
+hidden_class : (m : Message) → class_of m ≡ class_of (hidden m)
+hidden_class (Missing items) = refl
+hidden_class m = refl
+
+-- hide
+pub hide_law : (env : Variables) (T : Type 0) (inner : Outcome T) (names : List Names)
+    (words : List (List ℕ)) (s : ProgramForm T) → FormLaw env inner names words s
+    → FormLaw env (HideOutcome inner) names words (program_dressed s)
+hide_law env T inner names words s l =
+    program_dressed_law env T (HideOutcome inner) names words s
+    (narrower_form env T inner (HideOutcome inner) (record {
+      value = λ s t v o. o;
+      refusal = λ s t e o. (o.0, o.1, hidden_class o.0.0 ∙ ap class_of (sym o.2));
+    }) names words s l)

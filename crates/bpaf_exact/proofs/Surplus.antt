@@ -1,16 +1,16 @@
 -- A surplus occurrence, a surplus word and an occurrence without a value leave a field no value.
-use Rattle.std.proofs.Common.{◌≡◌, ℕ, Bool, not, true, false, List, [], ◌∷◌, Option, Some, None}
-use Rattle.std.proofs.Common.{inl, inr}
-use Rattle.bpaf_exact.specs.Flat.{FieldKind, FieldsReading, HasValue, both_reading, portion, left}
-use Rattle.bpaf_exact.specs.Single.{Groups, Gap, FrontOf, own_none, own_more, OwnList, listed}
-use Rattle.bpaf_exact.specs.Single.{listed_and_absent, only_absent, SingleValue, gap_of}
-use Rattle.bpaf_exact.specs.Wrappers.{Closure, OptionalValue, FallbackValue}
-use Rattle.bpaf_exact.specs.ProgramForm.{ProgramForm, alternative, single, complete, product}
-use Rattle.bpaf_exact.specs.ProgramForm.{program_closed, completed, program_field, program_if}
-use Rattle.bpaf_exact.specs.Accepted.{OneByOne, AtMostOne, HasNoSurplus, IsPartOf}
-use Rattle.bpaf_exact.specs.{Leaves.key_field, Leaves.word_by, Pieces.Roles, Pieces.LinePiece}
-use Rattle.bpaf_exact.specs.{Record.last_reading, Alternative.HasBad, Gathered.LastOf}
+use Rattle.std.proofs.Common.{Bool, List, Option, Some, [], false, inl, inr, not, true, ℕ, ◌∷◌, ◌≡◌}
+use Rattle.std.proofs.Common.{None}
 use Rattle.bpaf_exact.proofs.Wrappers.{own_bad}
+use Rattle.bpaf_exact.specs.Flat.{FieldKind, FieldsReading, HasValue, both_reading, left, portion}
+use Rattle.bpaf_exact.specs.ProgramForm.{ProgramForm, alternative, complete, program_closed, single}
+use Rattle.bpaf_exact.specs.ProgramForm.{completed, product, program_field, program_if}
+use Rattle.bpaf_exact.specs.Single.{FrontOf, Groups, OwnList, listed_and_absent, own_more, own_none}
+use Rattle.bpaf_exact.specs.Single.{Gap, SingleValue, gap_of, listed, only_absent}
+use Rattle.bpaf_exact.specs.{Accepted.HasNoSurplus, Wrappers.FallbackValue, Wrappers.OptionalValue}
+use Rattle.bpaf_exact.specs.{Accepted.AtMostOne, Alternative.HasBad, Record.last_reading}
+use Rattle.bpaf_exact.specs.{Accepted.IsPartOf, Accepted.OneByOne, Leaves.key_field, Leaves.word_by}
+use Rattle.bpaf_exact.specs.{Gathered.LastOf, Pieces.LinePiece, Pieces.Roles, Wrappers.Closure}
 
 -- A surplus occurrence.
 

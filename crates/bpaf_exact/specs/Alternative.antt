@@ -6,7 +6,7 @@ use Rattle.bpaf_laws.specs.Reading.{Outcome}
 use Rattle.bpaf_exact.specs.Pieces.{Cells, Roles, Foreign, Alone, WithNext, LinePiece, One, Two}
 use Rattle.bpaf_exact.specs.Pieces.{is_value, is_own, pieces, TakesPiece, IsNamed}
 use Rattle.bpaf_exact.specs.Flat.{ErrorClass, OfMemory, OfMissing, Refused, cells, Steady}
-use Rattle.bpaf_exact.specs.Flat.{Variables, Keeps}
+use Rattle.bpaf_exact.specs.Flat.{Variables, KeepsTo}
 
 -- no item of the field's own
 abbrev pub NotOwn : Roles → Option Arg → Type 0
@@ -55,7 +55,7 @@ pub data AlternativeErr (T : Type 0) (q : Roles) (value : LinePiece → T → Ty
 pub record AlternativeLaw (variables : Variables) (T : Type 0) (outcome : Outcome T) (q : Roles)
     (value : LinePiece → T → Type 0) : Type 0 where
   pub named : IsNamed q
-  pub keeps : Keeps variables T outcome (AlternativeOk T q value) (AlternativeErr T q value)
+  pub keeps : KeepsTo variables T outcome (AlternativeOk T q value) (AlternativeErr T q value)
 
 -- a piece has the value that the alternative gives that it belongs to
 abbrev pub either_value : {T : Type 0} → Roles → (LinePiece → T → Type 0) → (LinePiece → T → Type 0)

@@ -125,7 +125,7 @@ NoKeysLeft k q cs = Unit {0}
 
 -- what an outcome keeps to where the environment has these variables: by where it begins and where
 -- it leads, which values it gives, and of which classes its refusals are
-pub record Keeps (variables : Variables) (T : Type 0) (outcome : Outcome T)
+pub record KeepsTo (variables : Variables) (T : Type 0) (outcome : Outcome T)
     (gives : Situation → T → Situation → Type 0)
     (refuses : Situation → ErrorClass → Situation → Type 0) : Type 0 where
   pub ok : (s t : Situation) (v : T) → IsWholeIn variables s → outcome s (Ok v) t → gives s v t
@@ -146,7 +146,7 @@ pub record FieldTook (T : Type 0) (k : FieldKind) (q : Roles) (value : List Line
 pub record FieldLaw (variables : Variables) (T : Type 0) (outcome : Outcome T) (k : FieldKind)
     (q : Roles) (value : List LinePiece → T → Type 0) : Type 0 where
   pub own : OwnItems k q
-  pub keeps : Keeps variables T outcome (FieldTook T k q value)
+  pub keeps : KeepsTo variables T outcome (FieldTook T k q value)
       (λ s c t. (w : T) → value (front k (pieces q (cells s))) w → c ≡ OfMemory)
 
 -- the values of a list of fields are read off the pieces that a line is cut into: their own, and
@@ -182,7 +182,7 @@ pub record FieldsLaw (variables : Variables) (V : Type 0) (outcome : Outcome V) 
     (reading : FieldsReading V) : Type 0 where
   pub named : IsNamed r
   pub has_each : (os : List LinePiece) (v : V) → reading.value os v → reading.each os
-  pub keeps : Keeps variables V outcome (FieldsTook V r reading)
+  pub keeps : KeepsTo variables V outcome (FieldsTook V r reading)
       (λ s c t. (os : List LinePiece) → Cut r (cells s) os → reading.each os → c ≡ OfMemory)
 
 -- a field before others: their keys are apart, and after a positional field no named one stands

@@ -11,7 +11,7 @@ use Rattle.bpaf_laws.specs.Command.{Called, IsNotOpened, IsOpenedAt, inside, is_
 use Rattle.bpaf_laws.specs.{Choice.depth, Command.opening_words, Reading.Outcome}
 use Rattle.bpaf_exact.specs.Pieces.{Cells, Roles, LinePiece, pieces, Apart, IsNamed, Takes}
 use Rattle.bpaf_exact.specs.Flat.{ErrorClass, OfMemory, OfMissing, class, cells, NonePresent}
-use Rattle.bpaf_exact.specs.Flat.{Variables, Keeps}
+use Rattle.bpaf_exact.specs.Flat.{Variables, KeepsTo}
 
 -- which values some cells have
 abbrev pub CellsValue : Type 0 → Type 1
@@ -91,8 +91,8 @@ LeavesToOthers {V = V} r value =
     (q : Roles) → IsNamed q → Apart q r → (cs : Cells) (v : V) → AllSpelled cs → value cs v
     → pieces q cs ≡ []
 
--- an answer of a program: where it leaves nothing it is one of its values; and where it has a value,
--- the answer is one, and leaves nothing
+-- an answer of a program: where it leaves nothing it is one of its values; and where there is one,
+-- it is one and leaves nothing
 pub record ProgramTook (V : Type 0) (value : CellsValue V) (s : Situation) (v : V)
     (t : Situation) : Type 0 where
   pub deep : depth s ≤ depth t
@@ -104,7 +104,7 @@ pub record ProgramTook (V : Type 0) (value : CellsValue V) (s : Situation) (v : 
 pub record ProgramLaw (variables : Variables) (V : Type 0) (outcome : Outcome V) (r : Roles)
     (value : CellsValue V) : Type 0 where
   pub others : LeavesToOthers r value
-  pub keeps : Keeps variables V outcome (ProgramTook V value)
+  pub keeps : KeepsTo variables V outcome (ProgramTook V value)
       (λ s c t. (w : V) → value (cells s) w → c ≡ OfMemory)
 
 -- a refusal of such a class says that the word is missing, and nothing is taken; or that memory is
@@ -119,7 +119,7 @@ pub record CommandsLaw (variables : Variables) (T : Type 0) (outcome : Outcome T
     (words : List (List ℕ)) (value : CellsValue T) : Type 0 where
   pub program : ProgramLaw variables T outcome r value
   pub opened : (cs : Cells) (v : T) → value cs v → (ds : Cells) × Opens words cs ds
-  pub none : Keeps variables T outcome (λ s v t. OpensNone words (cells s) → ⊥)
+  pub none : KeepsTo variables T outcome (λ s v t. OpensNone words (cells s) → ⊥)
       (λ s c t. OpensNone words (cells s) → FindsNoCommand s c t)
 
 -- What runs behind a command's word: a value only where nothing is left present.

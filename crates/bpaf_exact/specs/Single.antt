@@ -8,7 +8,7 @@ use Rattle.bpaf_laws.specs.Reading.{Outcome}
 use Rattle.bpaf_exact.specs.Flat.{ErrorClass, FieldKind, OfMemory, OfMissing, Refused, cells, class}
 use Rattle.bpaf_exact.specs.Pieces.{Cells, LinePiece, Roles, TakesPiece, TakesPieces, pieces}
 use Rattle.bpaf_exact.specs.Flat.{EachWord, OneWord, OwnItems, Variables, front}
-use Rattle.bpaf_exact.specs.Flat.{ByName, Caught, Keeps, Steady, back}
+use Rattle.bpaf_exact.specs.Flat.{ByName, Caught, KeepsTo, Steady, back}
 
 -- how one evaluation reads a value off the front of the own pieces, and which it leaves
 abbrev pub Groups : Type 0 → Type 1
@@ -114,7 +114,7 @@ pub record SingleLaw (variables : Variables) (T : Type 0) (outcome : Outcome T) 
   pub words : ReadsWords k group
   pub starts : (v : T) (rest : List LinePiece) → group [] v rest → ⊥
   pub no_absent : (v : T) → gap.has ≡ false → gap.absent v → ⊥
-  pub keeps : Keeps variables T outcome (SingleOk T k q group gap) (SingleErr T k q group gap)
+  pub keeps : KeepsTo variables T outcome (SingleOk T k q group gap) (SingleErr T k q group gap)
 
 -- The own list under a repeat; the absent value must be there also where it isn't used: the repeat
 -- asks once more.

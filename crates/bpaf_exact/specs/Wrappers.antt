@@ -77,8 +77,8 @@ OptionalValue T group gap os None = (os ≡ []) × (gap.has ≡ false)
 pub data FallbackEval (T : Type 0) (inner : Outcome T) (f : Closure (Unit {0}) T)
     (s : Situation) : Result T Error → Situation → Type 0 where
   fallback_ok : {v : T} {t : Situation} → inner s (Ok v) t → FallbackEval T inner f s (Ok v) t
-  fallback_given : {v : T} {e : Error} {m : Situation} → inner s (Err e) m → CanCatch (class e) → f.yes tt v
-      → FallbackEval T inner f s (Ok v) s
+  fallback_given : {v : T} {e : Error} {m : Situation} → inner s (Err e) m → CanCatch (class e)
+      → f.yes tt v → FallbackEval T inner f s (Ok v) s
   fallback_no : {e g : Error} {m : Situation} → inner s (Err e) m → CanCatch (class e) → f.no tt
       → class g ≡ Caught → FallbackEval T inner f s (Err g) s
   fallback_memory : {e : Error} → class e ≡ OfMemory → FallbackEval T inner f s (Err e) s

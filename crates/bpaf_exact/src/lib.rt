@@ -20,11 +20,11 @@
 //! - A line that is cut holds together (`HoldsTogether`, specs/Accepted.antt): each key is one of
 //!   the record's, behind an argument's key stands its value, which no positional field gets, an
 //!   attached value stands nowhere else, and what is left to positional fields are words
-//!   (`cut_holds_together`, proofs/Accepted.antt). An occurrence or a word too many leaves no value
+//!   (`cut_holds_together`, proofs/Cuts.antt). An occurrence or a word too many leaves no value
 //!   (`HasNoSurplus`), nor does an occurrence that can't be read (proofs/Surplus.antt).
 //! - What the value of a field says of its own pieces, whatever the other fields are and whatever
 //!   stands round it, is told by names (specs/Says.antt), and follows of each form
-//!   (proofs/Says.antt, one lemma for each combinator).
+//!   (proofs/ProgramSays.antt, one lemma for each combinator).
 //! - A line may have several values that differ in what contracts don't see, such as the room of a
 //!   text. Where closures can't tell apart what looks alike, the values of a line look alike
 //!   (specs/OneView.antt, `values_look_one` and `runs_to_one` of proofs/OneView.antt).
@@ -37,6 +37,6 @@
 //!   specs/ProgramSays.antt and proofs/ProgramSays.antt.
 //!
 //! Proofs that closures, repeats, choices and products keep to these laws by their tables stand in
-//! proofs/: proofs/ByTables.antt and proofs/ProgramForm.antt have one lemma for each type of parser,
+//! proofs/: proofs/ProgramForm.antt has one lemma for each type of parser,
 //! and the theorems.
 #![tactic(auto)]

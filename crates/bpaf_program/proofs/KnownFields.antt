@@ -1,20 +1,19 @@
 -- The fields of a program are known where what they are made of is.
-use Rattle.std.proofs.Common.{◌≡◌, Bool, true, false, List, [], ℕ, Option, Some, refl}
-use Rattle.bpaf_doc.specs.{declared.doc.Piece.Piece, Names.Names}
-use Rattle.bpaf_words.specs.Spelling.{ShortNames}
+use Rattle.std.proofs.Common.{Bool, List, Option, Some, [], false, refl, true, ℕ, ◌≡◌}
+use Rattle.bpaf_doc.specs.{Names.Names, declared.doc.Piece.Piece}
 use Rattle.bpaf_text.specs.Named.{KeyWithValue, Named, key_named}
-use Rattle.bpaf_laws.specs.ShownNames.{no_shorts, of_arguments, of_flags}
-use Rattle.bpaf_laws.specs.{Argument.ArgumentOutcome, Default.FallbackOutcome, Default.GivesClone}
-use Rattle.bpaf_laws.specs.{Flag.FlagOutcome, Reading.Outcome, Repeat.ManyOutcome, Turn.TurnOutcome}
-use Rattle.bpaf.specs.{declared.leaves.positional.Position.Position, Positional.PositionalOutcome}
-use Rattle.bpaf_exact.proofs.Arguments.{argument_field_law}
-use Rattle.bpaf_exact.proofs.ByTables.{fallback_law, many_law, optional_law}
-use Rattle.bpaf_record.specs.Grammar.{Grammar, argument, command_words, keys_of, program_form, word}
-use Rattle.bpaf_record.specs.Positional.{positional_law}
-use Rattle.bpaf_program.specs.KnownFields.{known_default, known_many, known_optional, known_switch}
-use Rattle.bpaf_exact.proofs.{Flags.flag_field_law, Narrow.no_more, ProgramForm.narrower_form}
 use Rattle.bpaf_laws.proofs.Clones.{fallback_kept}
+use Rattle.bpaf_laws.specs.{Argument.ArgumentOutcome, Default.FallbackOutcome, ShownNames.no_shorts}
+use Rattle.bpaf_laws.specs.{Default.GivesClone, ShownNames.of_arguments, ShownNames.of_flags}
+use Rattle.bpaf_laws.specs.{Flag.FlagOutcome, Reading.Outcome, Repeat.ManyOutcome, Turn.TurnOutcome}
+use Rattle.bpaf_exact.proofs.ProgramForm.{fallback_law, many_law, narrower_form, optional_law}
+use Rattle.bpaf_exact.proofs.{Leaves.argument_field_law, Leaves.flag_field_law, ProgramForm.no_more}
+use Rattle.bpaf.specs.{Positional.PositionalOutcome, declared.leaves.positional.Position.Position}
+use Rattle.bpaf_program.specs.KnownFields.{known_default, known_many, known_optional, known_switch}
 use Rattle.bpaf_program.specs.{KnownParser.IsKnownParser, Values.IsKept}
+use Rattle.bpaf_record.specs.{Grammar.argument, Grammar.command_words, Positional.positional_law}
+use Rattle.bpaf_record.specs.Grammar.{Grammar, keys_of, program_form, word}
+use Rattle.bpaf_words.specs.Spelling.{ShortNames}
 
 -- a switch, with some help or none
 pub switch_known : (names : Names) (help : Option (List Piece)) {named : Named}

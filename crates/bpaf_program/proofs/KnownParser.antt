@@ -1,28 +1,27 @@
 -- The parsers of a program are known where what they are made of is.
-use Rattle.std.proofs.Common.{◌≡◌, All, true, List, [], ℕ, Result, Ok, Err, IsUtf8, ap, ap₂, refl}
-use Rattle.std.proofs.Common.{◌∙◌}
+use Rattle.std.proofs.Common.{All, Err, IsUtf8, List, Ok, Result, [], ap, ap₂, refl, true, ◌∙◌, ◌≡◌}
+use Rattle.std.proofs.Common.{ℕ}
 use Rattle.bpaf_doc.specs.Shape.{Shape}
-use Rattle.bpaf_words.specs.{Arguments.Given, Spelling.ShortNames}
-use Rattle.bpaf_line.specs.declared.failure.ParseFailure.{ParseFailure}
-use Rattle.bpaf_line.specs.{Situation.Situation, declared.error.Error.Error}
-use Rattle.bpaf_core.specs.declared.commands.ParseCommand.{ParseCommand}
-use Rattle.bpaf_laws.specs.Product.{BothOutcome, ProductOutcome}
-use Rattle.bpaf_laws.specs.{Choice.ChoiceOutcome, Command.CommandPart, Command.named_only}
-use Rattle.bpaf_laws.specs.{ShownNames.joined_shorts, Reading.Outcome, Transform.MapOutcome}
-use Rattle.bpaf.specs.{Adjacent.EitherCommandOutcome, Ending.EndsRun, Info.RunInfo, Info.plain_info}
-use Rattle.bpaf.specs.{Known.known_names, Run.RunsWords}
+use Rattle.bpaf_line.specs.{declared.error.Error.Error, declared.failure.ParseFailure.ParseFailure}
+use Rattle.bpaf_line.specs.Situation.{Situation}
+use Rattle.bpaf_laws.specs.{Choice.ChoiceOutcome, Product.ProductOutcome, ShownNames.joined_shorts}
+use Rattle.bpaf_laws.specs.{Command.CommandPart, Product.BothOutcome, Transform.MapOutcome}
+use Rattle.bpaf_laws.specs.{Command.named_only, Reading.Outcome}
+use Rattle.bpaf_exact.proofs.ProgramForm.{narrower_form, no_more, program_both_law, program_con_law}
+use Rattle.bpaf_exact.proofs.ProgramForm.{program_alone_law, program_choice_law, program_field_law}
+use Rattle.bpaf_exact.proofs.ProgramForm.{AllowsNoMore, map_law}
 use Rattle.bpaf_exact.specs.ProgramForm.{is_program, program_field}
-use Rattle.bpaf_exact.proofs.ProgramForm.{narrower_form, program_alone_law, program_both_law}
-use Rattle.bpaf_exact.proofs.ProgramForm.{program_choice_law, program_con_law, program_field_law}
-use Rattle.bpaf_exact.proofs.{Narrow.AllowsNoMore, Narrow.no_more, ByTables.map_law}
-use Rattle.bpaf_record.specs.Commands.{plain_command_law}
-use Rattle.bpaf_record.specs.Grammar.{Grammar, alone, both, choice, command_words, keys_of}
-use Rattle.bpaf_record.specs.{Grammar.program_form, Program.AnswersAsProgram}
+use Rattle.bpaf.specs.{Adjacent.EitherCommandOutcome, Info.plain_info, Known.known_names}
+use Rattle.bpaf.specs.{Ending.EndsRun, Info.RunInfo, Run.RunsWords}
+use Rattle.bpaf_core.specs.declared.commands.ParseCommand.{ParseCommand}
+use Rattle.bpaf_program.specs.KnownParser.{AreKnownFields, IsExactFor, IsKnownParser, program_names}
+use Rattle.bpaf_program.specs.{KnownFields.known_command, KnownParser.shown_shorts}
+use Rattle.bpaf_program.specs.{Fields.IsPlainCommand, KnownFields.known_con, KnownFields.known_map}
+use Rattle.bpaf_program.specs.KnownParser.{IsValueBy}
 use Rattle.bpaf_record.proofs.Programs.{answers_as_program}
-use Rattle.bpaf_program.specs.Fields.{IsPlainCommand}
-use Rattle.bpaf_program.specs.KnownFields.{known_command, known_con, known_map}
-use Rattle.bpaf_program.specs.KnownParser.{AreKnownFields, IsExactFor, IsKnownParser, IsValueBy}
-use Rattle.bpaf_program.specs.KnownParser.{program_names, shown_shorts}
+use Rattle.bpaf_record.specs.Grammar.{Grammar, alone, choice, command_words, keys_of, program_form}
+use Rattle.bpaf_record.specs.{Commands.plain_command_law, Grammar.both, Program.AnswersAsProgram}
+use Rattle.bpaf_words.specs.{Arguments.Given, Spelling.ShortNames}
 
 module _ {A B : Type 0} (inner : Outcome A) {answers wanted : A → B → Type 0}
     (only : (x : A) (v : B) → answers x v → wanted x v) where

@@ -1,30 +1,29 @@
 -- Flat fields and records all of whose values on the same pieces look alike.
-use Rattle.std.proofs.Common.{◌≡◌, Bool, true, false, List, [], ◌∷◌, ◌++◌, Some, map, ℕ, ap, not}
-use Rattle.std.proofs.Common.{string_bytes, subst, sym, ◌&&◌, ◌||◌, ◌∙◌}
+use Rattle.std.proofs.Common.{Bool, List, [], ap, false, map, string_bytes, true, ℕ, ◌++◌, ◌∷◌, ◌≡◌}
+use Rattle.std.proofs.Common.{Some, not, subst, sym, ◌&&◌, ◌||◌, ◌∙◌}
 use Rattle.std.specs.Prelude.{option_map}
 use Rattle.bpaf_doc.specs.Names.{Names}
 use Rattle.bpaf_text.specs.{Meaning.SpellsUnsigned, Named.KeyWithValue, Named.key_named}
-use Rattle.bpaf_laws.specs.Default.{FallbackOutcome, GivesClone}
-use Rattle.bpaf_laws.specs.Product.{BothOutcome, ProductOutcome}
-use Rattle.bpaf_laws.specs.{Argument.ArgumentOutcome, Environment.first_set, Flag.FlagOutcome}
-use Rattle.bpaf_laws.specs.{Reading.Outcome, Repeat.ManyOutcome, Repeat.is_nil, Turn.TurnOutcome}
-use Rattle.bpaf.specs.declared.leaves.positional.Position.{Position}
-use Rattle.bpaf.specs.Positional.{PositionalOutcome, accepts}
-use Rattle.bpaf_exact.specs.ProgramForm.{FormLaw, ProgramForm, completed, program_alone}
-use Rattle.bpaf_exact.specs.ProgramForm.{program_both, program_closed, program_con, program_field}
-use Rattle.bpaf_record.specs.Positional.{positional_law}
-use Rattle.bpaf_exact.specs.Leaves.{ArgumentValue, argument_field, argument_group, argument_roles}
-use Rattle.bpaf_exact.specs.{Gathered.list_closure, ProgramForm.program_optional, Single.OwnList}
-use Rattle.bpaf_exact.specs.{Single.repeated, Single.gap_of, Flat.Variables, Leaves.flag_field}
-use Rattle.bpaf_exact.specs.{Leaves.key_field, Leaves.word_by, OneView.Alike, OneView.HasOneView}
-use Rattle.bpaf_exact.specs.{OneView.pair_view, Wrappers.FallbackValue, Wrappers.map_closure}
-use Rattle.bpaf_exact.proofs.ProgramForm.{program_alone_law, program_both_law, program_con_law}
-use Rattle.bpaf_exact.proofs.ProgramForm.{program_field_law}
-use Rattle.bpaf_exact.proofs.OneView.{alone_view, argument_view, both_view, con_view, field_view}
-use Rattle.bpaf_exact.proofs.OneView.{fallback_view, flag_view, many_view, optional_field_view}
-use Rattle.bpaf_exact.proofs.ByTables.{fallback_law, many_law, optional_law}
-use Rattle.bpaf_exact.proofs.{Arguments.argument_field_law, Flags.flag_field_law, OneView.word_view}
+use Rattle.bpaf_laws.specs.{Argument.ArgumentOutcome, Default.FallbackOutcome, Product.BothOutcome}
+use Rattle.bpaf_laws.specs.{Default.GivesClone, Environment.first_set, Product.ProductOutcome}
+use Rattle.bpaf_laws.specs.{Flag.FlagOutcome, Reading.Outcome, Repeat.ManyOutcome, Turn.TurnOutcome}
+use Rattle.bpaf_laws.specs.Repeat.{is_nil}
+use Rattle.bpaf_exact.proofs.OneView.{alone_view, argument_view, both_view, con_view, fallback_view}
+use Rattle.bpaf_exact.proofs.OneView.{field_view, flag_view, many_view, optional_field_view}
+use Rattle.bpaf_exact.proofs.ProgramForm.{fallback_law, many_law, program_both_law, program_con_law}
+use Rattle.bpaf_exact.proofs.ProgramForm.{optional_law, program_alone_law, program_field_law}
+use Rattle.bpaf_exact.proofs.{Leaves.argument_field_law, Leaves.flag_field_law, OneView.word_view}
+use Rattle.bpaf_exact.specs.Leaves.{argument_field, argument_group, flag_field, key_field, word_by}
+use Rattle.bpaf_exact.specs.ProgramForm.{FormLaw, ProgramForm, completed, program_both, program_con}
+use Rattle.bpaf_exact.specs.ProgramForm.{program_alone, program_closed, program_optional}
+use Rattle.bpaf_exact.specs.{OneView.HasOneView, ProgramForm.program_field, Wrappers.FallbackValue}
+use Rattle.bpaf_exact.specs.{Gathered.list_closure, Leaves.ArgumentValue, Leaves.argument_roles}
+use Rattle.bpaf_exact.specs.{OneView.pair_view, Single.repeated, Wrappers.map_closure}
+use Rattle.bpaf_exact.specs.{Flat.Variables, OneView.Alike, Single.OwnList, Single.gap_of}
+use Rattle.bpaf.specs.{Positional.PositionalOutcome, declared.leaves.positional.Position.Position}
+use Rattle.bpaf.specs.Positional.{accepts}
 use Rattle.bpaf_program.specs.Values.{IsKept, MeansText, String}
+use Rattle.bpaf_record.specs.Positional.{positional_law}
 
 -- a form that this outcome, of a parser with these keys, keeps to, and whose values look alike
 pub record IsSeen {T X : Type 0} (outcome : Outcome T) (see : T → X) (names : List Names)

@@ -1,21 +1,20 @@
 -- Programs all of whose values on the same words look alike.
-use Rattle.std.proofs.Common.{◌≡◌, All, true, IsUtf8, List, [], ◌∷◌, ◌++◌, ℕ, ap, ap₂, subst}
-use Rattle.std.proofs.Common.{sym, ◌∙◌, inl, inr}
+use Rattle.std.proofs.Common.{All, IsUtf8, List, [], ap, ap₂, subst, sym, true, ◌++◌, ◌∙◌, ◌∷◌, ◌≡◌}
+use Rattle.std.proofs.Common.{inl, inr, ℕ}
 use Rattle.bpaf_doc.specs.Names.{Names}
-use Rattle.bpaf_words.specs.{Arguments.Given, Spelling.Known}
 use Rattle.bpaf_laws.specs.{Product.BothOutcome, Reading.Outcome}
-use Rattle.bpaf_exact.specs.ProgramForm.{ProgramForm, are_words_apart, program_alone, program_both}
-use Rattle.bpaf_exact.specs.ProgramForm.{program_con, program_field, program_value}
+use Rattle.bpaf_exact.proofs.Commands.{opens_apart, opens_left, opens_one, opens_right}
+use Rattle.bpaf_exact.proofs.{Cuts.one_take, OneView.values_look_one, ProgramForm.words_apart}
+use Rattle.bpaf_exact.specs.ProgramForm.{ProgramForm, are_words_apart, program_alone, program_field}
 use Rattle.bpaf_exact.specs.Programs.{CellsValue, ChoiceValue, CommandValue, FieldThen, Opens}
-use Rattle.bpaf_exact.proofs.Commands.{opens_apart, opens_left, opens_right}
-use Rattle.bpaf_exact.proofs.ProgramForm.{words_apart}
-use Rattle.bpaf_exact.proofs.{Cuts.one_take, OneView.values_look_one, Programs.opens_one}
-use Rattle.bpaf_exact.specs.{OneView.Alike, OneView.pair_view, Pieces.Cells, Pieces.LinePiece}
-use Rattle.bpaf_exact.specs.{Pieces.Roles, Record.line_cells, Wrappers.ClosedValue}
-use Rattle.bpaf_record.specs.Program.{IsProgramValueOf}
-use Rattle.bpaf_record.proofs.OneLine.{same_context}
-use Rattle.bpaf_program.specs.KnownParser.{makes}
+use Rattle.bpaf_exact.specs.{OneView.pair_view, ProgramForm.program_both, ProgramForm.program_value}
+use Rattle.bpaf_exact.specs.{ProgramForm.program_con, Record.line_cells, Wrappers.ClosedValue}
+use Rattle.bpaf_exact.specs.{OneView.Alike, Pieces.Cells, Pieces.LinePiece, Pieces.Roles}
 use Rattle.bpaf_program.proofs.LookAlike.{IsSeen, alone_seen, both_seen, con_seen, field_seen}
+use Rattle.bpaf_program.specs.KnownParser.{makes}
+use Rattle.bpaf_record.proofs.OneLine.{same_context}
+use Rattle.bpaf_record.specs.Program.{IsProgramValueOf}
+use Rattle.bpaf_words.specs.{Arguments.Given, Spelling.Known}
 
 -- all values on the same cells look alike
 abbrev pub LooksOne : {T X : Type 0} → (T → X) → CellsValue T → Type 0

@@ -1,24 +1,23 @@
 -- The words behind the first `--` are what a repeat of strict words at the end of a record reads,
 -- all of them and in order.
-use Rattle.std.proofs.Common.{◌≡◌, ℕ, Bool, true, false, List, [], ◌∷◌, ◌++◌, map, refl, sym, ap}
-use Rattle.std.proofs.Common.{◌∙◌, if◌then◌else◌, not, true≢false, subst, cond}
-use Rattle.std.specs.List.{AllZip, AllByRecursion, filter}
+use Rattle.std.proofs.Common.{Bool, List, [], false, if◌then◌else◌, map, refl, true, ◌++◌, ◌∷◌, ◌≡◌}
+use Rattle.std.proofs.Common.{ap, cond, not, subst, sym, true≢false, ℕ, ◌∙◌}
 use Rattle.std.proofs.{lemmas.Bool.not-true, lemmas.List.Elements.recursion_from_All}
+use Rattle.std.specs.List.{AllByRecursion, AllZip, filter}
 use Rattle.bpaf_doc.specs.Names.{Names}
-use Rattle.bpaf_base.specs.declared.arg.Arg.TheVariants.{PosWord}
-use Rattle.bpaf_base.specs.{Items.is_key_of, Items.item_text, declared.arg.Arg.Arg}
-use Rattle.bpaf_words.specs.{Arguments.Given, Spelling.Known}
+use Rattle.bpaf_base.specs.{declared.arg.Arg.Arg, declared.arg.Arg.TheVariants.PosWord}
+use Rattle.bpaf_base.specs.Items.{is_key_of, item_text}
 use Rattle.bpaf_line.specs.{Constructing.IsContext, Situation.Context}
+use Rattle.bpaf_exact.proofs.{Fronts.of_front_one, PieceByPiece.word_values, Places.test_named}
+use Rattle.bpaf_exact.specs.Pieces.{Alone, Cut, IsNamed, LinePiece, One, Roles, is_own, is_own_role}
+use Rattle.bpaf_exact.specs.{Flat.front, Leaves.flag_roles, Pieces.stands_behind, Record.line_cells}
+use Rattle.bpaf_exact.specs.{Leaves.WordValue, Pieces.is_value, Says.RepeatSays, Says.first_item}
+use Rattle.bpaf_exact.specs.{Flat.OneWord, Flat.back, Pieces.Two, Pieces.others, Says.WordSays}
+use Rattle.bpaf.proofs.Sides.{all_spelled, of_words}
 use Rattle.bpaf.specs.declared.leaves.positional.Position.TheVariants.{NonStrict, Strict}
 use Rattle.bpaf.specs.{Marker.words_before, Marker.words_behind, Positional.accepts}
-use Rattle.bpaf.proofs.Sides.{all_spelled, of_words}
-use Rattle.bpaf_exact.specs.Leaves.{WordValue, flag_roles}
-use Rattle.bpaf_exact.specs.Pieces.{Cut, LinePiece, One, Roles, Two, Alone, IsNamed, is_own}
-use Rattle.bpaf_exact.specs.Pieces.{is_own_role, is_value, others, stands_behind}
-use Rattle.bpaf_exact.specs.Says.{RepeatSays, WordSays, first_item}
-use Rattle.bpaf_exact.specs.{Flat.OneWord, Flat.back, Flat.front, Record.line_cells}
-use Rattle.bpaf_exact.proofs.{Fronts.of_front_one, Matching.test_named, PieceByPiece.word_values}
 use Rattle.bpaf_record.proofs.OnLine.{cut_kept, on_line}
+use Rattle.bpaf_words.specs.{Arguments.Given, Spelling.Known}
 
 -- the items behind `--` that begin pieces
 abbrev items_behind : List LinePiece → List Arg

@@ -20,7 +20,7 @@ use Rattle.bpaf_record.specs.Record.{is_flat_record, answer_of, AnswersByFields,
 use Rattle.bpaf_record.specs.Record.{IsValueOrWant, HasWholeLine, PiecesOf}
 use Rattle.bpaf_record.specs.{Program.is_whole_program, Commands.left_over}
 use Rattle.bpaf_record.proofs.OneLine.{never_without, same_context}
-use Rattle.bpaf_exact.proofs.{Classes.memory_class, Classes.not_memory, Accepted.cut_holds_together}
+use Rattle.bpaf_exact.proofs.{Classes.memory_class, Classes.not_memory, Cuts.cut_holds_together}
 use Rattle.bpaf_exact.proofs.{ProgramForm.record_law, ProgramForm.runs_exactly, Cuts.read_cut}
 use Rattle.bpaf_line.specs.declared.failure.ParseFailure.TheVariants as failure
 use Rattle.bpaf.specs.Ending.{EndsRun, memory, usage, passed_on, refused as told_refusal}

@@ -18,7 +18,7 @@ use Rattle.bpaf_exact.specs.ProgramForm.{ProgramForm, FormLaw, program_command}
 use Rattle.bpaf_exact.proofs.ProgramForm.{program_command_law, narrower_form}
 use Rattle.bpaf.specs.Leftover.{IsLeftover, conflict, only_once, not_expected}
 use Rattle.bpaf_line.specs.{declared.error.Error.Error, declared.error.Message.Message}
-use Rattle.bpaf_exact.proofs.{Classes.not_memory, Narrow.no_more, Counts.open_counted}
+use Rattle.bpaf_exact.proofs.{Classes.not_memory, ProgramForm.no_more, Places.open_counted}
 use Rattle.bpaf.specs.Ending.{EndsRun, memory, usage, passed_on, refused as told_refusal}
 use Rattle.bpaf.specs.Ending.{leftover as told_leftover}
 use Rattle.bpaf.specs.Run.{Runs, value as ran_value, leftover, refused}

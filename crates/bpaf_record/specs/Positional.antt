@@ -9,8 +9,8 @@ use Rattle.bpaf_line.specs.{declared.error.Error.Error, Situation.Situation}
 use Rattle.bpaf_exact.specs.Leaves.{WordValue, WordEval, word_by, word_fault, word_memory}
 use Rattle.bpaf_exact.specs.{Flat.class, Flat.class_of, Flat.Variables, Leaves.word_missing}
 use Rattle.bpaf_exact.specs.{Leaves.word_passed, Leaves.word_read, ProgramForm.FormLaw, Pieces.One}
-use Rattle.bpaf_exact.proofs.Positionals.{stands_before, word_by_law, word_is}
-use Rattle.bpaf_exact.proofs.{Narrow.no_more, ProgramForm.narrower_form}
+use Rattle.bpaf_exact.proofs.Leaves.{stands_before, word_by_law, word_is}
+use Rattle.bpaf_exact.proofs.{ProgramForm.no_more, ProgramForm.narrower_form}
 use Rattle.bpaf.specs.declared.leaves.positional.Position.{Position}
 use Rattle.bpaf.specs.Positional.{PositionalOutcome, PositionalFails, accepts}
 

@@ -4,7 +4,7 @@ ghost use Rattle.bpaf_record.specs.Grammar.{command_words, keys_of, program_form
 ghost use Rattle.bpaf_record.specs.Grammar.{fallback};
 ghost use Rattle.bpaf_exact.specs.ProgramSays.{said_optional, said_fallback};
 ghost use Rattle.bpaf_exact.specs.Wrappers.{map_closure, answer_closure, parse_closure};
-ghost use Rattle.bpaf_exact.proofs.ByTables.{optional_law, fallback_law, fallback_with_law};
+ghost use Rattle.bpaf_exact.proofs.ProgramForm.{optional_law, fallback_law, fallback_with_law};
 ghost use Rattle.bpaf_exact.proofs.ProgramSays.{program_optional_says, program_fallback_says};
 
 use crate::field::{FlatField, ProgramField};

@@ -2,7 +2,7 @@
 
 ghost use Rattle.bpaf_record.specs.Grammar.{command_words, keys_of, said_kind};
 ghost use Rattle.bpaf_exact.specs.ProgramSays.{fields_said_inside};
-ghost use Rattle.bpaf_exact.proofs.Keeping.{keep_before, keep_inside};
+ghost use Rattle.bpaf_exact.proofs.ProgramSays.{keep_before, keep_inside};
 ghost use Rattle.std.specs.Prelude.{true};
 
 use crate::field::{FlatField, FlatFields, ProgramField, ProgramFields};

@@ -4,7 +4,7 @@ ghost use Rattle.bpaf_record.specs.Grammar.{command_words, keys_of, program_form
 ghost use Rattle.bpaf_record.specs.Grammar.{both, product};
 ghost use Rattle.bpaf_exact.specs.ProgramSays.{said_alone, said_both, said_con};
 ghost use Rattle.bpaf_exact.specs.Wrappers.{map_closure};
-ghost use Rattle.bpaf_exact.proofs.Keeping.{keep_last, keep_before};
+ghost use Rattle.bpaf_exact.proofs.ProgramSays.{keep_last, keep_before};
 ghost use Rattle.bpaf_exact.proofs.{ProgramForm.program_con_law, ProgramSays.program_con_says};
 
 use crate::field::{FlatField, FlatFields, ProgramField, ProgramFields};

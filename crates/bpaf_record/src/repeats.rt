@@ -4,9 +4,9 @@ ghost use Rattle.bpaf_record.specs.Grammar.{command_words, keys_of, program_form
 ghost use Rattle.bpaf_exact.specs.Gathered.{list_closure, some_closure};
 ghost use Rattle.bpaf_exact.specs.ProgramSays.{said_repeat, said_last};
 ghost use Rattle.bpaf_exact.specs.Wrappers.{map_closure};
-ghost use Rattle.bpaf_exact.proofs.ByTables.{many_law, some_law, collect_law, count_law};
-ghost use Rattle.bpaf_exact.proofs.ProgramSays.{program_repeat_says, program_last_says};
+ghost use Rattle.bpaf_exact.proofs.ProgramForm.{many_law, some_law, collect_law, count_law};
 ghost use Rattle.bpaf_exact.proofs.ProgramForm.{program_last_law};
+ghost use Rattle.bpaf_exact.proofs.ProgramSays.{program_repeat_says, program_last_says};
 
 use crate::field::{FlatField, ProgramField};
 use crate::keys::KeyTest;

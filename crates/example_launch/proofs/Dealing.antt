@@ -15,7 +15,7 @@ use Rattle.bpaf_program.proofs.{WordBefore.word_before, Texts.texts_are}
 use Rattle.example_launch.specs.Dealing.{IsDealtLaunch, IsLaunchOf, dry_run_names, program_given}
 use Rattle.example_launch.specs.{declared.options.Launch.Launch, Dealing.program_known}
 use Rattle.example_launch.specs.{Dealing.verbose_names, Exact.AnswersLaunch, Exact.IsLaunchValue}
-use Rattle.bpaf_exact.proofs.{Says.listed_says, Says.word_by_says, Says.word_says, Cuts.read_cut}
+use Rattle.bpaf_exact.proofs.{ProgramSays.listed_says, ProgramSays.word_by_says, ProgramSays.word_says, Cuts.read_cut}
 
 -- what the name says of its piece
 name_says : (os : List LinePiece) (v : String)
