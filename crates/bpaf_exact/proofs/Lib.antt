@@ -3,8 +3,10 @@ pub mod Classes
 pub mod Cuts
 pub mod Names
 pub mod Product
+pub mod Repeat
 pub mod Wrappers
 pub mod Choice
+pub mod Programs
 pub mod Commands
 pub mod ProgramForm
 pub mod OneView
@@ -13,5 +15,6 @@ pub mod Surplus
 pub mod Fronts
 pub mod PieceByPiece
 pub mod Needed
+pub mod Says
 pub mod ProgramSays
 pub mod Leaves

@@ -8,12 +8,14 @@ use Rattle.bpaf_base.specs.Items.{item_text}
 use Rattle.bpaf_line.specs.Situation.{Context}
 use Rattle.bpaf_text.specs.Named.{KeyWithValue, Named as Key}
 use Rattle.bpaf_laws.specs.{Environment.first_set, Reading.Outcome, Repeat.is_nil}
-use Rattle.bpaf_exact.proofs.{Cuts.one_take, ProgramForm.runs_exactly, Wrappers.alternative_single}
-use Rattle.bpaf_exact.proofs.{Commands.none_opens, ProgramForm.record_law, ProgramForm.whole_law}
-use Rattle.bpaf_exact.proofs.{Cuts.one_cut, Cuts.read_cut, Leaves.last_same, Wrappers.own_nil}
+use Rattle.bpaf_exact.proofs.Cuts.{one_take, one_cut, read_cut}
+use Rattle.bpaf_exact.proofs.ProgramForm.{runs_exactly, record_law, whole_law}
+use Rattle.bpaf_exact.proofs.Wrappers.{alternative_single}
+use Rattle.bpaf_exact.proofs.{Commands.none_opens, Leaves.last_same, Repeat.own_nil}
 use Rattle.bpaf_exact.specs.Leaves.{ArgumentValue, FlagValue, WordValue, argument_field, flag_field}
 use Rattle.bpaf_exact.specs.Leaves.{argument_group, argument_roles, flag_roles, key_field, word_by}
 use Rattle.bpaf_exact.specs.OneView.{Alike, HasOneView, LooksLike, OneGroup, RunsToOne, pair_view}
+use Rattle.bpaf_exact.specs.OneView.{Respects}
 use Rattle.bpaf_exact.specs.Pieces.{Cells, IsNamed, LinePiece, One, Roles, Two}
 use Rattle.bpaf_exact.specs.ProgramForm.{ProgramForm, alternative, before_commands, product, single}
 use Rattle.bpaf_exact.specs.ProgramForm.{FormLaw, commands, complete, program_closed, program_field}
@@ -21,12 +23,12 @@ use Rattle.bpaf_exact.specs.ProgramForm.{completed, is_record, may_follow, progr
 use Rattle.bpaf_exact.specs.ProgramForm.{product_reading, program_alone, program_con, whole_program}
 use Rattle.bpaf_exact.specs.ProgramForm.{program_optional, program_value, whole_value}
 use Rattle.bpaf_exact.specs.Record.{Accepted, NoMemory, RecordValue, Refusal, RunAnswer, line_cells}
+use Rattle.bpaf_exact.specs.Record.{IsExact}
 use Rattle.bpaf_exact.specs.Single.{FrontOf, Gap, Groups, OwnList, SingleLaw, SingleValue, own_none}
 use Rattle.bpaf_exact.specs.Single.{Own, listed, listed_and_absent, only_absent, own_more, repeated}
 use Rattle.bpaf_exact.specs.Wrappers.{ClosedValue, Closure, FallbackValue, OptionalValue}
+use Rattle.bpaf_exact.specs.Flat.{FieldKind, FieldsLaw, FieldsReading, ByName, ReadOff, Variables}
 use Rattle.bpaf_exact.specs.{Gathered.list_closure, Names.are_all_apart, Programs.OptionalCommands}
-use Rattle.bpaf_exact.specs.{Flat.FieldKind, Flat.FieldsLaw, Flat.FieldsReading, OneView.Respects}
-use Rattle.bpaf_exact.specs.{Flat.ByName, Flat.ReadOff, Flat.Variables, Record.IsExact}
 
 -- Closures.
 

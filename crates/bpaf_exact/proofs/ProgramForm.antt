@@ -3,9 +3,9 @@
 use Rattle.std.proofs.Common.{Bool, List, None, Ok, Option, Result, Some, [], ap, append-nil, arith}
 use Rattle.std.proofs.Common.{Err, bytes_eq, false, if◌then◌else◌, inl, inr, length, not, slice_get}
 use Rattle.std.proofs.Common.{refl, subst, sym, true, true≢false, zero, ℕ, ⊎_elim, ◌&&◌, ◌++◌, ◌||◌}
-use Rattle.std.proofs.{Common.◌<◌, lemmas.Bool.false_from_ne_true, lemmas.Slice.Eq.bytes_eq-Decides}
-use Rattle.std.proofs.{Common.◌∙◌, lemmas.Bool.and_parts, lemmas.Bool.le-leb, lemmas.Bool.lt-ltb}
-use Rattle.std.proofs.Common.{◌∷◌, ◌≡◌, ◌⊎◌}
+use Rattle.std.proofs.Common.{◌<◌, ◌∙◌, ◌∷◌, ◌≡◌, ◌⊎◌}
+use Rattle.std.proofs.lemmas.Bool.{false_from_ne_true, and_parts, le-leb, lt-ltb}
+use Rattle.std.proofs.lemmas.Slice.Eq.{bytes_eq-Decides}
 use Rattle.std.specs.{Global.Vec, List.list_all, Option.option_map_or}
 use Rattle.bpaf_doc.specs.Names.{Names}
 use Rattle.bpaf_base.specs.{Items.command_word, Items.is_command_word, declared.arg.Arg.Arg}
@@ -14,20 +14,23 @@ use Rattle.bpaf_line.specs.{declared.error.Error.Error, declared.error.Message.T
 use Rattle.bpaf_line.specs.{Taking.open_item, declared.error.Message.Message}
 use Rattle.bpaf_laws.specs.Default.{FallbackOutcome, Gives, GivesAnswer, GivesClone}
 use Rattle.bpaf_laws.specs.Repeat.{CollectOutcome, CountOutcome, LastOutcome, ManyOutcome, is_nil}
-use Rattle.bpaf_laws.specs.{Product.ProductOutcome, Transform.GuardOutcome, Transform.ParseOutcome}
-use Rattle.bpaf_laws.specs.{Choice.ChoiceOutcome, Command.opening_words, Transform.MapOutcome}
-use Rattle.bpaf_laws.specs.{Command.is_one_of, Hide.hidden, Product.BothOutcome, Repeat.SomeOutcome}
-use Rattle.bpaf_laws.specs.{Command.Called, Hide.HideOutcome, Reading.Outcome, Turn.TurnOutcome}
+use Rattle.bpaf_laws.specs.Repeat.{SomeOutcome}
+use Rattle.bpaf_laws.specs.Transform.{GuardOutcome, ParseOutcome, MapOutcome}
+use Rattle.bpaf_laws.specs.Command.{opening_words, is_one_of, Called}
+use Rattle.bpaf_laws.specs.{Product.ProductOutcome, Product.BothOutcome, Choice.ChoiceOutcome}
+use Rattle.bpaf_laws.specs.{Hide.hidden, Hide.HideOutcome, Reading.Outcome, Turn.TurnOutcome}
 use Rattle.bpaf_exact.proofs.Classes.{caught_class, goes_on, kept_class, memory_class, stops_at}
-use Rattle.bpaf_exact.proofs.Commands.{before_law, choice_commands, closed_commands, closed_program}
-use Rattle.bpaf_exact.proofs.Commands.{command_law, con_program, optional_commands, record_program}
+use Rattle.bpaf_exact.proofs.Programs.{before_law, command_law, con_program, record_program}
+use Rattle.bpaf_exact.proofs.Commands.{choice_commands, closed_commands, closed_program}
+use Rattle.bpaf_exact.proofs.Commands.{optional_commands}
 use Rattle.bpaf_exact.proofs.Product.{both_law, count_none, last_law, named_both_law, named_con_law}
+use Rattle.bpaf_exact.proofs.Product.{named_last_law, none_counted, con_law}
 use Rattle.bpaf_exact.proofs.Wrappers.{alternative_single, closed_law, fallback_field, left_out_law}
-use Rattle.bpaf_exact.proofs.Wrappers.{closed_alternative, last_of_law, repeat_law, some_agrees_on}
-use Rattle.bpaf_exact.proofs.{Names.apart_of_names, Product.named_last_law, Wrappers.closed_single}
-use Rattle.bpaf_exact.proofs.{Places.open_present, Product.none_counted, Wrappers.single_law}
-use Rattle.bpaf_exact.proofs.{Choice.choice_law, Cuts.one_cut, Names.either_owns, Places.same_cells}
-use Rattle.bpaf_exact.proofs.{Cuts.read_cut, Names.both_hold, Names.foreign_of, Product.con_law}
+use Rattle.bpaf_exact.proofs.Wrappers.{closed_alternative, closed_single, single_law}
+use Rattle.bpaf_exact.proofs.Repeat.{last_of_law, repeat_law, some_agrees_on}
+use Rattle.bpaf_exact.proofs.Names.{apart_of_names, either_owns, both_hold, foreign_of}
+use Rattle.bpaf_exact.proofs.Places.{open_present, same_cells}
+use Rattle.bpaf_exact.proofs.{Choice.choice_law, Cuts.one_cut, Cuts.read_cut}
 use Rattle.bpaf_exact.specs.Flat.{Before, ErrorClass, FieldKind, FieldLaw, FieldsLaw, FieldsReading}
 use Rattle.bpaf_exact.specs.Flat.{ByName, Caught, IsWholeIn, KeepsTo, NonePresent, ReadOff, Refused}
 use Rattle.bpaf_exact.specs.Flat.{OfMemory, Variables, both_reading, cells, class, class_of, keys}
@@ -38,20 +41,22 @@ use Rattle.bpaf_exact.specs.ProgramForm.{is_named, is_record, product, product_r
 use Rattle.bpaf_exact.specs.ProgramForm.{program_both, program_choice, program_command, program_con}
 use Rattle.bpaf_exact.specs.ProgramForm.{no_program, program_closed, program_dressed, program_field}
 use Rattle.bpaf_exact.specs.ProgramForm.{program_if, program_optional, program_value, whole_program}
+use Rattle.bpaf_exact.specs.ProgramForm.{whole_value, single}
 use Rattle.bpaf_exact.specs.Programs.{CellsValue, CommandEval, IsSpelledLine, ProgramLaw, are_plain}
+use Rattle.bpaf_exact.specs.Programs.{WordsApart}
 use Rattle.bpaf_exact.specs.Record.{IsAcceptedOrWant, IsExact, IsNoValue, RecordValue, last_reading}
 use Rattle.bpaf_exact.specs.Record.{Accepted, RunAnswer, RunRan, line_cells, run_refusal, run_value}
+use Rattle.bpaf_exact.specs.Record.{run_leftover, run_memory}
 use Rattle.bpaf_exact.specs.Single.{Gap, Groups, OwnList, RepeatOutcome, SingleLaw, repeated}
 use Rattle.bpaf_exact.specs.Wrappers.{ClosedEval, ClosedValue, Closure, FallbackEval, FallbackValue}
 use Rattle.bpaf_exact.specs.Wrappers.{Decides, answer_closure, closed_err, closed_memory, closed_no}
 use Rattle.bpaf_exact.specs.Wrappers.{fallback_given, fallback_memory, fallback_no, optional_memory}
 use Rattle.bpaf_exact.specs.Wrappers.{guard_closure, optional_none, optional_some, parse_closure}
 use Rattle.bpaf_exact.specs.Wrappers.{OptionalEval, fallback_err, fallback_ok, optional_err}
-use Rattle.bpaf_exact.specs.{Gathered.list_closure, Gathered.some_closure, ProgramForm.whole_value}
-use Rattle.bpaf_exact.specs.{Names.are_all_apart, Programs.WordsApart, Wrappers.map_closure}
-use Rattle.bpaf_exact.specs.{Record.run_leftover, Theorem.RunsExactly, Wrappers.closed_yes}
-use Rattle.bpaf_exact.specs.{Pieces.LinePiece, Pieces.either, ProgramForm.single, Record.run_memory}
-use Rattle.bpaf_exact.specs.{Gathered.LastOf, Names.Owns, Pieces.Cut, Pieces.Roles, Pieces.no_roles}
+use Rattle.bpaf_exact.specs.Wrappers.{map_closure, closed_yes}
+use Rattle.bpaf_exact.specs.Gathered.{list_closure, some_closure, LastOf}
+use Rattle.bpaf_exact.specs.Pieces.{LinePiece, either, Cut, Roles, no_roles}
+use Rattle.bpaf_exact.specs.{Names.are_all_apart, Names.Owns, Theorem.RunsExactly}
 
 -- what b allows a allows too, of a refusal one of the same class
 pub record AllowsNoMore (T : Type 0) (a b : Outcome T) : Type 0 where

@@ -3,13 +3,14 @@ use Rattle.std.proofs.Common.{All, IsUtf8, List, [], ap, ap₂, subst, sym, true
 use Rattle.std.proofs.Common.{inl, inr, ℕ}
 use Rattle.bpaf_doc.specs.Names.{Names}
 use Rattle.bpaf_laws.specs.{Product.BothOutcome, Reading.Outcome}
-use Rattle.bpaf_exact.proofs.Commands.{opens_apart, opens_left, opens_one, opens_right}
-use Rattle.bpaf_exact.proofs.{Cuts.one_take, OneView.values_look_one, ProgramForm.words_apart}
+use Rattle.bpaf_exact.proofs.Commands.{opens_apart, opens_left, opens_right}
+use Rattle.bpaf_exact.proofs.OneView.{values_look_one}
+use Rattle.bpaf_exact.proofs.{Programs.opens_one, Cuts.one_take, ProgramForm.words_apart}
 use Rattle.bpaf_exact.specs.ProgramForm.{ProgramForm, are_words_apart, program_alone, program_field}
+use Rattle.bpaf_exact.specs.ProgramForm.{program_both, program_value, program_con}
 use Rattle.bpaf_exact.specs.Programs.{CellsValue, ChoiceValue, CommandValue, FieldThen, Opens}
-use Rattle.bpaf_exact.specs.{OneView.pair_view, ProgramForm.program_both, ProgramForm.program_value}
-use Rattle.bpaf_exact.specs.{ProgramForm.program_con, Record.line_cells, Wrappers.ClosedValue}
-use Rattle.bpaf_exact.specs.{OneView.Alike, Pieces.Cells, Pieces.LinePiece, Pieces.Roles}
+use Rattle.bpaf_exact.specs.{OneView.pair_view, OneView.Alike, Record.line_cells}
+use Rattle.bpaf_exact.specs.{Wrappers.ClosedValue, Pieces.Cells, Pieces.LinePiece, Pieces.Roles}
 use Rattle.bpaf_program.proofs.LookAlike.{IsSeen, alone_seen, both_seen, con_seen, field_seen}
 use Rattle.bpaf_program.specs.KnownParser.{makes}
 use Rattle.bpaf_record.proofs.OneLine.{same_context}

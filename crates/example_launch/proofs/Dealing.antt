@@ -5,7 +5,8 @@ use Rattle.std.proofs.Common.{string_bytes, subst, sym, true≢false, ◌∙◌}
 use Rattle.std.specs.List.{Contains}
 use Rattle.bpaf_line.specs.declared.failure.ParseFailure.{ParseFailure}
 use Rattle.bpaf.specs.declared.leaves.positional.Position.TheVariants.{Strict, NonStrict}
-use Rattle.bpaf.specs.{Marker.words_before, Marker.words_behind, Positional.accepts}
+use Rattle.bpaf.specs.Marker.{words_before, words_behind}
+use Rattle.bpaf.specs.Positional.{accepts}
 use Rattle.bpaf_exact.specs.Leaves.{WordValue, flag_roles}
 use Rattle.bpaf_exact.specs.Single.{FrontOf, SingleValue, gap_of}
 use Rattle.bpaf_exact.specs.{Gathered.list_closure, Pieces.LinePiece, Pieces.others, Says.WordSays}
@@ -13,9 +14,10 @@ use Rattle.bpaf_record.proofs.PassedOn.{flag_leaves, line_behind, name_before, s
 use Rattle.bpaf_program.specs.Values.{MeansText, String}
 use Rattle.bpaf_program.proofs.{WordBefore.word_before, Texts.texts_are}
 use Rattle.example_launch.specs.Dealing.{IsDealtLaunch, IsLaunchOf, dry_run_names, program_given}
-use Rattle.example_launch.specs.{declared.options.Launch.Launch, Dealing.program_known}
-use Rattle.example_launch.specs.{Dealing.verbose_names, Exact.AnswersLaunch, Exact.IsLaunchValue}
-use Rattle.bpaf_exact.proofs.{ProgramSays.listed_says, ProgramSays.word_by_says, ProgramSays.word_says, Cuts.read_cut}
+use Rattle.example_launch.specs.Dealing.{program_known, verbose_names}
+use Rattle.example_launch.specs.declared.options.Launch.{Launch}
+use Rattle.example_launch.specs.Exact.{AnswersLaunch, IsLaunchValue}
+use Rattle.bpaf_exact.proofs.{Says.listed_says, Says.word_by_says, Says.word_says, Cuts.read_cut}
 
 -- what the name says of its piece
 name_says : (os : List LinePiece) (v : String)

@@ -1,0 +1,421 @@
+-- Repeats of a field that keeps to the laws of one evaluation, and what `some` and `last` make of
+-- one.
+use Rattle.std.proofs.Common.{Bool, Err, List, None, Ok, arith, false, inl, inr, refl, [], ap}
+use Rattle.std.proofs.Common.{subst, sym, true, true≢false, ⊎_elim, ◌<◌, ◌∙◌, ◌∷◌, ◌≡◌, ◌≤◌, ◌++◌}
+use Rattle.std.proofs.Common.{◌⊎◌}
+use Rattle.bpaf_line.specs.{Situation.Situation, Situation.open_count, declared.error.Error.Error}
+use Rattle.bpaf_laws.specs.Repeat.{LastOutcome, UntilRest, Turns, is_nil, rests, stops}
+use Rattle.bpaf_laws.specs.{Reading.Outcome, Turn.TurnOutcome}
+use Rattle.bpaf_exact.proofs.Classes.{stops_at, memory_class, goes_on}
+use Rattle.bpaf_exact.proofs.Places.{takes_some_fewer, open_present, takes_fewer}
+use Rattle.bpaf_exact.proofs.Product.{none_outside_after, steady_trans, steady_refl}
+use Rattle.bpaf_exact.proofs.Fronts.{no_keys_left, never_nil, back_all, each_nil, nil_each}
+use Rattle.bpaf_exact.proofs.Cuts.{some_trans}
+use Rattle.bpaf_exact.specs.Flat.{EachWord, ErrorClass, FieldKind, FieldTook, IsWholeIn, ByName}
+use Rattle.bpaf_exact.specs.Flat.{FieldLaw, OfMemory, OfMissing, OneWord, OwnItems, Steady}
+use Rattle.bpaf_exact.specs.Flat.{Variables, back, cells, class, front}
+use Rattle.bpaf_exact.specs.Pieces.{Cells, LinePiece, TakesPieces, pieces, takes_more, takes_none}
+use Rattle.bpaf_exact.specs.Pieces.{Roles}
+use Rattle.bpaf_exact.specs.Single.{CanCatch, Gap, Own, OwnList, ReadsWords, RepeatOutcome}
+use Rattle.bpaf_exact.specs.Single.{Readable, SingleErr, SingleLaw, SingleOk, TakesAny, Groups}
+use Rattle.bpaf_exact.specs.Single.{catch_missing, catch_other, caught, gave_absent, TookGroup}
+use Rattle.bpaf_exact.specs.Single.{listed, listed_and_absent, nothing_found, of_missing, of_absent}
+use Rattle.bpaf_exact.specs.Single.{of_memory, of_piece, only_absent, own_more, own_none}
+use Rattle.bpaf_exact.specs.Single.{present_count, Stops, repeated, took}
+use Rattle.bpaf_exact.specs.{Wrappers.AgreesOn, Gathered.some_closure, Gathered.LastOf}
+
+-- where the cells are the same none was taken
+pub same_takes : {q : Roles} {cs ds : Cells} → ds ≡ cs → TakesPieces q cs ds
+same_takes e = rw e takes_none
+
+-- what has an own list can be read
+readable : {T : Type 0} (k : FieldKind) {group : Groups T} (os : List LinePiece) {vs : List T}
+    → Own T group (front (repeated k) os) vs → Readable k group os
+readable ByName os {vs} o = (vs, o)
+readable _ os o = tt
+
+-- where the cells are the same as many items are present
+pub same_count : (s m : Situation) → cells m ≡ cells s → open_count m ≡ open_count s
+same_count s m e = open_present m ∙ (ap present_count e ∙ sym (open_present s))
+
+-- a turn that took nothing stops at what can be caught
+pub stops_by : {s m : Situation} {e : Error} → CanCatch (class e)
+    → (class e ≡ OfMissing → cells m ≡ cells s) → Stops e s m
+stops_by {s} {m} (catch_missing c) same = nothing_found c (same_count s m (same c))
+stops_by (catch_other c) same = caught c
+
+-- a turn stops at what can be caught
+pub stopped_by : {s m : Situation} {e : Error} → Stops e s m → CanCatch (class e)
+stopped_by (nothing_found c same) = catch_missing c
+stopped_by (caught c) = catch_other c
+
+-- where it can be caught there is no piece, and no absent value
+pub catch_none : {T : Type 0} {k : FieldKind} {q : Roles} {group : Groups T} {gap : Gap T}
+    {s m : Situation} {c : ErrorClass} → CanCatch c → SingleErr T k q group gap s c m
+    → (gap.has ≡ false) × (front k (pieces q (cells s)) ≡ [])
+catch_none h (of_missing c g p same) = (g, p)
+catch_none (catch_missing h) (of_memory c) = absurd cc
+catch_none (catch_other h) (of_memory c) = absurd cc
+catch_none (catch_missing h) (of_absent c g p n) = absurd cc
+catch_none (catch_other h) (of_absent c g p n) = absurd cc
+catch_none (catch_missing h) (of_piece c p n) = absurd cc
+catch_none (catch_other h) (of_piece c p n) = absurd cc
+
+-- where nothing is there, and nothing stands for that, there is no value
+pub none_given : {T : Type 0} {k : FieldKind} {q : Roles} {group : Groups T} {gap : Gap T}
+    {s t : Situation} {v : T} → (front k (pieces q (cells s)) ≡ []) × (gap.has ≡ false)
+    → SingleOk T k q group gap s v t → ⊥
+none_given none (gave_absent h p ab same st) = let b = none.1 in cc
+none_given none (took h) = h.found none.0
+
+module _ {env : Variables} {T : Type 0} {inner : Outcome T} {k : FieldKind} {q : Roles}
+    {group : Groups T} {gap : Gap T} (l : SingleLaw env T inner k q group gap) where
+  -- the pieces that a repeat takes
+  abbrev own : Situation → List LinePiece
+  own s = front (repeated k) (pieces q (cells s))
+
+  -- and those that it leaves
+  abbrev left : Situation → List LinePiece
+  left s = back (repeated k) (pieces q (cells s))
+
+  -- where a turn takes none the repeat takes none
+  own_none_left : (s : Situation) → front k (pieces q (cells s)) ≡ [] → own s ≡ []
+  own_none_left s none = each_nil k (pieces q (cells s)) none
+
+  -- a group at the front of all pieces is one at the front of those
+  by_group : {os : List LinePiece} {v : T} {rest : List LinePiece} → group os v rest
+      → group (front (repeated k) os) v (front (repeated k) rest)
+      × (back (repeated k) rest ≡ back (repeated k) os)
+  by_group {os} {v} {rest} g =
+      elim k as (λ z. ReadsWords z group → group (front (repeated z) os) v (front (repeated z) rest)
+      × (back (repeated z) rest ≡ back (repeated z) os)) [
+        | ByName ↦ λ u. (g, refl)
+        | OneWord b ↦ λ u. u.by_each os v rest g
+        | EachWord b ↦ λ u. absurd u
+      ] l.words
+
+  -- and the other way
+  of_group : {os : List LinePiece} {v : T} {rest : List LinePiece}
+      → group (front (repeated k) os) v rest
+      → (more : List LinePiece) × group os v more × (rest ≡ front (repeated k) more)
+  of_group {os} {v} {rest} = by_kind k l.words
+    where
+      by_kind : (z : FieldKind) → ReadsWords z group → group (front (repeated z) os) v rest
+          → (more : List LinePiece) × group os v more × (rest ≡ front (repeated z) more)
+      by_kind ByName u g = (rest, g, refl)
+      by_kind (OneWord b) u g = u.of_each os v rest g
+      by_kind (EachWord b) u g = absurd u
+
+  -- what a repeat took: all its pieces, of which this is said
+  record Took (told : List LinePiece → Type 0) (s t : Situation) : Type 0 where
+    steady : Steady s t
+    takes : TakesPieces q (cells s) (cells t)
+    none : pieces q (cells t) ≡ left s
+    list : told (own s)
+
+  -- once it has the first value
+  abbrev Later : List T → List LinePiece → Type 0
+  Later vs os = Own T group os vs × (gap.has ≡ true → (a : T) × gap.absent a)
+
+  -- from its start
+  abbrev Whole : List T → List LinePiece → Type 0
+  Whole vs os = OwnList T group gap os vs
+
+  -- where a piece was taken fewer items are present
+  fewer_count : (s m : Situation) → TakesAny q (cells s) (cells m) → open_count m < open_count s
+  fewer_count s m t =
+      let a = takes_fewer t.one in
+      let d = takes_some_fewer t.more in
+      let b = open_present m in
+      let c = open_present s in
+      omega arith
+
+  -- a repeat that ends where there is no piece
+  ended : (told : List LinePiece → Type 0) {s t : Situation} → Steady s t
+      → front k (pieces q (cells s)) ≡ [] → cells t ≡ cells s → told [] → Took told s t
+  ended told {s} st p e list = record {
+    steady = st;
+    takes = same_takes e;
+    none = ap (pieces q) e ∙ sym (back_all (repeated k) (own_none_left s p));
+    list = rw (own_none_left s p) list;
+  }
+
+  -- one value more
+  took_more : {s m t : Situation} {v : T} {vs : List T} → TookGroup T k q group s v m
+      → Took (Later vs) m t → Took (Later (v ∷ vs)) s t
+  took_more h i =
+      let g = by_group (h.read (readable k _ i.list.0)) in
+      record {
+        steady = steady_trans h.steady i.steady;
+        takes = takes_more h.takes.one (some_trans h.takes.more i.takes);
+        none = i.none ∙ g.1;
+        list = (own_more g.0 i.list.0, i.list.1);
+      }
+
+  -- a turn after a value took something
+  step_took : {s m t : Situation} {v : T} {vs : List T}
+      → (false ≡ true) ⊎ (open_count m < open_count s) → SingleOk T k q group gap s v m
+      → (Steady s m → Took (Later vs) m t) → Took (Later (v ∷ vs)) s t
+  step_took (inl e) o i = absurd cc
+  step_took {s} {m} (inr fewer) (gave_absent h p ab same st) i =
+      let h = same_count s m same in absurd (omega arith)
+  step_took (inr fewer) (took h) i = took_more h (i h.steady)
+
+  -- a value that took nothing ends it
+  enough_took : {s t : Situation} {v : T} → open_count s ≤ open_count t
+      → SingleOk T k q group gap s v t → Took (Later []) s t
+  enough_took {v} same (gave_absent h p ab e st) =
+      ended (Later []) st p e (own_none, λ i. (v, ab))
+  enough_took {s} {t} same (took h) = let f = fewer_count s t h.takes in absurd (omega arith)
+
+  -- a turn after a value that stops
+  stop_took : (s : Situation) {t : Situation} → IsWholeIn env s
+      → TurnOutcome inner false false s (Ok None) t → Took (Later []) s t
+  stop_took s {t} w (inl o) = enough_took o.3 (l.keeps.ok s t o.0 w o.1)
+  stop_took s w (inr o) =
+      let refused = l.keeps.err s o.0.1 o.0.0 w o.0.2 in
+      let a = catch_none (stopped_by {s = s} {m = o.0.1} (stops_at o.0.3)) refused in
+      let g = a.0 in
+      rw o.1 (ended (Later []) steady_refl a.1 refl (own_none, λ i. absurd cc))
+
+  -- Once it has the first value, a repeat that answers has read all its pieces.
+  later_took : (vs : List T) {s m t : Situation} → IsWholeIn env s → Turns inner false false s vs m
+      → TurnOutcome inner false false m (Ok None) t → Took (Later vs) s t
+  later_took [] {s} w turns stop = stop_took s w (rw turns stop)
+  later_took (v ∷ vs) {s} w turns stop = step_took turns.1.1 (l.keeps.ok s turns.0 v w turns.1.0)
+      (λ st. later_took vs (none_outside_after w st) turns.2 stop)
+
+  -- no piece has no own list but the empty one
+  pub own_nil : {os : List LinePiece} {vs : List T} → os ≡ [] → Own T group os vs → vs ≡ []
+  own_nil e own_none = refl
+  own_nil e (own_more {rest} {v} g o) = absurd (l.starts v rest (rw (← e) g))
+
+  -- an own list, with the absent value where there is one
+  with_absent : (has : Bool) → gap.has ≡ has → {os : List LinePiece} {v : T} {vs : List T}
+      → (gap.has ≡ true → (a : T) × gap.absent a) → Own T group os (v ∷ vs)
+      → OwnList T group gap os (v ∷ vs)
+  with_absent true e ab o = let a = ab e in listed_and_absent e a.1 o
+  with_absent false e ab o = listed e o
+
+  -- where the cells are the same the same pieces are taken
+  same_own : (s m : Situation) → cells m ≡ cells s → own m ≡ own s
+  same_own s m same = ap (λ cs. front (repeated k) (pieces q cs)) same
+
+  -- the first turn
+  first_step : {s m t : Situation} {v : T} {us : List T} → SingleOk T k q group gap s v m
+      → (Steady s m → Took (Later us) m t) → Took (Whole (v ∷ us)) s t
+  first_step {s} {m} {v} {us} (gave_absent h p ab same st) more =
+      let i = more st in
+      let nothing = own_none_left s p in
+      let none : us ≡ [] = own_nil (same_own s m same ∙ nothing) i.list.0 in
+      record {
+        steady = steady_trans st i.steady;
+        takes = some_trans (same_takes same) i.takes;
+        none = i.none ∙ (ap (λ cs. back (repeated k) (pieces q cs)) same);
+        list = rw (nothing, none) (only_absent h ab);
+      }
+  first_step (took h) more =
+      let i = took_more h (more h.steady) in
+      record {
+        steady = i.steady;
+        takes = i.takes;
+        none = i.none;
+        list = with_absent gap.has refl i.list.1 i.list.0;
+      }
+
+  -- a first value that took nothing
+  first_idle : (s t : Situation) {v : T} → open_count s ≤ open_count t
+      → SingleOk T k q group gap s v t → Took (Whole (v ∷ [])) s t
+  first_idle s t {v} e (gave_absent h p ab same st) =
+      ended (Whole (v ∷ [])) st p same (only_absent h ab)
+  first_idle s t e (took h) = let f = fewer_count s t h.takes in absurd (omega arith)
+
+  -- a first turn that stops
+  first_stopped : {s t : Situation} → IsWholeIn env s → TurnOutcome inner false true s (Ok None) t
+      → Took (Whole []) s t
+  first_stopped w (inl o) = absurd (true≢false o.2)
+  first_stopped {s} w (inr o) =
+      let refused = l.keeps.err s o.0.1 o.0.0 w o.0.2 in
+      let a = catch_none (stopped_by {s = s} {m = o.0.1} (stops_at o.0.3)) refused in
+      rw o.1 (ended (Whole []) steady_refl a.1 refl (listed a.0 own_none))
+
+  -- so did turns from the first one on, until one stops
+  turns_took : (first : Bool) (vs : List T) {s m t : Situation} → IsWholeIn env s
+      → Turns inner false first s vs m → TurnOutcome inner false (is_nil vs) m (Ok None) t
+      → Took (Whole vs) s t
+  turns_took first [] w turns stop = first_stopped w (rw turns stop)
+  turns_took first (v ∷ vs) {s} w turns stop =
+      first_step (l.keeps.ok s turns.0 v w turns.1.0)
+      (λ st. later_took vs (none_outside_after w st) turns.2 stop)
+
+  -- A repeat that answers has read all its pieces.
+  repeat_took : (idle : Bool) {s t : Situation} {vs : List T} → IsWholeIn env s
+      → RepeatOutcome inner idle s (Ok vs) t → Took (Whole vs) s t
+  repeat_took false {vs} w o = turns_took true vs w o.steps o.stop
+  repeat_took true {vs} w (stops run) = turns_took false vs w run.steps run.stop
+  repeat_took true {s} {t} w (rests v e ran same) =
+      rw e (first_idle s t same (l.keeps.ok s t v w ran))
+
+  -- Where the pieces can be read a refusal comes for want of memory alone.
+
+  -- an own list is empty, or has a first value
+  data OwnView (os : List LinePiece) (vs : List T) : Type 0 where
+    view_none : os ≡ [] → vs ≡ [] → OwnView os vs
+    view_more : (w : T) (rest : List LinePiece) (ws : List T) → vs ≡ w ∷ ws → group os w rest
+        → Own T group rest ws → OwnView os vs
+
+  -- by its constructors
+  own_view : {os : List LinePiece} {vs : List T} → Own T group os vs → OwnView os vs
+  own_view own_none = view_none refl refl
+  own_view (own_more {rest} {v} {vs = us} g o) = view_more v rest us refl g o
+
+  -- what is left after a turn can be read
+  on_step : {s m : Situation} {v : T} {ws : List T} → Own T group (own s) ws
+      → SingleOk T k q group gap s v m → Steady s m × (us : List T) × Own T group (own m) us
+  on_step {s} {m} {ws} o (gave_absent h p ab same st) = (st, ws, rw (same_own s m same) o)
+  on_step {s} {m} o (took h) = let more = by_view (own_view o) in (h.steady, more.0, more.1)
+    where
+      by_view : {ws : List T} → OwnView (own s) ws → (us : List T) × Own T group (own m) us
+      by_view (view_none p e) = absurd (h.found (nil_each k _ p))
+      by_view (view_more w rest us e g o) =
+          let f = of_group g in
+          (us, rw (← f.2 ∙ sym (ap (front (repeated k)) (h.readable w f.0 f.1).1)) o)
+
+  -- where the pieces can be read a refusal is want of memory
+  failed_gives : {s t : Situation} {e : Error} {ws : List T} → IsWholeIn env s
+      → (gap.has ≡ true → (a : T) × gap.absent a) → OwnView (own s) ws → (Stops e s t → ⊥)
+      → SingleErr T k q group gap s (class e) t → class e ≡ OfMemory
+  failed_gives w ab o n (of_memory c) = c
+  failed_gives w ab o n (of_missing c g p same) = absurd (n (stops_by c same))
+  failed_gives w ab o n (of_absent c g p none) = let a = ab g in absurd (none a.0 a.1)
+  failed_gives w ab (view_none p x) n (of_piece c ne none) = absurd (ne (nil_each k _ p))
+  failed_gives w ab (view_more v rest us x g o) n (of_piece c ne none) =
+      let f = of_group g in absurd (none v f.0 f.1)
+
+  -- where the pieces can be read, turns fail for want of memory alone
+  turns_fail : (first last : Bool) (vs : List T) {s m t : Situation} {e : Error} {ws : List T}
+      → IsWholeIn env s → (gap.has ≡ true → (a : T) × gap.absent a) → Own T group (own s) ws
+      → Turns inner false first s vs m → TurnOutcome inner false last m (Err e) t
+      → class e ≡ OfMemory
+  turns_fail first last [] {s} {t = t} {e} w ab o turns fails =
+      ⊎_elim (λ f. failed_gives w ab (own_view o) (goes_on e f.1) (l.keeps.err s t e w f.0))
+      (λ f. memory_class e.0 f.0)
+      (subst (λ z. TurnOutcome inner false last z (Err e) t) (sym turns) fails)
+  turns_fail first last (v ∷ vs) {s} w ab o turns fails =
+      let on = on_step o (l.keeps.ok s turns.0 v w turns.1.0) in
+      turns_fail false last vs (none_outside_after w on.0) ab on.2 turns.2 fails
+
+  -- where there is an own list all can be read, and the absent value is there
+  all_read : {os : List LinePiece} {vs : List T} → OwnList T group gap os vs
+      → (gap.has ≡ true → (a : T) × gap.absent a) × (us : List T) × Own T group os us
+  all_read {vs} (listed h o) = (λ i. absurd cc, vs, o)
+  all_read {vs} (listed_and_absent {a} h ab o) = (λ i. (a, ab), vs, o)
+  all_read (only_absent {a} h ab) = (λ i. (a, ab), [], own_none)
+
+  -- and so a repeat fails for want of memory alone
+  repeat_fails : (idle : Bool) {s : Situation} (t : Situation) (e : Error) {ws : List T}
+      → IsWholeIn env s → RepeatOutcome inner idle s (Err e) t → OwnList T group gap (own s) ws
+      → class e ≡ OfMemory
+  repeat_fails false t e w o own_list =
+      let read = all_read own_list in
+      turns_fail true (is_nil o.values) o.values w read.0 read.2 o.steps o.fails
+  repeat_fails true t e w o own_list =
+      let read = all_read own_list in
+      turns_fail false (is_nil o.values) o.values w read.0 read.2 o.steps o.fails
+
+  -- the items of a repeat are those of the field
+  own_repeated : OwnItems (repeated k) q
+  own_repeated =
+      elim k as (λ z. OwnItems z q → OwnItems (repeated z) q) [ ByName ↦ λ o. o | _ ↦ λ o. o ] l.own
+
+  -- many, and what is built on it: the values of the own list
+  pub repeat_law : (idle : Bool) → FieldLaw env (List T) (RepeatOutcome inner idle) (repeated k) q
+      (OwnList T group gap)
+  repeat_law idle = record {
+    own = own_repeated;
+    keeps = record {
+      ok = λ s t vs w f. let i = repeat_took idle w f in record {
+        steady = i.steady;
+        takes = i.takes;
+        read = λ n. i.list;
+        rest = λ n. i.none;
+        all = λ ws o. no_keys_left (repeated k) q (cells t) _ i.none;
+      };
+      err = λ s t e w f ws o. repeat_fails idle t e w f o;
+    };
+  }
+
+  -- the laws of the list
+  rl : FieldLaw env (List T) (RepeatOutcome inner true) (repeated k) q (OwnList T group gap)
+  rl = repeat_law true
+
+  -- no value at all: there was no piece, and none has an absent value
+  data Nothing (os : List LinePiece) : Type 0 where
+    nothing : gap.has ≡ false → os ≡ [] → Nothing os
+
+  -- an empty own list has no pieces
+  own_empty : {os : List LinePiece} {vs : List T} → vs ≡ [] → Own T group os vs → os ≡ []
+  own_empty e own_none = refl
+  own_empty e (own_more g o) = absurd cc
+
+  -- an empty list under a repeat comes of no piece
+  empty_list : {os : List LinePiece} {vs : List T} → vs ≡ [] → OwnList T group gap os vs
+      → Nothing os
+  empty_list e (listed h o) = nothing h (own_empty e o)
+  empty_list e _ = absurd cc
+
+  -- and no piece gives an empty list
+  empty_nothing : {os : List LinePiece} {vs : List T} → Nothing os → OwnList T group gap os vs
+      → vs ≡ []
+  empty_nothing (nothing g e) (listed h o) = own_nil e o
+  empty_nothing (nothing g e) (listed_and_absent h a o) = absurd cc
+  empty_nothing (nothing g e) (only_absent h a) = absurd cc
+
+  -- Of the own lists of the same pieces all are empty or none is.
+  pub some_agrees_on : (os : List LinePiece) → AgreesOn (OwnList T group gap os) (some_closure T)
+  some_agrees_on os x y v ox oy g n = g.1 (empty_nothing (empty_list n oy) ox)
+
+  -- so the evaluation after an empty list answers no value
+  again_ok : (s : Situation) {m : Situation} (t : Situation) (v : T) → IsWholeIn env s
+      → UntilRest inner s [] m → inner m (Ok v) t → ⊥
+  again_ok s {m} t v w f g =
+      let i = repeat_took true w f in
+      by_empty (empty_list refl i.list) i.none (l.keeps.ok m t v (none_outside_after w i.steady) g)
+    where
+      by_empty : Nothing (front (repeated k) (pieces q (cells s)))
+          → pieces q (cells m) ≡ back (repeated k) (pieces q (cells s))
+          → SingleOk T k q group gap m v t → ⊥
+      by_empty (nothing h e) p o =
+          let same : pieces q (cells m) ≡ pieces q (cells s) = p ∙ back_all (repeated k) e in
+          none_given (nil_each k _ (ap (front (repeated k)) same ∙ e), h) o
+
+  -- a last value is that of the own list
+  last_took : (s t : Situation) (v : T) → IsWholeIn env s → LastOutcome inner s (Ok v) t
+      → FieldTook T (repeated k) q (LastOf T group gap) s v t
+  last_took s t v w (inl o) =
+      let i = rl.keeps.ok s t (o.0 ++ v ∷ []) w o.1 in
+      record {
+        steady = i.steady;
+        takes = i.takes;
+        read = λ n. (o.0, i.read n);
+        rest = i.rest;
+        all = λ u h. i.all (h.0 ++ u ∷ []) h.1;
+      }
+  last_took s t v w (inr o) = absurd (again_ok s t v w o.1 o.2)
+
+  -- where the list has a last value it isn't empty
+  never_empty : {s m : Situation} {v : T} → IsWholeIn env s → UntilRest inner s [] m
+      → LastOf T group gap (front (repeated k) (pieces q (cells s))) v → ⊥
+  never_empty {v} w f h =
+      never_nil h.0 v [] (empty_nothing (empty_list refl (repeat_took true w f).list) h.1)
+
+  -- so a refusal is want of memory
+  last_refuses : (s t : Situation) (e : Error) → IsWholeIn env s → LastOutcome inner s (Err e) t
+      → (v : T) → LastOf T group gap (front (repeated k) (pieces q (cells s))) v
+      → class e ≡ OfMemory
+  last_refuses s t e w (inl o) v h = rl.keeps.err s t e w o (h.0 ++ v ∷ []) h.1
+  last_refuses s t e w (inr o) v h = absurd (never_empty w o.1 h)
+
+  -- last keeps to the laws of a field
+  pub last_of_law : FieldLaw env T (LastOutcome inner) (repeated k) q (LastOf T group gap)
+  last_of_law = record { own = rl.own; keeps = record { ok = last_took; err = last_refuses } }
