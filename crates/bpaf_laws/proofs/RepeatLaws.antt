@@ -34,14 +34,10 @@ pub steps_more : {T : Type 0} (inner : Outcome T) (catches first : Bool) (s m : 
     (vs : List T) (v : T) (t : Situation) → Turns inner catches first s vs m
     → TurnOutcome inner catches (first && is_nil vs) m (Ok (Some v)) t
     → Turns inner catches first s (vs ++ v ∷ []) t
-steps_more inner catches true s m [] v t o step =
-    (t, subst (λ w. TurnOutcome inner catches true w (Ok (Some v)) t) (sym o) step, refl)
-steps_more inner catches false s m [] v t o step =
-    (t, subst (λ w. TurnOutcome inner catches false w (Ok (Some v)) t) (sym o) step, refl)
-steps_more inner catches true s m (x ∷ vs) v t o step =
-    (o.0, o.1, steps_more inner catches false o.0 m vs v t o.2 step)
-steps_more inner catches false s m (x ∷ vs) v t o step =
-    (o.0, o.1, steps_more inner catches false o.0 m vs v t o.2 step)
+steps_more inner catches first s m [] v t o step =
+    (t, (subst (λ w. inner w (Ok v) t) (sym o) step.0, grind arith), refl)
+steps_more inner catches first s m (x ∷ vs) v t o step =
+    (o.0, o.1, steps_more inner catches false o.0 m vs v t o.2 (step.0, grind arith))
 
 -- a run without a value leaves all as it was
 pub no_values : {T : Type 0} (inner : Outcome T) (s : Situation) (vs : List T) (t : Situation)

@@ -1,7 +1,7 @@
 -- How the loops of repeats go on, end, and stay bounded.
 use Rattle.std.proofs.Common.{◌≡◌, ◌≢◌, ◌⊎◌, ℕ, ◌+◌, ◌<◌, ◌≤◌, ◌==◌, Bool, true, false, not, List}
 use Rattle.std.proofs.Common.{[], ◌∷◌, ◌++◌, length, Option, Some, None, Result, Ok, Err, IsErrAnd}
-use Rattle.std.proofs.Common.{is_some, is_none, if◌then◌else◌, refl, sym, ◌∙◌, ap, subst, inl, inr}
+use Rattle.std.proofs.Common.{is_some, is_none, if◌then◌else◌, refl, sym, ◌∙◌, ap, subst, inr}
 use Rattle.std.proofs.{Common.arith, lemmas.Bool.Decides.nat_tests}
 use Rattle.std.specs.{Prelude.vec_len, Global.Vec}
 use Rattle.bpaf_line.specs.{Messages.is_memory, Situation.Situation, Situation.open_count}
@@ -55,10 +55,14 @@ steps_end {inner = inner} law catches m vs b o v t nil step is =
     (step_falls law catches b m v t (subst (λ w. TurnOutcome inner catches b m (Ok w) t) is step))
 
 -- a list with one value more at its end isn't empty
+nil_behind : {T : Type 0} (vs : List T) (v : T) → is_nil (vs ++ v ∷ []) ≡ false
+nil_behind [] v = refl
+nil_behind (x ∷ vs) v = refl
+
+-- so it counts for nothing
 pub not_nil : {T : Type 0} (us vs : List T) (v : T) → us ≡ vs ++ v ∷ []
     → ◌≡◌ {A = ℕ} (if is_nil us then 1 else 0) 0
-not_nil us [] v e = rw e refl
-not_nil us (x ∷ vs) v e = rw e refl
+not_nil us vs v e = rw (e, nil_behind vs v) refl
 
 -- a value that couldn't be kept, for want of memory
 pub steps_refused : {T : Type 0} (inner : Outcome T) (r : Result (Vec T) Error) (catches : Bool)
@@ -83,11 +87,7 @@ pub none_nil : {T : Type 0} (values : List T) (o : Option T) (b : Bool) → is_s
     → EndsIn values o → b ≡ is_nil values
 none_nil {T} values None b answered ends = none_if {T = T} None b answered ∙ sym (ap is_nil ends)
 none_nil values (Some v) b answered ends =
-    none_if (Some v) b answered ∙ sym (more ends.0 values ends.1)
-  where
-    more : (xs us : List _) → us ≡ xs ++ v ∷ [] → is_nil us ≡ false
-    more [] us e = rw e refl
-    more (x ∷ xs) us e = rw e refl
+    none_if (Some v) b answered ∙ sym (ap is_nil ends.1 ∙ nil_behind ends.0 v)
 
 module _ {T : Type 0} {inner : Outcome T} {reads : Readings T} (law : Lawful T inner reads)
     (s m : Situation) (vs : List T) (b : Bool) (o : Option T) (t : Situation)
@@ -129,16 +129,10 @@ module _ {T : Type 0} {inner : Outcome T} {reads : Readings T} (law : Lawful T i
 
   -- there are no more values than items present at the start, or there was none before this one
   pub fits_more : (v : T) → o ≡ Some v → (length vs ≡ 0) ⊎ (length vs + 1 ≤ open_count s)
-  fits_more v is = by_values vs steps (step_at inner false m vs b o v t nil step is)
-    where
-      by_values : (vs : List T) → Turns inner false false s vs m
-          → TurnOutcome inner false (is_nil vs) m (Ok (Some v)) t → (length vs ≡ 0)
-          ⊎ (length vs + 1 ≤ open_count s)
-      by_values [] steps at = inl refl
-      by_values (x ∷ xs) steps at =
-          let fewer = took_item inner false m t v at in
-          let bound = values_bounded law false s (x ∷ xs) m steps in
-          inr (omega arith)
+  fits_more v is =
+      let at = step_at inner false m vs b o v t nil step is in
+      let bound = values_bounded law false s vs m steps in
+      grind arith
 
 -- without a value, what the inner parser answers when it is evaluated once more
 pub last_answers : {T : Type 0} (inner : Outcome T) (s m : Situation) → UntilRest inner s [] m

@@ -102,8 +102,7 @@ module _ {inner : Shape → Type 0} {names : ShortNames} (inside : ShowsNames in
 of_joined : (first second : List Part)
     → shorts_of (first ++ second) ≡ joined_shorts (shorts_of first) (shorts_of second)
 of_joined first second =
-    ap₂ (λ flags arguments. record { flags = flags; arguments = arguments })
-    (flat_map-append shorts_of_flag first second) (flat_map-append shorts_of_argument first second)
+    grind (arith, flat_map-append shorts_of_flag, flat_map-append shorts_of_argument)
 
 -- a field and those after it
 pub both_show : {first : Shape → Type 0} {rest : List Shape → Type 0} {own others : ShortNames}
