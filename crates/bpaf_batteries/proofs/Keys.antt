@@ -1,6 +1,6 @@
 -- What a flag whose key must stand on the line answers, and what it reads.
 use Rattle.std.proofs.Common.{◌≡◌, ℕ, ◌&&◌, Bool, true, false, Result, Ok, Err, Option, Some, None}
-use Rattle.std.proofs.Common.{sym, ◌∙◌, subst, ⊎_elim, true≢false}
+use Rattle.std.proofs.Common.{sym, ◌∙◌, subst, ⊎_elim, true≢false, arith}
 use Rattle.std.specs.Option.{option_map_or, IsSomeRelated}
 use Rattle.std.proofs.lemmas.Bool.{and_from}
 use Rattle.bpaf_text.specs.declared.params.ParseFlag.{ParseFlag}
@@ -17,9 +17,7 @@ use Rattle.bpaf_batteries.specs.Keys.{is_key, MustStand}
 pub not_both : (one other : Arg → Bool) (at : Option Arg)
     → ((item : Arg) → (one item && other item) ≡ false) → option_map_or one at false ≡ true
     → option_map_or other at false ≡ true → ⊥
-not_both one other None apart e f = true≢false (sym e)
-not_both one other (Some item) apart e f =
-    true≢false (sym (and_from (one item) (other item) e f) ∙ apart item)
+not_both one other at apart e f = grind (arith, apart)
 
 -- what such a flag answers but want of memory: a value for its first key, which is taken; or there
 -- is no key, and nothing changes

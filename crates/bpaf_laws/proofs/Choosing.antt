@@ -4,7 +4,7 @@ use Rattle.std.proofs.Common.{◌∙◌, ◌⊎◌, inl, inr, ⊎_elim, true≢f
 use Rattle.bpaf_line.specs.Conflicts.{IsLeftmost, IsWinner, ConflictsSaved}
 use Rattle.bpaf_line.specs.{Situation.Situation, Situation.is_taken, declared.error.Error.Error}
 use Rattle.bpaf_laws.specs.Choice.{AnsweredBranch, is_want, IsWant, ValueOfWinner, Chosen}
-use Rattle.bpaf_laws.specs.Choice.{BranchesEval, ChoiceOutcome, LeftmostWins}
+use Rattle.bpaf_laws.specs.Choice.{BranchesEval, ChoiceOutcome}
 use Rattle.bpaf_laws.specs.Spared.{IsNotMemory, Spares, WithoutMemory}
 use Rattle.bpaf_laws.specs.Reading.{Outcome}
 
@@ -84,12 +84,6 @@ pub want_outcome : {T : Type 0} (first second : Outcome T) (s : Situation) (r : 
     (t : Situation) → is_want r ≡ true → t ≡ s → ChoiceOutcome first second s r t
 want_outcome first second s (Ok v) t want same = absurd (true≢false (sym want))
 want_outcome first second s (Err e) t want same = inr (want, same)
-
--- also where the leftmost wins
-pub want_leftmost : {T : Type 0} (first second : Outcome T) (s : Situation) (r : Result T Error)
-    (t : Situation) → is_want r ≡ true → t ≡ s → LeftmostWins first second s r t
-want_leftmost first second s (Ok v) t want same = absurd (true≢false (sym want))
-want_leftmost first second s (Err e) t want same = inr (want, same)
 
 -- of two situations the leftmost place of the one is that of the other
 pub leftmost_of_other : (s other : Situation) (p : ℕ) → IsLeftmost s other p → IsLeftmost other s p

@@ -1,6 +1,6 @@
 -- Repeats: turns of one inner parser, one after another.
 use Rattle.std.specs.Prelude.{◌≡◌, ◌⊎◌, ℕ, ◌+◌, ◌<◌, ◌≤◌, Bool, true, false, List, [], ◌∷◌, ◌++◌}
-use Rattle.std.specs.Prelude.{length, Ok, Err, Some, None, ⊤}
+use Rattle.std.specs.Prelude.{length, Ok, Err, Option, Some, None, ⊤}
 use Rattle.std.specs.Global.{Vec}
 use Rattle.bpaf_doc.specs.Shape.{Shape, Many, Optional, Required}
 use Rattle.bpaf_line.specs.Situation.{Situation, open_count}
@@ -13,6 +13,11 @@ use Rattle.bpaf_laws.specs.Turn.{TurnOutcome}
 abbrev pub is_nil : {T : Type 0} → List T → Bool
 is_nil [] = true
 is_nil (v ∷ vs) = false
+
+-- the last of some values; none where there is none
+abbrev pub EndsIn : {T : Type 0} → List T → Option T → Type 0
+EndsIn values None = values ≡ []
+EndsIn {T} values (Some v) = (before : List T) × (values ≡ before ++ v ∷ [])
 
 -- turns one after another that answered these values; `first` where no value came before them
 abbrev pub Turns : {T : Type 0} → Outcome T → Bool → Bool → Situation → List T → Situation → Type 0

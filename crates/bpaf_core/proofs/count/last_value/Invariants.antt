@@ -1,8 +1,7 @@
 -- Each turn so far answered a value and took an item, and the last is that of those.
 use Rattle.std.proofs.Common.{◌≡◌, List, false}
 use Rattle.bpaf_line.specs.Situation.{open_count}
-use Rattle.bpaf_laws.specs.Repeat.{Turns}
-use Rattle.bpaf_laws.proofs.Repeating.{EndsIn}
+use Rattle.bpaf_laws.specs.Repeat.{EndsIn, Turns}
 use Rattle.bpaf_core.proofs.count.last_value.Given as goal
 
 abbrev pub invariant-loop-last : goal.invariant-loop-last

@@ -1,7 +1,7 @@
 use Rattle.std.proofs.Common.{ap, inr, sym, ◌∙◌, subst}
 use Rattle.bpaf_line.specs.Messages.{is_memory}
 use Rattle.bpaf_laws.specs.Choice.{ChoiceOutcome}
-use Rattle.bpaf_laws.proofs.Choosing.{ran_outcome, choice_spared, want_outcome, want_leftmost}
+use Rattle.bpaf_laws.proofs.Choosing.{ran_outcome, choice_spared, want_outcome}
 use Rattle.bpaf_laws.proofs.{Keeping.keeps_of, Leftmost.leftmost_is_chosen}
 use Rattle.bpaf_parts.specs.Branches.{LedTo}
 use Rattle.bpaf_parts.proofs.Branching.{start_back, start_kept, second_keeps, branch_kept}
@@ -19,12 +19,9 @@ returns-then-is_want-clause-outcome g c =
 
 pub returns-then-is_want-clause-leftmost_wins : goal.returns-then-is_want-clause-leftmost_wins
 returns-then-is_want-clause-leftmost_wins g c =
-    let kept = keeps_of (g.met.A.Parser.lawful c.args.self.now.this) c.args.state.now
-    c.eval-first.result c.eval-first.new.state c.eval-first.ensures in
-    want_leftmost (g.A.Parser.outcome c.args.self.now.this)
-    (g.B.Parser.outcome c.args.self.now.that) c.args.state.now c.eval-first.result c.undo.new.self
-    (sym c.is_want.ensures ∙ c.if-is_want.true)
-    (c.undo.ensures.undone ∙ start_back c.of-start.ensures.start c.of-start.ensures.back kept.marks)
+    leftmost_is_chosen (g.met.A.Parser.lawful c.args.self.now.this)
+    (g.met.B.Parser.lawful c.args.self.now.that) c.args.state.now c.undo.new.self
+    c.eval-first.result (returns-then-is_want-clause-outcome g c)
 
 pub returns-then-is_want-clause-memory_is_never_caught :
     goal.returns-then-is_want-clause-memory_is_never_caught
@@ -44,13 +41,7 @@ returns-in-Err-clause-outcome g c =
     )
 
 pub returns-in-Err-clause-leftmost_wins : goal.returns-in-Err-clause-leftmost_wins
-returns-in-Err-clause-leftmost_wins g c =
-    let kept = keeps_of (g.met.A.Parser.lawful c.args.self.now.this) c.args.state.now
-    c.eval-first.result c.eval-first.new.state c.eval-first.ensures in
-    inr (
-      ap is_memory c.from.ensures,
-      c.leave.ensures.back ∙ start_back c.of-start.ensures.start c.of-start.ensures.back kept.marks,
-    )
+returns-in-Err-clause-leftmost_wins g c = returns-in-Err-clause-outcome g c
 
 pub undo-requires-then-is_want-2 : goal.undo-requires-then-is_want-2
 undo-requires-then-is_want-2 g c =
@@ -75,15 +66,9 @@ returns-then-is_want-2-clause-outcome g c =
 
 pub returns-then-is_want-2-clause-leftmost_wins : goal.returns-then-is_want-2-clause-leftmost_wins
 returns-then-is_want-2-clause-leftmost_wins g c =
-    let begins = c.of-start.ensures.start in
-    let back = c.of-start.ensures.back in
-    let both = second_keeps begins back (g.met.A.Parser.lawful c.args.self.now.this)
-    (g.met.B.Parser.lawful c.args.self.now.that) c.eval-first.ensures c.leave.ensures.back
-    c.eval-second.ensures in
-    want_leftmost (g.A.Parser.outcome c.args.self.now.this)
-    (g.B.Parser.outcome c.args.self.now.that) c.args.state.now c.eval-second.result
-    c.undo-then-is_want-2.new.self (sym c.is_want-2.ensures ∙ c.if-is_want-2.true)
-    (c.undo-then-is_want-2.ensures.undone ∙ start_back begins back both.1)
+    leftmost_is_chosen (g.met.A.Parser.lawful c.args.self.now.this)
+    (g.met.B.Parser.lawful c.args.self.now.that) c.args.state.now c.undo-then-is_want-2.new.self
+    c.eval-second.result (returns-then-is_want-2-clause-outcome g c)
 
 pub returns-then-is_want-2-clause-memory_is_never_caught :
     goal.returns-then-is_want-2-clause-memory_is_never_caught
