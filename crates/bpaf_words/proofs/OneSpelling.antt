@@ -5,7 +5,8 @@ use Rattle.std.proofs.Common.{append_assoc, append-nil, None, Some, Option, enco
 use Rattle.std.proofs.Common.{encode_utf8_all, All, lit<, IsUtf8, ⊎_elim, codes}
 use Rattle.std.specs.Option.{option_map}
 use Rattle.std.proofs.lemmas.Str.{encode_ascii, encode_same, cons_from_encodes, encodes_same}
-use Rattle.std.proofs.{lemmas.Bool.Decides.nat_tests, lemmas.List.Elements.All-push}
+use Rattle.std.proofs.lemmas.Bool.{eqb-false, eqb-true, ne_eqb, Decides.nat_tests}
+use Rattle.std.proofs.lemmas.List.Elements.{All-push}
 use Rattle.bpaf_base.specs.declared.arg.Arg.TheVariants.{Short, Long, ArgWord, Word}
 use Rattle.bpaf_base.specs.Items.{is_among}
 use Rattle.bpaf_words.specs.Spelling.{ShortNames, Known, IsNumberWord, SpellsByDash, number_word}
@@ -53,24 +54,19 @@ abbrev Splits : List ℕ → Option (List ℕ × List ℕ) → Type 0
 Splits bs None = HasNoEquals bs
 Splits bs (Some p) = (bs ≡ p.0 ++ 61 ∷ p.1) × HasNoEquals p.0
 
--- what a split says holds with one byte more in front that isn't `=`
-splits_more : (b : ℕ) (bs : List ℕ) (o : Option (List ℕ × List ℕ)) → (b == 61) ≡ false → Splits bs o
-    → Splits (b ∷ bs) (option_map (λ p. (b ∷ p.0, p.1)) o)
-splits_more b bs None e h = no_equals_cons b bs e h
-splits_more b bs (Some p) e h = (ap (λ x. b ∷ x) h.0, no_equals_cons b p.0 e h.1)
-
 -- what a split says of a text with one byte more in front, by whether it is `=`
-splits_by : (b : ℕ) (bs : List ℕ) (t : Bool) → (b == 61) ≡ t → Splits bs (split_equals bs)
-    → Splits (b ∷ bs) (if t then Some ([], bs) else option_map (λ p. (b ∷ p.0, p.1))
-    (split_equals bs))
-splits_by b bs true e h =
-    let at : b ≡ 61 = grind (arith, nat_tests) in (ap (λ x. x ∷ bs) at, λ i l. absurd (omega arith))
-splits_by b bs false e h = splits_more b bs (split_equals bs) e h
+splits_more : (b : ℕ) (bs : List ℕ) (t : Bool) (o : Option (List ℕ × List ℕ)) → (b == 61) ≡ t
+    → Splits bs o
+    → Splits (b ∷ bs) (if t then Some ([], bs) else option_map (λ p. (b ∷ p.0, p.1)) o)
+splits_more b bs true o e h =
+    (ap (λ x. x ∷ bs) (eqb-true b 61 e), λ i l. absurd (omega arith))
+splits_more b bs false None e h = no_equals_cons b bs e h
+splits_more b bs false (Some p) e h = (ap (λ x. b ∷ x) h.0, no_equals_cons b p.0 e h.1)
 
 -- a split says where the first `=` of a text stands, or that there is none
 splits : (bs : List ℕ) → Splits bs (split_equals bs)
 splits [] = λ i l. absurd (omega arith)
-splits (b ∷ bs) = splits_by b bs (b == 61) refl (splits bs)
+splits (b ∷ bs) = splits_more b bs (b == 61) (split_equals bs) refl (splits bs)
 
 module _ (names : ShortNames) (word : List ℕ) where
   -- joined characters, behind the flags fs
@@ -141,14 +137,6 @@ walk_finds_joined names word cs s (both fs c rest e h i) =
     ap (walk_joined names word []) e
     ∙ (over_flags names word [] fs (c ∷ rest) h ∙ rw (i.as_flag, i.as_argument) refl)
 
--- a character other than `-` fails the test for `-`
-not_dash : (c : ℕ) → c ≢ 45 → (c == 45) ≡ false
-not_dash c n = grind (arith, nat_tests)
-
--- characters that have no bytes are none
-nothing : (cs : List ℕ) → encode_utf8_all cs ≡ [] → cs ≡ []
-nothing cs e = encodes_same cs [] e
-
 -- characters that begin with `-`
 after_dash : (cs rest : List ℕ) → encode_utf8_all cs ≡ 45 ∷ rest → (es : List ℕ) × (cs ≡ 45 ∷ es)
     × (encode_utf8_all es ≡ rest)
@@ -161,7 +149,7 @@ walk_plain : (names : ShortNames) (word cs : List ℕ) → word ≡ encode_utf8_
     → walk names word cs ≡ (PlainWord, Items (Word word ∷ []))
 walk_plain names word [] w h = refl
 walk_plain names word (c ∷ cs) w h =
-    rw (not_dash c (λ d. h (encode_utf8_all cs)
+    rw (ne_eqb c 45 (λ d. h (encode_utf8_all cs)
     (w ∙ ap (λ x. x ++ encode_utf8_all cs) (ap encode_utf8 d ∙ encode_ascii 45 (lit< tt)))))
     refl
 
@@ -185,7 +173,7 @@ to_short names word cs c tail w e n =
       two.0,
       two.2,
       ap (walk names word) (one.1 ∙ ap (λ x. 45 ∷ x) two.1)
-          ∙ rw (not_dash c n) (ap (λ x. walk_short names word c two.0 (split_equals x)) two.2),
+          ∙ rw (ne_eqb c 45 n) (ap (λ x. walk_short names word c two.0 (split_equals x)) two.2),
     )
 
 -- behind `-c` a text before `=` that isn't empty belongs to the value
@@ -203,7 +191,7 @@ walk_finds : (names : ShortNames) (word cs : List ℕ) (s : Spelling) → word �
 walk_finds names word cs s w (plain h) = walk_plain names word cs w h
 walk_finds names word cs s w (dash e) =
     let one = after_dash cs [] (sym w ∙ e) in
-    ap (walk names word) (one.1 ∙ ap (λ x. 45 ∷ x) (nothing one.0 one.2))
+    ap (walk names word) (one.1 ∙ ap (λ x. 45 ∷ x) (encodes_same one.0 [] one.2))
 walk_finds names word cs s w (long n e p h) =
     to_long names word cs n w e ∙ ap (walk_long names word n) (split_none n h)
 walk_finds names word cs s w (long_value n v e h) =
@@ -212,7 +200,7 @@ walk_finds names word cs s w (long_value n v e h) =
 walk_finds names word cs s w (short c e n) =
     let t = to_short names word cs c [] w
     (e ∙ ap (λ x. 45 ∷ x) (sym (append-nil (encode_utf8 c)))) n in
-    t.2 ∙ ap (λ x. walk_short names word c x None) (nothing t.0 t.1)
+    t.2 ∙ ap (λ x. walk_short names word c x None) (encodes_same t.0 [] t.1)
 walk_finds names word cs s w (short_value c v e n) = (to_short names word cs c (61 ∷ v) w e n).2
 walk_finds names word cs s w (short_long_value c r v e n p h) =
     (to_short names word cs c (r ++ 61 ∷ v) w e n).2
@@ -281,14 +269,6 @@ finds_short names word c (d ∷ ds) None w n h =
     joined c d ds _ w n h (finds_joined names word (c ∷ d ∷ ds) [] (c ∷ d ∷ ds) refl
     (λ k e l. absurd (omega arith)))
 
--- a character that passes the test for `-` is `-`
-is_dash : (c : ℕ) → (c == 45) ≡ true → c ≡ 45
-is_dash c e = grind (arith, nat_tests)
-
--- a character that fails the test for `-` isn't `-`
-no_dash : (c : ℕ) → (c == 45) ≡ false → c ≢ 45
-no_dash c e n = let t : true ≡ false = sym (ap (λ x. x == 45) n) ∙ e in cc
-
 -- the bytes of characters that begin with `-`: its byte, then those of the others
 dash_encodes : (c : ℕ) (cs : List ℕ) → c ≡ 45
     → encode_utf8 c ++ encode_utf8_all cs ≡ 45 ∷ encode_utf8_all cs
@@ -301,11 +281,11 @@ dash_by : (names : ShortNames) (word : List ℕ) (c : ℕ) (cs : List ℕ) (b : 
     → SpellsByDash names word (walk_dash names word (c ∷ cs)).1
 dash_by names word c cs true e w n =
     let at : word ≡ 45 ∷ 45 ∷ encode_utf8_all cs =
-    w ∙ ap (λ x. 45 ∷ x) (dash_encodes c cs (is_dash c e)) in
+    w ∙ ap (λ x. 45 ∷ x) (dash_encodes c cs (eqb-true c 45 e)) in
     rw e (finds_long names word (encode_utf8_all cs) (split_equals (encode_utf8_all cs)) at
     (λ z. n (at ∙ ap (λ x. 45 ∷ 45 ∷ x) z)) (splits (encode_utf8_all cs)))
 dash_by names word c cs false e w n =
-    rw e (finds_short names word c cs (split_equals (encode_utf8_all cs)) w (no_dash c e)
+    rw e (finds_short names word c cs (split_equals (encode_utf8_all cs)) w (eqb-false c 45 e)
     (splits (encode_utf8_all cs)))
 
 -- a word that begins with `-` spells what the walk finds after it
@@ -319,9 +299,9 @@ finds_by : (names : ShortNames) (word : List ℕ) (c : ℕ) (cs : List ℕ) (b :
     → word ≡ encode_utf8 c ++ encode_utf8_all cs → word ≢ 45 ∷ 45 ∷ []
     → SpellsByDash names word (walk names word (c ∷ cs)).1
 finds_by names word c cs true e w n =
-    rw e (finds_dash names word cs (w ∙ dash_encodes c cs (is_dash c e)) n)
+    rw e (finds_dash names word cs (w ∙ dash_encodes c cs (eqb-true c 45 e)) n)
 finds_by names word c cs false e w n =
-    rw e (plain (λ rest h. no_dash c e
+    rw e (plain (λ rest h. eqb-false c 45 e
     (encode_same c 45 (encode_utf8_all cs) rest
     (sym w ∙ (h ∙ ap (λ x. x ++ rest) (sym (encode_ascii 45 (lit< tt)))))).0))
 
