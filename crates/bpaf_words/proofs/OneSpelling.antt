@@ -6,7 +6,7 @@ use Rattle.std.proofs.Common.{encode_utf8_all, All, lit<, IsUtf8, ⊎_elim, code
 use Rattle.std.specs.Option.{option_map}
 use Rattle.std.proofs.lemmas.Str.{encode_ascii, encode_same, cons_from_encodes, encodes_same}
 use Rattle.std.proofs.lemmas.Bool.{eqb-false, eqb-true, ne_eqb, Decides.nat_tests}
-use Rattle.std.proofs.lemmas.List.Elements.{All-push}
+use Rattle.std.proofs.lemmas.List.Elements.{All-head, All-push, All-tail}
 use Rattle.bpaf_base.specs.declared.arg.Arg.TheVariants.{Short, Long, ArgWord, Word}
 use Rattle.bpaf_base.specs.Items.{is_among}
 use Rattle.bpaf_words.specs.Spelling.{ShortNames, Known, IsNumberWord, SpellsByDash, number_word}
@@ -18,7 +18,7 @@ use Rattle.bpaf_words.specs.Spelling.{joined, Case, PlainWord, DashAlone, LongAl
 use Rattle.bpaf_words.specs.Spelling.{ShortAlone, ShortWithValue, ShortWithLongValue, JoinedFlags}
 use Rattle.bpaf_words.specs.Spelling.{JoinedWithArgument, JoinedWithNeither, JoinedWithBoth}
 use Rattle.bpaf_words.specs.Spelling.{case_of, joined_case_of, SpellingsAreUnique}
-use Rattle.bpaf_words.proofs.{Lists.All_head, Lists.All_tail, Numbers.number_or_not}
+use Rattle.bpaf_words.proofs.{Numbers.number_or_not}
 
 -- a text around its first `=`
 abbrev split_equals : List ℕ → Option (List ℕ × List ℕ)
@@ -117,9 +117,9 @@ over_flags : (names : ShortNames) (word fs gs cs : List ℕ) → All (IsKnownAs 
     → walk_joined names word fs (gs ++ cs) ≡ walk_joined names word (fs ++ gs) cs
 over_flags names word fs [] cs h = ap (λ x. walk_joined names word x cs) (sym (append-nil fs))
 over_flags names word fs (g ∷ gs) cs h =
-    let f = All_head (IsKnownAs true false names) g gs h in
+    let f = All-head (IsKnownAs true false names) g gs h in
     rw (f.as_flag, f.as_argument) (over_flags names word (fs ++ g ∷ []) gs cs
-    (All_tail (IsKnownAs true false names) g gs h)
+    (All-tail (IsKnownAs true false names) g gs h)
     ∙ ap (λ x. walk_joined names word x cs) (append_assoc fs (g ∷ []) gs))
 
 -- over joined characters the walk finds the case and the items of each spelling
