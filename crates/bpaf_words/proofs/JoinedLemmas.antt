@@ -1,5 +1,5 @@
 -- A walk over joined letters: the flags at the front, and what stands where they end.
-use Rattle.std.proofs.Common.{◌≡◌, ◌≢◌, ℕ, zero, suc, ◌+◌, ◌≤◌, true, false, ◌==◌, List, [], ◌∷◌}
+use Rattle.std.proofs.Common.{◌≡◌, ◌≢◌, ℕ, ◌+◌, ◌≤◌, true, false, ◌==◌, List, [], ◌∷◌}
 use Rattle.std.proofs.Common.{◌++◌, length, refl, ap, sym, ◌∙◌, arith, rules, take, if◌then◌else◌}
 use Rattle.std.proofs.Common.{append_assoc, append-nil, encode_utf8, encode_utf8_all, All}
 use Rattle.std.proofs.lemmas.Str.{cons_from_encodes, encodes_same, encodes-append}
@@ -39,8 +39,7 @@ flags_of_push word (f ∷ g ∷ fs) c = ap (λ x. Short f false word ∷ x) (fla
 text_after_is : (word fs : List ℕ) (count : ℕ) → count ≡ length fs
     → text_after word fs ≡ (if count == 0 then word else [])
 unfolding text_after
-text_after_is word [] count e = rw e
-text_after_is word (f ∷ fs) count e = grind (arith, nat_tests)
+text_after_is word fs count e = grind (arith, nat_tests)
 
 -- a walk that hasn't begun: no flags, and all letters are left
 pub walked_none : (names : ShortNames) (word letters : List ℕ) (old : List Arg)
@@ -143,5 +142,4 @@ taken_back old zs ys n h e = rw (e, h) (grind (arith, common_steps))
 -- a text that is the word for the first flag, and empty for the others
 pub first_text : (word text : List ℕ) (count : ℕ) → (count ≡ 0 → text ≡ word)
     → (count ≢ 0 → text ≡ []) → text ≡ (if count == 0 then word else [])
-first_text word text zero f g = f refl
-first_text word text (suc n) f g = grind (arith, nat_tests, g (λ e. absurd (omega arith)))
+first_text word text count f g = grind (arith, nat_tests)

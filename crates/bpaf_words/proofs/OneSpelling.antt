@@ -36,7 +36,7 @@ no_equals_head b bs h = let n : b ≢ 61 = h 0 (omega arith) in grind (arith, na
 
 -- a text without `=`, behind another byte than `=`, makes a text without it
 no_equals_cons : (b : ℕ) (bs : List ℕ) → (b == 61) ≡ false → HasNoEquals bs → HasNoEquals (b ∷ bs)
-no_equals_cons b bs e h zero l = grind (arith, nat_tests)
+no_equals_cons b bs e h zero l = eqb-false b 61 e
 no_equals_cons b bs e h (suc i) l = h i (omega arith)
 
 -- a name without `=`, then `=` and a value: the text is split into these two
