@@ -175,8 +175,7 @@ counts_spared clones keys s t r answered spared =
 
 -- the counts are those of the keys that were newly taken
 pub keys_counted : (clones : Unit {0} → Unit {0} → Type 0) (keys : KeyCounts) (s t : Situation)
-    (r : Result (ℕ × ℕ) Error) → CountsOutcome clones keys s r t
-    → IfOk r (KeysAreCounted keys s t)
+    (r : Result (ℕ × ℕ) Error) → CountsOutcome clones keys s r t → IfOk r (KeysAreCounted keys s t)
 keys_counted clones keys s t (Ok counts) o =
     counted clones keys s.context (newly s t) counts
     ((counts_lawful clones keys).ok s t counts o).reading

@@ -274,8 +274,7 @@ module _ {T : Type 0} (clones : T → T → Type 0) (one other : ParseFlag T)
         grind (arith, nat_tests, took.taken took.place)
 
     -- a key behind the one that was taken is the rightmost of all
-    rightmost_behind : (r : ℕ) → IsLast (is_either one other) t r
-        → IsLast (is_either one other) s r
+    rightmost_behind : (r : ℕ) → IsLast (is_either one other) t r → IsLast (is_either one other) s r
     unfolding place
     rightmost_behind r there =
         let before = match_before (is_either one other) r there.matches in

@@ -123,8 +123,7 @@ module _ {T : Type 0} (means : List ℕ → T → Type 0) (argument : KeyWithVal
   -- environment
   by_key : (text : List ℕ) → GetsText argument s text t → (A B : Type 0)
       → (TakesOwnText argument.last argument s text t → A) → (ReadsVariable argument s text t → B)
-      → ((p : ℕ) → is_match (is_key_with_value argument) s p ≡ true → A)
-      × (HasNoKey argument s → B)
+      → ((p : ℕ) → is_match (is_key_with_value argument) s p ≡ true → A) × (HasNoKey argument s → B)
   by_key text gets A B of_key of_variable = (
     (λ p here. ⊎_elim of_key
         (λ variable. absurd (true≢false (sym here ∙ variable.no_key p))) gets),

@@ -196,8 +196,7 @@ module _ (argument : KeyWithValue) where
         before = own.before;
       })
     where
-      least : (own : AreKeysWithText argument m.context (newly m t) text)
-          → takes.key ≤ own.greatest
+      least : (own : AreKeysWithText argument m.context (newly m t) text) → takes.key ≤ own.greatest
       least own =
           let p = own.greatest in
           let new = own.places p ∙ or_left (own.keys p) (behind own.keys p) own.is_key in

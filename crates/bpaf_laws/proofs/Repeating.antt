@@ -40,9 +40,8 @@ not_nil us vs v e = rw (e, nil_behind vs v) refl
 
 -- a value that couldn't be kept, for want of memory
 pub steps_refused : {T : Type 0} (inner : Outcome T) (r : Result (Vec T) Error) (catches : Bool)
-    (s t : Situation) (vs : List T)
-    → Turns inner catches true s vs t → IsErrAnd r (λ e. e.0 ≡ Memory)
-    → ManyOutcome inner catches s r t
+    (s t : Situation) (vs : List T) → Turns inner catches true s vs t
+    → IsErrAnd r (λ e. e.0 ≡ Memory) → ManyOutcome inner catches s r t
 steps_refused inner (Err e) catches s t vs steps is =
     record { values = vs; last = t; steps = steps; fails = inr (ap is_memory is, refl) }
 steps_refused inner (Ok v) catches s t vs steps is = absurd is

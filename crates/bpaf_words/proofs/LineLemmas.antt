@@ -59,9 +59,8 @@ begins_more known words i old new xs word begun at text other spells more = reco
 
 -- the same of a word that spells its items whatever names are known
 pub begins_alone : (numbers : Bool) (words : List (List ℕ)) (i : ℕ) (old new : List Arg)
-    (word : List ℕ) → BeginsByAny numbers words old i → slice_get words i ≡ Some word
-    → IsUtf8 word → word ≢ codes "--" → SpellsByAny numbers word old new
-    → BeginsByAny numbers words new (i + 1)
+    (word : List ℕ) → BeginsByAny numbers words old i → slice_get words i ≡ Some word → IsUtf8 word
+    → word ≢ codes "--" → SpellsByAny numbers word old new → BeginsByAny numbers words new (i + 1)
 begins_alone numbers words i old new word begun at text other spells names =
     let spelled = spells names in
     begins_more (known_at numbers names) words i old new spelled.0 word (begun names) at text other
