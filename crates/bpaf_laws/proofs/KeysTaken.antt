@@ -1,10 +1,10 @@
 -- What taking a key with the text behind it takes, and what taking all of them does.
-use Rattle.std.specs.Prelude.{◌≡◌, ◌⊎◌, ℕ, zero, suc, ◌+◌, ◌<◌, ◌≤◌, ◌==◌, Bool, true, false}
+use Rattle.std.specs.Prelude.{◌≡◌, ◌⊎◌, ℕ, ◌+◌, ◌<◌, ◌≤◌, ◌==◌, Bool, true, false}
 use Rattle.std.specs.Prelude.{◌||◌, List, [], ◌∷◌, ◌++◌, Option, None, refl}
 use Rattle.std.specs.Prelude.{option_and_then}
 use Rattle.std.specs.Option.{option_map_or}
-use Rattle.std.proofs.Common.{sym, subst, ◌∙◌, ⊎_elim, arith, true≢false}
-use Rattle.std.proofs.lemmas.Bool.{cases_lt, eqb-true, or_cases, or_left}
+use Rattle.std.proofs.Common.{sym, subst, ◌∙◌, ⊎_elim, arith, ap}
+use Rattle.std.proofs.lemmas.Bool.{eqb-true, or_cases, or_left}
 use Rattle.std.proofs.lemmas.Bool.{or_right, Decides.nat_tests}
 use Rattle.bpaf_text.specs.Named.{KeyWithValue}
 use Rattle.bpaf_base.specs.{declared.arg.Arg.Arg, Items.value_text}
@@ -130,44 +130,32 @@ texts_more argument s m t [] text same takes =
 texts_more argument s m t (x ∷ texts) text o takes =
     (o.0, o.1, texts_more argument o.0 m t texts text o.2 takes)
 
--- the places behind one place, and behind others: the next one, and those
-behind_more : (key : ℕ) (keys : Share) (p : ℕ)
-    → behind (λ q. q == key || keys q) p ≡ (p == key + 1 || behind keys p)
-behind_more key keys p = grind (arith, nat_tests)
+-- the place behind one place is the next one
+behind_one : (key p : ℕ) → behind (λ q. q == key) p ≡ (p == key + 1)
+behind_one key p = grind (arith, nat_tests)
 
 -- at one place: a pair and pairs of others are pairs of all of them
 pairs_joined : (key : ℕ) (keys : Share) (p : ℕ) (first rest : Bool)
     → first ≡ (p == key || p == key + 1) → rest ≡ (keys p || behind keys p)
     → (first || rest) ≡ ((p == key || keys p) || behind (λ q. q == key || keys q) p)
-pairs_joined key keys p first rest a b = let more = behind_more key keys p in grind arith
+pairs_joined key keys p first rest a b = grind (arith, nat_tests)
 
 module _ (argument : KeyWithValue) where
   -- what was read of one key
   one_key : (s : Situation) (text : List ℕ) (t : Situation) → TakesKeyWithText argument s text t
       → Reads (List ℕ) (AreKeysWithText argument) s text t
   one_key s text t takes = reads_as (key_read argument s text t takes) (λ own. record {
-    keys = λ p. p == takes.key || false;
+    keys = λ p. p == takes.key;
     are_keys = λ p key. (
       text,
-      subst (λ q. IsKeyBefore argument s.context q text) (sym (is_it p key)) own.0,
+      subst (λ q. IsKeyBefore argument s.context q text) (sym (eqb-true p takes.key key)) own.0,
     );
-    places = λ p. or_false (newly s t p)
-        ∙ pairs_joined takes.key (λ q. false) p (newly s t p) false (own.1 p) (sym (none_behind p));
+    places = λ p. own.1 p ∙ ap (λ next. p == takes.key || next) (sym (behind_one takes.key p));
     greatest = takes.key;
-    is_key = or_left (takes.key == takes.key) false (grind (arith, nat_tests));
-    no_greater = λ p key. let same = is_it p key in omega arith;
+    is_key = grind (arith, nat_tests);
+    no_greater = λ p key. grind (arith, nat_tests);
     before = own.0;
   })
-    where
-      is_it : (p : ℕ) → (p == takes.key || false) ≡ true → p ≡ takes.key
-      is_it p key = grind (arith, nat_tests)
-
-      or_false : (b : Bool) → b ≡ (b || false)
-      or_false b = grind arith
-
-      none_behind : (p : ℕ) → (false || behind (λ q. false) p) ≡ false
-      none_behind zero = refl
-      none_behind (suc p) = refl
 
   -- and of one before others
   more_keys : (s m t : Situation) (x text : List ℕ) → TakesKeyWithText argument s x m
@@ -190,9 +178,7 @@ module _ (argument : KeyWithValue) where
             (r.first_read.1 p) (own.places p);
         greatest = own.greatest;
         is_key = or_right (own.greatest == takes.key) (own.keys own.greatest) own.is_key;
-        no_greater = λ p key. ⊎_elim
-            (λ at. subst (λ q. q ≤ own.greatest) (sym (eqb-true p takes.key at)) r.rest_read.1)
-            (own.no_greater p) (or_cases (p == takes.key) (own.keys p) key);
+        no_greater = λ p key. grind (arith, nat_tests, own.no_greater p, r.rest_read.1);
         before = own.before;
       })
     where
@@ -203,10 +189,7 @@ module _ (argument : KeyWithValue) where
           let there = key_before argument s x m takes p
           (match_there (is_key_with_value argument) m p (later.keeps.fresh p new)
           (own.are_keys p own.is_key).1.is_key) in
-          ⊎_elim
-          (λ (below : p < takes.key).
-          absurd (true≢false (sym there ∙ takes.first.first p below)))
-          (λ above. above) (cases_lt p takes.key)
+          grind (arith, takes.first.first p)
 
   -- texts taken in turn, of which this is the last
   pub keys_read : (s t : Situation) (text : List ℕ) (before : List (List ℕ))
