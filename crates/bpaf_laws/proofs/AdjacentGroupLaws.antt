@@ -6,7 +6,7 @@ use Rattle.std.proofs.lemmas.Bool.{both_ways, Decides.nat_tests}
 use Rattle.bpaf_doc.specs.Shape.{Part}
 use Rattle.bpaf_line.specs.Situation.{Situation, is_open, with_scope}
 use Rattle.bpaf_line.specs.{declared.error.Error.Error, declared.error.Message.TheVariants.Missing}
-use Rattle.bpaf_line.proofs.Places.{open_in_scope, open_not_taken}
+use Rattle.bpaf_line.proofs.Places.{open_in_scope}
 use Rattle.bpaf_laws.specs.Reading.{Readings, Outcome, Share}
 use Rattle.bpaf_laws.specs.Laws.{Keeps, Lawful, newly}
 use Rattle.bpaf_laws.specs.AdjacentGroup.{Failure, longer, longest, taken_by, Probe, Narrowed}
@@ -70,14 +70,7 @@ module _ {T : Type 0} {inner : Outcome T} {reads : Readings T} (law : Lawful T i
           stretch = record {
             from = a;
             to = stop;
-            is = λ p. grind (
-              arith,
-              nat_tests,
-              none p,
-              opened.1 p,
-              open_not_taken s p,
-              read.keeps.fresh p,
-            );
+            is = λ p. grind (arith, nat_tests, none p, opened.1 p, read.keeps.fresh p);
           };
         };
       }

@@ -55,12 +55,9 @@ module _ (argument : KeyWithValue) where
         matches = there;
         counts = record {
           matches = there;
-          last = λ q above. grind (
-            arith,
-            gone_key argument s x m takes q,
-            later.counts.last q,
-            takes.first.first later.key,
-          );
+          last = λ q above.
+              let first = takes.first.first later.key in
+              grind (arith, gone_key argument s x m takes q, later.counts.last q);
         };
         behind = value_before argument s x m takes later.key later.matches ∙ later.behind;
         current = later.current;

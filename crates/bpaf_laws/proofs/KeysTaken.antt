@@ -106,12 +106,8 @@ module _ (argument : KeyWithValue) (s : Situation) (text : List ℕ) (t : Situat
   value_before p there =
       let step = one_of_two (p + 1) in
       let first = takes.first.matches in
-      grind (
-        arith,
-        is_left p there,
-        none_left (p + 1),
-        key_is_no_value argument (open_item s (p + 1)),
-      )
+      let key = key_is_no_value argument (open_item s (p + 1)) in
+      grind (arith, is_left p there, none_left (p + 1))
 
   -- a key that is gone later is the one that was taken
   pub gone_key : (p : ℕ) → is_match test s p ≡ true → is_match test t p ≡ false → p ≡ takes.key

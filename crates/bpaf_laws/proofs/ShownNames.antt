@@ -126,8 +126,7 @@ parts_joined : (xs ys : List Shape)
     → parts_of_all (members (xs ++ ys)) ≡ parts_of_all (members xs) ++ parts_of_all (members ys)
 parts_joined [] ys = refl
 parts_joined (x ∷ xs) ys =
-    ap (λ rest. parts x ++ rest) (parts_joined xs ys)
-    ∙ sym (append_assoc (parts x) (parts_of_all (members xs)) (parts_of_all (members ys)))
+    let rest = parts_joined xs ys in grind (arith, append_assoc {A = Part})
 
 -- the members as a list have the same parts
 listed : (all : Shapes) → parts_of_all (members (shapes_of all)) ≡ parts_of_all all
@@ -142,9 +141,7 @@ added shape = append-nil (parts shape)
 -- the parts of a choice are those of both
 either_parts : (a b : Shape) → parts (either_shape a b) ≡ parts a ++ parts b
 either_parts a b =
-    parts_joined (alternatives a) (alternatives b)
-    ∙ (ap (λ first. first ++ parts_of_all (members (alternatives b))) (added a)
-    ∙ ap (λ second. parts a ++ second) (added b))
+    grind (arith, parts_joined (alternatives a) (alternatives b), added a, added b)
 
 -- a choice of two
 pub choice_shows : {first second : Shape → Type 0} {own others : ShortNames} → ShowsNames first own
