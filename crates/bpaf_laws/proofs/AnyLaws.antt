@@ -42,18 +42,14 @@ looked_placed s false = All-take (IsPlaced s) 1 _ (all_placed s _)
 
 module _ {T : Type 0} (looks : Looks T) (anywhere : Bool) (s : Situation) (place : ℕ) (item : Arg)
     (v : T) (found : FirstMatch looks (looked_at anywhere s) place item v) where
-  -- the item that matches is among those that are looked at
-  match_is_looked_at : Contains (looked_at anywhere s) (place, item)
-  match_is_looked_at =
-      let rest = (place, item) ∷ found.after in
-      subst (λ items. Contains items (place, item)) (sym found.split)
-      (Contains-append_right found.before rest (place, item) (0, omega arith, refl))
-
-  -- it is present and in scope
+  -- the item that matches is present and in scope
   pub match_placed : (is_open s place ≡ true) × (item_at s place ≡ Some item)
-  match_placed = open_item_there s place item
-      (All-contains (IsPlaced s) (looked_at anywhere s) (place, item) (looked_placed s anywhere)
-      match_is_looked_at)
+  match_placed =
+      let rest = (place, item) ∷ found.after in
+      let there = subst (λ items. Contains items (place, item)) (sym found.split)
+      (Contains-append_right found.before rest (place, item) (0, omega arith, refl)) in
+      open_item_there s place item
+      (All-contains (IsPlaced s) (looked_at anywhere s) (place, item) (looked_placed s anywhere) there)
 
   -- the situation in which its place is taken
   abbrev m : Situation

@@ -8,14 +8,14 @@ use Rattle.std.proofs.lemmas.Bool.{eqb-true, or_cases, or_left}
 use Rattle.std.proofs.lemmas.Bool.{or_right, Decides.nat_tests}
 use Rattle.bpaf_text.specs.Named.{KeyWithValue}
 use Rattle.bpaf_base.specs.{declared.arg.Arg.Arg, Items.value_text}
-use Rattle.bpaf_line.specs.Situation.{Situation, is_open, is_taken, take_place}
+use Rattle.bpaf_line.specs.Situation.{Situation, is_open, take_place}
 use Rattle.bpaf_line.specs.Situation.{open_count}
 use Rattle.bpaf_line.specs.Taking.{is_match, open_item, value_after}
 use Rattle.bpaf_line.proofs.Places.{taken_here, taken_other, taken_stays}
 use Rattle.bpaf_line.proofs.Matches.{match_is_open, match_has_item, value_is_open}
 use Rattle.bpaf_laws.specs.Argument.{is_key_with_value, TakesKeyWithText, TakesKeysWithTexts}
 use Rattle.bpaf_laws.specs.Argument.{behind, IsKeyBefore, AreKeysWithText}
-use Rattle.bpaf_laws.specs.Reading.{Share, HasItem, IsPair}
+use Rattle.bpaf_laws.specs.Reading.{Share, IsPair}
 use Rattle.bpaf_laws.specs.Laws.{Keeps, Reads, newly}
 use Rattle.bpaf_laws.proofs.Keeping.{keeps_same, keeps_trans, keeps_take, reads_as, reads_both}
 use Rattle.bpaf_laws.proofs.Keeping.{newly_take_both, closes_take_both}
@@ -26,15 +26,6 @@ key_is_no_value : (argument : KeyWithValue) (item : Option Arg)
     → option_map_or (is_key_with_value argument) item false ≡ true
     → option_and_then value_text item ≡ None
 key_is_no_value argument item key = grind arith
-
--- where an item of an open place passes the test, there is a match
-match_there : (test : Arg → Bool) (s : Situation) (p : ℕ) → is_open s p ≡ true
-    → HasItem test s.context p → is_match test s p ≡ true
-match_there test s p there has = grind arith
-
--- at a taken place no item is present
-none_open : (s : Situation) (p : ℕ) → is_taken s p ≡ true → open_item s p ≡ None
-none_open s p taken = grind arith
 
 module _ (argument : KeyWithValue) (s : Situation) (text : List ℕ) (t : Situation)
     (takes : TakesKeyWithText argument s text t) where
@@ -85,7 +76,7 @@ module _ (argument : KeyWithValue) (s : Situation) (text : List ℕ) (t : Situat
       let m = take_place s takes.key in
       let value = taken_here m (takes.key + 1) in
       let key = taken_stays m (takes.key + 1) takes.key (taken_here s takes.key) in
-      rw takes.taken (none_open (take_place m (takes.key + 1)) p (grind arith))
+      rw takes.taken (grind arith)
 
   -- each place is one of these, or is as it was
   one_of_two : (p : ℕ) → ((p ≡ takes.key) ⊎ (p ≡ takes.key + 1)) ⊎ (open_item t p ≡ open_item s p)
@@ -182,9 +173,9 @@ module _ (argument : KeyWithValue) where
       least own =
           let p = own.greatest in
           let new = own.places p ∙ or_left (own.keys p) (behind own.keys p) own.is_key in
-          let there = key_before argument s x m takes p
-          (match_there (is_key_with_value argument) m p (later.keeps.fresh p new)
-          (own.are_keys p own.is_key).1.is_key) in
+          let open_there = later.keeps.fresh p new in
+          let has = (own.are_keys p own.is_key).1.is_key in
+          let there = key_before argument s x m takes p (grind arith) in
           grind (arith, takes.first.first p)
 
   -- texts taken in turn, of which this is the last
