@@ -1,6 +1,6 @@
 -- What choices and commands show is what their parsers do.
 use Rattle.std.proofs.Common.{◌≡◌, ◌⊎◌, Bool, true, false, ℕ, ◌+◌, List, Result, Ok, inl, inr, Err}
-use Rattle.std.proofs.Common.{sym, subst, ap, ◌∙◌, ⊎_elim, true≢false, if◌then◌else◌}
+use Rattle.std.proofs.Common.{sym, ap, ◌∙◌, ⊎_elim, true≢false, if◌then◌else◌}
 use Rattle.bpaf_doc.specs.{declared.doc.Piece.Piece, Shape.Part, Shape.Shape}
 use Rattle.bpaf_line.specs.declared.error.Message.TheVariants.{Memory, Missing, ParseFailure}
 use Rattle.bpaf_line.specs.Combining.{Combines, CombinesSpared}
