@@ -1,8 +1,7 @@
 -- What a flag whose key must stand on the line answers, and what it reads.
-use Rattle.std.proofs.Common.{◌≡◌, ℕ, ◌&&◌, Bool, true, false, Result, Ok, Err, Option, Some, None}
-use Rattle.std.proofs.Common.{sym, ◌∙◌, subst, ⊎_elim, true≢false, arith}
+use Rattle.std.proofs.Common.{◌≡◌, ℕ, ◌&&◌, Bool, true, false, Result, Ok, Err, Option}
+use Rattle.std.proofs.Common.{sym, subst, ⊎_elim, true≢false, arith}
 use Rattle.std.specs.Option.{option_map_or, IsSomeRelated}
-use Rattle.std.proofs.lemmas.Bool.{and_from}
 use Rattle.bpaf_text.specs.declared.params.ParseFlag.{ParseFlag}
 use Rattle.bpaf_base.specs.declared.arg.Arg.{Arg}
 use Rattle.bpaf_line.specs.Situation.{Situation, take_place}
