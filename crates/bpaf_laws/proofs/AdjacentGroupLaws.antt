@@ -21,13 +21,10 @@ use Rattle.bpaf_laws.proofs.OneStretch.{keeps_stretch}
 use Rattle.bpaf_laws.proofs.{NamesAnswer.names_same, NamesAnswer.names_want}
 use Rattle.bpaf_line.specs.Messages.{is_memory}
 
--- places that are present in scope
-abbrev AllOpen : Situation → ℕ → ℕ → Type 0
-AllOpen s a b = (p : ℕ) → a ≤ p → p < b → is_open s p ≡ true
-
 -- each place up to the end of an attempt is present before it
 pub narrowed_open : {T : Type 0} (inner : Outcome T) (s : Situation) (a b : ℕ)
-    → Narrowed T inner s a b → (a ≤ b) × AllOpen s a b
+    → Narrowed T inner s a b → (a ≤ b)
+    × ((p : ℕ) → a ≤ p → p < b → is_open s p ≡ true)
 narrowed_open inner s a b (whole stop stretch) = (stretch.ordered, stretch.present)
 narrowed_open inner s a b (again stop left v t before ran next) =
     let opened = narrowed_open inner s a stop before in

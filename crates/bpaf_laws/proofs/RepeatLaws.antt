@@ -2,7 +2,7 @@
 use Rattle.std.specs.Prelude.{◌≡◌, ℕ, ◌+◌, ◌<◌, ◌≤◌, Bool, true, false, ◌&&◌, if◌then◌else◌, List}
 use Rattle.std.specs.Prelude.{[], ◌∷◌, ◌++◌, length, Ok, Err, Some, None, refl}
 use Rattle.std.specs.Global.{Vec}
-use Rattle.std.proofs.Common.{sym, ◌∙◌, ap, subst, ⊎_elim, inl, inr, arith, true≢false}
+use Rattle.std.proofs.Common.{sym, ap, subst, ⊎_elim, inl, inr, arith}
 use Rattle.bpaf_laws.specs.Reading.{Readings, Outcome, HasPlace}
 use Rattle.bpaf_laws.specs.Laws.{Keeps, Reads, Lawful}
 use Rattle.bpaf_laws.proofs.Keeping.{AnswersLawfully, lawful_answer, lawful_by, keeps_refl, keeps_trans}
@@ -42,8 +42,7 @@ steps_more inner catches first s m (x ∷ vs) v t o step =
 -- a run without a value leaves all as it was
 pub no_values : {T : Type 0} (inner : Outcome T) (s : Situation) (vs : List T) (t : Situation)
     → vs ≡ [] → UntilRest inner s vs t → t ≡ s
-no_values inner s [] t e (stops run) =
-    ⊎_elim (λ dropped. absurd (true≢false dropped.2)) (λ stopped. stopped.1 ∙ sym run.steps) run.stop
+no_values inner s [] t e (stops run) = let stop = run.stop in let same = run.steps in grind arith
 no_values inner s (v ∷ vs) t e run = cc
 no_values inner s [] t e (rests v is o same) = cc
 

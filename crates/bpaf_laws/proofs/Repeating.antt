@@ -1,7 +1,7 @@
 -- How the loops of repeats go on, end, and stay bounded.
 use Rattle.std.proofs.Common.{◌≡◌, ◌≢◌, ◌⊎◌, ℕ, ◌+◌, ◌<◌, ◌≤◌, ◌==◌, Bool, true, false, not, List}
-use Rattle.std.proofs.Common.{[], ◌∷◌, ◌++◌, length, Option, Some, None, Result, Ok, Err, IsErrAnd}
-use Rattle.std.proofs.Common.{is_some, is_none, if◌then◌else◌, refl, sym, ◌∙◌, ap, subst, inr}
+use Rattle.std.proofs.Common.{[], ◌∷◌, ◌++◌, length, Option, Some, Result, Ok, Err, IsErrAnd}
+use Rattle.std.proofs.Common.{is_some, if◌then◌else◌, refl, sym, ap, subst, inr}
 use Rattle.std.proofs.{Common.arith, lemmas.Bool.Decides.nat_tests}
 use Rattle.std.specs.{Prelude.vec_len, Global.Vec}
 use Rattle.bpaf_line.specs.{Messages.is_memory, Situation.Situation, Situation.open_count}
@@ -11,22 +11,13 @@ use Rattle.bpaf_laws.specs.Repeat.{EndsIn, is_nil, Turns, UntilRest, rests, Many
 use Rattle.bpaf_laws.specs.{Reading.Readings, Reading.Outcome, Laws.Lawful, Turn.TurnOutcome}
 use Rattle.bpaf_laws.proofs.RepeatLaws.{took_item, steps_more, values_bounded}
 
--- a number above nothing isn't nothing
-not_zero : (n : ℕ) → 0 < n → (n == 0) ≡ false
-not_zero n above = grind (arith, nat_tests)
-
--- a list without values is one of length nothing
-pub length_nil : {T : Type 0} (xs : List T) → (length xs == 0) ≡ is_nil xs
-length_nil xs = grind (arith, nat_tests)
-
 -- what `is_empty` answers of a list
 pub vec_nil : {T : Type 0} (values : Vec T) → (vec_len values == 0) ≡ is_nil values.items
-vec_nil values =
-    subst (λ n. (n == 0) ≡ is_nil values.items) (sym values.ok.0) (length_nil values.items)
+vec_nil values = let is = values.ok.0 in grind (arith, nat_tests)
 
 -- a count of values is nothing where there is no value
 pub count_nil : {T : Type 0} (n : ℕ) (xs : List T) → n ≡ length xs → (n == 0) ≡ is_nil xs
-count_nil n xs counted = ap (λ k. k == 0) counted ∙ length_nil xs
+count_nil n xs counted = grind (arith, nat_tests)
 
 -- a list with one value more at its end isn't empty
 nil_behind : {T : Type 0} (vs : List T) (v : T) → is_nil (vs ++ v ∷ []) ≡ false
@@ -46,16 +37,10 @@ steps_refused inner (Err e) catches s t vs steps is =
     record { values = vs; last = t; steps = steps; fails = inr (ap is_memory is, refl) }
 steps_refused inner (Ok v) catches s t vs steps is = absurd is
 
--- what `is_none` answers
-none_if : {T : Type 0} (o : Option T) (b : Bool) → is_some o ≡ not b → b ≡ is_none o
-none_if o b e = grind arith
-
 -- there is no last value where there is no value
 pub none_nil : {T : Type 0} (values : List T) (o : Option T) (b : Bool) → is_some o ≡ not b
     → EndsIn values o → b ≡ is_nil values
-none_nil {T} values None b answered ends = none_if {T = T} None b answered ∙ sym (ap is_nil ends)
-none_nil values (Some v) b answered ends =
-    none_if (Some v) b answered ∙ sym (ap is_nil ends.1 ∙ nil_behind ends.0 v)
+none_nil values o b answered ends = grind (arith, nil_behind)
 
 module _ {T : Type 0} {inner : Outcome T} {reads : Readings T} (law : Lawful T inner reads)
     (s m : Situation) (vs : List T) (v : T) (t : Situation) (steps : Turns inner false false s vs m)
