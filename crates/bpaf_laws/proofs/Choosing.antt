@@ -10,8 +10,7 @@ use Rattle.bpaf_laws.specs.Reading.{Outcome}
 
 -- an answer that isn't want of memory
 spared_of : {T : Type 0} (r : Result T Error) → is_want r ≡ false → IsNotMemory r
-spared_of (Ok v) e = tt
-spared_of (Err f) e = e
+spared_of r e = grind arith
 
 -- the answer of branches that ran is one of their choice
 choice_ran : {T : Type 0} (first second : Outcome T) (s : Situation) (r : Result T Error)

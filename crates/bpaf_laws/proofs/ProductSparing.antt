@@ -1,6 +1,6 @@
 -- Products catch no field's want of memory.
-use Rattle.std.specs.Prelude.{◌≡◌, true, false, Result, Ok, Err, if◌then◌else◌}
-use Rattle.std.proofs.Common.{subst, inl, inr, refl}
+use Rattle.std.specs.Prelude.{Result, Ok, Err}
+use Rattle.std.proofs.Common.{subst, inl, inr, arith}
 use Rattle.std.proofs.lemmas.Bool.{both_ways}
 use Rattle.bpaf_line.specs.{Messages.is_memory, Situation.Situation, declared.error.Error.Error}
 use Rattle.bpaf_laws.specs.Reading.{Outcome}
@@ -10,12 +10,7 @@ use Rattle.bpaf_laws.specs.Product.{BothEval, BothOutcome, FailFastOutcome, join
 -- what isn't want of memory comes of others that isn't either
 rest_spared : {A B : Type 0} (a : Result A Error) (b : Result B Error) → IsNotMemory (joined a b)
     → IsNotMemory b
-rest_spared a (Ok y) spared = tt
-rest_spared (Ok x) (Err f) spared = spared
-rest_spared {A} {B} (Err e) (Err f) spared =
-    elim (is_memory f.0) as (λ z. IsNotMemory {T = A × B} (if z then Err f else Err e)
-    → is_memory f.0 ≡ z → is_memory f.0 ≡ false)
-    [ true ↦ λ told memory. told | false ↦ λ told none. none ] spared refl
+rest_spared a b spared = grind arith
 
 module _ {A B : Type 0} (first : Outcome A) (rest without : Outcome B)
     (rests : Spares rest without) where

@@ -1,6 +1,6 @@
 -- A turn catches no want of memory, and where it stops it takes nothing.
 use Rattle.std.proofs.Common.{◌≡◌, Bool, true, false, Result, Ok, Err, Option, Some, None, inl}
-use Rattle.std.proofs.Common.{inr, true≢false, arith}
+use Rattle.std.proofs.Common.{inr, arith}
 use Rattle.std.proofs.lemmas.Bool.{both_ways}
 use Rattle.bpaf_line.specs.declared.error.Message.{Message}
 use Rattle.bpaf_line.specs.{declared.error.Error.Error, Messages.is_memory, Situation.Situation}
@@ -32,7 +32,4 @@ module _ {T : Type 0} (inner : Outcome T) where
   -- None takes nothing
   pub none_takes_nothing : (catches : Bool) (s t : Situation) (r : Result (Option T) Error)
       → TurnOutcome inner catches true s r t → NoneTakesNothing s r t
-  none_takes_nothing catches s t (Ok None) (inl dropped) = absurd (true≢false dropped.2)
-  none_takes_nothing catches s t (Ok None) (inr stopped) = stopped.1
-  none_takes_nothing catches s t (Ok (Some v)) o = tt
-  none_takes_nothing catches s t (Err e) o = tt
+  none_takes_nothing catches s t r o = grind arith
