@@ -1,6 +1,6 @@
 -- A choice of two: what its evaluation shows, and that it catches no want of memory.
 use Rattle.std.proofs.Common.{◌≡◌, ℕ, Bool, true, not, Some, refl, ap, false, Result, Ok, Err, sym}
-use Rattle.std.proofs.Common.{◌∙◌, ◌⊎◌, inl, inr, ⊎_elim, true≢false, arith}
+use Rattle.std.proofs.Common.{◌∙◌, ◌⊎◌, inl, inr, ⊎_elim, arith}
 use Rattle.bpaf_line.specs.Conflicts.{IsLeftmost, IsWinner, ConflictsSaved}
 use Rattle.bpaf_line.specs.{Situation.Situation, Situation.is_taken, declared.error.Error.Error}
 use Rattle.bpaf_laws.specs.Choice.{AnsweredBranch, is_want, IsWant, ValueOfWinner, Chosen}
@@ -15,14 +15,12 @@ spared_of r e = grind arith
 -- the answer of branches that ran is one of their choice
 choice_ran : {T : Type 0} (first second : Outcome T) (s : Situation) (r : Result T Error)
     (t : Situation) → BranchesEval first second s r t → ChoiceOutcome first second s r t
-choice_ran first second s (Ok v) t ran = ran
-choice_ran first second s (Err e) t ran = inl ran
+choice_ran first second s r t ran = grind arith
 
 -- so is want of memory
 choice_wants : {T : Type 0} (first second : Outcome T) (s : Situation) (r : Result T Error)
     (t : Situation) → IsWant s r t → ChoiceOutcome first second s r t
-choice_wants first second s (Ok v) t want = absurd want
-choice_wants first second s (Err e) t want = inr want
+choice_wants first second s r t want = grind arith
 
 -- where two branches that didn't want memory ran, the choice of two gives the answer chosen by
 -- theirs, or want of memory
@@ -81,8 +79,7 @@ choice_spared first second s t r ran spared =
 -- want of memory of a branch is the answer, where all is as before
 pub want_outcome : {T : Type 0} (first second : Outcome T) (s : Situation) (r : Result T Error)
     (t : Situation) → is_want r ≡ true → t ≡ s → ChoiceOutcome first second s r t
-want_outcome first second s (Ok v) t want same = absurd (true≢false (sym want))
-want_outcome first second s (Err e) t want same = inr (want, same)
+want_outcome first second s r t want same = grind arith
 
 -- of two situations the leftmost place of the one is that of the other
 pub leftmost_of_other : (s other : Situation) (p : ℕ) → IsLeftmost s other p → IsLeftmost other s p

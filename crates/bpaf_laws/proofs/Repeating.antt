@@ -74,5 +74,4 @@ module _ {T : Type 0} {inner : Outcome T} {reads : Readings T} (law : Lawful T i
 -- without a value, what the inner parser answers when it is evaluated once more
 pub last_answers : {T : Type 0} (inner : Outcome T) (s m : Situation) → UntilRest inner s [] m
     → (r : Result T Error) (t : Situation) → inner m r t → LastOutcome inner s r t
-last_answers inner s m run (Ok v) t o = inr (m, run, o)
-last_answers inner s m run (Err e) t o = inr (m, run, o)
+last_answers inner s m run r t o = grind arith
