@@ -1,6 +1,6 @@
 -- A choice of two: what its evaluation shows, and that it catches no want of memory.
-use Rattle.std.proofs.Common.{◌≡◌, ℕ, Bool, true, not, Some, refl, ap, false, Result, Ok, Err, sym}
-use Rattle.std.proofs.Common.{◌∙◌, ◌⊎◌, inl, inr, ⊎_elim, arith}
+use Rattle.std.proofs.Common.{◌≡◌, ℕ, Bool, true, not, Some, refl, ap, false, Result, Ok, sym}
+use Rattle.std.proofs.Common.{◌∙◌, ◌⊎◌, ⊎_elim, arith}
 use Rattle.bpaf_line.specs.Conflicts.{IsLeftmost, IsWinner, ConflictsSaved}
 use Rattle.bpaf_line.specs.{Situation.Situation, Situation.is_taken, declared.error.Error.Error}
 use Rattle.bpaf_laws.specs.Choice.{AnsweredBranch, is_want, IsWant, ValueOfWinner, Chosen}
@@ -62,11 +62,8 @@ module _ {T : Type 0} (first second less other : Outcome T) (fewer : Spares firs
 pub choice_within : {T : Type 0} (first second less other : Outcome T) → Spares first less
     → Spares second other → (s t : Situation) (r : Result T Error)
     → ChoiceOutcome first second s r t → ChoiceOutcome less other s r t
-choice_within first second less other fewer others s t (Ok v) ran =
-    branches_within first second less other fewer others s t (Ok v) ran
-choice_within first second less other fewer others s t (Err e) (inl ran) =
-    inl (branches_within first second less other fewer others s t (Err e) ran)
-choice_within first second less other fewer others s t (Err e) (inr want) = inr want
+choice_within first second less other fewer others s t r ran =
+    grind (arith, branches_within first second less other fewer others s t)
 
 -- a choice catches no want of memory
 pub choice_spared : {T : Type 0} (first second : Outcome T) (s t : Situation) (r : Result T Error)
