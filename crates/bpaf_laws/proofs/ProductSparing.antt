@@ -1,8 +1,7 @@
 -- Products catch no field's want of memory.
 use Rattle.std.specs.Prelude.{Result, Ok, Err}
 use Rattle.std.proofs.Common.{subst, inl, inr, arith}
-use Rattle.std.proofs.lemmas.Bool.{both_ways}
-use Rattle.bpaf_line.specs.{Messages.is_memory, Situation.Situation, declared.error.Error.Error}
+use Rattle.bpaf_line.specs.{Situation.Situation, declared.error.Error.Error}
 use Rattle.bpaf_laws.specs.Reading.{Outcome}
 use Rattle.bpaf_laws.specs.Spared.{IsNotMemory, Spares, WithoutMemory}
 use Rattle.bpaf_laws.specs.Product.{BothEval, BothOutcome, FailFastOutcome, joined, ProductOutcome}
@@ -30,9 +29,7 @@ module _ {A B : Type 0} (first : Outcome A) (rest without : Outcome B)
 
   -- a field and those after it
   pub both_spares : Spares (BothOutcome first rest) (BothOutcome (WithoutMemory first) without)
-  both_spares s t (Ok v) ran spared = both_ran s t (Ok v) ran spared
-  both_spares s t (Err e) (inl ran) spared = inl (both_ran s t (Err e) ran spared)
-  both_spares s t (Err e) (inr wanted) spared = absurd (both_ways (is_memory e.0) spared wanted.1)
+  both_spares s t r ran spared = grind (arith, both_ran s t)
 
   -- where a failing first field is the end
   pub fail_fast_spares :

@@ -45,12 +45,8 @@ module _ {T : Type 0} (inner : Outcome T) where
   -- nor does some
   pub spared_some : (catches : Bool) (message : List ℕ)
       → CatchesNoMemory (λ outcome. SomeOutcome outcome catches message) inner
-  spared_some catches message s t (Ok values) o spared =
-      (until_stop_spared catches true s values.items t o.0, o.1)
-  spared_some catches message s t (Err e) (inl failed) spared =
-      inl (until_error_spared catches true s e t failed spared)
-  spared_some catches message s t (Err e) (inr none) spared =
-      inr (until_stop_spared catches true s [] t none.0, none.1)
+  spared_some catches message s t r o spared =
+      grind (arith, until_stop_spared catches true s, until_error_spared catches true s)
 
   -- nor does collect
   pub spared_collect : {C : Type 0} (catches : Bool) (fills : List T → C → Type 0)
