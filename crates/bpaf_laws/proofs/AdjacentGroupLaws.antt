@@ -23,8 +23,7 @@ use Rattle.bpaf_line.specs.Messages.{is_memory}
 
 -- each place up to the end of an attempt is present before it
 pub narrowed_open : {T : Type 0} (inner : Outcome T) (s : Situation) (a b : ℕ)
-    → Narrowed T inner s a b → (a ≤ b)
-    × ((p : ℕ) → a ≤ p → p < b → is_open s p ≡ true)
+    → Narrowed T inner s a b → (a ≤ b) × ((p : ℕ) → a ≤ p → p < b → is_open s p ≡ true)
 narrowed_open inner s a b (whole stop stretch) = (stretch.ordered, stretch.present)
 narrowed_open inner s a b (again stop left v t before ran next) =
     let opened = narrowed_open inner s a stop before in

@@ -1,6 +1,6 @@
 -- Products catch no field's want of memory.
-use Rattle.std.specs.Prelude.{Result, Ok, Err}
-use Rattle.std.proofs.Common.{subst, inl, inr, arith}
+use Rattle.std.specs.Prelude.{Result}
+use Rattle.std.proofs.Common.{subst, arith}
 use Rattle.bpaf_line.specs.{Situation.Situation, declared.error.Error.Error}
 use Rattle.bpaf_laws.specs.Reading.{Outcome}
 use Rattle.bpaf_laws.specs.Spared.{IsNotMemory, Spares, WithoutMemory}
@@ -34,16 +34,9 @@ module _ {A B : Type 0} (first : Outcome A) (rest without : Outcome B)
   -- where a failing first field is the end
   pub fail_fast_spares :
       Spares (FailFastOutcome first rest) (FailFastOutcome (WithoutMemory first) without)
-  fail_fast_spares s t (Ok v) (middle, ran, after) spared =
-      (middle, (ran, tt), rests middle t (Ok v.1) after tt)
-  fail_fast_spares s t (Err e) (inl failed) spared = inl (failed, spared)
-  fail_fast_spares s t (Err e) (inr later) spared =
-      inr (later.0, later.1, (later.2, tt), rests later.1 t (Err e) later.3 spared)
+  fail_fast_spares s t r ran spared = grind (arith, rests)
 
 -- a product of fields
 pub product_spares : {V T : Type 0} (fields without : Outcome V) (makes : V → T → Type 0)
     → Spares fields without → Spares (ProductOutcome fields makes) (ProductOutcome without makes)
-product_spares fields without makes spares s t (Ok v) (middle, values, ran, made, left) spared =
-    (middle, values, spares s middle (Ok values) ran tt, made, left)
-product_spares fields without makes spares s t (Err e) (middle, ran, left) spared =
-    (middle, spares s middle (Err e) ran spared, left)
+product_spares fields without makes spares s t r ran spared = grind (arith, spares)
