@@ -22,8 +22,7 @@ names_same m n names same = subst NamesAnswer (sym same) names
 -- want of memory, also that of an inner run
 pub names_want : (m : Message) → is_memory m ≡ true → NamesAnswer m
 names_want (ParseFailure failure.Memory) want = (no_memory, wanting)
-names_want (ParseFailure (failure.Stdout doc full)) want = absurd (true≢false (sym want))
-names_want (ParseFailure (failure.Stderr doc)) want = absurd (true≢false (sym want))
+names_want (ParseFailure f) want = absurd (true≢false (sym want))
 names_want m want = tt
 
 -- the text of a fault, or want of memory for it

@@ -135,9 +135,7 @@ module _ {T : Type 0} {inner : Outcome T} {reads : Readings T} (law : Lawful T i
       → Turns inner catches false s vs t → length vs + open_count t ≤ open_count s
   values_bounded s [] t o = let same = ap open_count o in omega arith
   values_bounded s (v ∷ vs) t o =
-      let fewer = took_item inner catches s o.0 v o.1 in
-      let later = values_bounded o.0 vs t o.2 in
-      omega arith
+      omega (arith, took_item inner catches s o.0 v o.1, values_bounded o.0 vs t o.2)
 
   -- the first value may have taken none
   steps_bounded : (s : Situation) (vs : List T) (t : Situation) → Turns inner catches true s vs t
