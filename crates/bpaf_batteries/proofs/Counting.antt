@@ -151,8 +151,7 @@ pub counts_ran : (clones : Unit {0} → Unit {0} → Type 0) (keys : KeyCounts) 
     → t ≡ with_current m None → (r : Result (ℕ × ℕ) Error)
     → BothOutcome (CountOutcome (KeyOutcome clones (more_of keys)))
     (CountOutcome (KeyOutcome clones (fewer_of keys))) s r m → CountsOutcome clones keys s r t
-counts_ran clones keys s m t unset (Ok counts) o = (m, counts, o, refl, unset)
-counts_ran clones keys s m t unset (Err e) o = (m, o, unset)
+counts_ran clones keys s m t unset r o = grind arith
 
 -- two counts catch no want of memory of their keys
 pub counts_spared : (clones : Unit {0} → Unit {0} → Type 0) (keys : KeyCounts) (s t : Situation)
