@@ -93,8 +93,7 @@ module _ {T : Type 0} (clones : T → T → Type 0) (one other : ParseFlag T) (s
   -- the answer of a flag leaves the path
   ran_depth : (flag : ParseFlag T) (r : Result T Error) (t : Situation)
       → KeyEval clones flag s r t → depth t ≡ depth s
-  ran_depth flag (Ok v) t o = ap depth o.2
-  ran_depth flag (Err e) t o = ap depth o.1
+  ran_depth flag r t o = grind arith
 
   -- a value of a flag took an item
   ran_touched : (flag : ParseFlag T) (v : T) (t : Situation) → KeyOutcome clones flag s (Ok v) t
@@ -112,8 +111,7 @@ module _ {T : Type 0} (clones : T → T → Type 0) (one other : ParseFlag T)
   two_places : (p q : ℕ) → is_match (is_key one) s p ≡ true → is_match (is_key other) s q ≡ true
       → p ≢ q
   two_places p q mine theirs same =
-      not_both (is_key one) (is_key other) (open_item s p) keys.apart mine
-      (ap (is_match (is_key other) s) same ∙ theirs)
+      grind (arith, not_both (is_key one) (is_key other) (open_item s p) keys.apart)
 
   -- of two values that of the leftmost key is the chosen one
   both_took : (p q : ℕ) (x y v : T) (t : Situation) → IsFirst (is_key one) s p
@@ -288,8 +286,8 @@ module _ {T : Type 0} (clones : T → T → Type 0) (one other : ParseFlag T)
     -- its value is as it was
     gives_before : (w : T) (r : ℕ) → GivesValue clones one other t r w
         → GivesValue clones one other s r w
-    gives_before w r gives = ⊎_elim (λ mine. inl ((match_before (is_key one) r mine.0).0, mine.1))
-        (λ theirs. inr ((match_before (is_key other) r theirs.0).0, theirs.1)) gives
+    gives_before w r gives =
+        grind (arith, match_before (is_key one) r, match_before (is_key other) r)
 
   -- where a step stops there is no key
   stopped_none : (catches first : Bool) (s t : Situation)
