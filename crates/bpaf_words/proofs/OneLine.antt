@@ -168,19 +168,11 @@ said_of known (w ∷ ws) v (inr (other, s, spells, on)) =
 -- items in front of others are in front with these
 both_in_front : (xs ys : List Arg) (v : Verdict)
     → in_front (xs ++ ys) v ≡ in_front xs (in_front ys v)
-both_in_front xs ys (inl (line, None)) = ap (λ l. inl (l, None)) (append_assoc xs ys line)
-both_in_front xs ys (inl (line, Some n)) =
-    let place : length (xs ++ ys) + n ≡ length xs + (length ys + n) =
-    omega (arith, length-append xs ys) in
-    rw (append_assoc xs ys line, place) refl
-both_in_front xs ys (inr word) = refl
+both_in_front xs ys v = grind (arith, append_assoc {A = Arg}, length-append {A = Arg})
 
 -- none in front change nothing
 none_in_front : (v : Verdict) → v ≡ in_front [] v
-none_in_front (inl (line, None)) = refl
-none_in_front (inl (line, Some n)) =
-    let place : n ≡ 0 + n = omega arith in ap (λ n. inl (line, Some n)) place
-none_in_front (inr word) = refl
+none_in_front v = grind arith
 
 -- words behind others that spell items come to what they come to, with these items in front
 spelled_in_front : (known : Known) (before : List (List ℕ)) (parts : List (List Arg))
