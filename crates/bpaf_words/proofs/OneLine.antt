@@ -1,9 +1,8 @@
 -- Words have one line, or none and then a first ambiguous word.
 use Rattle.std.proofs.Common.{◌≡◌, ◌≢◌, ◌⊎◌, inl, inr, ⊎_elim, ℕ, ◌+◌, List, [], ◌∷◌, ◌++◌, length}
 use Rattle.std.proofs.Common.{map, codes, refl, ap, sym, ◌∙◌, subst, arith, append_assoc, None}
-use Rattle.std.proofs.Common.{Some, Option, All, IsUtf8, length-append, bytes_eq}
-use Rattle.std.proofs.Common.{append-nil, true≢false}
-use Rattle.std.proofs.lemmas.Bool.{cases_Bool}
+use Rattle.std.proofs.Common.{Some, Option, All, IsUtf8, length-append}
+use Rattle.std.proofs.Common.{append-nil}
 use Rattle.std.specs.Cmp.Lexicographic.{bytes_decides}
 use Rattle.std.specs.{Option.option_map, List.AllZip, List.flat_map}
 use Rattle.bpaf_base.specs.{declared.arg.Arg.Arg, declared.arg.Arg.TheVariants.PosWord}
@@ -64,11 +63,7 @@ some_goes_on (Ambiguous n) word later rest = (inr (word, n), refl)
 
 -- a word is `--`, or it isn't
 marker_or_not : (word : List ℕ) → (word ≡ codes "--") ⊎ (word ≢ codes "--")
-marker_or_not word =
-    let decides = bytes_decides word (codes "--") in
-    ⊎_elim (λ is. inl (decides.0 is))
-    (λ other. inr (λ is. true≢false (sym (decides.1 is) ∙ other)))
-    (cases_Bool (bytes_eq word (codes "--")))
+marker_or_not word = let decides = bytes_decides word (codes "--") in grind arith
 
 -- words that are texts come to something
 some_verdict : (known : Known) (words : List (List ℕ)) → All IsUtf8 words
