@@ -1,14 +1,14 @@
 -- Counted keys: what two counts read are as many keys of each flag.
 use Rattle.std.proofs.Common.{◌≡◌, ℕ, ◌+◌, ◌<◌, ◌&&◌, ◌||◌, Bool, true, false, List, [], ◌∷◌}
-use Rattle.std.proofs.Common.{length, slice_get, Result, Ok, Err, IfOk, Option, Some, None, refl}
-use Rattle.std.proofs.Common.{sym, ◌∙◌, subst, arith, ⊎_elim, true≢false, if◌then◌else◌}
+use Rattle.std.proofs.Common.{length, Result, Ok, Err, IfOk, None, refl}
+use Rattle.std.proofs.Common.{sym, ◌∙◌, subst, arith, ⊎_elim, true≢false}
 use Rattle.std.proofs.lemmas.Bool.{eq-eqb, eqb-true, false_from_ne_true, ne_eqb, or_cases}
 use Rattle.std.proofs.lemmas.Option.{slice_get_within}
 use Rattle.std.specs.Option.{option_map_or, IsSomeRelated}
 use Rattle.bpaf_text.specs.declared.params.ParseFlag.{ParseFlag}
 use Rattle.bpaf_base.specs.declared.arg.Arg.{Arg}
 use Rattle.bpaf_index.proofs.Counts.{count_below-same, count_below-fewer, count_below-none}
-use Rattle.bpaf_line.specs.Situation.{Situation, Context, item_in, is_marker, count_below}
+use Rattle.bpaf_line.specs.Situation.{Situation, Context, item_in, count_below}
 use Rattle.bpaf_line.specs.{declared.error.Error.Error, Situation.with_current}
 use Rattle.bpaf_laws.proofs.CountingLaws.{count_below-joined}
 use Rattle.bpaf_laws.specs.Flag.{at_key, nowhere, value_without_key}
@@ -33,14 +33,7 @@ record AreKeys {T : Type 0} (flag : ParseFlag T) (context : Context) (share : Sh
 -- a place with an item that passes a test lies in the line
 item_within : (test : Arg → Bool) (context : Context) (p : ℕ) → HasItem test context p
     → p < length context.line
-item_within test context p has =
-    of_item (is_marker context.marker p) (slice_get context.line p) refl has
-  where
-    of_item : (b : Bool) (at : Option Arg) → slice_get context.line p ≡ at
-        → option_map_or test (if b then None else at) false ≡ true → p < length context.line
-    of_item b (Some item) is e = slice_get_within context.line p item is
-    of_item true None is e = absurd (true≢false (sym e))
-    of_item false None is e = absurd (true≢false (sym e))
+item_within test context p has = grind (arith, slice_get_within context.line p)
 
 -- one place of a line is one
 one_place : (share : Share) (p n : ℕ) → IsPlace p share → p < n → count_below share n ≡ 1
@@ -158,8 +151,7 @@ pub counts_ran : (clones : Unit {0} → Unit {0} → Type 0) (keys : KeyCounts) 
     → t ≡ with_current m None → (r : Result (ℕ × ℕ) Error)
     → BothOutcome (CountOutcome (KeyOutcome clones (more_of keys)))
     (CountOutcome (KeyOutcome clones (fewer_of keys))) s r m → CountsOutcome clones keys s r t
-counts_ran clones keys s m t unset (Ok counts) o = (m, counts, o, refl, unset)
-counts_ran clones keys s m t unset (Err e) o = (m, o, unset)
+counts_ran clones keys s m t unset r o = grind arith
 
 -- two counts catch no want of memory of their keys
 pub counts_spared : (clones : Unit {0} → Unit {0} → Type 0) (keys : KeyCounts) (s t : Situation)
@@ -175,8 +167,7 @@ counts_spared clones keys s t r answered spared =
 
 -- the counts are those of the keys that were newly taken
 pub keys_counted : (clones : Unit {0} → Unit {0} → Type 0) (keys : KeyCounts) (s t : Situation)
-    (r : Result (ℕ × ℕ) Error) → CountsOutcome clones keys s r t
-    → IfOk r (KeysAreCounted keys s t)
+    (r : Result (ℕ × ℕ) Error) → CountsOutcome clones keys s r t → IfOk r (KeysAreCounted keys s t)
 keys_counted clones keys s t (Ok counts) o =
     counted clones keys s.context (newly s t) counts
     ((counts_lawful clones keys).ok s t counts o).reading

@@ -1,12 +1,10 @@
 -- What a flag whose key must stand on the line answers, and what it reads.
-use Rattle.std.proofs.Common.{◌≡◌, ℕ, ◌&&◌, Bool, true, false, Result, Ok, Err, Option, Some, None}
-use Rattle.std.proofs.Common.{sym, ◌∙◌, subst, ⊎_elim, true≢false}
+use Rattle.std.proofs.Common.{◌≡◌, ℕ, ◌&&◌, Bool, true, false, Result, Ok, Err, Option}
+use Rattle.std.proofs.Common.{sym, subst, true≢false, arith}
 use Rattle.std.specs.Option.{option_map_or, IsSomeRelated}
-use Rattle.std.proofs.lemmas.Bool.{and_from}
 use Rattle.bpaf_text.specs.declared.params.ParseFlag.{ParseFlag}
 use Rattle.bpaf_base.specs.declared.arg.Arg.{Arg}
 use Rattle.bpaf_line.specs.Situation.{Situation, take_place}
-use Rattle.bpaf_line.specs.declared.error.Message.TheVariants.{Memory}
 use Rattle.bpaf_line.specs.{Messages.is_memory, Taking.IsFirst, Taking.HasNone}
 use Rattle.bpaf_line.specs.{declared.error.Error.Error, declared.error.Message.Message}
 use Rattle.bpaf_laws.specs.Flag.{FlagOutcome, FlagFails, IsFlagPresent}
@@ -17,9 +15,7 @@ use Rattle.bpaf_batteries.specs.Keys.{is_key, MustStand}
 pub not_both : (one other : Arg → Bool) (at : Option Arg)
     → ((item : Arg) → (one item && other item) ≡ false) → option_map_or one at false ≡ true
     → option_map_or other at false ≡ true → ⊥
-not_both one other None apart e f = true≢false (sym e)
-not_both one other (Some item) apart e f =
-    true≢false (sym (and_from (one item) (other item) e f) ∙ apart item)
+not_both one other at apart e f = grind (arith, apart)
 
 -- what such a flag answers but want of memory: a value for its first key, which is taken; or there
 -- is no key, and nothing changes
@@ -43,18 +39,14 @@ module _ {T : Type 0} (clones : T → T → Type 0) (flag : ParseFlag T) (stands
   -- a flag that is present took its first key
   key_taken : (v : T) → IsFlagPresent flag.named s t → clones flag.present v
       → KeyEval clones flag s (Ok v) t
-  key_taken v present value = ⊎_elim (λ takes. (takes.0, takes.1, takes.2, value))
-      (λ set. absurd (not_set set.1)) present
+  key_taken v present value = grind (arith, not_set)
 
   -- a refusal that isn't want of memory comes where there is no key
   key_missed : (m : Message) → FlagFails flag.named flag.absent s m t → is_memory m ≡ false
       → HasNone (is_key flag) s × (t ≡ s)
-  key_missed Memory fails spared = absurd (true≢false spared)
-  key_missed other fails spared = (fails.0.0.0, fails.0.0.1)
+  key_missed m fails spared = grind arith
 
   -- so a flag answers
   pub key_ran : (r : Result T Error) → FlagOutcome clones flag.named flag.present flag.absent s r t
       → IsNotMemory r → KeyEval clones flag s r t
-  key_ran (Ok v) o spared = ⊎_elim (λ here. key_taken v here.0 here.1)
-      (λ none. absurd (not_absent v none.1)) o
-  key_ran (Err e) o spared = key_missed e.0 o spared
+  key_ran r o spared = grind (arith, key_taken, key_missed, not_absent)

@@ -4,8 +4,8 @@ use Rattle.std.proofs.Common.{◌≡◌, ◌≢◌, ◌⊎◌, ℕ, ◌<◌, ◌
 use Rattle.std.proofs.Common.{List, [], ◌∷◌, ◌++◌, Result, Ok, Err, Option, Some, None, refl, sym}
 use Rattle.std.proofs.Common.{◌∙◌, ap, subst, arith, inl, inr, ⊎_elim, true≢false, if◌then◌else◌}
 use Rattle.std.proofs.Common.{IsOk}
-use Rattle.std.proofs.lemmas.Bool.{and_parts, both_ways, cases_lt, false_from_ne_true, or_from}
-use Rattle.std.proofs.lemmas.Bool.{or_left, or_right, Decides.nat_tests}
+use Rattle.std.proofs.lemmas.Bool.{and_parts, both_ways, cases_lt, false_from_ne_true}
+use Rattle.std.proofs.lemmas.Bool.{Decides.nat_tests}
 use Rattle.std.specs.Option.{option_map_or}
 use Rattle.bpaf_text.specs.declared.params.ParseFlag.{ParseFlag}
 use Rattle.bpaf_base.specs.declared.arg.Arg.{Arg}
@@ -25,30 +25,20 @@ use Rattle.bpaf_laws.specs.Choice.{BranchesEval, EqualDepths, IsChosen, TookAndI
 use Rattle.bpaf_laws.specs.Choice.{ChoiceReads, depth}
 use Rattle.bpaf_laws.specs.Laws.{Lawful, newly}
 use Rattle.bpaf_laws.specs.Reading.{IsPlace}
-use Rattle.bpaf_laws.specs.Repeat.{Turns, UntilStop, is_nil}
+use Rattle.bpaf_laws.specs.Repeat.{EndsIn, Turns, UntilStop, is_nil}
 use Rattle.bpaf_laws.specs.Turn.{TurnOutcome, is_untouched}
 use Rattle.bpaf_batteries.proofs.Keys.{KeyEval, key_ran, not_both}
 use Rattle.bpaf_batteries.specs.Keys.{is_key, is_either, AreKeysApart, KeyOutcome, KeyReads}
-use Rattle.bpaf_batteries.specs.Toggle.{EitherOutcome, GivesValue, IsLastOf, IsRightmost}
+use Rattle.bpaf_batteries.specs.Toggle.{EitherOutcome, GivesValue}
+use Rattle.bpaf_laws.specs.KeyFirst.{IsLast}
 use Rattle.bpaf_batteries.specs.Toggle.{LastToggleWins, RightmostGives, ToggleOutcome}
-
--- an item passes either of two tests where it passes the one or the other
-either_at : (one other : Arg → Bool) (at : Option Arg)
-    → option_map_or (λ item. one item || other item) at false
-    ≡ (option_map_or one at false || option_map_or other at false)
-either_at one other at = grind arith
 
 -- of two places that are present the one before the other is the leftmost that is taken by only one
 before_is_leftmost : (s : Situation) (p q : ℕ) → p < q → is_open s p ≡ true
     → IsLeftmost (take_place s p) (take_place s q) p
 before_is_leftmost s p q before there = record {
-  differs =
-      let apart : p ≢ q = (λ same. absurd (omega arith)) in
-      taken_here s p ∙ sym (ap not (taken_other s q p apart ∙ open_not_taken s p there));
-  first = λ r low.
-      let not_p : r ≢ p = (λ same. absurd (omega arith)) in
-      let not_q : r ≢ q = (λ same. absurd (omega arith)) in
-      taken_other s p r not_p ∙ sym (taken_other s q r not_q);
+  differs = grind (arith, taken_here s p, taken_other s q p, open_not_taken s p there);
+  first = λ r low. grind (arith, taken_other s p r, taken_other s q r);
 }
 
 -- a step of the choice: the leftmost key is taken, and its value is the answer
@@ -63,15 +53,12 @@ module _ {T : Type 0} (clones : T → T → Type 0) (one other : ParseFlag T) (s
   -- the place of a key with a value has a key of either
   gives_key : (p : ℕ) (v : T) → GivesValue clones one other s p v
       → is_match (is_either one other) s p ≡ true
-  gives_key p v gives =
-      either_at (is_key one) (is_key other) (open_item s p)
-      ∙ ⊎_elim (λ mine. or_left _ _ mine.0) (λ theirs. or_right _ _ theirs.0) gives
+  gives_key p v gives = grind arith
 
   -- where neither flag has a key there is none of either
   neither : (p : ℕ) → is_match (is_key one) s p ≡ false → is_match (is_key other) s p ≡ false
       → is_match (is_either one other) s p ≡ false
-  neither p mine theirs =
-      either_at (is_key one) (is_key other) (open_item s p) ∙ or_from _ _ mine theirs
+  neither p mine theirs = grind arith
 
   -- where a first key is taken, and none of the other flag stands before it, it is the leftmost
   took : (p : ℕ) (v : T) (t : Situation) → is_open s p ≡ true
@@ -106,8 +93,7 @@ module _ {T : Type 0} (clones : T → T → Type 0) (one other : ParseFlag T) (s
   -- the answer of a flag leaves the path
   ran_depth : (flag : ParseFlag T) (r : Result T Error) (t : Situation)
       → KeyEval clones flag s r t → depth t ≡ depth s
-  ran_depth flag (Ok v) t o = ap depth o.2
-  ran_depth flag (Err e) t o = ap depth o.1
+  ran_depth flag r t o = grind arith
 
   -- a value of a flag took an item
   ran_touched : (flag : ParseFlag T) (v : T) (t : Situation) → KeyOutcome clones flag s (Ok v) t
@@ -125,8 +111,7 @@ module _ {T : Type 0} (clones : T → T → Type 0) (one other : ParseFlag T)
   two_places : (p q : ℕ) → is_match (is_key one) s p ≡ true → is_match (is_key other) s q ≡ true
       → p ≢ q
   two_places p q mine theirs same =
-      not_both (is_key one) (is_key other) (open_item s p) keys.apart mine
-      (ap (is_match (is_key other) s) same ∙ theirs)
+      grind (arith, not_both (is_key one) (is_key other) (open_item s p) keys.apart)
 
   -- of two values that of the leftmost key is the chosen one
   both_took : (p q : ℕ) (x y v : T) (t : Situation) → IsFirst (is_key one) s p
@@ -276,32 +261,22 @@ module _ {T : Type 0} (clones : T → T → Type 0) (one other : ParseFlag T)
     -- where there is none elsewhere afterwards there was none
     none_elsewhere : (test : Arg → Bool) (q : ℕ) → q ≢ place → is_match test t q ≡ false
         → is_match test s q ≡ false
-    none_elsewhere test q elsewhere none =
-        let is : (q == place) ≡ false = grind (arith, nat_tests) in
-        still (is_match test s q) (q == place) is (sym (match_after test q) ∙ none)
-      where
-        still : (a b : Bool) → b ≡ false → (a && not b) ≡ false → a ≡ false
-        still a b is none = grind arith
+    none_elsewhere test q elsewhere none = grind (arith, nat_tests, match_after test q)
 
     -- a value took an item
     not_dropped : open_count s ≤ open_count t → ⊥
     not_dropped same =
         let took = choice_took s t v ran in
         let read = law.ok s t v ran in
-        let here : (took.place == took.place) ≡ true = grind (arith, nat_tests) in
-        true≢false (sym (took.taken took.place ∙ here)
-        ∙ same_took_none s t read.keeps read.closed same took.place)
+        let none = same_took_none s t read.keeps read.closed same took.place in
+        grind (arith, nat_tests, took.taken took.place)
 
     -- a key behind the one that was taken is the rightmost of all
-    rightmost_behind : (r : ℕ) → IsRightmost (is_either one other) t r
-        → IsRightmost (is_either one other) s r
+    rightmost_behind : (r : ℕ) → IsLast (is_either one other) t r → IsLast (is_either one other) s r
     unfolding place
     rightmost_behind r there =
         let before = match_before (is_either one other) r there.matches in
-        let behind : place ≤ r = ⊎_elim
-        (λ (low : r < place). absurd (true≢false
-        (sym before.0 ∙ (choice_took s t v ran).none_before r low)))
-        (λ (at : place ≤ r). at) (cases_lt r place) in
+        let behind : place ≤ r = grind (arith, (choice_took s t v ran).none_before r) in
         record {
           matches = before.0;
           last = λ q later. none_elsewhere (is_either one other) q (λ same. absurd (omega arith))
@@ -311,8 +286,8 @@ module _ {T : Type 0} (clones : T → T → Type 0) (one other : ParseFlag T)
     -- its value is as it was
     gives_before : (w : T) (r : ℕ) → GivesValue clones one other t r w
         → GivesValue clones one other s r w
-    gives_before w r gives = ⊎_elim (λ mine. inl ((match_before (is_key one) r mine.0).0, mine.1))
-        (λ theirs. inr ((match_before (is_key other) r theirs.0).0, theirs.1)) gives
+    gives_before w r gives =
+        grind (arith, match_before (is_key one) r, match_before (is_key other) r)
 
   -- where a step stops there is no key
   stopped_none : (catches first : Bool) (s t : Situation)
@@ -350,7 +325,7 @@ module _ {T : Type 0} (clones : T → T → Type 0) (one other : ParseFlag T)
 
   -- the last of the values that a repeat of the choice answers is that of the rightmost key
   last_wins : (catches : Bool) (s t : Situation) (values : List T) (v : Option T)
-      → UntilStop (EitherOutcome clones one other) catches true s values t → IsLastOf values v
+      → UntilStop (EitherOutcome clones one other) catches true s values t → EndsIn values v
       → RightmostGives clones one other s v
   last_wins catches s t values (Some v) run last =
       last_step catches true s last.0 v run.last

@@ -1,25 +1,15 @@
 -- A toggle: the last value of two keys that may each stand any number of times.
-use Rattle.std.specs.Prelude.{◌≡◌, ◌⊎◌, ◌<◌, ◌++◌, ◌∷◌, [], ℕ, Bool, true, false, List, Option}
+use Rattle.std.specs.Prelude.{◌≡◌, ◌⊎◌, ℕ, Bool, true, List, Option}
 use Rattle.std.specs.{Prelude.Some, Prelude.None, List.last_or}
 use Rattle.bpaf_doc.specs.Shape.{Shape}
 use Rattle.bpaf_text.specs.declared.params.ParseFlag.{ParseFlag}
-use Rattle.bpaf_base.specs.declared.arg.Arg.{Arg}
 use Rattle.bpaf_line.specs.{Situation.Situation, Taking.HasNone, Taking.is_match}
 use Rattle.bpaf_laws.specs.Choice.{ChoiceDescribes, ChoiceOutcome, ChoiceReads}
-use Rattle.bpaf_laws.specs.Repeat.{ListReads, ManyDescribes, ManyOutcome}
+use Rattle.bpaf_laws.specs.KeyFirst.{IsLast}
+use Rattle.bpaf_laws.specs.Repeat.{EndsIn, ListReads, ManyDescribes, ManyOutcome}
 use Rattle.bpaf_laws.specs.{Flag.flag_shape, Reading.Outcome, Reading.Readings}
 use Rattle.bpaf_laws.specs.{Spared.WithoutMemory, Transform.MapOutcome, Transform.MapReads}
 use Rattle.bpaf_batteries.specs.Keys.{is_key, is_either, AreKeysApart, KeyOutcome, KeyReads}
-
--- the last of some values; none where there is none
-abbrev pub IsLastOf : {T : Type 0} → List T → Option T → Type 0
-IsLastOf {T} values (Some v) = (before : List T) × (values ≡ before ++ v ∷ [])
-IsLastOf values None = values ≡ []
-
--- the rightmost place with a match
-pub record IsRightmost (test : Arg → Bool) (s : Situation) (p : ℕ) : Type 0 where
-  pub matches : is_match test s p ≡ true
-  pub last : (q : ℕ) → p < q → is_match test s q ≡ false
 
 -- a value of the key at a place: a clone of that of its flag
 abbrev pub GivesValue : {T : Type 0} → (T → T → Type 0) → ParseFlag T → ParseFlag T → Situation → ℕ
@@ -32,7 +22,7 @@ GivesValue clones one other s p v =
 abbrev pub RightmostGives : {T : Type 0} → (T → T → Type 0) → ParseFlag T → ParseFlag T → Situation
     → Option T → Type 0
 RightmostGives clones one other s (Some v) =
-    (p : ℕ) × IsRightmost (is_either one other) s p × GivesValue clones one other s p v
+    (p : ℕ) × IsLast (is_either one other) s p × GivesValue clones one other s p v
 RightmostGives clones one other s None = HasNone (is_either one other) s
 
 -- so it is for keys that must stand on the line, whose names are apart
@@ -49,14 +39,14 @@ abbrev pub ToggleOutcome : {T : Type 0} → (T → T → Type 0) → ParseFlag T
     → Outcome (Option T)
 ToggleOutcome clones one other catches =
     MapOutcome (ManyOutcome (EitherOutcome clones one other) catches)
-    (λ values v. IsLastOf values.items v)
+    (λ values v. EndsIn values.items v)
 
 -- and where the repeat wanted no memory
 abbrev pub ToggleSpared : {T : Type 0} → (T → T → Type 0) → ParseFlag T → ParseFlag T → Bool
     → Outcome (Option T)
 ToggleSpared clones one other catches =
     MapOutcome (ManyOutcome (WithoutMemory (EitherOutcome clones one other)) catches)
-    (λ values v. IsLastOf values.items v)
+    (λ values v. EndsIn values.items v)
 
 -- what it reads
 abbrev pub ToggleReads : {T : Type 0} → (T → T → Type 0) → ParseFlag T → ParseFlag T

@@ -1,9 +1,9 @@
 //! Two flags of which the last one given counts.
 ghost use Rattle.std.specs.Prelude.{◌≡◌, None, false, IfOk, ◌++◌};
-ghost use Rattle.bpaf_batteries.specs.Toggle.{IsLastOf, LastToggleWins, ToggleDescribes};
+ghost use Rattle.bpaf_batteries.specs.Toggle.{LastToggleWins, ToggleDescribes};
 ghost use Rattle.bpaf_batteries.specs.Toggle.{ToggleOutcome, ToggleReads, ToggleSpared};
 ghost use Rattle.bpaf_batteries.specs.ToggleLaws.{toggle_lawful, toggle_shows};
-ghost use Rattle.bpaf_laws.specs.{Spared.IsNotMemory, ShownNames.of_flags};
+ghost use Rattle.bpaf_laws.specs.{Repeat.EndsIn, Spared.IsNotMemory, ShownNames.of_flags};
 
 use bpaf::parsers::{ParseFlag, ParseMany, ParseOrElse};
 use bpaf::{Error, Meta, NamedArg, Parser, State};
@@ -81,7 +81,7 @@ impl<T: Clone + Drop> Parser<Option<T>> for ToggleFlag<T> {
 
 /// The last of some values.
 fn last_of<T: Drop>(mut values: Vec<T>) -> Option<T>
-    ensures { IsLastOf values.items result }
+    ensures { EndsIn values.items result }
 {
     values.pop()
 }

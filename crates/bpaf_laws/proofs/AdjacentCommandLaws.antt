@@ -34,13 +34,8 @@ module _ (called : Called) (s : Situation) (p : ℕ) (at : IsOpenedAt (opening_w
         let m : Situation = inside called s p in
         let word = newly_take s p (word_is_open (opening_words called) s p at) in
         let joins = newly_joins s m t (keeps_inside called s p at) kept_inside in
-        grind (
-          arith,
-          nat_tests,
-          joins.all q,
-          word q,
-          newly_stretch m (p + 1) end present t read.keeps read.closed none q,
-        )
+        let behind = newly_stretch m (p + 1) end present t read.keeps read.closed none q in
+        grind (arith, nat_tests, joins.all q, word q)
 
     -- what is read over a stretch of present places behind the word is a reading, with the scope
     -- from the word on

@@ -6,7 +6,7 @@ use Rattle.std.proofs.lemmas.Bool.{both_ways, Decides.nat_tests}
 use Rattle.bpaf_doc.specs.Shape.{Part}
 use Rattle.bpaf_line.specs.Situation.{Situation, is_open, with_scope}
 use Rattle.bpaf_line.specs.{declared.error.Error.Error, declared.error.Message.TheVariants.Missing}
-use Rattle.bpaf_line.proofs.Places.{open_in_scope, open_not_taken}
+use Rattle.bpaf_line.proofs.Places.{open_in_scope}
 use Rattle.bpaf_laws.specs.Reading.{Readings, Outcome, Share}
 use Rattle.bpaf_laws.specs.Laws.{Keeps, Lawful, newly}
 use Rattle.bpaf_laws.specs.AdjacentGroup.{Failure, longer, longest, taken_by, Probe, Narrowed}
@@ -21,13 +21,9 @@ use Rattle.bpaf_laws.proofs.OneStretch.{keeps_stretch}
 use Rattle.bpaf_laws.proofs.{NamesAnswer.names_same, NamesAnswer.names_want}
 use Rattle.bpaf_line.specs.Messages.{is_memory}
 
--- places that are present in scope
-abbrev AllOpen : Situation → ℕ → ℕ → Type 0
-AllOpen s a b = (p : ℕ) → a ≤ p → p < b → is_open s p ≡ true
-
 -- each place up to the end of an attempt is present before it
 pub narrowed_open : {T : Type 0} (inner : Outcome T) (s : Situation) (a b : ℕ)
-    → Narrowed T inner s a b → (a ≤ b) × AllOpen s a b
+    → Narrowed T inner s a b → (a ≤ b) × ((p : ℕ) → a ≤ p → p < b → is_open s p ≡ true)
 narrowed_open inner s a b (whole stop stretch) = (stretch.ordered, stretch.present)
 narrowed_open inner s a b (again stop left v t before ran next) =
     let opened = narrowed_open inner s a stop before in
@@ -70,14 +66,7 @@ module _ {T : Type 0} {inner : Outcome T} {reads : Readings T} (law : Lawful T i
           stretch = record {
             from = a;
             to = stop;
-            is = λ p. grind (
-              arith,
-              nat_tests,
-              none p,
-              opened.1 p,
-              open_not_taken s p,
-              read.keeps.fresh p,
-            );
+            is = λ p. grind (arith, nat_tests, none p, opened.1 p, read.keeps.fresh p);
           };
         };
       }

@@ -1,6 +1,6 @@
 -- Items that a look matches: what is read of them keeps to the laws.
 use Rattle.std.proofs.Common.{◌≡◌, ℕ, ◌+◌, Bool, true, false, List, [], ◌∷◌, refl, sym, subst, inl, ◌⊎◌}
-use Rattle.std.proofs.Common.{inr, arith, Option, Some, None, option_map, if◌then◌else◌}
+use Rattle.std.proofs.Common.{inr, arith, Option, Some, option_map, if◌then◌else◌}
 use Rattle.std.specs.{Prelude.All, Prelude.Contains, List.filter_map, List.cons_option}
 use Rattle.std.proofs.lemmas.List.Elements.{All-nil, All-cons, All-take, All-contains}
 use Rattle.std.proofs.lemmas.List.Elements.{Contains-append_right}
@@ -25,8 +25,7 @@ IsPlaced s placed = open_item s placed.0 ≡ Some placed.1
 placed_more : (s : Situation) (p : ℕ) (items : List (ℕ × Arg)) (at : Option Arg)
     → open_item s p ≡ at → All (IsPlaced s) items
     → All (IsPlaced s) (cons_option (option_map (λ item. (p, item)) at) items)
-placed_more s p items None is all = all
-placed_more s p items (Some item) is all = All-cons (IsPlaced s) (p, item) items is all
+placed_more s p items at is all = grind (arith, All-cons (IsPlaced s))
 
 -- the open items of some places are present and in scope
 all_placed : (s : Situation) (places : List ℕ)
@@ -42,18 +41,14 @@ looked_placed s false = All-take (IsPlaced s) 1 _ (all_placed s _)
 
 module _ {T : Type 0} (looks : Looks T) (anywhere : Bool) (s : Situation) (place : ℕ) (item : Arg)
     (v : T) (found : FirstMatch looks (looked_at anywhere s) place item v) where
-  -- the item that matches is among those that are looked at
-  match_is_looked_at : Contains (looked_at anywhere s) (place, item)
-  match_is_looked_at =
-      let rest = (place, item) ∷ found.after in
-      subst (λ items. Contains items (place, item)) (sym found.split)
-      (Contains-append_right found.before rest (place, item) (0, omega arith, refl))
-
-  -- it is present and in scope
+  -- the item that matches is present and in scope
   pub match_placed : (is_open s place ≡ true) × (item_at s place ≡ Some item)
-  match_placed = open_item_there s place item
-      (All-contains (IsPlaced s) (looked_at anywhere s) (place, item) (looked_placed s anywhere)
-      match_is_looked_at)
+  match_placed =
+      let rest = (place, item) ∷ found.after in
+      let there = subst (λ items. Contains items (place, item)) (sym found.split)
+      (Contains-append_right found.before rest (place, item) (0, omega arith, refl)) in
+      open_item_there s place item
+      (All-contains (IsPlaced s) (looked_at anywhere s) (place, item) (looked_placed s anywhere) there)
 
   -- the situation in which its place is taken
   abbrev m : Situation

@@ -1,8 +1,7 @@
 -- How the answers of an argument are put together.
-use Rattle.std.proofs.Common.{ℕ, List, Result, Ok, Err, inr}
+use Rattle.std.proofs.Common.{ℕ, List, Result, arith}
 use Rattle.bpaf_text.specs.Named.{KeyWithValue}
 use Rattle.bpaf_line.specs.declared.error.Message.{Message}
-use Rattle.bpaf_line.specs.declared.error.Message.TheVariants.{Memory, ParseFailed}
 use Rattle.bpaf_line.specs.{declared.error.Error.Error, Situation.Situation}
 use Rattle.bpaf_laws.specs.Value.{ReadsValue, FaultsText}
 use Rattle.bpaf_laws.specs.Argument.{ArgumentOutcome, ArgumentFails, GetsText}
@@ -12,12 +11,9 @@ module _ {T : Type 0} (means : List ℕ → T → Type 0) (argument : KeyWithVal
   -- a fault in the text of an argument is a refusal of the argument
   fault_refused : (m : Message) → GetsText argument s text t → FaultsText means text t.current m
       → ArgumentFails means argument s m t
-  fault_refused Memory gets fault = inr (text, gets)
-  fault_refused (ParseFailed place words) gets fault = (text, gets, fault)
-  fault_refused other gets fault = absurd fault
+  fault_refused m gets fault = grind arith
 
   -- what reading the text of an argument answers
   pub value_read : (r : Result T Error) → GetsText argument s text t
       → ReadsValue means text t.current r → ArgumentOutcome means argument s r t
-  value_read (Ok v) gets meant = (text, gets, meant)
-  value_read (Err e) gets fault = fault_refused e.0 gets fault
+  value_read r gets meant = grind (arith, fault_refused)

@@ -1,5 +1,5 @@
 -- Repeats answer at most one value more than items are present at the start.
-use Rattle.std.proofs.Common.{Bool, List, Result, Ok, Err, IfOk}
+use Rattle.std.proofs.Common.{Bool, List, Result, Ok, Err, IfOk, arith}
 use Rattle.std.specs.{Prelude.ℕ, Global.Vec}
 use Rattle.bpaf_line.specs.{Situation.Situation, declared.error.Error.Error}
 use Rattle.bpaf_laws.specs.Repeat.{ManyOutcome, SomeOutcome, CollectOutcome, CollectIsBounded}
@@ -11,14 +11,12 @@ module _ {T : Type 0} {inner : Outcome T} {reads : Readings T} (law : Lawful T i
   -- so it is for many
   pub many_bounded : (r : Result (Vec T) Error) → ManyOutcome inner catches s r t
       → IfOk r (λ values. IsBounded inner s values.items)
-  many_bounded (Ok values) o = list_bounded law catches s t values.items o
-  many_bounded (Err e) o = tt
+  many_bounded r o = grind (arith, list_bounded law catches s t)
 
   -- for some
   pub some_bounded : (message : List ℕ) (r : Result (Vec T) Error)
       → SomeOutcome inner catches message s r t → IfOk r (λ values. IsBounded inner s values.items)
-  some_bounded message (Ok values) o = list_bounded law catches s t values.items o.0
-  some_bounded message (Err e) o = tt
+  some_bounded message r o = grind (arith, list_bounded law catches s t)
 
   -- for collect
   pub collect_bounded : {C : Type 0} (fills : List T → C → Type 0) (r : Result C Error)

@@ -1,29 +1,26 @@
 -- A choice of two: what its evaluation shows, and that it catches no want of memory.
-use Rattle.std.proofs.Common.{◌≡◌, ℕ, Bool, true, not, Some, refl, ap, false, Result, Ok, Err, sym}
-use Rattle.std.proofs.Common.{◌∙◌, ◌⊎◌, inl, inr, ⊎_elim, true≢false, arith}
+use Rattle.std.proofs.Common.{◌≡◌, ℕ, Bool, true, not, Some, refl, ap, false, Result, Ok, sym}
+use Rattle.std.proofs.Common.{◌∙◌, ◌⊎◌, ⊎_elim, arith}
 use Rattle.bpaf_line.specs.Conflicts.{IsLeftmost, IsWinner, ConflictsSaved}
 use Rattle.bpaf_line.specs.{Situation.Situation, Situation.is_taken, declared.error.Error.Error}
 use Rattle.bpaf_laws.specs.Choice.{AnsweredBranch, is_want, IsWant, ValueOfWinner, Chosen}
-use Rattle.bpaf_laws.specs.Choice.{BranchesEval, ChoiceOutcome, LeftmostWins}
+use Rattle.bpaf_laws.specs.Choice.{BranchesEval, ChoiceOutcome}
 use Rattle.bpaf_laws.specs.Spared.{IsNotMemory, Spares, WithoutMemory}
 use Rattle.bpaf_laws.specs.Reading.{Outcome}
 
 -- an answer that isn't want of memory
 spared_of : {T : Type 0} (r : Result T Error) → is_want r ≡ false → IsNotMemory r
-spared_of (Ok v) e = tt
-spared_of (Err f) e = e
+spared_of r e = grind arith
 
 -- the answer of branches that ran is one of their choice
 choice_ran : {T : Type 0} (first second : Outcome T) (s : Situation) (r : Result T Error)
     (t : Situation) → BranchesEval first second s r t → ChoiceOutcome first second s r t
-choice_ran first second s (Ok v) t ran = ran
-choice_ran first second s (Err e) t ran = inl ran
+choice_ran first second s r t ran = grind arith
 
 -- so is want of memory
 choice_wants : {T : Type 0} (first second : Outcome T) (s : Situation) (r : Result T Error)
     (t : Situation) → IsWant s r t → ChoiceOutcome first second s r t
-choice_wants first second s (Ok v) t want = absurd want
-choice_wants first second s (Err e) t want = inr want
+choice_wants first second s r t want = grind arith
 
 -- where two branches that didn't want memory ran, the choice of two gives the answer chosen by
 -- theirs, or want of memory
@@ -65,11 +62,8 @@ module _ {T : Type 0} (first second less other : Outcome T) (fewer : Spares firs
 pub choice_within : {T : Type 0} (first second less other : Outcome T) → Spares first less
     → Spares second other → (s t : Situation) (r : Result T Error)
     → ChoiceOutcome first second s r t → ChoiceOutcome less other s r t
-choice_within first second less other fewer others s t (Ok v) ran =
-    branches_within first second less other fewer others s t (Ok v) ran
-choice_within first second less other fewer others s t (Err e) (inl ran) =
-    inl (branches_within first second less other fewer others s t (Err e) ran)
-choice_within first second less other fewer others s t (Err e) (inr want) = inr want
+choice_within first second less other fewer others s t r ran =
+    grind (arith, branches_within first second less other fewer others s t)
 
 -- a choice catches no want of memory
 pub choice_spared : {T : Type 0} (first second : Outcome T) (s t : Situation) (r : Result T Error)

@@ -1,9 +1,9 @@
 -- Behind the word of a command: what opening its scope keeps, and what is read there.
-use Rattle.std.proofs.Common.{◌≡◌, ℕ, true, false, List, length}
+use Rattle.std.proofs.Common.{◌≡◌, ℕ, true, List, length}
 use Rattle.std.proofs.Common.{arith}
 use Rattle.std.proofs.lemmas.Bool.{Decides.nat_tests}
 use Rattle.bpaf_base.specs.Items.{any_item}
-use Rattle.bpaf_line.specs.Situation.{Situation, in_scope, is_open, open_count}
+use Rattle.bpaf_line.specs.Situation.{Situation, is_open, open_count}
 use Rattle.bpaf_line.specs.Situation.{take_place}
 use Rattle.bpaf_line.proofs.Places.{open_in_line, open_in_scope, taken_stays}
 use Rattle.bpaf_line.proofs.Matches.{match_is_open, open_has_item}
@@ -19,24 +19,18 @@ module _ (words : List (List ℕ)) (s : Situation) (p : ℕ) (at : IsOpenedAt wo
   pub word_is_open : is_open s p ≡ true
   word_is_open = match_is_open any_item s p at.first.matches
 
-  -- the scope behind it lies in the old one
-  scope_narrows : (q : ℕ) → in_scope (opened s p) q ≡ true → in_scope s q ≡ true
-  scope_narrows q within =
-      let there = open_in_scope s p word_is_open in
-      grind (arith, nat_tests)
-
   -- what taking it keeps, and the scope behind it
   pub keeps_opened : Keeps s (opened s p)
-  keeps_opened = keeps_scope s (take_place s p) p s.end (keeps_take s p word_is_open) scope_narrows
-
--- where nothing is counted, nothing is open
-nothing_open : (t : Situation) → open_count t ≡ 0 → (q : ℕ) → is_open t q ≡ false
-nothing_open t none q =
-    grind (arith, open_in_line t q, none_below (is_open t) (length t.context.line) none q)
+  keeps_opened =
+      let there = open_in_scope s p word_is_open in
+      keeps_scope s (take_place s p) p s.end (keeps_take s p word_is_open)
+      (λ q within. grind (arith, nat_tests))
 
 -- where nothing is present any more in scope, all that was in scope is taken
 pub leaves_nothing : (s t : Situation) → Closes s t → open_count t ≡ 0 → LeavesNothing s t
-leaves_nothing s t closed none q within = grind (arith, nothing_open t none q, closed q within)
+leaves_nothing s t closed none q within =
+    let open_none = none_below (is_open t) (length t.context.line) none q in
+    grind (arith, open_in_line t q, closed q within)
 
 module _ (called : Called) (s : Situation) (p : ℕ)
     (at : IsOpenedAt (opening_words called) s p) where

@@ -1,7 +1,7 @@
 -- Parsers that have something in place of a value that isn't there keep to the laws where the inner
 -- one does.
 use Rattle.std.specs.Prelude.{ℕ, Bool, true, List, Result, Ok, Err, Option, Some, None}
-use Rattle.std.proofs.Common.{⊎_elim, inl, inr, true≢false}
+use Rattle.std.proofs.Common.{⊎_elim, inl, inr, true≢false, arith}
 use Rattle.bpaf_line.specs.declared.error.Message.TheVariants.{PureFailed}
 use Rattle.bpaf_line.specs.{Situation.Situation, declared.error.Error.Error}
 use Rattle.bpaf_laws.specs.Laws.{Keeps, Lawful}
@@ -21,8 +21,8 @@ module _ {T : Type 0} {inner : Outcome T} {reads : Readings T} (law : Lawful T i
   -- what a turn's error keeps, and that it names its answer
   pub step_refuses : (catches first : Bool) (s t : Situation) (e : Error)
       → TurnOutcome inner catches first s (Err e) t → Keeps s t × NamesAnswer e.0
-  step_refuses catches first s t e (inl failed) = lawful_answer law s (Err e) t failed.0
-  step_refuses catches first s t e (inr memory) = (keeps_same s t memory.1, names_want e.0 memory.0)
+  step_refuses catches first s t e o =
+      grind (arith, lawful_answer law s (Err e) t, keeps_same s t, names_want e.0)
 
   -- optional values keep to the laws
   pub optional_lawful : (catches : Bool)

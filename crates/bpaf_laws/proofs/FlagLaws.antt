@@ -1,6 +1,5 @@
 -- Flags keep to the laws.
-use Rattle.std.specs.Prelude.{◌≡◌, ℕ, Bool, true, false, List, Option, Ok, Err}
-use Rattle.std.specs.Option.{is_some, IsSomeRelated}
+use Rattle.std.specs.Prelude.{◌≡◌, Bool, true, false, Option, Ok, Err}
 use Rattle.std.proofs.Common.{sym, subst, inl, inr, arith}
 use Rattle.bpaf_doc.specs.Names.{Names}
 use Rattle.bpaf_text.specs.Named.{Named, flag_part}
@@ -13,9 +12,9 @@ use Rattle.bpaf_laws.specs.Laws.{Keeps, Reads, Lawful}
 use Rattle.bpaf_laws.proofs.Keeping.{AnswersLawfully, lawful_by, keeps_same, keeps_take, reads_same}
 use Rattle.bpaf_laws.proofs.Keeping.{closes_take, newly_none}
 use Rattle.bpaf_laws.proofs.{NamesAnswer.names_absence, Keeping.newly_take}
-use Rattle.bpaf_laws.specs.Flag.{FlagReads, at_key, nowhere, value_without_key, FlagOutcome}
+use Rattle.bpaf_laws.specs.Flag.{FlagReads, at_key, nowhere, FlagOutcome}
 use Rattle.bpaf_laws.specs.Flag.{FlagFails, IsPresent}
-use Rattle.bpaf_laws.specs.{Environment.first_set, Reading.Readings, RefusalNames.NamesAnswer}
+use Rattle.bpaf_laws.specs.{Reading.Readings, RefusalNames.NamesAnswer}
 
 -- what looking for a flag keeps
 pub flag_keeps : (names : Names) (s : Situation) (found : Bool) (t : Situation)
@@ -45,16 +44,6 @@ module _ (T : Type 0) (clones : T → T → Type 0) (named : Named) (present : T
             (newly_take s takes.0 there) value;
       })
 
-  -- where a variable is set the present value stands for no key
-  kept_set : (set : Option (List ℕ)) (v : T) → is_some set ≡ true → clones present v
-      → IsSomeRelated clones (value_without_key present absent set) v
-  kept_set set v is value = grind arith
-
-  -- else the absent one does
-  kept_unset : (set : Option (List ℕ)) (v : T) → is_some set ≡ false → IsSomeRelated clones absent v
-      → IsSomeRelated clones (value_without_key present absent set) v
-  kept_unset set v is value = grind arith
-
   -- what the test of a flag's key keeps
   present_keeps : (s t : Situation) (is : Bool) → IsPresent named s is t → Keeps s t
   present_keeps s t true (inl takes) = flag_keeps named.names s true t takes
@@ -78,7 +67,7 @@ module _ (T : Type 0) (clones : T → T → Type 0) (named : Named) (present : T
       answers : AnswersLawfully (FlagOutcome clones named present absent) reads_flag
       answers s (Ok v) t (inl (inl takes, value)) = flag_found s t v takes value
       answers s (Ok v) t (inl (inr set, value)) = reads_same reads_flag s t v set.0.1
-          (nowhere (newly_none s) (kept_set (first_set s.context.env named.envs) v set.1 value))
+          (nowhere (newly_none s) (let is = set.1 in grind arith))
       answers s (Ok v) t (inr (none, value)) = reads_same reads_flag s t v none.0.1
-          (nowhere (newly_none s) (kept_unset (first_set s.context.env named.envs) v none.1 value))
+          (nowhere (newly_none s) (let is = none.1 in grind arith))
       answers s (Err e) t fails = flag_refused s t e.0 fails

@@ -1,9 +1,8 @@
 -- A hidden parser keeps to the laws where the inner one does; what a section shows.
-use Rattle.std.proofs.Common.{◌≡◌, List, Box, ap, ◌∙◌}
+use Rattle.std.proofs.Common.{◌≡◌, List, Box, ap, ◌∙◌, arith}
 use Rattle.std.specs.declared.alloc.Global.{Global}
 use Rattle.bpaf_doc.specs.declared.item.Item.TheFolds.{fold-roll-Meta}
 use Rattle.bpaf_line.specs.declared.error.Message.{Message}
-use Rattle.bpaf_line.specs.declared.error.Message.TheVariants.{Missing}
 use Rattle.bpaf_doc.specs.Shape.{Shape, Part, Subsection, shape_of, part_layer, shape_layer}
 use Rattle.bpaf_doc.specs.{declared.doc.Piece.Piece, declared.item.Item.TheOpen.Meta-F}
 use Rattle.bpaf_doc.specs.{declared.meta.Meta.Meta, declared.meta.MetaInfo.MetaInfo}
@@ -14,8 +13,7 @@ use Rattle.bpaf_doc.specs.declared.meta.Meta as meta
 
 -- a refusal that names no missing item names its answer where it did
 names_hidden : (m : Message) → NamesAnswer m → NamesAnswer (hidden m)
-names_hidden (Missing items) names = tt
-names_hidden m names = names
+names_hidden m names = grind arith
 
 -- hidden parsers keep to the laws
 pub hide_lawful : {T : Type 0} {inner : Outcome T} {reads : Readings T} → Lawful T inner reads

@@ -211,9 +211,8 @@ keeps_take s p there = record {
 }
 
 -- a place is taken, and then the next one: both are newly taken, and no other
-pub newly_take_both : (s : Situation) (p : ℕ) → is_open s p ≡ true
-    → is_open (take_place s p) (p + 1) ≡ true
-    → IsPair p (newly s (take_place (take_place s p) (p + 1)))
+pub newly_take_both : (s : Situation) (p : ℕ) → is_open s p ≡ true → is_open (take_place s p)
+    (p + 1) ≡ true → IsPair p (newly s (take_place (take_place s p) (p + 1)))
 newly_take_both s p first second q =
     let m = take_place s p in
     let free = open_not_taken s p first in

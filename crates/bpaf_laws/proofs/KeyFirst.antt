@@ -1,11 +1,10 @@
 -- A key comes before the environment.
-use Rattle.std.proofs.Common.{◌≡◌, ℕ, ◌+◌, Bool, true, false, List, Result, Ok, Err, Option}
+use Rattle.std.proofs.Common.{◌≡◌, ℕ, ◌+◌, Bool, true, false, List, Result, Ok, Err}
 use Rattle.std.proofs.Common.{Some, ⊎_elim, sym, ◌∙◌, ap, subst, true≢false, arith, [], ◌∷◌}
 use Rattle.std.proofs.Common.{◌++◌}
 use Rattle.std.proofs.lemmas.Bool.{cases_Bool}
-use Rattle.bpaf_doc.specs.Shape.{Part}
 use Rattle.bpaf_base.specs.declared.arg.Arg.{Arg}
-use Rattle.bpaf_text.specs.Named.{KeyWithValue, argument_part}
+use Rattle.bpaf_text.specs.Named.{KeyWithValue}
 use Rattle.bpaf_line.specs.declared.error.Message.TheVariants.{Memory, ParseFailed, NoArgument}
 use Rattle.bpaf_line.specs.{Situation.Situation, declared.error.Error.Error}
 use Rattle.bpaf_line.specs.{declared.error.Message.Message, Taking.is_match, Taking.value_after}
@@ -15,7 +14,7 @@ use Rattle.bpaf_laws.specs.Argument.{TakesKeysWithTexts}
 use Rattle.bpaf_laws.proofs.KeysTaken.{key_before, gone_key, value_before}
 use Rattle.bpaf_laws.specs.KeyFirst.{Counts, IsFirstBare, LacksOwnText, FailsKeyFirst}
 use Rattle.bpaf_laws.specs.KeyFirst.{KeyBeforeEnvironment}
-use Rattle.bpaf_laws.specs.{Environment.IsAbsence, Value.ReadsValue, Value.FaultsText}
+use Rattle.bpaf_laws.specs.{Value.ReadsValue, Value.FaultsText}
 
 -- the key that counts, the text behind it, and the place that is current then
 record Counted (last : Bool) (argument : KeyWithValue) (s : Situation) (text : List ℕ)
@@ -55,12 +54,9 @@ module _ (argument : KeyWithValue) where
         matches = there;
         counts = record {
           matches = there;
-          last = λ q above. grind (
-            arith,
-            gone_key argument s x m takes q,
-            later.counts.last q,
-            takes.first.first later.key,
-          );
+          last = λ q above.
+              let first = takes.first.first later.key in
+              grind (arith, gone_key argument s x m takes q, later.counts.last q);
         };
         behind = value_before argument s x m takes later.key later.matches ∙ later.behind;
         current = later.current;
@@ -112,19 +108,13 @@ module _ (argument : KeyWithValue) where
       }) in
       (bare.matches, (bare, lacks.2))
 
--- that a key is nowhere is no fault of a text
-absence_is_no_fault : (s : Situation) (part : Option Part) (envs : List (List ℕ))
-    (place : Option ℕ) (words : List ℕ) → ¬ (IsAbsence s part envs (ParseFailed place words))
-absence_is_no_fault s part envs place words absent = grind arith
-
 module _ {T : Type 0} (means : List ℕ → T → Type 0) (argument : KeyWithValue)
     (s t : Situation) where
   -- a text that was got is that of the key that counts where one is there, and else that of the
   -- environment
   by_key : (text : List ℕ) → GetsText argument s text t → (A B : Type 0)
       → (TakesOwnText argument.last argument s text t → A) → (ReadsVariable argument s text t → B)
-      → ((p : ℕ) → is_match (is_key_with_value argument) s p ≡ true → A)
-      × (HasNoKey argument s → B)
+      → ((p : ℕ) → is_match (is_key_with_value argument) s p ≡ true → A) × (HasNoKey argument s → B)
   by_key text gets A B of_key of_variable = (
     (λ p here. ⊎_elim of_key
         (λ variable. absurd (true≢false (sym here ∙ variable.no_key p))) gets),
@@ -170,9 +160,7 @@ module _ {T : Type 0} (means : List ℕ → T → Type 0) (argument : KeyWithVal
       let lacks = lacks_own argument s t key metavar argument.last refused.0 refused.1 in
       ((λ p here. lacks.1), (λ none. absurd (true≢false (sym lacks.0 ∙ none key))))
   refused_first Memory refused = ((λ p here. tt), (λ none. tt))
-  refused_first (ParseFailed place words) refused =
-      absurd (absence_is_no_fault s (argument_part argument) argument.named.envs place words
-      refused.1.1)
+  refused_first (ParseFailed place words) refused = let nowhere = refused.1.1 in absurd (grind arith)
   refused_first other refused = (
     (λ p here. absurd (true≢false (sym here ∙ refused.0 p))),
     (λ none. refused.1),

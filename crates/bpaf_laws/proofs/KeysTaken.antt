@@ -1,21 +1,21 @@
 -- What taking a key with the text behind it takes, and what taking all of them does.
-use Rattle.std.specs.Prelude.{◌≡◌, ◌⊎◌, ℕ, zero, suc, ◌+◌, ◌<◌, ◌≤◌, ◌==◌, Bool, true, false}
+use Rattle.std.specs.Prelude.{◌≡◌, ◌⊎◌, ℕ, ◌+◌, ◌<◌, ◌≤◌, ◌==◌, Bool, true, false}
 use Rattle.std.specs.Prelude.{◌||◌, List, [], ◌∷◌, ◌++◌, Option, None, refl}
 use Rattle.std.specs.Prelude.{option_and_then}
 use Rattle.std.specs.Option.{option_map_or}
-use Rattle.std.proofs.Common.{sym, subst, ◌∙◌, ⊎_elim, arith, true≢false}
-use Rattle.std.proofs.lemmas.Bool.{cases_lt, eqb-true, or_cases, or_left}
+use Rattle.std.proofs.Common.{sym, subst, ◌∙◌, ⊎_elim, arith, ap}
+use Rattle.std.proofs.lemmas.Bool.{eqb-true, or_cases, or_left}
 use Rattle.std.proofs.lemmas.Bool.{or_right, Decides.nat_tests}
 use Rattle.bpaf_text.specs.Named.{KeyWithValue}
 use Rattle.bpaf_base.specs.{declared.arg.Arg.Arg, Items.value_text}
-use Rattle.bpaf_line.specs.Situation.{Situation, is_open, is_taken, take_place}
+use Rattle.bpaf_line.specs.Situation.{Situation, is_open, take_place}
 use Rattle.bpaf_line.specs.Situation.{open_count}
 use Rattle.bpaf_line.specs.Taking.{is_match, open_item, value_after}
 use Rattle.bpaf_line.proofs.Places.{taken_here, taken_other, taken_stays}
 use Rattle.bpaf_line.proofs.Matches.{match_is_open, match_has_item, value_is_open}
 use Rattle.bpaf_laws.specs.Argument.{is_key_with_value, TakesKeyWithText, TakesKeysWithTexts}
 use Rattle.bpaf_laws.specs.Argument.{behind, IsKeyBefore, AreKeysWithText}
-use Rattle.bpaf_laws.specs.Reading.{Share, HasItem, IsPair}
+use Rattle.bpaf_laws.specs.Reading.{Share, IsPair}
 use Rattle.bpaf_laws.specs.Laws.{Keeps, Reads, newly}
 use Rattle.bpaf_laws.proofs.Keeping.{keeps_same, keeps_trans, keeps_take, reads_as, reads_both}
 use Rattle.bpaf_laws.proofs.Keeping.{newly_take_both, closes_take_both}
@@ -26,15 +26,6 @@ key_is_no_value : (argument : KeyWithValue) (item : Option Arg)
     → option_map_or (is_key_with_value argument) item false ≡ true
     → option_and_then value_text item ≡ None
 key_is_no_value argument item key = grind arith
-
--- where an item of an open place passes the test, there is a match
-match_there : (test : Arg → Bool) (s : Situation) (p : ℕ) → is_open s p ≡ true
-    → HasItem test s.context p → is_match test s p ≡ true
-match_there test s p there has = grind arith
-
--- at a taken place no item is present
-none_open : (s : Situation) (p : ℕ) → is_taken s p ≡ true → open_item s p ≡ None
-none_open s p taken = grind arith
 
 module _ (argument : KeyWithValue) (s : Situation) (text : List ℕ) (t : Situation)
     (takes : TakesKeyWithText argument s text t) where
@@ -85,7 +76,7 @@ module _ (argument : KeyWithValue) (s : Situation) (text : List ℕ) (t : Situat
       let m = take_place s takes.key in
       let value = taken_here m (takes.key + 1) in
       let key = taken_stays m (takes.key + 1) takes.key (taken_here s takes.key) in
-      rw takes.taken (none_open (take_place m (takes.key + 1)) p (grind arith))
+      rw takes.taken (grind arith)
 
   -- each place is one of these, or is as it was
   one_of_two : (p : ℕ) → ((p ≡ takes.key) ⊎ (p ≡ takes.key + 1)) ⊎ (open_item t p ≡ open_item s p)
@@ -106,12 +97,8 @@ module _ (argument : KeyWithValue) (s : Situation) (text : List ℕ) (t : Situat
   value_before p there =
       let step = one_of_two (p + 1) in
       let first = takes.first.matches in
-      grind (
-        arith,
-        is_left p there,
-        none_left (p + 1),
-        key_is_no_value argument (open_item s (p + 1)),
-      )
+      let key = key_is_no_value argument (open_item s (p + 1)) in
+      grind (arith, is_left p there, none_left (p + 1))
 
   -- a key that is gone later is the one that was taken
   pub gone_key : (p : ℕ) → is_match test s p ≡ true → is_match test t p ≡ false → p ≡ takes.key
@@ -130,44 +117,32 @@ texts_more argument s m t [] text same takes =
 texts_more argument s m t (x ∷ texts) text o takes =
     (o.0, o.1, texts_more argument o.0 m t texts text o.2 takes)
 
--- the places behind one place, and behind others: the next one, and those
-behind_more : (key : ℕ) (keys : Share) (p : ℕ)
-    → behind (λ q. q == key || keys q) p ≡ (p == key + 1 || behind keys p)
-behind_more key keys p = grind (arith, nat_tests)
+-- the place behind one place is the next one
+behind_one : (key p : ℕ) → behind (λ q. q == key) p ≡ (p == key + 1)
+behind_one key p = grind (arith, nat_tests)
 
 -- at one place: a pair and pairs of others are pairs of all of them
 pairs_joined : (key : ℕ) (keys : Share) (p : ℕ) (first rest : Bool)
     → first ≡ (p == key || p == key + 1) → rest ≡ (keys p || behind keys p)
     → (first || rest) ≡ ((p == key || keys p) || behind (λ q. q == key || keys q) p)
-pairs_joined key keys p first rest a b = let more = behind_more key keys p in grind arith
+pairs_joined key keys p first rest a b = grind (arith, nat_tests)
 
 module _ (argument : KeyWithValue) where
   -- what was read of one key
   one_key : (s : Situation) (text : List ℕ) (t : Situation) → TakesKeyWithText argument s text t
       → Reads (List ℕ) (AreKeysWithText argument) s text t
   one_key s text t takes = reads_as (key_read argument s text t takes) (λ own. record {
-    keys = λ p. p == takes.key || false;
+    keys = λ p. p == takes.key;
     are_keys = λ p key. (
       text,
-      subst (λ q. IsKeyBefore argument s.context q text) (sym (is_it p key)) own.0,
+      subst (λ q. IsKeyBefore argument s.context q text) (sym (eqb-true p takes.key key)) own.0,
     );
-    places = λ p. or_false (newly s t p)
-        ∙ pairs_joined takes.key (λ q. false) p (newly s t p) false (own.1 p) (sym (none_behind p));
+    places = λ p. own.1 p ∙ ap (λ next. p == takes.key || next) (sym (behind_one takes.key p));
     greatest = takes.key;
-    is_key = or_left (takes.key == takes.key) false (grind (arith, nat_tests));
-    no_greater = λ p key. let same = is_it p key in omega arith;
+    is_key = grind (arith, nat_tests);
+    no_greater = λ p key. grind (arith, nat_tests);
     before = own.0;
   })
-    where
-      is_it : (p : ℕ) → (p == takes.key || false) ≡ true → p ≡ takes.key
-      is_it p key = grind (arith, nat_tests)
-
-      or_false : (b : Bool) → b ≡ (b || false)
-      or_false b = grind arith
-
-      none_behind : (p : ℕ) → (false || behind (λ q. false) p) ≡ false
-      none_behind zero = refl
-      none_behind (suc p) = refl
 
   -- and of one before others
   more_keys : (s m t : Situation) (x text : List ℕ) → TakesKeyWithText argument s x m
@@ -190,24 +165,18 @@ module _ (argument : KeyWithValue) where
             (r.first_read.1 p) (own.places p);
         greatest = own.greatest;
         is_key = or_right (own.greatest == takes.key) (own.keys own.greatest) own.is_key;
-        no_greater = λ p key. ⊎_elim
-            (λ at. subst (λ q. q ≤ own.greatest) (sym (eqb-true p takes.key at)) r.rest_read.1)
-            (own.no_greater p) (or_cases (p == takes.key) (own.keys p) key);
+        no_greater = λ p key. grind (arith, nat_tests, own.no_greater p, r.rest_read.1);
         before = own.before;
       })
     where
-      least : (own : AreKeysWithText argument m.context (newly m t) text)
-          → takes.key ≤ own.greatest
+      least : (own : AreKeysWithText argument m.context (newly m t) text) → takes.key ≤ own.greatest
       least own =
           let p = own.greatest in
           let new = own.places p ∙ or_left (own.keys p) (behind own.keys p) own.is_key in
-          let there = key_before argument s x m takes p
-          (match_there (is_key_with_value argument) m p (later.keeps.fresh p new)
-          (own.are_keys p own.is_key).1.is_key) in
-          ⊎_elim
-          (λ (below : p < takes.key).
-          absurd (true≢false (sym there ∙ takes.first.first p below)))
-          (λ above. above) (cases_lt p takes.key)
+          let open_there = later.keeps.fresh p new in
+          let has = (own.are_keys p own.is_key).1.is_key in
+          let there = key_before argument s x m takes p (grind arith) in
+          grind (arith, takes.first.first p)
 
   -- texts taken in turn, of which this is the last
   pub keys_read : (s t : Situation) (text : List ℕ) (before : List (List ℕ))

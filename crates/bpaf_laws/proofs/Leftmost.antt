@@ -1,5 +1,5 @@
 -- The leftmost place that only one of two branches took belongs to the chosen one.
-use Rattle.std.proofs.Common.{◌≡◌, ◌⊎◌, ℕ, ◌≤◌, Bool, true, false, not, ◌&&◌, Result, Ok}
+use Rattle.std.proofs.Common.{◌≡◌, ◌⊎◌, ℕ, ◌≤◌, Bool, true, false, ◌&&◌, Result, Ok}
 use Rattle.std.proofs.Common.{Err, Option, Some, None, IsOk, sym, ◌∙◌, ap, arith, inl, inr}
 use Rattle.bpaf_line.specs.Conflicts.{IsLeftmost, TakeTheSame, IsWinner}
 use Rattle.bpaf_line.specs.Situation.{Situation, is_taken, open_count}
@@ -10,10 +10,6 @@ use Rattle.bpaf_laws.specs.{Reading.Readings, Reading.Outcome, Laws.Lawful, Turn
 use Rattle.bpaf_laws.proofs.{ChoiceLaws.chosen_at_equal, CountingLaws.same_took_none}
 use Rattle.std.proofs.{Common.true≢false}
 use Rattle.std.proofs.lemmas.Bool.{and_parts, Decides.nat_tests}
-
--- a test doesn't agree with its opposite
-differ : (x y : Bool) → x ≡ not y → x ≡ y → ⊥
-differ x y opposite same = grind arith
 
 -- there is one leftmost place at most
 one_leftmost : (s other : Situation) (p q : ℕ) → IsLeftmost s other p → IsLeftmost s other q → q ≡ p
@@ -47,26 +43,17 @@ module _ {T : Type 0} (v : T) (t : Situation) where
   winner_chosen first second (true, Some place) decided won = (
     (λ p left. inl (record {
       chosen = record { answer = sym won.0; takes = won.1.taken };
-      took = ap (is_taken first.left)
-          (sym (one_leftmost first.left second.left p place left decided.0)) ∙ decided.1;
+      took = grind (arith, one_leftmost first.left second.left p place left decided.0);
     })),
-    (λ same. absurd (differ (is_taken first.left place) (is_taken second.left place)
-        decided.0.differs (same place))),
+    (λ same. absurd (grind (arith, same place))),
   )
   winner_chosen first second (false, Some place) decided won = (
     (λ p left. inr (record {
       chosen = record { answer = sym won.0; takes = won.1.taken };
-      took = ap (is_taken second.left)
-          (sym (one_leftmost first.left second.left p place left decided.0))
-          ∙ not_false (is_taken first.left place) (is_taken second.left place) decided.1
-          decided.0.differs;
+      took = grind (arith, one_leftmost first.left second.left p place left decided.0);
     })),
-    (λ same. absurd (differ (is_taken first.left place) (is_taken second.left place)
-        decided.0.differs (same place))),
+    (λ same. absurd (grind (arith, same place))),
   )
-    where
-      not_false : (x y : Bool) → x ≡ false → x ≡ not y → y ≡ true
-      not_false x y here opposite = grind arith
 
 -- what answered a value and left as many items took nothing
 pub took_nothing : {T : Type 0} {outcome : Outcome T} {reads : Readings T} → Lawful T outcome reads
@@ -74,11 +61,7 @@ pub took_nothing : {T : Type 0} {outcome : Outcome T} {reads : Readings T} → L
 took_nothing law s t v ran untouched p =
     let read = law.ok s t v ran in
     let same : open_count s ≤ open_count t = grind (arith, nat_tests) in
-    no_more (is_taken s p) (is_taken t p) (read.keeps.stays p)
-    (same_took_none s t read.keeps read.closed same p)
-  where
-    no_more : (x y : Bool) → (x ≡ true → y ≡ true) → (y && not x) ≡ false → y ≡ x
-    no_more x y stays none = grind arith
+    grind (arith, read.keeps.stays p, same_took_none s t read.keeps read.closed same p)
 
 module _ {T : Type 0} {first second : Outcome T} {first_reads second_reads : Readings T}
     (first_law : Lawful T first first_reads) (second_law : Lawful T second second_reads) where
@@ -96,8 +79,8 @@ module _ {T : Type 0} {first second : Outcome T} {first_reads second_reads : Rea
       (b : Result T Error) (sb : Situation) → first s a sa → second s b sb
       → EqualDepths s a sa b sb (Ok v) t → IsOk a → IsOk b → IsLeftmostChosen a sa b sb v t
   equal_chosen s v t (Ok x) sa (Ok y) sb first_ran second_ran (inl neither) one other = (
-    (λ p left. absurd (differ (is_taken sa p) (is_taken sb p) left.differs
-        (none_differs s x sa y sb first_ran second_ran neither.0 p))),
+    (λ p left.
+        absurd (grind (arith, none_differs s x sa y sb first_ran second_ran neither.0 p))),
     (λ same. stands v t (branch_of x sa) neither.1),
   )
   equal_chosen s v t (Ok x) sa (Ok y) sb first_ran second_ran (inr won) one other =

@@ -10,9 +10,8 @@ use Rattle.bpaf_laws.proofs.{ChoiceLaws.choice_lawful, Leftmost.leftmost_is_chos
 -- one choice more in which the leftmost wins
 choice_leftmost : {T : Type 0} {before second : Outcome T} {before_reads second_reads : Readings T}
     (less : Outcome T) → Lawful T before before_reads → Lawful T second second_reads
-    → ((s t : Situation) (r : Result T Error) → before s r t → less s r t)
-    → (s t : Situation) (r : Result T Error) → ChoiceOutcome before second s r t
-    → LeftmostWins less second s r t
+    → ((s t : Situation) (r : Result T Error) → before s r t → less s r t) → (s t : Situation)
+    (r : Result T Error) → ChoiceOutcome before second s r t → LeftmostWins less second s r t
 choice_leftmost {before = before} {second = second} less before_law second_law within s t (Err e)
     ran = choice_within before second less second (λ s t r ran spared. within s t r ran)
     (λ s t r ran spared. ran) s t (Err e) ran

@@ -1,6 +1,7 @@
 -- Messages that are the answer of no run inside, or of one whose answer has a name.
 use Rattle.std.specs.Prelude.{◌≡◌, ℕ, Bool, true, false, List, Option, Some}
-use Rattle.std.specs.Prelude.{if◌then◌else◌, refl}
+use Rattle.std.proofs.lemmas.Bool.{cases_cond}
+use Rattle.std.specs.Prelude.{refl}
 use Rattle.std.proofs.Common.{sym, subst, ⊎_elim, true≢false, arith, arith}
 use Rattle.bpaf_doc.specs.{declared.doc.Piece.Piece, Shape.Part}
 use Rattle.bpaf_line.specs.declared.error.Message.TheVariants.{Memory, Missing, ParseFailure}
@@ -21,8 +22,7 @@ names_same m n names same = subst NamesAnswer (sym same) names
 -- want of memory, also that of an inner run
 pub names_want : (m : Message) → is_memory m ≡ true → NamesAnswer m
 names_want (ParseFailure failure.Memory) want = (no_memory, wanting)
-names_want (ParseFailure (failure.Stdout doc full)) want = absurd (true≢false (sym want))
-names_want (ParseFailure (failure.Stderr doc)) want = absurd (true≢false (sym want))
+names_want (ParseFailure f) want = absurd (true≢false (sym want))
 names_want m want = tt
 
 -- the text of a fault, or want of memory for it
@@ -38,12 +38,6 @@ pub names_absence : (s : Situation) (part : Option Part) (envs : List (List ℕ)
     → IsAbsence s part envs m → NamesAnswer m
 names_absence s part envs m absent = grind arith
 
--- one of two, by a test
-names_either : (caught : Bool) (first second : Message) → NamesAnswer first → NamesAnswer second
-    → NamesAnswer (if caught then second else first)
-names_either true first second one other = other
-names_either false first second one other = one
-
 -- two refusals combined, neither of which is want of memory
 names_spared : (first second both : Message) → NamesAnswer first → NamesAnswer second
     → CombinesSpared first second both → NamesAnswer both
@@ -52,7 +46,8 @@ names_spared first (ParseFailure f) both one other o = names_same both (ParseFai
 names_spared (Missing items) (Missing others) both one other o =
     ⊎_elim (λ all. names_same both (Missing _) tt all) (λ want. names_same both Memory tt want) o
 names_spared first second both one other o =
-    names_same both _ (names_either (can_catch first) first second one other) o
+    ⊎_elim (names_same both second other) (names_same both first one)
+    (cases_cond (can_catch first) second first both o)
 
 -- two refusals combined
 pub names_combined : (first second both : Message) → NamesAnswer first → NamesAnswer second

@@ -4,7 +4,6 @@ use Rattle.std.proofs.lemmas.Bool.Decides.{nat_tests}
 use Rattle.std.proofs.{Common.arith}
 use Rattle.bpaf_line.specs.Situation.{Situation, is_open, open_count}
 use Rattle.bpaf_line.specs.Situation.{with_scope}
-use Rattle.bpaf_line.proofs.Places.{open_not_taken}
 use Rattle.bpaf_laws.specs.Laws.{Keeps, Closes, newly}
 use Rattle.bpaf_laws.proofs.{CommandLaws.leaves_nothing, Keeping.keeps_refl, Keeping.keeps_scope}
 
@@ -20,11 +19,5 @@ module _ (s : Situation) (from end : ℕ)
       → Closes (with_scope s from end) t → open_count t ≡ 0
       → (p : ℕ) → newly s t p ≡ (nat_le from p && nat_lt p end)
   newly_stretch t keeps closed none p =
-      grind (
-        arith,
-        nat_tests,
-        leaves_nothing (with_scope s from end) t closed none p,
-        present p,
-        open_not_taken s p,
-        keeps.fresh p,
-      )
+      let left = leaves_nothing (with_scope s from end) t closed none p in
+      grind (arith, nat_tests, present p, keeps.fresh p)

@@ -1,8 +1,7 @@
 -- Products catch no field's want of memory.
-use Rattle.std.specs.Prelude.{◌≡◌, true, false, Result, Ok, Err, if◌then◌else◌}
-use Rattle.std.proofs.Common.{subst, inl, inr, refl}
-use Rattle.std.proofs.lemmas.Bool.{both_ways}
-use Rattle.bpaf_line.specs.{Messages.is_memory, Situation.Situation, declared.error.Error.Error}
+use Rattle.std.specs.Prelude.{Result}
+use Rattle.std.proofs.Common.{subst, arith}
+use Rattle.bpaf_line.specs.{Situation.Situation, declared.error.Error.Error}
 use Rattle.bpaf_laws.specs.Reading.{Outcome}
 use Rattle.bpaf_laws.specs.Spared.{IsNotMemory, Spares, WithoutMemory}
 use Rattle.bpaf_laws.specs.Product.{BothEval, BothOutcome, FailFastOutcome, joined, ProductOutcome}
@@ -10,12 +9,7 @@ use Rattle.bpaf_laws.specs.Product.{BothEval, BothOutcome, FailFastOutcome, join
 -- what isn't want of memory comes of others that isn't either
 rest_spared : {A B : Type 0} (a : Result A Error) (b : Result B Error) → IsNotMemory (joined a b)
     → IsNotMemory b
-rest_spared a (Ok y) spared = tt
-rest_spared (Ok x) (Err f) spared = spared
-rest_spared {A} {B} (Err e) (Err f) spared =
-    elim (is_memory f.0) as (λ z. IsNotMemory {T = A × B} (if z then Err f else Err e)
-    → is_memory f.0 ≡ z → is_memory f.0 ≡ false)
-    [ true ↦ λ told memory. told | false ↦ λ told none. none ] spared refl
+rest_spared a b spared = grind arith
 
 module _ {A B : Type 0} (first : Outcome A) (rest without : Outcome B)
     (rests : Spares rest without) where
@@ -35,23 +29,14 @@ module _ {A B : Type 0} (first : Outcome A) (rest without : Outcome B)
 
   -- a field and those after it
   pub both_spares : Spares (BothOutcome first rest) (BothOutcome (WithoutMemory first) without)
-  both_spares s t (Ok v) ran spared = both_ran s t (Ok v) ran spared
-  both_spares s t (Err e) (inl ran) spared = inl (both_ran s t (Err e) ran spared)
-  both_spares s t (Err e) (inr wanted) spared = absurd (both_ways (is_memory e.0) spared wanted.1)
+  both_spares s t r ran spared = grind (arith, both_ran s t)
 
   -- where a failing first field is the end
   pub fail_fast_spares :
       Spares (FailFastOutcome first rest) (FailFastOutcome (WithoutMemory first) without)
-  fail_fast_spares s t (Ok v) (middle, ran, after) spared =
-      (middle, (ran, tt), rests middle t (Ok v.1) after tt)
-  fail_fast_spares s t (Err e) (inl failed) spared = inl (failed, spared)
-  fail_fast_spares s t (Err e) (inr later) spared =
-      inr (later.0, later.1, (later.2, tt), rests later.1 t (Err e) later.3 spared)
+  fail_fast_spares s t r ran spared = grind (arith, rests)
 
 -- a product of fields
 pub product_spares : {V T : Type 0} (fields without : Outcome V) (makes : V → T → Type 0)
     → Spares fields without → Spares (ProductOutcome fields makes) (ProductOutcome without makes)
-product_spares fields without makes spares s t (Ok v) (middle, values, ran, made, left) spared =
-    (middle, values, spares s middle (Ok values) ran tt, made, left)
-product_spares fields without makes spares s t (Err e) (middle, ran, left) spared =
-    (middle, spares s middle (Err e) ran spared, left)
+product_spares fields without makes spares s t r ran spared = grind (arith, spares)

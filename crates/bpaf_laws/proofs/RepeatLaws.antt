@@ -2,7 +2,7 @@
 use Rattle.std.specs.Prelude.{◌≡◌, ℕ, ◌+◌, ◌<◌, ◌≤◌, Bool, true, false, ◌&&◌, if◌then◌else◌, List}
 use Rattle.std.specs.Prelude.{[], ◌∷◌, ◌++◌, length, Ok, Err, Some, None, refl}
 use Rattle.std.specs.Global.{Vec}
-use Rattle.std.proofs.Common.{sym, ◌∙◌, ap, subst, ⊎_elim, inl, inr, arith, true≢false}
+use Rattle.std.proofs.Common.{sym, ap, subst, ⊎_elim, inl, inr, arith}
 use Rattle.bpaf_laws.specs.Reading.{Readings, Outcome, HasPlace}
 use Rattle.bpaf_laws.specs.Laws.{Keeps, Reads, Lawful}
 use Rattle.bpaf_laws.proofs.Keeping.{AnswersLawfully, lawful_answer, lawful_by, keeps_refl, keeps_trans}
@@ -34,20 +34,15 @@ pub steps_more : {T : Type 0} (inner : Outcome T) (catches first : Bool) (s m : 
     (vs : List T) (v : T) (t : Situation) → Turns inner catches first s vs m
     → TurnOutcome inner catches (first && is_nil vs) m (Ok (Some v)) t
     → Turns inner catches first s (vs ++ v ∷ []) t
-steps_more inner catches true s m [] v t o step =
-    (t, subst (λ w. TurnOutcome inner catches true w (Ok (Some v)) t) (sym o) step, refl)
-steps_more inner catches false s m [] v t o step =
-    (t, subst (λ w. TurnOutcome inner catches false w (Ok (Some v)) t) (sym o) step, refl)
-steps_more inner catches true s m (x ∷ vs) v t o step =
-    (o.0, o.1, steps_more inner catches false o.0 m vs v t o.2 step)
-steps_more inner catches false s m (x ∷ vs) v t o step =
-    (o.0, o.1, steps_more inner catches false o.0 m vs v t o.2 step)
+steps_more inner catches first s m [] v t o step =
+    (t, (subst (λ w. inner w (Ok v) t) (sym o) step.0, grind arith), refl)
+steps_more inner catches first s m (x ∷ vs) v t o step =
+    (o.0, o.1, steps_more inner catches false o.0 m vs v t o.2 (step.0, grind arith))
 
 -- a run without a value leaves all as it was
 pub no_values : {T : Type 0} (inner : Outcome T) (s : Situation) (vs : List T) (t : Situation)
     → vs ≡ [] → UntilRest inner s vs t → t ≡ s
-no_values inner s [] t e (stops run) =
-    ⊎_elim (λ dropped. absurd (true≢false dropped.2)) (λ stopped. stopped.1 ∙ sym run.steps) run.stop
+no_values inner s [] t e (stops run) = let stop = run.stop in let same = run.steps in grind arith
 no_values inner s (v ∷ vs) t e run = cc
 no_values inner s [] t e (rests v is o same) = cc
 
@@ -140,9 +135,7 @@ module _ {T : Type 0} {inner : Outcome T} {reads : Readings T} (law : Lawful T i
       → Turns inner catches false s vs t → length vs + open_count t ≤ open_count s
   values_bounded s [] t o = let same = ap open_count o in omega arith
   values_bounded s (v ∷ vs) t o =
-      let fewer = took_item inner catches s o.0 v o.1 in
-      let later = values_bounded o.0 vs t o.2 in
-      omega arith
+      omega (arith, took_item inner catches s o.0 v o.1, values_bounded o.0 vs t o.2)
 
   -- the first value may have taken none
   steps_bounded : (s : Situation) (vs : List T) (t : Situation) → Turns inner catches true s vs t

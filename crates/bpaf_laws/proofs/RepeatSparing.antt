@@ -1,5 +1,6 @@
 -- Repeats catch no want of memory.
 use Rattle.std.proofs.Common.{◌≡◌, ℕ, Bool, true, false, List, [], ◌∷◌, Ok, Err, None, inl, inr}
+use Rattle.std.proofs.Common.{arith}
 use Rattle.std.proofs.lemmas.Bool.{both_ways}
 use Rattle.bpaf_line.specs.{Messages.is_memory, Situation.Situation, declared.error.Error.Error}
 use Rattle.bpaf_laws.specs.Repeat.{is_nil, Turns, UntilStop, UntilError, UntilRest, stops, rests}
@@ -38,18 +39,14 @@ module _ {T : Type 0} (inner : Outcome T) where
   -- many catches no want of memory
   pub spared_many : (catches : Bool)
       → CatchesNoMemory (λ outcome. ManyOutcome outcome catches) inner
-  spared_many catches s t (Ok values) o spared = until_stop_spared catches true s values.items t o
-  spared_many catches s t (Err e) o spared = until_error_spared catches true s e t o spared
+  spared_many catches s t r o spared =
+      grind (arith, until_stop_spared catches true s, until_error_spared catches true s)
 
   -- nor does some
   pub spared_some : (catches : Bool) (message : List ℕ)
       → CatchesNoMemory (λ outcome. SomeOutcome outcome catches message) inner
-  spared_some catches message s t (Ok values) o spared =
-      (until_stop_spared catches true s values.items t o.0, o.1)
-  spared_some catches message s t (Err e) (inl failed) spared =
-      inl (until_error_spared catches true s e t failed spared)
-  spared_some catches message s t (Err e) (inr none) spared =
-      inr (until_stop_spared catches true s [] t none.0, none.1)
+  spared_some catches message s t r o spared =
+      grind (arith, until_stop_spared catches true s, until_error_spared catches true s)
 
   -- nor does collect
   pub spared_collect : {C : Type 0} (catches : Bool) (fills : List T → C → Type 0)

@@ -1,129 +1,68 @@
 -- How the loops of repeats go on, end, and stay bounded.
 use Rattle.std.proofs.Common.{◌≡◌, ◌≢◌, ◌⊎◌, ℕ, ◌+◌, ◌<◌, ◌≤◌, ◌==◌, Bool, true, false, not, List}
-use Rattle.std.proofs.Common.{[], ◌∷◌, ◌++◌, length, Option, Some, None, Result, Ok, Err, IsErrAnd}
-use Rattle.std.proofs.Common.{is_some, is_none, if◌then◌else◌, refl, sym, ◌∙◌, ap, subst, inl, inr}
+use Rattle.std.proofs.Common.{[], ◌∷◌, ◌++◌, length, Option, Some, Result, Ok, Err, IsErrAnd}
+use Rattle.std.proofs.Common.{is_some, if◌then◌else◌, refl, sym, ap, subst, inr}
 use Rattle.std.proofs.{Common.arith, lemmas.Bool.Decides.nat_tests}
 use Rattle.std.specs.{Prelude.vec_len, Global.Vec}
 use Rattle.bpaf_line.specs.{Messages.is_memory, Situation.Situation, Situation.open_count}
 use Rattle.bpaf_line.specs.{declared.error.Error.Error, declared.error.Message.TheVariants.Memory}
 use Rattle.bpaf_laws.proofs.CountingLaws.{open_count-falls}
-use Rattle.bpaf_laws.specs.Repeat.{EndsIn, is_nil, Turns, UntilRest, stops, rests, ManyOutcome}
-use Rattle.bpaf_laws.specs.Repeat.{LastOutcome}
+use Rattle.bpaf_laws.specs.Repeat.{EndsIn, is_nil, Turns, UntilRest, rests, ManyOutcome}
 use Rattle.bpaf_laws.specs.{Reading.Readings, Reading.Outcome, Laws.Lawful, Turn.TurnOutcome}
-use Rattle.bpaf_laws.proofs.RepeatLaws.{took_item, steps_more, values_bounded, step_falls}
-
--- a list without values is one of length nothing
-pub length_nil : {T : Type 0} (xs : List T) → (length xs == 0) ≡ is_nil xs
-length_nil xs = grind (arith, nat_tests)
+use Rattle.bpaf_laws.proofs.RepeatLaws.{took_item, steps_more, values_bounded}
 
 -- what `is_empty` answers of a list
 pub vec_nil : {T : Type 0} (values : Vec T) → (vec_len values == 0) ≡ is_nil values.items
-vec_nil values =
-    subst (λ n. (n == 0) ≡ is_nil values.items) (sym values.ok.0) (length_nil values.items)
-
--- a turn that answered a value, at the test for the first one
-step_at : {T : Type 0} (inner : Outcome T) (catches : Bool) (m : Situation) (vs : List T) (b : Bool)
-    (o : Option T) (v : T) (t : Situation)
-    → b ≡ is_nil vs → TurnOutcome inner catches b m (Ok o) t → o ≡ Some v
-    → TurnOutcome inner catches (is_nil vs) m (Ok (Some v)) t
-step_at inner catches m vs b o v t nil step is =
-    subst (λ w. TurnOutcome inner catches w m (Ok (Some v)) t) nil
-    (subst (λ w. TurnOutcome inner catches b m (Ok w) t) is step)
-
--- the turns of an iteration that answered a value, and of those before it
-pub steps_on : {T : Type 0} (inner : Outcome T) (catches : Bool) (s m : Situation) (vs : List T)
-    (b : Bool) (o : Option T) (v : T) (t : Situation)
-    → Turns inner catches true s vs m → b ≡ is_nil vs → TurnOutcome inner catches b m (Ok o) t
-    → o ≡ Some v → Turns inner catches true s (vs ++ v ∷ []) t
-steps_on inner catches s m vs b o v t steps nil step is =
-    steps_more inner catches true s m vs v t steps (step_at inner catches m vs b o v t nil step is)
-
--- that the run of turns ends
-pub steps_end : {T : Type 0} {inner : Outcome T} {reads : Readings T} → Lawful T inner reads
-    → (catches : Bool) (m : Situation) (vs : List T) (b : Bool) (o : Option T) (v : T)
-    (t : Situation) → b ≡ is_nil vs → TurnOutcome inner catches b m (Ok o) t → o ≡ Some v
-    → open_count t < open_count m + (if is_nil vs then 1 else 0)
-steps_end {inner = inner} law catches m vs b o v t nil step is =
-    subst (λ w. open_count t < open_count m + (if w then 1 else 0)) nil
-    (step_falls law catches b m v t (subst (λ w. TurnOutcome inner catches b m (Ok w) t) is step))
+vec_nil values = let is = values.ok.0 in grind (arith, nat_tests)
 
 -- a list with one value more at its end isn't empty
+nil_behind : {T : Type 0} (vs : List T) (v : T) → is_nil (vs ++ v ∷ []) ≡ false
+nil_behind [] v = refl
+nil_behind (x ∷ vs) v = refl
+
+-- so it counts for nothing
 pub not_nil : {T : Type 0} (us vs : List T) (v : T) → us ≡ vs ++ v ∷ []
     → ◌≡◌ {A = ℕ} (if is_nil us then 1 else 0) 0
-not_nil us [] v e = rw e refl
-not_nil us (x ∷ vs) v e = rw e refl
+not_nil us vs v e = rw (e, nil_behind vs v) refl
 
 -- a value that couldn't be kept, for want of memory
 pub steps_refused : {T : Type 0} (inner : Outcome T) (r : Result (Vec T) Error) (catches : Bool)
-    (s t : Situation) (vs : List T)
-    → Turns inner catches true s vs t → IsErrAnd r (λ e. e.0 ≡ Memory)
-    → ManyOutcome inner catches s r t
+    (s t : Situation) (vs : List T) → Turns inner catches true s vs t
+    → IsErrAnd r (λ e. e.0 ≡ Memory) → ManyOutcome inner catches s r t
 steps_refused inner (Err e) catches s t vs steps is =
     record { values = vs; last = t; steps = steps; fails = inr (ap is_memory is, refl) }
 steps_refused inner (Ok v) catches s t vs steps is = absurd is
 
--- what `is_none` answers
-none_if : {T : Type 0} (o : Option T) (b : Bool) → is_some o ≡ not b → b ≡ is_none o
-none_if o b e = grind arith
-
 -- there is no last value where there is no value
 pub none_nil : {T : Type 0} (values : List T) (o : Option T) (b : Bool) → is_some o ≡ not b
     → EndsIn values o → b ≡ is_nil values
-none_nil {T} values None b answered ends = none_if {T = T} None b answered ∙ sym (ap is_nil ends)
-none_nil values (Some v) b answered ends =
-    none_if (Some v) b answered ∙ sym (more ends.0 values ends.1)
-  where
-    more : (xs us : List _) → us ≡ xs ++ v ∷ [] → is_nil us ≡ false
-    more [] us e = rw e refl
-    more (x ∷ xs) us e = rw e refl
+none_nil values o b answered ends = grind (arith, nil_behind)
 
 module _ {T : Type 0} {inner : Outcome T} {reads : Readings T} (law : Lawful T inner reads)
-    (s m : Situation) (vs : List T) (b : Bool) (o : Option T) (t : Situation)
-    (steps : Turns inner false false s vs m) (nil : b ≡ is_nil vs)
-    (step : TurnOutcome inner false b m (Ok o) t) where
-  -- the value took nothing: it is the first, and the run rests
-  pub rests_here : (v : T) → o ≡ Some v → open_count t ≡ open_count m
-      → UntilRest inner s (vs ++ v ∷ []) t
-  rests_here v is same = by_values vs steps (step_at inner false m vs b o v t nil step is)
+    (s m : Situation) (vs : List T) (v : T) (t : Situation) (steps : Turns inner false false s vs m)
+    (step : TurnOutcome inner false (is_nil vs) m (Ok (Some v)) t) where
+  -- where the value took nothing it is the first, and the run rests
+  pub rests_here : open_count t ≡ open_count m → UntilRest inner s (vs ++ v ∷ []) t
+  rests_here same = by_values vs steps step
     where
       by_values : (vs : List T) → Turns inner false false s vs m
           → TurnOutcome inner false (is_nil vs) m (Ok (Some v)) t
           → UntilRest inner s (vs ++ v ∷ []) t
-      by_values [] steps at =
-          rests v refl (subst (λ w. inner w (Ok v) t) (sym steps) at.0)
+      by_values [] steps step =
+          rests v refl (subst (λ w. inner w (Ok v) t) (sym steps) step.0)
           (let equal = ap open_count steps in omega arith)
-      by_values (x ∷ xs) steps at =
-          let fewer = took_item inner false m t v at in absurd (omega arith)
+      by_values (x ∷ xs) steps step =
+          let fewer = took_item inner false m t v step in absurd (omega arith)
 
-  -- the value took an item
-  pub goes_on : (v : T) → o ≡ Some v → open_count t ≢ open_count m
+  -- else it took an item
+  pub goes_on : open_count t ≢ open_count m
       → Turns inner false false s (vs ++ v ∷ []) t × (open_count t < open_count m)
-  goes_on v is other =
-      let at = step_at inner false m vs b o v t nil step is in
-      let here = law.ok m t v at.0 in
+  goes_on other =
+      let here = law.ok m t v step.0 in
       let falls = open_count-falls m t here.keeps here.closed in
       let fewer : open_count t < open_count m = omega arith in
-      (steps_more inner false false s m vs v t steps (at.0, inr fewer), fewer)
-
-  -- a turn stopped
-  pub stops_here : o ≡ None → UntilRest inner s vs t
-  stops_here is =
-      stops (record {
-        last = m;
-        steps = steps;
-        stop = subst (λ w. TurnOutcome inner false w m (Ok None) t) nil
-            (subst (λ w. TurnOutcome inner false b m (Ok w) t) is step);
-      })
+      (steps_more inner false false s m vs v t steps (step.0, inr fewer), fewer)
 
   -- there are no more values than items present at the start, or there was none before this one
-  pub fits_more : (v : T) → o ≡ Some v → (length vs ≡ 0) ⊎ (length vs + 1 ≤ open_count s)
-  fits_more v is = by_values vs steps (step_at inner false m vs b o v t nil step is)
-    where
-      by_values : (vs : List T) → Turns inner false false s vs m
-          → TurnOutcome inner false (is_nil vs) m (Ok (Some v)) t → (length vs ≡ 0)
-          ⊎ (length vs + 1 ≤ open_count s)
-      by_values [] steps at = inl refl
-      by_values (x ∷ xs) steps at =
-          let fewer = took_item inner false m t v at in
-          let bound = values_bounded law false s (x ∷ xs) m steps in
-          inr (omega arith)
+  pub fits_more : (length vs ≡ 0) ⊎ (length vs + 1 ≤ open_count s)
+  fits_more = let bound = values_bounded law false s vs m steps in grind arith

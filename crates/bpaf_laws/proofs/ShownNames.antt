@@ -1,5 +1,5 @@
 -- Which short names each type shows, by those that its inner parsers show.
-use Rattle.std.proofs.Common.{◌≡◌, List, [], ◌∷◌, ◌++◌, ℕ, Option, Some, None, refl, sym, ap, ap₂}
+use Rattle.std.proofs.Common.{◌≡◌, List, [], ◌∷◌, ◌++◌, ℕ, Option, Some, None, refl, ap, ap₂}
 use Rattle.std.proofs.Common.{Result, ◌∙◌, append_assoc, append-nil, arith}
 use Rattle.std.specs.declared.alloc.AllocError.{AllocError}
 use Rattle.std.proofs.lemmas.List.Concat.{flat_map-append}
@@ -102,8 +102,7 @@ module _ {inner : Shape → Type 0} {names : ShortNames} (inside : ShowsNames in
 of_joined : (first second : List Part)
     → shorts_of (first ++ second) ≡ joined_shorts (shorts_of first) (shorts_of second)
 of_joined first second =
-    ap₂ (λ flags arguments. record { flags = flags; arguments = arguments })
-    (flat_map-append shorts_of_flag first second) (flat_map-append shorts_of_argument first second)
+    grind (arith, flat_map-append shorts_of_flag, flat_map-append shorts_of_argument)
 
 -- a field and those after it
 pub both_show : {first : Shape → Type 0} {rest : List Shape → Type 0} {own others : ShortNames}
@@ -127,8 +126,7 @@ parts_joined : (xs ys : List Shape)
     → parts_of_all (members (xs ++ ys)) ≡ parts_of_all (members xs) ++ parts_of_all (members ys)
 parts_joined [] ys = refl
 parts_joined (x ∷ xs) ys =
-    ap (λ rest. parts x ++ rest) (parts_joined xs ys)
-    ∙ sym (append_assoc (parts x) (parts_of_all (members xs)) (parts_of_all (members ys)))
+    let rest = parts_joined xs ys in grind (arith, append_assoc {A = Part})
 
 -- the members as a list have the same parts
 listed : (all : Shapes) → parts_of_all (members (shapes_of all)) ≡ parts_of_all all
@@ -143,9 +141,7 @@ added shape = append-nil (parts shape)
 -- the parts of a choice are those of both
 either_parts : (a b : Shape) → parts (either_shape a b) ≡ parts a ++ parts b
 either_parts a b =
-    parts_joined (alternatives a) (alternatives b)
-    ∙ (ap (λ first. first ++ parts_of_all (members (alternatives b))) (added a)
-    ∙ ap (λ second. parts a ++ second) (added b))
+    grind (arith, parts_joined (alternatives a) (alternatives b), added a, added b)
 
 -- a choice of two
 pub choice_shows : {first second : Shape → Type 0} {own others : ShortNames} → ShowsNames first own

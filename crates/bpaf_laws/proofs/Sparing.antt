@@ -1,7 +1,6 @@
 -- A turn catches no want of memory, and where it stops it takes nothing.
-use Rattle.std.proofs.Common.{◌≡◌, Bool, true, false, Result, Ok, Err, Option, Some, None, inl}
-use Rattle.std.proofs.Common.{inr, true≢false, arith}
-use Rattle.std.proofs.lemmas.Bool.{both_ways}
+use Rattle.std.proofs.Common.{◌≡◌, Bool, true, false, Result, Option}
+use Rattle.std.proofs.Common.{arith}
 use Rattle.bpaf_line.specs.declared.error.Message.{Message}
 use Rattle.bpaf_line.specs.{declared.error.Error.Error, Messages.is_memory, Situation.Situation}
 use Rattle.bpaf_laws.specs.Spared.{Spares, WithoutMemory, NoneTakesNothing}
@@ -20,19 +19,9 @@ module _ {T : Type 0} (inner : Outcome T) where
   -- a turn catches no want of memory
   pub spared_step : (catches first : Bool)
       → CatchesNoMemory (λ outcome. TurnOutcome outcome catches first) inner
-  spared_step catches first s t (Ok (Some v)) o spared = ((o.0, tt), o.1)
-  spared_step catches first s t (Ok None) (inl dropped) spared =
-      inl (dropped.0, (dropped.1, tt), dropped.2, dropped.3)
-  spared_step catches first s t (Ok None) (inr ((e, m, ran, stops), same)) spared =
-      inr ((e, m, (ran, stop_spared catches e.0 _ stops), stops), same)
-  spared_step catches first s t (Err e) (inl failed) spared = inl ((failed.0, spared), failed.1)
-  spared_step catches first s t (Err e) (inr want) spared =
-      absurd (both_ways (is_memory e.0) spared want.0)
+  spared_step catches first s t r o spared = grind (arith, stop_spared)
 
   -- None takes nothing
   pub none_takes_nothing : (catches : Bool) (s t : Situation) (r : Result (Option T) Error)
       → TurnOutcome inner catches true s r t → NoneTakesNothing s r t
-  none_takes_nothing catches s t (Ok None) (inl dropped) = absurd (true≢false dropped.2)
-  none_takes_nothing catches s t (Ok None) (inr stopped) = stopped.1
-  none_takes_nothing catches s t (Ok (Some v)) o = tt
-  none_takes_nothing catches s t (Err e) o = tt
+  none_takes_nothing catches s t r o = grind arith

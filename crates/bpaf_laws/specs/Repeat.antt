@@ -14,6 +14,11 @@ abbrev pub is_nil : {T : Type 0} → List T → Bool
 is_nil [] = true
 is_nil (v ∷ vs) = false
 
+-- the last of some values; none where there is none
+abbrev pub EndsIn : {T : Type 0} → List T → Option T → Type 0
+EndsIn values None = values ≡ []
+EndsIn {T} values (Some v) = (before : List T) × (values ≡ before ++ v ∷ [])
+
 -- turns one after another that answered these values; `first` where no value came before them
 abbrev pub Turns : {T : Type 0} → Outcome T → Bool → Bool → Situation → List T → Situation → Type 0
 Turns inner catches first s [] t = s ≡ t
@@ -92,11 +97,6 @@ abbrev pub CountOutcome : {T : Type 0} → Outcome T → Outcome ℕ
 CountOutcome {T} inner s (Ok n) t =
     (values : List T) × UntilRest inner s values t × (n ≡ length values)
 CountOutcome inner s (Err e) t = UntilFault inner s e t
-
--- the last value of a list, where it has one
-abbrev pub EndsIn : {T : Type 0} → List T → Option T → Type 0
-EndsIn values None = values ≡ []
-EndsIn {T} values (Some v) = (before : List T) × (values ≡ before ++ v ∷ [])
 
 -- last: the last value; without one, what the inner parser answers when it is evaluated once more
 abbrev pub LastOutcome : {T : Type 0} → Outcome T → Outcome T

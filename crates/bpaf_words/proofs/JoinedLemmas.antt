@@ -1,5 +1,5 @@
 -- A walk over joined letters: the flags at the front, and what stands where they end.
-use Rattle.std.proofs.Common.{◌≡◌, ◌≢◌, ℕ, zero, suc, ◌+◌, ◌≤◌, true, false, ◌==◌, List, [], ◌∷◌}
+use Rattle.std.proofs.Common.{◌≡◌, ◌≢◌, ℕ, ◌+◌, ◌≤◌, true, false, ◌==◌, List, [], ◌∷◌}
 use Rattle.std.proofs.Common.{◌++◌, length, refl, ap, sym, ◌∙◌, arith, rules, take, if◌then◌else◌}
 use Rattle.std.proofs.Common.{append_assoc, append-nil, encode_utf8, encode_utf8_all, All}
 use Rattle.std.proofs.lemmas.Str.{cons_from_encodes, encodes_same, encodes-append}
@@ -39,8 +39,7 @@ flags_of_push word (f ∷ g ∷ fs) c = ap (λ x. Short f false word ∷ x) (fla
 text_after_is : (word fs : List ℕ) (count : ℕ) → count ≡ length fs
     → text_after word fs ≡ (if count == 0 then word else [])
 unfolding text_after
-text_after_is word [] count e = rw e
-text_after_is word (f ∷ fs) count e = grind (arith, nat_tests)
+text_after_is word fs count e = grind (arith, nat_tests)
 
 -- a walk that hasn't begun: no flags, and all letters are left
 pub walked_none : (names : ShortNames) (word letters : List ℕ) (old : List Arg)
@@ -54,38 +53,6 @@ walked_none names word letters old =
       counted = refl;
     }
 
--- a walk over one flag more
-pub walked_more : (names : ShortNames) (word letters : List ℕ) (old new : List Arg) (count : ℕ)
-    (rest : List ℕ) (c : ℕ) (after text : List ℕ) (newer : List Arg)
-    → Walked names word letters old new count rest → rest ≡ encode_utf8 c ++ after
-    → IsKnownAs true false names c
-    → text ≡ (if count == 0 then word else []) → newer ≡ new ++ Short c false text ∷ []
-    → Walked names word letters old newer (count + 1) after
-walked_more names word letters old new count rest c after text newer w e f t n = record {
-  fs = w.fs ++ c ∷ [];
-  cut = w.cut ∙ (ap (λ x. encode_utf8_all w.fs ++ x) e
-      ∙ (sym (append_assoc (encode_utf8_all w.fs) (encode_utf8 c) after)
-      ∙ ap (λ x. x ++ after) (sym (encodes-append w.fs (c ∷ [])
-      ∙ ap (λ x. encode_utf8_all w.fs ++ x) (append-nil (encode_utf8 c))))));
-  all_flags = All-push (IsKnownAs true false names) w.fs c w.all_flags f;
-  items = n ∙ (ap (λ x. x ++ Short c false text ∷ []) w.items
-      ∙ (append_assoc old (flags_of word w.fs) (Short c false text ∷ [])
-      ∙ ap (λ x. old ++ x) (rw (t ∙ sym (text_after_is word w.fs count w.counted))
-      (sym (flags_of_push word w.fs c)))));
-  counted = rw (w.counted, length-append) (search rules);
-}
-
--- the letters left are fewer than all of them
-pub walked_bound : (names : ShortNames) (word letters : List ℕ) (old new : List Arg) (count : ℕ)
-    (rest : List ℕ) (c : ℕ) (after : List ℕ)
-    → Walked names word letters old new count rest → rest ≡ encode_utf8 c ++ after
-    → count + 1 ≤ length letters
-walked_bound names word letters old new count rest c after w e =
-    let sizes : length letters ≡ length (encode_utf8_all w.fs) +
-    (length (encode_utf8 c) + length after) =
-    ap length w.cut ∙ (ap (λ x. length (encode_utf8_all w.fs ++ x)) e ∙ simp length-append) in
-    omega (arith, length-le-encodes w.fs, w.counted, length-encode c, len_utf8_bounds c)
-
 -- characters that begin with the letters of fs
 after_encodes : (fs cs r : List ℕ) → encode_utf8_all cs ≡ encode_utf8_all fs ++ r → (ds : List ℕ)
     × (cs ≡ fs ++ ds) × (encode_utf8_all ds ≡ r)
@@ -96,64 +63,77 @@ after_encodes (f ∷ fs) cs r e =
     let t = after_encodes fs h.0 r h.2 in
     (t.0, h.1 ∙ ap (λ x. f ∷ x) t.1, t.2)
 
--- where a walk stops at c
-pub stopped : (names : ShortNames) (word letters : List ℕ) (old new : List Arg) (count : ℕ)
-    (rest : List ℕ) (c : ℕ) (after : List ℕ) (cs : List ℕ)
-    → (w : Walked names word letters old new count rest) → rest ≡ encode_utf8 c ++ after
-    → letters ≡ encode_utf8_all cs
-    → (ds : List ℕ) × (cs ≡ w.fs ++ c ∷ ds) × (encode_utf8_all ds ≡ after)
-stopped names word letters old new count rest c after cs w e l =
-    let h = after_encodes w.fs cs rest (sym l ∙ w.cut) in
-    let t = cons_from_encodes h.0 after c (h.2 ∙ e) in
-    (t.0, h.1 ∙ ap (λ x. w.fs ++ x) t.1, t.2)
+module _ {names : ShortNames} {word letters : List ℕ} {old new : List Arg} {count : ℕ}
+    {rest : List ℕ} (w : Walked names word letters old new count rest) where
+  -- where a walk leaves no letters they spell the items of the flags
+  pub ends : (cs : List ℕ) → length rest ≡ 0 → letters ≡ encode_utf8_all cs → (xs : List Arg)
+      × SpellsJoined names word cs (Items xs) × (new ≡ old ++ xs)
+  ends cs e l =
+      let empty : rest ≡ [] = nil_from_length rest e in
+      let same : cs ≡ w.fs = encodes_same cs w.fs
+      (sym l ∙ (w.cut ∙ (ap (λ x. encode_utf8_all w.fs ++ x) empty
+      ∙ append-nil (encode_utf8_all w.fs)))) in
+      (flags_of word w.fs, rw same (flags w.all_flags), w.items)
 
--- where a walk leaves no letters: they spell the items of the flags
-pub ends : (names : ShortNames) (word letters : List ℕ) (old new : List Arg) (count : ℕ)
-    (rest : List ℕ) (cs : List ℕ)
-    → Walked names word letters old new count rest → length rest ≡ 0 → letters ≡ encode_utf8_all cs
-    → (xs : List Arg) × SpellsJoined names word cs (Items xs) × (new ≡ old ++ xs)
-ends names word letters old new count rest cs w e l =
-    let empty : rest ≡ [] = nil_from_length rest e in
-    let same : cs ≡ w.fs = encodes_same cs w.fs
-    (sym l ∙ (w.cut ∙ (ap (λ x. encode_utf8_all w.fs ++ x) empty
-    ∙ append-nil (encode_utf8_all w.fs)))) in
-    (flags_of word w.fs, rw same (flags w.all_flags), w.items)
+  module _ (c : ℕ) (after : List ℕ) (e : rest ≡ encode_utf8 c ++ after) where
+    -- a walk over one flag more
+    pub walked_more : (text : List ℕ) (newer : List Arg) → IsKnownAs true false names c
+        → text ≡ (if count == 0 then word else []) → newer ≡ new ++ Short c false text ∷ []
+        → Walked names word letters old newer (count + 1) after
+    walked_more text newer f t n = record {
+      fs = w.fs ++ c ∷ [];
+      cut = w.cut ∙ (ap (λ x. encode_utf8_all w.fs ++ x) e
+          ∙ (sym (append_assoc (encode_utf8_all w.fs) (encode_utf8 c) after)
+          ∙ ap (λ x. x ++ after) (sym (encodes-append w.fs (c ∷ [])
+          ∙ ap (λ x. encode_utf8_all w.fs ++ x) (append-nil (encode_utf8 c))))));
+      all_flags = All-push (IsKnownAs true false names) w.fs c w.all_flags f;
+      items = n ∙ (ap (λ x. x ++ Short c false text ∷ []) w.items
+          ∙ (append_assoc old (flags_of word w.fs) (Short c false text ∷ [])
+          ∙ ap (λ x. old ++ x) (rw (t ∙ sym (text_after_is word w.fs count w.counted))
+          (sym (flags_of_push word w.fs c)))));
+      counted = rw (w.counted, length-append) (search rules);
+    }
 
--- where a walk stops at a character that is both: the letters are ambiguous there
-pub stops_both : (names : ShortNames) (word letters : List ℕ) (old new : List Arg) (count : ℕ)
-    (rest : List ℕ) (c : ℕ) (after : List ℕ)
-    → Walked names word letters old new count rest → rest ≡ encode_utf8 c ++ after
-    → IsKnownAs true true names c → (cs : List ℕ) → letters ≡ encode_utf8_all cs
-    → SpellsJoined names word cs (Ambiguous (count + 1))
-stops_both names word letters old new count rest c after w e b cs l =
-    let s = stopped names word letters old new count rest c after cs w e l in
-    rw w.counted (both w.fs c s.0 s.1 w.all_flags b)
+    -- the letters left are fewer than all of them
+    pub walked_bound : count + 1 ≤ length letters
+    walked_bound =
+        let sizes : length letters ≡ length (encode_utf8_all w.fs) +
+        (length (encode_utf8 c) + length after) =
+        ap length w.cut ∙ (ap (λ x. length (encode_utf8_all w.fs ++ x)) e ∙ simp length-append) in
+        omega (arith, length-le-encodes w.fs, w.counted, length-encode c, len_utf8_bounds c)
 
--- where a walk stops at a character that is neither: the letters spell the word itself
-pub stops_neither : (names : ShortNames) (word letters : List ℕ) (old new newer : List Arg)
-    (count : ℕ) (rest : List ℕ) (c : ℕ) (after : List ℕ)
-    → Walked names word letters old new count rest → rest ≡ encode_utf8 c ++ after
-    → IsKnownAs false false names c → newer ≡ old ++ Word word ∷ []
-    → (cs : List ℕ) → letters ≡ encode_utf8_all cs → (xs : List Arg)
-    × SpellsJoined names word cs (Items xs) × (newer ≡ old ++ xs)
-stops_neither names word letters old new newer count rest c after w e b n cs l =
-    let s = stopped names word letters old new count rest c after cs w e l in
-    (Word word ∷ [], neither w.fs c s.0 s.1 w.all_flags b, n)
+    -- where a walk stops at c
+    stopped : (cs : List ℕ) → letters ≡ encode_utf8_all cs → (ds : List ℕ)
+        × (cs ≡ w.fs ++ c ∷ ds) × (encode_utf8_all ds ≡ after)
+    stopped cs l =
+        let h = after_encodes w.fs cs rest (sym l ∙ w.cut) in
+        let t = cons_from_encodes h.0 after c (h.2 ∙ e) in
+        (t.0, h.1 ∙ ap (λ x. w.fs ++ x) t.1, t.2)
 
--- where a walk stops at an argument: the letters spell the flags and that argument
-pub stops_argument : (names : ShortNames) (word letters : List ℕ) (old new newer : List Arg)
-    (count : ℕ) (rest : List ℕ) (c : ℕ) (after : List ℕ)
-    → Walked names word letters old new count rest → rest ≡ encode_utf8 c ++ after
-    → IsKnownAs false true names c → newer ≡ new ++ argument_of word c after
-    → (cs : List ℕ) → letters ≡ encode_utf8_all cs → (xs : List Arg)
-    × SpellsJoined names word cs (Items xs) × (newer ≡ old ++ xs)
-stops_argument names word letters old new newer count rest c after w e b n cs l =
-    let s = stopped names word letters old new count rest c after cs w e l in (
-      flags_of word w.fs ++ argument_of word c (encode_utf8_all s.0),
-      argument w.fs c s.0 s.1 w.all_flags b,
-      rw s.2 (n ∙ (ap (λ x. x ++ argument_of word c after) w.items
-          ∙ append_assoc old (flags_of word w.fs) (argument_of word c after))),
-    )
+    -- at a character that is both the letters are ambiguous there
+    pub stops_both : IsKnownAs true true names c → (cs : List ℕ) → letters ≡ encode_utf8_all cs
+        → SpellsJoined names word cs (Ambiguous (count + 1))
+    stops_both b cs l =
+        let s = stopped cs l in rw w.counted (both w.fs c s.0 s.1 w.all_flags b)
+
+    -- at one that is neither they spell the word itself
+    pub stops_neither : (newer : List Arg) → IsKnownAs false false names c
+        → newer ≡ old ++ Word word ∷ [] → (cs : List ℕ) → letters ≡ encode_utf8_all cs
+        → (xs : List Arg) × SpellsJoined names word cs (Items xs) × (newer ≡ old ++ xs)
+    stops_neither newer b n cs l =
+        let s = stopped cs l in (Word word ∷ [], neither w.fs c s.0 s.1 w.all_flags b, n)
+
+    -- at an argument they spell the flags and that argument
+    pub stops_argument : (newer : List Arg) → IsKnownAs false true names c
+        → newer ≡ new ++ argument_of word c after → (cs : List ℕ) → letters ≡ encode_utf8_all cs
+        → (xs : List Arg) × SpellsJoined names word cs (Items xs) × (newer ≡ old ++ xs)
+    stops_argument newer b n cs l =
+        let s = stopped cs l in (
+          flags_of word w.fs ++ argument_of word c (encode_utf8_all s.0),
+          argument w.fs c s.0 s.1 w.all_flags b,
+          rw s.2 (n ∙ (ap (λ x. x ++ argument_of word c after) w.items
+              ∙ append_assoc old (flags_of word w.fs) (argument_of word c after))),
+        )
 
 -- items cut back to the old length are the old ones
 pub taken_back : (old zs ys : List Arg) (n : ℕ) → n ≡ length old → zs ≡ old ++ ys → take n zs ≡ old
@@ -162,5 +142,4 @@ taken_back old zs ys n h e = rw (e, h) (grind (arith, common_steps))
 -- a text that is the word for the first flag, and empty for the others
 pub first_text : (word text : List ℕ) (count : ℕ) → (count ≡ 0 → text ≡ word)
     → (count ≢ 0 → text ≡ []) → text ≡ (if count == 0 then word else [])
-first_text word text zero f g = f refl
-first_text word text (suc n) f g = grind (arith, nat_tests, g (λ e. absurd (omega arith)))
+first_text word text count f g = grind (arith, nat_tests)

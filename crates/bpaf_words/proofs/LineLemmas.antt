@@ -1,8 +1,8 @@
 -- Lines: a word more.
-use Rattle.std.proofs.Common.{◌≡◌, ◌≢◌, ℕ, zero, suc, Bool, ◌+◌, ◌<◌, List, [], ◌∷◌, ◌++◌, take}
+use Rattle.std.proofs.Common.{◌≡◌, ◌≢◌, ℕ, Bool, ◌+◌, List, [], ◌∷◌, ◌++◌, take}
 use Rattle.std.proofs.Common.{drop, map, refl, ap, sym, ◌∙◌, arith, append_assoc, append-nil, codes}
 use Rattle.std.proofs.Common.{Some, slice_get, bytes_eq, true, false, IsUtf8, ⊎_elim, subst, length}
-use Rattle.std.proofs.lemmas.Option.{get_or_from_slice_get}
+use Rattle.std.proofs.lemmas.Option.{get_or_from_slice_get, slice_get_within}
 use Rattle.std.proofs.lemmas.List.Elements.{AllWithin-more, All-push}
 use Rattle.std.specs.List.{flat_map, AllWithin}
 use Rattle.std.proofs.{Common.All, lemmas.Bool.cases_lt, lemmas.Grind.flat_map-append}
@@ -37,19 +37,13 @@ begins_none known words = record {
   texts = λ k d from below. absurd (omega arith);
 }
 
--- a place with a member is one of the list's
-inside : {X : Type 0} (xs : List X) (i : ℕ) (x : X) → slice_get xs i ≡ Some x → i < length xs
-inside [] i x at = cc
-inside (y ∷ ys) zero x at = omega arith
-inside (y ∷ ys) (suc i) x at = omega (arith, inside ys i x at)
-
 -- one word more in front, and the items that it spells
 pub begins_more : (known : Known) (words : List (List ℕ)) (i : ℕ) (old new xs : List Arg)
     (word : List ℕ) → Begins known words old i → slice_get words i ≡ Some word → IsUtf8 word
     → word ≢ codes "--" → Spells known word (Items xs) → new ≡ old ++ xs
     → Begins known words new (i + 1)
 begins_more known words i old new xs word begun at text other spells more = record {
-  bound = omega (arith, inside words i word at);
+  bound = omega (arith, slice_get_within words i word at);
   without_marker = rw (take_next words i word at)
       (All-push (λ w. w ≢ codes "--") (take i words) word begun.without_marker other);
   spelled = rw (take_next words i word at) (record {
@@ -65,9 +59,8 @@ begins_more known words i old new xs word begun at text other spells more = reco
 
 -- the same of a word that spells its items whatever names are known
 pub begins_alone : (numbers : Bool) (words : List (List ℕ)) (i : ℕ) (old new : List Arg)
-    (word : List ℕ) → BeginsByAny numbers words old i → slice_get words i ≡ Some word
-    → IsUtf8 word → word ≢ codes "--" → SpellsByAny numbers word old new
-    → BeginsByAny numbers words new (i + 1)
+    (word : List ℕ) → BeginsByAny numbers words old i → slice_get words i ≡ Some word → IsUtf8 word
+    → word ≢ codes "--" → SpellsByAny numbers word old new → BeginsByAny numbers words new (i + 1)
 begins_alone numbers words i old new word begun at text other spells names =
     let spelled = spells names in
     begins_more (known_at numbers names) words i old new spelled.0 word (begun names) at text other

@@ -2,7 +2,7 @@
 use Rattle.std.proofs.Common.{◌≡◌, ◌==◌, ℕ, zero, suc, Bool, true, false, List, [], ◌∷◌, refl, ap}
 use Rattle.std.proofs.Common.{sym, ◌∙◌, subst, arith, ◌⊎◌, inl, inr, ⊎_elim, EachIndex, slice_index}
 use Rattle.std.specs.Char.{IsAsciiDigit}
-use Rattle.std.proofs.{lemmas.Bool.cases_lt, lemmas.Bool.Decides.nat_tests}
+use Rattle.std.proofs.{lemmas.Bool.Decides.nat_tests}
 use Rattle.bpaf_words.specs.Spelling.{IsNumber, IsNumberWord}
 
 -- each byte is a digit
@@ -16,9 +16,7 @@ digits_more d ds one more (suc k) within = more k (omega arith)
 
 -- a byte is a digit or none
 digit_or_not : (d : ℕ) → IsAsciiDigit d ⊎ ¬ (IsAsciiDigit d)
-digit_or_not d = ⊎_elim (λ below. inr (λ is. omega (arith, is.0)))
-    (λ above. ⊎_elim (λ small. inl (above, omega arith)) (λ large. inr (λ is. omega (arith, is.1)))
-    (cases_lt d 58)) (cases_lt d 48)
+digit_or_not d = grind arith
 
 -- bytes are digits, or not all of them are
 digits_or_not : (ds : List ℕ) → AreDigits ds ⊎ ¬ (AreDigits ds)

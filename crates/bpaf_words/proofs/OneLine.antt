@@ -1,9 +1,8 @@
 -- Words have one line, or none and then a first ambiguous word.
 use Rattle.std.proofs.Common.{◌≡◌, ◌≢◌, ◌⊎◌, inl, inr, ⊎_elim, ℕ, ◌+◌, List, [], ◌∷◌, ◌++◌, length}
 use Rattle.std.proofs.Common.{map, codes, refl, ap, sym, ◌∙◌, subst, arith, append_assoc, None}
-use Rattle.std.proofs.Common.{Some, Option, All, IsUtf8, length-append, bytes_eq}
-use Rattle.std.proofs.Common.{append-nil, true≢false}
-use Rattle.std.proofs.lemmas.Bool.{cases_Bool}
+use Rattle.std.proofs.Common.{Some, Option, All, IsUtf8, length-append}
+use Rattle.std.proofs.Common.{append-nil}
 use Rattle.std.specs.Cmp.Lexicographic.{bytes_decides}
 use Rattle.std.specs.{Option.option_map, List.AllZip, List.flat_map}
 use Rattle.bpaf_base.specs.{declared.arg.Arg.Arg, declared.arg.Arg.TheVariants.PosWord}
@@ -11,7 +10,7 @@ use Rattle.bpaf_words.specs.Spelling.{Known, Spelling, Items, Ambiguous, Spells}
 use Rattle.bpaf_words.specs.Line.{SpellAll, HasNoMarker, IsLine, HasNoLine, without_marker}
 use Rattle.bpaf_words.specs.Line.{with_marker, LinesAreUnique}
 use Rattle.bpaf_words.proofs.OneSpelling.{one_spelling}
-use Rattle.bpaf_words.proofs.Lists.{All_head, All_tail, All_cons}
+use Rattle.std.proofs.lemmas.List.Elements.{All-head, All-tail, All-cons}
 
 -- what words come to: a line and the place of its marker; or a first ambiguous word and the number
 -- of its ambiguous character
@@ -51,9 +50,9 @@ one_verdict known (w ∷ ws) texts u v (inl a) (inl b) = a.1 ∙ sym b.1
 one_verdict known (w ∷ ws) texts u v (inl a) (inr b) = absurd (b.0 a.0)
 one_verdict known (w ∷ ws) texts u v (inr a) (inl b) = absurd (a.0 b.0)
 one_verdict known (w ∷ ws) texts u v (inr (other, s, spells, a)) (inr (_, s', spells', b)) =
-    let one = one_spelling known w (All_head IsUtf8 w ws texts) other in
+    let one = one_spelling known w (All-head IsUtf8 w ws texts) other in
     let same : s' ≡ s = (one.only s' spells').1 ∙ sym (one.only s spells).1 in
-    one_goes_on s w (ComeTo known ws) (one_verdict known ws (All_tail IsUtf8 w ws texts)) u v a
+    one_goes_on s w (ComeTo known ws) (one_verdict known ws (All-tail IsUtf8 w ws texts)) u v a
     (subst (λ s. GoesOn s w (ComeTo known ws) v) same b)
 
 -- where words after one come to something, so do those from it on
@@ -64,11 +63,7 @@ some_goes_on (Ambiguous n) word later rest = (inr (word, n), refl)
 
 -- a word is `--`, or it isn't
 marker_or_not : (word : List ℕ) → (word ≡ codes "--") ⊎ (word ≢ codes "--")
-marker_or_not word =
-    let decides = bytes_decides word (codes "--") in
-    ⊎_elim (λ is. inl (decides.0 is))
-    (λ other. inr (λ is. true≢false (sym (decides.1 is) ∙ other)))
-    (cases_Bool (bytes_eq word (codes "--")))
+marker_or_not word = let decides = bytes_decides word (codes "--") in grind arith
 
 -- words that are texts come to something
 some_verdict : (known : Known) (words : List (List ℕ)) → All IsUtf8 words
@@ -76,9 +71,9 @@ some_verdict : (known : Known) (words : List (List ℕ)) → All IsUtf8 words
 some_verdict known [] texts = (inl ([], None), refl)
 some_verdict known (w ∷ ws) texts = ⊎_elim (λ marker. (_, inl (marker, refl)))
     (λ other.
-    let one = one_spelling known w (All_head IsUtf8 w ws texts) other in
+    let one = one_spelling known w (All-head IsUtf8 w ws texts) other in
     let on = some_goes_on one.spelling w (ComeTo known ws)
-    (some_verdict known ws (All_tail IsUtf8 w ws texts)) in
+    (some_verdict known ws (All-tail IsUtf8 w ws texts)) in
     (on.0, inr (other, one.spelling, one.spells, on.1)))
     (marker_or_not w)
 
@@ -110,7 +105,7 @@ module _ (known : Known) (word : List ℕ) (words : List (List ℕ)) (other : wo
     line_more : (line : List Arg) (marker : Option ℕ) → IsLine known words line marker
         → IsLine known (word ∷ words) (xs ++ line) (option_map (λ n. length xs + n) marker)
     line_more line marker (without_marker items none all) =
-        without_marker (xs ++ items) (All_cons (λ w. w ≢ codes "--") word words other none)
+        without_marker (xs ++ items) (All-cons (λ w. w ≢ codes "--") word words other none)
         (spell_more words items all)
     line_more line marker (with_marker before after items cut none all) =
         subst (λ line. IsLine known (word ∷ words) line (Some (length xs + length items)))
@@ -119,7 +114,7 @@ module _ (known : Known) (word : List ℕ) (words : List (List ℕ)) (other : wo
         ((xs ++ items) ++ PosWord (codes "--") ∷ map PosWord after) (Some n))
         (length-append xs items)
         (with_marker (word ∷ before) after (xs ++ items) (ap (λ ws. word ∷ ws) cut)
-        (All_cons (λ w. w ≢ codes "--") word before other none) (spell_more before items all)))
+        (All-cons (λ w. w ≢ codes "--") word before other none) (spell_more before items all)))
 
     -- and with what is said
     said_more : (v : Verdict) → IsSaid known words v → IsSaid known (word ∷ words) (in_front xs v)
@@ -130,7 +125,7 @@ module _ (known : Known) (word : List ℕ) (words : List (List ℕ)) (other : wo
       after = said.after;
       cut = ap (λ ws. word ∷ ws) said.cut;
       without_marker =
-          All_cons (λ w. w ≢ codes "--") word said.before other said.without_marker;
+          All-cons (λ w. w ≢ codes "--") word said.before other said.without_marker;
       spelled = spell_more said.before said.items said.spelled;
       not_marker = said.not_marker;
       ambiguous = said.ambiguous;
@@ -168,19 +163,11 @@ said_of known (w ∷ ws) v (inr (other, s, spells, on)) =
 -- items in front of others are in front with these
 both_in_front : (xs ys : List Arg) (v : Verdict)
     → in_front (xs ++ ys) v ≡ in_front xs (in_front ys v)
-both_in_front xs ys (inl (line, None)) = ap (λ l. inl (l, None)) (append_assoc xs ys line)
-both_in_front xs ys (inl (line, Some n)) =
-    let place : length (xs ++ ys) + n ≡ length xs + (length ys + n) =
-    omega (arith, length-append xs ys) in
-    rw (append_assoc xs ys line, place) refl
-both_in_front xs ys (inr word) = refl
+both_in_front xs ys v = grind (arith, append_assoc {A = Arg}, length-append {A = Arg})
 
 -- none in front change nothing
 none_in_front : (v : Verdict) → v ≡ in_front [] v
-none_in_front (inl (line, None)) = refl
-none_in_front (inl (line, Some n)) =
-    let place : n ≡ 0 + n = omega arith in ap (λ n. inl (line, Some n)) place
-none_in_front (inr word) = refl
+none_in_front v = grind arith
 
 -- words behind others that spell items come to what they come to, with these items in front
 spelled_in_front : (known : Known) (before : List (List ℕ)) (parts : List (List Arg))
@@ -192,13 +179,13 @@ spelled_in_front known [] [] rest v none spelled come =
 spelled_in_front known [] (xs ∷ parts) rest v none spelled come = absurd spelled
 spelled_in_front known (w ∷ before) [] rest v none spelled come = absurd spelled
 spelled_in_front known (w ∷ before) (xs ∷ parts) rest v none spelled come = inr (
-  All_head (λ w. w ≢ codes "--") w before none,
+  All-head (λ w. w ≢ codes "--") w before none,
   Items xs,
   spelled.0,
   (
     in_front (flat_map (λ xs. xs) parts) v,
     spelled_in_front known before parts rest v
-        (All_tail (λ w. w ≢ codes "--") w before none) spelled.1 come,
+        (All-tail (λ w. w ≢ codes "--") w before none) spelled.1 come,
     both_in_front xs (flat_map (λ xs. xs) parts) v,
   ),
 )

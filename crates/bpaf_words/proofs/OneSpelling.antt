@@ -5,7 +5,8 @@ use Rattle.std.proofs.Common.{append_assoc, append-nil, None, Some, Option, enco
 use Rattle.std.proofs.Common.{encode_utf8_all, All, lit<, IsUtf8, ⊎_elim, codes}
 use Rattle.std.specs.Option.{option_map}
 use Rattle.std.proofs.lemmas.Str.{encode_ascii, encode_same, cons_from_encodes, encodes_same}
-use Rattle.std.proofs.{lemmas.Bool.Decides.nat_tests, lemmas.List.Elements.All-push}
+use Rattle.std.proofs.lemmas.Bool.{eqb-false, eqb-true, ne_eqb, Decides.nat_tests}
+use Rattle.std.proofs.lemmas.List.Elements.{All-head, All-push, All-tail}
 use Rattle.bpaf_base.specs.declared.arg.Arg.TheVariants.{Short, Long, ArgWord, Word}
 use Rattle.bpaf_base.specs.Items.{is_among}
 use Rattle.bpaf_words.specs.Spelling.{ShortNames, Known, IsNumberWord, SpellsByDash, number_word}
@@ -17,7 +18,7 @@ use Rattle.bpaf_words.specs.Spelling.{joined, Case, PlainWord, DashAlone, LongAl
 use Rattle.bpaf_words.specs.Spelling.{ShortAlone, ShortWithValue, ShortWithLongValue, JoinedFlags}
 use Rattle.bpaf_words.specs.Spelling.{JoinedWithArgument, JoinedWithNeither, JoinedWithBoth}
 use Rattle.bpaf_words.specs.Spelling.{case_of, joined_case_of, SpellingsAreUnique}
-use Rattle.bpaf_words.proofs.{Lists.All_head, Lists.All_tail, Numbers.number_or_not}
+use Rattle.bpaf_words.proofs.{Numbers.number_or_not}
 
 -- a text around its first `=`
 abbrev split_equals : List ℕ → Option (List ℕ × List ℕ)
@@ -35,7 +36,7 @@ no_equals_head b bs h = let n : b ≢ 61 = h 0 (omega arith) in grind (arith, na
 
 -- a text without `=`, behind another byte than `=`, makes a text without it
 no_equals_cons : (b : ℕ) (bs : List ℕ) → (b == 61) ≡ false → HasNoEquals bs → HasNoEquals (b ∷ bs)
-no_equals_cons b bs e h zero l = grind (arith, nat_tests)
+no_equals_cons b bs e h zero l = eqb-false b 61 e
 no_equals_cons b bs e h (suc i) l = h i (omega arith)
 
 -- a name without `=`, then `=` and a value: the text is split into these two
@@ -53,24 +54,19 @@ abbrev Splits : List ℕ → Option (List ℕ × List ℕ) → Type 0
 Splits bs None = HasNoEquals bs
 Splits bs (Some p) = (bs ≡ p.0 ++ 61 ∷ p.1) × HasNoEquals p.0
 
--- what a split says holds with one byte more in front that isn't `=`
-splits_more : (b : ℕ) (bs : List ℕ) (o : Option (List ℕ × List ℕ)) → (b == 61) ≡ false → Splits bs o
-    → Splits (b ∷ bs) (option_map (λ p. (b ∷ p.0, p.1)) o)
-splits_more b bs None e h = no_equals_cons b bs e h
-splits_more b bs (Some p) e h = (ap (λ x. b ∷ x) h.0, no_equals_cons b p.0 e h.1)
-
 -- what a split says of a text with one byte more in front, by whether it is `=`
-splits_by : (b : ℕ) (bs : List ℕ) (t : Bool) → (b == 61) ≡ t → Splits bs (split_equals bs)
-    → Splits (b ∷ bs) (if t then Some ([], bs) else option_map (λ p. (b ∷ p.0, p.1))
-    (split_equals bs))
-splits_by b bs true e h =
-    let at : b ≡ 61 = grind (arith, nat_tests) in (ap (λ x. x ∷ bs) at, λ i l. absurd (omega arith))
-splits_by b bs false e h = splits_more b bs (split_equals bs) e h
+splits_more : (b : ℕ) (bs : List ℕ) (t : Bool) (o : Option (List ℕ × List ℕ)) → (b == 61) ≡ t
+    → Splits bs o
+    → Splits (b ∷ bs) (if t then Some ([], bs) else option_map (λ p. (b ∷ p.0, p.1)) o)
+splits_more b bs true o e h =
+    (ap (λ x. x ∷ bs) (eqb-true b 61 e), λ i l. absurd (omega arith))
+splits_more b bs false None e h = no_equals_cons b bs e h
+splits_more b bs false (Some p) e h = (ap (λ x. b ∷ x) h.0, no_equals_cons b p.0 e h.1)
 
 -- a split says where the first `=` of a text stands, or that there is none
 splits : (bs : List ℕ) → Splits bs (split_equals bs)
 splits [] = λ i l. absurd (omega arith)
-splits (b ∷ bs) = splits_by b bs (b == 61) refl (splits bs)
+splits (b ∷ bs) = splits_more b bs (b == 61) (split_equals bs) refl (splits bs)
 
 module _ (names : ShortNames) (word : List ℕ) where
   -- joined characters, behind the flags fs
@@ -116,220 +112,199 @@ module _ (names : ShortNames) (word : List ℕ) where
   walk [] = (PlainWord, Items (Word word ∷ []))
   walk (c ∷ cs) = if c == 45 then walk_dash cs else (PlainWord, Items (Word word ∷ []))
 
--- the walk goes over flags
-over_flags : (names : ShortNames) (word fs gs cs : List ℕ) → All (IsKnownAs true false names) gs
-    → walk_joined names word fs (gs ++ cs) ≡ walk_joined names word (fs ++ gs) cs
-over_flags names word fs [] cs h = ap (λ x. walk_joined names word x cs) (sym (append-nil fs))
-over_flags names word fs (g ∷ gs) cs h =
-    let f = All_head (IsKnownAs true false names) g gs h in
-    rw (f.as_flag, f.as_argument) (over_flags names word (fs ++ g ∷ []) gs cs
-    (All_tail (IsKnownAs true false names) g gs h)
-    ∙ ap (λ x. walk_joined names word x cs) (append_assoc fs (g ∷ []) gs))
+  -- the walk goes over flags
+  over_flags : (fs gs cs : List ℕ) → All (IsKnownAs true false names) gs
+      → walk_joined fs (gs ++ cs) ≡ walk_joined (fs ++ gs) cs
+  over_flags fs [] cs h = ap (λ x. walk_joined x cs) (sym (append-nil fs))
+  over_flags fs (g ∷ gs) cs h =
+      let f = All-head (IsKnownAs true false names) g gs h in
+      rw (f.as_flag, f.as_argument) (over_flags (fs ++ g ∷ []) gs cs
+      (All-tail (IsKnownAs true false names) g gs h)
+      ∙ ap (λ x. walk_joined x cs) (append_assoc fs (g ∷ []) gs))
 
--- over joined characters the walk finds the case and the items of each spelling
-pub walk_finds_joined : (names : ShortNames) (word cs : List ℕ) (s : Spelling)
-    (a : SpellsJoined names word cs s) → walk_joined names word [] cs ≡ (joined_case_of a, s)
-walk_finds_joined names word cs s (flags h) =
-    ap (walk_joined names word []) (sym (append-nil cs)) ∙ over_flags names word [] cs [] h
-walk_finds_joined names word cs s (argument fs c rest e h i) =
-    ap (walk_joined names word []) e
-    ∙ (over_flags names word [] fs (c ∷ rest) h ∙ rw (i.as_flag, i.as_argument) refl)
-walk_finds_joined names word cs s (neither fs c rest e h i) =
-    ap (walk_joined names word []) e
-    ∙ (over_flags names word [] fs (c ∷ rest) h ∙ rw (i.as_flag, i.as_argument) refl)
-walk_finds_joined names word cs s (both fs c rest e h i) =
-    ap (walk_joined names word []) e
-    ∙ (over_flags names word [] fs (c ∷ rest) h ∙ rw (i.as_flag, i.as_argument) refl)
+  -- over joined characters the walk finds the case and the items of each spelling
+  pub walk_finds_joined : (cs : List ℕ) (s : Spelling)
+      (a : SpellsJoined names word cs s) → walk_joined [] cs ≡ (joined_case_of a, s)
+  walk_finds_joined cs s (flags h) =
+      ap (walk_joined []) (sym (append-nil cs)) ∙ over_flags [] cs [] h
+  walk_finds_joined cs s (argument fs c rest e h i) =
+      ap (walk_joined []) e
+      ∙ (over_flags [] fs (c ∷ rest) h ∙ rw (i.as_flag, i.as_argument) refl)
+  walk_finds_joined cs s (neither fs c rest e h i) =
+      ap (walk_joined []) e
+      ∙ (over_flags [] fs (c ∷ rest) h ∙ rw (i.as_flag, i.as_argument) refl)
+  walk_finds_joined cs s (both fs c rest e h i) =
+      ap (walk_joined []) e
+      ∙ (over_flags [] fs (c ∷ rest) h ∙ rw (i.as_flag, i.as_argument) refl)
 
--- a character other than `-` fails the test for `-`
-not_dash : (c : ℕ) → c ≢ 45 → (c == 45) ≡ false
-not_dash c n = grind (arith, nat_tests)
+  -- characters that begin with `-`
+  after_dash : (cs rest : List ℕ) → encode_utf8_all cs ≡ 45 ∷ rest → (es : List ℕ) × (cs ≡ 45 ∷ es)
+      × (encode_utf8_all es ≡ rest)
+  after_dash cs rest e = cons_from_encodes cs rest 45
+      (e ∙ ap (λ x. x ++ rest) (sym (encode_ascii 45 (lit< tt))))
 
--- characters that have no bytes are none
-nothing : (cs : List ℕ) → encode_utf8_all cs ≡ [] → cs ≡ []
-nothing cs e = encodes_same cs [] e
+  -- the walk over a word that doesn't begin with `-` finds the word itself
+  walk_plain : (cs : List ℕ) → word ≡ encode_utf8_all cs → ((rest : List ℕ) → word ≢ 45 ∷ rest)
+      → walk cs ≡ (PlainWord, Items (Word word ∷ []))
+  walk_plain [] w h = refl
+  walk_plain (c ∷ cs) w h =
+      rw (ne_eqb c 45 (λ d. h (encode_utf8_all cs)
+      (w ∙ ap (λ x. x ++ encode_utf8_all cs) (ap encode_utf8 d ∙ encode_ascii 45 (lit< tt)))))
+      refl
 
--- characters that begin with `-`
-after_dash : (cs rest : List ℕ) → encode_utf8_all cs ≡ 45 ∷ rest → (es : List ℕ) × (cs ≡ 45 ∷ es)
-    × (encode_utf8_all es ≡ rest)
-after_dash cs rest e = cons_from_encodes cs rest 45
-    (e ∙ ap (λ x. x ++ rest) (sym (encode_ascii 45 (lit< tt))))
+  -- in a word that begins with `--` the walk comes to what is behind it
+  to_long : (cs n : List ℕ) → word ≡ encode_utf8_all cs → word ≡ 45 ∷ 45 ∷ n
+      → walk cs ≡ walk_long n (split_equals n)
+  to_long cs n w e =
+      let one = after_dash cs (45 ∷ n) (sym w ∙ e) in
+      let two = after_dash one.0 n one.2 in
+      ap (walk) (one.1 ∙ ap (λ x. 45 ∷ x) two.1)
+      ∙ ap (λ x. walk_long x (split_equals x)) two.2
 
--- the walk over a word that doesn't begin with `-` finds the word itself
-walk_plain : (names : ShortNames) (word cs : List ℕ) → word ≡ encode_utf8_all cs
-    → ((rest : List ℕ) → word ≢ 45 ∷ rest)
-    → walk names word cs ≡ (PlainWord, Items (Word word ∷ []))
-walk_plain names word [] w h = refl
-walk_plain names word (c ∷ cs) w h =
-    rw (not_dash c (λ d. h (encode_utf8_all cs)
-    (w ∙ ap (λ x. x ++ encode_utf8_all cs) (ap encode_utf8 d ∙ encode_ascii 45 (lit< tt)))))
-    refl
+  -- in a word that begins with `-c` the walk comes to what is behind it
+  to_short : (cs : List ℕ) (c : ℕ) (tail : List ℕ) → word ≡ encode_utf8_all cs
+      → word ≡ 45 ∷ (encode_utf8 c ++ tail) → c ≢ 45 → (fs : List ℕ) × (encode_utf8_all fs ≡ tail)
+      × (walk cs ≡ walk_short c fs (split_equals tail))
+  to_short cs c tail w e n =
+      let one = after_dash cs (encode_utf8 c ++ tail) (sym w ∙ e) in
+      let two = cons_from_encodes one.0 tail c one.2 in (
+        two.0,
+        two.2,
+        ap (walk) (one.1 ∙ ap (λ x. 45 ∷ x) two.1)
+            ∙ rw (ne_eqb c 45 n) (ap (λ x. walk_short c two.0 (split_equals x)) two.2),
+      )
 
--- in a word that begins with `--` the walk comes to what is behind it
-to_long : (names : ShortNames) (word cs n : List ℕ) → word ≡ encode_utf8_all cs → word ≡ 45 ∷ 45 ∷ n
-    → walk names word cs ≡ walk_long names word n (split_equals n)
-to_long names word cs n w e =
-    let one = after_dash cs (45 ∷ n) (sym w ∙ e) in
-    let two = after_dash one.0 n one.2 in
-    ap (walk names word) (one.1 ∙ ap (λ x. 45 ∷ x) two.1)
-    ∙ ap (λ x. walk_long names word x (split_equals x)) two.2
+  -- behind `-c` a text before `=` that isn't empty belongs to the value
+  long_value_of : (c : ℕ) (r v : List ℕ) → r ≢ []
+      → walk_value c r v ≡ (
+        ShortWithLongValue,
+        Items (Short c true word ∷ ArgWord (r ++ 61 ∷ v) ∷ []),
+      )
+  long_value_of c [] v n = absurd (n refl)
+  long_value_of c (x ∷ xs) v n = refl
 
--- in a word that begins with `-c` the walk comes to what is behind it
-to_short : (names : ShortNames) (word cs : List ℕ) (c : ℕ) (tail : List ℕ)
-    → word ≡ encode_utf8_all cs → word ≡ 45 ∷ (encode_utf8 c ++ tail) → c ≢ 45
-    → (fs : List ℕ) × (encode_utf8_all fs ≡ tail)
-    × (walk names word cs ≡ walk_short names word c fs (split_equals tail))
-to_short names word cs c tail w e n =
-    let one = after_dash cs (encode_utf8 c ++ tail) (sym w ∙ e) in
-    let two = cons_from_encodes one.0 tail c one.2 in (
-      two.0,
-      two.2,
-      ap (walk names word) (one.1 ∙ ap (λ x. 45 ∷ x) two.1)
-          ∙ rw (not_dash c n) (ap (λ x. walk_short names word c two.0 (split_equals x)) two.2),
-    )
+  -- the walk finds the case and the items of each spelling
+  walk_finds : (cs : List ℕ) (s : Spelling) → word ≡ encode_utf8_all cs
+      → (a : SpellsByDash names word s) → walk cs ≡ (dash_case_of a, s)
+  walk_finds cs s w (plain h) = walk_plain cs w h
+  walk_finds cs s w (dash e) =
+      let one = after_dash cs [] (sym w ∙ e) in
+      ap (walk) (one.1 ∙ ap (λ x. 45 ∷ x) (encodes_same one.0 [] one.2))
+  walk_finds cs s w (long n e p h) =
+      to_long cs n w e ∙ ap (walk_long n) (split_none n h)
+  walk_finds cs s w (long_value n v e h) =
+      to_long cs (n ++ 61 ∷ v) w e
+      ∙ ap (walk_long (n ++ 61 ∷ v)) (split_at n v h)
+  walk_finds cs s w (short c e n) =
+      let t = to_short cs c [] w
+      (e ∙ ap (λ x. 45 ∷ x) (sym (append-nil (encode_utf8 c)))) n in
+      t.2 ∙ ap (λ x. walk_short c x None) (encodes_same t.0 [] t.1)
+  walk_finds cs s w (short_value c v e n) = (to_short cs c (61 ∷ v) w e n).2
+  walk_finds cs s w (short_long_value c r v e n p h) =
+      (to_short cs c (r ++ 61 ∷ v) w e n).2
+      ∙ (ap (walk_short c (to_short cs c (r ++ 61 ∷ v) w e n).0)
+      (split_at r v h) ∙ long_value_of c r v p)
+  walk_finds cs s w (joined c d ds x e n h j) =
+      let t = to_short cs c (encode_utf8_all (d ∷ ds)) w e n in
+      let same : t.0 ≡ d ∷ ds = encodes_same t.0 (d ∷ ds) t.1 in
+      t.2 ∙ (ap (walk_short c t.0) (split_none (encode_utf8_all (d ∷ ds)) h)
+      ∙ (ap (λ y. walk_short c y None) same
+      ∙ walk_finds_joined (c ∷ d ∷ ds) s j))
 
--- behind `-c` a text before `=` that isn't empty belongs to the value
-long_value_of : (names : ShortNames) (word : List ℕ) (c : ℕ) (r v : List ℕ) → r ≢ []
-    → walk_value names word c r v ≡ (
-      ShortWithLongValue,
-      Items (Short c true word ∷ ArgWord (r ++ 61 ∷ v) ∷ []),
-    )
-long_value_of names word c [] v n = absurd (n refl)
-long_value_of names word c (x ∷ xs) v n = refl
+  -- what the walk finds is a spelling
+  joined_by : (all fs : List ℕ) (c : ℕ) (cs : List ℕ) (f a : Bool)
+      → all ≡ fs ++ c ∷ cs → All (IsKnownAs true false names) fs → is_among names.flags c ≡ f
+      → is_among names.arguments c ≡ a
+      → (All (IsKnownAs true false names) (fs ++ c ∷ [])
+      → SpellsJoined names word all (walk_joined (fs ++ c ∷ []) cs).1)
+      → SpellsJoined names word all (walk_joined fs (c ∷ cs)).1
+  joined_by all fs c cs true true e h p q more =
+      rw (p, q) (both fs c cs e h (record { as_flag = p; as_argument = q }))
+  joined_by all fs c cs true false e h p q more =
+      rw (p, q) (more (All-push (IsKnownAs true false names) fs c h
+      (record { as_flag = p; as_argument = q })))
+  joined_by all fs c cs false true e h p q more =
+      rw (p, q) (argument fs c cs e h (record { as_flag = p; as_argument = q }))
+  joined_by all fs c cs false false e h p q more =
+      rw (p, q) (neither fs c cs e h (record { as_flag = p; as_argument = q }))
 
--- the walk finds the case and the items of each spelling
-walk_finds : (names : ShortNames) (word cs : List ℕ) (s : Spelling) → word ≡ encode_utf8_all cs
-    → (a : SpellsByDash names word s) → walk names word cs ≡ (dash_case_of a, s)
-walk_finds names word cs s w (plain h) = walk_plain names word cs w h
-walk_finds names word cs s w (dash e) =
-    let one = after_dash cs [] (sym w ∙ e) in
-    ap (walk names word) (one.1 ∙ ap (λ x. 45 ∷ x) (nothing one.0 one.2))
-walk_finds names word cs s w (long n e p h) =
-    to_long names word cs n w e ∙ ap (walk_long names word n) (split_none n h)
-walk_finds names word cs s w (long_value n v e h) =
-    to_long names word cs (n ++ 61 ∷ v) w e
-    ∙ ap (walk_long names word (n ++ 61 ∷ v)) (split_at n v h)
-walk_finds names word cs s w (short c e n) =
-    let t = to_short names word cs c [] w
-    (e ∙ ap (λ x. 45 ∷ x) (sym (append-nil (encode_utf8 c)))) n in
-    t.2 ∙ ap (λ x. walk_short names word c x None) (nothing t.0 t.1)
-walk_finds names word cs s w (short_value c v e n) = (to_short names word cs c (61 ∷ v) w e n).2
-walk_finds names word cs s w (short_long_value c r v e n p h) =
-    (to_short names word cs c (r ++ 61 ∷ v) w e n).2
-    ∙ (ap (walk_short names word c (to_short names word cs c (r ++ 61 ∷ v) w e n).0)
-    (split_at r v h) ∙ long_value_of names word c r v p)
-walk_finds names word cs s w (joined c d ds x e n h j) =
-    let t = to_short names word cs c (encode_utf8_all (d ∷ ds)) w e n in
-    let same : t.0 ≡ d ∷ ds = encodes_same t.0 (d ∷ ds) t.1 in
-    t.2 ∙ (ap (walk_short names word c t.0) (split_none (encode_utf8_all (d ∷ ds)) h)
-    ∙ (ap (λ y. walk_short names word c y None) same
-    ∙ walk_finds_joined names word (c ∷ d ∷ ds) s j))
+  -- joined characters spell what the walk over them finds
+  finds_joined : (all fs cs : List ℕ) → all ≡ fs ++ cs → All (IsKnownAs true false names) fs
+      → SpellsJoined names word all (walk_joined fs cs).1
+  finds_joined all fs [] e h =
+      let same : all ≡ fs = e ∙ append-nil fs in
+      subst (λ x. SpellsJoined names word all (Items (flags_of word x))) same
+      (flags (subst (All (IsKnownAs true false names)) (sym same) h))
+  finds_joined all fs (c ∷ cs) e h =
+      joined_by all fs c cs (is_among names.flags c)
+      (is_among names.arguments c) e h refl refl
+      (λ g. finds_joined all (fs ++ c ∷ []) cs (e ∙ sym (append_assoc fs (c ∷ []) cs)) g)
 
--- what the walk finds is a spelling
-joined_by : (names : ShortNames) (word all fs : List ℕ) (c : ℕ) (cs : List ℕ) (f a : Bool)
-    → all ≡ fs ++ c ∷ cs → All (IsKnownAs true false names) fs → is_among names.flags c ≡ f
-    → is_among names.arguments c ≡ a
-    → (All (IsKnownAs true false names) (fs ++ c ∷ [])
-    → SpellsJoined names word all (walk_joined names word (fs ++ c ∷ []) cs).1)
-    → SpellsJoined names word all (walk_joined names word fs (c ∷ cs)).1
-joined_by names word all fs c cs true true e h p q more =
-    rw (p, q) (both fs c cs e h (record { as_flag = p; as_argument = q }))
-joined_by names word all fs c cs true false e h p q more =
-    rw (p, q) (more (All-push (IsKnownAs true false names) fs c h
-    (record { as_flag = p; as_argument = q })))
-joined_by names word all fs c cs false true e h p q more =
-    rw (p, q) (argument fs c cs e h (record { as_flag = p; as_argument = q }))
-joined_by names word all fs c cs false false e h p q more =
-    rw (p, q) (neither fs c cs e h (record { as_flag = p; as_argument = q }))
+  -- a word that begins with `--` spells what the walk finds after it
+  finds_long : (n : List ℕ) (o : Option (List ℕ × List ℕ)) → word ≡ 45 ∷ 45 ∷ n → n ≢ []
+      → Splits n o → SpellsByDash names word (walk_long n o).1
+  finds_long n None w p h = long n w p h
+  finds_long n (Some p) w q h = long_value p.0 p.1 (w ∙ ap (λ x. 45 ∷ 45 ∷ x) h.0) h.1
 
--- joined characters spell what the walk over them finds
-finds_joined : (names : ShortNames) (word all fs cs : List ℕ) → all ≡ fs ++ cs
-    → All (IsKnownAs true false names) fs
-    → SpellsJoined names word all (walk_joined names word fs cs).1
-finds_joined names word all fs [] e h =
-    let same : all ≡ fs = e ∙ append-nil fs in
-    subst (λ x. SpellsJoined names word all (Items (flags_of word x))) same
-    (flags (subst (All (IsKnownAs true false names)) (sym same) h))
-finds_joined names word all fs (c ∷ cs) e h =
-    joined_by names word all fs c cs (is_among names.flags c)
-    (is_among names.arguments c) e h refl refl
-    (λ g. finds_joined names word all (fs ++ c ∷ []) cs (e ∙ sym (append_assoc fs (c ∷ []) cs)) g)
+  -- a word `-c=v` or `-cr=v` spells what the walk finds after `-c`
+  finds_value : (c : ℕ) (r v : List ℕ) → word ≡ 45 ∷ (encode_utf8 c ++ (r ++ 61 ∷ v)) → c ≢ 45
+      → HasNoEquals r → SpellsByDash names word (walk_value c r v).1
+  finds_value c [] v w n h = short_value c v w n
+  finds_value c (x ∷ xs) v w n h = short_long_value c (x ∷ xs) v w n (λ e. cc) h
 
--- a word that begins with `--` spells what the walk finds after it
-finds_long : (names : ShortNames) (word n : List ℕ) (o : Option (List ℕ × List ℕ))
-    → word ≡ 45 ∷ 45 ∷ n → n ≢ [] → Splits n o
-    → SpellsByDash names word (walk_long names word n o).1
-finds_long names word n None w p h = long n w p h
-finds_long names word n (Some p) w q h = long_value p.0 p.1 (w ∙ ap (λ x. 45 ∷ 45 ∷ x) h.0) h.1
+  -- a word that begins with `-c` spells what the walk finds after it
+  finds_short : (c : ℕ) (cs : List ℕ)
+      (o : Option (List ℕ × List ℕ)) → word ≡ 45 ∷ (encode_utf8 c ++ encode_utf8_all cs) → c ≢ 45
+      → Splits (encode_utf8_all cs) o → SpellsByDash names word (walk_short c cs o).1
+  finds_short c cs (Some p) w n h =
+      finds_value c p.0 p.1 (w ∙ ap (λ x. 45 ∷ (encode_utf8 c ++ x)) h.0) n h.1
+  finds_short c [] None w n h =
+      short c (w ∙ ap (λ x. 45 ∷ x) (append-nil (encode_utf8 c))) n
+  finds_short c (d ∷ ds) None w n h =
+      joined c d ds _ w n h (finds_joined (c ∷ d ∷ ds) [] (c ∷ d ∷ ds) refl
+      (λ k e l. absurd (omega arith)))
 
--- a word `-c=v` or `-cr=v` spells what the walk finds after `-c`
-finds_value : (names : ShortNames) (word : List ℕ) (c : ℕ) (r v : List ℕ)
-    → word ≡ 45 ∷ (encode_utf8 c ++ (r ++ 61 ∷ v)) → c ≢ 45 → HasNoEquals r
-    → SpellsByDash names word (walk_value names word c r v).1
-finds_value names word c [] v w n h = short_value c v w n
-finds_value names word c (x ∷ xs) v w n h = short_long_value c (x ∷ xs) v w n (λ e. cc) h
+  -- the bytes of characters that begin with `-`: its byte, then those of the others
+  dash_encodes : (c : ℕ) (cs : List ℕ) → c ≡ 45
+      → encode_utf8 c ++ encode_utf8_all cs ≡ 45 ∷ encode_utf8_all cs
+  dash_encodes c cs d = ap (λ x. x ++ encode_utf8_all cs)
+      (ap encode_utf8 d ∙ encode_ascii 45 (lit< tt))
 
--- a word that begins with `-c` spells what the walk finds after it
-finds_short : (names : ShortNames) (word : List ℕ) (c : ℕ) (cs : List ℕ)
-    (o : Option (List ℕ × List ℕ)) → word ≡ 45 ∷ (encode_utf8 c ++ encode_utf8_all cs) → c ≢ 45
-    → Splits (encode_utf8_all cs) o → SpellsByDash names word (walk_short names word c cs o).1
-finds_short names word c cs (Some p) w n h =
-    finds_value names word c p.0 p.1 (w ∙ ap (λ x. 45 ∷ (encode_utf8 c ++ x)) h.0) n h.1
-finds_short names word c [] None w n h =
-    short c (w ∙ ap (λ x. 45 ∷ x) (append-nil (encode_utf8 c))) n
-finds_short names word c (d ∷ ds) None w n h =
-    joined c d ds _ w n h (finds_joined names word (c ∷ d ∷ ds) [] (c ∷ d ∷ ds) refl
-    (λ k e l. absurd (omega arith)))
+  -- a word that begins with `-` spells what the walk finds, by whether another `-` follows
+  dash_by : (c : ℕ) (cs : List ℕ) (b : Bool) → (c == 45) ≡ b
+      → word ≡ 45 ∷ (encode_utf8 c ++ encode_utf8_all cs) → word ≢ 45 ∷ 45 ∷ []
+      → SpellsByDash names word (walk_dash (c ∷ cs)).1
+  dash_by c cs true e w n =
+      let at : word ≡ 45 ∷ 45 ∷ encode_utf8_all cs =
+      w ∙ ap (λ x. 45 ∷ x) (dash_encodes c cs (eqb-true c 45 e)) in
+      rw e (finds_long (encode_utf8_all cs) (split_equals (encode_utf8_all cs)) at
+      (λ z. n (at ∙ ap (λ x. 45 ∷ 45 ∷ x) z)) (splits (encode_utf8_all cs)))
+  dash_by c cs false e w n =
+      rw e (finds_short c cs (split_equals (encode_utf8_all cs)) w (eqb-false c 45 e)
+      (splits (encode_utf8_all cs)))
 
--- a character that passes the test for `-` is `-`
-is_dash : (c : ℕ) → (c == 45) ≡ true → c ≡ 45
-is_dash c e = grind (arith, nat_tests)
+  -- a word that begins with `-` spells what the walk finds after it
+  finds_dash : (cs : List ℕ) → word ≡ 45 ∷ encode_utf8_all cs
+      → word ≢ 45 ∷ 45 ∷ [] → SpellsByDash names word (walk_dash cs).1
+  finds_dash [] w n = dash w
+  finds_dash (c ∷ cs) w n = dash_by c cs (c == 45) refl w n
 
--- a character that fails the test for `-` isn't `-`
-no_dash : (c : ℕ) → (c == 45) ≡ false → c ≢ 45
-no_dash c e n = let t : true ≡ false = sym (ap (λ x. x == 45) n) ∙ e in cc
+  -- a word spells what the walk over it finds, by whether it begins with `-`
+  finds_by : (c : ℕ) (cs : List ℕ) (b : Bool) → (c == 45) ≡ b
+      → word ≡ encode_utf8 c ++ encode_utf8_all cs → word ≢ 45 ∷ 45 ∷ []
+      → SpellsByDash names word (walk (c ∷ cs)).1
+  finds_by c cs true e w n =
+      rw e (finds_dash cs (w ∙ dash_encodes c cs (eqb-true c 45 e)) n)
+  finds_by c cs false e w n =
+      rw e (plain (λ rest h. eqb-false c 45 e
+      (encode_same c 45 (encode_utf8_all cs) rest
+      (sym w ∙ (h ∙ ap (λ x. x ++ rest) (sym (encode_ascii 45 (lit< tt)))))).0))
 
--- the bytes of characters that begin with `-`: its byte, then those of the others
-dash_encodes : (c : ℕ) (cs : List ℕ) → c ≡ 45
-    → encode_utf8 c ++ encode_utf8_all cs ≡ 45 ∷ encode_utf8_all cs
-dash_encodes c cs d = ap (λ x. x ++ encode_utf8_all cs)
-    (ap encode_utf8 d ∙ encode_ascii 45 (lit< tt))
-
--- a word that begins with `-` spells what the walk finds, by whether another `-` follows
-dash_by : (names : ShortNames) (word : List ℕ) (c : ℕ) (cs : List ℕ) (b : Bool) → (c == 45) ≡ b
-    → word ≡ 45 ∷ (encode_utf8 c ++ encode_utf8_all cs) → word ≢ 45 ∷ 45 ∷ []
-    → SpellsByDash names word (walk_dash names word (c ∷ cs)).1
-dash_by names word c cs true e w n =
-    let at : word ≡ 45 ∷ 45 ∷ encode_utf8_all cs =
-    w ∙ ap (λ x. 45 ∷ x) (dash_encodes c cs (is_dash c e)) in
-    rw e (finds_long names word (encode_utf8_all cs) (split_equals (encode_utf8_all cs)) at
-    (λ z. n (at ∙ ap (λ x. 45 ∷ 45 ∷ x) z)) (splits (encode_utf8_all cs)))
-dash_by names word c cs false e w n =
-    rw e (finds_short names word c cs (split_equals (encode_utf8_all cs)) w (no_dash c e)
-    (splits (encode_utf8_all cs)))
-
--- a word that begins with `-` spells what the walk finds after it
-finds_dash : (names : ShortNames) (word cs : List ℕ) → word ≡ 45 ∷ encode_utf8_all cs
-    → word ≢ 45 ∷ 45 ∷ [] → SpellsByDash names word (walk_dash names word cs).1
-finds_dash names word [] w n = dash w
-finds_dash names word (c ∷ cs) w n = dash_by names word c cs (c == 45) refl w n
-
--- a word spells what the walk over it finds, by whether it begins with `-`
-finds_by : (names : ShortNames) (word : List ℕ) (c : ℕ) (cs : List ℕ) (b : Bool) → (c == 45) ≡ b
-    → word ≡ encode_utf8 c ++ encode_utf8_all cs → word ≢ 45 ∷ 45 ∷ []
-    → SpellsByDash names word (walk names word (c ∷ cs)).1
-finds_by names word c cs true e w n =
-    rw e (finds_dash names word cs (w ∙ dash_encodes c cs (is_dash c e)) n)
-finds_by names word c cs false e w n =
-    rw e (plain (λ rest h. no_dash c e
-    (encode_same c 45 (encode_utf8_all cs) rest
-    (sym w ∙ (h ∙ ap (λ x. x ++ rest) (sym (encode_ascii 45 (lit< tt)))))).0))
-
--- a word other than `--` spells what the walk over it finds
-finds : (names : ShortNames) (word cs : List ℕ) → word ≡ encode_utf8_all cs → word ≢ 45 ∷ 45 ∷ []
-    → SpellsByDash names word (walk names word cs).1
-finds names word [] w n = plain (λ rest h. let e : [] ≡ 45 ∷ rest = sym w ∙ h in cc)
-finds names word (c ∷ cs) w n = finds_by names word c cs (c == 45) refl w n
+  -- a word other than `--` spells what the walk over it finds
+  finds : (cs : List ℕ) → word ≡ encode_utf8_all cs → word ≢ 45 ∷ 45 ∷ []
+      → SpellsByDash names word (walk cs).1
+  finds [] w n = plain (λ rest h. let e : [] ≡ 45 ∷ rest = sym w ∙ h in cc)
+  finds (c ∷ cs) w n = finds_by c cs (c == 45) refl w n
 
 -- exactly one case holds of a word that isn't a number, with one answer
 record HasOneByDash (names : ShortNames) (word : List ℕ) : Type 0 where

@@ -1,10 +1,9 @@
 -- From what the calls on text say to the cases of a spelling.
-use Rattle.std.proofs.Common.{◌≡◌, ◌≢◌, ◌==◌, ℕ, zero, suc, Bool, true, false, List, [], ◌∷◌, ◌++◌}
+use Rattle.std.proofs.Common.{◌≡◌, ◌≢◌, ℕ, Bool, true, List, [], ◌∷◌, ◌++◌}
 use Rattle.std.proofs.Common.{length, refl, ap, sym, ◌∙◌, subst, arith, lit<, Option, None, Some}
 use Rattle.std.proofs.Common.{IfOk, Result, Ok, Err, encode_utf8, encode_utf8_all, IsUtf8}
 use Rattle.std.proofs.lemmas.Str.{encode_ascii, cons_from_encodes}
 use Rattle.std.proofs.lemmas.Str.Pattern.{NoCharPasses-char, IsSplitOnceResult, split_parts}
-use Rattle.std.proofs.lemmas.Bool.Decides.{nat_tests}
 use Rattle.bpaf_base.specs.declared.arg.Arg.{Arg}
 use Rattle.bpaf_base.specs.declared.arg.Arg.TheVariants.{Short, ArgWord}
 use Rattle.bpaf_words.specs.declared.split.SplitFault.{SplitFault}
@@ -123,12 +122,3 @@ pub first_letter : (letters all : List ℕ) (c : ℕ) (rest tail : List ℕ) →
     → all ≡ encode_utf8 c ++ rest → tail ≡ rest → letters ≡ encode_utf8 c ++ tail
 first_letter letters all c rest tail from is left =
     sym from ∙ (is ∙ ap (λ x. encode_utf8 c ++ x) (sym left))
-
--- a length that is zero doesn't fail the test for zero
-pub not_both : (n : ℕ) → n ≡ 0 → (n == 0) ≡ false → ⊥
-not_both zero e h = cc
-not_both (suc n) e h = omega arith
-
--- a length that passes the test for zero is zero
-pub is_zero : (n : ℕ) → (n == 0) ≡ true → n ≡ 0
-is_zero n h = grind (arith, nat_tests)

@@ -3,7 +3,8 @@ use Rattle.std.proofs.{Common.append-nil, Common.length, lemmas.List.nil_from_le
 use Rattle.bpaf_base.specs.declared.arg.Arg.TheVariants.{Short, Word, ArgWord}
 use Rattle.bpaf_words.specs.Spelling.{dash, short}
 use Rattle.bpaf_words.proofs.SplitLemmas.{other_than_dash, at_equals, no_equals, with_value}
-use Rattle.bpaf_words.proofs.SplitLemmas.{are_joined, not_both, is_zero, first_letter}
+use Rattle.bpaf_words.proofs.SplitLemmas.{are_joined, first_letter}
+use Rattle.std.proofs.lemmas.Bool.{eqb-false, eqb-true}
 use Rattle.bpaf_words.proofs.split.split_dashed.Goals.{then-is_empty-2, else-is_empty-2}
 use Rattle.bpaf_words.proofs.split.split_dashed.Goals as goal
 
@@ -21,7 +22,7 @@ returns-then-is_empty c names =
     let none = c.in_default.ensures in
     let starts = first_letter c.args.rest.now _ c.in-Some-next.c _ c.as_str-tail.result.now
     c.chars-letters.ensures.rest c.in-Some-next.ensures.steps.0 c.as_str-tail.ensures in
-    let empty = nil_from_length _ (is_zero _ (sym c.if-is_empty.ensures)) in (
+    let empty = nil_from_length _ (eqb-true _ 0 (sym c.if-is_empty.ensures)) in (
       Short c.in-Some-next.c false c.args.word.now ∷ [],
       short c.in-Some-next.c
           (c.requires.dashed ∙ ap (λ x. 45 ∷ x) (starts
@@ -38,7 +39,7 @@ returns-in_default-split_once c =
       are_joined c.args.word.now c.args.rest.now c.as_str-tail.result.now c.in-Some-next.c
           c.utf8.word c.requires.dashed starts
           (other_than_dash c.args.rest.now c.as_str-tail.result.now c.in-Some-next.c none starts)
-          (λ z. not_both _ z (sym c.if-is_empty.ensures))
+          (λ z. eqb-false _ 0 (sym c.if-is_empty.ensures) z)
           (no_equals c.as_str-tail.result.now c.in_default-split_once.ensures.cases),
       refl,
     )
@@ -58,10 +59,10 @@ returns c names =
           parts.0 parts.1
           (λ z. elim c.if-is_empty-2.branch [
             | then-is_empty-2 w ↦ ap (λ r. r.now) w.value-is
-            | else-is_empty-2 w ↦ absurd (not_both _ z (sym w.if-is_empty-2.ensures))
+            | else-is_empty-2 w ↦ absurd (eqb-false _ 0 (sym w.if-is_empty-2.ensures) z)
           ])
           (λ z. elim c.if-is_empty-2.branch [
-            | then-is_empty-2 w ↦ absurd (z (is_zero _ (sym w.if-is_empty-2.ensures)))
+            | then-is_empty-2 w ↦ absurd (z (eqb-true _ 0 (sym w.if-is_empty-2.ensures)))
             | else-is_empty-2 w ↦ ap (λ r. r.now) w.value-is
           ]),
       search rules,

@@ -9,14 +9,12 @@ pub loop-c-init : goal.loop-c-init
 loop-c-init c = rw c.chars-rest.ensures.rest (walked_none _ _ _ _)
 
 pub overflow_add-result : goal.overflow_add-result
-overflow_add-result c = omega (
-  arith,
-  walked_bound _ _ _ _ _ _ _ _ _ c.loop-c.invariant c.in-Some.ensures.steps.0,
-)
+overflow_add-result c =
+    omega (arith, walked_bound c.loop-c.invariant _ _ c.in-Some.ensures.steps.0)
 
 pub returns-in-true-true : goal.returns-in-true-true
 returns-in-true-true c =
-    stops_both _ _ _ _ _ _ _ _ _ c.loop-c.invariant c.in-Some.ensures.steps.0
+    stops_both c.loop-c.invariant _ _ c.in-Some.ensures.steps.0
     (record {
       as_flag = sym c.in-true-true.ensures.value;
       as_argument = sym c.in-true-true.ensures'.value;
@@ -24,7 +22,7 @@ returns-in-true-true c =
 
 pub returns-in-false-true : goal.returns-in-false-true
 returns-in-false-true c =
-    stops_argument _ _ _ _ _ _ _ _ _ _ c.loop-c.invariant c.in-Some.ensures.steps.0
+    stops_argument c.loop-c.invariant _ _ c.in-Some.ensures.steps.0 _
     (record {
       as_flag = sym c.in-false-true.ensures.value;
       as_argument = sym c.in-false-true.ensures'.value;
@@ -32,8 +30,8 @@ returns-in-false-true c =
     (rw (← c.as_str.ensures) c.in_ok-push_argument-in-false-true.ensures)
 
 pub returns-in-false-false : goal.returns-in-false-false
-returns-in-false-false c = stops_neither _ _ _ _ _ _ _ _ _ _ c.loop-c.invariant
-    c.in-Some.ensures.steps.0 (record {
+returns-in-false-false c = stops_neither c.loop-c.invariant _ _
+    c.in-Some.ensures.steps.0 _ (record {
       as_flag = sym c.in-false-false.ensures.value;
       as_argument = sym c.in-false-false.ensures'.value;
     })
@@ -43,13 +41,11 @@ returns-in-false-false c = stops_neither _ _ _ _ _ _ _ _ _ _ c.loop-c.invariant
     (c.len-before.ensures ∙ c.args.items.now.ok.0) c.loop-c.invariant.items))
 
 pub overflow_add-count : goal.overflow_add-count
-overflow_add-count c = omega (
-  arith,
-  walked_bound _ _ _ _ _ _ _ _ _ c.loop-c.invariant c.in-Some.ensures.steps.0,
-)
+overflow_add-count c =
+    omega (arith, walked_bound c.loop-c.invariant _ _ c.in-Some.ensures.steps.0)
 
 pub loop-c-preserved : goal.loop-c-preserved
-loop-c-preserved c = walked_more _ _ _ _ _ _ _ _ _ _ _ c.loop-c.invariant c.in-Some.ensures.steps.0
+loop-c-preserved c = walked_more c.loop-c.invariant _ _ c.in-Some.ensures.steps.0 _ _
     (record {
       as_flag = sym c.in-true-false.ensures.value;
       as_argument = sym c.in-true-false.ensures'.value;
@@ -62,4 +58,4 @@ loop-c-preserved c = walked_more _ _ _ _ _ _ _ _ _ _ _ c.loop-c.invariant c.in-S
     c.in_ok-push_flag-in-true-false.ensures
 
 pub returns : goal.returns
-returns c cs l = ends _ _ _ _ _ _ _ cs c.loop-c.invariant c.in_default.ensures.steps.0.0 l
+returns c cs l = ends c.loop-c.invariant cs c.in_default.ensures.steps.0.0 l
