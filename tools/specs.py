@@ -14,6 +14,9 @@ BEHIND = re.compile(r"(?<![\w.'])([^\W\d]\w*)\.([^\W\d]\w*'*)")
 USE = re.compile(r"(?m)^ *(?:pub |ghost )?use Rattle\.([\w.]+?)(?:\.\{(.*?)\})?(?: as (\w+))?;?$")
 HEAD = r"(?m)^{}(?:(?:abbrev|unfoldable|pub|record|data) )*([^\W\d]\w*'*)(?= [({{:])(?![^:]* =)"
 INSIDE = re.compile(r"(?m)^ +(?:pub )?((?:[^\W\d]\w*'* )*◌?\w+◌? ):(?= |$)")
+PIECE = re.compile(r"(?m)^(?=(?:  (?:pub )?)?[^\W\d])")
+BOUND = re.compile(r"λ ([^.λ]+)\.|[({]([^(){}:]+) : |[{;]\s*([^\W\d]\w*'*) = |(?m:^ *[^\W\d]\w*'*( [^:=\n]*)? =(?: |$))")
+FIELDS = re.compile(r" +(?:pub )?((?:[^\W\d]\w*'* )+): ")
 LIBRARIES = [*crates.needed(["bpaf_program", "bpaf_batteries"])]
 
 
@@ -23,8 +26,9 @@ def uses_of(text):
     for path, names, alias in USE.findall(text):
         found.update({alias: (path, None)} if alias else {})
         for it in names.split(", ") if names else []:
-            name, _, own = it.replace("◌", "").partition(" as ")
-            found[own or name] = (path, name)
+            inside, _, own = it.replace("◌", "").partition(" as ")
+            *below, name = inside.split(".")
+            found[own or name] = (".".join([path, *below]), name)
     return found
 
 
@@ -102,9 +106,20 @@ def meant(path, name):
     return there.names[name] if name in there.names else meant(*there.uses[name])
 
 
+def words_of(code):
+    """The words of a piece of code, but for those that it binds itself where they stand: parameters, patterns, fields."""
+    words, outer = {}, set()
+    for piece in PIECE.split(re.sub('"[^"]*"', '""', code)):
+        bound = {it for found in BOUND.findall(piece) for names in found for it in WORD.findall(names) if it[0].islower()}
+        inside, fields = piece.startswith(" "), FIELDS.match(piece)
+        words.update(dict.fromkeys(it for it in WORD.findall(piece) if it not in bound and not (inside and it in outer)))
+        outer = outer | set(WORD.findall(fields[1]) if fields else ()) if inside else bound
+    return words
+
+
 def cited(code, uses, names=()):
     """The definitions and the types that a piece of code names."""
-    words = dict.fromkeys(WORD.findall(code))
+    words = words_of(code)
     found = [names[it] if it in names else meant(*uses[it]) for it in words if it in names or it in uses]
     for file, name in dict.fromkeys(BEHIND.findall(code)):
         there = of_path(uses[file][0]) if file in uses and uses[file][1] is None else None

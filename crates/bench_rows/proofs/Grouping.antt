@@ -1,14 +1,88 @@
--- A group by what its constructor makes of the values: here the values themselves.
-use Rattle.std.proofs.Common.{◌≡◌, ◌+◌, ℕ, List, Result, Ok, Err, ⊎_elim, inl, inr}
-use Rattle.bpaf_doc.specs.Shape.{Part}
-use Rattle.bpaf_line.specs.{Situation.Situation, declared.error.Error.Error}
-use Rattle.bpaf_laws.specs.AdjacentGroup.{Failure, GroupOutcome, Narrowed, Probe, Searches, Tries}
-use Rattle.bpaf_laws.specs.AdjacentGroup.{TriedInVain, again, all_failed, answered, gave, none_gave}
-use Rattle.bpaf_laws.specs.AdjacentGroup.{none_tried, not_taken, place_count, refused, wanted}
+-- A group by what its constructor makes of the values, the members of a short list, and a check
+-- that accepts one text alone.
+use Rattle.std.proofs.Common.{◌≡◌, ℕ, Bool, List, Result, Ok, Err, Option, Some, None, sym, subst}
+use Rattle.std.proofs.Common.{⊎_elim, String, string_bytes, ◌+◌, inl, inr, ◌<◌, ◌≤◌, [], ◌∷◌}
+use Rattle.std.proofs.Common.{length, get_or, refl, arith}
+use Rattle.std.proofs.lemmas.List.Elements.{All-weaker}
+use Rattle.std.specs.declared.alloc.Global.{Global}
+use Rattle.bpaf_doc.specs.{declared.doc.Piece.Piece, Shape.Part, Shape.Any}
+use Rattle.bpaf_base.specs.{declared.arg.Arg.Arg, Items.item_text}
+use Rattle.bpaf_line.specs.declared.error.Message.TheVariants.{Memory, Missing}
+use Rattle.bpaf_line.specs.Situation.{Situation}
+use Rattle.bpaf_line.specs.{declared.error.Message.Message, declared.error.Error.Error}
+use Rattle.bpaf_laws.specs.Leaves.{Looks, AnyOutcome, AnyFails, ArePassed, ChecksText}
+use Rattle.bpaf_laws.specs.Adjacent.{Failure, GroupOutcome, Narrowed, Probe, Searches, Tries}
+use Rattle.bpaf_laws.specs.Adjacent.{TriedInVain, again, all_failed, answered, gave, none_gave}
+use Rattle.bpaf_laws.specs.Adjacent.{none_tried, not_taken, place_count, refused, wanted, whole}
 use Rattle.bpaf_laws.specs.Reading.{HasPlace, IsEmptyShare, Outcome, Share}
-use Rattle.bpaf_laws.specs.{AdjacentGroup.whole, Product.ProductOutcome}
-use Rattle.bench_rows.specs.Groups.{BegunOutcome}
-use Rattle.bench_values.specs.{Told.ToldOutcome, declared.value.Value.Value}
+use Rattle.bpaf_laws.specs.Product.{ProductOutcome}
+use Rattle.bench_rows.specs.Levels.{AcceptsText, BegunOutcome}
+use Rattle.bench_values.specs.{declared.value.Value.Value, Modifiers.ToldOutcome}
+
+module _ {T : Type 0} (looks more : Looks T)
+    (allows : (text : List ℕ) (found : Option T) → looks text found → more text found)
+    (part : Part) (anywhere : Bool) (s t : Situation) where
+  -- items that are passed by are so by a look that allows more
+  passed_more : (items : List (ℕ × Arg)) → ArePassed looks items → ArePassed more items
+  passed_more items = All-weaker (λ placed. looks (item_text placed.1) None)
+      (λ placed. more (item_text placed.1) None) (λ placed. allows (item_text placed.1) None) items
+
+  -- so is a refusal
+  fails_more : (m : Message) → AnyFails looks part anywhere s m t
+      → AnyFails more part anywhere s m t
+  fails_more (Missing items) fails = ((passed_more _ fails.0.0, fails.0.1), fails.1)
+  fails_more Memory fails = fails
+  fails_more other fails = absurd fails
+
+  -- and what is answered
+  any_more : (r : Result T Error) → AnyOutcome looks part anywhere s r t
+      → AnyOutcome more part anywhere s r t
+  any_more (Ok v) o = (
+    o.0,
+    o.1,
+    record {
+      before = o.2.before;
+      after = o.2.after;
+      split = o.2.split;
+      passed = passed_more o.2.before o.2.passed;
+      matched = allows _ (Some v) o.2.matched;
+    },
+    o.3,
+  )
+  any_more (Err e) o = fails_more e.0 o
+
+-- what a value means as a text
+abbrev pub MeansText : List ℕ → String Global → Type 0
+MeansText text kept = string_bytes kept ≡ text
+
+-- a check of texts that accepts the wanted one alone is a look that does
+accepts_text : (accepted : String Global) (checks : String Global → Option Value → Type 0)
+    → ((x : String Global) (found : Option Value) → checks x found
+    → AcceptsText (string_bytes accepted) (string_bytes x) found)
+    → (text : List ℕ) (found : Option Value) → ChecksText MeansText checks text found
+    → AcceptsText (string_bytes accepted) text found
+accepts_text accepted checks by text (Some v) look =
+    subst (λ bytes. AcceptsText (string_bytes accepted) bytes (Some v)) look.1
+    (by look.0 (Some v) look.2)
+accepts_text accepted checks by text None look = ⊎_elim (λ unread. λ same. unread accepted (sym same))
+    (λ seen. subst (λ bytes. AcceptsText (string_bytes accepted) bytes None) seen.1
+    (by seen.0 None seen.2)) look
+
+-- what `any` answers by such a check, shown by an equal metavar
+pub accepted_by : (accepted : String Global) (checks : String Global → Option Value → Type 0)
+    → ((x : String Global) (found : Option Value) → checks x found
+    → AcceptsText (string_bytes accepted) (string_bytes x) found)
+    → (metavar shown : List Piece) → metavar ≡ shown
+    → (anywhere : Bool) (s t : Situation) (r : Result Value Error)
+    → AnyOutcome (ChecksText MeansText checks) (Any metavar None anywhere) anywhere s r t
+    → AnyOutcome (AcceptsText (string_bytes accepted)) (Any shown None anywhere) anywhere s r t
+accepted_by accepted checks by metavar shown is anywhere s t r o =
+    let accepts = AcceptsText (string_bytes accepted) in
+    subst (λ doc. AnyOutcome accepts (Any doc None anywhere) anywhere s r t) is
+    (any_more (ChecksText MeansText checks) accepts (accepts_text accepted checks by)
+    (Any metavar None anywhere) anywhere s t r o)
+
+-- A group by what its constructor makes of the values: here the values themselves.
 
 -- each answer of the one is one of the other
 abbrev pub Allows : {T : Type 0} → Outcome T → Outcome T → Type 0
@@ -90,3 +164,32 @@ begun_by {V} fast makes told first s t (Err e) ran same =
     first in
     ⊎_elim (λ refusal. inl (by (Err e) t refusal))
     (λ short. inr (short.0, by (Ok short.0) t short.1, short.2)) ran
+
+-- two members
+pub two_members : {T : Type 0} (xs : List T) (a b : T) → 2 ≤ length xs → length xs < 3
+    → a ≡ get_or xs 0 a → b ≡ get_or xs 1 b → xs ≡ a ∷ b ∷ []
+two_members [] a b at_least below ea eb = absurd (omega (arith, at_least))
+two_members (p ∷ []) a b at_least below ea eb = absurd (omega (arith, at_least))
+two_members (p ∷ q ∷ []) a b at_least below ea eb = rw (ea, eb) refl
+two_members (p ∷ q ∷ r ∷ xs) a b at_least below ea eb = absurd (omega (arith, below))
+
+-- three members
+pub three_members : {T : Type 0} (xs : List T) (a b c : T) → 3 ≤ length xs → length xs < 4
+    → a ≡ get_or xs 0 a → b ≡ get_or xs 1 b → c ≡ get_or xs 2 c → xs ≡ a ∷ b ∷ c ∷ []
+three_members [] a b c at_least below ea eb ec = absurd (omega (arith, at_least))
+three_members (p ∷ []) a b c at_least below ea eb ec = absurd (omega (arith, at_least))
+three_members (p ∷ q ∷ []) a b c at_least below ea eb ec = absurd (omega (arith, at_least))
+three_members (p ∷ q ∷ r ∷ []) a b c at_least below ea eb ec = rw (ea, eb, ec) refl
+three_members (p ∷ q ∷ r ∷ s ∷ xs) a b c at_least below ea eb ec = absurd (omega (arith, below))
+
+-- four members
+pub four_members : {T : Type 0} (xs : List T) (a b c d : T) → 4 ≤ length xs → length xs < 5
+    → a ≡ get_or xs 0 a → b ≡ get_or xs 1 b → c ≡ get_or xs 2 c → d ≡ get_or xs 3 d
+    → xs ≡ a ∷ b ∷ c ∷ d ∷ []
+four_members [] a b c d at_least below ea eb ec ed = absurd (omega (arith, at_least))
+four_members (p ∷ []) a b c d at_least below ea eb ec ed = absurd (omega (arith, at_least))
+four_members (p ∷ q ∷ []) a b c d at_least below ea eb ec ed = absurd (omega (arith, at_least))
+four_members (p ∷ q ∷ r ∷ []) a b c d at_least below ea eb ec ed = absurd (omega (arith, at_least))
+four_members (p ∷ q ∷ r ∷ s ∷ []) a b c d at_least below ea eb ec ed = rw (ea, eb, ec, ed) refl
+four_members (p ∷ q ∷ r ∷ s ∷ t ∷ xs) a b c d at_least below ea eb ec ed =
+    absurd (omega (arith, below))

@@ -1,3 +1,1 @@
-pub mod Accepting
 pub mod Grouping
-pub mod Members

@@ -1,22 +1,297 @@
--- A level: what its kind makes of the inner parsers.
-use Rattle.std.specs.Prelude.{List, None}
-use Rattle.bpaf_doc.specs.Shape.{Shape}
-use Rattle.bpaf_words.specs.Spelling.{ShortNames}
-use Rattle.bpaf_laws.specs.ShownNames.{ShowsNames, all_shorts}
-use Rattle.bpaf_laws.proofs.ShownNames.{choices_show, command_shows, group_shows}
+-- A level: what its kind makes of the inner parsers, of several of one type or of a group of them.
+use Rattle.std.specs.Prelude.{◌≡◌, List, [], ◌∷◌, ℕ, codes, refl, Result, Ok, Err, None, ◌≢◌, Some}
+use Rattle.std.specs.Prelude.{String, string_bytes}
+use Rattle.std.specs.declared.alloc.Global.{Global}
+use Rattle.bpaf_doc.specs.Shape.{Shape, Skip, Part, part_of}
+use Rattle.bpaf_doc.specs.declared.item.Item.{Item}
+use Rattle.bpaf_words.specs.Line.{ShortNames}
+use Rattle.bpaf_laws.specs.Laws.{ShowsNames, joined_shorts, no_shorts, Lawful, Keeps, Reads}
+use Rattle.bpaf_laws.specs.Laws.{NamesAnswer, all_shorts}
+use Rattle.bpaf_laws.specs.Choice.{ChoiceOutcome, ChoiceReads, ChoiceDescribes, ChoicesOutcome}
+use Rattle.bpaf_laws.specs.Choice.{ChoicesReads, ChoicesDescribes}
+use Rattle.bpaf_laws.specs.Product.{BothOutcome, BothReads, BothDescribes, LastDescribes}
+use Rattle.bpaf_laws.specs.Product.{ProductOutcome, ProductDescribes, FailFastOutcome}
+use Rattle.bpaf_laws.specs.Combinators.{GivesRefusal, PureOutcome, PureReads, MapReads}
 use Rattle.bpaf_laws.specs.Reading.{Readings, Outcome}
-use Rattle.bpaf_laws.specs.Choices.{ChoicesOutcome, ChoicesReads, ChoicesDescribes}
-use Rattle.bpaf_laws.proofs.ChoicesLaws.{choices_lawful}
-use Rattle.bench_values.specs.Commands.{CalledOutcome, CalledReads, called_lawful}
-use Rattle.bpaf_laws.specs.{Laws.Lawful, Command.CommandDescribes, AdjacentGroup.GroupDescribes}
+use Rattle.bpaf_laws.specs.Adjacent.{GroupOutcome, StretchReads, GroupDescribes}
+use Rattle.bpaf_laws.specs.{Command.CommandDescribes, Leaves.Looks}
+use Rattle.bpaf_laws.proofs.ShownNames.{both_show, choice_shows, last_shows, one_shape}
+use Rattle.bpaf_laws.proofs.ShownNames.{product_shows, choices_show, command_shows, group_shows}
+use Rattle.bpaf_laws.proofs.ChoiceLaws.{choice_lawful, choices_lawful}
+use Rattle.bpaf_laws.proofs.ProductLaws.{both_lawful, product_lawful, fail_fast_lawful}
+use Rattle.bpaf_laws.proofs.Keeping.{keeps_refl, names_same}
+use Rattle.bpaf_laws.proofs.{LeafLaws.refusal_lawful, AdjacentLaws.group_lawful}
+use Rattle.bench_values.specs.Modifiers.{ToldPair, ToldTriple, ToldQuadruple, ToldOutcome}
+use Rattle.bench_values.specs.Modifiers.{told_lawful, CalledOutcome, CalledReads, called_lawful}
 use Rattle.bench_values.specs.Modifiers.{Clones, OverOutcome, OverReads, OverDescribes, over_lawful}
 use Rattle.bench_values.specs.Modifiers.{over_shorts, over_shows}
-use Rattle.bench_rows.specs.Groups.{TogetherOutcome, TogetherReads, together_lawful}
-use Rattle.bench_rows.specs.Several.{TupleOutcome, TupleReads, TupleDescribes, tuple_lawful}
-use Rattle.bench_rows.specs.Several.{OrElseOutcome, OrElseReads, OrElseDescribes, or_else_lawful}
-use Rattle.bench_rows.specs.Several.{or_else_shorts, or_else_shows, tuple_shorts, tuple_shows}
 use Rattle.bench_values.specs.{declared.value.Value.Value, declared.kind.Kind.Kind}
+use Rattle.bpaf_line.specs.Situation.{Situation}
+use Rattle.bpaf_line.specs.{declared.error.Message.TheVariants.Memory, declared.error.Error.Error}
+use Rattle.bpaf.specs.declared.adjacent.AdjacentError.TheVariants.{NoFirstItem}
+use Rattle.bpaf.specs.Remembering.{IsFirstOf, IsRefused}
+use Rattle.bpaf_core.specs.declared.parser.Parser.{Ghosts}
 use Rattle.bench_values.specs.declared.kind.Kind.TheVariants as kind
+use Rattle.bench_values.specs.declared.value.Value.TheVariants as value
+
+-- the message of any other number of parsers, which refuse every line
+abbrev pub wrong_number : List ℕ
+wrong_number = codes "wrong number of parsers"
+
+-- the product of fields, whose values stay nested pairs and are told as one value
+abbrev pub NestedOutcome : {V : Type 0} → Outcome V → (V → Value → Type 0) → Outcome Value
+NestedOutcome fields told = ToldOutcome (ProductOutcome fields (λ x v. v ≡ x)) told
+
+-- what is read of it
+abbrev pub NestedReads : {V : Type 0} → Readings V → (V → Value → Type 0) → Readings Value
+NestedReads {V} reads told = MapReads V Value (MapReads V V reads (λ x v. v ≡ x)) told
+
+-- it keeps to the laws where its fields do
+nested_lawful : {V : Type 0} {fields : Outcome V} {reads : Readings V} (told : V → Value → Type 0)
+    → Lawful V fields reads → Lawful Value (NestedOutcome fields told) (NestedReads reads told)
+nested_lawful told law = told_lawful told (product_lawful (λ x v. v ≡ x) law)
+
+-- the product of two parsers
+abbrev pub TwoOutcome : Outcome Value → Outcome Value → Outcome Value
+TwoOutcome p q = NestedOutcome (BothOutcome p q) ToldPair
+
+-- the product of three parsers
+abbrev pub ThreeOutcome : Outcome Value → Outcome Value → Outcome Value → Outcome Value
+ThreeOutcome p q r = NestedOutcome (BothOutcome p (BothOutcome q r)) ToldTriple
+
+-- the product of four parsers
+abbrev pub FourOutcome : Outcome Value → Outcome Value → Outcome Value → Outcome Value
+    → Outcome Value
+FourOutcome p q r s = NestedOutcome (BothOutcome p (BothOutcome q (BothOutcome r s))) ToldQuadruple
+
+-- the fields of two parsers, as they read
+abbrev pub TwoFields : Readings Value → Readings Value → Readings (Value × Value)
+TwoFields p q = BothReads Value Value p q
+
+-- the fields of three parsers
+abbrev pub ThreeFields : Readings Value → Readings Value → Readings Value
+    → Readings (Value × (Value × Value))
+ThreeFields p q r = BothReads Value (Value × Value) p (TwoFields q r)
+
+-- the fields of four parsers
+abbrev pub FourFields : Readings Value → Readings Value → Readings Value → Readings Value
+    → Readings (Value × (Value × (Value × Value)))
+FourFields p q r s = BothReads Value (Value × (Value × Value)) p (ThreeFields q r s)
+
+-- what a parser shows
+abbrev pub Describes : Type 1
+Describes = Shape → Type 0
+
+-- what two fields show, the one after the other
+abbrev pub TwoDescribe : Describes → Describes → List Shape → Type 0
+TwoDescribe p q = BothDescribes p (LastDescribes q)
+
+-- what three fields show
+abbrev pub ThreeDescribe : Describes → Describes → Describes → List Shape → Type 0
+ThreeDescribe p q r = BothDescribes p (TwoDescribe q r)
+
+-- what four fields show
+abbrev pub FourDescribe : Describes → Describes → Describes → Describes → List Shape → Type 0
+FourDescribe p q r s = BothDescribes p (ThreeDescribe q r s)
+
+-- the product of two, three or four parsers
+abbrev pub TupleOutcome : {P : Type 0} → (P → Outcome Value) → List P → Outcome Value
+TupleOutcome o (p ∷ q ∷ []) = TwoOutcome (o p) (o q)
+TupleOutcome o (p ∷ q ∷ r ∷ []) = ThreeOutcome (o p) (o q) (o r)
+TupleOutcome o (p ∷ q ∷ r ∷ s ∷ []) = FourOutcome (o p) (o q) (o r) (o s)
+TupleOutcome o _ = PureOutcome (GivesRefusal wrong_number)
+
+-- what is read of it
+abbrev pub TupleReads : {P : Type 0} → (P → Readings Value) → List P → Readings Value
+TupleReads f (p ∷ q ∷ []) = NestedReads (TwoFields (f p) (f q)) ToldPair
+TupleReads f (p ∷ q ∷ r ∷ []) = NestedReads (ThreeFields (f p) (f q) (f r)) ToldTriple
+TupleReads f (p ∷ q ∷ r ∷ s ∷ []) = NestedReads (FourFields (f p) (f q) (f r) (f s)) ToldQuadruple
+TupleReads f _ = PureReads (λ v. ⊥)
+
+-- what it shows
+abbrev pub TupleDescribes : {P : Type 0} → (P → Describes) → List P → Shape → Type 0
+TupleDescribes d (p ∷ q ∷ []) shape = ProductDescribes (TwoDescribe (d p) (d q)) shape
+TupleDescribes d (p ∷ q ∷ r ∷ []) shape = ProductDescribes (ThreeDescribe (d p) (d q) (d r)) shape
+TupleDescribes d (p ∷ q ∷ r ∷ s ∷ []) shape =
+    ProductDescribes (FourDescribe (d p) (d q) (d r) (d s)) shape
+TupleDescribes d _ shape = shape ≡ Skip
+
+-- the short names that it shows
+abbrev pub tuple_shorts : {P : Type 0} → (P → ShortNames) → List P → ShortNames
+tuple_shorts n (p ∷ q ∷ []) = joined_shorts (n p) (n q)
+tuple_shorts n (p ∷ q ∷ r ∷ []) = joined_shorts (n p) (joined_shorts (n q) (n r))
+tuple_shorts n (p ∷ q ∷ r ∷ s ∷ []) =
+    joined_shorts (n p) (joined_shorts (n q) (joined_shorts (n r) (n s)))
+tuple_shorts n _ = no_shorts
+
+-- so it does where its parsers show theirs
+pub tuple_shows : {P : Type 0} (d : P → Describes) (n : P → ShortNames)
+    → ((p : P) → ShowsNames (d p) (n p)) → (ps : List P)
+    → ShowsNames (TupleDescribes d ps) (tuple_shorts n ps)
+tuple_shows d n each (p ∷ q ∷ []) = product_shows (both_show (each p) (last_shows (each q)))
+tuple_shows d n each (p ∷ q ∷ r ∷ []) =
+    product_shows (both_show (each p) (both_show (each q) (last_shows (each r))))
+tuple_shows d n each (p ∷ q ∷ r ∷ s ∷ []) =
+    let last_two = both_show (each r) (last_shows (each s)) in
+    product_shows (both_show (each p) (both_show (each q) last_two))
+tuple_shows d n each _ = one_shape refl
+
+-- it keeps to the laws where its parsers do
+pub tuple_lawful : {P : Type 0} (o : P → Outcome Value) (f : P → Readings Value) (ps : List P)
+    → ((p : P) → Lawful Value (o p) (f p)) → Lawful Value (TupleOutcome o ps) (TupleReads f ps)
+tuple_lawful o f (p ∷ q ∷ []) each = nested_lawful ToldPair (both_lawful (each p) (each q))
+tuple_lawful o f (p ∷ q ∷ r ∷ []) each =
+    nested_lawful ToldTriple (both_lawful (each p) (both_lawful (each q) (each r)))
+tuple_lawful o f (p ∷ q ∷ r ∷ s ∷ []) each =
+    let last_two = both_lawful (each r) (each s) in
+    nested_lawful ToldQuadruple (both_lawful (each p) (both_lawful (each q) last_two))
+tuple_lawful o f _ each = refusal_lawful wrong_number
+
+-- the first that reads of two or three parsers
+abbrev pub OrElseOutcome : {P : Type 0} → (P → Outcome Value) → List P → Outcome Value
+OrElseOutcome o (p ∷ q ∷ []) = ChoiceOutcome (o p) (o q)
+OrElseOutcome o (p ∷ q ∷ r ∷ []) = ChoiceOutcome (ChoiceOutcome (o p) (o q)) (o r)
+OrElseOutcome o _ = PureOutcome (GivesRefusal wrong_number)
+
+-- what is read of it
+abbrev pub OrElseReads : {P : Type 0} → (P → Readings Value) → List P → Readings Value
+OrElseReads f (p ∷ q ∷ []) = ChoiceReads (f p) (f q)
+OrElseReads f (p ∷ q ∷ r ∷ []) = ChoiceReads (ChoiceReads (f p) (f q)) (f r)
+OrElseReads f _ = PureReads (λ v. ⊥)
+
+-- what it shows
+abbrev pub OrElseDescribes : {P : Type 0} → (P → Describes) → List P → Shape → Type 0
+OrElseDescribes d (p ∷ q ∷ []) shape = ChoiceDescribes (d p) (d q) shape
+OrElseDescribes d (p ∷ q ∷ r ∷ []) shape = ChoiceDescribes (ChoiceDescribes (d p) (d q)) (d r) shape
+OrElseDescribes d _ shape = shape ≡ Skip
+
+-- the short names that it shows
+abbrev pub or_else_shorts : {P : Type 0} → (P → ShortNames) → List P → ShortNames
+or_else_shorts n (p ∷ q ∷ []) = joined_shorts (n p) (n q)
+or_else_shorts n (p ∷ q ∷ r ∷ []) = joined_shorts (joined_shorts (n p) (n q)) (n r)
+or_else_shorts n _ = no_shorts
+
+-- so it does where its parsers show theirs
+pub or_else_shows : {P : Type 0} (d : P → Describes) (n : P → ShortNames)
+    → ((p : P) → ShowsNames (d p) (n p)) → (ps : List P)
+    → ShowsNames (OrElseDescribes d ps) (or_else_shorts n ps)
+or_else_shows d n each (p ∷ q ∷ []) = choice_shows (each p) (each q)
+or_else_shows d n each (p ∷ q ∷ r ∷ []) = choice_shows (choice_shows (each p) (each q)) (each r)
+or_else_shows d n each _ = one_shape refl
+
+-- it keeps to the laws where its parsers do
+pub or_else_lawful : {P : Type 0} (o : P → Outcome Value) (f : P → Readings Value) (ps : List P)
+    → ((p : P) → Lawful Value (o p) (f p)) → Lawful Value (OrElseOutcome o ps) (OrElseReads f ps)
+or_else_lawful o f (p ∷ q ∷ []) each = choice_lawful (each p) (each q)
+or_else_lawful o f (p ∷ q ∷ r ∷ []) each = choice_lawful (choice_lawful (each p) (each q)) (each r)
+or_else_lawful o f _ each = refusal_lawful wrong_number
+
+-- Adjacent groups of parsers of one type.
+
+-- the message of a group whose fields show no item first
+abbrev pub no_first_item : List ℕ
+no_first_item = codes "no first item"
+
+-- a group of fields that begins with this item: their values stay nested pairs and are told as one
+-- value
+abbrev pub BegunOutcome : {V : Type 0} → Outcome V → (V → Value → Type 0) → Part → Outcome Value
+BegunOutcome {V} fast told first =
+    ToldOutcome (GroupOutcome V (ProductOutcome fast (λ x v. v ≡ x)) first) told
+
+-- a group that begins with an item which its fields show first; a refusal where they show none; or
+-- want of memory for a copy of that item
+pub data GroupedOutcome {V : Type 0} (fast : Outcome V) (describes : List Shape → Type 0)
+    (told : V → Value → Type 0) (s : Situation) : Result Value Error → Situation → Type 0 where
+  begun : (item : Item) (r : Result Value Error) (t : Situation)
+      → IsFirstOf (ProductDescribes describes) item
+      → BegunOutcome fast told (part_of item) s r t → GroupedOutcome fast describes told s r t
+  headless : (r : Result Value Error) (t : Situation)
+      → IsRefused (ProductDescribes describes) NoFirstItem
+      → PureOutcome (GivesRefusal no_first_item) s r t → GroupedOutcome fast describes told s r t
+  wanted : (e : Error) → e.0 ≡ Memory → GroupedOutcome fast describes told s (Err e) s
+
+-- what is read of it
+abbrev pub GroupedReads : {V : Type 0} → Readings V → (V → Value → Type 0) → Readings Value
+GroupedReads {V} reads told =
+    MapReads V Value (StretchReads V (MapReads V V reads (λ x v. v ≡ x))) told
+
+-- a group that begins with an item keeps to the laws where its fields do
+begun_lawful : {V : Type 0} {fast : Outcome V} {reads : Readings V} (told : V → Value → Type 0)
+    (first : Part) → Lawful V fast reads
+    → Lawful Value (BegunOutcome fast told first) (GroupedReads reads told)
+begun_lawful told first law =
+    told_lawful told (group_lawful first (product_lawful (λ x v. v ≡ x) law))
+
+module _ {V : Type 0} {fast : Outcome V} {reads : Readings V} (describes : List Shape → Type 0)
+    (told : V → Value → Type 0) (law : Lawful V fast reads) (s : Situation) where
+  -- a value of a group is a reading
+  grouped_ok : (v : Value) (t : Situation) → GroupedOutcome fast describes told s (Ok v) t
+      → Reads Value (GroupedReads reads told) s v t
+  grouped_ok v t (begun item r t' shown ran) = (begun_lawful told (part_of item) law).ok s t v ran
+  grouped_ok v t (headless r t' none refused) = absurd refused.0
+
+  -- a refusal keeps all
+  grouped_err : (e : Error) (t : Situation) → GroupedOutcome fast describes told s (Err e) t
+      → Keeps s t
+  grouped_err e t (begun item r t' shown ran) = (begun_lawful told (part_of item) law).err s t e ran
+  grouped_err e t (headless r t' none refused) =
+      (refusal_lawful {T = Value} no_first_item).err s t e refused
+  grouped_err e t (wanted e' memory) = keeps_refl s
+
+  -- a refusal names its answer
+  grouped_named : (e : Error) (t : Situation) → GroupedOutcome fast describes told s (Err e) t
+      → NamesAnswer e.0
+  grouped_named e t (begun item r t' shown ran) =
+      (begun_lawful told (part_of item) law).named s t e ran
+  grouped_named e t (headless r t' none refused) =
+      (refusal_lawful {T = Value} no_first_item).named s t e refused
+  grouped_named e t (wanted e' memory) = names_same e.0 Memory tt memory
+
+-- a group keeps to the laws where its fields do
+grouped_lawful : {V : Type 0} {fast : Outcome V} {reads : Readings V}
+    (describes : List Shape → Type 0) (told : V → Value → Type 0) → Lawful V fast reads
+    → Lawful Value (GroupedOutcome fast describes told) (GroupedReads reads told)
+grouped_lawful describes told law = record {
+  ok = λ s t v o. grouped_ok describes told law s v t o;
+  err = λ s t e o. grouped_err describes told law s e t o;
+  named = λ s t e o. grouped_named describes told law s e t o;
+}
+
+-- the group of two parsers
+abbrev pub TwoGrouped : Outcome Value → Outcome Value → Describes → Describes → Outcome Value
+TwoGrouped p q dp dq = GroupedOutcome (FailFastOutcome p q) (TwoDescribe dp dq) ToldPair
+
+-- the group of three parsers
+abbrev pub ThreeGrouped : Outcome Value → Outcome Value → Outcome Value → Describes → Describes
+    → Describes → Outcome Value
+ThreeGrouped p q r dp dq dr =
+    GroupedOutcome (FailFastOutcome p (BothOutcome q r)) (ThreeDescribe dp dq dr) ToldTriple
+
+-- the group of two or three parsers
+abbrev pub TogetherOutcome : {P : Type 0} → (P → Outcome Value) → (P → Describes) → List P
+    → Outcome Value
+TogetherOutcome o d (p ∷ q ∷ []) = TwoGrouped (o p) (o q) (d p) (d q)
+TogetherOutcome o d (p ∷ q ∷ r ∷ []) = ThreeGrouped (o p) (o q) (o r) (d p) (d q) (d r)
+TogetherOutcome o d _ = PureOutcome (GivesRefusal wrong_number)
+
+-- what is read of it
+abbrev pub TogetherReads : {P : Type 0} → (P → Readings Value) → List P → Readings Value
+TogetherReads f (p ∷ q ∷ []) = GroupedReads (TwoFields (f p) (f q)) ToldPair
+TogetherReads f (p ∷ q ∷ r ∷ []) = GroupedReads (ThreeFields (f p) (f q) (f r)) ToldTriple
+TogetherReads f _ = PureReads (λ v. ⊥)
+
+-- it keeps to the laws where its parsers do
+pub together_lawful : {P : Type 0} (o : P → Outcome Value) (f : P → Readings Value)
+    (d : P → Describes) (ps : List P) → ((p : P) → Lawful Value (o p) (f p))
+    → Lawful Value (TogetherOutcome o d ps) (TogetherReads f ps)
+together_lawful o f d (p ∷ q ∷ []) each =
+    grouped_lawful (TwoDescribe (d p) (d q)) ToldPair (fail_fast_lawful (each p) (each q))
+together_lawful o f d (p ∷ q ∷ r ∷ []) each =
+    grouped_lawful (ThreeDescribe (d p) (d q) (d r)) ToldTriple
+    (fail_fast_lawful (each p) (both_lawful (each q) (each r)))
+together_lawful o f d _ each = refusal_lawful wrong_number
+
+-- A level: what its kind makes of the inner parsers.
 
 -- what a level answers: a modifier and a command are over the choice of all its parsers
 abbrev pub LevelOutcome : {P : Type 0} → (P → Outcome Value) → (P → Shape → Type 0) → Clones → Kind
@@ -85,3 +360,25 @@ level_lawful outcome reads describes clones kind.OrElse ps each =
 level_lawful outcome reads describes clones (kind.Command called adjacent) ps each =
     called_lawful adjacent called (ChoicesDescribes describes ps)
     (choices_lawful outcome reads ps each)
+
+-- what it shows, the short names of that, what it reads, and what it answers
+pub record Said : Type 1 where
+  pub describes : Shape → Type 0
+  pub shorts : ShortNames
+  pub reads : Readings Value
+  pub outcome : Outcome Value
+
+-- that of a parser of any type
+abbrev pub said_of : {P : Type 0} → Ghosts P Value → P → Said
+said_of says p = record {
+  describes = says.describes p;
+  shorts = says.shorts p;
+  reads = says.reads p;
+  outcome = says.outcome p;
+}
+
+-- the text as a value, where it is the wanted one
+abbrev pub AcceptsText : List ℕ → Looks Value
+AcceptsText accepted text (Some v) =
+    (text ≡ accepted) × ((kept : String Global) × (v ≡ value.Text kept) × (string_bytes kept ≡ text))
+AcceptsText accepted text None = text ≢ accepted

@@ -1,5 +1,1 @@
-pub mod Groups
-pub mod Leaves
 pub mod Levels
-pub mod OneText
-pub mod Several

@@ -1,10 +1,9 @@
 //! Adjacent groups of described parsers.
 ghost use Rattle.std.specs.Prelude.{All, IfOk};
 ghost use Rattle.bpaf_doc.specs.Shape.{shape_of};
-ghost use Rattle.bpaf_laws.specs.AdjacentGroup.{GroupDescribes};
-ghost use Rattle.bench_rows.specs.Groups.{GroupedOutcome, ThreeGrouped, TogetherOutcome};
-ghost use Rattle.bench_rows.specs.Groups.{TwoGrouped};
-ghost use Rattle.bench_rows.specs.Several.{TupleDescribes};
+ghost use Rattle.bpaf_laws.specs.Adjacent.{GroupDescribes};
+ghost use Rattle.bench_rows.specs.Levels.{GroupedOutcome, ThreeGrouped, TogetherOutcome};
+ghost use Rattle.bench_rows.specs.Levels.{TwoGrouped, TupleDescribes};
 
 use crate::several::{Three, ThreeFields, Two, TwoFields, product_meta, three_fields, two_fields};
 use bench_values::{Told, Value, tell};

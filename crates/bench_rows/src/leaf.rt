@@ -17,11 +17,10 @@ pub struct Answer {
 impl Parser<Value> for Answer {
     ghost use Rattle.std.specs.Prelude.{◌≡◌, Ok, refl};
     ghost use Rattle.bpaf_doc.specs.Shape.{Skip};
-    ghost use Rattle.bpaf_laws.specs.Pure.{PureReads, PureWithOutcome};
-    ghost use Rattle.bpaf_laws.proofs.PureLaws.{pure_with_lawful};
+    ghost use Rattle.bpaf_laws.specs.Combinators.{PureReads, PureWithOutcome};
+    ghost use Rattle.bpaf_laws.specs.Laws.{no_shorts};
+    ghost use Rattle.bpaf_laws.proofs.{LeafLaws.pure_with_lawful, ShownNames.one_shape};
     ghost use Rattle.bench_values.specs.Modifiers.{GivesNumber, number_named};
-    ghost use Rattle.bpaf_laws.specs.ShownNames.{no_shorts};
-    ghost use Rattle.bpaf_laws.proofs.ShownNames.{one_shape};
 
     ghost can_eval = { λ p. Unit {0} };
 
@@ -87,14 +86,14 @@ pub enum Leaf {
 
 /// What the parser of a leaf is.
 trait Saying {
-    ghost use Rattle.bench_rows.specs.Leaves.{Said};
+    ghost use Rattle.bench_rows.specs.Levels.{Said};
 
     /// What the trait of parsers says of it.
     ghost said: { Self → Said };
 }
 
 impl Saying for Leaf {
-    ghost use Rattle.bench_rows.specs.Leaves.{said_of};
+    ghost use Rattle.bench_rows.specs.Levels.{said_of};
     ghost use Rattle.bench_rows.specs.declared.leaf.Leaf.TheVariants as leaf;
 
     ghost said = { elim [
@@ -116,17 +115,13 @@ impl Saying for Leaf {
 }
 
 impl Parser<Value> for Leaf {
-    ghost use Rattle.bpaf_laws.proofs.FlagLaws.{flag_lawful};
-    ghost use Rattle.bpaf_laws.proofs.ArgumentLaws.{argument_lawful};
-    ghost use Rattle.std.specs.Prelude.{refl};
-    ghost use Rattle.bpaf.specs.PositionalLaws.{positional_lawful, positional_shows};
+    ghost use Rattle.bpaf_laws.proofs.LeafLaws.{flag_lawful, appname_lawful, pure_lawful};
+    ghost use Rattle.bpaf_laws.proofs.LeafLaws.{pure_with_lawful, refusal_lawful, any_lawful};
     ghost use Rattle.bpaf_laws.proofs.ShownNames.{argument_shows, flag_shows, one_shape};
-    ghost use Rattle.bpaf_laws.proofs.AppnameLaws.{appname_lawful};
-    ghost use Rattle.bpaf_laws.proofs.NamesAnswer.{names_want};
-    ghost use Rattle.bpaf_laws.proofs.PureLaws.{pure_lawful, pure_with_lawful, refusal_lawful};
-    ghost use Rattle.bench_values.specs.Modifiers.{number_named};
-    ghost use Rattle.bpaf_laws.proofs.AnyLaws.{any_lawful};
-    ghost use Rattle.bench_values.specs.Told.{told_lawful};
+    ghost use Rattle.bpaf_laws.proofs.{ArgumentLaws.argument_lawful, Keeping.names_want};
+    ghost use Rattle.std.specs.Prelude.{refl};
+    ghost use Rattle.bpaf.specs.Positional.{positional_lawful, positional_shows};
+    ghost use Rattle.bench_values.specs.Modifiers.{number_named, told_lawful};
     ghost use Rattle.bench_rows.specs.declared.leaf.Leaf.TheVariants as leaf;
 
     ghost can_eval = { λ p. Unit {0} };

@@ -63,7 +63,7 @@ impl<P: Parser<Value> + Drop> Parser<Value> for Level<P> {
 }
 
 impl<P: Described> Described for Level<P> {
-    ghost use Rattle.bench_values.specs.Values.{all_of};
+    ghost use Rattle.bench_values.specs.Modifiers.{all_of};
 
     fn read(tokens: &mut Tokens<'_>) -> Result<Level<P>, Fault> {
         let opened = tokens.open();

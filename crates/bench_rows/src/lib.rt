@@ -8,12 +8,11 @@
 //! Parsers:
 //!
 //! - A [`Leaf`] is one option, one word or a constant. It answers as the parser of `bpaf` does that
-//!   its token names; [`OneText`] looks for one text among the items (specs/OneText.antt).
+//!   its token names; [`OneText`] looks for one text among the items (specs/Levels.antt).
 //! - A [`Level`] is a parser that is made of others, known only as [`Described`]. It holds these
 //!   once, beside a [`Kind`], and makes the parser of that kind over lent ones at each evaluation.
 //!   So a level more costs a proof nothing. Its outcome is the one of the `bpaf` parser that its
-//!   kind names (specs/Levels.antt, specs/Several.antt, specs/Groups.antt, and those of
-//!   `bench_values`).
+//!   kind names (specs/Levels.antt, and those of `bench_values`).
 //! - [`SixLevels`], levels over levels over a leaf, are enough for the combinations of this
 //!   repository's rows.
 //!

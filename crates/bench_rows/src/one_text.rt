@@ -2,9 +2,9 @@
 ghost use Rattle.std.specs.Prelude.{None, Option, String, string_bytes};
 ghost use Rattle.std.specs.declared.alloc.Global.{Global};
 ghost use Rattle.bpaf_doc.specs.Shape.{Any};
-ghost use Rattle.bpaf_laws.specs.Any.{AnyOutcome};
+ghost use Rattle.bpaf_laws.specs.Leaves.{AnyOutcome};
 ghost use Rattle.bench_values.specs.declared.value.Value.{Value};
-ghost use Rattle.bench_rows.specs.OneText.{AcceptsText};
+ghost use Rattle.bench_rows.specs.Levels.{AcceptsText};
 
 use bench_values::Value;
 use bpaf::parsers::ParseAny;
@@ -72,12 +72,10 @@ impl OneText {
 impl Parser<Value> for OneText {
     ghost use Rattle.std.specs.Prelude.{◌≡◌, None, string_bytes, refl};
     ghost use Rattle.bpaf_doc.specs.Shape.{Shown, Any};
-    ghost use Rattle.bpaf_laws.specs.Any.{AnyOutcome, AnyReads};
-    ghost use Rattle.bpaf_laws.proofs.AnyLaws.{any_lawful};
+    ghost use Rattle.bpaf_laws.specs.{Leaves.AnyOutcome, Leaves.AnyReads, Laws.no_shorts};
+    ghost use Rattle.bpaf_laws.proofs.{LeafLaws.any_lawful, ShownNames.one_shape};
     ghost use Rattle.bench_values.specs.declared.value.Value.{Value};
-    ghost use Rattle.bench_rows.specs.OneText.{AcceptsText};
-    ghost use Rattle.bpaf_laws.specs.ShownNames.{no_shorts};
-    ghost use Rattle.bpaf_laws.proofs.ShownNames.{one_shape};
+    ghost use Rattle.bench_rows.specs.Levels.{AcceptsText};
 
     ghost can_eval = { λ p. Unit {0} };
 

@@ -64,9 +64,8 @@ pub struct Product<V, P> {
 impl<V: Drop, P: Fields<V>> Parser<V> for Product<V, P> {
     ghost use Rattle.std.specs.Prelude.{◌≡◌};
     ghost use Rattle.bpaf_laws.specs.Product.{ProductOutcome, ProductDescribes};
-    ghost use Rattle.bpaf_laws.specs.Transform.{MapReads};
-    ghost use Rattle.bpaf_laws.proofs.ProductLaws.{product_lawful};
-    ghost use Rattle.bpaf_laws.proofs.ShownNames.{product_shows};
+    ghost use Rattle.bpaf_laws.specs.Combinators.{MapReads};
+    ghost use Rattle.bpaf_laws.proofs.{ProductLaws.product_lawful, ShownNames.product_shows};
 
     ghost can_eval = { λ p. P.can_eval p.fields };
 

@@ -2,9 +2,9 @@
 ghost use Rattle.std.specs.Prelude.{◌≡◌, All, IfOk};
 ghost use Rattle.bpaf_doc.specs.Shape.{shape_of};
 ghost use Rattle.bpaf_laws.specs.Product.{ProductDescribes};
-ghost use Rattle.bench_rows.specs.Several.{FourOutcome, NestedOutcome, ThreeOutcome, TwoOutcome};
-ghost use Rattle.bench_rows.specs.Several.{OrElseDescribes, OrElseOutcome, TupleDescribes};
-ghost use Rattle.bench_rows.specs.Several.{TupleOutcome};
+ghost use Rattle.bench_rows.specs.Levels.{FourOutcome, NestedOutcome, ThreeOutcome, TwoOutcome};
+ghost use Rattle.bench_rows.specs.Levels.{OrElseDescribes, OrElseOutcome, TupleDescribes};
+ghost use Rattle.bench_rows.specs.Levels.{TupleOutcome};
 
 use crate::product::Product;
 use bench_values::{Lent, Told, Value, tell};

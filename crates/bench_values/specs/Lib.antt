@@ -1,5 +1,1 @@
-pub mod Told
-pub mod Values
-pub mod Closures
 pub mod Modifiers
-pub mod Commands

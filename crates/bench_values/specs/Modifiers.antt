@@ -1,28 +1,107 @@
--- What one parser answers under a modifier.
-use Rattle.std.specs.Prelude.{◌≡◌, List, [], ◌∷◌, ◌++◌, length, ℕ, Ok, Option, codes, refl, true}
-use Rattle.std.specs.declared.collections.VecDeque.{VecDeque}
-use Rattle.std.specs.{Prelude.false, Global.Vec, declared.alloc.Global.Global}
-use Rattle.bpaf_doc.specs.Shape.{Shape, Skip}
-use Rattle.bpaf_words.specs.Spelling.{ShortNames}
-use Rattle.bpaf_laws.specs.ShownNames.{ShowsNames, no_shorts}
-use Rattle.bpaf_laws.proofs.ShownNames.{many_shows, one_shape, optional_shows, some_shows}
-use Rattle.bpaf_laws.specs.Transform.{MapOutcome, MapReads, ParseOutcome, GuardOutcome}
-use Rattle.bpaf_laws.proofs.TransformLaws.{map_lawful, parse_lawful, guard_lawful}
-use Rattle.bpaf_laws.specs.Default.{Gives, GivesClone, GivesAnswer, FallbackOutcome, NamesGiven}
-use Rattle.bpaf_laws.specs.Default.{OptionalReads, OptionalDescribes}
-use Rattle.bpaf_laws.proofs.DefaultLaws.{optional_lawful, fallback_lawful, names_answer}
-use Rattle.bpaf_laws.specs.Repeat.{is_nil, ListReads, ManyOutcome, ManyDescribes, SomeOutcome}
-use Rattle.bpaf_laws.specs.Repeat.{SomeDescribes, CollectOutcome, CountOutcome, LastOutcome}
-use Rattle.bpaf_laws.specs.{Reading.Readings, Reading.Outcome, Laws.Lawful, Hide.HideOutcome}
-use Rattle.bpaf_laws.specs.{Turn.TurnOutcome, Choice.ChoiceReads, Pure.PureReads}
-use Rattle.bpaf_laws.proofs.RepeatLaws.{many_lawful, some_lawful, collect_lawful, count_lawful}
-use Rattle.bpaf_laws.proofs.{HideLaws.hide_lawful, NamesAnswer.names_want, RepeatLaws.last_lawful}
-use Rattle.bench_values.specs.Told.{ToldOutcome, told_lawful}
-use Rattle.bench_values.specs.Values.{ToldOption, ToldQueue}
-use Rattle.bench_values.specs.Closures.{IsHalf, Accepts, Checks, AnswersNumber, untold}
+-- What one parser answers under a modifier or as a command, and what values are told as.
+use Rattle.std.specs.Prelude.{◌≡◌, ⊤, ℕ, ◌/◌, Bool, not, List, Result, Ok, Err, Option, Some, None}
+use Rattle.std.specs.Prelude.{◌⊎◌, true, [], ◌∷◌, All, ◌++◌, length, codes, refl, false}
+use Rattle.std.specs.{declared.collections.VecDeque.VecDeque, declared.alloc.Global.Global}
+use Rattle.std.specs.{Global.Box, Global.Vec}
+use Rattle.bench_values.specs.declared.value.Value.TheVariants.{Absent, Present, Tuple}
 use Rattle.bench_values.specs.{declared.value.Value.Value, declared.kind.Modifier.Modifier}
+use Rattle.std.proofs.Common.{⊎_elim}
+use Rattle.bpaf_line.specs.{Messages.is_memory, declared.error.Message.TheVariants.Memory}
+use Rattle.bpaf_laws.specs.Laws.{Lawful, ShowsNames, no_shorts}
+use Rattle.bpaf_laws.specs.Combinators.{MapReads, MapOutcome, ParseOutcome, GuardOutcome, Gives}
+use Rattle.bpaf_laws.specs.Combinators.{GivesClone, GivesAnswer, FallbackOutcome, NamesGiven}
+use Rattle.bpaf_laws.specs.Combinators.{OptionalReads, OptionalDescribes, is_nil, ListReads}
+use Rattle.bpaf_laws.specs.Combinators.{ManyOutcome, ManyDescribes, SomeOutcome, SomeDescribes}
+use Rattle.bpaf_laws.specs.Combinators.{CollectOutcome, CountOutcome, LastOutcome, HideOutcome}
+use Rattle.bpaf_laws.specs.Combinators.{TurnOutcome, PureReads}
+use Rattle.bpaf_laws.specs.Command.{Called, CommandPart, opening_words}
+use Rattle.bpaf_laws.specs.{Reading.Readings, Reading.Outcome, Choice.ChoiceReads}
+use Rattle.bpaf_laws.proofs.Keeping.{names_want, names_same, keeps_same}
+use Rattle.bpaf_laws.proofs.CombinatorLaws.{map_lawful, parse_lawful, guard_lawful, optional_lawful}
+use Rattle.bpaf_laws.proofs.CombinatorLaws.{fallback_lawful, names_answer, many_lawful, some_lawful}
+use Rattle.bpaf_laws.proofs.CombinatorLaws.{collect_lawful, count_lawful, hide_lawful, last_lawful}
+use Rattle.bpaf_laws.proofs.ShownNames.{many_shows, one_shape, optional_shows, some_shows}
+use Rattle.bpaf_doc.specs.Shape.{Shape, Skip}
+use Rattle.bpaf_words.specs.Line.{ShortNames}
+use Rattle.bpaf_core.specs.{Command.EitherCommandOutcome, Command.EitherCommandReads, Ending.Ending}
+use Rattle.bpaf_core.specs.{Ending.EndsRun, Ending.run_ending, AdjacentLaws.either_lawful}
+use Rattle.bpaf_keys.specs.Info.{plain_info}
 use Rattle.bench_values.specs.declared.value.Value.TheVariants as value
 use Rattle.bench_values.specs.declared.kind.Modifier.TheVariants as over
+
+-- a number halved, a bool negated, all else as it is
+pub record IsHalf (x v : Value) : Type 0 where
+  pub number : (n : ℕ) → x ≡ value.Number n → v ≡ value.Number (n / 2)
+  pub truth : (b : Bool) → x ≡ value.Bool b → v ≡ value.Bool (not b)
+  pub other : ((n : ℕ) → x ≡ value.Number n → ⊥) → ((b : Bool) → x ≡ value.Bool b → ⊥) → v ≡ x
+
+-- a value that is accepted is answered as it is; which ones are isn't said
+abbrev pub Accepts : {E : Type 0} → Value → Result Value E → Type 0
+Accepts x (Ok v) = v ≡ x
+Accepts x (Err e) = ⊤
+
+-- a check may answer either way
+abbrev pub Checks : Value → Bool → Type 0
+Checks x b = ⊤
+
+-- a number, where there is one
+abbrev pub AnswersNumber : {E : Type 0} → Option ℕ → Result Value E → Type 0
+AnswersNumber (Some n) (Ok v) = v ≡ value.Number n
+AnswersNumber (Some n) (Err e) = ⊥
+AnswersNumber None (Ok v) = ⊥
+AnswersNumber None (Err e) = ⊤
+
+-- the text of a fault isn't said
+abbrev pub untold : {E : Type 0} → E → Option (List ℕ)
+untold fault = None
+
+-- what is told of the inner answer; or want of memory for that
+abbrev pub ToldOutcome : {T R : Type 0} → Outcome T → (T → R → Type 0) → Outcome R
+ToldOutcome {T} inner told s (Ok v) t = (x : T) × inner s (Ok x) t × told x v
+ToldOutcome {T} inner told s (Err e) t =
+    inner s (Err e) t ⊎ ((x : T) × inner s (Ok x) t × (is_memory e.0 ≡ true))
+
+-- it keeps to the laws where the inner parser does
+pub told_lawful : {T R : Type 0} {inner : Outcome T} {reads : Readings T} (told : T → R → Type 0)
+    → Lawful T inner reads → Lawful R (ToldOutcome inner told) (MapReads T R reads told)
+told_lawful told law = record {
+  ok = λ s t v o. (map_lawful law told).ok s t v o;
+  err = λ s t e o. ⊎_elim (λ refused. law.err s t e refused)
+      (λ wanted. (law.ok s t wanted.0 wanted.1).keeps) o;
+  named = λ s t e o.
+      ⊎_elim (λ refused. law.named s t e refused) (λ wanted. names_want e.0 wanted.2) o;
+}
+
+-- an optional value
+abbrev pub ToldOption : Option Value → Value → Type 0
+ToldOption (Some x) v = (kept : Box Value) × (v ≡ Present kept) × (kept.value ≡ x)
+ToldOption None v = v ≡ Absent
+
+-- these values, as a tuple
+abbrev pub IsTupleOf : List Value → Value → Type 0
+IsTupleOf members v = (values : Vec Value) × (v ≡ Tuple values) × (values.items ≡ members)
+
+-- two values
+abbrev pub ToldPair : Value × Value → Value → Type 0
+ToldPair x v = IsTupleOf (x.0 ∷ x.1 ∷ []) v
+
+-- three values, the last two in a pair of their own
+abbrev pub ToldTriple : Value × (Value × Value) → Value → Type 0
+ToldTriple x v = IsTupleOf (x.0 ∷ x.1.0 ∷ x.1.1 ∷ []) v
+
+-- four values, nested likewise
+abbrev pub ToldQuadruple : Value × (Value × (Value × Value)) → Value → Type 0
+ToldQuadruple x v = IsTupleOf (x.0 ∷ x.1.0 ∷ x.1.1.0 ∷ x.1.1.1 ∷ []) v
+
+-- a queue: its values as a list
+abbrev pub ToldQueue : VecDeque Value Global → Value → Type 0
+ToldQueue x v = (values : Vec Value) × (v ≡ value.List values) × (values.items ≡ x.items)
+
+-- what holds of each value holds of all members
+pub all_of : {T : Type 0} {P : T → Type 0} → ((x : T) → P x) → (xs : List T) → All P xs
+all_of each xs = λ k d within. each _
+
+-- What one parser answers under a modifier.
 
 -- a list of values
 abbrev pub ToldList : Vec Value → Value → Type 0
@@ -168,3 +247,40 @@ over_lawful clones (over.Fallback n) law =
 over_lawful clones (over.FallbackWith number) law =
     fallback_lawful law (GivesNumber number) (number_named number)
 over_lawful clones over.Hide law = hide_lawful law
+
+-- how the run of such a command ends: nothing is set beside its parser
+abbrev pub PlainEnding : (Shape → Type 0) → Ending
+PlainEnding describes = EndsRun describes plain_info
+
+-- what a command of these names answers, adjacent or plain, without a help
+abbrev pub HelplessOutcome : Bool → Called → Outcome Value → (Shape → Type 0) → Outcome Value
+HelplessOutcome adjacent called inner describes =
+    EitherCommandOutcome adjacent Value inner (PlainEnding describes) called
+    (CommandPart called None describes)
+
+-- that; or want of memory for a copy of its names
+abbrev pub CalledOutcome : Bool → Called → Outcome Value → (Shape → Type 0) → Outcome Value
+CalledOutcome adjacent called inner describes s (Ok v) t =
+    HelplessOutcome adjacent called inner describes s (Ok v) t
+CalledOutcome adjacent called inner describes s (Err e) t =
+    HelplessOutcome adjacent called inner describes s (Err e) t ⊎ ((e.0 ≡ Memory) × (t ≡ s))
+
+-- what is read of it
+abbrev pub CalledReads : Bool → Called → Readings Value → Readings Value
+CalledReads adjacent called reads = EitherCommandReads adjacent Value (opening_words called) reads
+
+-- it keeps to the laws where its parser does
+pub called_lawful : {inner : Outcome Value} {reads : Readings Value} (adjacent : Bool)
+    (called : Called) (describes : Shape → Type 0) → Lawful Value inner reads
+    → Lawful Value (CalledOutcome adjacent called inner describes)
+    (CalledReads adjacent called reads)
+called_lawful adjacent called describes law =
+    let command = either_lawful law (run_ending describes plain_info) called
+    (CommandPart called None describes) adjacent in
+    record {
+      ok = λ s t v o. command.ok s t v o;
+      err = λ s t e o.
+          ⊎_elim (λ refused. command.err s t e refused) (λ wanted. keeps_same s t wanted.1) o;
+      named = λ s t e o. ⊎_elim (λ refused. command.named s t e refused)
+          (λ wanted. names_same e.0 Memory tt wanted.0) o;
+    }

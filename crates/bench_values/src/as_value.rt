@@ -1,5 +1,5 @@
 //! A parser of any type, as one of the bench's values.
-ghost use Rattle.bench_values.specs.Told.{ToldOutcome};
+ghost use Rattle.bench_values.specs.Modifiers.{ToldOutcome};
 
 use crate::value::{Told, Value};
 use bpaf_core::Parser;
@@ -18,9 +18,9 @@ pub struct AsValue<T, P> {
 }
 
 impl<T: Told + Drop, P: Parser<T>> Parser<Value> for AsValue<T, P> {
-    ghost use Rattle.bpaf_laws.specs.Transform.{MapReads};
+    ghost use Rattle.bpaf_laws.specs.Combinators.{MapReads};
     ghost use Rattle.bench_values.specs.declared.value.Value.{Value};
-    ghost use Rattle.bench_values.specs.Told.{ToldOutcome, told_lawful};
+    ghost use Rattle.bench_values.specs.Modifiers.{ToldOutcome, told_lawful};
 
     ghost can_eval = { λ p. P.can_eval p.inner };
 

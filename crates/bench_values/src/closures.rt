@@ -1,6 +1,6 @@
 //! The closures that descriptions may name.
 ghost use Rattle.std.specs.Prelude.{◌≡◌, IfErr, codes, is_ok};
-ghost use Rattle.bench_values.specs.Closures.{Accepts, AnswersNumber, IsHalf};
+ghost use Rattle.bench_values.specs.Modifiers.{Accepts, AnswersNumber, IsHalf};
 
 use crate::value::Value;
 

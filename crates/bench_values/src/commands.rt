@@ -2,7 +2,7 @@
 ghost use Rattle.std.specs.Prelude.{IfOk, None};
 ghost use Rattle.bpaf_doc.specs.Shape.{shape_of};
 ghost use Rattle.bpaf_laws.specs.Command.{CommandDescribes};
-ghost use Rattle.bench_values.specs.Commands.{CalledOutcome};
+ghost use Rattle.bench_values.specs.Modifiers.{CalledOutcome};
 
 use crate::lent::Lent;
 use crate::value::Value;

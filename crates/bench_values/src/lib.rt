@@ -13,8 +13,8 @@
 //! one, with what stands at its head.
 //!
 //! For the layers above: what a modifier makes of a parser answers by the table of the combinator
-//! that it names (specs/Modifiers.antt), and so does a command (specs/Commands.antt), but for what
-//! the checks of `guard` and `parse` answer and for the texts of faults, of which nothing is said;
+//! that it names, and so does a command (specs/Modifiers.antt), but for what the checks of `guard`
+//! and `parse` answer and for the texts of faults, of which nothing is said;
 //! each is lawful where its parser is. What is [`Described`] may always be evaluated.
 #![tactic(auto)]
 

@@ -1,18 +1,15 @@
 //! The combinators over one described parser.
 ghost use Rattle.std.specs.Prelude.{IfOk, true};
 ghost use Rattle.bpaf_doc.specs.Shape.{shape_of};
-ghost use Rattle.bpaf_laws.specs.Hide.{HideOutcome};
-ghost use Rattle.bpaf_laws.specs.Default.{FallbackOutcome, GivesClone, OptionalDescribes};
-ghost use Rattle.bpaf_laws.specs.Repeat.{CollectOutcome, CountOutcome, LastOutcome};
-ghost use Rattle.bpaf_laws.specs.Repeat.{ManyDescribes, ManyOutcome, SomeDescribes, SomeOutcome};
-ghost use Rattle.bpaf_laws.specs.Turn.{TurnOutcome};
-ghost use Rattle.bpaf_laws.specs.Transform.{GuardOutcome, MapOutcome};
-ghost use Rattle.bench_values.specs.Closures.{Checks, IsHalf};
-ghost use Rattle.bench_values.specs.Told.{ToldOutcome};
-ghost use Rattle.bench_values.specs.Values.{ToldOption, ToldQueue};
+ghost use Rattle.bpaf_laws.specs.Combinators.{HideOutcome, FallbackOutcome, GivesClone};
+ghost use Rattle.bpaf_laws.specs.Combinators.{OptionalDescribes, CollectOutcome, CountOutcome};
+ghost use Rattle.bpaf_laws.specs.Combinators.{LastOutcome, ManyDescribes, ManyOutcome};
+ghost use Rattle.bpaf_laws.specs.Combinators.{SomeDescribes, SomeOutcome, TurnOutcome};
+ghost use Rattle.bpaf_laws.specs.Combinators.{GuardOutcome, MapOutcome};
+ghost use Rattle.bench_values.specs.Modifiers.{Checks, IsHalf, ToldOutcome, ToldOption, ToldQueue};
 ghost use Rattle.bench_values.specs.Modifiers.{AcceptOutcome, FillsQueue, GivesNumber};
-ghost use Rattle.bench_values.specs.Modifiers.{OverDescribes, OverOutcome};
-ghost use Rattle.bench_values.specs.Modifiers.{ToldCount, ToldList, need_one, number_of, too_much};
+ghost use Rattle.bench_values.specs.Modifiers.{OverDescribes, OverOutcome, ToldCount, ToldList};
+ghost use Rattle.bench_values.specs.Modifiers.{need_one, number_of, too_much};
 
 use crate::as_value::tell;
 use crate::closures::{accept, give, half};

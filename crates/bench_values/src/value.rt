@@ -1,7 +1,7 @@
 //! The values that described parsers give.
 ghost use Rattle.std.specs.Prelude.{◌≡◌, IfOk, []};
-ghost use Rattle.bench_values.specs.Values.{IsTupleOf, ToldOption, ToldPair, ToldQuadruple};
-ghost use Rattle.bench_values.specs.Values.{ToldQueue, ToldTriple};
+ghost use Rattle.bench_values.specs.Modifiers.{IsTupleOf, ToldOption, ToldPair, ToldQuadruple};
+ghost use Rattle.bench_values.specs.Modifiers.{ToldQueue, ToldTriple};
 ghost use Rattle.bench_values.specs.declared.value.Value.TheVariants as value;
 
 use crate::refused::Refused;

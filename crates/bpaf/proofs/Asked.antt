@@ -2,23 +2,22 @@
 use Rattle.std.proofs.Common.{◌≡◌, Bool, true, false, List, [], Option, Some, None, Result, Ok, inl}
 use Rattle.std.proofs.Common.{inr, Err, refl, sym, subst, ap, ◌∙◌, ⊎_elim, true≢false}
 use Rattle.std.proofs.Common.{if◌then◌else◌}
-use Rattle.std.specs.Prelude.{ℕ, ◌∷◌}
-use Rattle.std.specs.Result.{IfErr}
+use Rattle.std.specs.{Prelude.ℕ, Prelude.◌∷◌, Result.IfErr}
 use Rattle.bpaf_doc.specs.{declared.doc.Piece.Piece, Shape.Part, Shape.Shape}
 use Rattle.bpaf_text.specs.Named.{Named, KeyWithValue, flag_part, argument_part}
-use Rattle.bpaf_words.specs.{Arguments.Given, Spelling.Known}
+use Rattle.bpaf_words.specs.{Arguments.Given, Line.Known}
 use Rattle.bpaf_line.specs.{declared.error.Error.Error, declared.error.Message.Message}
 use Rattle.bpaf_line.specs.{declared.failure.ParseFailure.ParseFailure, Messages.is_memory}
 use Rattle.bpaf_line.specs.{Messages.is_answer, Situation.Situation, Situation.beginning}
 use Rattle.bpaf_laws.specs.Product.{BothOutcome, ProductOutcome, joined}
-use Rattle.bpaf_laws.specs.Reading.{Readings, Outcome}
-use Rattle.bpaf_laws.specs.{Argument.ArgumentOutcome, Environment.IsAbsence, Flag.FlagOutcome}
-use Rattle.bpaf_laws.specs.{Laws.Keeps, Laws.Lawful, Repeat.ManyOutcome, Repeat.Turns}
+use Rattle.bpaf_laws.specs.Reading.{Readings, Outcome, IsAbsence}
+use Rattle.bpaf_laws.specs.Leaves.{ArgumentOutcome, FlagOutcome}
+use Rattle.bpaf_laws.specs.{Laws.Keeps, Laws.Lawful, Combinators.ManyOutcome, Combinators.Turns}
 use Rattle.bpaf_laws.proofs.Keeping.{keeps_same, keeps_trans}
 use Rattle.bpaf_core.specs.Ending.{EndsRun, Tells, leftover, memory, passed_on, refused, shown}
-use Rattle.bpaf_core.specs.Ending.{told, usage, wanting, Shows, shows_usage}
-use Rattle.bpaf_core.specs.{Rendering.Renders, EndingLaws.leftover_is_told, ExtraParams.ExtraParams}
-use Rattle.bpaf_core.specs.{Info.RunInfo, Run.Runs, Run.RunsWords}
+use Rattle.bpaf_core.specs.Ending.{told, usage, wanting, Shows, shows_usage, leftover_is_told}
+use Rattle.bpaf_core.specs.Run.{Runs, RunsWords}
+use Rattle.bpaf_core.specs.{Rendering.Renders, ExtraParams.ExtraParams, Info.RunInfo}
 use Rattle.bpaf.specs.Asked.{CameTo, HandsOn, IfShown, IsAskedAt, RunShows, Showing, ShowsNothing}
 use Rattle.bpaf.specs.Asked.{WasAsked, WordsShow, inner_answer, nothing_shown}
 use Rattle.bpaf.specs.{declared.leaves.positional.Position.Position, Positional.PositionalOutcome}

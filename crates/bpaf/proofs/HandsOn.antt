@@ -3,23 +3,21 @@ use Rattle.std.proofs.Common.{◌≡◌, ◌⊎◌, Bool, true, false, ℕ, ◌+
 use Rattle.std.proofs.Common.{sym, ap, ◌∙◌, ⊎_elim, true≢false, if◌then◌else◌}
 use Rattle.bpaf_doc.specs.{declared.doc.Piece.Piece, Shape.Part, Shape.Shape}
 use Rattle.bpaf_line.specs.declared.error.Message.TheVariants.{Memory, Missing, ParseFailure}
-use Rattle.bpaf_line.specs.Combining.{Combines, CombinesSpared}
-use Rattle.bpaf_line.specs.Situation.{Situation, with_scope}
+use Rattle.bpaf_line.specs.Messages.{Combines, CombinesSpared, can_catch, is_memory}
+use Rattle.bpaf_line.specs.Situation.{Situation, with_scope, IsStretchFrom}
+use Rattle.bpaf_line.specs.declared.failure.ParseFailure.{ParseFailure as Failure}
 use Rattle.bpaf_line.specs.{declared.error.Error.Error, declared.error.Message.Message}
-use Rattle.bpaf_line.specs.{Messages.can_catch, Messages.is_memory, Stretches.IsStretchFrom}
-use Rattle.bpaf_laws.proofs.ChoiceLaws.{of_chosen}
+use Rattle.bpaf_laws.proofs.{ChoiceLaws.of_chosen, Keeping.keeps_refl, AdjacentLaws.keeps_stretch}
 use Rattle.bpaf_laws.specs.Choice.{BranchesEval, ChoiceOutcome}
 use Rattle.bpaf_laws.specs.Command.{Called, IsOpenedAt, inside, opening_words}
 use Rattle.bpaf_laws.specs.{Laws.Lawful, Reading.Outcome, Reading.Readings}
-use Rattle.bpaf_laws.proofs.{Keeping.keeps_refl, OneStretch.keeps_stretch}
-use Rattle.bpaf_core.specs.Adjacent.{AdjacentOutcome, Attempt, Attempts, EitherCommandOutcome}
-use Rattle.bpaf_core.specs.Adjacent.{Retry, failed, first_fails, no_path, nothing_left}
-use Rattle.bpaf_core.specs.Adjacent.{second_fails, unnamed, wants_memory}
-use Rattle.bpaf_core.specs.Command.{CommandOutcome, IsMissingPart, ended, missing, no_memory}
+use Rattle.bpaf_core.specs.Command.{AdjacentOutcome, Attempt, Attempts, EitherCommandOutcome, Retry}
+use Rattle.bpaf_core.specs.Command.{failed, first_fails, no_path, nothing_left, second_fails}
+use Rattle.bpaf_core.specs.Command.{unnamed, wants_memory, CommandOutcome, IsMissingPart, ended}
+use Rattle.bpaf_core.specs.Command.{missing, no_memory}
 use Rattle.bpaf_core.specs.{Failures.end_message, Ending.Ending, Ending.EndsRun, Info.RunInfo}
 use Rattle.bpaf.specs.Asked.{BehindWord, CameTo, HandsOn, RunShows, Showing, inner_answer}
 use Rattle.bpaf.proofs.Asked.{IsAlsoShown, came_also, came_from, run_shows}
-use Rattle.bpaf_line.specs.declared.failure.ParseFailure.{ParseFailure as Failure}
 use Rattle.bpaf_line.specs.declared.failure.ParseFailure.TheVariants as failure
 
 -- one of two, by a test

@@ -1,13 +1,5 @@
-pub mod PositionalAnswers
-pub mod Looking
+pub mod LeafLemmas
 pub mod Sides
 pub mod Asked
 pub mod HandsOn
-pub mod Helps
 pub mod Remembering
-pub mod Attempting
-pub mod PlaceTried
-pub mod PlacesInVain
-pub mod LeafSparing
-pub mod StretchEnds
-pub mod WithoutValue

@@ -1,19 +1,19 @@
 -- The words on the two sides of the first `--`, and what holds of each item that words spell.
 use Rattle.std.proofs.Common.{◌≡◌, ◌≢◌, ◌+◌, ℕ, Bool, true, false, List, [], ◌∷◌, ◌++◌, length}
 use Rattle.std.proofs.Common.{refl, ap, sym, subst, ◌∙◌, arith, take, drop, codes, All}
-use Rattle.std.specs.Prelude.{flat_map, encode_utf8_all, ◌<◌, get_or}
-use Rattle.std.specs.List.{AllZip, AllByRecursion, Contains}
 use Rattle.std.proofs.lemmas.List.{take_at, drop_at, drop-drop, get_or_append_left, length-append}
 use Rattle.std.proofs.lemmas.List.Elements.{All-append, All-from_recursion, All-nil}
 use Rattle.std.proofs.lemmas.List.Elements.{Contains-append_right, recursion_from_All}
-use Rattle.std.proofs.lemmas.List.Sums.{position_or_len_is}
-use Rattle.std.proofs.{lemmas.Bool.false_from_ne_true, lemmas.Slice.Eq.bytes_eq-Decides}
+use Rattle.std.proofs.{lemmas.List.Sums.position_or_len_is, lemmas.Bool.false_from_ne_true}
+use Rattle.std.proofs.{lemmas.Slice.Eq.bytes_eq-Decides}
+use Rattle.std.specs.Prelude.{flat_map, encode_utf8_all, ◌<◌, get_or}
+use Rattle.std.specs.List.{AllZip, AllByRecursion, Contains}
 use Rattle.bpaf_base.specs.declared.arg.Arg.{Arg}
 use Rattle.bpaf_base.specs.declared.arg.Arg.TheVariants.{Short, Long, ArgWord, Word}
-use Rattle.bpaf_words.specs.Spelling.{Known, IsKnownAs, Spelling, Items, Ambiguous, flags_of}
-use Rattle.bpaf_words.specs.Spelling.{argument_of, Spells, SpellsJoined, flags, argument, neither}
-use Rattle.bpaf_words.specs.Spelling.{both, plain, dash, long, long_value, short, short_value}
-use Rattle.bpaf_words.specs.Spelling.{short_long_value, joined, SpellsByDash, number_word, by_dash}
+use Rattle.bpaf_words.specs.Line.{Known, IsKnownAs, Spelling, Items, Ambiguous, flags_of}
+use Rattle.bpaf_words.specs.Line.{argument_of, Spells, SpellsJoined, flags, argument, neither, both}
+use Rattle.bpaf_words.specs.Line.{plain, dash, long, long_value, short, short_value}
+use Rattle.bpaf_words.specs.Line.{short_long_value, joined, SpellsByDash, number_word, by_dash}
 use Rattle.bpaf_words.specs.Line.{SpellAll, HasNoMarker}
 use Rattle.bpaf.specs.Marker.{is_marker_word, words_before, words_behind}
 

@@ -2,12 +2,12 @@
 use Rattle.std.specs.Prelude.{◌≡◌, ◌⊎◌, ℕ, Bool, List, Err, Ok, ⊤}
 use Rattle.bpaf_doc.specs.{declared.doc.Piece.Piece, Shape.Shape}
 use Rattle.bpaf_line.specs.Situation.{Context, Situation, beginning}
+use Rattle.bpaf_line.specs.{declared.error.Error.Error, declared.error.Message.Message}
+use Rattle.bpaf_line.specs.{declared.failure.ParseFailure.ParseFailure, Taking.IsContext}
 use Rattle.bpaf_laws.specs.Command.{Called, IsOpenedAt, inside, opening_words}
 use Rattle.bpaf_laws.specs.{Laws.Keeps, Reading.Outcome}
-use Rattle.bpaf_core.specs.{ExtraParams.ExtraParams, Ending.Shows, Extra.ExtraOutcome, Info.RunInfo}
-use Rattle.bpaf_words.specs.{Arguments.Given, Spelling.Known}
-use Rattle.bpaf_line.specs.{declared.error.Error.Error, declared.error.Message.Message}
-use Rattle.bpaf_line.specs.{declared.failure.ParseFailure.ParseFailure, Constructing.IsContext}
+use Rattle.bpaf_core.specs.{ExtraParams.ExtraParams, Ending.Shows, Info.ExtraOutcome, Info.RunInfo}
+use Rattle.bpaf_words.specs.{Arguments.Given, Line.Known}
 use Rattle.bpaf_line.specs.declared.error.Message.TheVariants as message
 use Rattle.bpaf_line.specs.declared.failure.ParseFailure.TheVariants as failure
 

@@ -1,18 +1,26 @@
--- Positional words.
+-- Positional words: what they answer, and that they keep to the laws; want of memory of leaves.
 use Rattle.std.specs.Prelude.{◌≡◌, ◌⊎◌, ℕ, Bool, true, false, not, List, Ok, Err, Option, Some}
-use Rattle.std.specs.Prelude.{None, option_and_then}
+use Rattle.std.specs.Prelude.{None, option_and_then, refl, IfSome, Result}
 use Rattle.bpaf_doc.specs.declared.doc.Piece.{Piece}
+use Rattle.bpaf_doc.specs.Shape.{Shape, Shown, Positional, Strict as StrictShape}
 use Rattle.bpaf_base.specs.Items.{is_positional, word_text}
-use Rattle.bpaf_line.specs.Situation.{Situation, Context, item_in}
-use Rattle.bpaf_line.specs.Taking.{TakesText, HasNone}
+use Rattle.bpaf_line.specs.Situation.{Situation, Context, item_in, is_open}
+use Rattle.bpaf_line.specs.Taking.{TakesText, HasNone, IsMissingIn}
 use Rattle.bpaf_line.specs.declared.error.Message.TheVariants.{Memory, Missing, ParseFailed}
 use Rattle.bpaf_line.specs.declared.error.Message.TheVariants.{StrictPos, NonStrictPos}
-use Rattle.bpaf_line.specs.{MissingIn.IsMissingIn, declared.error.Message.Message}
-use Rattle.bpaf_laws.specs.{Reading.Share, Reading.Outcome, Reading.IsPlace, Value.FaultsText}
+use Rattle.bpaf_line.specs.declared.error.Message.TheVariants.{ParseFailure, ParseFail, PureFailed}
+use Rattle.bpaf_line.specs.Messages.{is_memory}
+use Rattle.bpaf_line.specs.{declared.error.Message.Message, declared.error.Error.Error}
+use Rattle.bpaf_laws.specs.Reading.{Share, Outcome, IsPlace, FaultsText, Readings}
+use Rattle.bpaf_laws.specs.Laws.{Keeps, Reads, Lawful, NamesAnswer, ShowsNames, no_shorts}
+use Rattle.bpaf_laws.specs.Leaves.{ArePassed, Looks, looked_at}
 use Rattle.bpaf.specs.declared.leaves.positional.Position.{Position}
 use Rattle.bpaf.specs.declared.leaves.positional.Position.TheVariants.{Unrestricted, Strict}
 use Rattle.bpaf.specs.declared.leaves.positional.Position.TheVariants.{NonStrict}
-use Rattle.bpaf_doc.specs.Shape.{Shape, Shown, Positional, Strict as StrictShape}
+use Rattle.std.proofs.Common.{sym, subst, ⊎_elim}
+use Rattle.bpaf_laws.proofs.ShownNames.{one_shape}
+use Rattle.bpaf_laws.proofs.Keeping.{keeps_same, closes_take, keeps_take, newly_take}
+use Rattle.bpaf_line.proofs.Places.{match_is_open}
 
 -- a word may stand on this side of `--`; strict tells that it stands on the right
 abbrev pub accepts : Position → Bool → Bool
@@ -73,3 +81,97 @@ abbrev pub positional_shape : Position → List ℕ → Option (List Piece) → 
 positional_shape Unrestricted metavar help = Shown (Positional metavar help)
 positional_shape Strict metavar help = StrictShape (Shown (Positional metavar help))
 positional_shape NonStrict metavar help = Shown (Positional metavar help)
+
+-- Positional words keep to the laws.
+
+module _ (s : Situation) (place : ℕ) (strict : Bool) (text : List ℕ) (t : Situation)
+    (takes : TakesText s place strict text t) where
+  -- the word that is taken lay present in scope
+  word_open : is_open s place ≡ true
+  word_open = match_is_open is_positional s place takes.first.matches
+
+  -- what taking a word keeps
+  pub word_keeps : Keeps s t
+  word_keeps = subst (Keeps s) (sym takes.taken) (keeps_take s place word_open)
+
+module _ (T : Type 0) (means : List ℕ → T → Type 0) (position : Position) (metavar : List ℕ) where
+  -- what a positional reads
+  abbrev reads_positional : Readings T
+  reads_positional = PositionalReads T means position
+
+  -- a taken word on an accepted side, whose text means the value, is a reading of it
+  positional_read : (s t : Situation) (v : T) (taken : TakesSome s t)
+      → accepts position taken.strict ≡ true → means taken.text v → Reads T reads_positional s v t
+  positional_read s t v taken accepted meant =
+      let takes = taken.takes in
+      let there : is_open s taken.place ≡ true =
+      word_open s taken.place taken.strict taken.text t takes in
+      subst (λ w. Reads T reads_positional s v w) (sym takes.taken) (record {
+        keeps = keeps_take s taken.place there;
+        closed = closes_take s taken.place;
+        reading = record {
+          place = taken.place;
+          strict = taken.strict;
+          text = taken.text;
+          is = takes.is;
+          accepted = accepted;
+          alone = newly_take s taken.place there;
+          meant = meant;
+        };
+      })
+
+  -- what taking some word keeps, whatever its text means
+  some_keeps : (s t : Situation) → TakesSome s t → Keeps s t
+  some_keeps s t taken = word_keeps s taken.place taken.strict taken.text t taken.takes
+
+  -- what a refusal of a positional keeps
+  positional_refused : (s t : Situation) (m : Message)
+      → PositionalFails means position metavar s m t → Keeps s t
+  positional_refused s t (Missing items) fails = keeps_same s t fails.1
+  positional_refused s t (StrictPos place m) fails = word_keeps s place _ fails.2.0 t fails.2.1
+  positional_refused s t (NonStrictPos place m) fails = word_keeps s place _ fails.2.0 t fails.2.1
+  positional_refused s t (ParseFailed place fault) fails = some_keeps s t fails.0
+  positional_refused s t Memory fails =
+      ⊎_elim (λ same. keeps_same s t same) (λ taken. some_keeps s t taken) fails
+  positional_refused s t other fails = absurd fails
+
+  -- no refusal is the answer of a run inside
+  positional_named : (s t : Situation) (m : Message)
+      → PositionalFails means position metavar s m t → NamesAnswer m
+  positional_named s t (ParseFailure f) fails = absurd fails
+  positional_named s t other fails = tt
+
+  -- positional words keep to the laws
+  pub positional_lawful : Lawful T (PositionalOutcome means position metavar) reads_positional
+  positional_lawful = record {
+    ok = λ s t v o. positional_read s t v o.0 o.1 o.2;
+    err = λ s t e o. positional_refused s t e.0 o;
+    named = λ s t e o. positional_named s t e.0 o;
+  }
+
+-- a word shows no short name
+pub positional_shows : (position : Position) (metavar : List ℕ) (help : Option (List Piece))
+    → ShowsNames (λ shown. shown ≡ positional_shape position metavar help) no_shorts
+positional_shows Unrestricted metavar help = one_shape refl
+positional_shows Strict metavar help = one_shape refl
+positional_shows NonStrict metavar help = one_shape refl
+
+-- a fault that is told of a word is of one whose text means no value
+abbrev pub FaultsWordAlone : {T : Type 0} → (List ℕ → T → Type 0) → Situation → Situation → Error
+    → Type 0
+FaultsWordAlone {T} means s t e = (place : Option ℕ) (fault : List ℕ)
+    → e.0 ≡ ParseFailed place fault → (taken : TakesSome s t) × ((v : T) → ¬ (means taken.text v))
+
+-- a refusal that isn't want of memory comes where each item that is looked at was passed by
+abbrev pub PassesAll : {T : Type 0} → Looks T → Bool → Situation → Error → Type 0
+PassesAll looks anywhere s e = is_memory e.0 ≡ false → ArePassed looks (looked_at anywhere s)
+
+-- a refusal that isn't want of memory is the whole message
+abbrev pub TellsWhole : List ℕ → Error → Type 0
+TellsWhole message e = is_memory e.0 ≡ false → e.0 ≡ ParseFail message
+
+-- a refusal that isn't want of memory is of a fault that a closure answered, with its whole text
+abbrev pub TellsAnswer : {T E : Type 0} → (Result T E → Type 0) → (E → Option (List ℕ)) → Error
+    → Type 0
+TellsAnswer {T} {E} answers shown e = is_memory e.0 ≡ false → (fault : E) × answers (Err fault)
+    × ((text : List ℕ) × (e.0 ≡ PureFailed text) × IfSome (shown fault) (λ bytes. text ≡ bytes))

@@ -2,13 +2,12 @@
 ghost use Rattle.std.specs.Prelude.{◌≡◌, ◌+◌, None, Some, Ok, Err, IfOk, IfErr};
 ghost use Rattle.bpaf_doc.specs.Shape.{part_of, shape_of};
 ghost use Rattle.bpaf_laws.specs.Product.{ProductDescribes, ProductOutcome};
-ghost use Rattle.bpaf_laws.specs.AdjacentGroup.{GroupDescribes, GroupOutcome};
-ghost use Rattle.bpaf_laws.specs.OneStretch.{IsStretch, StretchReads};
-ghost use Rattle.bpaf_laws.specs.{Spared.IsNotMemory, Transform.MapReads, Laws.newly};
+ghost use Rattle.bpaf_laws.specs.Adjacent.{GroupDescribes, GroupOutcome, IsStretch, StretchReads};
+ghost use Rattle.bpaf_laws.specs.{Laws.IsNotMemory, Laws.newly, Combinators.MapReads};
 ghost use Rattle.bpaf.specs.Remembering.{IsFirstOf, IsRefused};
 ghost use Rattle.bpaf.specs.declared.adjacent.AdjacentError.TheVariants.{Memory};
 ghost use Rattle.bpaf_laws.proofs.ShownNames.{product_shows, group_shows};
-ghost use Rattle.bpaf_laws.proofs.{ProductLaws.product_lawful, AdjacentGroupLaws.group_lawful};
+ghost use Rattle.bpaf_laws.proofs.{ProductLaws.product_lawful, AdjacentLaws.group_lawful};
 
 mod attempts;
 mod failures;

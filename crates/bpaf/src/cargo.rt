@@ -1,12 +1,12 @@
 //! A parser whose line may begin with cargo's own name of the subcommand.
 ghost use Rattle.std.specs.Prelude.{◌≡◌, IfOk, false, Option, refl};
 ghost use Rattle.bpaf_laws.specs.Product.{ProductOutcome, ProductDescribes};
-ghost use Rattle.bpaf_laws.specs.{Transform.MapReads, Spared.IsNotMemory, Any.IsLiteral};
+ghost use Rattle.bpaf_laws.specs.{Combinators.MapReads, Laws.IsNotMemory, Leaves.IsLiteral};
 ghost use Rattle.bpaf_doc.specs.Shape.{Any};
-ghost use Rattle.bpaf_laws.proofs.DefaultLaws.{optional_lawful};
+ghost use Rattle.bpaf_laws.proofs.CombinatorLaws.{optional_lawful, hide_lawful};
 ghost use Rattle.bpaf_laws.proofs.ProductLaws.{both_lawful, product_lawful};
 ghost use Rattle.bpaf_laws.proofs.ShownNames.{both_show, last_shows, one_shape, product_shows};
-ghost use Rattle.bpaf_laws.proofs.{AnyLaws.any_lawful, HideLaws.hide_lawful};
+ghost use Rattle.bpaf_laws.proofs.LeafLaws.{any_lawful};
 
 use crate::leaves::literal::{ParseLiteral, literal};
 use crate::product::{Both, Fields, Last};

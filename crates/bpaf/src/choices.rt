@@ -1,11 +1,10 @@
 //! A choice of any number of parsers of one type.
 ghost use Rattle.std.specs.Prelude.{◌≡◌, ◌==◌, false, length, IfOk, All};
 ghost use Rattle.bpaf_doc.specs.Shape.{shape_of};
-ghost use Rattle.bpaf_laws.specs.Choice.{ChoiceDescribes, ChoiceOutcome};
-ghost use Rattle.bpaf_laws.specs.Choices.{ChoicesOutcome, Nested, ChoicesReads, ChoicesDescribes};
-ghost use Rattle.bpaf_laws.specs.Choices.{LeftmostOfAll};
-ghost use Rattle.bpaf_laws.specs.{Spared.IsNotMemory, Spared.WithoutMemory, ShownNames.all_shorts};
-ghost use Rattle.bpaf_laws.proofs.{ChoicesLaws.choices_lawful, ShownNames.choices_show};
+ghost use Rattle.bpaf_laws.specs.Choice.{ChoiceDescribes, ChoiceOutcome, ChoicesOutcome, Nested};
+ghost use Rattle.bpaf_laws.specs.Choice.{ChoicesReads, ChoicesDescribes, LeftmostOfAll};
+ghost use Rattle.bpaf_laws.specs.Laws.{IsNotMemory, WithoutMemory, all_shorts};
+ghost use Rattle.bpaf_laws.proofs.{ChoiceLaws.choices_lawful, ShownNames.choices_show};
 
 use bpaf_core::{Parser, Start, or_meta, or_parser};
 use bpaf_doc::{Meta, Text};

@@ -1,5 +1,5 @@
 //! What follows from the laws alone, for every parser: a contract of a function that does nothing.
-ghost use Rattle.bpaf_laws.specs.Counting.{CountFalls};
+ghost use Rattle.bpaf_laws.specs.Laws.{CountFalls};
 
 use bpaf_core::Parser;
 

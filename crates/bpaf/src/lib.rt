@@ -10,10 +10,9 @@
 //!
 //! For the layers above: each type here proves the laws of `Parser` from the laws of its inner
 //! parsers alone, and its `outcome`, `reads`, `describes` and `shorts` are definitions over theirs
-//! (specs/Positional.antt here; specs/Any.antt, specs/Product.antt, specs/Pure.antt,
-//! specs/Appname.antt and specs/Choices.antt of `bpaf_laws`). [`spellings_are_unique`] and
-//! [`lines_are_unique`] state that words are read in one way alone, and [`count_falls`] that what
-//! is newly taken was there.
+//! (specs/Positional.antt here; specs/Leaves.antt, specs/Product.antt, specs/Combinators.antt and
+//! specs/Choice.antt of `bpaf_laws`). [`spellings_are_unique`] and [`lines_are_unique`] state that
+//! words are read in one way alone, and [`count_falls`] that what is newly taken was there.
 //!
 //! The modules [`parsers`], [`params`] and [`doc`] hand on the parser types, the leaves, and what
 //! texts are made of, as bpaf's modules of these names do.

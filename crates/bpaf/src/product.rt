@@ -4,15 +4,14 @@ ghost use Rattle.bpaf_doc.specs.Shape.{shape_of, Shape};
 ghost use Rattle.bpaf_laws.specs.Product.{AppendsShapes, LastDescribes, BothOutcome, BothReads};
 ghost use Rattle.bpaf_laws.specs.Product.{BothDescribes, FailFastOutcome, ProductOutcome};
 ghost use Rattle.bpaf_laws.specs.Product.{ProductDescribes};
-ghost use Rattle.bpaf_laws.specs.Reading.{Outcome, Readings};
-ghost use Rattle.bpaf_laws.specs.ShownNames.{FieldsShowNames, joined_shorts};
-ghost use Rattle.bpaf_laws.specs.Spared.{Spares, WithoutMemory, IsNotMemory};
-ghost use Rattle.bpaf_laws.specs.{Laws.Lawful, Transform.MapReads};
-ghost use Rattle.bpaf.specs.WithoutValue.{IsErrorBefore, WithoutValue};
-ghost use Rattle.bpaf_words.specs.Spelling.{ShortNames};
+ghost use Rattle.bpaf_laws.specs.Laws.{FieldsShowNames, joined_shorts, Spares, WithoutMemory};
+ghost use Rattle.bpaf_laws.specs.Laws.{IsNotMemory, Lawful};
+ghost use Rattle.bpaf_laws.specs.{Reading.Outcome, Reading.Readings, Combinators.MapReads};
+ghost use Rattle.bpaf.specs.Remembering.{IsErrorBefore, WithoutValue};
+ghost use Rattle.bpaf_words.specs.Line.{ShortNames};
 ghost use Rattle.bpaf_laws.proofs.ShownNames.{last_shows, both_show, product_shows};
 ghost use Rattle.bpaf_laws.proofs.ProductLaws.{both_lawful, fail_fast_lawful, product_lawful};
-ghost use Rattle.bpaf_laws.proofs.ProductSparing.{both_spares, fail_fast_spares};
+ghost use Rattle.bpaf_laws.proofs.ProductLaws.{both_spares, fail_fast_spares};
 
 use bpaf_core::Parser;
 use bpaf_doc::Meta;
@@ -187,7 +186,7 @@ impl<T: Drop, V, A: Parser<T>, R: Fields<V>> Fields<(T, V)> for Both<A, R> {
         }
     }
 
-    #[tactic(auto, using(crate::proofs::WithoutValue::rest_told))]
+    #[tactic(auto, using(crate::proofs::Remembering::rest_told))]
     fn eval_without_value(&self, state: &mut State) -> Result<(), Error> {
         match self.first.eval(state) {
             Ok(_) => self.rest.eval_without_value(state),

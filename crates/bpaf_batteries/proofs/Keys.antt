@@ -1,14 +1,14 @@
 -- What a flag whose key must stand on the line answers, and what it reads.
-use Rattle.std.proofs.Common.{◌≡◌, ℕ, ◌&&◌, Bool, true, false, Result, Ok, Err, Option}
-use Rattle.std.proofs.Common.{sym, subst, true≢false, arith}
+use Rattle.std.proofs.Common.{◌≡◌, ℕ, ◌&&◌, Bool, true, false, Result, Ok, Err, Option, sym, subst}
+use Rattle.std.proofs.Common.{true≢false, arith}
 use Rattle.std.specs.Option.{option_map_or, IsSomeRelated}
 use Rattle.bpaf_text.specs.declared.params.ParseFlag.{ParseFlag}
 use Rattle.bpaf_base.specs.declared.arg.Arg.{Arg}
 use Rattle.bpaf_line.specs.Situation.{Situation, take_place}
 use Rattle.bpaf_line.specs.{Messages.is_memory, Taking.IsFirst, Taking.HasNone}
 use Rattle.bpaf_line.specs.{declared.error.Error.Error, declared.error.Message.Message}
-use Rattle.bpaf_laws.specs.Flag.{FlagOutcome, FlagFails, IsFlagPresent}
-use Rattle.bpaf_laws.specs.{Environment.is_set, Spared.IsNotMemory}
+use Rattle.bpaf_laws.specs.Leaves.{FlagOutcome, FlagFails, IsFlagPresent}
+use Rattle.bpaf_laws.specs.{Reading.is_set, Laws.IsNotMemory}
 use Rattle.bpaf_batteries.specs.Keys.{is_key, MustStand}
 
 -- of two tests that no item passes both, an item passes not both

@@ -1,10 +1,12 @@
--- Required flags as the batteries have them, of which only keys on the line count.
-use Rattle.std.specs.Prelude.{◌≡◌, ℕ, List, [], Bool, false, ◌&&◌, ◌||◌, None}
-use Rattle.bpaf_doc.specs.{Fold.TextPieces, declared.doc.Piece.Piece}
+-- Required flags as the batteries have them, of which only keys on the line count; and a level
+-- within bounds.
+use Rattle.std.specs.Prelude.{◌≡◌, ℕ, List, [], Bool, false, ◌&&◌, ◌||◌, None, ℤ, pos, ◌+ℤ◌, ◌-ℤ◌}
+use Rattle.std.specs.Int.{int_max, int_min}
+use Rattle.bpaf_doc.specs.{Print.TextPieces, declared.doc.Piece.Piece}
 use Rattle.bpaf_text.specs.Named.{nothing_named, with_help, with_long, with_short}
 use Rattle.bpaf_text.specs.declared.params.ParseFlag.{ParseFlag}
 use Rattle.bpaf_base.specs.{declared.arg.Arg.Arg, Items.is_key_of}
-use Rattle.bpaf_laws.specs.{Flag.FlagOutcome, Flag.FlagReads, Reading.Outcome, Reading.Readings}
+use Rattle.bpaf_laws.specs.{Leaves.FlagOutcome, Leaves.FlagReads, Reading.Outcome, Reading.Readings}
 
 -- an item is a key of a flag
 abbrev pub is_key : {T : Type 0} → ParseFlag T → Arg → Bool
@@ -51,3 +53,9 @@ letter_v = 118
 -- the letter `q`
 abbrev pub letter_q : ℕ
 letter_q = 113
+
+-- the level of two counts: an offset plus the first one minus the second one; or the bound that
+-- this passes
+abbrev pub IsLevelOf : (offset min max : ℤ) → ℕ × ℕ → ℤ → Type 0
+IsLevelOf offset min max counts v =
+    v ≡ int_max min (int_min ((offset +ℤ pos counts.0) -ℤ pos counts.1) max)

@@ -1,21 +1,26 @@
--- A level from two counted keys.
+-- A level from two counted keys keeps to the laws.
 use Rattle.std.specs.Prelude.{◌≡◌, ◌⊎◌, ◌&&◌, ℕ, ℤ, pos, false, true, ◌-ℤ◌, List, length, slice_get}
-use Rattle.std.specs.Prelude.{◌++◌, codes}
-use Rattle.std.specs.{Prelude.Some, Prelude.Ok, Prelude.Err, Option.option_map_or}
+use Rattle.std.specs.Prelude.{◌++◌, codes, Some, Ok, Err}
+use Rattle.std.specs.Option.{option_map_or}
 use Rattle.bpaf_doc.specs.Shape.{Shape}
 use Rattle.bpaf_text.specs.declared.params.ParseFlag.{ParseFlag}
 use Rattle.bpaf_line.specs.Messages.{is_memory}
 use Rattle.bpaf_line.specs.Situation.{Situation, Context, item_in, count_below}
 use Rattle.bpaf_laws.specs.Product.{BothDescribes, BothOutcome, BothReads, LastDescribes}
 use Rattle.bpaf_laws.specs.Product.{ProductDescribes, ProductOutcome}
-use Rattle.bpaf_laws.specs.Reading.{Share, Outcome, Readings}
-use Rattle.bpaf_laws.specs.Repeat.{CountOutcome, ListReads, ManyDescribes}
-use Rattle.bpaf_laws.specs.{Laws.newly, Flag.flag_shape, Transform.MapReads, Spared.WithoutMemory}
-use Rattle.bpaf_words.specs.Spelling.{ShortNames}
-use Rattle.bpaf_laws.specs.ShownNames.{of_flags}
-use Rattle.bpaf_batteries.specs.Keys.{IsCountedKey, KeyOutcome, KeyReads, is_key, letter_q, letter_v}
-use Rattle.bpaf_batteries.specs.Level.{IsLevelOf}
+use Rattle.bpaf_laws.specs.Combinators.{CountOutcome, ListReads, ManyDescribes, MapReads}
+use Rattle.bpaf_laws.specs.Laws.{newly, WithoutMemory, of_flags, ShowsNames, Lawful}
+use Rattle.bpaf_laws.specs.{Reading.Share, Reading.Outcome, Reading.Readings, Leaves.flag_shape}
+use Rattle.bpaf_words.specs.Line.{ShortNames}
+use Rattle.bpaf_batteries.specs.Keys.{IsCountedKey, KeyOutcome, KeyReads, is_key, letter_q}
+use Rattle.bpaf_batteries.specs.Keys.{letter_v, IsLevelOf}
 use Rattle.bpaf_batteries.specs.declared.pair.KeyCounts.{KeyCounts}
+use Rattle.std.proofs.Common.{⊎_elim, inl, inr, subst, sym}
+use Rattle.bpaf_laws.proofs.ShownNames.{both_show, flag_shows, last_shows, many_shows}
+use Rattle.bpaf_laws.proofs.ShownNames.{product_shows}
+use Rattle.bpaf_laws.proofs.ProductLaws.{both_lawful, product_lawful}
+use Rattle.bpaf_laws.proofs.CombinatorLaws.{made_lawful, count_lawful}
+use Rattle.bpaf_laws.proofs.{Keeping.lawful_as, Keeping.names_want, LeafLaws.flag_lawful}
 
 -- the key for more
 abbrev pub more_of : KeyCounts → ParseFlag (Unit {0})
@@ -111,3 +116,30 @@ abbrev pub PickOutcome : {C T : Type 0} → Outcome C → (C → T → Type 0) �
 PickOutcome {C} inner picks s (Ok v) t = (x : C) × inner s (Ok x) t × picks x v
 PickOutcome {C} inner picks s (Err e) t =
     inner s (Err e) t ⊎ ((x : C) × inner s (Ok x) t × (is_memory e.0 ≡ true))
+
+-- a parser that picks by the value of an inner one keeps to the laws where that does
+pub pick_lawful : {C T : Type 0} {inner : Outcome C} {reads : Readings C} → Lawful C inner reads
+    → (picks : C → T → Type 0) → Lawful T (PickOutcome inner picks) (MapReads C T reads picks)
+pick_lawful law picks = made_lawful law picks (λ s t v o. o) (λ s t e o.
+    ⊎_elim inl (λ wanted. inr (wanted.0, wanted.1, names_want e.0 wanted.2)) o)
+
+-- a counted key keeps to the laws
+count_key_lawful : {T : Type 0} (clones : T → T → Type 0) (flag : ParseFlag T)
+    → Lawful ℕ (CountOutcome (KeyOutcome clones flag)) (CountReads clones flag)
+count_key_lawful {T} clones flag =
+    count_lawful (flag_lawful T clones flag.named flag.present flag.absent)
+
+-- so do two
+pub counts_lawful : (clones : Unit {0} → Unit {0} → Type 0) (keys : KeyCounts)
+    → Lawful (ℕ × ℕ) (CountsOutcome clones keys) (CountsReads clones keys)
+counts_lawful clones keys =
+    lawful_as (product_lawful (λ counts v. v ≡ counts)
+    (both_lawful (count_key_lawful clones (more_of keys))
+    (count_key_lawful clones (fewer_of keys))))
+    (λ context share v read. subst (CountsReads clones keys context share) (sym read.made) read.read)
+
+-- they show the short names of both keys
+pub counts_show : (keys : KeyCounts) → ShowsNames (CountsDescribe keys) (counted_shorts keys)
+counts_show keys =
+    product_shows (both_show (many_shows (flag_shows (more_of keys).named (more_of keys).absent))
+    (last_shows (many_shows (flag_shows (fewer_of keys).named (fewer_of keys).absent))))

@@ -3,9 +3,8 @@ ghost use Rattle.std.specs.Prelude.{◌≡◌, ◌∷◌, [], IfOk, IsTrue, None
 ghost use Rattle.bpaf_batteries.specs.Keys.{IsCountedKey};
 ghost use Rattle.bpaf_batteries.specs.Verbosity.{AreVerboseAndQuiet, CountsDescribe, CountsOutcome};
 ghost use Rattle.bpaf_batteries.specs.Verbosity.{CountsReads, CountsSpared, KeysAreCounted};
-ghost use Rattle.bpaf_batteries.specs.Verbosity.{counted_shorts};
-ghost use Rattle.bpaf_batteries.specs.VerbosityLaws.{counts_lawful, counts_show};
-ghost use Rattle.bpaf_laws.specs.{Spared.IsNotMemory};
+ghost use Rattle.bpaf_batteries.specs.Verbosity.{counted_shorts, counts_lawful, counts_show};
+ghost use Rattle.bpaf_laws.specs.Laws.{IsNotMemory};
 
 use crate::pair::KeyCounts;
 use bpaf::parsers::{ParseCount, ParseFlag};

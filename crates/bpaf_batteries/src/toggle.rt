@@ -1,9 +1,9 @@
 //! Two flags of which the last one given counts.
 ghost use Rattle.std.specs.Prelude.{◌≡◌, None, false, IfOk, ◌++◌};
-ghost use Rattle.bpaf_batteries.specs.Toggle.{LastToggleWins, ToggleDescribes};
-ghost use Rattle.bpaf_batteries.specs.Toggle.{ToggleOutcome, ToggleReads, ToggleSpared};
-ghost use Rattle.bpaf_batteries.specs.ToggleLaws.{toggle_lawful, toggle_shows};
-ghost use Rattle.bpaf_laws.specs.{Repeat.EndsIn, Spared.IsNotMemory, ShownNames.of_flags};
+ghost use Rattle.bpaf_batteries.specs.Toggle.{LastToggleWins, ToggleDescribes, ToggleOutcome};
+ghost use Rattle.bpaf_batteries.specs.Toggle.{ToggleReads, ToggleSpared, toggle_lawful};
+ghost use Rattle.bpaf_batteries.specs.Toggle.{toggle_shows};
+ghost use Rattle.bpaf_laws.specs.{Combinators.EndsIn, Laws.IsNotMemory, Laws.of_flags};
 
 use bpaf::parsers::{ParseFlag, ParseMany, ParseOrElse};
 use bpaf::{Error, Meta, NamedArg, Parser, State};

@@ -1,7 +1,6 @@
 //! The usage text of a parser, without a run.
 ghost use Rattle.std.specs.Prelude.{IfOk, option_map, string_bytes};
-ghost use Rattle.bpaf_core.specs.Known.{known_names};
-ghost use Rattle.bpaf_core.specs.Run.{RunsWords};
+ghost use Rattle.bpaf_core.specs.Run.{known_names, RunsWords};
 ghost use Rattle.bpaf_batteries.specs.Usage.{TellsText, TellsUsage, help_asked};
 
 use bpaf::{Args, OptionParser, ParseFailure, Parser};

@@ -3,11 +3,10 @@ ghost use Rattle.std.specs.Prelude.{◌≡◌, ◌<◌, ◌≤◌, ◌≤ℤ◌,
 ghost use Rattle.bpaf_batteries.specs.Verbosity.{AreVerboseAndQuiet, CountsDescribe, CountsOutcome};
 ghost use Rattle.bpaf_batteries.specs.Verbosity.{CountsReads, CountsSpared, PickOutcome, PicksItem};
 ghost use Rattle.bpaf_batteries.specs.Verbosity.{VerbosityCounts, VerbosityPicks, counted_shorts};
-ghost use Rattle.bpaf_batteries.specs.VerbosityLaws.{counts_lawful, counts_show, pick_lawful};
-ghost use Rattle.bpaf_batteries.specs.Level.{IsLevelOf};
-ghost use Rattle.bpaf_laws.specs.Transform.{MapOutcome, MapReads};
-ghost use Rattle.bpaf_laws.specs.{Spared.IsNotMemory};
-ghost use Rattle.bpaf_laws.proofs.TransformLaws.{map_lawful};
+ghost use Rattle.bpaf_batteries.specs.Verbosity.{counts_lawful, counts_show, pick_lawful};
+ghost use Rattle.bpaf_batteries.specs.Keys.{IsLevelOf};
+ghost use Rattle.bpaf_laws.specs.{Combinators.MapOutcome, Combinators.MapReads, Laws.IsNotMemory};
+ghost use Rattle.bpaf_laws.proofs.CombinatorLaws.{map_lawful};
 
 use crate::counts::verbose_and_quiet;
 use crate::pair::KeyCounts;

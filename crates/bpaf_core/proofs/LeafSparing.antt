@@ -2,14 +2,14 @@
 use Rattle.std.specs.Prelude.{◌≡◌, false, Option, None, Result, Ok, Err}
 use Rattle.std.specs.Result.{IfErr}
 use Rattle.std.proofs.Common.{true≢false, sym, ◌∙◌, ap}
-use Rattle.bpaf_line.specs.declared.error.Message.{Message}
-use Rattle.bpaf_line.specs.declared.error.Message.TheVariants.{Memory}
-use Rattle.bpaf_line.specs.{declared.error.Error.Error, Messages.is_memory, Situation.Situation}
+use Rattle.bpaf_line.specs.{declared.error.Message.Message}
+use Rattle.bpaf_line.specs.{declared.error.Message.TheVariants.Memory, declared.error.Error.Error}
+use Rattle.bpaf_line.specs.{Messages.is_memory, Situation.Situation}
 use Rattle.bpaf_text.specs.Named.{Named}
-use Rattle.bpaf_laws.specs.Flag.{FlagFails, FlagOutcome, IsFlagAbsent}
-use Rattle.bpaf_keys.specs.Extra.{ExtraOutcome, help, neither, no_memory, version}
-use Rattle.bpaf_keys.specs.{Info.RunInfo, declared.info.ExtraParams.ExtraParams}
-use Rattle.bpaf_core.specs.Leaves.{AsksForNeither, ClonesNothing}
+use Rattle.bpaf_laws.specs.Leaves.{FlagFails, FlagOutcome, IsFlagAbsent}
+use Rattle.bpaf_keys.specs.Info.{ExtraOutcome, help, neither, no_memory, version, RunInfo}
+use Rattle.bpaf_keys.specs.declared.info.ExtraParams.{ExtraParams}
+use Rattle.bpaf_core.specs.Run.{AsksForNeither, ClonesNothing}
 
 module _ {T : Type 0} (named : Named) (absent : Option T) (s t : Situation) where
   -- by the message of the refusal

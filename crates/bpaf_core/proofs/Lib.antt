@@ -1,12 +1,5 @@
 pub use Rattle.bpaf_parts.proofs.Branching
 pub mod Running
-pub mod Dealing
-pub mod Ending
 pub mod Commanding
-pub mod Attempting
-pub mod Refusing
-pub mod CommandSparing
-pub mod Leaving
 pub mod RunSparing
 pub mod LeafSparing
-pub mod Shown

@@ -3,12 +3,12 @@ use Rattle.std.specs.Prelude.{Result}
 use Rattle.std.proofs.Common.{true≢false}
 use Rattle.bpaf_doc.specs.Shape.{Shape}
 use Rattle.bpaf_line.specs.{declared.failure.ParseFailure.ParseFailure, Situation.beginning}
-use Rattle.bpaf_words.specs.{Arguments.Given, Spelling.Known}
-use Rattle.bpaf_laws.specs.{Reading.Outcome, Spared.WithoutMemory}
+use Rattle.bpaf_words.specs.{Arguments.Given, Line.Known}
+use Rattle.bpaf_laws.specs.{Reading.Outcome, Laws.WithoutMemory}
 use Rattle.bpaf_keys.specs.Info.{RunInfo}
-use Rattle.bpaf_core.specs.EndingLaws.{run_ending}
+use Rattle.bpaf_core.specs.Ending.{run_ending}
 use Rattle.bpaf_core.specs.Run.{IsNotWant, RunsWords, ran, no_line, no_memory}
-use Rattle.bpaf_core.proofs.CommandSparing.{spared_run}
+use Rattle.bpaf_core.proofs.Commanding.{spared_run}
 
 module _ {T : Type 0} (inner : Outcome T) (describes : Shape → Type 0) (info : RunInfo) where
   -- an answer that isn't told as want of memory comes of an inner one that isn't it

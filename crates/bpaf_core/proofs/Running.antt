@@ -1,22 +1,43 @@
--- How the answers of a run are put together.
+-- How the answers and the end of a run are put together: a value is dealt out of its words, a
+-- refusal is one of the twelve.
 use Rattle.std.proofs.Common.{◌≡◌, ◌==◌, ℕ, Bool, true, List, [], ap, Result, Ok, Err, ⊎_elim}
-use Rattle.std.proofs.Common.{subst, sym, refl, IsErrAnd, arith}
-use Rattle.std.specs.Result.{IfErr}
+use Rattle.std.proofs.Common.{subst, sym, refl, IsErrAnd, arith, false, not, ◌&&◌, ◌∙◌, ◌<◌, length}
+use Rattle.std.proofs.Common.{IfOk, true≢false, nat_lt, Some, None, Option}
 use Rattle.std.proofs.lemmas.Bool.Decides.{nat_tests}
+use Rattle.std.specs.Result.{IfErr}
 use Rattle.bpaf_line.specs.declared.error.Message.TheVariants.{Memory, Ambiguity}
 use Rattle.bpaf_line.specs.declared.failure.ParseFailure.{ParseFailure}
-use Rattle.bpaf_line.specs.Situation.{Situation, Context, beginning}
-use Rattle.bpaf_keys.specs.Info.{RunInfo}
-use Rattle.bpaf_doc.specs.{Shape.Shape, Walks.parts}
-use Rattle.bpaf_laws.specs.{Reading.Outcome, ShownNames.ShowsNames, ShownNames.shorts_of}
-use Rattle.bpaf_words.specs.Spelling.{Known, ShortNames, known_at}
-use Rattle.bpaf_words.specs.{Arguments.Given, Line.IsLine, Splitting.ReadsLine}
-use Rattle.bpaf_words.specs.{declared.line.Line.Line, declared.line.LineFault.LineFault}
-use Rattle.bpaf_line.specs.{declared.error.Message.Message, Rendering.Renders}
-use Rattle.bpaf_core.specs.Run.{Runs, RunsWords, ran, no_line, no_memory}
-use Rattle.bpaf_core.specs.Refusals.{IsOneOfTwelve, without_memory}
-use Rattle.bpaf_core.specs.{Known.known_names, Known.Starts, Ending.EndsRun, Ending.TellsNoLine}
+use Rattle.bpaf_line.specs.Situation.{Situation, Context, beginning, is_taken, is_open, in_scope}
+use Rattle.bpaf_line.specs.Situation.{is_marker, is_dealt_place, open_count}
+use Rattle.bpaf_line.specs.Messages.{is_memory, is_answer}
+use Rattle.bpaf_line.specs.{declared.error.Message.Message, Rendering.Renders, Taking.IsContext}
+use Rattle.bpaf_line.specs.{declared.error.Error.Error}
+use Rattle.bpaf_keys.specs.{Info.RunInfo, Info.ExtraOutcome, declared.info.ExtraParams.ExtraParams}
+use Rattle.bpaf_doc.specs.Shape.{Shape, parts, shape_of}
+use Rattle.bpaf_doc.specs.{declared.doc.Piece.Piece, declared.meta.Meta.Meta}
+use Rattle.bpaf_laws.specs.Reading.{Outcome, Readings, Share}
+use Rattle.bpaf_laws.specs.Laws.{ShowsNames, shorts_of, Lawful, Keeps, Closes, newly, NamesAnswer}
+use Rattle.bpaf_laws.specs.Laws.{Refusal, refusal_of}
+use Rattle.bpaf_laws.specs.Combinators.{DefaultDescribes}
+use Rattle.bpaf_words.specs.Line.{Known, ShortNames, known_at, IsLine}
+use Rattle.bpaf_words.specs.{Arguments.Given, Splitting.ReadsLine, declared.line.Line.Line}
+use Rattle.bpaf_words.specs.{declared.line.LineFault.LineFault}
+use Rattle.bpaf_core.specs.Run.{Runs, RunsWords, ran, no_line, no_memory, known_names, Starts}
+use Rattle.bpaf_core.specs.Run.{value, IsDealtOut}
+use Rattle.bpaf_core.specs.Refusals.{IsOneOfTwelve, without_memory, IsNamed, IsToldOf}
+use Rattle.bpaf_core.specs.Ending.{EndsRun, TellsNoLine, EndsRefused, PassesOrTells, ShowsHelp}
+use Rattle.bpaf_core.specs.Ending.{Tells, is_shown, memory, passed_on, refused, usage, Shows}
+use Rattle.bpaf_core.specs.Ending.{shows_usage, leftover_is_told}
+use mathlib.Core.Path.{fun_ext}
+use Rattle.bpaf_line.proofs.Beginning.{taken_at_beginning}
+use Rattle.bpaf_laws.proofs.Keeping.{none_below, name_of, shows_nothing}
 use Rattle.bpaf_line.specs.declared.failure.ParseFailure.TheVariants as failure
+use Rattle.bpaf_line.specs.declared.error.Message.TheVariants as message
+use Rattle.bpaf_laws.specs.Laws as names
+use Rattle.bpaf_keys.specs.declared.info.ExtraParams.TheVariants as extra
+use Rattle.bpaf_core.specs.Ending as ending
+use Rattle.bpaf_core.specs.Refusals as name
+use Rattle.bpaf_core.specs.Run as run
 
 -- a count that was tested for nothing
 pub nothing_left : (n : ℕ) (empty : Bool) → empty ≡ (n == 0) → empty ≡ true → n ≡ 0
@@ -108,3 +129,231 @@ pub want_named : {T : Type 0} (inner : Outcome T) (describes : Shape → Type 0)
 want_named inner describes info known given (Ok v) wanted = absurd wanted
 want_named inner describes info known given (Err f) wanted =
     subst (IsOneOfTwelve inner describes info known given) (sym wanted) without_memory
+
+module _ (describes : Shape → Type 0) (info : RunInfo) (t : Situation) where
+  -- want of memory ends the run
+  pub memory_ends : (m : Message) (wanted : Bool) → is_memory m ≡ true
+      → EndsRefused describes info wanted m t failure.Memory t
+  memory_ends m wanted is s wants = memory m s t is
+
+  -- help stands in for the message
+  pub usage_ends : (m : Message) (wanted : Bool) → is_memory m ≡ false
+      → (wanted && not (is_shown m)) ≡ true → (f : ParseFailure)
+      → ShowsHelp describes info false t f → EndsRefused describes info wanted m t f t
+  usage_ends m wanted other is f shows s wants =
+      usage m s f t other (sym (ap (λ x. x && not (is_shown m)) wants) ∙ is) shows
+
+  -- a message is told
+  told_ends : (m : Message) (wanted : Bool) → is_memory m ≡ false
+      → (wanted && not (is_shown m)) ≡ false → is_answer m ≡ false → (f : ParseFailure)
+      → (u : Situation) → Tells describes info m t f u → EndsRefused describes info wanted m t f u
+  told_ends m wanted other is plain f u tells s wants =
+      refused m s t f u other (sym (ap (λ x. x && not (is_shown m)) wants) ∙ is) plain tells
+
+  -- the answer of an inner run is passed on
+  answer_ends : (inner : ParseFailure) (wanted : Bool)
+      → is_memory (message.ParseFailure inner) ≡ false
+      → (wanted && not (is_shown (message.ParseFailure inner))) ≡ false
+      → EndsRefused describes info wanted (message.ParseFailure inner) t inner t
+  answer_ends inner wanted other is s wants =
+      passed_on inner s t other
+      (sym (ap (λ x. x && not (is_shown (message.ParseFailure inner))) wants) ∙ is)
+
+  -- one or the other
+  pub others_end : (m : Message) (wanted : Bool) → is_memory m ≡ false
+      → (wanted && not (is_shown m)) ≡ false → (f : ParseFailure) (u : Situation)
+      → PassesOrTells describes info m t f u → EndsRefused describes info wanted m t f u
+  others_end (message.ParseFailure inner) wanted other is f u passes =
+      subst (λ x. EndsRefused describes info wanted (message.ParseFailure inner) t f x)
+      (sym passes.1)
+      (subst (λ x. EndsRefused describes info wanted (message.ParseFailure inner) t x t)
+      (sym passes.0) (answer_ends inner wanted other is))
+  others_end m wanted other is f u tells = told_ends m wanted other is refl f u tells
+
+-- What a run accepts is dealt out of its words.
+
+-- at one place: newly taken is the same as dealt, where each dealt place is taken
+dealt_at : (taken before dealt : Bool) → before ≡ not dealt → (dealt ≡ true → taken ≡ true)
+    → (taken && not before) ≡ dealt
+dealt_at taken before true e h = rw (e, h refl) refl
+dealt_at true before false e h = rw e refl
+dealt_at false before false e h = refl
+
+-- at one place: what isn't open, and would be taken outside the scope, is taken
+taken_at : (inside taken : Bool) → (inside ≡ false → taken ≡ true) → (inside && not taken) ≡ false
+    → taken ≡ true
+taken_at true true closed none = refl
+taken_at true false closed none = absurd (true≢false none)
+taken_at false taken closed none = closed refl
+
+-- a place that is dealt out lies in the line
+dealt_within : (context : Context) (p : ℕ) → is_dealt_place context p ≡ true
+    → p < length context.line
+dealt_within context p dealt = of_and (nat_lt p (length context.line))
+    (is_marker context.marker p) refl dealt
+  where
+    of_and : (x y : Bool) → nat_lt p (length context.line) ≡ x → (x && not y) ≡ true
+        → p < length context.line
+    of_and true y e both = grind (arith, nat_tests)
+    of_and false y e both = cc
+
+-- at the beginning each place of the line lies in the scope
+in_whole_line : (context : Context) (p : ℕ) → p < length context.line
+    → in_scope (beginning context) p ≡ true
+in_whole_line context p within = grind (arith, nat_tests)
+
+-- an evaluation from the beginning that left nothing took all places but that of the marker
+all_newly : (context : Context) (t : Situation) → Keeps (beginning context) t
+    → Closes (beginning context) t → open_count t ≡ 0
+    → newly (beginning context) t ≡ is_dealt_place context
+all_newly context t keeps closed none =
+    fun_ext (λ p. dealt_at (is_taken t p) (is_taken (beginning context) p)
+    (is_dealt_place context p)
+    (taken_at_beginning context p)
+    (λ dealt.
+    let within : p < length context.line = dealt_within context p dealt in
+    let same : length t.context.line ≡ length context.line =
+    ap (λ c. length c.line) keeps.context in
+    taken_at (in_scope t p) (is_taken t p) (closed p (in_whole_line context p within))
+    (none_below (is_open t) (length t.context.line) none p (omega arith))))
+
+module _ {T : Type 0} {inner : Outcome T} {reads : Readings T} {describes : Shape → Type 0}
+    {info : RunInfo} {known : Known} (given : Given) (law : Lawful T inner reads) where
+  -- a value that a run over the words' line answers is dealt out of the words
+  dealt_from : (context : Context) (v : T) (t : Situation) → IsContext known given context
+      → Runs T inner (EndsRun describes info) (beginning context) (Ok v) t
+      → IsDealtOut T reads known given v
+  dealt_from context v t is_context (value w left answered none) =
+      let read = law.ok (beginning context) left w answered in
+      record {
+        context = context;
+        is_context = is_context;
+        read = subst (λ (share : Share). reads context share w)
+            (all_newly context left read.keeps read.closed none) read.reading;
+      }
+
+  -- a value that a run over words answers is dealt out of them
+  pub words_dealt : (v : T) → RunsWords T inner describes info known given (Ok v)
+      → IsDealtOut T reads known given v
+  words_dealt v (ran context r t is_context run) = dealt_from context v t is_context run
+
+  -- so is each value among its answers
+  pub if_dealt : (r : Result T ParseFailure) → RunsWords T inner describes info known given r
+      → IfOk r (λ v. IsDealtOut T reads known given v)
+  if_dealt (Ok v) run = words_dealt v run
+  if_dealt (Err f) run = tt
+
+-- Each refusal of a run is one of the twelve.
+
+module _ {T : Type 0} (inner : Outcome T) (describes : Shape → Type 0) (info : RunInfo) where
+  module _ (s : Situation) where
+    -- a failure that has one of the twelve names
+    abbrev IsAnyNamed : ParseFailure → Type 0
+    IsAnyNamed f = (name : Refusal) × IsNamed inner describes info s name f
+
+    -- want of memory has
+    wanting_is_named : IsAnyNamed failure.Memory
+    wanting_is_named = (names.no_memory, name.wanting)
+
+    -- so has what was asked for
+    asked_is_named : (r : Result T Error) (asked : ExtraParams) (left seen : Situation)
+        (f : ParseFailure) → inner s r left → ExtraOutcome info left (Ok asked) seen
+        → Shows describes info asked seen f → IsAnyNamed f
+    asked_is_named r asked left seen failure.Memory came looked shows = wanting_is_named
+    asked_is_named r asked left seen (failure.Stdout doc full) came looked shows =
+        (names.help_or_version, name.asked_for r asked left seen doc full came looked shows)
+    asked_is_named r (extra.Help more) left seen (failure.Stderr doc) came looked shows =
+        absurd shows
+    asked_is_named r (extra.Version text) left seen (failure.Stderr doc) came looked shows =
+        absurd shows
+
+    -- and help where nothing was there to read
+    usage_is_named : (e : Error) (left : Situation) (f : ParseFailure) → inner s (Err e) left
+        → shows_usage info e.0 s ≡ true → ShowsHelp describes info false left f → IsAnyNamed f
+    usage_is_named e left failure.Memory came wanted shows = wanting_is_named
+    usage_is_named e left (failure.Stdout doc full) came wanted shows =
+        (names.help_or_version, name.nothing_to_read e left doc full came wanted shows)
+    usage_is_named e left (failure.Stderr doc) came wanted shows = absurd shows
+
+    module _ (m : Message) (left : Situation) (plain : is_answer m ≡ false)
+        (is_told : IsToldOf inner s m left) where
+      -- what is told of a message has its name
+      told_is_named : (e : Error) (t : Situation) (f : ParseFailure)
+          → ExtraOutcome info left (Err e) t → Renders m t f → IsAnyNamed f
+      told_is_named e t failure.Memory unasked tells = wanting_is_named
+      told_is_named e t (failure.Stdout doc full) unasked tells =
+          absurd (shows_nothing m t doc full plain tells)
+      told_is_named e t (failure.Stderr doc) unasked tells =
+          let named : (name : Refusal) × (refusal_of m ≡ Some name) = name_of m plain in
+          (named.0, name.told named.0 m left t e doc is_told unasked named.1 tells)
+
+      -- whatever is told of it has a name
+      tells_is_named : (r : Result T Error) (f : ParseFailure) (t : Situation) → inner s r left
+          → Tells describes info m left f t → IsAnyNamed f
+      tells_is_named r f t came (ending.shown asked given after looked shows) =
+          asked_is_named r asked left t f came looked shows
+      tells_is_named r f t came (ending.told e given after looked spared tells) =
+          told_is_named e t f looked tells
+      tells_is_named r f t came (ending.wanting e after looked is) = wanting_is_named
+
+    -- a refusal of the parser ends with one of the twelve, where an answer that it hands on has one
+    refused_is_named : (m : Message) (e : Error) (left : Situation) (f : ParseFailure)
+        (t : Situation) → inner s (Err e) left → e.0 ≡ m → NamesAnswer m
+        → EndsRun describes info (Some m) s left f t → IsAnyNamed f
+    refused_is_named m e left f t came is answers (ending.memory other before after wanting) =
+        wanting_is_named
+    refused_is_named m e left f t came is answers
+        (ending.usage other before given after spared wanted shows) =
+        usage_is_named e left f came (subst (λ n. shows_usage info n s ≡ true) (sym is) wanted) shows
+    refused_is_named m e left f t came is answers (ending.passed_on given before after spared none) =
+        (answers.0, name.handed_on answers.0 e left f came is answers.1)
+    refused_is_named m e left f t came is answers
+        (ending.refused other before middle given after spared none plain tells) =
+        tells_is_named m left plain (name.refusal e left came is) (Err e) f t came tells
+
+    -- items that were left end with one of the twelve
+    left_is_named : (v : T) (left : Situation) (f : ParseFailure) (t : Situation)
+        → inner s (Ok v) left → EndsRun describes info None s left f t → IsAnyNamed f
+    left_is_named v left f t came (ending.leftover m before middle given after is tells) =
+        tells_is_named m left (leftover_is_told left m is) (name.leftover v left came is) (Ok v) f t
+        came tells
+
+  module _ {reads : Readings T} (law : Lawful T inner reads) where
+    -- a run from a situation on
+    run_is_named : (s : Situation) (f : ParseFailure) (t : Situation)
+        → Runs T inner (EndsRun describes info) s (Err f) t → IsAnyNamed s f
+    run_is_named s f t (run.leftover v left given after came ends) =
+        left_is_named s v left f t came ends
+    run_is_named s f t (run.refused e left given after came ends) =
+        refused_is_named s e.0 e left f t came refl (law.named s left e came) ends
+
+    -- a run over words
+    pub words_are_named : (known : Known) (given : Given) (r : Result T ParseFailure)
+        → RunsWords T inner describes info known given r
+        → IfErr r (IsOneOfTwelve inner describes info known given)
+    words_are_named known given (Ok v) runs = tt
+    words_are_named known given (Err f) (run.ran context answer t is_context runs) =
+        let named = run_is_named (beginning context) f t runs in
+        name.named context named.0 f is_context named.1
+    words_are_named known given (Err f)
+        (run.no_line word number context told lacks empty named tells) =
+        name.no_line word number context f lacks empty named tells
+    words_are_named known given (Err f) run.no_memory = name.without_memory
+
+-- what is shown of one shape is shown of a parser that may show it
+default_of : (describes : Shape → Type 0) (inner : Shape) (text : Option (List Piece))
+    (shape : Shape) → describes inner → DefaultDescribes (λ s. s ≡ inner) text shape
+    → DefaultDescribes describes text shape
+default_of describes inner None shape shown of_it =
+    (of_it.0, subst describes (sym of_it.1) shown, of_it.2)
+default_of describes inner (Some text) shape shown of_it =
+    (of_it.0, subst describes (sym of_it.1) shown, of_it.2)
+
+-- so what is shown, where memory for it isn't refused, is shown of that parser
+pub default_shown : {E : Type 0} (describes : Shape → Type 0) (inner : Shape)
+    (text : Option (List Piece)) (shown : Result Meta E) → describes inner
+    → IfOk shown (λ meta. DefaultDescribes (λ s. s ≡ inner) text (shape_of meta))
+    → IfOk shown (λ meta. DefaultDescribes describes text (shape_of meta))
+default_shown describes inner text (Ok meta) of_it told =
+    default_of describes inner text (shape_of meta) of_it told
+default_shown describes inner text (Err e) of_it told = _

@@ -6,17 +6,16 @@ use Rattle.bpaf_line.specs.declared.failure.ParseFailure.{ParseFailure}
 use Rattle.bpaf_line.specs.Situation.{Situation, open_count, with_current}
 use Rattle.bpaf_line.specs.{declared.error.Error.Error, declared.error.Message.Message}
 use Rattle.bpaf_laws.specs.Command.{Called, CommandReads, inside, opening_words}
+use Rattle.bpaf_laws.specs.Laws.{HasSomeName, NamesAnswer, Keeps, Lawful, Reads}
+use Rattle.bpaf_laws.specs.Reading.{Outcome, Readings}
 use Rattle.bpaf_laws.proofs.CommandLaws.{inside_read, keeps_inside, keeps_opened}
-use Rattle.bpaf_laws.proofs.{Keeping.keeps_trans, Keeping.keeps_unset, NamesAnswer.names_same}
-use Rattle.bpaf_laws.specs.RefusalNames.{HasSomeName, NamesAnswer}
-use Rattle.bpaf_laws.specs.{Reading.Outcome, Reading.Readings, Laws.Keeps, Laws.Lawful, Laws.Reads}
+use Rattle.bpaf_laws.proofs.Keeping.{keeps_trans, keeps_unset, names_same}
 use Rattle.std.proofs.Common.{⊎_elim}
-use Rattle.bpaf_core.specs.Run.{Runs, leftover, refused}
+use Rattle.bpaf_core.specs.Run.{Runs, leftover, refused, value as run_value}
 use Rattle.bpaf_core.specs.Command.{CommandOutcome, IsMissingPart, ended, missing, no_memory, value}
-use Rattle.bpaf_core.specs.{Ending.Ending, EndingLaws.LawfulEnding}
+use Rattle.bpaf_core.specs.Ending.{Ending, LawfulEnding}
 use Rattle.bpaf_parts.specs.Failures.{end_message}
 use Rattle.bpaf_line.specs.declared.failure.ParseFailure.TheVariants as failure
-use Rattle.bpaf_core.specs.Run.{value as run_value}
 
 -- after a value of a run nothing is present
 pub run_empty : {T : Type 0} {inner : Outcome T} {ending : Ending} (s : Situation) (v : T)

@@ -1,16 +1,16 @@
 -- Each refusal of a run has one of twelve names.
 use Rattle.std.specs.Prelude.{◌≡◌, ℕ, Bool, true, false, List, [], Some, Result, Ok, Err}
-use Rattle.bpaf_line.specs.declared.error.Message.{Message}
 use Rattle.bpaf_line.specs.declared.failure.ParseFailure.{ParseFailure}
+use Rattle.bpaf_line.specs.Situation.{Context, Situation, beginning}
+use Rattle.bpaf_line.specs.{declared.error.Message.Message, declared.error.Error.Error}
+use Rattle.bpaf_line.specs.{Rendering.Renders, Taking.IsContext}
 use Rattle.bpaf_doc.specs.{declared.doc.Piece.Piece, Shape.Shape}
 use Rattle.bpaf_messages.specs.Leftover.{IsLeftover}
-use Rattle.bpaf_line.specs.Situation.{Context, Situation, beginning}
-use Rattle.bpaf_words.specs.{Arguments.Given, Line.HasNoLine, Spelling.Known}
-use Rattle.bpaf_line.specs.{declared.error.Error.Error, Rendering.Renders, Constructing.IsContext}
+use Rattle.bpaf_words.specs.{Arguments.Given, Line.HasNoLine, Line.Known}
 use Rattle.bpaf_laws.specs.Reading.{Outcome}
-use Rattle.bpaf_laws.specs.RefusalNames.{HasName, Refusal, help_or_version, no_memory, refusal_of}
+use Rattle.bpaf_laws.specs.Laws.{HasName, Refusal, help_or_version, no_memory, refusal_of}
 use Rattle.bpaf_core.specs.Ending.{Shows, ShowsHelp, shows_usage}
-use Rattle.bpaf_keys.specs.{declared.info.ExtraParams.ExtraParams, Extra.ExtraOutcome, Info.RunInfo}
+use Rattle.bpaf_keys.specs.{declared.info.ExtraParams.ExtraParams, Info.ExtraOutcome, Info.RunInfo}
 use Rattle.bpaf_line.specs.declared.error.Message.TheVariants as message
 use Rattle.bpaf_line.specs.declared.failure.ParseFailure.TheVariants as failure
 

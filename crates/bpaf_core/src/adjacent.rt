@@ -2,7 +2,7 @@
 ghost use Rattle.std.specs.Prelude.{◌≡◌, ◌<◌, ◌≤◌, length};
 ghost use Rattle.bpaf_line.specs.Marks.{CanRedo, Fits, KeepsMarks, redone, undone};
 ghost use Rattle.bpaf_core.specs.Ending.{EndsRun};
-ghost use Rattle.bpaf_core.specs.Adjacent.{AdjacentRuns, Attempt, Attempts, Retry};
+ghost use Rattle.bpaf_core.specs.Command.{AdjacentRuns, Attempt, Attempts, Retry};
 
 use crate::parser::Parser;
 use crate::run::Run;

@@ -1,9 +1,10 @@
 //! Arguments.
 ghost use Rattle.std.specs.{Prelude.◌≡◌, Result.IfErr};
-ghost use Rattle.bpaf_laws.specs.Argument.{ArgumentOutcome, ArgumentReads, argument_shape};
-ghost use Rattle.bpaf_laws.specs.{KeyFirst.KeyBeforeEnvironment, ShownNames.of_arguments};
+ghost use Rattle.bpaf_laws.specs.Leaves.{ArgumentOutcome, ArgumentReads, argument_shape};
+ghost use Rattle.bpaf_laws.specs.Leaves.{KeyBeforeEnvironment};
+ghost use Rattle.bpaf_laws.specs.Laws.{of_arguments};
 ghost use Rattle.bpaf_laws.proofs.{ArgumentLaws.argument_lawful, ShownNames.argument_shows};
-ghost use Rattle.bpaf_core.specs.Leaves.{FaultsTextAlone};
+ghost use Rattle.bpaf_core.specs.Run.{FaultsTextAlone};
 
 use crate::parser::Parser;
 use bpaf_doc::Meta;

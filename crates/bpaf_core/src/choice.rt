@@ -1,7 +1,6 @@
 //! A choice of two parsers.
 ghost use Rattle.bpaf_laws.specs.Choice.{ChoiceOutcome, ChoiceReads, ChoiceDescribes, LeftmostWins};
-ghost use Rattle.bpaf_laws.specs.Spared.{IsNotMemory, WithoutMemory};
-ghost use Rattle.bpaf_laws.specs.ShownNames.{joined_shorts};
+ghost use Rattle.bpaf_laws.specs.Laws.{IsNotMemory, WithoutMemory, joined_shorts};
 ghost use Rattle.bpaf_parts.specs.Branches.{HasAnswered, IsStart, start_of};
 ghost use Rattle.bpaf_laws.proofs.{ChoiceLaws.choice_lawful, ShownNames.choice_shows};
 

@@ -1,9 +1,9 @@
 //! All values of a parser, in a collection of the caller's choice.
 ghost use Rattle.std.specs.Prelude.{◌≡◌, true, List};
-ghost use Rattle.bpaf_laws.specs.Repeat.{CollectOutcome, ListReads, CollectIsBounded};
-ghost use Rattle.bpaf_laws.specs.Repeat.{ManyDescribes};
-ghost use Rattle.bpaf_laws.specs.{Transform.MapReads, Spared.IsNotMemory, Spared.WithoutMemory};
-ghost use Rattle.bpaf_laws.proofs.{RepeatLaws.collect_lawful, ShownNames.many_shows};
+ghost use Rattle.bpaf_laws.specs.Combinators.{CollectOutcome, ListReads, CollectIsBounded};
+ghost use Rattle.bpaf_laws.specs.Combinators.{ManyDescribes, MapReads};
+ghost use Rattle.bpaf_laws.specs.Laws.{IsNotMemory, WithoutMemory};
+ghost use Rattle.bpaf_laws.proofs.{CombinatorLaws.collect_lawful, ShownNames.many_shows};
 
 use crate::parser::Parser;
 use crate::repeat::values_until_stop;

@@ -1,7 +1,6 @@
 //! Commands: a word that opens a run of its own over the items after it.
 ghost use Rattle.std.specs.Prelude.{◌≡◌, IfOk, Some, List, true, false};
-ghost use Rattle.bpaf_doc.specs.declared.doc.Piece.{Piece};
-ghost use Rattle.bpaf_doc.specs.Fold.{TextPieces};
+ghost use Rattle.bpaf_doc.specs.{declared.doc.Piece.Piece, Print.TextPieces};
 ghost use Rattle.bpaf_laws.specs.Command.{named_only, with_long_name, with_short_name};
 ghost use Rattle.bpaf_keys.specs.Info.{short_descr};
 

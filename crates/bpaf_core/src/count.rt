@@ -1,9 +1,10 @@
 //! How many values a parser gives, and the last of them.
-ghost use Rattle.bpaf_laws.specs.Repeat.{CountOutcome, LastOutcome, ListReads, ManyDescribes};
-ghost use Rattle.bpaf_laws.specs.Repeat.{EndsIn, SomeDescribes, UntilFault, UntilRest};
-ghost use Rattle.bpaf_laws.specs.{Transform.MapReads, Spared.IsNotMemory, Spared.WithoutMemory};
+ghost use Rattle.bpaf_laws.specs.Combinators.{CountOutcome, LastOutcome, ListReads, ManyDescribes};
+ghost use Rattle.bpaf_laws.specs.Combinators.{EndsIn, SomeDescribes, UntilFault, UntilRest};
+ghost use Rattle.bpaf_laws.specs.Combinators.{MapReads};
+ghost use Rattle.bpaf_laws.specs.Laws.{IsNotMemory, WithoutMemory};
 ghost use Rattle.std.specs.Prelude.{◌≡◌, IfErr, IfOk, List, ℕ, length, [], ◌∷◌, ◌++◌};
-ghost use Rattle.bpaf_laws.proofs.RepeatLaws.{count_lawful, last_lawful};
+ghost use Rattle.bpaf_laws.proofs.CombinatorLaws.{count_lawful, last_lawful};
 ghost use Rattle.bpaf_laws.proofs.ShownNames.{many_shows, some_shows};
 
 use crate::optional::parse_option;

@@ -1,9 +1,9 @@
 //! What a run may be asked for beside its value, as a parser.
 ghost use Rattle.std.specs.{Prelude.◌≡◌, Prelude.◌++◌, Result.IfErr, Option.option_map_or};
-ghost use Rattle.bpaf_core.specs.Leaves.{AsksForNeither};
-ghost use Rattle.bpaf_keys.specs.Extra.{ExtraOutcome, ExtraReads, extra_shape};
-ghost use Rattle.bpaf_keys.proofs.ExtraLaws.{extra_lawful, extra_shows};
-ghost use Rattle.bpaf_laws.specs.ShownNames.{of_flags};
+ghost use Rattle.bpaf_core.specs.Run.{AsksForNeither};
+ghost use Rattle.bpaf_keys.specs.Info.{ExtraOutcome, ExtraReads, extra_shape};
+ghost use Rattle.bpaf_keys.proofs.Looking.{extra_lawful, extra_shows};
+ghost use Rattle.bpaf_laws.specs.Laws.{of_flags};
 
 use crate::parser::Parser;
 use bpaf_doc::Meta;

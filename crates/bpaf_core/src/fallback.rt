@@ -1,12 +1,12 @@
 //! A value that stands in where a parser gives none.
 ghost use Rattle.std.specs.{Prelude.◌≡◌, Prelude.IfOk, Prelude.Ok, Fn.FnReturnsAt};
-ghost use Rattle.bpaf_laws.specs.Default.{AttemptOutcome, ShowsAnswer, ShowsDefault};
-ghost use Rattle.bpaf_laws.specs.Default.{ShowsFormatted, FallbackOutcome, GivesClone};
-ghost use Rattle.bpaf_laws.specs.Default.{DefaultDescribes, GivesAnswer};
-ghost use Rattle.bpaf_laws.specs.Spared.{IsNotMemory, WithoutMemory, DefaultTakesNothing};
-ghost use Rattle.bpaf_laws.specs.{Choice.ChoiceReads, Pure.PureReads};
-ghost use Rattle.bpaf_laws.proofs.DefaultLaws.{fallback_lawful, names_answer};
-ghost use Rattle.bpaf_laws.proofs.{NamesAnswer.names_want, ShownNames.default_shows};
+ghost use Rattle.bpaf_laws.specs.Combinators.{AttemptOutcome, ShowsAnswer, ShowsDefault};
+ghost use Rattle.bpaf_laws.specs.Combinators.{ShowsFormatted, FallbackOutcome, GivesClone};
+ghost use Rattle.bpaf_laws.specs.Combinators.{DefaultDescribes, GivesAnswer, PureReads};
+ghost use Rattle.bpaf_laws.specs.Laws.{IsNotMemory, WithoutMemory, DefaultTakesNothing};
+ghost use Rattle.bpaf_laws.specs.Choice.{ChoiceReads};
+ghost use Rattle.bpaf_laws.proofs.CombinatorLaws.{fallback_lawful, names_answer};
+ghost use Rattle.bpaf_laws.proofs.{Keeping.names_want, ShownNames.default_shows};
 
 use crate::parser::Parser;
 use bpaf_doc::{Doc, Meta};

@@ -1,9 +1,9 @@
 //! Flags.
 ghost use Rattle.std.specs.{Prelude.◌≡◌, Result.IfErr};
-ghost use Rattle.bpaf_core.specs.Leaves.{ClonesNothing};
-ghost use Rattle.bpaf_laws.specs.Flag.{FlagOutcome, FlagReads, flag_shape};
-ghost use Rattle.bpaf_laws.specs.ShownNames.{of_flags};
-ghost use Rattle.bpaf_laws.proofs.{FlagLaws.flag_lawful, ShownNames.flag_shows};
+ghost use Rattle.bpaf_core.specs.Run.{ClonesNothing};
+ghost use Rattle.bpaf_laws.specs.Leaves.{FlagOutcome, FlagReads, flag_shape};
+ghost use Rattle.bpaf_laws.specs.Laws.{of_flags};
+ghost use Rattle.bpaf_laws.proofs.{LeafLaws.flag_lawful, ShownNames.flag_shows};
 
 use crate::parser::Parser;
 use bpaf_doc::Meta;

@@ -1,9 +1,9 @@
 //! Parsers that are not shown.
 ghost use Rattle.std.specs.Prelude.{◌≡◌, refl};
 ghost use Rattle.bpaf_doc.specs.Shape.{Skip};
-ghost use Rattle.bpaf_laws.specs.Spared.{IsNotMemory, WithoutMemory};
-ghost use Rattle.bpaf_laws.specs.{Hide.HideOutcome, ShownNames.no_shorts};
-ghost use Rattle.bpaf_laws.proofs.{HideLaws.hide_lawful, ShownNames.one_shape};
+ghost use Rattle.bpaf_laws.specs.Laws.{IsNotMemory, WithoutMemory, no_shorts};
+ghost use Rattle.bpaf_laws.specs.Combinators.{HideOutcome};
+ghost use Rattle.bpaf_laws.proofs.{CombinatorLaws.hide_lawful, ShownNames.one_shape};
 
 use crate::parser::Parser;
 use bpaf_doc::Meta;

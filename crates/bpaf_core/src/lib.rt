@@ -10,17 +10,17 @@
 //!   to the readings: the newly taken places with the value are a reading, each taken place lay
 //!   present in the scope, and so on; and what a run inside ended with, handed on as a refusal, has
 //!   one of twelve names (specs/Laws.antt). Its law `shows` ties what it may show to the short names
-//!   (specs/ShownNames.antt). Every implementation proves them, from the laws of its inner parsers
+//!   (specs/Laws.antt). Every implementation proves them, from the laws of its inner parsers
 //!   alone.
 //! - [`bpaf_text::ParseFlag`] and [`bpaf_text::ParseArgument`] are the first parsers. Where their
 //!   key isn't on the line, the first of their names in the environment that is set counts
-//!   (specs/Environment.antt).
-//! - [`ParseMap`], [`ParseWith`] and [`ParseGuard`] change or check a value (specs/Transform.antt);
+//!   (specs/Reading.antt).
+//! - [`ParseMap`], [`ParseWith`] and [`ParseGuard`] change or check a value;
 //!   [`ParseOptional`], [`ParseFallback`] and [`ParseFallbackWith`] stand in for one that isn't
-//!   there (specs/Turn.antt, specs/Default.antt). By clauses of their `eval` none of these catches
-//!   want of memory, and what stands in takes nothing (specs/Spared.antt).
+//!   there (specs/Combinators.antt). By clauses of their `eval` none of these catches want of memory,
+//!   and what stands in takes nothing (specs/Laws.antt).
 //! - [`ParseMany`], [`ParseSome`], [`ParseCollect`], [`ParseCount`] and [`ParseLast`] take turns of
-//!   one parser until one stops (specs/Repeat.antt); [`bpaf_text::FromList`] is what a list of
+//!   one parser until one stops (specs/Combinators.antt); [`bpaf_text::FromList`] is what a list of
 //!   values fills. Each turn but the first takes an item, so there are no more values than items
 //!   present at the start and one (clause `repeat_is_bounded`), and none catches want of memory
 //!   (clause `memory_is_never_caught`).
@@ -28,7 +28,7 @@
 //!   [`bpaf_parts::this_or_that`] tells which answer stands. [`or_parser`], [`Start`] and
 //!   [`or_meta`] are for the crates of this repository, not for callers. The branch that took the
 //!   leftmost place taken by only one of them wins (clause `leftmost_wins`).
-//! - [`ParseHide`] names no missing item in its refusals (specs/Hide.antt); [`ParseUsage`],
+//! - [`ParseHide`] names no missing item in its refusals (specs/Combinators.antt); [`ParseUsage`],
 //!   [`ParseGroupHelp`] and [`ParseWithGroupHelp`] change only what is shown: their outcome, their
 //!   readings and their law are those of the parser inside.
 //! - [`ParseCommand`], which [`command`] and [`OptionParser::command`] make, is a word that opens a
@@ -37,7 +37,7 @@
 //!   `command_leaves_nothing`), and catches no want of memory.
 //! - [`OptionParser::run_inner`] runs a parser over words. It answers a value only where that is
 //!   dealt out of the words: read off all items of their line but the first `--`, each used once
-//!   (specs/Dealt.antt), whatever the parser's type.
+//!   (specs/Run.antt), whatever the parser's type.
 //!
 //! Nothing above this crate uses more of a parser than these members, and its law.
 //!

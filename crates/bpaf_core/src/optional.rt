@@ -1,9 +1,8 @@
 //! A value that may be missing.
 ghost use Rattle.std.specs.Prelude.{◌≡◌, true};
-ghost use Rattle.bpaf_laws.specs.Turn.{TurnOutcome};
-ghost use Rattle.bpaf_laws.specs.Default.{OptionalReads, OptionalDescribes};
-ghost use Rattle.bpaf_laws.specs.Spared.{IsNotMemory, WithoutMemory, NoneTakesNothing};
-ghost use Rattle.bpaf_laws.proofs.{DefaultLaws.optional_lawful, ShownNames.optional_shows};
+ghost use Rattle.bpaf_laws.specs.Combinators.{TurnOutcome, OptionalReads, OptionalDescribes};
+ghost use Rattle.bpaf_laws.specs.Laws.{IsNotMemory, WithoutMemory, NoneTakesNothing};
+ghost use Rattle.bpaf_laws.proofs.{CombinatorLaws.optional_lawful, ShownNames.optional_shows};
 
 use crate::parser::Parser;
 use bpaf_doc::Meta;

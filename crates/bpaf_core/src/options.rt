@@ -1,11 +1,9 @@
 //! A parser that can run over words: the texts and keys of its run.
 ghost use Rattle.std.specs.Prelude.{◌≡◌, IfOk, List, Ok, Some, true};
-ghost use Rattle.bpaf_doc.specs.declared.doc.Piece.{Piece};
-ghost use Rattle.bpaf_doc.specs.Fold.{TextPieces};
-ghost use Rattle.bpaf_doc.specs.Prints.{Prints};
-ghost use Rattle.bpaf_doc.specs.Shape.{Shape};
-ghost use Rattle.bpaf_pages.specs.Usage.{usage_text};
-ghost use Rattle.bpaf_core.specs.Known.{TellsOrder};
+ghost use Rattle.bpaf_doc.specs.Print.{TextPieces, Prints};
+ghost use Rattle.bpaf_doc.specs.{declared.doc.Piece.Piece, Shape.Shape};
+ghost use Rattle.bpaf_pages.specs.Help.{usage_text};
+ghost use Rattle.bpaf_core.specs.Run.{TellsOrder};
 
 use crate::parser::Parser;
 use bpaf_doc::Doc;

@@ -2,12 +2,12 @@
 ghost use Rattle.std.specs.Prelude.{◌≡◌, IfOk, false, Some, None};
 ghost use Rattle.std.specs.Result.{IfErr};
 ghost use Rattle.bpaf_doc.specs.Shape.{shape_of, Shape};
-ghost use Rattle.bpaf_words.specs.{Arguments.given_of, Spelling.ShortNames};
+ghost use Rattle.bpaf_words.specs.{Arguments.given_of, Line.ShortNames};
 ghost use Rattle.bpaf_laws.specs.Reading.{Outcome, Readings};
-ghost use Rattle.bpaf_laws.specs.{Spared.WithoutMemory, Laws.Lawful, ShownNames.ShowsNames};
-ghost use Rattle.bpaf_keys.specs.{Info.plain_info, KnownNames.known_names};
-ghost use Rattle.bpaf_core.specs.Run.{IsNotWant, RunsWords};
-ghost use Rattle.bpaf_core.specs.{Dealt.IsDealtOut, Refusals.IsOneOfTwelve};
+ghost use Rattle.bpaf_laws.specs.Laws.{WithoutMemory, Lawful, ShowsNames};
+ghost use Rattle.bpaf_keys.specs.Info.{plain_info, known_names};
+ghost use Rattle.bpaf_core.specs.Run.{IsNotWant, RunsWords, IsDealtOut};
+ghost use Rattle.bpaf_core.specs.Refusals.{IsOneOfTwelve};
 
 use crate::choice::ParseOrElse;
 use crate::collect::ParseCollect;

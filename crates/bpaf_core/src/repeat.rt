@@ -1,10 +1,10 @@
 //! All values of a parser, in a list.
 ghost use Rattle.std.specs.Prelude.{◌≡◌, true, IfOk, List, false};
 ghost use Rattle.std.specs.Global.{Vec};
-ghost use Rattle.bpaf_laws.specs.Repeat.{ManyOutcome, SomeOutcome, ListReads, ManyDescribes};
-ghost use Rattle.bpaf_laws.specs.Repeat.{IsBounded, SomeDescribes, is_nil};
-ghost use Rattle.bpaf_laws.specs.{Transform.MapReads, Spared.IsNotMemory, Spared.WithoutMemory};
-ghost use Rattle.bpaf_laws.proofs.RepeatLaws.{many_lawful, some_lawful};
+ghost use Rattle.bpaf_laws.specs.Combinators.{ManyOutcome, SomeOutcome, ListReads, ManyDescribes};
+ghost use Rattle.bpaf_laws.specs.Combinators.{IsBounded, SomeDescribes, is_nil, MapReads};
+ghost use Rattle.bpaf_laws.specs.Laws.{IsNotMemory, WithoutMemory};
+ghost use Rattle.bpaf_laws.proofs.CombinatorLaws.{many_lawful, some_lawful};
 ghost use Rattle.bpaf_laws.proofs.ShownNames.{many_shows, some_shows};
 
 use crate::optional::parse_option;

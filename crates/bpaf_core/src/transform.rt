@@ -1,7 +1,7 @@
 //! What closures make of a parser's value, and the checks that they do.
-ghost use Rattle.bpaf_laws.specs.Spared.{IsNotMemory, WithoutMemory};
-ghost use Rattle.bpaf_laws.specs.Transform.{MapOutcome, MapReads, ParseOutcome, GuardOutcome};
-ghost use Rattle.bpaf_laws.proofs.TransformLaws.{map_lawful, parse_lawful, guard_lawful};
+ghost use Rattle.bpaf_laws.specs.Laws.{IsNotMemory, WithoutMemory};
+ghost use Rattle.bpaf_laws.specs.Combinators.{MapOutcome, MapReads, ParseOutcome, GuardOutcome};
+ghost use Rattle.bpaf_laws.proofs.CombinatorLaws.{map_lawful, parse_lawful, guard_lawful};
 ghost use Rattle.std.specs.{Prelude.Ok, Prelude.◌≡◌, Prelude.true, Fn.FnReturnsAt};
 
 use crate::parser::Parser;

@@ -1,6 +1,6 @@
 //! Parsers that answer as the inner one does, and are shown otherwise.
-ghost use Rattle.bpaf_laws.specs.Hide.{UsageDescribes, SectionDescribes, TitledDescribes};
-ghost use Rattle.bpaf_laws.specs.Spared.{IsNotMemory, WithoutMemory};
+ghost use Rattle.bpaf_laws.specs.Combinators.{UsageDescribes, SectionDescribes, TitledDescribes};
+ghost use Rattle.bpaf_laws.specs.Laws.{IsNotMemory, WithoutMemory};
 ghost use Rattle.bpaf_laws.proofs.ShownNames.{usage_shows, section_shows, titled_shows};
 
 use crate::parser::Parser;

@@ -1,11 +1,142 @@
--- What a run of the program does.
-use Rattle.std.specs.Prelude.{ℕ, Bool, List, Result}
-use Rattle.bpaf_doc.specs.{declared.doc.Piece.Piece, Print.printed}
+-- What a run of the program does: which options its words have, what it prints of them, and what
+-- it shows where it is asked for help.
+use Rattle.std.specs.Prelude.{◌≡◌, ℕ, Bool, true, false, List, [], ◌∷◌, Some, codes, Result, ◌++◌}
+use Rattle.std.specs.Prelude.{map, string_bytes}
+use Rattle.std.specs.{Global.Vec, Fmt.decimal}
+use Rattle.bpaf_doc.specs.Shape.{Shape, And, Many, Optional, members}
+use Rattle.bpaf_doc.specs.{Names.Names, declared.doc.Piece.Piece, Print.TextPieces, Print.printed}
+use Rattle.bpaf_text.specs.Meaning.{SpellsUnsigned}
+use Rattle.bpaf_text.specs.Named.{KeyWithValue, key_named, with_help}
+use Rattle.bpaf_words.specs.{Arguments.Given, Line.Known, Line.knowing}
+use Rattle.bpaf_laws.specs.{Leaves.ArgumentReads, Leaves.argument_shape, Product.BothReads}
+use Rattle.bpaf_laws.specs.{Reading.Readings, Combinators.ListReads, Combinators.MapReads}
+use Rattle.bpaf.specs.Positional.{PositionalReads, positional_shape}
+use Rattle.bpaf.specs.Asked.{IfShown, WasAsked}
+use Rattle.bpaf.specs.{declared.leaves.positional.Position.TheVariants.Unrestricted, Run.IsDealtOut}
+use Rattle.bpaf_program.specs.Fields.{NamedSwitchReads, switch_shape}
+use Rattle.bpaf_program.specs.KnownParser.{MeansText, String, known_con, known_many, known_switch}
+use Rattle.bpaf_program.specs.KnownParser.{IsExactFor, IsValueBy}
+use Rattle.bpaf_program.specs.Ending.{line, line_each, truth, AnswersByText, PrintsTextOf, Written}
+use Rattle.bpaf_demo.specs.declared.options.Options.{Options}
 use Rattle.bpaf_line.specs.declared.failure.ParseFailure.{ParseFailure}
-use Rattle.bpaf_program.specs.Running.{AnswersByText, PrintsTextOf}
-use Rattle.bpaf_program.specs.{Sink.Written, Values.String}
-use Rattle.bpaf_demo.specs.{declared.options.Options.Options, Exact.IsOptionsOf, Lines.lines}
-use Rattle.bpaf_demo.specs.{Record.IsDealtOptions, Shown.IsHelpAsked}
+use Rattle.bpaf_record.specs.Grammar.{Grammar, alone, argument, both, word}
+use Rattle.bpaf_keys.specs.Info.{plain_info}
+
+-- the names of the switch
+abbrev pub verbose_names : Names
+verbose_names = record { shorts = codes "v"; longs = codes "verbose" ∷ [] }
+
+-- the number: its names, what stands for its value where it is shown, and that the last one counts
+abbrev pub number_key : KeyWithValue
+number_key = record {
+  named = key_named (record { shorts = codes "n"; longs = codes "num" ∷ [] });
+  metavar = codes "NUM";
+  adjacent = false;
+  last = true;
+}
+
+-- the known short names: those of the switch, of help and of version as flags, and that of the
+-- number
+abbrev pub program_known : Known
+program_known = knowing (record { flags = codes "vhV"; arguments = codes "n" })
+
+-- what the program is given
+abbrev pub program_given : List (List ℕ) → Given
+program_given words = record { words = words; env = []; name = Some (codes "bpaf_demo") }
+
+-- the values of the switch, the number and the files
+abbrev pub FieldValues : Type 0
+FieldValues = Bool × (ℕ × Vec String)
+
+-- the options of them
+abbrev pub options_of : FieldValues → Options
+options_of x = record { verbose = x.0; num = x.1.0; files = x.1.1 }
+
+-- what the number reads
+abbrev pub NumReads : Readings ℕ
+NumReads = ArgumentReads ℕ (SpellsUnsigned 64) number_key
+
+-- what the files read: a word each
+abbrev pub FilesReads : Readings (Vec String)
+FilesReads =
+    MapReads (List String) (Vec String)
+    (ListReads (PositionalReads String MeansText Unrestricted)) (λ values v. v.items ≡ values)
+
+-- what the options read: the switch, the number and the files, each place once
+abbrev pub OptionsReads : Readings Options
+OptionsReads =
+    MapReads FieldValues Options
+    (BothReads Bool (ℕ × Vec String) (NamedSwitchReads verbose_names)
+    (BothReads ℕ (Vec String) NumReads FilesReads)) (λ x v. v ≡ options_of x)
+
+-- all places of the words' line but the first `--` are dealt out to the switch, the number and the
+-- files, each used once
+abbrev pub IsDealtOptions : List (List ℕ) → Options → Type 0
+IsDealtOptions words = IsDealtOut Options OptionsReads program_known (program_given words)
+
+-- a switch, the number that the text behind the last of its keys spells, and all words
+abbrev pub fields : Grammar FieldValues
+fields =
+    both (known_switch verbose_names) (both (argument (SpellsUnsigned 64) number_key)
+    (alone (known_many (word MeansText Unrestricted))))
+
+-- the program's record: options that are made of them
+abbrev pub record_of : Grammar Options
+record_of = known_con options_of fields
+
+-- v is a value of the program's record on words
+abbrev pub IsOptionsOf : List (List ℕ) → Options → Type 0
+IsOptionsOf words = IsValueBy record_of (program_given words)
+
+-- an answer to words is exact: options only where they are the record's value on the words; and
+-- where the record has a value there, one of them, or want of memory
+abbrev pub AnswersOptionsExactly : List (List ℕ) → Result Options ParseFailure → Type 0
+AnswersOptionsExactly words = IsExactFor (IsOptionsOf words)
+
+-- the texts of the files
+abbrev pub file_texts : Options → List (List ℕ)
+file_texts v = map string_bytes v.files.items
+
+-- a line for each file
+abbrev pub file_lines : List (List ℕ) → List ℕ
+file_lines = line_each (codes "file: ")
+
+-- the lines of the options
+abbrev pub lines : Options → List ℕ
+lines v =
+    line (codes "verbose: " ++ truth v.verbose) ++ line (codes "num: " ++ decimal v.num)
+    ++ file_lines (file_texts v)
+
+-- the number with its help
+abbrev pub number_shown : List Piece → KeyWithValue
+number_shown help = record number_key { named = with_help number_key.named help }
+
+-- what the program shows: the switch, the number and the files, each with its help
+abbrev pub program_shape : (verbose num file : List Piece) → Shape
+program_shape verbose num file =
+    And (members (switch_shape verbose_names verbose
+    ∷ argument_shape (number_shown num)
+    ∷ Many (Optional (positional_shape Unrestricted (codes "FILE") (Some file)))
+    ∷ []))
+
+-- a shape is what the program shows, with these helps
+pub record IsProgramShape (shape : Shape) : Type 0 where
+  pub verbose : List Piece
+  pub num : List Piece
+  pub file : List Piece
+  pub verbose_help : TextPieces (codes "Print more") verbose
+  pub num_help : TextPieces (codes "A number") num
+  pub file_help : TextPieces (codes "Files to read") file
+  pub is : shape ≡ program_shape verbose num file
+
+-- the words ask for help, and this is the help page of the program
+abbrev pub IsHelpAsked : List (List ℕ) → List Piece → Bool → Type 0
+IsHelpAsked words doc full =
+    WasAsked IsProgramShape plain_info program_known (program_given words) doc full
+
+-- what is shown in place of options is help that the words ask for
+abbrev pub ShowsHelpAsked : List (List ℕ) → ParseFailure → Type 0
+ShowsHelpAsked words = IfShown (IsHelpAsked words)
 
 -- a text that answers the words: the lines of options that are dealt out of them and are the
 -- record's value on them, or where the record has none the text of the help page that they ask for

@@ -1,8 +1,7 @@
 //! What the options print.
 ghost use Rattle.std.specs.Prelude.{map, string_bytes};
-ghost use Rattle.bpaf_program.specs.Running.{IsTextOrWant};
-ghost use Rattle.bpaf_demo.specs.Lines.{lines};
-ghost use Rattle.bpaf_demo.specs.Running.{AnswersLines};
+ghost use Rattle.bpaf_program.specs.Ending.{IsTextOrWant};
+ghost use Rattle.bpaf_demo.specs.Running.{lines, AnswersLines};
 
 use crate::options::{Options, read_options};
 use bpaf::ParseFailure;

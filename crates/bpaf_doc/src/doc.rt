@@ -2,9 +2,8 @@
 ghost use Rattle.std.specs.Prelude.{◌≡◌, ◌==◌, Bool, true, IfOk, OnOk, OnErr, List, [], ◌∷◌, ◌++◌};
 ghost use Rattle.std.specs.Prelude.{map, string_bytes};
 ghost use Rattle.std.specs.List.{before_first};
-ghost use Rattle.bpaf_doc.specs.Prints.{prints, is_empty};
-ghost use Rattle.bpaf_doc.specs.Print.{printed, shown_as, in_backticks, first_line};
-ghost use Rattle.bpaf_doc.specs.Fold.{TextPieces, folded_whole};
+ghost use Rattle.bpaf_doc.specs.Print.{prints, is_empty, printed, shown_as, in_backticks};
+ghost use Rattle.bpaf_doc.specs.Print.{first_line, TextPieces, folded_whole};
 
 use crate::fold::text_pieces;
 use bpaf_base::Text;

@@ -1,7 +1,7 @@
 //! The lines of a help text, folded into paragraphs.
 ghost use Rattle.std.specs.Prelude.{◌≡◌, ◌++◌, ◌∷◌, [], IfOk, OnOk, MatchOption, string_bytes};
-ghost use Rattle.bpaf_doc.specs.Print.{shown_as};
-ghost use Rattle.bpaf_doc.specs.Fold.{folded, keeps_break, break_between, HasNoBreak, TextPieces};
+ghost use Rattle.bpaf_doc.specs.Print.{shown_as, folded, keeps_break, break_between, HasNoBreak};
+ghost use Rattle.bpaf_doc.specs.Print.{TextPieces};
 
 use crate::doc::{Piece, Style};
 use bpaf_base::Text;

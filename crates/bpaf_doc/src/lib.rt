@@ -3,14 +3,14 @@
 //! It stands on `bpaf_base`, whose [`Text`] it hands on, and knows nothing of lines, values or runs.
 //!
 //! - [`Doc`] is a list of pieces, each a text with a [`Style`]. Its contract for the layers above:
-//!   a `Doc` is the list of the pieces that its calls appended, and `monochrome` is their text
-//!   (specs/Print.antt); what a text gives, with its line breaks folded, stands in specs/Fold.antt.
+//!   a `Doc` is the list of the pieces that its calls appended, and `monochrome` is their text;
+//!   specs/Print.antt has it, and what a text gives with its line breaks folded.
 //! - [`Item`] is one flag, argument, word or command as it is shown, and [`Meta`] the tree of them
 //!   that a parser shows; [`MetaInfo`] lends one. Contracts see both through `part_of` and
 //!   `shape_of` (specs/Shape.antt), data in which neither addresses nor capacities stand. What is
-//!   written for an item inside messages and usage is its `part_text` (specs/PartText.antt). The
+//!   written for an item inside messages and usage is its `part_text` (specs/Shape.antt). The
 //!   walks over a tree, and over one that is lent, gather short names and find the first item
-//!   (specs/Walks.antt), and tell whether words stand behind keys (specs/Order.antt).
+//!   (specs/Shape.antt), and tell whether words stand behind keys (specs/Shape.antt).
 //!
 //! What a whole tree is printed as, its usage text and its help page, stands beside this crate, in
 //! `bpaf_pages`.

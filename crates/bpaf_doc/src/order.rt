@@ -1,8 +1,8 @@
 //! Whether a key stands behind a word in what is shown.
 ghost use Rattle.std.specs.Prelude.{◌≡◌, ◌||◌, false};
-ghost use Rattle.bpaf_doc.specs.Shape.{shape_of, part_of, members_of, Shown};
-ghost use Rattle.bpaf_doc.specs.Order.{in_order, all_in_order, each_in_order};
-ghost use Rattle.bpaf_doc.specs.Order.{has_word, any_has_word, takes_word};
+ghost use Rattle.bpaf_doc.specs.Shape.{shape_of, part_of, members_of, Shown, in_order};
+ghost use Rattle.bpaf_doc.specs.Shape.{all_in_order, each_in_order, has_word, any_has_word};
+ghost use Rattle.bpaf_doc.specs.Shape.{takes_word};
 
 use crate::item::Item;
 use crate::meta::{Meta, MetaInfo};

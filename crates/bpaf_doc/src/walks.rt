@@ -1,7 +1,7 @@
 //! Walks over what is shown: its first item, and its short names.
 ghost use Rattle.std.specs.Prelude.{◌≡◌, ◌++◌, OnOk, MatchOption, Some, None};
-ghost use Rattle.bpaf_doc.specs.Shape.{shape_of, part_of, members_of, And, Shown};
-ghost use Rattle.bpaf_doc.specs.Walks.{flag_shorts, argument_shorts, first_part};
+ghost use Rattle.bpaf_doc.specs.Shape.{shape_of, part_of, members_of, And, Shown, flag_shorts};
+ghost use Rattle.bpaf_doc.specs.Shape.{argument_shorts, first_part};
 
 use crate::item::Item;
 use crate::meta::{Meta, MetaInfo};

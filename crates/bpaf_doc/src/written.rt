@@ -1,8 +1,7 @@
 //! How an item is written inside messages and usage.
 ghost use Rattle.std.specs.Prelude.{◌≡◌, ◌++◌, Bool, IfOk, OnOk, OnErr, string_bytes};
 ghost use Rattle.bpaf_doc.specs.Print.{printed};
-ghost use Rattle.bpaf_doc.specs.Shape.{part_of, name_of};
-ghost use Rattle.bpaf_doc.specs.PartText.{part_text, name_text};
+ghost use Rattle.bpaf_doc.specs.Shape.{part_of, name_of, part_text, name_text};
 
 use crate::doc::{Doc, Style};
 use crate::item::{Item, ShortLong};

@@ -1,33 +1,34 @@
 -- A choice of two alternatives is one.
 use Rattle.std.proofs.Common.{Bool, Err, [], false, length, suc, true, zero, ℕ, ◌&&◌, ◌<◌, ◌∷◌, ◌≡◌}
 use Rattle.std.proofs.Common.{List, None, Ok, Option, Result, Some, ap, ap₂, arith, subst, sym, ◌∙◌}
+use Rattle.std.proofs.Common.{nat_le, nat_lt, true≢false, inl, inr, refl, ⊎_elim, ◌≤◌, ◌⊎◌}
 use Rattle.std.proofs.lemmas.Bool.{and_parts, cases_lt, eqb-true, le-leb, not-false, not-true}
-use Rattle.std.proofs.{Common.nat_le, Common.nat_lt, Common.true≢false, lemmas.Bool.lt-ltb}
-use Rattle.std.proofs.Common.{inl, inr, refl, ⊎_elim, ◌≤◌, ◌⊎◌}
+use Rattle.std.proofs.lemmas.Bool.{lt-ltb}
 use Rattle.std.specs.Prelude.{MatchBool}
 use Rattle.bpaf_base.specs.{Items.any_item, declared.arg.Arg.Arg}
-use Rattle.bpaf_line.proofs.{Matches.open_has_item, Places.present_in_line}
-use Rattle.bpaf_line.specs.{Conflicts.ConflictsSaved, Situation.item_in, declared.error.Error.Error}
-use Rattle.bpaf_line.specs.{Messages.is_wrong_input, Situation.Situation, Situation.open_count}
-use Rattle.bpaf_line.specs.{Combining.Combines, Conflicts.IsWinner, Messages.is_memory}
-use Rattle.bpaf_line.specs.{Situation.is_taken, Taking.open_item}
+use Rattle.bpaf_line.proofs.Places.{open_has_item, present_in_line}
+use Rattle.bpaf_line.specs.Taking.{ConflictsSaved, IsWinner, open_item}
+use Rattle.bpaf_line.specs.Situation.{item_in, Situation, open_count, is_taken}
+use Rattle.bpaf_line.specs.declared.error.Error.{Error}
+use Rattle.bpaf_line.specs.Messages.{is_wrong_input, Combines, is_memory}
 use Rattle.bpaf_laws.proofs.ChoiceLaws.{chosen_at_equal, not_winner}
 use Rattle.bpaf_laws.specs.Choice.{BranchesEval, ChoiceOutcome, EqualDepths, Winner, branch_of}
-use Rattle.bpaf_laws.specs.{Choice.OneOk, Reading.Outcome, Spared.IsNotMemory, Turn.is_untouched}
+use Rattle.bpaf_laws.specs.Choice.{OneOk}
+use Rattle.bpaf_laws.specs.{Reading.Outcome, Laws.IsNotMemory, Combinators.is_untouched}
 use Rattle.bpaf_exact.proofs.Cuts.{HeadOf, TookLeft, both_nil, either_union, first_mine, swap_union}
+use Rattle.bpaf_exact.proofs.Cuts.{union_named, takes_nonempty, left_later, never_same, takes_left}
+use Rattle.bpaf_exact.proofs.Cuts.{Union, left_here, not_left, owner}
 use Rattle.bpaf_exact.proofs.Places.{closed_item, open_present, same_cells, same_item, takes_fewer}
+use Rattle.bpaf_exact.proofs.Places.{match_of, Match}
 use Rattle.bpaf_exact.proofs.Product.{mine_of_both, none_outside_after, steady_refl, steady_trans}
-use Rattle.bpaf_exact.proofs.{Classes.combined_missing, Classes.combined_refused, Cuts.union_named}
-use Rattle.bpaf_exact.proofs.{Classes.memory_class, Classes.not_memory, Cuts.takes_nonempty}
-use Rattle.bpaf_exact.proofs.{Cuts.left_later, Cuts.never_same, Cuts.takes_left, Places.match_of}
-use Rattle.bpaf_exact.proofs.{Cuts.Union, Cuts.left_here, Cuts.not_left, Cuts.owner, Places.Match}
-use Rattle.bpaf_exact.specs.Alternative.{FirstUnread, TakesFirst, alternative_missing, either_value}
+use Rattle.bpaf_exact.proofs.Classes.{combined_missing, combined_refused, memory_class, not_memory}
+use Rattle.bpaf_exact.specs.Flat.{FirstUnread, TakesFirst, alternative_missing, either_value}
 use Rattle.bpaf_exact.specs.Flat.{ErrorClass, IsWholeIn, OfMemory, Refused, Variables, cells, class}
+use Rattle.bpaf_exact.specs.Flat.{alternative_memory, alternative_refused, AlternativeErr}
+use Rattle.bpaf_exact.specs.Flat.{AlternativeLaw, Steady, AlternativeOk, first_cells}
 use Rattle.bpaf_exact.specs.Pieces.{Cells, LinePiece, One, Two, either, is_own, is_own_role, pieces}
 use Rattle.bpaf_exact.specs.Pieces.{Apart, Roles, TakesPiece, takes_later, takes_one, takes_two}
-use Rattle.bpaf_exact.specs.Alternative.{alternative_memory, alternative_refused}
-use Rattle.bpaf_exact.specs.{Alternative.AlternativeErr, Alternative.AlternativeLaw, Flat.Steady}
-use Rattle.bpaf_exact.specs.{Alternative.AlternativeOk, Flat.first_cells, Pieces.mine}
+use Rattle.bpaf_exact.specs.Pieces.{mine}
 
 -- the same scope of the same line
 pub record SameScope (m n : Situation) : Type 0 where

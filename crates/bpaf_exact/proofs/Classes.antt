@@ -1,15 +1,15 @@
 -- The classes of refusals, and of what two refusals together are.
 use Rattle.std.proofs.Common.{Bool, false, if◌then◌else◌, inl, not, refl, sym, true, ◌&&◌, ◌∙◌, ◌≡◌}
-use Rattle.std.proofs.{Common.true≢false, Common.⊎_elim, lemmas.Bool.eq-eqb, lemmas.Bool.eqb-true}
-use Rattle.std.proofs.Common.{ap, inr, ◌⊎◌}
+use Rattle.std.proofs.Common.{true≢false, ⊎_elim, ap, inr, ◌⊎◌}
+use Rattle.std.proofs.lemmas.Bool.{eq-eqb, eqb-true}
 use Rattle.bpaf_line.specs.declared.error.Message.TheVariants.{Memory, Missing, ParseFailure}
+use Rattle.bpaf_line.specs.Messages.{CombinesSpared, Combines, can_catch, is_memory}
+use Rattle.bpaf_line.specs.Situation.{Situation, open_count}
 use Rattle.bpaf_line.specs.{declared.error.Error.Error, declared.error.Message.Message}
-use Rattle.bpaf_line.specs.{Combining.CombinesSpared, Situation.Situation, Situation.open_count}
-use Rattle.bpaf_line.specs.{Combining.Combines, Messages.can_catch, Messages.is_memory}
-use Rattle.bpaf_laws.specs.Turn.{is_untouched, stops_spared, stops_step}
+use Rattle.bpaf_laws.specs.Combinators.{is_untouched, stops_spared, stops_step}
 use Rattle.bpaf_exact.specs.Flat.{Caught, ErrorClass, OfMemory, Refused, class_of_tests, is_missing}
-use Rattle.bpaf_exact.specs.Single.{CanCatch, catch_missing, catch_other, caught, nothing_found}
-use Rattle.bpaf_exact.specs.{Flat.OfMissing, Flat.class, Flat.class_of, Single.Stops}
+use Rattle.bpaf_exact.specs.Flat.{CanCatch, catch_missing, catch_other, caught, nothing_found}
+use Rattle.bpaf_exact.specs.Flat.{OfMissing, class, class_of, Stops}
 
 -- want of memory is of its class
 pub memory_class : (m : Message) → is_memory m ≡ true → class_of m ≡ OfMemory

@@ -3,22 +3,22 @@
 -- a cut line holds together.
 use Rattle.std.proofs.Common.{Bool, List, None, Option, Some, arith, false, if◌then◌else◌, inl, inr}
 use Rattle.std.proofs.Common.{[], length, not, refl, sym, true, ℕ, ⊎_elim, ◌++◌, ◌<◌, ◌∙◌, ◌∷◌, ◌≡◌}
-use Rattle.std.proofs.{lemmas.Bool.false_from_ne_true, lemmas.List.Elements.filter-append}
-use Rattle.std.proofs.{Common.◌⊎◌, lemmas.List.Elements.All-cons, lemmas.List.Elements.All-nil}
-use Rattle.std.proofs.{Common.ap, lemmas.List.append_assoc}
+use Rattle.std.proofs.Common.{◌⊎◌, ap}
+use Rattle.std.proofs.lemmas.List.Elements.{filter-append, All-cons, All-nil}
+use Rattle.std.proofs.{lemmas.Bool.false_from_ne_true, lemmas.List.append_assoc}
 use Rattle.std.specs.List.{AllPass}
 use Rattle.bpaf_base.specs.declared.arg.Arg.TheVariants.{ArgWord, Long, Short, Word}
 use Rattle.bpaf_base.specs.{Items.is_positional, declared.arg.Arg.Arg}
-use Rattle.bpaf_exact.specs.Flat.{IsWords, NonePresent, ReadOff, no_place, none_here}
+use Rattle.bpaf_exact.specs.Flat.{IsWords, NonePresent, ReadOff, no_place, none_here, first_later}
+use Rattle.bpaf_exact.specs.Flat.{first_one, TakesFirst, first_two}
 use Rattle.bpaf_exact.specs.Pieces.{Alone, Apart, Cells, Cut, Foreign, LinePiece, One, Roles, Takes}
 use Rattle.bpaf_exact.specs.Pieces.{IsNamed, Role, TakesPiece, TakesPieces, Two, WithNext, argument}
 use Rattle.bpaf_exact.specs.Pieces.{at_end, begin_piece, either, either_role, empty_stays, is_value}
 use Rattle.bpaf_exact.specs.Pieces.{flag, is_key, is_own, is_own_role, mine, others, passed, pieces}
 use Rattle.bpaf_exact.specs.Pieces.{other_stays, takes_argument, takes_flag, takes_more, takes_none}
 use Rattle.bpaf_exact.specs.Pieces.{takes_later, takes_one, takes_two, with_next, word, word_roles}
-use Rattle.bpaf_exact.specs.{Accepted.HoldsTogether, Alternative.first_later, Alternative.first_one}
-use Rattle.bpaf_exact.specs.{Accepted.is_word_alone, Alternative.TakesFirst, Alternative.first_two}
-use Rattle.bpaf_exact.specs.{Accepted.EndsInKey, Accepted.HasItsValue, Pieces.no_cells}
+use Rattle.bpaf_exact.specs.Pieces.{no_cells}
+use Rattle.bpaf_exact.specs.ProgramForm.{HoldsTogether, is_word_alone, EndsInKey, HasItsValue}
 
 -- a value is no key
 pub value_not_key : (w : Arg) → is_value w ≡ true → is_key w ≡ false

@@ -1,12 +1,12 @@
 -- What a field takes of pieces, and what it leaves.
 use Rattle.std.proofs.Common.{Bool, List, [], ap, false, if◌then◌else◌, refl, true, ◌&&◌, ◌++◌, ◌≡◌}
-use Rattle.std.proofs.{Common.take, lemmas.List.Sums.take_while-cons, lemmas.List.take-append-drop}
-use Rattle.std.proofs.{Common.append-nil, Math.Seq.drop-append_seam, lemmas.List.append_assoc}
-use Rattle.std.proofs.Common.{drop, length, not, sym, ◌∙◌, ◌∷◌}
+use Rattle.std.proofs.Common.{take, append-nil, drop, length, not, sym, ◌∙◌, ◌∷◌}
+use Rattle.std.proofs.lemmas.List.{take-append-drop, append_assoc}
+use Rattle.std.proofs.{lemmas.List.Sums.take_while-cons, Math.Seq.drop-append_seam}
 use Rattle.std.specs.List.{position_or_len}
-use Rattle.bpaf_exact.specs.{Flat.FieldKind, Flat.NoKeysLeft, Pieces.LinePiece, Single.repeated}
-use Rattle.bpaf_exact.specs.{Flat.EachWord, Flat.OneWord, Flat.front, Flat.is_behind, Pieces.pieces}
-use Rattle.bpaf_exact.specs.{Flat.ByName, Flat.back, Pieces.Cells, Pieces.Roles}
+use Rattle.bpaf_exact.specs.Flat.{FieldKind, NoKeysLeft, repeated, EachWord, OneWord, front}
+use Rattle.bpaf_exact.specs.Flat.{is_behind, ByName, back}
+use Rattle.bpaf_exact.specs.Pieces.{LinePiece, pieces, Cells, Roles}
 
 -- a list that something stands in isn't empty
 pub never_nil : {T : Type 0} (before : List T) (x : T) (behind : List T)

@@ -2,47 +2,51 @@
 use Rattle.std.proofs.Common.{Bool, Err, List, None, Ok, Option, Result, [], add-one, if◌then◌else◌}
 use Rattle.std.proofs.Common.{Some, ap, false, inl, inr, map, not, option_and_then, refl, sym, take}
 use Rattle.std.proofs.Common.{subst, true, true≢false, ⊎_elim, ◌&&◌, ◌++◌, ◌||◌, ◌∙◌, ◌∷◌, ◌≡◌, ◌⊎◌}
-use Rattle.std.proofs.{Common.ℕ, lemmas.Bool.and_parts}
+use Rattle.std.proofs.Common.{ℕ}
+use Rattle.std.proofs.lemmas.Bool.{and_parts}
 use Rattle.std.specs.Option.{IsSomeRelated, is_none, is_some, option_map_or}
 use Rattle.bpaf_doc.specs.{Names.Names, Shape.Part}
 use Rattle.bpaf_base.specs.declared.arg.Arg.TheVariants.{PosWord, Word}
-use Rattle.bpaf_base.specs.{Items.is_key_of, Items.is_positional, declared.arg.Arg.Arg}
-use Rattle.bpaf_base.specs.Items.{item_text, word_text}
-use Rattle.bpaf_line.proofs.Matches.{open_item_there}
+use Rattle.bpaf_base.specs.Items.{is_key_of, is_positional, item_text, word_text}
+use Rattle.bpaf_base.specs.declared.arg.Arg.{Arg}
+use Rattle.bpaf_line.proofs.Places.{open_item_there}
 use Rattle.bpaf_line.specs.declared.error.Message.TheVariants.{Memory, Missing, NoEnv, ParseFailed}
-use Rattle.bpaf_line.specs.{Situation.with_current, declared.error.Message.TheVariants.NoArgument}
+use Rattle.bpaf_line.specs.declared.error.Message.TheVariants.{NoArgument}
+use Rattle.bpaf_line.specs.Situation.{with_current, Situation}
+use Rattle.bpaf_line.specs.Taking.{HasNone, TakesFlag, TakesText}
 use Rattle.bpaf_line.specs.{declared.error.Error.Error, declared.error.Message.Message}
-use Rattle.bpaf_line.specs.{Situation.Situation, Taking.HasNone, Taking.TakesFlag, Taking.TakesText}
 use Rattle.bpaf_text.specs.Named.{KeyWithValue, Named as Key, argument_part, flag_part}
-use Rattle.bpaf_laws.specs.Argument.{ArgumentFails, ArgumentOutcome, HasNoKey, IsNowhere, LacksText}
-use Rattle.bpaf_laws.specs.Environment.{IsAbsence, MissesItem, first_set, is_set}
-use Rattle.bpaf_laws.specs.{Argument.TakesKeysWithTexts, Argument.is_key_with_value, Flag.FlagFails}
-use Rattle.bpaf_laws.specs.Argument.{ReadsVariable, TakesBefore, TakesKeyWithText}
-use Rattle.bpaf_laws.specs.{Argument.TakesOwnText, Default.GivesClone, Flag.value_without_key}
-use Rattle.bpaf_laws.specs.{Flag.FlagOutcome, Pure.PureOutcome, Reading.Outcome, Repeat.is_nil}
+use Rattle.bpaf_laws.specs.Leaves.{ArgumentFails, ArgumentOutcome, HasNoKey, IsNowhere, LacksText}
+use Rattle.bpaf_laws.specs.Leaves.{TakesKeysWithTexts, is_key_with_value, FlagFails, ReadsVariable}
+use Rattle.bpaf_laws.specs.Leaves.{TakesBefore, TakesKeyWithText, TakesOwnText, value_without_key}
+use Rattle.bpaf_laws.specs.Leaves.{FlagOutcome}
+use Rattle.bpaf_laws.specs.Reading.{IsAbsence, MissesItem, first_set, is_set, Outcome}
+use Rattle.bpaf_laws.specs.Combinators.{GivesClone, PureOutcome, is_nil}
 use Rattle.bpaf_exact.proofs.Fronts.{back_more, each_front, front_more, of_front_more, of_front_one}
+use Rattle.bpaf_exact.proofs.Fronts.{front_nil, front_one, never_nil, back_one}
 use Rattle.bpaf_exact.proofs.Places.{bare_taken, behind_of, by_test, match_of, no_pieces, one_taken}
-use Rattle.bpaf_exact.proofs.{Classes.memory_class, Product.current_cells, Product.none_of_nobody}
-use Rattle.bpaf_exact.proofs.Product.{same_steady, steady_refl, steady_trans}
-use Rattle.bpaf_exact.proofs.{Places.take_steady, Wrappers.gap_empty, Wrappers.took_front}
-use Rattle.bpaf_exact.proofs.{Cuts.begin_at, Cuts.first_pieces, Cuts.first_takes, Places.test_named}
-use Rattle.bpaf_exact.proofs.{Cuts.some_trans, Fronts.front_nil, Fronts.front_one, Fronts.never_nil}
-use Rattle.bpaf_exact.proofs.{Cuts.never_two, Fronts.back_one, Places.test_owns, Places.two_taken}
-use Rattle.bpaf_exact.specs.Alternative.{AlternativeOk, TakesFirst, alternative_memory, first_later}
-use Rattle.bpaf_exact.specs.Alternative.{AlternativeErr, alternative_missing, first_one, first_two}
-use Rattle.bpaf_exact.specs.Flat.{ByName, Caught, EachWord, FieldKind, OfMemory, OfMissing, OneWord}
-use Rattle.bpaf_exact.specs.Flat.{Steady, Variables, back, cells, class, class_of, front, is_behind}
-use Rattle.bpaf_exact.specs.Leaves.{FlagValue, LastGroup, WordValue, argument_field, argument_group}
-use Rattle.bpaf_exact.specs.Leaves.{ArgumentValue, WordEval, argument_roles, flag_field, flag_roles}
-use Rattle.bpaf_exact.specs.Leaves.{pure_field, word_fault, word_memory, word_missing, word_passed}
+use Rattle.bpaf_exact.proofs.Places.{take_steady, test_named, test_owns, two_taken}
+use Rattle.bpaf_exact.proofs.Product.{current_cells, none_of_nobody, same_steady, steady_refl}
+use Rattle.bpaf_exact.proofs.Product.{steady_trans}
+use Rattle.bpaf_exact.proofs.Cuts.{begin_at, first_pieces, first_takes, some_trans, never_two}
+use Rattle.bpaf_exact.proofs.{Classes.memory_class, Wrappers.gap_empty, Wrappers.took_front}
+use Rattle.bpaf_exact.specs.Flat.{AlternativeOk, TakesFirst, alternative_memory, first_later}
+use Rattle.bpaf_exact.specs.Flat.{AlternativeErr, alternative_missing, first_one, first_two, ByName}
+use Rattle.bpaf_exact.specs.Flat.{Caught, EachWord, FieldKind, OfMemory, OfMissing, OneWord, Steady}
+use Rattle.bpaf_exact.specs.Flat.{Variables, back, cells, class, class_of, front, is_behind}
+use Rattle.bpaf_exact.specs.Flat.{FrontOf, Gap, Groups, SingleErr, SingleOk, TakesAny, WordByWord}
+use Rattle.bpaf_exact.specs.Flat.{SingleLaw, catch_other, gap_of, of_absent, of_missing, of_piece}
+use Rattle.bpaf_exact.specs.Flat.{catch_missing, gave_absent, of_memory, took, alternative_refused}
+use Rattle.bpaf_exact.specs.Flat.{Refused}
+use Rattle.bpaf_exact.specs.ProgramForm.{FlagValue, LastGroup, WordValue, argument_field}
+use Rattle.bpaf_exact.specs.ProgramForm.{argument_group, ArgumentValue, WordEval, argument_roles}
+use Rattle.bpaf_exact.specs.ProgramForm.{flag_field, flag_roles, pure_field, word_fault}
+use Rattle.bpaf_exact.specs.ProgramForm.{word_memory, word_missing, word_passed, key_field, FormLaw}
+use Rattle.bpaf_exact.specs.ProgramForm.{word_by, word_read}
 use Rattle.bpaf_exact.specs.Pieces.{Alone, Cells, IsNamed, One, Roles, Two, WithNext, stands_behind}
-use Rattle.bpaf_exact.specs.Single.{FrontOf, Gap, Groups, SingleErr, SingleOk, TakesAny, WordByWord}
-use Rattle.bpaf_exact.specs.Single.{SingleLaw, catch_other, gap_of, of_absent, of_missing, of_piece}
-use Rattle.bpaf_exact.specs.Single.{catch_missing, gave_absent, of_memory, took}
-use Rattle.bpaf_exact.specs.{Alternative.alternative_refused, Leaves.key_field, ProgramForm.FormLaw}
-use Rattle.bpaf_exact.specs.{Flat.Refused, Pieces.TakesPiece, Pieces.TakesPieces, Pieces.takes_more}
-use Rattle.bpaf_exact.specs.{Leaves.word_by, Leaves.word_read, Pieces.takes_none, Pieces.word_roles}
-use Rattle.bpaf_exact.specs.{Names.Owns, Pieces.LinePiece, Pieces.pieces, Says.Says, Says.of_kind}
+use Rattle.bpaf_exact.specs.Pieces.{TakesPiece, TakesPieces, takes_more, takes_none, word_roles}
+use Rattle.bpaf_exact.specs.Pieces.{Owns, LinePiece, pieces}
+use Rattle.bpaf_exact.specs.Says.{Says, of_kind}
 
 -- a refusal that names a missing item says that items are missing
 misses : (s : Situation) (part : Option Part) (m : Message) → MissesItem s part m

@@ -10,11 +10,8 @@ pub mod Programs
 pub mod Commands
 pub mod ProgramForm
 pub mod OneView
-pub mod Agreeing
 pub mod Surplus
 pub mod Fronts
-pub mod PieceByPiece
-pub mod Needed
 pub mod Says
 pub mod ProgramSays
 pub mod Leaves

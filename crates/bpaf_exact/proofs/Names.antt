@@ -2,22 +2,23 @@
 -- shared out by names.
 use Rattle.std.proofs.Common.{Bool, List, [], append-nil, ap₂, bytes_eq, false, if◌then◌else◌, refl}
 use Rattle.std.proofs.Common.{ap, not, sym, true, true≢false, ◌&&◌, ◌++◌, ◌==◌, ◌||◌, ◌∙◌, ◌∷◌, ◌≡◌}
+use Rattle.std.proofs.Common.{⊎_elim}
 use Rattle.std.proofs.lemmas.Bool.{and_from, and_parts, both_ways, eqb-true, false_from_ne_true}
+use Rattle.std.proofs.lemmas.Bool.{not-true, or_cases, or_left, or_right}
+use Rattle.std.proofs.lemmas.Slice.Eq.{bytes_eq-Decides}
 use Rattle.std.proofs.{lemmas.List.Elements.filter-append, lemmas.List.Folds.list_any-append}
-use Rattle.std.proofs.{lemmas.Bool.not-true, lemmas.Bool.or_cases, lemmas.Slice.Eq.bytes_eq-Decides}
-use Rattle.std.proofs.{Common.⊎_elim, lemmas.Bool.or_left, lemmas.Bool.or_right}
 use Rattle.std.specs.{List.list_all, List.list_any, Prelude.filter}
 use Rattle.bpaf_doc.specs.Names.{Names}
 use Rattle.bpaf_base.specs.declared.arg.Arg.TheVariants.{Long, PosWord, Short, Word}
-use Rattle.bpaf_base.specs.{Items.is_positional, Items.is_text_among, declared.arg.Arg.Arg}
-use Rattle.bpaf_base.specs.Items.{is_among, is_key_of}
+use Rattle.bpaf_base.specs.Items.{is_positional, is_text_among, is_among, is_key_of}
+use Rattle.bpaf_base.specs.declared.arg.Arg.{Arg}
 use Rattle.bpaf_exact.specs.Pieces.{Apart, Cells, Cut, LinePiece, One, Role, Roles, Takes, argument}
 use Rattle.bpaf_exact.specs.Pieces.{Foreign, at_end, either, either_role, empty_stays, flag, is_key}
 use Rattle.bpaf_exact.specs.Pieces.{Two, is_own, is_own_role, no_cells, other_stays, others, passed}
-use Rattle.bpaf_exact.specs.{Names.are_all_apart, Pieces.takes_argument, ProgramForm.may_follow}
-use Rattle.bpaf_exact.specs.{Flat.OneWord, Names.are_apart, Names.is_key_of_any, Pieces.takes_flag}
-use Rattle.bpaf_exact.specs.{Pieces.mine, Pieces.word, Says.EachOwn, Says.first_item, Says.unkeyed}
-use Rattle.bpaf_exact.specs.{Names.Owns, Says.Fits, Says.keyed}
+use Rattle.bpaf_exact.specs.Pieces.{are_all_apart, takes_argument, are_apart, is_key_of_any}
+use Rattle.bpaf_exact.specs.Pieces.{takes_flag, mine, word, Owns}
+use Rattle.bpaf_exact.specs.Says.{EachOwn, first_item, unkeyed, Fits, keyed}
+use Rattle.bpaf_exact.specs.{ProgramForm.may_follow, Flat.OneWord}
 
 -- where a test holds of each element of a list, and another of one, both hold of one
 pub both_hold : {X C : Type 0} (test pick : X → Bool)

@@ -6,29 +6,30 @@ use Rattle.std.specs.{Global.Vec, Option.IsSomeRelated, Option.is_none, Prelude.
 use Rattle.bpaf_doc.specs.Names.{Names}
 use Rattle.bpaf_base.specs.Items.{item_text}
 use Rattle.bpaf_line.specs.Situation.{Context}
-use Rattle.bpaf_text.specs.Named.{KeyWithValue, Named as Key}
-use Rattle.bpaf_laws.specs.{Environment.first_set, Reading.Outcome, Repeat.is_nil}
+use Rattle.bpaf_text.specs.{Named.KeyWithValue, Named.Named as Key, Meaning.SpellsUnsigned}
+use Rattle.bpaf_laws.specs.{Reading.first_set, Reading.Outcome, Combinators.is_nil}
 use Rattle.bpaf_exact.proofs.Cuts.{one_take, one_cut, read_cut}
 use Rattle.bpaf_exact.proofs.ProgramForm.{runs_exactly, record_law, whole_law}
 use Rattle.bpaf_exact.proofs.Wrappers.{alternative_single}
 use Rattle.bpaf_exact.proofs.{Commands.none_opens, Leaves.last_same, Repeat.own_nil}
-use Rattle.bpaf_exact.specs.Leaves.{ArgumentValue, FlagValue, WordValue, argument_field, flag_field}
-use Rattle.bpaf_exact.specs.Leaves.{argument_group, argument_roles, flag_roles, key_field, word_by}
-use Rattle.bpaf_exact.specs.OneView.{Alike, HasOneView, LooksLike, OneGroup, RunsToOne, pair_view}
-use Rattle.bpaf_exact.specs.OneView.{Respects}
-use Rattle.bpaf_exact.specs.Pieces.{Cells, IsNamed, LinePiece, One, Roles, Two}
-use Rattle.bpaf_exact.specs.ProgramForm.{ProgramForm, alternative, before_commands, product, single}
-use Rattle.bpaf_exact.specs.ProgramForm.{FormLaw, commands, complete, program_closed, program_field}
-use Rattle.bpaf_exact.specs.ProgramForm.{completed, is_record, may_follow, program_both, program_if}
+use Rattle.bpaf_exact.specs.ProgramForm.{ArgumentValue, FlagValue, WordValue, argument_field}
+use Rattle.bpaf_exact.specs.ProgramForm.{flag_field, argument_group, argument_roles, flag_roles}
+use Rattle.bpaf_exact.specs.ProgramForm.{key_field, word_by, ProgramForm, alternative}
+use Rattle.bpaf_exact.specs.ProgramForm.{before_commands, product, single, FormLaw, commands}
+use Rattle.bpaf_exact.specs.ProgramForm.{complete, program_closed, program_field, completed}
+use Rattle.bpaf_exact.specs.ProgramForm.{is_record, may_follow, program_both, program_if}
 use Rattle.bpaf_exact.specs.ProgramForm.{product_reading, program_alone, program_con, whole_program}
-use Rattle.bpaf_exact.specs.ProgramForm.{program_optional, program_value, whole_value}
-use Rattle.bpaf_exact.specs.Record.{Accepted, NoMemory, RecordValue, Refusal, RunAnswer, line_cells}
-use Rattle.bpaf_exact.specs.Record.{IsExact}
-use Rattle.bpaf_exact.specs.Single.{FrontOf, Gap, Groups, OwnList, SingleLaw, SingleValue, own_none}
-use Rattle.bpaf_exact.specs.Single.{Own, listed, listed_and_absent, only_absent, own_more, repeated}
-use Rattle.bpaf_exact.specs.Wrappers.{ClosedValue, Closure, FallbackValue, OptionalValue}
-use Rattle.bpaf_exact.specs.Flat.{FieldKind, FieldsLaw, FieldsReading, ByName, ReadOff, Variables}
-use Rattle.bpaf_exact.specs.{Gathered.list_closure, Names.are_all_apart, Programs.OptionalCommands}
+use Rattle.bpaf_exact.specs.ProgramForm.{program_optional, program_value, whole_value, Accepted}
+use Rattle.bpaf_exact.specs.ProgramForm.{NoMemory, RecordValue, Refusal, RunAnswer, line_cells}
+use Rattle.bpaf_exact.specs.ProgramForm.{IsExact, OptionalCommands, Agrees}
+use Rattle.bpaf_exact.specs.Says.{Alike, HasOneView, LooksLike, OneGroup, RunsToOne, pair_view}
+use Rattle.bpaf_exact.specs.Says.{Respects}
+use Rattle.bpaf_exact.specs.Pieces.{Cells, IsNamed, LinePiece, One, Roles, Two, are_all_apart}
+use Rattle.bpaf_exact.specs.Flat.{FrontOf, Gap, Groups, OwnList, SingleLaw, SingleValue, own_none}
+use Rattle.bpaf_exact.specs.Flat.{Own, listed, listed_and_absent, only_absent, own_more, repeated}
+use Rattle.bpaf_exact.specs.Flat.{ClosedValue, Closure, FallbackValue, OptionalValue, FieldKind}
+use Rattle.bpaf_exact.specs.Flat.{FieldsLaw, FieldsReading, ByName, ReadOff, Variables}
+use Rattle.bpaf_exact.specs.Flat.{list_closure, AgreesOn, Decides}
 
 -- Closures.
 
@@ -350,3 +351,45 @@ module _ (T X : Type 0) (see : T → X) where
       let one = record_view context.env outcome names words s l u in
       like_this law (reads_one law.named (product_view (whole_program s) one) (line_cells context))
       a v (runs_exactly T outcome names words s h context l a ran) r
+
+-- a closure that accepts both or refuses both of what looks alike
+module _ {A B X : Type 0} {see : A → X} {f : Closure A B}
+    (apart : (x y : A) (v : B) → see x ≡ see y → f.yes x v → f.no y → ⊥) where
+  -- agrees on values that look alike
+  alike_agrees : (value : A → Type 0) → Alike see value → AgreesOn value f
+  alike_agrees value one x y v a b made refused = apart x y v (one x y a b) made refused
+
+  -- so round a field, and round commands
+  pub view_agrees : (s : ProgramForm A) → HasOneView see s → Agrees f s
+  view_agrees (alternative wide q value) one = λ o. alike_agrees (value o) (one o)
+  view_agrees (single wide k q group gap) one = (
+    λ os rest. alike_agrees (λ v. group os v rest) (λ v w a b. (one.0 os rest rest v w a b).0),
+    alike_agrees gap.absent one.1,
+  )
+  view_agrees (complete wide k q value) one = λ os. alike_agrees (value os) (one os)
+  view_agrees (product wide named q fields) one = λ os. alike_agrees (fields.value os) (one os)
+  view_agrees (commands optional value) one = λ cs. alike_agrees (value cs) (one cs)
+  view_agrees _ one = tt
+
+module _ {A B : Type 0} (f : Closure A B) (decides : Decides f) where
+  -- So does one that decides, where the values are one.
+  pub closure_agrees : (s : ProgramForm A) → HasOneView (λ v. v) s → Agrees f s
+  closure_agrees = view_agrees (λ x y v e a n. decides x v a (rw e n))
+
+  -- Where it has one answer to each input, what it makes of one value is one.
+  pub closed_one : ((x : A) (v w : B) → f.yes x v → f.yes x w → v ≡ w) → (s : ProgramForm A)
+      → HasOneView (λ v. v) s → HasOneView (λ v. v) (program_closed f s)
+  closed_one once = closed_view A B A B (λ v. v) (λ v. v) f (record {
+    same = λ x y v w e a b. once x v w a (rw e b);
+    apart = λ x y v e a n. decides x v a (rw e n);
+  })
+
+-- an argument has one value where each text means one
+pub argument_one : {T : Type 0} {means : List ℕ → T → Type 0}
+    → ((text : List ℕ) → Alike (λ v. v) (means text)) → (argument : KeyWithValue)
+    (variables : Variables) → HasOneView (λ v. v) (argument_field means argument variables)
+argument_one {T} {means} one = argument_view T T (λ v. v) means one
+
+-- as a text does that is a number
+pub number_one : (bits : ℕ) (text : List ℕ) → Alike (λ n. n) (SpellsUnsigned bits text)
+number_one bits text v w a b = a.value_of ∙ sym b.value_of

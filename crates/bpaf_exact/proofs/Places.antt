@@ -7,21 +7,20 @@ use Rattle.std.proofs.lemmas.Bool.{and_right, both_ways, false_from_ne_true, tru
 use Rattle.std.specs.Option.{is_some, option_map_or}
 use Rattle.bpaf_doc.specs.Names.{Names}
 use Rattle.bpaf_base.specs.declared.arg.Arg.TheVariants.{ArgWord, Word}
-use Rattle.bpaf_base.specs.{Items.any_item, Items.is_key_of, Items.value_text, declared.arg.Arg.Arg}
-use Rattle.bpaf_base.specs.Items.{item_text}
-use Rattle.bpaf_index.proofs.Counts.{count_below-same, count_below-some}
-use Rattle.bpaf_line.proofs.{Matches.open_has_item, Matches.open_item_there, Places.open_in_line}
-use Rattle.bpaf_line.proofs.Places.{taken_here, taken_other, taken_stays}
+use Rattle.bpaf_base.specs.Items.{any_item, is_key_of, value_text, item_text}
+use Rattle.bpaf_base.specs.declared.arg.Arg.{Arg}
+use Rattle.bpaf_index.proofs.BitSets.{count_below-same, count_below-some}
+use Rattle.bpaf_line.proofs.Places.{open_has_item, open_item_there, open_in_line, taken_here}
+use Rattle.bpaf_line.proofs.Places.{taken_other, taken_stays}
 use Rattle.bpaf_line.specs.Situation.{count_below, in_scope, is_open, is_taken, item_at, open_count}
-use Rattle.bpaf_line.specs.{Situation.Situation, Situation.take_place, Taking.value_after}
-use Rattle.bpaf_line.specs.Taking.{HasNone, IsFirst, is_match, open_item}
+use Rattle.bpaf_line.specs.Situation.{Situation, take_place}
+use Rattle.bpaf_line.specs.Taking.{value_after, HasNone, IsFirst, is_match, open_item}
 use Rattle.bpaf_exact.proofs.{Cuts.begin_at, Names.named_key}
 use Rattle.bpaf_exact.specs.Pieces.{Alone, Cells, Foreign, LinePiece, One, Role, Roles, TakesPieces}
 use Rattle.bpaf_exact.specs.Pieces.{IsNamed, TakesPiece, Two, WithNext, is_key, is_own_role, pieces}
-use Rattle.bpaf_exact.specs.Pieces.{is_value, takes_later, takes_more, takes_none, with_next}
-use Rattle.bpaf_exact.specs.Alternative.{TakesFirst, first_later, first_one}
-use Rattle.bpaf_exact.specs.{Alternative.NotOwn, Alternative.first_two, Single.present_count}
-use Rattle.bpaf_exact.specs.{Flat.Steady, Flat.cells, Flat.first_cells, Names.Owns}
+use Rattle.bpaf_exact.specs.Pieces.{is_value, takes_later, takes_more, takes_none, with_next, Owns}
+use Rattle.bpaf_exact.specs.Flat.{TakesFirst, first_later, first_one, NotOwn, first_two}
+use Rattle.bpaf_exact.specs.Flat.{present_count, Steady, cells, first_cells}
 
 -- taking a place changes what is taken and the current place alone
 pub take_steady : {s : Situation} {p : ℕ} → Steady s (take_place s p)

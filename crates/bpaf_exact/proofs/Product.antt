@@ -4,27 +4,27 @@ use Rattle.std.proofs.Common.{Bool, Err, List, None, Ok, Result, Some, [], ap, a
 use Rattle.std.proofs.Common.{ap₂, if◌then◌else◌, inl, inr, length, not, refl, subst, sym, ◌∙◌, ◌∷◌}
 use Rattle.std.proofs.Common.{true, ◌≡◌}
 use Rattle.bpaf_base.specs.declared.arg.Arg.{Arg}
-use Rattle.bpaf_line.specs.{Situation.Situation, Situation.with_current, declared.error.Error.Error}
-use Rattle.bpaf_line.specs.Messages.{is_memory}
-use Rattle.bpaf_laws.specs.{Product.BothOutcome, Product.ProductOutcome, Spared.IsNotMemory}
-use Rattle.bpaf_laws.specs.{Product.joined, Reading.Outcome}
+use Rattle.bpaf_line.specs.Situation.{Situation, with_current}
+use Rattle.bpaf_line.specs.{declared.error.Error.Error, Messages.is_memory}
+use Rattle.bpaf_laws.specs.Product.{BothOutcome, ProductOutcome, joined}
+use Rattle.bpaf_laws.specs.{Laws.IsNotMemory, Reading.Outcome}
 use Rattle.bpaf_exact.proofs.Cuts.{begin_at, either_right, nil_rest, others_foreign, take_some_from}
 use Rattle.bpaf_exact.proofs.Cuts.{cut_empty, named_cuts, nil_foreign, pieces_of_cut, put_back_some}
 use Rattle.bpaf_exact.proofs.Cuts.{keeps_other_some, read_cut, read_off, word_foreign, words_of_cut}
 use Rattle.bpaf_exact.proofs.Cuts.{Belongs, belongs, both_nil, either_union, swap_union, takes_left}
 use Rattle.bpaf_exact.proofs.Cuts.{Union, own_next, to_first, to_second, union_named, value_foreign}
-use Rattle.bpaf_exact.proofs.{Classes.memory_class, Classes.not_memory, Cuts.some_trans}
-use Rattle.bpaf_exact.proofs.Cuts.{empty_cut, to_none, words_cut}
+use Rattle.bpaf_exact.proofs.Cuts.{some_trans, empty_cut, to_none, words_cut}
+use Rattle.bpaf_exact.proofs.Classes.{memory_class, not_memory}
 use Rattle.bpaf_exact.specs.Flat.{Before, ErrorClass, FieldKind, FieldLaw, FieldTook, FieldsReading}
 use Rattle.bpaf_exact.specs.Flat.{FieldsLaw, HasValue, IsWholeIn, NoKeysLeft, NonePresent, OfMemory}
 use Rattle.bpaf_exact.specs.Flat.{ByName, KeepsTo, OwnItems, Steady, Variables, both_reading, cells}
+use Rattle.bpaf_exact.specs.Flat.{present_count, ClosedValue, map_closure, portion, no_place}
+use Rattle.bpaf_exact.specs.Flat.{none_here, back, class, front, keys, left}
 use Rattle.bpaf_exact.specs.Pieces.{Alone, Apart, Cells, Cut, Foreign, LinePiece, Role, TakesPieces}
 use Rattle.bpaf_exact.specs.Pieces.{IsNamed, Roles, WithNext, argument, at_end, begin_piece, either}
 use Rattle.bpaf_exact.specs.Pieces.{flag, is_own, is_own_role, no_roles, others, passed, takes_more}
-use Rattle.bpaf_exact.specs.{Single.present_count, Wrappers.ClosedValue, Wrappers.map_closure}
-use Rattle.bpaf_exact.specs.{Flat.portion, Pieces.takes_none, Pieces.with_next, Record.last_reading}
-use Rattle.bpaf_exact.specs.{Flat.no_place, Flat.none_here, Pieces.mine, Pieces.pieces, Pieces.word}
-use Rattle.bpaf_exact.specs.{Flat.back, Flat.class, Flat.front, Flat.keys, Flat.left, Pieces.One}
+use Rattle.bpaf_exact.specs.Pieces.{takes_none, with_next, mine, pieces, word, One}
+use Rattle.bpaf_exact.specs.ProgramForm.{last_reading}
 
 -- what isn't taken stays in the scope
 pub none_outside_after : {env : Variables} {s t : Situation} → IsWholeIn env s → Steady s t

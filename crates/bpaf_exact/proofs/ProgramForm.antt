@@ -12,13 +12,13 @@ use Rattle.bpaf_base.specs.{Items.command_word, Items.is_command_word, declared.
 use Rattle.bpaf_line.specs.Situation.{Context, Situation, beginning, is_marker, item_in}
 use Rattle.bpaf_line.specs.{declared.error.Error.Error, declared.error.Message.TheVariants.Missing}
 use Rattle.bpaf_line.specs.{Taking.open_item, declared.error.Message.Message}
-use Rattle.bpaf_laws.specs.Default.{FallbackOutcome, Gives, GivesAnswer, GivesClone}
-use Rattle.bpaf_laws.specs.Repeat.{CollectOutcome, CountOutcome, LastOutcome, ManyOutcome, is_nil}
-use Rattle.bpaf_laws.specs.Repeat.{SomeOutcome}
-use Rattle.bpaf_laws.specs.Transform.{GuardOutcome, ParseOutcome, MapOutcome}
+use Rattle.bpaf_laws.specs.Combinators.{FallbackOutcome, Gives, GivesAnswer, GivesClone}
+use Rattle.bpaf_laws.specs.Combinators.{CollectOutcome, CountOutcome, LastOutcome, ManyOutcome}
+use Rattle.bpaf_laws.specs.Combinators.{is_nil, SomeOutcome, GuardOutcome, ParseOutcome, MapOutcome}
+use Rattle.bpaf_laws.specs.Combinators.{hidden, HideOutcome, TurnOutcome}
 use Rattle.bpaf_laws.specs.Command.{opening_words, is_one_of, Called}
-use Rattle.bpaf_laws.specs.{Product.ProductOutcome, Product.BothOutcome, Choice.ChoiceOutcome}
-use Rattle.bpaf_laws.specs.{Hide.hidden, Hide.HideOutcome, Reading.Outcome, Turn.TurnOutcome}
+use Rattle.bpaf_laws.specs.Product.{ProductOutcome, BothOutcome}
+use Rattle.bpaf_laws.specs.{Choice.ChoiceOutcome, Reading.Outcome}
 use Rattle.bpaf_exact.proofs.Classes.{caught_class, goes_on, kept_class, memory_class, stops_at}
 use Rattle.bpaf_exact.proofs.Programs.{before_law, command_law, con_program, record_program}
 use Rattle.bpaf_exact.proofs.Commands.{choice_commands, closed_commands, closed_program}
@@ -34,6 +34,13 @@ use Rattle.bpaf_exact.proofs.{Choice.choice_law, Cuts.one_cut, Cuts.read_cut}
 use Rattle.bpaf_exact.specs.Flat.{Before, ErrorClass, FieldKind, FieldLaw, FieldsLaw, FieldsReading}
 use Rattle.bpaf_exact.specs.Flat.{ByName, Caught, IsWholeIn, KeepsTo, NonePresent, ReadOff, Refused}
 use Rattle.bpaf_exact.specs.Flat.{OfMemory, Variables, both_reading, cells, class, class_of, keys}
+use Rattle.bpaf_exact.specs.Flat.{Gap, Groups, OwnList, RepeatOutcome, SingleLaw, repeated}
+use Rattle.bpaf_exact.specs.Flat.{ClosedEval, ClosedValue, Closure, FallbackEval, FallbackValue}
+use Rattle.bpaf_exact.specs.Flat.{Decides, answer_closure, closed_err, closed_memory, closed_no}
+use Rattle.bpaf_exact.specs.Flat.{fallback_given, fallback_memory, fallback_no, optional_memory}
+use Rattle.bpaf_exact.specs.Flat.{guard_closure, optional_none, optional_some, parse_closure}
+use Rattle.bpaf_exact.specs.Flat.{OptionalEval, fallback_err, fallback_ok, optional_err}
+use Rattle.bpaf_exact.specs.Flat.{map_closure, closed_yes, list_closure, some_closure, LastOf}
 use Rattle.bpaf_exact.specs.ProgramForm.{Agrees, FormLaw, ProgramForm, alternative, are_words_apart}
 use Rattle.bpaf_exact.specs.ProgramForm.{NamedLaw, before_commands, choice_only, commands, complete}
 use Rattle.bpaf_exact.specs.ProgramForm.{EndLaw, completed, is_program, may_follow, product_reading}
@@ -41,22 +48,13 @@ use Rattle.bpaf_exact.specs.ProgramForm.{is_named, is_record, product, product_r
 use Rattle.bpaf_exact.specs.ProgramForm.{program_both, program_choice, program_command, program_con}
 use Rattle.bpaf_exact.specs.ProgramForm.{no_program, program_closed, program_dressed, program_field}
 use Rattle.bpaf_exact.specs.ProgramForm.{program_if, program_optional, program_value, whole_program}
-use Rattle.bpaf_exact.specs.ProgramForm.{whole_value, single}
-use Rattle.bpaf_exact.specs.Programs.{CellsValue, CommandEval, IsSpelledLine, ProgramLaw, are_plain}
-use Rattle.bpaf_exact.specs.Programs.{WordsApart}
-use Rattle.bpaf_exact.specs.Record.{IsAcceptedOrWant, IsExact, IsNoValue, RecordValue, last_reading}
-use Rattle.bpaf_exact.specs.Record.{Accepted, RunAnswer, RunRan, line_cells, run_refusal, run_value}
-use Rattle.bpaf_exact.specs.Record.{run_leftover, run_memory}
-use Rattle.bpaf_exact.specs.Single.{Gap, Groups, OwnList, RepeatOutcome, SingleLaw, repeated}
-use Rattle.bpaf_exact.specs.Wrappers.{ClosedEval, ClosedValue, Closure, FallbackEval, FallbackValue}
-use Rattle.bpaf_exact.specs.Wrappers.{Decides, answer_closure, closed_err, closed_memory, closed_no}
-use Rattle.bpaf_exact.specs.Wrappers.{fallback_given, fallback_memory, fallback_no, optional_memory}
-use Rattle.bpaf_exact.specs.Wrappers.{guard_closure, optional_none, optional_some, parse_closure}
-use Rattle.bpaf_exact.specs.Wrappers.{OptionalEval, fallback_err, fallback_ok, optional_err}
-use Rattle.bpaf_exact.specs.Wrappers.{map_closure, closed_yes}
-use Rattle.bpaf_exact.specs.Gathered.{list_closure, some_closure, LastOf}
-use Rattle.bpaf_exact.specs.Pieces.{LinePiece, either, Cut, Roles, no_roles}
-use Rattle.bpaf_exact.specs.{Names.are_all_apart, Names.Owns, Theorem.RunsExactly}
+use Rattle.bpaf_exact.specs.ProgramForm.{whole_value, single, CellsValue, CommandEval}
+use Rattle.bpaf_exact.specs.ProgramForm.{IsSpelledLine, ProgramLaw, are_plain, WordsApart}
+use Rattle.bpaf_exact.specs.ProgramForm.{IsAcceptedOrWant, IsExact, IsNoValue, RecordValue}
+use Rattle.bpaf_exact.specs.ProgramForm.{last_reading, Accepted, RunAnswer, RunRan, line_cells}
+use Rattle.bpaf_exact.specs.ProgramForm.{run_refusal, run_value, run_leftover, run_memory}
+use Rattle.bpaf_exact.specs.ProgramForm.{RunsExactly}
+use Rattle.bpaf_exact.specs.Pieces.{LinePiece, either, Cut, Roles, no_roles, are_all_apart, Owns}
 
 -- what b allows a allows too, of a refusal one of the same class
 pub record AllowsNoMore (T : Type 0) (a b : Outcome T) : Type 0 where

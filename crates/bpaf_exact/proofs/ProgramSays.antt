@@ -13,27 +13,26 @@ use Rattle.bpaf_exact.proofs.Says.{whole_form_says, OwnsKeys, owned, field_says,
 use Rattle.bpaf_exact.proofs.Says.{listed_says, unless_says, field_owned, alone_says, both_say}
 use Rattle.bpaf_exact.proofs.Says.{con_says, WholeSays, record_says}
 use Rattle.bpaf_exact.proofs.{Names.cut_fit, Names.taken_own, Cuts.read_cut}
-use Rattle.bpaf_exact.specs.Flat.{ByName, FieldKind, Variables, keys}
-use Rattle.bpaf_exact.specs.Pieces.{LinePiece, others}
+use Rattle.bpaf_exact.specs.Flat.{ByName, FieldKind, Variables, keys, Gap, Groups, OwnList}
+use Rattle.bpaf_exact.specs.Flat.{repeated, ClosedValue, Closure, FallbackValue, OptionalValue}
+use Rattle.bpaf_exact.specs.Flat.{LastOf}
+use Rattle.bpaf_exact.specs.Pieces.{LinePiece, others, are_all_apart}
 use Rattle.bpaf_exact.specs.ProgramForm.{ProgramForm, alternative, are_words_apart, before_commands}
 use Rattle.bpaf_exact.specs.ProgramForm.{choice_only, completed, is_program, no_program, commands}
 use Rattle.bpaf_exact.specs.ProgramForm.{complete, product_roles, program_alone, program_both}
 use Rattle.bpaf_exact.specs.ProgramForm.{program_choice, program_command, program_con}
 use Rattle.bpaf_exact.specs.ProgramForm.{program_closed, program_dressed, program_field, program_if}
 use Rattle.bpaf_exact.specs.ProgramForm.{FormLaw, program_value, single, whole_program, whole_value}
-use Rattle.bpaf_exact.specs.ProgramForm.{product, program_optional}
-use Rattle.bpaf_exact.specs.ProgramSays.{CellsSay, CutSays, FieldThenSays, IsSaid, ProgramFieldsSay}
-use Rattle.bpaf_exact.specs.ProgramSays.{FieldsKeep, ProgramFieldsSaid, ProgramFormSays, cells_said}
-use Rattle.bpaf_exact.specs.ProgramSays.{ProgramSaid, ProgramSays, fields_said_inside, of_all_cells}
-use Rattle.bpaf_exact.specs.ProgramSays.{of_all_pieces, of_cells, of_pieces, said_both, said_choice}
-use Rattle.bpaf_exact.specs.ProgramSays.{said_alone, said_closed, said_command, said_con, said_last}
-use Rattle.bpaf_exact.specs.ProgramSays.{said_dressed, said_fallback, said_optional, said_repeat}
-use Rattle.bpaf_exact.specs.Programs.{CellsValue, ChoiceValue, OptionalCommands, are_plain}
+use Rattle.bpaf_exact.specs.ProgramForm.{product, program_optional, CellsValue, ChoiceValue}
+use Rattle.bpaf_exact.specs.ProgramForm.{OptionalCommands, are_plain}
+use Rattle.bpaf_exact.specs.Says.{CellsSay, CutSays, FieldThenSays, IsSaid, ProgramFieldsSay}
+use Rattle.bpaf_exact.specs.Says.{FieldsKeep, ProgramFieldsSaid, ProgramFormSays, cells_said}
+use Rattle.bpaf_exact.specs.Says.{ProgramSaid, ProgramSays, fields_said_inside, of_all_cells}
+use Rattle.bpaf_exact.specs.Says.{of_all_pieces, of_cells, of_pieces, said_both, said_choice}
+use Rattle.bpaf_exact.specs.Says.{said_alone, said_closed, said_command, said_con, said_last}
+use Rattle.bpaf_exact.specs.Says.{said_dressed, said_fallback, said_optional, said_repeat}
 use Rattle.bpaf_exact.specs.Says.{FallbackSays, FormSays, LastSays, SaidKind, form_kind, Said, Says}
 use Rattle.bpaf_exact.specs.Says.{of_kind, repeated_kind, says_that, says_this}
-use Rattle.bpaf_exact.specs.Single.{Gap, Groups, OwnList, repeated}
-use Rattle.bpaf_exact.specs.Wrappers.{ClosedValue, Closure, FallbackValue, OptionalValue}
-use Rattle.bpaf_exact.specs.{Gathered.LastOf, Names.are_all_apart}
 
 -- Programs.
 

@@ -9,36 +9,36 @@ use Rattle.std.proofs.{lemmas.Bool.Decides.nat_tests, lemmas.List.length_push}
 use Rattle.std.specs.{List.list_any, Option.option_map_or}
 use Rattle.bpaf_base.specs.declared.arg.Arg.TheVariants.{Long, Short}
 use Rattle.bpaf_base.specs.{Items.any_item, declared.arg.Arg.Arg}
-use Rattle.bpaf_line.proofs.Matches.{match_is_open, open_item_there}
-use Rattle.bpaf_line.proofs.Places.{open_in_scope, taken_here, taken_other, taken_stays}
+use Rattle.bpaf_line.proofs.Places.{match_is_open, open_item_there, open_in_scope, taken_here}
+use Rattle.bpaf_line.proofs.Places.{taken_other, taken_stays}
 use Rattle.bpaf_line.specs.Situation.{Situation, in_scope, is_taken, item_at}
 use Rattle.bpaf_line.specs.{declared.error.Error.Error, Taking.open_item}
 use Rattle.bpaf_laws.specs.Command.{opening_words, IsNotOpened, IsOpenedAt, is_one_of, Called}
 use Rattle.bpaf_laws.specs.Command.{inside}
 use Rattle.bpaf_laws.specs.{Product.ProductOutcome, Product.BothOutcome, Reading.Outcome}
-use Rattle.bpaf_exact.proofs.Cuts.{begin_at, nil_foreign, nil_rest, one_take, value_foreign}
-use Rattle.bpaf_exact.proofs.Cuts.{read_cut}
-use Rattle.bpaf_exact.proofs.Places.{TakenOne, closed_item, match_of, open_present, same_item}
-use Rattle.bpaf_exact.proofs.Places.{take_one}
 use Rattle.bpaf_exact.proofs.Product.{count_none, no_own_in_cut, none_outside_after, values_of_both}
 use Rattle.bpaf_exact.proofs.Product.{refused_both, con_keeps}
-use Rattle.bpaf_exact.proofs.Names.{first_within, second_within, both_hold}
-use Rattle.bpaf_exact.proofs.Choice.{has_item}
+use Rattle.bpaf_exact.proofs.{Cuts.begin_at, Cuts.nil_foreign, Cuts.nil_rest, Cuts.one_take}
+use Rattle.bpaf_exact.proofs.{Cuts.value_foreign, Cuts.read_cut, Places.TakenOne}
+use Rattle.bpaf_exact.proofs.{Places.closed_item, Places.match_of, Places.open_present}
+use Rattle.bpaf_exact.proofs.{Places.same_item, Places.take_one, Names.first_within}
+use Rattle.bpaf_exact.proofs.{Names.second_within, Names.both_hold, Choice.has_item}
 use Rattle.bpaf_exact.specs.Flat.{ByName, FieldLaw, FieldTook, FieldsLaw, FieldsReading, IsWholeIn}
 use Rattle.bpaf_exact.specs.Flat.{OfMemory, ReadOff, first_cells, Variables, cells, class}
+use Rattle.bpaf_exact.specs.Flat.{ClosedValue, map_closure, TakesFirst, first_later, first_one}
+use Rattle.bpaf_exact.specs.Flat.{NotOwn}
 use Rattle.bpaf_exact.specs.Pieces.{Alone, Apart, Cells, Foreign, LinePiece, One, Roles, TakesPiece}
 use Rattle.bpaf_exact.specs.Pieces.{Role, Takes, TakesPieces, Two, either, either_role, empty_stays}
 use Rattle.bpaf_exact.specs.Pieces.{IsNamed, is_key, is_own_role, no_cells, other_stays, takes_flag}
 use Rattle.bpaf_exact.specs.Pieces.{takes_argument, takes_later, takes_more, takes_none, takes_one}
 use Rattle.bpaf_exact.specs.Pieces.{pieces, takes_two}
-use Rattle.bpaf_exact.specs.Programs.{AllSpelled, CellsValue, CommandEval, CommandsLaw}
-use Rattle.bpaf_exact.specs.Programs.{CommandValue, FieldThen, FindsNoCommand, IsSpelledLine, Opens}
-use Rattle.bpaf_exact.specs.Programs.{OpensNone, ProgramLaw, ProgramTook, are_plain, command_memory}
-use Rattle.bpaf_exact.specs.Programs.{command_leftover, command_value, command_missing, empty_cell}
-use Rattle.bpaf_exact.specs.Programs.{is_spelled, no_cell, opens_later, command_refused, is_dashed}
-use Rattle.bpaf_exact.specs.Programs.{opens_here, spelled_cell}
-use Rattle.bpaf_exact.specs.Wrappers.{ClosedValue, map_closure}
-use Rattle.bpaf_exact.specs.Alternative.{TakesFirst, first_later, first_one, NotOwn}
+use Rattle.bpaf_exact.specs.ProgramForm.{AllSpelled, CellsValue, CommandEval, CommandsLaw}
+use Rattle.bpaf_exact.specs.ProgramForm.{CommandValue, FieldThen, FindsNoCommand, IsSpelledLine}
+use Rattle.bpaf_exact.specs.ProgramForm.{Opens, OpensNone, ProgramLaw, ProgramTook, are_plain}
+use Rattle.bpaf_exact.specs.ProgramForm.{command_memory, command_leftover, command_value}
+use Rattle.bpaf_exact.specs.ProgramForm.{command_missing, empty_cell, is_spelled, no_cell}
+use Rattle.bpaf_exact.specs.ProgramForm.{opens_later, command_refused, is_dashed, opens_here}
+use Rattle.bpaf_exact.specs.ProgramForm.{spelled_cell}
 
 -- A command's word on cells.
 

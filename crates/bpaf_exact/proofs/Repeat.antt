@@ -4,8 +4,9 @@ use Rattle.std.proofs.Common.{Bool, Err, List, None, Ok, arith, false, inl, inr,
 use Rattle.std.proofs.Common.{subst, sym, true, true≢false, ⊎_elim, ◌<◌, ◌∙◌, ◌∷◌, ◌≡◌, ◌≤◌, ◌++◌}
 use Rattle.std.proofs.Common.{◌⊎◌}
 use Rattle.bpaf_line.specs.{Situation.Situation, Situation.open_count, declared.error.Error.Error}
-use Rattle.bpaf_laws.specs.Repeat.{LastOutcome, UntilRest, Turns, is_nil, rests, stops}
-use Rattle.bpaf_laws.specs.{Reading.Outcome, Turn.TurnOutcome}
+use Rattle.bpaf_laws.specs.Combinators.{LastOutcome, UntilRest, Turns, is_nil, rests, stops}
+use Rattle.bpaf_laws.specs.Combinators.{TurnOutcome}
+use Rattle.bpaf_laws.specs.Reading.{Outcome}
 use Rattle.bpaf_exact.proofs.Classes.{stops_at, memory_class, goes_on}
 use Rattle.bpaf_exact.proofs.Places.{takes_some_fewer, open_present, takes_fewer}
 use Rattle.bpaf_exact.proofs.Product.{none_outside_after, steady_trans, steady_refl}
@@ -13,16 +14,15 @@ use Rattle.bpaf_exact.proofs.Fronts.{no_keys_left, never_nil, back_all, each_nil
 use Rattle.bpaf_exact.proofs.Cuts.{some_trans}
 use Rattle.bpaf_exact.specs.Flat.{EachWord, ErrorClass, FieldKind, FieldTook, IsWholeIn, ByName}
 use Rattle.bpaf_exact.specs.Flat.{FieldLaw, OfMemory, OfMissing, OneWord, OwnItems, Steady}
-use Rattle.bpaf_exact.specs.Flat.{Variables, back, cells, class, front}
+use Rattle.bpaf_exact.specs.Flat.{Variables, back, cells, class, front, CanCatch, Gap, Own, OwnList}
+use Rattle.bpaf_exact.specs.Flat.{ReadsWords, RepeatOutcome, Readable, SingleErr, SingleLaw}
+use Rattle.bpaf_exact.specs.Flat.{SingleOk, TakesAny, Groups, catch_missing, catch_other, caught}
+use Rattle.bpaf_exact.specs.Flat.{gave_absent, TookGroup, listed, listed_and_absent, nothing_found}
+use Rattle.bpaf_exact.specs.Flat.{of_missing, of_absent, of_memory, of_piece, only_absent, own_more}
+use Rattle.bpaf_exact.specs.Flat.{own_none, present_count, Stops, repeated, took, AgreesOn}
+use Rattle.bpaf_exact.specs.Flat.{some_closure, LastOf}
 use Rattle.bpaf_exact.specs.Pieces.{Cells, LinePiece, TakesPieces, pieces, takes_more, takes_none}
 use Rattle.bpaf_exact.specs.Pieces.{Roles}
-use Rattle.bpaf_exact.specs.Single.{CanCatch, Gap, Own, OwnList, ReadsWords, RepeatOutcome}
-use Rattle.bpaf_exact.specs.Single.{Readable, SingleErr, SingleLaw, SingleOk, TakesAny, Groups}
-use Rattle.bpaf_exact.specs.Single.{catch_missing, catch_other, caught, gave_absent, TookGroup}
-use Rattle.bpaf_exact.specs.Single.{listed, listed_and_absent, nothing_found, of_missing, of_absent}
-use Rattle.bpaf_exact.specs.Single.{of_memory, of_piece, only_absent, own_more, own_none}
-use Rattle.bpaf_exact.specs.Single.{present_count, Stops, repeated, took}
-use Rattle.bpaf_exact.specs.{Wrappers.AgreesOn, Gathered.some_closure, Gathered.LastOf}
 
 -- where the cells are the same none was taken
 pub same_takes : {q : Roles} {cs ds : Cells} → ds ≡ cs → TakesPieces q cs ds

@@ -1,12 +1,12 @@
--- The value of each flat field says of its pieces what its parser says, and that of a record of the
--- line.
+-- The value of each flat field says of its pieces what its parser says; which need a piece.
 use Rattle.std.proofs.Common.{Bool, List, None, Option, Some, [], ap, append-nil, false, inl, inr}
 use Rattle.std.proofs.Common.{not, refl, subst, sym, true, ℕ, ◌&&◌, ◌++◌, ◌||◌, ◌∙◌, ◌∷◌, ◌≡◌}
-use Rattle.std.specs.{Option.IsSomeRelated, Option.is_none, Prelude.MatchBool}
+use Rattle.std.proofs.Common.{true≢false, ◌≢◌}
+use Rattle.std.specs.{Option.IsSomeRelated, Option.is_none, Prelude.MatchBool, List.AllZip}
 use Rattle.bpaf_doc.specs.Names.{Names}
 use Rattle.bpaf_text.specs.Named.{KeyWithValue, Named as Key}
-use Rattle.bpaf_laws.specs.Flag.{value_without_key}
-use Rattle.bpaf_laws.specs.{Environment.first_set, Reading.Outcome, Repeat.is_nil}
+use Rattle.bpaf_laws.specs.Reading.{first_set, Outcome}
+use Rattle.bpaf_laws.specs.{Leaves.value_without_key, Combinators.is_nil}
 use Rattle.bpaf_exact.proofs.Names.{apart_none, apart_of_names, first_within, mine_keyed, mine_none}
 use Rattle.bpaf_exact.proofs.Names.{all_mine, mine_of_others, mine_within, none_behind, others_both}
 use Rattle.bpaf_exact.proofs.Names.{each_own, mine_rest, others_fit, others_none, rest_fit}
@@ -14,28 +14,27 @@ use Rattle.bpaf_exact.proofs.Names.{others_unkeyed, second_within, others_rest, 
 use Rattle.bpaf_exact.proofs.Names.{own_fit}
 use Rattle.bpaf_exact.proofs.Fronts.{all_front, never_nil}
 use Rattle.bpaf_exact.specs.Flat.{ByName, FieldKind, FieldsReading, OneWord, Variables, back, front}
-use Rattle.bpaf_exact.specs.Flat.{both_reading, keys}
-use Rattle.bpaf_exact.specs.Leaves.{ArgumentValue, FlagValue, WordValue, argument_field, flag_field}
-use Rattle.bpaf_exact.specs.Leaves.{argument_group, argument_roles, flag_roles, key_field, word_by}
-use Rattle.bpaf_exact.specs.Names.{Owns, are_all_apart}
-use Rattle.bpaf_exact.specs.Pieces.{LinePiece, One, Roles, either, is_own, mine, no_roles, others}
-use Rattle.bpaf_exact.specs.Pieces.{Two}
-use Rattle.bpaf_exact.specs.ProgramForm.{ProgramForm, alternative, before_commands, completed}
-use Rattle.bpaf_exact.specs.ProgramForm.{may_follow, no_program, commands, complete, is_named}
-use Rattle.bpaf_exact.specs.ProgramForm.{program_alone, program_both, program_choice, program_con}
-use Rattle.bpaf_exact.specs.ProgramForm.{program_closed, program_field, program_if, FormLaw, single}
-use Rattle.bpaf_exact.specs.ProgramForm.{whole_program, product, program_optional}
+use Rattle.bpaf_exact.specs.Flat.{both_reading, keys, FrontOf, Gap, Groups, Own, OwnList}
+use Rattle.bpaf_exact.specs.Flat.{SingleValue, gap_of, listed, listed_and_absent, only_absent}
+use Rattle.bpaf_exact.specs.Flat.{own_more, own_none, repeated, Closure, FallbackValue}
+use Rattle.bpaf_exact.specs.Flat.{OptionalValue, either_value}
+use Rattle.bpaf_exact.specs.ProgramForm.{ArgumentValue, FlagValue, WordValue, argument_field}
+use Rattle.bpaf_exact.specs.ProgramForm.{flag_field, argument_group, argument_roles, flag_roles}
+use Rattle.bpaf_exact.specs.ProgramForm.{key_field, word_by, ProgramForm, alternative}
+use Rattle.bpaf_exact.specs.ProgramForm.{before_commands, completed, may_follow, no_program}
+use Rattle.bpaf_exact.specs.ProgramForm.{commands, complete, is_named, program_alone, program_both}
+use Rattle.bpaf_exact.specs.ProgramForm.{program_choice, program_con, program_closed, program_field}
+use Rattle.bpaf_exact.specs.ProgramForm.{program_if, FormLaw, single, whole_program, product}
+use Rattle.bpaf_exact.specs.ProgramForm.{program_optional, last_reading}
+use Rattle.bpaf_exact.specs.Pieces.{Owns, are_all_apart, LinePiece, One, Roles, either, is_own}
+use Rattle.bpaf_exact.specs.Pieces.{mine, no_roles, others, Two}
 use Rattle.bpaf_exact.specs.Says.{ArgumentSays, FallbackSays, FieldsFormSays, FieldsSaid, FieldsSay}
 use Rattle.bpaf_exact.specs.Says.{AllOwn, Fits, FlagSays, FormSays, FrontSays, RecordSays, MadeSays}
 use Rattle.bpaf_exact.specs.Says.{OptionalSays, RepeatSays, SaidKind, WordSays, form_kind, Said}
 use Rattle.bpaf_exact.specs.Says.{Says, its_pieces, keyed, of_kind, repeated_kind, says_alone}
 use Rattle.bpaf_exact.specs.Says.{says_absent, says_in_turn, says_last_text, says_own, says_present}
 use Rattle.bpaf_exact.specs.Says.{says_kept, says_none, says_some, says_text, says_variable}
-use Rattle.bpaf_exact.specs.Says.{says_variable_text, words_after}
-use Rattle.bpaf_exact.specs.Single.{FrontOf, Gap, Groups, Own, OwnList, SingleValue, gap_of, listed}
-use Rattle.bpaf_exact.specs.Single.{listed_and_absent, only_absent, own_more, own_none, repeated}
-use Rattle.bpaf_exact.specs.Wrappers.{Closure, FallbackValue, OptionalValue}
-use Rattle.bpaf_exact.specs.{Alternative.either_value, Record.last_reading}
+use Rattle.bpaf_exact.specs.Says.{says_variable_text, words_after, LastSays}
 
 -- Leaves.
 
@@ -467,3 +466,120 @@ record_says {T} s {kind} {names} {said} h = by_form s h.by
     by_form (product wide named q fields) h = λ os v fits m. h.1 os os v fits fits m refl refl
     by_form no_program h = tt
     by_form _ h = absurd h
+
+-- a value that is said of one piece
+record OfOnePiece {T : Type 0} (one : LinePiece → T → Type 0) (os : List LinePiece)
+    (v : T) : Type 0 where
+  piece : LinePiece
+  is : os ≡ piece ∷ []
+  said : one piece v
+
+-- values that are each said of one piece are said of the pieces in line order, one for each
+module _ {T : Type 0} (said : Said T) (one : LinePiece → T → Type 0)
+    (of_one : (os : List LinePiece) (v : T) → said os v → OfOnePiece one os v) where
+  in_turn : (os : List LinePiece) (vs : List T) → Own T (FrontSays said) os vs → AllZip one os vs
+  in_turn [] [] own_none = tt
+  in_turn (o ∷ os) [] h = elim h [ ]
+  in_turn os (v ∷ vs) (own_more {rest} front more) =
+      let first = of_one front.part v front.told in
+      rw (front.is ∙ ap (λ part. part ++ rest) first.is) (first.said, in_turn rest vs more)
+
+  one_by_one : {os : List LinePiece} {vs : List T} → RepeatSays said os vs → AllZip one os vs
+  one_by_one {os} {vs} (says_in_turn turns) = in_turn os vs turns
+  one_by_one (says_alone a none is told) = let first = of_one [] a told in absurd cc
+
+-- Of a repeated argument none of whose variables is set: what the texts behind its keys mean, in
+-- line order, one for each key.
+pub argument_values : {T : Type 0} {means : List ℕ → T → Type 0} {last : Bool}
+    {set : Option (List ℕ)} {os : List LinePiece} {vs : List T} → last ≡ false → set ≡ None
+    → RepeatSays (ArgumentSays means last set) os vs → AllZip (ArgumentValue means) os vs
+argument_values {T} {means} {last} {set} {os} once unset told =
+    one_by_one (ArgumentSays means last set) (ArgumentValue means) of_one told
+  where
+    of_one : (os : List LinePiece) {v : T} → ArgumentSays means last set os v
+        → OfOnePiece (ArgumentValue means) os v
+    of_one os (says_text k w e m) = record { piece = Two k w; is = e; said = m }
+    of_one os (says_variable_text text none is m) = absurd cc
+    of_one os (says_last_text before k w all e m) = absurd (true≢false (sym all ∙ once))
+
+-- Of a repeated required flag of that kind: its present value, once for each key.
+pub flag_values : {T : Type 0} {clones : T → T → Type 0} {present : T} {absent : Option T}
+    {set : Option (List ℕ)} {os : List LinePiece} {vs : List T} → absent ≡ None → set ≡ None
+    → RepeatSays (FlagSays clones present absent set) os vs
+    → AllZip (FlagValue (clones present)) os vs
+flag_values {T} {clones} {present} {absent} {set} {os} required unset told =
+    one_by_one (FlagSays clones present absent set) (FlagValue (clones present)) of_one told
+  where
+    of_one : (os : List LinePiece) {v : T} → FlagSays clones present absent set os v
+        → OfOnePiece (FlagValue (clones present)) os v
+    of_one os (says_present k e m) = record { piece = One k; is = e; said = m }
+    of_one os (says_variable text none is m) = absurd cc
+    of_one os (says_absent a e is some m) = absurd cc
+
+-- Of repeated words: what their texts mean, in line order.
+pub word_values : {T : Type 0} {means : List ℕ → T → Type 0} {os : List LinePiece} {vs : List T}
+    {accepts : Bool → Bool} → RepeatSays (WordSays accepts means) os vs
+    → AllZip (WordValue accepts means) os vs
+word_values {means} {os} {accepts} told =
+    one_by_one (WordSays accepts means) (WordValue accepts means)
+    (λ os v said. record { piece = One said.word; is = said.is; said = (said.side, said.meant) })
+    told
+
+-- no value says so of no piece
+pub record NeedsPiece {T : Type 0} (said : Said T) : Type 0 where
+  pub some : (v : T) → ¬ (said [] v)
+
+-- where the first part of nothing has a member there is none
+no_part : {X : Type 0} (xs ys : List X) → [] ≡ xs ++ ys → xs ≡ []
+no_part [] ys e = refl
+no_part (x ∷ xs) ys e = absurd cc
+
+-- An argument's value needs a piece, where no variable of its is set,
+pub argument_needs : {T : Type 0} {means : List ℕ → T → Type 0} {last : Bool}
+    {set : Option (List ℕ)} → set ≡ None → NeedsPiece (ArgumentSays means last set)
+argument_needs {T} {means} {last} {set} unset = record { some = by_case }
+  where
+    by_case : (v : T) → ¬ (ArgumentSays means last set [] v)
+    by_case v (says_text k w e m) = cc
+    by_case v (says_last_text before k w all e m) = never_nil _ (Two k w) [] (sym e)
+    by_case v (says_variable_text text none is m) = cc
+
+-- a required flag's then,
+pub flag_needs : {T : Type 0} {clones : T → T → Type 0} {present : T} {absent : Option T}
+    {set : Option (List ℕ)} → absent ≡ None → set ≡ None
+    → NeedsPiece (FlagSays clones present absent set)
+flag_needs {T} {clones} {present} {absent} {set} required unset = record { some = by_case }
+  where
+    by_case : (v : T) → ¬ (FlagSays clones present absent set [] v)
+    by_case v (says_present k e m) = cc
+    by_case v (says_variable text none is m) = cc
+    by_case v (says_absent a none is kept m) = cc
+
+-- with a closure round it one that does inside,
+pub made_needs : {A B : Type 0} {said : Said A} {f : Closure A B} → NeedsPiece said
+    → NeedsPiece (MadeSays said f)
+made_needs needs = record { some = λ v made. needs.some made.from made.told }
+
+-- a repeat that has values where each of them does,
+pub repeat_needs : {T : Type 0} {said : Said T} → NeedsPiece said → (vs : List T) → vs ≢ []
+    → ¬ (RepeatSays said [] vs)
+repeat_needs needs vs some (says_alone a none e told) = needs.some a told
+repeat_needs {T} {said} needs vs some (says_in_turn turns) = in_turn vs refl some turns
+  where
+    in_turn : {os : List LinePiece} (xs : List T) → os ≡ [] → xs ≢ []
+        → ¬ (Own T (FrontSays said) os xs)
+    in_turn [] none some turns = some refl
+    in_turn (x ∷ xs) none some (own_more {rest} front more) =
+        front.some (no_part front.part rest (sym none ∙ front.is))
+
+-- and a last value then.
+pub last_needs : {T : Type 0} {said : Said T} → NeedsPiece said → NeedsPiece (LastSays said)
+last_needs needs = record {
+  some = λ v last. repeat_needs needs last.values
+      (λ none. never_nil last.is.before v [] (sym last.is.is ∙ none)) last.told;
+}
+
+-- And a repeat without values has no piece.
+pub no_values : {T : Type 0} {said : Said T} {os : List LinePiece} → RepeatSays said os [] → os ≡ []
+no_values (says_alone a none e told) = none
+no_values (says_in_turn own_none) = refl

@@ -3,14 +3,14 @@ use Rattle.std.proofs.Common.{Bool, List, Option, Some, [], false, inl, inr, not
 use Rattle.std.proofs.Common.{None}
 use Rattle.bpaf_exact.proofs.Wrappers.{own_bad}
 use Rattle.bpaf_exact.specs.Flat.{FieldKind, FieldsReading, HasValue, both_reading, left, portion}
+use Rattle.bpaf_exact.specs.Flat.{FrontOf, Groups, OwnList, listed_and_absent, own_more, own_none}
+use Rattle.bpaf_exact.specs.Flat.{Gap, SingleValue, gap_of, listed, only_absent, FallbackValue}
+use Rattle.bpaf_exact.specs.Flat.{OptionalValue, HasBad, LastOf, Closure}
 use Rattle.bpaf_exact.specs.ProgramForm.{ProgramForm, alternative, complete, program_closed, single}
 use Rattle.bpaf_exact.specs.ProgramForm.{completed, product, program_field, program_if}
-use Rattle.bpaf_exact.specs.Single.{FrontOf, Groups, OwnList, listed_and_absent, own_more, own_none}
-use Rattle.bpaf_exact.specs.Single.{Gap, SingleValue, gap_of, listed, only_absent}
-use Rattle.bpaf_exact.specs.{Accepted.HasNoSurplus, Wrappers.FallbackValue, Wrappers.OptionalValue}
-use Rattle.bpaf_exact.specs.{Accepted.AtMostOne, Alternative.HasBad, Record.last_reading}
-use Rattle.bpaf_exact.specs.{Accepted.IsPartOf, Accepted.OneByOne, Leaves.key_field, Leaves.word_by}
-use Rattle.bpaf_exact.specs.{Gathered.LastOf, Pieces.LinePiece, Pieces.Roles, Wrappers.Closure}
+use Rattle.bpaf_exact.specs.ProgramForm.{HasNoSurplus, AtMostOne, last_reading, IsPartOf, OneByOne}
+use Rattle.bpaf_exact.specs.ProgramForm.{key_field, word_by}
+use Rattle.bpaf_exact.specs.Pieces.{LinePiece, Roles}
 
 -- A surplus occurrence.
 

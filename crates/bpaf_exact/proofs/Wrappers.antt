@@ -6,25 +6,23 @@ use Rattle.std.specs.Option.{IsSomeRelated, is_some}
 use Rattle.bpaf_line.specs.{Situation.Situation, declared.error.Error.Error}
 use Rattle.bpaf_laws.specs.Reading.{Outcome}
 use Rattle.bpaf_exact.proofs.Cuts.{takes_nonempty, first_pieces, first_takes, head_stays}
-use Rattle.bpaf_exact.proofs.Repeat.{same_takes, stops_by, stopped_by, catch_none}
-use Rattle.bpaf_exact.proofs.Repeat.{none_given}
+use Rattle.bpaf_exact.proofs.Repeat.{same_takes, stops_by, stopped_by, catch_none, none_given}
 use Rattle.bpaf_exact.proofs.{Fronts.no_keys_left, Fronts.back_all, Product.steady_refl}
-use Rattle.bpaf_exact.specs.Alternative.{AlternativeErr, AlternativeLaw, AlternativeOk, FirstUnread}
-use Rattle.bpaf_exact.specs.Alternative.{HasBad, alternative_missing, alternative_refused, bad_here}
-use Rattle.bpaf_exact.specs.Alternative.{TakesFirst, alternative_memory, bad_later}
-use Rattle.bpaf_exact.specs.Flat.{EachWord, ErrorClass, FieldKind, FieldTook, IsWholeIn, NoKeysLeft}
-use Rattle.bpaf_exact.specs.Flat.{ByName, FieldLaw, OfMemory, OfMissing, OneWord, Refused, KeepsTo}
-use Rattle.bpaf_exact.specs.Flat.{Steady, Variables, back, cells, class, front}
+use Rattle.bpaf_exact.specs.Flat.{AlternativeErr, AlternativeLaw, AlternativeOk, FirstUnread}
+use Rattle.bpaf_exact.specs.Flat.{HasBad, alternative_missing, alternative_refused, bad_here}
+use Rattle.bpaf_exact.specs.Flat.{TakesFirst, alternative_memory, bad_later, EachWord, ErrorClass}
+use Rattle.bpaf_exact.specs.Flat.{FieldKind, FieldTook, IsWholeIn, NoKeysLeft, ByName, FieldLaw}
+use Rattle.bpaf_exact.specs.Flat.{OfMemory, OfMissing, OneWord, Refused, KeepsTo, Steady, Variables}
+use Rattle.bpaf_exact.specs.Flat.{back, cells, class, front, CanCatch, FrontOf, Gap, Own}
+use Rattle.bpaf_exact.specs.Flat.{ReadsWords, Readable, SingleErr, SingleLaw, SingleOk, SingleValue}
+use Rattle.bpaf_exact.specs.Flat.{Groups, catch_missing, gap_of, gave_absent, TookGroup, of_missing}
+use Rattle.bpaf_exact.specs.Flat.{of_absent, of_memory, of_piece, own_more, own_none, took}
+use Rattle.bpaf_exact.specs.Flat.{ClosedEval, ClosedValue, Closure, FallbackEval, FallbackValue}
+use Rattle.bpaf_exact.specs.Flat.{AgreesOn, OptionalEval, OptionalValue, closed_err, closed_gap}
+use Rattle.bpaf_exact.specs.Flat.{Decides, closed_memory, closed_no, closed_yes, fallback_given}
+use Rattle.bpaf_exact.specs.Flat.{fallback_err, fallback_memory, optional_memory, optional_none}
+use Rattle.bpaf_exact.specs.Flat.{fallback_no, fallback_ok, optional_err, optional_some}
 use Rattle.bpaf_exact.specs.Pieces.{Cells, LinePiece, pieces, takes_more, takes_none, Roles}
-use Rattle.bpaf_exact.specs.Single.{CanCatch, FrontOf, Gap, Own, ReadsWords, Readable, SingleErr}
-use Rattle.bpaf_exact.specs.Single.{SingleLaw, SingleOk, SingleValue, Groups, catch_missing, gap_of}
-use Rattle.bpaf_exact.specs.Single.{gave_absent, TookGroup, of_missing, of_absent, of_memory}
-use Rattle.bpaf_exact.specs.Single.{of_piece, own_more, own_none, took}
-use Rattle.bpaf_exact.specs.Wrappers.{ClosedEval, ClosedValue, Closure, FallbackEval, FallbackValue}
-use Rattle.bpaf_exact.specs.Wrappers.{AgreesOn, OptionalEval, OptionalValue, closed_err, closed_gap}
-use Rattle.bpaf_exact.specs.Wrappers.{Decides, closed_memory, closed_no, closed_yes, fallback_given}
-use Rattle.bpaf_exact.specs.Wrappers.{fallback_err, fallback_memory, optional_memory, optional_none}
-use Rattle.bpaf_exact.specs.Wrappers.{fallback_no, fallback_ok, optional_err, optional_some}
 
 -- what a closure makes of an outcome keeps to what follows of each answer inside
 pub closed_keeps : {env : Variables} {A B : Type 0} {inner : Outcome A} {f : Closure A B}

@@ -1,16 +1,19 @@
 -- What a flat field keeps to when it is evaluated: its answer and what it takes depend on its own
--- pieces alone.
+-- pieces alone; and what closures, defaults and repeats make of it.
 use Rattle.std.specs.Prelude.{Bool, List, Option, [], false, length, suc, true, zero, ◌<◌, ◌∷◌, ◌≡◌}
-use Rattle.std.specs.{List.before_first, Prelude.None, Prelude.filter, Prelude.if◌then◌else◌}
-use Rattle.std.specs.Prelude.{Err, Ok, drop, not, take, ℕ}
+use Rattle.std.specs.Prelude.{None, filter, if◌then◌else◌, Err, Ok, drop, not, take, ℕ, Some}
+use Rattle.std.specs.Prelude.{is_some, ◌⊎◌, Result, ◌++◌, MatchBool}
+use Rattle.std.specs.{List.before_first, Option.IsSomeRelated, Global.Vec}
 use Rattle.bpaf_base.specs.{Items.is_positional, declared.arg.Arg.Arg}
+use Rattle.bpaf_line.specs.Messages.{is_memory, can_catch}
+use Rattle.bpaf_line.specs.Situation.{Situation, is_taken, open_count}
 use Rattle.bpaf_line.specs.{declared.error.Error.Error, declared.error.Message.TheVariants.Missing}
-use Rattle.bpaf_line.specs.{Messages.is_memory, Situation.Situation, declared.error.Message.Message}
-use Rattle.bpaf_line.specs.{Messages.can_catch, Situation.is_taken, Taking.open_item}
+use Rattle.bpaf_line.specs.{declared.error.Message.Message, Taking.open_item}
 use Rattle.bpaf_laws.specs.Reading.{Outcome}
+use Rattle.bpaf_laws.specs.Combinators.{ListOutcome, UntilFault, UntilRest}
 use Rattle.bpaf_exact.specs.Pieces.{Cells, Foreign, LinePiece, One, is_own, no_roles, stands_behind}
 use Rattle.bpaf_exact.specs.Pieces.{Apart, Cut, IsNamed, Roles, Takes, TakesPieces, Two, word_roles}
-use Rattle.bpaf_exact.specs.Pieces.{Alone, either, pieces, roles_of}
+use Rattle.bpaf_exact.specs.Pieces.{Alone, either, pieces, roles_of, TakesPiece, WithNext, is_value}
 
 -- the classes of refusals
 pub data ErrorClass : Type 0 where
@@ -197,3 +200,313 @@ both_reading {A = A} k q first rest = record {
   value = λ os v. first (portion k q os) v.0 × rest.value (left k q os) v.1;
   each = λ os. ((v : A) × first (portion k q os) v) × rest.each (left k q os);
 }
+
+-- A flat field without a repeat or default: one evaluation, and what repeats and defaults make of
+-- it.
+
+-- how one evaluation reads a value off the front of the own pieces, and which it leaves
+abbrev pub Groups : Type 0 → Type 1
+Groups T = List LinePiece → T → List LinePiece → Type 0
+
+-- the first piece alone, where each piece has its value by itself
+abbrev pub FrontOf : (T : Type 0) → (LinePiece → T → Type 0) → Groups T
+FrontOf T value os v rest = (o : LinePiece) × (os ≡ o ∷ rest) × value o v
+
+-- the values read off the pieces, one after the other
+pub data Own (T : Type 0) (group : Groups T) : List LinePiece → List T → Type 0 where
+  own_none : Own T group [] []
+  own_more : {os rest : List LinePiece} {v : T} {vs : List T} → group os v rest
+      → Own T group rest vs → Own T group os (v ∷ vs)
+
+-- at least one piece taken
+pub record TakesAny (q : Roles) (cs ds : Cells) : Type 0 where
+  pub piece : LinePiece
+  pub middle : Cells
+  pub one : TakesPiece q cs piece middle
+  pub more : TakesPieces q middle ds
+
+-- the pieces can all be read; of a positional field those after the first need not be
+abbrev pub Readable : {T : Type 0} → FieldKind → Groups T → List LinePiece → Type 0
+Readable {T = T} ByName group os = (vs : List T) × Own T group os vs
+Readable k group os = Unit {0}
+
+-- whether there is a value for no piece at all, and which it may be
+pub record Gap (T : Type 0) : Type 1 where
+  pub has : Bool
+  pub absent : T → Type 0
+
+-- for no piece at all what something means, if there is something
+abbrev pub gap_of : {X T : Type 0} → (X → T → Type 0) → Option X → Gap T
+gap_of means kept = record { has = is_some kept; absent = IsSomeRelated means kept }
+
+-- a value read off the front of the own pieces, of which at least one was taken
+pub record TookGroup (T : Type 0) (k : FieldKind) (q : Roles) (group : Groups T) (s : Situation)
+    (v : T) (t : Situation) : Type 0 where
+  pub steady : Steady s t
+  pub takes : TakesAny q (cells s) (cells t)
+  pub found : front k (pieces q (cells s)) ≡ [] → ⊥
+  -- it is the value of the first group, if the pieces that are left can be read at all
+  pub read : Readable k group (pieces q (cells t))
+      → group (pieces q (cells s)) v (pieces q (cells t))
+  -- a first group that can be read at all is the one that was taken
+  pub readable : (w : T) (rest : List LinePiece) → group (pieces q (cells s)) w rest
+      → group (pieces q (cells s)) v rest × (pieces q (cells t) ≡ rest)
+
+-- a value of one evaluation
+pub data SingleOk (T : Type 0) (k : FieldKind) (q : Roles) (group : Groups T) (gap : Gap T)
+    (s : Situation) (v : T) (t : Situation) : Type 0 where
+  -- no piece: the absent value, and nothing is taken
+  gave_absent : gap.has ≡ true → front k (pieces q (cells s)) ≡ [] → gap.absent v
+      → cells t ≡ cells s → Steady s t → SingleOk T k q group gap s v t
+  -- the value of the first group
+  took : TookGroup T k q group s v t → SingleOk T k q group gap s v t
+
+-- refusals of the class can be caught, for a missing item or otherwise
+pub data CanCatch (c : ErrorClass) : Type 0 where
+  catch_missing : c ≡ OfMissing → CanCatch c
+  catch_other : c ≡ Caught → CanCatch c
+
+-- a refusal of one evaluation
+pub data SingleErr (T : Type 0) (k : FieldKind) (q : Roles) (group : Groups T) (gap : Gap T)
+    (s : Situation) (c : ErrorClass) (t : Situation) : Type 0 where
+  of_memory : c ≡ OfMemory → SingleErr T k q group gap s c t
+  -- no piece, and no value for that; where it says that an item is missing, nothing was taken
+  of_missing : CanCatch c → gap.has ≡ false → front k (pieces q (cells s)) ≡ []
+      → (c ≡ OfMissing → cells t ≡ cells s) → SingleErr T k q group gap s c t
+  -- no piece, and the absent value is refused
+  of_absent : c ≡ Refused → gap.has ≡ true → front k (pieces q (cells s)) ≡ []
+      → ((v : T) → gap.absent v → ⊥) → SingleErr T k q group gap s c t
+  -- a piece that can't be read
+  of_piece : c ≡ Refused → (front k (pieces q (cells s)) ≡ [] → ⊥)
+      → ((w : T) (rest : List LinePiece) → group (pieces q (cells s)) w rest → ⊥)
+      → SingleErr T k q group gap s c t
+
+-- a positional field without a repeat reads its first word alone, none behind what it stops at; and
+-- so it does of all that a repeat of it takes
+pub record WordByWord (T : Type 0) (stops : Bool) (group : Groups T) : Type 0 where
+  pub by_front : (os : List LinePiece) (v : T) (rest : List LinePiece) → group os v rest
+      → group (front (OneWord stops) os) v [] × (rest ≡ back (OneWord stops) os)
+  pub of_front : (os : List LinePiece) (v : T) → group (front (OneWord stops) os) v []
+      → group os v (back (OneWord stops) os)
+  pub by_each : (os : List LinePiece) (v : T) (rest : List LinePiece) → group os v rest
+      → group (front (EachWord stops) os) v (front (EachWord stops) rest)
+      × (back (EachWord stops) rest ≡ back (EachWord stops) os)
+  pub of_each : (os : List LinePiece) (v : T) (rest : List LinePiece)
+      → group (front (EachWord stops) os) v rest
+      → (more : List LinePiece) × group os v more × (rest ≡ front (EachWord stops) more)
+
+-- how a field of a kind reads words
+abbrev pub ReadsWords : {T : Type 0} → FieldKind → Groups T → Type 0
+ReadsWords ByName group = Unit {0}
+ReadsWords {T = T} (OneWord stops) group = WordByWord T stops group
+ReadsWords (EachWord stops) group = ⊥
+
+-- the laws of a field without a repeat or default
+pub record SingleLaw (variables : Variables) (T : Type 0) (outcome : Outcome T) (k : FieldKind)
+    (q : Roles) (group : Groups T) (gap : Gap T) : Type 0 where
+  pub own : OwnItems k q
+  pub words : ReadsWords k group
+  pub starts : (v : T) (rest : List LinePiece) → group [] v rest → ⊥
+  pub no_absent : (v : T) → gap.has ≡ false → gap.absent v → ⊥
+  pub keeps : KeepsTo variables T outcome (SingleOk T k q group gap) (SingleErr T k q group gap)
+
+-- The own list under a repeat; the absent value must be there also where it isn't used: the repeat
+-- asks once more.
+pub data OwnList (T : Type 0) (group : Groups T) (gap : Gap T) : List LinePiece → List T
+    → Type 0 where
+  listed : {os : List LinePiece} {vs : List T} → gap.has ≡ false → Own T group os vs
+      → OwnList T group gap os vs
+  listed_and_absent : {os : List LinePiece} {v a : T} {vs : List T} → gap.has ≡ true → gap.absent a
+      → Own T group os (v ∷ vs) → OwnList T group gap os (v ∷ vs)
+  only_absent : {a : T} → gap.has ≡ true → gap.absent a → OwnList T group gap [] (a ∷ [])
+
+-- the value of a field without a repeat or default: that of all pieces at once; or, where there is
+-- none, the absent one
+abbrev pub SingleValue : (T : Type 0) → Groups T → Gap T → List LinePiece → T → Type 0
+SingleValue T group gap os v = group os v [] ⊎ ((os ≡ []) × gap.absent v)
+
+-- with a repeat a positional field gets all words
+abbrev pub repeated : FieldKind → FieldKind
+repeated (OneWord stops) = EachWord stops
+repeated k = k
+
+-- after an error a turn stops where nothing was found, or the error can be caught otherwise
+pub data Stops (e : Error) (s m : Situation) : Type 0 where
+  nothing_found : class e ≡ OfMissing → open_count m ≡ open_count s → Stops e s m
+  caught : class e ≡ Caught → Stops e s m
+
+-- the values of a repeat, by its turns, until one stops; with `idle` also one value alone that took
+-- nothing
+abbrev pub RepeatOutcome : {T : Type 0} → Outcome T → Bool → Outcome (List T)
+RepeatOutcome inner false s r t = ListOutcome inner false s r t
+RepeatOutcome inner true s (Ok values) t = UntilRest inner s values t
+RepeatOutcome inner true s (Err e) t = UntilFault inner s e t
+
+-- the number of places where an item is present
+abbrev pub present_count : Cells → ℕ
+present_count [] = 0
+present_count (None ∷ cs) = present_count cs
+present_count (Some x ∷ cs) = suc (present_count cs)
+
+-- What closures, optional and fallback make of a field's answers.
+
+-- what a closure may do with a value: yes, with which answer, or no
+pub record Closure (A B : Type 0) : Type 1 where
+  pub yes : A → B → Type 0
+  pub no : A → Type 0
+
+-- map, a constructor, count, collect, a kept value: what it promises, and never no
+abbrev pub map_closure : {A B : Type 0} → (A → B → Type 0) → Closure A B
+map_closure answers = record { yes = answers; no = λ x. ⊥ }
+
+-- parse: its Ok and its Err
+abbrev pub parse_closure : {A B E : Type 0} → (A → Result B E → Type 0) → Closure A B
+parse_closure {E = E} answers =
+    record { yes = λ x v. answers x (Ok v); no = λ x. (fault : E) × answers x (Err fault) }
+
+-- guard: the same value where the check may be true, no where it may be false
+abbrev pub guard_closure : {A : Type 0} → (A → Bool → Type 0) → Closure A A
+guard_closure checks = record { yes = λ x v. (v ≡ x) × checks x true; no = λ x. checks x false }
+
+-- what is called on nothing: its Ok and its Err
+abbrev pub answer_closure : {B E : Type 0} → (Result B E → Type 0) → Closure (Unit {0}) B
+answer_closure answers = parse_closure (λ u. answers)
+
+-- what it may accept it doesn't refuse
+abbrev pub Decides : {A B : Type 0} → Closure A B → Type 0
+Decides {A = A} {B = B} f = (x : A) (v : B) → f.yes x v → f.no x → ⊥
+
+-- the same of several values of the same pieces: where it may accept one, it doesn't refuse another
+abbrev pub AgreesOn : {A B : Type 0} → (A → Type 0) → Closure A B → Type 0
+AgreesOn {A = A} {B = B} value f = (x y : A) (v : B) → value x → value y → f.yes x v → f.no y → ⊥
+
+-- a closure on what a parser answered; a no is an error of the class c
+pub data ClosedEval (A B : Type 0) (inner : Outcome A) (f : Closure A B) (c : ErrorClass)
+    (s : Situation) : Result B Error → Situation → Type 0 where
+  closed_yes : {x : A} {v : B} {t : Situation} → inner s (Ok x) t → f.yes x v
+      → ClosedEval A B inner f c s (Ok v) t
+  closed_no : {x : A} {e : Error} {t : Situation} → inner s (Ok x) t → f.no x → class e ≡ c
+      → ClosedEval A B inner f c s (Err e) t
+  closed_memory : {x : A} {e : Error} {t : Situation} → inner s (Ok x) t → class e ≡ OfMemory
+      → ClosedEval A B inner f c s (Err e) t
+  closed_err : {e : Error} {t : Situation} → inner s (Err e) t → ClosedEval A B inner f c s
+      (Err e) t
+
+-- a closure's answer on a value that something has: pieces, or cells
+pub record ClosedValue {X A B : Type 0} (value : X → A → Type 0) (f : Closure A B) (x : X) (v : B)
+    : Type 0 where
+  pub from : A
+  pub read : value x from
+  pub made : f.yes from v
+
+-- what may be left out
+pub data OptionalEval (T : Type 0) (inner : Outcome T) (s : Situation) : Result (Option T) Error
+    → Situation → Type 0 where
+  optional_some : {v : T} {t : Situation} → inner s (Ok v) t → OptionalEval T inner s
+      (Ok (Some v)) t
+  optional_none : {e : Error} {m : Situation} → inner s (Err e) m → Stops e s m
+      → OptionalEval T inner s (Ok None) s
+  optional_err : {e : Error} {t : Situation} → inner s (Err e) t → (Stops e s t → ⊥)
+      → OptionalEval T inner s (Err e) t
+  optional_memory : {e : Error} {t : Situation} → class e ≡ OfMemory
+      → OptionalEval T inner s (Err e) t
+
+-- its value: Some of the one inside; or None, where there is neither a piece nor an absent value
+abbrev pub OptionalValue : (T : Type 0) → Groups T → Gap T → List LinePiece → Option T → Type 0
+OptionalValue T group gap os (Some v) = SingleValue T group gap os v
+OptionalValue T group gap os None = (os ≡ []) × (gap.has ≡ false)
+
+-- yes: what the fallback may give; no: that it may refuse, which is a fault of its own
+pub data FallbackEval (T : Type 0) (inner : Outcome T) (f : Closure (Unit {0}) T)
+    (s : Situation) : Result T Error → Situation → Type 0 where
+  fallback_ok : {v : T} {t : Situation} → inner s (Ok v) t → FallbackEval T inner f s (Ok v) t
+  fallback_given : {v : T} {e : Error} {m : Situation} → inner s (Err e) m → CanCatch (class e)
+      → f.yes tt v → FallbackEval T inner f s (Ok v) s
+  fallback_no : {e g : Error} {m : Situation} → inner s (Err e) m → CanCatch (class e) → f.no tt
+      → class g ≡ Caught → FallbackEval T inner f s (Err g) s
+  fallback_memory : {e : Error} → class e ≡ OfMemory → FallbackEval T inner f s (Err e) s
+  fallback_err : {e : Error} {m : Situation} → inner s (Err e) m → (CanCatch (class e) → ⊥)
+      → FallbackEval T inner f s (Err e) s
+
+-- the value of a field with a default: its own; or what stands for it, where there is neither a
+-- piece nor an absent value
+abbrev pub FallbackValue : (T : Type 0) → Groups T → Gap T → Closure (Unit {0}) T
+    → List LinePiece → T → Type 0
+FallbackValue T group gap f os v =
+    SingleValue T group gap os v ⊎ ((os ≡ []) × (gap.has ≡ false) × f.yes tt v)
+
+-- the absent value, through a closure
+abbrev pub closed_gap : {A B : Type 0} → Gap A → Closure A B → Gap B
+closed_gap {A = A} gap f =
+    record { has = gap.has; absent = λ v. (x : A) × gap.absent x × f.yes x v }
+
+-- many: the list
+abbrev pub list_closure : (T : Type 0) → Closure (List T) (Vec T)
+list_closure T = map_closure (λ values filled. filled.items ≡ values)
+
+-- some: the list, not empty
+abbrev pub some_closure : (T : Type 0) → Closure (List T) (Vec T)
+some_closure T = record { yes = λ xs v. (v.items ≡ xs) × (xs ≡ [] → ⊥); no = λ xs. xs ≡ [] }
+
+-- it is the last of a list
+pub record IsLast (T : Type 0) (vs : List T) (v : T) : Type 0 where
+  pub before : List T
+  pub is : vs ≡ before ++ (v ∷ [])
+
+-- the last of the own list
+abbrev pub LastOf : (T : Type 0) → Groups T → Gap T → List LinePiece → T → Type 0
+LastOf T group gap os v = (before : List T) × OwnList T group gap os (before ++ v ∷ [])
+
+-- no item of the field's own
+abbrev pub NotOwn : Roles → Option Arg → Type 0
+NotOwn q None = Unit {0}
+NotOwn q (Some k) = q k ≡ Foreign
+
+-- the first piece of a field's own taken
+pub data TakesFirst (q : Roles) : Cells → LinePiece → Cells → Type 0 where
+  first_one : {k : Arg} {cs : Cells} → q k ≡ Alone → TakesFirst q (Some k ∷ cs) (One k) (None ∷ cs)
+  first_two : {k w : Arg} {cs : Cells} → q k ≡ WithNext → is_value w ≡ true
+      → TakesFirst q (Some k ∷ (Some w ∷ cs)) (Two k w) (None ∷ (None ∷ cs))
+  first_later : {c : Option Arg} {cs ds : Cells} {o : LinePiece} → NotOwn q c → TakesFirst q cs o ds
+      → TakesFirst q (c ∷ cs) o (c ∷ ds)
+
+-- a piece without a value is among them
+pub data HasBad (T : Type 0) (value : LinePiece → T → Type 0) : List LinePiece → Type 0 where
+  bad_here : {o : LinePiece} {os : List LinePiece} → ((v : T) → value o v → ⊥)
+      → HasBad T value (o ∷ os)
+  bad_later : {o : LinePiece} {os : List LinePiece} → HasBad T value os → HasBad T value (o ∷ os)
+
+-- the first piece can't be read
+abbrev pub FirstUnread : (T : Type 0) → Roles → (LinePiece → T → Type 0) → Cells → Type 0
+FirstUnread T q value cs =
+    (o : LinePiece) × (os : List LinePiece) × (pieces q cs ≡ o ∷ os) × ((w : T) → value o w → ⊥)
+
+-- an answer of an alternative: it took one own piece that has the value
+pub record AlternativeOk (T : Type 0) (q : Roles) (value : LinePiece → T → Type 0) (s : Situation)
+    (v : T) (t : Situation) : Type 0 where
+  pub steady : Steady s t
+  pub piece : LinePiece
+  pub takes : TakesPiece q (cells s) piece (cells t)
+  pub means : value piece v
+  -- it is the first piece, or that can't be read
+  pub first : TakesFirst q (cells s) piece (cells t) ⊎ FirstUnread T q value (cells s)
+
+-- a refusal of an alternative
+pub data AlternativeErr (T : Type 0) (q : Roles) (value : LinePiece → T → Type 0) (s : Situation)
+    (c : ErrorClass) (t : Situation) : Type 0 where
+  alternative_memory : c ≡ OfMemory → AlternativeErr T q value s c t
+  alternative_missing : c ≡ OfMissing → pieces q (cells s) ≡ [] → cells t ≡ cells s
+      → Steady s t → AlternativeErr T q value s c t
+  alternative_refused : c ≡ Refused → t.path ≡ s.path → FirstUnread T q value (cells s)
+      → AlternativeErr T q value s c t
+
+-- the laws of a required flag or argument, or of a choice of them
+pub record AlternativeLaw (variables : Variables) (T : Type 0) (outcome : Outcome T) (q : Roles)
+    (value : LinePiece → T → Type 0) : Type 0 where
+  pub named : IsNamed q
+  pub keeps : KeepsTo variables T outcome (AlternativeOk T q value) (AlternativeErr T q value)
+
+-- a piece has the value that the alternative gives that it belongs to
+abbrev pub either_value : {T : Type 0} → Roles → (LinePiece → T → Type 0) → (LinePiece → T → Type 0)
+    → LinePiece → T → Type 0
+either_value q a b o v = MatchBool (is_own q o) (a o v) (b o v)

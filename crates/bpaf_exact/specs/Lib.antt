@@ -1,16 +1,4 @@
 pub mod Pieces
 pub mod Flat
-pub mod Names
-pub mod Single
-pub mod Wrappers
-pub mod Alternative
-pub mod Record
-pub mod Gathered
-pub mod Programs
 pub mod ProgramForm
-pub mod Leaves
-pub mod Theorem
-pub mod OneView
-pub mod Accepted
 pub mod Says
-pub mod ProgramSays

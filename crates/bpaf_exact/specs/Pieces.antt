@@ -1,8 +1,12 @@
--- How a flat record sees a line: its places, cut into pieces, which the fields share out.
+-- How a flat record sees a line: its places, cut into pieces, which the fields share out by the
+-- names of their keys.
 use Rattle.std.specs.Prelude.{Bool, List, Option, Some, [], false, filter, if◌then◌else◌, true, ◌≡◌}
-use Rattle.std.specs.{Option.is_some, Prelude.None, Prelude.not, Prelude.◌∷◌}
+use Rattle.std.specs.Prelude.{None, not, ◌∷◌, ◌&&◌}
+use Rattle.std.specs.{Option.is_some, List.list_all, List.list_any}
 use Rattle.bpaf_base.specs.declared.arg.Arg.TheVariants.{Long, PosWord, Short}
-use Rattle.bpaf_base.specs.{Items.is_positional, Items.value_text, declared.arg.Arg.Arg}
+use Rattle.bpaf_base.specs.Items.{is_positional, value_text, is_among, is_text_among, is_key_of}
+use Rattle.bpaf_base.specs.declared.arg.Arg.{Arg}
+use Rattle.bpaf_doc.specs.Names.{Names}
 
 -- the places of a line, each with the item that is present there, if one is
 abbrev pub Cells : Type 0
@@ -142,3 +146,21 @@ pub data TakesPieces (r : Roles) : Cells → Cells → Type 0 where
   takes_none : {cs : Cells} → TakesPieces r cs cs
   takes_more : {cs ds es : Cells} {o : LinePiece} → TakesPiece r cs o ds → TakesPieces r ds es
       → TakesPieces r cs es
+
+-- an item is a key with one of the names of one of these keys
+abbrev pub is_key_of_any : List Names → Arg → Bool
+is_key_of_any keys item = list_any (λ names. is_key_of names item) keys
+
+-- no short name and no long name stands in both
+abbrev pub are_apart : Names → Names → Bool
+are_apart own others =
+    list_all (λ name. not (is_among others.shorts name)) own.shorts
+    && list_all (λ name. not (is_text_among others.longs name)) own.longs
+
+-- each key of the one list is apart from each of the other
+abbrev pub are_all_apart : List Names → List Names → Bool
+are_all_apart keys others = list_all (λ names. list_all (are_apart names) others) keys
+
+-- each of a field's own items is a key with one of its names
+pub record Owns (r : Roles) (keys : List Names) : Type 0 where
+  pub own : (k : Arg) → is_own_role (r k) ≡ true → is_key_of_any keys k ≡ true

@@ -1,18 +1,223 @@
 -- What a parser is to a program: how it reads what is present, and the law that this puts on its
--- outcome.
-use Rattle.std.specs.Prelude.{ℕ, Bool, true, false, not, ◌&&◌, ◌||◌, List, [], ◌∷◌, Option, None}
-use Rattle.std.specs.{Prelude.bytes_eq, List.list_all}
+-- outcome; and the value that a record or a program has on a line.
+use Rattle.std.specs.Prelude.{◌≡◌, ◌≤◌, ◌⊎◌, ℕ, Bool, true, false, List, [], ◌∷◌, Option, Some}
+use Rattle.std.specs.Prelude.{None, Result, Ok, Err, ◌==◌, not, length, ◌&&◌, ◌||◌, bytes_eq, ◌++◌}
+use Rattle.std.specs.Prelude.{map}
+use Rattle.std.specs.{List.list_all, List.AllPass, Option.is_none}
+use Rattle.bpaf_base.specs.declared.arg.Arg.{Arg}
+use Rattle.bpaf_base.specs.declared.arg.Arg.TheVariants.{Short, Long, ArgWord}
+use Rattle.bpaf_base.specs.Items.{is_argument_key, is_key_of, is_positional, item_text, word_text}
+use Rattle.bpaf_line.specs.Situation.{Situation, Context, item_in, open_count, with_current}
+use Rattle.bpaf_line.specs.Situation.{beginning}
+use Rattle.bpaf_line.specs.{declared.error.Error.Error, Taking.TakesText, Taking.HasNone}
+use Rattle.bpaf_laws.specs.{Command.Called, Command.IsNotOpened, Command.IsOpenedAt, Command.inside}
+use Rattle.bpaf_laws.specs.{Command.is_one_of, Command.opening_words, Choice.depth, Reading.Outcome}
+use Rattle.bpaf_laws.specs.{Reading.first_set, Leaves.value_without_key, Combinators.is_nil}
+use Rattle.bpaf_exact.specs.Pieces.{Cells, Roles, LinePiece, pieces, Apart, IsNamed, Takes, Cut}
+use Rattle.bpaf_exact.specs.Pieces.{either, no_roles, Owns, are_all_apart, Alone, WithNext, One}
+use Rattle.bpaf_exact.specs.Pieces.{Two, stands_behind, roles_of, is_value, is_key, is_own_role}
+use Rattle.bpaf_exact.specs.Pieces.{others}
+use Rattle.bpaf_exact.specs.Flat.{ErrorClass, OfMemory, OfMissing, class, cells, NonePresent}
+use Rattle.bpaf_exact.specs.Flat.{Variables, KeepsTo, first_cells, FieldKind, ReadOff, portion}
+use Rattle.bpaf_exact.specs.Flat.{left, FieldsReading, AlternativeLaw, either_value, ByName}
+use Rattle.bpaf_exact.specs.Flat.{FieldLaw, FieldsLaw, keys, both_reading, Groups, Gap, FrontOf}
+use Rattle.bpaf_exact.specs.Flat.{gap_of, SingleLaw, SingleValue, Closure, AgreesOn, ClosedValue}
+use Rattle.bpaf_exact.specs.Flat.{OptionalValue, closed_gap, Caught, OneWord, Refused}
 use Rattle.bpaf_doc.specs.Names.{Names}
-use Rattle.bpaf_laws.specs.{Command.Called, Command.opening_words, Reading.Outcome}
-use Rattle.bpaf_exact.specs.Alternative.{AlternativeLaw, either_value}
-use Rattle.bpaf_exact.specs.Flat.{FieldKind, ByName, FieldLaw, FieldsLaw, keys, FieldsReading}
-use Rattle.bpaf_exact.specs.Flat.{ReadOff, both_reading, Variables}
-use Rattle.bpaf_exact.specs.Pieces.{Cells, Roles, LinePiece, either, no_roles}
-use Rattle.bpaf_exact.specs.Programs.{CellsValue, CommandValue, ChoiceValue, OptionalCommands}
-use Rattle.bpaf_exact.specs.Programs.{FieldThen, ProgramLaw, CommandsLaw, are_plain}
-use Rattle.bpaf_exact.specs.Single.{Groups, Gap, FrontOf, gap_of, SingleLaw, SingleValue}
-use Rattle.bpaf_exact.specs.Wrappers.{Closure, AgreesOn, ClosedValue, OptionalValue, closed_gap}
-use Rattle.bpaf_exact.specs.{Names.Owns, Names.are_all_apart, Record.last_reading}
+use Rattle.bpaf_text.specs.Named.{Named as Key, KeyWithValue}
+
+-- which values some cells have
+abbrev pub CellsValue : Type 0 → Type 1
+CellsValue V = Cells → V → Type 0
+
+-- A command's word.
+
+-- the first thing present is one of these words, and is taken; nothing is present in front of it
+pub data Opens (words : List (List ℕ)) : Cells → Cells → Type 0 where
+  opens_here : {k : Arg} {cs : Cells} → is_one_of words k ≡ true
+      → Opens words (Some k ∷ cs) (None ∷ cs)
+  opens_later : {cs ds : Cells} → Opens words cs ds → Opens words (None ∷ cs) (None ∷ ds)
+
+-- none of these words opens anything
+abbrev pub OpensNone : List (List ℕ) → Cells → Type 0
+OpensNone words cs = (ds : Cells) → ¬ (Opens words cs ds)
+
+-- Which items a command's word may be.
+
+-- the whole word of a key: none, where another key of the same word stands before it, else one that
+-- begins with a dash
+abbrev pub is_dashed : List ℕ → Bool
+is_dashed [] = true
+is_dashed (b ∷ bs) = b == 45
+
+-- an item as words spell it
+abbrev pub is_spelled : Arg → Bool
+is_spelled (Short c attached word) = is_dashed word
+is_spelled (Long name attached word) = is_dashed word
+is_spelled _ = true
+
+-- all items of a line are such
+abbrev pub IsSpelledLine : Context → Type 0
+IsSpelledLine context = (p : ℕ) (k : Arg) → item_in context p ≡ Some k → is_spelled k ≡ true
+
+-- all that is present is such
+pub data AllSpelled : Cells → Type 0 where
+  no_cell : AllSpelled []
+  empty_cell : {cs : Cells} → AllSpelled cs → AllSpelled (None ∷ cs)
+  spelled_cell : {k : Arg} {cs : Cells} → is_spelled k ≡ true → AllSpelled cs
+      → AllSpelled (Some k ∷ cs)
+
+-- the names of a command aren't empty, and don't begin with a dash
+abbrev pub are_plain : List (List ℕ) → Bool
+are_plain words = list_all (λ word. not (is_dashed word)) words
+
+-- The values.
+
+-- a command: its word is the first thing present, and behind it its program has the value
+abbrev pub CommandValue : (T : Type 0) → List (List ℕ) → CellsValue T → CellsValue T
+CommandValue T words inner cs v = (ds : Cells) × Opens words cs ds × inner ds v
+
+-- a choice of commands: one of them has the value
+abbrev pub ChoiceValue : (T : Type 0) → CellsValue T → CellsValue T → CellsValue T
+ChoiceValue T first second cs v = first cs v ⊎ second cs v
+
+-- commands that may be left out: nothing is present at all, and it is None
+abbrev pub OptionalCommands : (T : Type 0) → CellsValue T → CellsValue (Option T)
+OptionalCommands T inner cs (Some v) = inner cs v
+OptionalCommands T inner cs None = NonePresent cs
+
+-- a named field before others, the last of which are commands: it has its value on its own pieces,
+-- and they have theirs on what is left without these
+pub record FieldThen (A B : Type 0) (q : Roles) (first : List LinePiece → A → Type 0)
+    (rest : CellsValue B) (cs : Cells) (v : A × B) : Type 0 where
+  pub own_pieces : List LinePiece
+  pub left_cells : Cells
+  pub taken : Takes q cs own_pieces left_cells
+  pub own : first own_pieces v.0
+  pub left : rest left_cells v.1
+
+-- The laws.
+
+-- where a program has a value, none of the items left to it are those of a field before it
+abbrev pub LeavesToOthers : {V : Type 0} → Roles → CellsValue V → Type 0
+LeavesToOthers {V = V} r value =
+    (q : Roles) → IsNamed q → Apart q r → (cs : Cells) (v : V) → AllSpelled cs → value cs v
+    → pieces q cs ≡ []
+
+-- an answer of a program: where it leaves nothing it is one of its values; and where there is one,
+-- it is one and leaves nothing
+pub record ProgramTook (V : Type 0) (value : CellsValue V) (s : Situation) (v : V)
+    (t : Situation) : Type 0 where
+  pub deep : depth s ≤ depth t
+  pub read : IsSpelledLine s.context → NonePresent (cells t) → value (cells s) v
+  pub all : (w : V) → value (cells s) w → value (cells s) v × NonePresent (cells t)
+
+-- The laws of a program, and of commands as the last field of one, with the items that may stand in
+-- it. Where it has a value, a refusal is want of memory.
+pub record ProgramLaw (variables : Variables) (V : Type 0) (outcome : Outcome V) (r : Roles)
+    (value : CellsValue V) : Type 0 where
+  pub others : LeavesToOthers r value
+  pub keeps : KeepsTo variables V outcome (ProgramTook V value)
+      (λ s c t. (w : V) → value (cells s) w → c ≡ OfMemory)
+
+-- a refusal of such a class says that the word is missing, and nothing is taken; or that memory is
+-- wanted
+abbrev pub FindsNoCommand : Situation → ErrorClass → Situation → Type 0
+FindsNoCommand s c t =
+    (c ≡ OfMemory) ⊎ ((c ≡ OfMissing) × (cells t ≡ cells s) × (t.path ≡ s.path))
+
+-- The laws of a command, or a choice of them, with its words: what has a value is opened by one of
+-- them; where none is the first thing present it is missing.
+pub record CommandsLaw (variables : Variables) (T : Type 0) (outcome : Outcome T) (r : Roles)
+    (words : List (List ℕ)) (value : CellsValue T) : Type 0 where
+  pub program : ProgramLaw variables T outcome r value
+  pub opened : (cs : Cells) (v : T) → value cs v → (ds : Cells) × Opens words cs ds
+  pub none : KeepsTo variables T outcome (λ s v t. OpensNone words (cells s) → ⊥)
+      (λ s c t. OpensNone words (cells s) → FindsNoCommand s c t)
+
+-- What runs behind a command's word: a value only where nothing is left present.
+pub data CommandEval (T : Type 0) (inner : Outcome T) (called : Called) (s : Situation)
+    : Result T Error → Situation → Type 0 where
+  command_value : {v : T} {p : ℕ} {t : Situation} → IsOpenedAt (opening_words called) s p
+      → inner (inside called s p) (Ok v) t → open_count t ≡ 0 → CommandEval T inner called s
+      (Ok v) t
+  command_leftover : {v : T} {e : Error} {p : ℕ} {m t : Situation}
+      → IsOpenedAt (opening_words called) s p → inner (inside called s p) (Ok v) m
+      → (open_count m ≡ 0 → ⊥) → CommandEval T inner called s (Err e) t
+  command_refused : {d e : Error} {p : ℕ} {m t : Situation}
+      → IsOpenedAt (opening_words called) s p → inner (inside called s p) (Err d) m
+      → (class d ≡ OfMemory → ⊥) → CommandEval T inner called s (Err e) t
+  command_missing : {e : Error} → IsNotOpened (opening_words called) s → class e ≡ OfMissing
+      → CommandEval T inner called s (Err e) (with_current s None)
+  command_memory : {e : Error} {t : Situation} → class e ≡ OfMemory
+      → CommandEval T inner called s (Err e) t
+
+-- the words of two commands are apart
+abbrev pub WordsApart : List (List ℕ) → List (List ℕ) → Type 0
+WordsApart words others = (k : Arg) → is_one_of words k ≡ true → is_one_of others k ≡ false
+
+-- each item of a line is present at first, but for the marker
+abbrev pub line_cells : Context → Cells
+line_cells context = first_cells (item_in context) (length context.line)
+
+-- v is a value of the record on the line: the line is cut into pieces, and each field's portion of
+-- them
+-- has its value
+abbrev pub RecordValue : {V : Type 0} → Roles → (List LinePiece → V → Type 0) → Context → V → Type 0
+RecordValue {V = V} r value context v = ReadOff V r value (line_cells context) v
+
+-- what a run may answer
+pub data RunAnswer (V : Type 0) : Type 0 where
+  Accepted : V → RunAnswer V
+  NoMemory : RunAnswer V
+  Refusal : RunAnswer V
+
+-- no value is answered
+abbrev pub IsNoValue : {V : Type 0} → RunAnswer V → Type 0
+IsNoValue (Accepted v) = ⊥
+IsNoValue _ = Unit {0}
+
+-- What the steps of a run after the parser make of its answer: a value only where nothing is left
+-- present.
+-- Any other end, as a message, a help text or want of memory for it, is no value.
+pub data RunRan (V : Type 0) (outcome : Outcome V) (s : Situation) : RunAnswer V → Type 0 where
+  run_value : {v : V} {t : Situation} → outcome s (Ok v) t → open_count t ≡ 0
+      → RunRan V outcome s (Accepted v)
+  run_leftover : {a : RunAnswer V} {v : V} {t : Situation} → outcome s (Ok v) t
+      → (open_count t ≡ 0 → ⊥) → IsNoValue a → RunRan V outcome s a
+  run_memory : {e : Error} {t : Situation} → outcome s (Err e) t → class e ≡ OfMemory
+      → RunRan V outcome s NoMemory
+  run_refusal : {a : RunAnswer V} {e : Error} {t : Situation} → outcome s (Err e) t
+      → (class e ≡ OfMemory → ⊥) → IsNoValue a → RunRan V outcome s a
+
+-- an answer is one of these values, or want of memory
+abbrev pub IsAcceptedOrWant : {V : Type 0} → (V → Type 0) → RunAnswer V → Type 0
+IsAcceptedOrWant value (Accepted v) = value v
+IsAcceptedOrWant value NoMemory = Unit {0}
+IsAcceptedOrWant value Refusal = ⊥
+
+-- an answer of a run is exact
+pub record IsExact (V : Type 0) (r : Roles) (reading : FieldsReading V) (context : Context)
+    (a : RunAnswer V) : Type 0 where
+  -- a value only where it is one of the record's
+  pub sound : (v : V) → a ≡ Accepted v → RecordValue r reading.value context v
+  -- where each field has a value on its portion, one of the record's values, or want of memory
+  pub complete : (os : List LinePiece) → Cut r (line_cells context) os → reading.each os
+      → IsAcceptedOrWant (λ w. RecordValue r reading.value context w) a
+  -- where one has none, no value
+  pub refused : (os : List LinePiece) → Cut r (line_cells context) os → ¬ (reading.each os)
+      → (v : V) → ¬ (a ≡ Accepted v)
+
+-- how the last field of a product, or one alone, reads the pieces: none is left to others
+abbrev pub last_reading : {T : Type 0} → FieldKind → Roles → (List LinePiece → T → Type 0)
+    → FieldsReading T
+last_reading {T = T} k q value = record {
+  value = λ os v. value (portion k q os) v × (left k q os ≡ []);
+  each = λ os. ((v : T) × value (portion k q os) v) × (left k q os ≡ []);
+}
+
+-- What a parser is to a program: how it reads what is present, and the law that this puts on its
+-- outcome.
 
 -- what a parser is to a program, with its own items and its values; a wide field or record may
 -- stand in a program alone, and in no flat record
@@ -234,3 +439,173 @@ product_roles _ = no_roles
 abbrev pub product_reading : {T : Type 0} → ProgramForm T → FieldsReading T
 product_reading (product wide named q fields) = fields
 product_reading _ = record { value = λ os v. ⊥; each = λ os. ⊥ }
+
+-- Flags, arguments and positionals: which items are theirs, and what their pieces mean.
+
+-- the items of a flag: keys with one of its names, each by itself
+abbrev pub flag_roles : Names → Roles
+flag_roles names = roles_of (is_key_of names) Alone
+
+-- the items of an argument: keys with one of its names, each with its value; of an adjacent one
+-- those whose value is attached
+abbrev pub argument_roles : (adjacent : Bool) → Names → Roles
+argument_roles adjacent names = roles_of (is_argument_key names adjacent) WithNext
+
+-- a key means a present value
+abbrev pub FlagValue : {T : Type 0} → (T → Type 0) → LinePiece → T → Type 0
+FlagValue present (One k) v = present v
+FlagValue present (Two k w) v = ⊥
+
+-- a key and its value mean what the text of that means
+abbrev pub ArgumentValue : {T : Type 0} → (List ℕ → T → Type 0) → LinePiece → T → Type 0
+ArgumentValue means (One k) v = ⊥
+ArgumentValue means (Two k w) v = means (item_text w) v
+
+-- a word on a side of `--` that is accepted means what its text means; one on the other nothing
+abbrev pub WordValue : {T : Type 0} → (Bool → Bool) → (List ℕ → T → Type 0) → LinePiece → T → Type 0
+WordValue accepts means (One w) v = (accepts (stands_behind w) ≡ true) × means (item_text w) v
+WordValue accepts means (Two k w) v = ⊥
+
+-- a key: where it must be there, has no name in the environment and its pieces mean values one by
+-- one, it may stand in a choice
+abbrev pub key_field : {T : Type 0} → (wide may_choose : Bool) → Roles → (LinePiece → T → Type 0)
+    → Groups T → Gap T → ProgramForm T
+key_field wide true q each group gap = alternative wide q each
+key_field wide false q each group gap = single wide ByName q group gap
+
+-- a flag, where the environment has these variables; with a name there it is wide
+abbrev pub flag_field : {T : Type 0} → (T → T → Type 0) → Key → T → Option T → Variables
+    → ProgramForm T
+flag_field {T = T} clones key present absent variables =
+    key_field (not (is_nil key.envs)) (is_nil key.envs && is_none absent)
+    (roles_of (is_key_of key.names) Alone)
+    (FlagValue (clones present)) (FrontOf T (FlagValue (clones present)))
+    (gap_of clones (value_without_key present absent (first_set variables key.envs)))
+
+-- all pieces at once, each a key with its value, of which the last one's text means the value; the
+-- earlier texts need not mean any
+abbrev pub LastGroup : (T : Type 0) → (List ℕ → T → Type 0) → Groups T
+LastGroup T means os v rest =
+    (before : List (Arg × Arg)) × (last : Arg × Arg)
+    × (os ≡ map (λ pair. Two pair.0 pair.1) before ++ Two last.0 last.1 ∷ [])
+    × means (item_text last.1) v × (rest ≡ [])
+
+-- the pieces that one evaluation of an argument reads: the first, or all at once
+abbrev pub argument_group : {T : Type 0} → (List ℕ → T → Type 0) → (last : Bool) → Groups T
+argument_group {T = T} means false = FrontOf T (ArgumentValue means)
+argument_group {T = T} means true = LastGroup T means
+
+-- an argument, where the environment has these variables; with a name there, or as an adjacent one,
+-- it is wide
+abbrev pub argument_field : {T : Type 0} → (List ℕ → T → Type 0) → KeyWithValue → Variables
+    → ProgramForm T
+argument_field means argument variables =
+    key_field (argument.adjacent || not (is_nil argument.named.envs))
+    (is_nil argument.named.envs && not argument.last)
+    (roles_of (is_argument_key argument.named.names argument.adjacent) WithNext)
+    (ArgumentValue means) (argument_group means argument.last)
+    (gap_of means (first_set variables argument.named.envs))
+
+-- a positional word on an accepted side, which stops before one behind `--` where that isn't one;
+-- where not both are it is wide
+abbrev pub word_by : {T : Type 0} → (Bool → Bool) → (List ℕ → T → Type 0) → ProgramForm T
+word_by {T = T} accepts means =
+    single (not (accepts true && accepts false)) (OneWord (not (accepts true)))
+    (roles_of is_positional Alone) (FrontOf T (WordValue accepts means)) (gap_of means None)
+
+-- the first word taken and its value; it has none; there is no word; the first one stands behind `--`,
+-- where that stops it; or want of memory
+pub data WordEval (T : Type 0) (stops : Bool) (value : LinePiece → T → Type 0) (s : Situation)
+    : Result T Error → Situation → Type 0 where
+  word_read : {p : ℕ} {strict : Bool} {text : List ℕ} {v : T} {t : Situation}
+      → TakesText s p strict text t
+      → ((w : Arg) → word_text w ≡ Some (strict, text) → value (One w) v)
+      → WordEval T stops value s (Ok v) t
+  word_fault : {p : ℕ} {strict : Bool} {text : List ℕ} {e : Error} {t : Situation}
+      → TakesText s p strict text t → (stops ≡ true → strict ≡ false)
+      → ((w : Arg) (v : T) → word_text w ≡ Some (strict, text) → value (One w) v → ⊥)
+      → class e ≡ Refused → WordEval T stops value s (Err e) t
+  word_missing : {e : Error} → HasNone is_positional s → class e ≡ OfMissing
+      → WordEval T stops value s (Err e) s
+  word_passed : {p : ℕ} {text : List ℕ} {e : Error} {t : Situation} → stops ≡ true
+      → TakesText s p true text t → class e ≡ Caught → WordEval T stops value s (Err e) t
+  word_memory : {e : Error} {t : Situation} → class e ≡ OfMemory → WordEval T stops value s (Err e)
+      t
+
+-- a kept value, which stands for no piece, and is wide
+abbrev pub pure_field : {T : Type 0} → (T → Type 0) → ProgramForm T
+pure_field given = complete true ByName no_roles (λ os v. given v)
+
+-- each answer that a run over the line may give is exact: a value of the record, want of memory, or
+-- a refusal where it has none
+abbrev pub RunsExactly : {V : Type 0} → Outcome V → ProgramForm V → Context → Type 0
+RunsExactly {V = V} outcome s context =
+    (a : RunAnswer V) → RunRan V outcome (beginning context) a
+    → IsExact V (product_roles (whole_program s)) (product_reading (whole_program s)) context a
+
+-- What holds of a line that gets a value: where its keys, values and words stand, and that no field
+-- without a repeat has an occurrence too many.
+
+-- Behind an argument's key stands its value. Both are one piece, and the words left to positional
+-- fields are those before the key and those behind the value.
+pub record HasItsValue (r : Roles) (before : Cells) (k : Arg) (after : Cells)
+    (os : List LinePiece) : Type 0 where
+  pub value : Arg
+  pub may_be_one : is_value value ≡ true
+  pub behind : Cells
+  pub next : after ≡ Some value ∷ behind
+  pub earlier : List LinePiece
+  pub later : List LinePiece
+  pub cut_before : Cut r before earlier
+  pub cut_behind : Cut r behind later
+  pub one_piece : os ≡ earlier ++ (Two k value ∷ later)
+  pub words : others r os ≡ others r earlier ++ others r later
+
+-- the last of these places holds the key of an argument
+pub record EndsInKey (r : Roles) (cs : Cells) : Type 0 where
+  pub before : Cells
+  pub key : Arg
+  pub is : cs ≡ before ++ (Some key ∷ [])
+  pub wants_value : r key ≡ WithNext
+
+-- a positional word by itself
+abbrev pub is_word_alone : LinePiece → Bool
+is_word_alone (One w) = is_positional w
+is_word_alone (Two k w) = false
+
+-- A line that is cut into pieces holds together.
+pub record HoldsTogether (r : Roles) (cs : Cells) (os : List LinePiece) : Type 0 where
+  -- each key on it is one of the record's
+  pub keys : (before after : Cells) (k : Arg) → cs ≡ before ++ (Some k ∷ after)
+      → is_key k ≡ true → is_own_role (r k) ≡ true
+  -- each argument's key has its value, which no positional field gets
+  pub values : (before after : Cells) (k : Arg) → cs ≡ before ++ (Some k ∷ after)
+      → r k ≡ WithNext → HasItsValue r before k after os
+  -- an attached value stands behind the key of an argument alone
+  pub attached : (before after : Cells) (text : List ℕ)
+      → cs ≡ before ++ (Some (ArgWord text) ∷ after) → EndsInKey r before
+  -- what is left to positional fields are words by themselves
+  pub words : AllPass is_word_alone (others r os)
+
+-- one evaluation reads one piece
+abbrev pub OneByOne : {T : Type 0} → Groups T → Type 0
+OneByOne {T = T} group = (os rest : List LinePiece) (v : T) → group os v rest
+    → (o : LinePiece) × (os ≡ o ∷ rest)
+
+-- two pieces or more have no value
+abbrev pub AtMostOne : {T : Type 0} → (List LinePiece → T → Type 0) → Type 0
+AtMostOne {T = T} value = (o p : LinePiece) (os : List LinePiece) (v : T) → value (o ∷ p ∷ os) v → ⊥
+
+-- A field without a repeat has no surplus: two occurrences or more have no value. An alternative
+-- reads one piece in any case; a product is none.
+abbrev pub HasNoSurplus : {T : Type 0} → ProgramForm T → Type 0
+HasNoSurplus (single wide k q group gap) = OneByOne group
+HasNoSurplus (complete wide k q value) = AtMostOne value
+HasNoSurplus (product wide named q fields) = ⊥
+HasNoSurplus _ = Unit {0}
+
+-- A part of a record, with its portion of the pieces: where each field has a value, so it is with
+-- the part.
+abbrev pub IsPartOf : (List LinePiece → Type 0) → (List LinePiece → List LinePiece)
+    → (List LinePiece → Type 0) → Type 0
+IsPartOf each own part = (os : List LinePiece) → each os → part (own os)

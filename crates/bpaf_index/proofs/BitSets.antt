@@ -1,12 +1,334 @@
+-- Counts of places, and bits in words of 64: what a write changes, and what is found.
+use Rattle.std.proofs.Common.{◌≡◌, ◌≢◌, ℕ, zero, suc, ◌+◌, ◌<◌, ◌≤◌, Bool, true, false, refl, ap}
+use Rattle.std.proofs.Common.{◌∙◌, arith, if◌then◌else◌, ⊎_elim, ◌==◌, ◌||◌, List, [], ◌∷◌, ◌++◌}
+use Rattle.std.proofs.Common.{sym, ◌-◌, ◌/◌, ◌%◌, ◌^◌, not, min, count_ones, bit_and, pow_pos, ◌*◌}
+use Rattle.std.proofs.Common.{length, slice_index, slice_set, get_or-set_same, get_or-set_other}
+use Rattle.std.proofs.Common.{nat_le, replicate, ◌&&◌, Option, Some, None, true≢false}
+use Rattle.std.proofs.lemmas.Bool.{cases_lt, ne_eqb, cases_eq, eq-eqb, and_left, le-leb, lt-leb}
+use Rattle.std.proofs.lemmas.Bool.{or_right}
+use Rattle.std.proofs.lemmas.List.Folds.{list_any-append, list_any_at}
+use Rattle.std.proofs.lemmas.Nat.{ones-le, ones_cat, shr-shr, mod_below, and_mask, shr_le}
+use Rattle.std.proofs.lemmas.Nat.Bits.{bit_at-zero, bit_at_not, bit_at-trailing_zeros, bit_at_above}
+use Rattle.std.proofs.lemmas.Nat.Bits.{ones_shr, bit_at-lt, bit_at_ones}
+use Rattle.std.proofs.lemmas.List.{get_or-replicate, get_or_past, length-replicate}
+use Rattle.std.proofs.Math.Bool.{beq}
+use Rattle.bpaf_index.specs.Bits.{count_below, is_on, clear_within, IsClearStretch, IsSetStretch}
+use Rattle.bpaf_index.specs.Bits.{has_bit, is_clear_from, count_clear, ChangesBit, lesser_of}
+use Rattle.bpaf_index.specs.Bits.{is_on_as, ChangesBits, IsLeastIn}
+use Rattle.std.specs.Int.{bit_at, bit_not, trailing_zeros, w64}
+use lib.Pow.{mod-pow-add}
+use lib.Count.{ones_step, trailing_of_zero}
+
+-- two sets that agree below n have as many numbers there
+pub count_below-same : (f g : ℕ → Bool) (n : ℕ) → ((q : ℕ) → q < n → f q ≡ g q)
+    → count_below f n ≡ count_below g n
+count_below-same f g zero agree = refl
+count_below-same f g (suc n) agree =
+    let below = count_below-same f g n (λ q l. agree q (omega arith)) in
+    rw (agree n (omega arith), below) refl
+
+-- a count that is one fewer stays so where the next number is in both sets or in neither
+counted_one : (b : Bool) (m n : ℕ) → m + 1 ≡ n
+    → (if b then (m + 1) else m) + 1 ≡ (if b then (n + 1) else n)
+counted_one true m n e = omega arith
+counted_one false m n e = e
+
+-- a set that lacks one number of another has one fewer
+pub count_below-fewer : (f g : ℕ → Bool) (n p : ℕ) → p < n → f p ≡ true → g p ≡ false
+    → ((q : ℕ) → q ≢ p → f q ≡ g q) → count_below g n + 1 ≡ count_below f n
+count_below-fewer f g zero p within has lacks agree = absurd (omega arith)
+count_below-fewer f g (suc n) p within has lacks agree =
+    ⊎_elim
+    (λ below.
+    let fewer = count_below-fewer f g n p below has lacks agree in
+    let same : f n ≡ g n = agree n (λ z. absurd (omega arith)) in
+    rw same (counted_one (g n) (count_below g n) (count_below f n) fewer))
+    (λ above.
+    let at : n ≡ p = omega arith in
+    let same : count_below f n ≡ count_below g n = count_below-same f g n
+    (λ q k. agree q (λ z. absurd (omega arith))) in
+    let there : f n ≡ true = ap f at ∙ has in
+    let lacking : g n ≡ false = ap g at ∙ lacks in
+    rw (there, lacking, same) refl)
+    (cases_lt p n)
+
+-- a set without numbers below n has none of them
+pub count_below-none : (f : ℕ → Bool) (n : ℕ) → ((q : ℕ) → q < n → f q ≡ false)
+    → count_below f n ≡ 0
+count_below-none f zero lacks = refl
+count_below-none f (suc n) lacks =
+    let below = count_below-none f n (λ q l. lacks q (omega arith)) in
+    rw (lacks n (omega arith)) below
+
+-- a set without numbers from n on has no more of them
+pub count_below-cut : (f : ℕ → Bool) (n m : ℕ) → n ≤ m → ((q : ℕ) → n ≤ q → q < m → f q ≡ false)
+    → count_below f m ≡ count_below f n
+count_below-cut f n zero within lacks = let at : n ≡ 0 = omega arith in rw at refl
+count_below-cut f n (suc m) within lacks =
+    ⊎_elim (λ (below : m < n). let at : n ≡ suc m = omega arith in rw at refl)
+    (λ (above : n ≤ m). rw (lacks m above (omega arith))
+    (count_below-cut f n m above (λ q l h. lacks q l (omega arith)))) (cases_lt m n)
+
+-- a set with a number below n has at least one
+pub count_below-some : (f : ℕ → Bool) (n p : ℕ) → p < n → f p ≡ true → 1 ≤ count_below f n
+count_below-some f zero p within has = absurd (omega arith)
+count_below-some f (suc n) p within has =
+    ⊎_elim (λ (below : p < n). at_least (f n) (count_below f n) (count_below-some f n p below has))
+    (λ (above : n ≤ p). let there : f n ≡ true = ap f (omega arith) ∙ has in rw there (omega arith))
+    (cases_lt p n)
+  where
+    at_least : (b : Bool) (m : ℕ) → 1 ≤ m → 1 ≤ (if b then (m + 1) else m)
+    at_least true m h = omega arith
+    at_least false m h = h
+
+-- no set has more than n numbers below n
+pub count_below-most : (f : ℕ → Bool) (n : ℕ) → count_below f n ≤ n
+count_below-most f zero = omega arith
+count_below-most f (suc n) = at_most (f n) (count_below f n) n (count_below-most f n)
+  where
+    at_most : (b : Bool) (m n : ℕ) → m ≤ n → (if b then (m + 1) else m) ≤ suc n
+    at_most true m n h = omega arith
+    at_most false m n h = omega arith
+
+-- a set with all numbers below n has n of them
+pub count_below-all : (f : ℕ → Bool) (n : ℕ) → ((q : ℕ) → q < n → f q ≡ true) → count_below f n ≡ n
+count_below-all f zero all = refl
+count_below-all f (suc n) all =
+    let below = count_below-all f n (λ q l. all q (omega arith)) in
+    rw (all n (omega arith), below) (omega arith)
+
+-- the numbers of a set below a sum are those below the first, and those of the rest
+pub count_below-split : (f : ℕ → Bool) (n k : ℕ)
+    → count_below f (n + k) ≡ count_below f n + count_below (λ i. f (n + i)) k
+count_below-split f n zero = let same : n + 0 ≡ n = omega arith in rw same (omega arith)
+count_below-split f n (suc k) =
+    let later : n + suc k ≡ suc (n + k) = omega arith in
+    ap (count_below f) later ∙ counted_more (f (n + k)) (count_below f (n + k)) (count_below f n)
+    (count_below (λ i. f (n + i)) k) (count_below-split f n k)
+  where
+    counted_more : (b : Bool) (all low rest : ℕ) → all ≡ low + rest
+        → (if b then (all + 1) else all) ≡ low + (if b then (rest + 1) else rest)
+    counted_more true all low rest e = omega arith
+    counted_more false all low rest e = e
+
+-- what is said of no place adds nothing
+or_none : (b : Bool) → (b || false) ≡ b
+or_none true = refl
+or_none false = refl
+
+-- a place is on a longer list where it was on the old one, or is the last
+pub is_on_push : (places : List ℕ) (p q : ℕ)
+    → is_on (places ++ p ∷ []) q ≡ (is_on places q || (p == q))
+is_on_push places p q = list_any-append (λ x. x == q) places (p ∷ [])
+    ∙ ap (λ b. is_on places q || b) (or_none (p == q))
+
+-- the other places are on it where they were
+pub on_others : (places : List ℕ) (p q : ℕ) → q ≢ p → is_on (places ++ p ∷ []) q ≡ is_on places q
+on_others places p q other = is_on_push places p q
+    ∙ (ap (λ b. is_on places q || b) (ne_eqb p q (λ e. other (sym e))) ∙ or_none (is_on places q))
+
+-- The clear bits of one word of 64: a stretch of them, and how many there are.
+
+-- a bit that is the only one is counted
+ones_bit : (b : ℕ) → b < 2 → count_ones b ≡ (if b == 1 then 1 else 0)
+ones_bit zero below = omega (arith, ones-le 0 0 (omega arith))
+ones_bit (suc zero) below = omega (arith, ones_step 1, ones-le 0 0 (omega arith))
+ones_bit (suc (suc b)) below = absurd (omega arith)
+
+-- the ones among the lowest bits are as many as these bits that are set
+pub ones_low : (k n : ℕ) → count_ones (n % 2 ^ k) ≡ count_below (λ i. bit_at n i == 1) k
+ones_low zero n = omega (arith, ones-le 0 (n % 2 ^ 0) (omega arith))
+ones_low (suc k) n =
+    let above : suc k ≡ 1 + k = omega arith in
+    ap (λ j. count_ones (n % 2 ^ j)) above
+    ∙ (ap count_ones (mod-pow-add n 1 k)
+    ∙ (ones_cat k (bit_at n k) (n % 2 ^ k) (mod_below n (2 ^ k) (pow_pos k))
+    ∙ counted (bit_at n k == 1) (count_ones (bit_at n k)) (count_ones (n % 2 ^ k))
+    (count_below (λ i. bit_at n i == 1) k) (ones_bit (bit_at n k) (bit_at-lt n k))
+    (ones_low k n)))
+  where
+    counted : (b : Bool) (top low below : ℕ) → top ≡ (if b then 1 else 0) → low ≡ below
+        → top + low ≡ (if b then (below + 1) else below)
+    counted true top low below is same = omega arith
+    counted false top low below is same = omega arith
+
+-- a bit that isn't set is set in the complement
+flipped : (b : ℕ) → b < 2 → (1 - b == 1) ≡ not (b == 1)
+flipped zero below = refl
+flipped (suc zero) below = refl
+flipped (suc (suc b)) below = absurd (omega arith)
+
+-- a bit of a word that was shifted is one further up
+pub bit_shifted : (word low i : ℕ) → bit_at (word / 2 ^ low) i ≡ bit_at word (low + i)
+bit_shifted word low i = ap (λ x. x % 2) (shr-shr word low i)
+
+-- the ones of what the mask leaves of the complement are the clear bits
+pub clear_counted : (word low wide : ℕ) → word < 2 ^ 64 → low + wide ≤ 64 → 0 < wide
+    → count_ones (bit_and (bit_not w64 (word / 2 ^ low)) ((2 ^ 64 - 1) / 2 ^ (64 - wide)))
+    ≡ clear_within word low wide
+clear_counted word low wide fits inside some =
+    let kept : 64 - (64 - wide) ≡ wide = omega arith in
+    let mask : (2 ^ 64 - 1) / 2 ^ (64 - wide) ≡ 2 ^ wide - 1 = ones_shr 64 (64 - wide) (omega arith)
+    ∙ ap (λ j. 2 ^ j - 1) kept in
+    let rest = word / 2 ^ low in
+    let small : rest < 2 ^ 64 = omega (arith, shr_le word low) in
+    ap (λ m. count_ones (bit_and (bit_not w64 rest) m)) mask
+    ∙ (ap count_ones (and_mask (bit_not w64 rest) wide)
+    ∙ (ones_low wide (bit_not w64 rest)
+    ∙ count_below-same _ _ wide (λ i within.
+    ap (λ b. b == 1) (bit_at_not w64 rest i small (omega arith))
+    ∙ (flipped (bit_at rest i) (bit_at-lt rest i)
+    ∙ ap (λ b. not (b == 1)) (bit_shifted word low i)))))
+
+-- of a word without bits all are clear
+pub clear_all : (word low wide : ℕ) → word ≡ 0 → wide ≡ clear_within word low wide
+clear_all word low wide none = sym (count_below-all _ wide (λ i _.
+    ap (λ w. not (bit_at w (low + i) == 1)) none
+    ∙ ap (λ b. not (b == 1)) (bit_at-zero (low + i))))
+
+-- and of one whose bits are all set none
+pub clear_none : (word low wide : ℕ) → word ≡ 18446744073709551615 → low + wide ≤ 64
+    → 0 ≡ clear_within word low wide
+clear_none word low wide full inside = sym (count_below-none _ wide (λ i within.
+    ap (λ w. not (bit_at w (low + i) == 1)) full
+    ∙ ap (λ b. not (b == 1)) (bit_at_ones 64 (low + i) (omega arith))))
+
+-- where the bits of the rest of a word are all clear, the stretch goes to its end
+stretch_whole : (word low n : ℕ) → low < 64 → word / 2 ^ low ≡ 0 → n ≡ 64 - low
+    → IsClearStretch word low n
+stretch_whole word low n inside none is = record {
+  within = omega arith;
+  clear = λ i above below.
+      let at : low + (i - low) ≡ i = omega arith in
+      ap (bit_at word) (sym at) ∙ (sym (bit_shifted word low (i - low))
+      ∙ (ap (λ x. bit_at x (i - low)) none ∙ bit_at-zero (i - low)));
+  set = λ below. absurd (omega arith);
+}
+
+-- else it goes to the lowest that is set
+run_part : (word low zeros n : ℕ) → word < 2 ^ 64 → low < 64 → bit_at (word / 2 ^ low) zeros ≡ 1
+    → ((i : ℕ) → i < zeros → bit_at (word / 2 ^ low) i ≡ 0) → n ≡ min zeros (64 - low)
+    → IsClearStretch word low n
+run_part word low zeros n fits inside set clear is =
+    let there : bit_at word (low + zeros) ≡ 1 = sym (bit_shifted word low zeros) ∙ set in
+    let below : low + zeros < 64 = ⊎_elim (λ (within : low + zeros < 64). within)
+    (λ (past : 64 ≤ low + zeros). absurd
+    (omega (arith, there, bit_at_above word 64 (low + zeros) fits past)))
+    (cases_lt (low + zeros) 64) in
+    let same : n ≡ zeros = omega arith in
+    record {
+      within = omega arith;
+      clear = λ i above under.
+          let at : low + (i - low) ≡ i = omega arith in
+          ap (bit_at word) (sym at) ∙ (sym (bit_shifted word low (i - low))
+          ∙ clear (i - low) (omega arith));
+      set = λ _. ap (λ k. bit_at word (low + k)) same ∙ there;
+    }
+
+-- the zeros at the lower end of what is left of a word are a stretch of its clear bits
+pub zeros_stretch : (word low n : ℕ) → word < 2 ^ 64 → low < 64
+    → n ≡ min (trailing_zeros w64 (word / 2 ^ low)) (64 - low) → IsClearStretch word low n
+zeros_stretch word low n fits inside is = ⊎_elim
+    (λ (none : word / 2 ^ low ≡ 0). stretch_whole word low n inside none
+    (let all : trailing_zeros w64 (word / 2 ^ low) ≡ 64 = ap (trailing_zeros w64) none
+    ∙ trailing_of_zero 64 in omega arith))
+    (λ (some : word / 2 ^ low ≢ 0).
+    let h = bit_at-trailing_zeros w64 (word / 2 ^ low) (omega arith)
+    (omega (arith, shr_le word low)) in
+    run_part word low (trailing_zeros w64 (word / 2 ^ low)) n fits inside h.1 h.2 is)
+    (cases_eq (word / 2 ^ low) 0)
+
+-- what is clear in the complement of a word is set in it
+pub stretch_flipped : (word low n : ℕ) → word < 2 ^ 64 → IsClearStretch (bit_not w64 word) low n
+    → IsSetStretch word low n
+stretch_flipped word low n fits run = record {
+  within = run.within;
+  set = λ i above below. omega (
+    arith,
+    run.clear i above below,
+    bit_at_not w64 word i fits (omega (arith, run.within)),
+    bit_at-lt word i,
+  );
+  clear = λ below. omega (
+    arith,
+    run.set below,
+    bit_at_not w64 word (low + n) fits below,
+    bit_at-lt word (low + n),
+  );
+}
+
+-- Bits in words of 64: what a write of one word changes.
+
+-- the bit of the place whose word was written
+pub has_bit_written : (words : List ℕ) (p w : ℕ) → p < 64 * length words
+    → has_bit (slice_set words (p / 64) w) p ≡ (bit_at w (p % 64) == 1)
+has_bit_written words p w within =
+    let inside : p / 64 < length words = omega arith in
+    ap (λ x. bit_at x (p % 64) == 1) (get_or-set_same words (p / 64) w 0 inside)
+
+-- the other bits, where the written word differs from the old one in that one bit at most
+pub has_bit_others : (words : List ℕ) (p w : ℕ) → p < 64 * length words
+    → ((i : ℕ) → i < 64 → i ≢ p % 64 → bit_at w i ≡ bit_at (slice_index words (p / 64)) i)
+    → (q : ℕ) → q ≢ p → has_bit (slice_set words (p / 64) w) q ≡ has_bit words q
+has_bit_others words p w within same q other = ⊎_elim
+    (λ (here : q / 64 ≡ p / 64).
+    let inside : p / 64 < length words = omega arith in
+    let apart : q % 64 ≢ p % 64 = λ e. other (omega arith) in
+    let there : slice_index (slice_set words (p / 64) w) (q / 64) ≡ w = ap
+    (slice_index (slice_set words (p / 64) w)) here ∙ get_or-set_same words (p / 64) w 0 inside in
+    ap (λ x. bit_at x (q % 64) == 1) there
+    ∙ (ap (λ b. b == 1) (same (q % 64) (omega arith) apart)
+    ∙ ap (λ k. bit_at (slice_index words k) (q % 64) == 1) (sym here)))
+    (λ (away : q / 64 ≢ p / 64). ap (λ x. bit_at x (q % 64) == 1)
+    (get_or-set_other words (p / 64) (q / 64) w 0 away))
+    (cases_eq (q / 64) (p / 64))
+
+-- below the place from which they are counted none are
+pub count_clear-none : (words : List ℕ) (low : ℕ) → count_clear words low low ≡ 0
+count_clear-none words low = count_below-none (is_clear_from words low) low
+    (λ q below. and_left (nat_le low q) _ (lt-leb low q below))
+
+-- those of a part of one word are the clear bits of that part
+pub count_clear-word : (words : List ℕ) (low place wide : ℕ) → low ≤ place → place % 64 + wide ≤ 64
+    → count_clear words low (place + wide) ≡ count_clear words low place
+    + clear_within (slice_index words (place / 64)) (place % 64) wide
+count_clear-word words low place wide above inside =
+    count_below-split (is_clear_from words low) place wide
+    ∙ ap (λ n. count_clear words low place + n) (count_below-same _ _ wide (λ i within.
+    ap (λ b. b && not (has_bit words (place + i))) (le-leb low (place + i) (omega arith))
+    ∙ ap not (in_word i within)))
+  where
+    in_word : (i : ℕ) → i < wide → has_bit words (place + i)
+        ≡ (bit_at (slice_index words (place / 64)) (place % 64 + i) == 1)
+    in_word i within =
+        let word : (place + i) / 64 ≡ place / 64 = omega arith in
+        let bit : (place + i) % 64 ≡ place % 64 + i = omega arith in
+        ap (λ k. bit_at (slice_index words k) ((place + i) % 64) == 1) word
+        ∙ ap (λ k. bit_at (slice_index words (place / 64)) k == 1) bit
+
+-- there are no more of them than places below
+pub count_clear-most : (words : List ℕ) (low p : ℕ) → count_clear words low p ≤ p
+count_clear-most words low p = count_below-most (is_clear_from words low) p
+
+-- no bit of words that are 0 is set
+pub has_bit_zero : (n p : ℕ) → has_bit (replicate n 0) p ≡ false
+has_bit_zero n p = ap (λ x. bit_at x (p % 64) == 1) (zero_at (p / 64))
+    ∙ ap (λ b. b == 1) (bit_at-zero (p % 64))
+  where
+    zero_at : (i : ℕ) → slice_index (replicate n 0) i ≡ 0
+    zero_at i = ⊎_elim (λ (within : i < n). get_or-replicate n i 0 0 within)
+        (λ (past : n ≤ i). get_or_past (replicate n 0) i 0
+        (omega (arith, length-replicate {A = ℕ} n 0))) (cases_lt i n)
+
+-- in words that were 0 before one bit was set, that bit alone is set
+pub has_bit_one : (n m : ℕ) (words : List ℕ) → ChangesBit (replicate n 0) words m true → (p : ℕ)
+    → has_bit words p ≡ (p == m)
+has_bit_one n m words change p = ⊎_elim
+    (λ (at : p ≡ m). ap (has_bit words) at ∙ (change.here ∙ sym (eq-eqb p m at)))
+    (λ (other : p ≢ m). change.others p other ∙ (has_bit_zero n p ∙ sym (ne_eqb p m other)))
+    (cases_eq p m)
+
 -- The bits of several places at once, and the least place of some.
-use Rattle.std.proofs.Common.{◌≡◌, ◌≢◌, ℕ, ◌<◌, ◌≤◌, ◌==◌, Bool, true, false, not, ◌&&◌, List, []}
-use Rattle.std.proofs.Common.{◌∷◌, ◌++◌, Option, Some, None, length, refl, ap, sym, ◌∙◌, arith}
-use Rattle.std.proofs.Common.{⊎_elim, min, if◌then◌else◌, true≢false, slice_index}
-use Rattle.std.proofs.lemmas.Bool.{cases_eq, cases_lt, eq-eqb, or_right}
-use Rattle.std.proofs.{lemmas.List.Folds.list_any_at, Math.Bool.beq}
-use Rattle.bpaf_index.specs.Bits.{has_bit, lesser_of, is_on_as, ChangesBit, ChangesBits, IsLeastIn}
-use Rattle.bpaf_index.specs.Places.{is_on}
-use Rattle.bpaf_index.proofs.Places.{is_on_push, on_others}
 
 -- the place at a number of a list is on it
 pub on_at : (places : List ℕ) (i : ℕ) → i < length places

@@ -1,7 +1,2 @@
-pub mod Counts
-pub mod Places
-pub mod WordBits
-pub mod BitLemmas
 pub mod BitSets
 pub mod Chained
-pub mod Noting

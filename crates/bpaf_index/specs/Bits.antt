@@ -1,9 +1,19 @@
+-- Sets of places, and one as bits in words of 64.
+use Rattle.std.specs.Prelude.{ℕ, ◌+◌, ◌==◌, Bool, List, zero, suc, if◌then◌else◌, ◌≡◌, ◌≢◌, ◌<◌}
+use Rattle.std.specs.Prelude.{◌≤◌, ◌/◌, ◌%◌, ◌*◌, true, false, not, ◌&&◌, nat_le, length}
+use Rattle.std.specs.Prelude.{slice_index, Option, None, Some, min}
+use Rattle.std.specs.{List.list_any, Int.bit_at}
+
+-- a place is one of these
+abbrev pub is_on : List ℕ → ℕ → Bool
+is_on places p = list_any (λ q. q == p) places
+
+-- how many numbers below n are in a set
+abbrev pub count_below : (ℕ → Bool) → ℕ → ℕ
+count_below set zero = 0
+count_below set (suc n) = if set n then (count_below set n + 1) else count_below set n
+
 -- A set of places, as bits in words of 64.
-use Rattle.std.specs.Prelude.{ℕ, ◌≡◌, ◌≢◌, ◌+◌, ◌<◌, ◌≤◌, ◌/◌, ◌%◌, ◌==◌, ◌*◌, Bool, true, false}
-use Rattle.std.specs.Prelude.{not, ◌&&◌, nat_le, List, length, slice_index, Option, None, Some, min}
-use Rattle.std.specs.Prelude.{if◌then◌else◌}
-use Rattle.std.specs.Int.{bit_at}
-use Rattle.bpaf_index.specs.Places.{count_below, is_on}
 
 -- whether the bit of a place is set; past the words none is
 abbrev pub has_bit : List ℕ → ℕ → Bool

@@ -3,8 +3,7 @@ ghost use Rattle.std.specs.Prelude.{ℕ, ◌≡◌, ◌+◌, ◌*◌, ◌<◌, �
 ghost use Rattle.bpaf_index.specs.Bits.{has_bit, count_clear, clear_within, lesser_of, is_on_as};
 ghost use Rattle.bpaf_index.specs.Bits.{is_in_first, AreWithin, ChangesBit, ChangesBits};
 ghost use Rattle.bpaf_index.specs.Bits.{IsClearStretch, IsSetStretch, IsFirstClear, IsFirstSet};
-ghost use Rattle.bpaf_index.specs.Bits.{IsLeastIn};
-ghost use Rattle.bpaf_index.specs.Places.{is_on};
+ghost use Rattle.bpaf_index.specs.Bits.{IsLeastIn, is_on};
 
 /// Whether the bit of a place is set.
 pub fn is_set(words: &[u64], place: usize) -> bool

@@ -1,7 +1,7 @@
 //! The classes of a line's names, by which its places are chained.
 ghost use Rattle.std.specs.Prelude.{◌≡◌, ◌+◌, ◌<◌, ℕ, [], IfOk, false, length, slice_index};
 ghost use Rattle.bpaf_base.specs.declared.arg.Arg.TheVariants.{Short, Long};
-ghost use Rattle.bpaf_index.specs.Classes.{class_of, IsNoted, AreClassesOf};
+ghost use Rattle.bpaf_index.specs.Chained.{class_of, IsNoted, AreClassesOf};
 
 use bpaf_base::{Arg, Text};
 use std::alloc::{AllocError, Global};
@@ -29,7 +29,7 @@ impl Drop for NameClasses {
 }
 
 impl Model for NameClasses {
-    ghost use Rattle.bpaf_index.specs.Classes.{Naming};
+    ghost use Rattle.bpaf_index.specs.Chained.{Naming};
 
     ghost Value = { Naming };
 

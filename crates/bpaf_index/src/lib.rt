@@ -11,7 +11,7 @@
 //!   the caller tells: a walk from there meets all other items of the name.
 //!
 //! How many numbers below one are in a set, and whether a place is in a list, is said in
-//! specs/Places.antt, which the layers above cite too.
+//! specs/Bits.antt, which the layers above cite too.
 #![tactic(auto)]
 
 pub mod bits;

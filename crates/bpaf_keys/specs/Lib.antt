@@ -1,3 +1,1 @@
 pub mod Info
-pub mod KnownNames
-pub mod Extra

@@ -1,9 +1,8 @@
 //! Keys and their names in the environment.
 ghost use Rattle.std.specs.Prelude.{◌≡◌, IfOk, false, option_copied, option_map, true};
 ghost use Rattle.bpaf_doc.specs.Shape.{part_of};
-ghost use Rattle.bpaf_laws.specs.Argument.{TakesText, TakesAtKey};
-ghost use Rattle.bpaf_laws.specs.Environment.{first_set, IsAbsence};
-ghost use Rattle.bpaf_laws.specs.Flag.{IsPresent};
+ghost use Rattle.bpaf_laws.specs.Leaves.{TakesText, TakesAtKey, IsPresent};
+ghost use Rattle.bpaf_laws.specs.Reading.{first_set, IsAbsence};
 
 use bpaf_doc::{Item, Text};
 use bpaf_line::{Error, Message, State};

@@ -1,19 +1,14 @@
 //! What a run knows beside its parser.
 ghost use Rattle.std.specs.Prelude.{◌≡◌, ◌==◌, ◌&&◌, ◌++◌, ◌∷◌, [], IfOk, OnOk, map, string_bytes};
 ghost use Rattle.std.specs.Prelude.{unwrap_or};
-ghost use Rattle.bpaf_doc.specs.Prints.{Prints};
+ghost use Rattle.bpaf_doc.specs.Print.{Prints};
+ghost use Rattle.bpaf_doc.specs.Shape.{And, members, shape_of, parts};
 ghost use Rattle.bpaf_text.specs.Named.{Named};
-ghost use Rattle.bpaf_pages.specs.Help.{help_text};
-ghost use Rattle.bpaf_pages.specs.InsideHelp.{given_by};
-ghost use Rattle.bpaf_doc.specs.Shape.{And, members, shape_of};
-ghost use Rattle.bpaf_doc.specs.Walks.{parts};
-ghost use Rattle.bpaf_keys.specs.Extra.{ExtraOutcome, IsNotAsked, LooksForVersion, extra_shape};
-ghost use Rattle.bpaf_keys.specs.Extra.{key_shape};
-ghost use Rattle.bpaf_laws.specs.ShownNames.{shorts_of};
-ghost use Rattle.bpaf_laws.specs.Version.{ShowsVersion, version_text};
-ghost use Rattle.bpaf_keys.specs.Info.{help_key, page_texts, plain_info, short_descr, usual_key};
-ghost use Rattle.bpaf_keys.specs.Info.{version_key};
-ghost use Rattle.bpaf_keys.specs.KnownNames.{known_names};
+ghost use Rattle.bpaf_pages.specs.{Help.help_text, InsideHelp.given_by};
+ghost use Rattle.bpaf_keys.specs.Info.{ExtraOutcome, IsNotAsked, LooksForVersion, extra_shape};
+ghost use Rattle.bpaf_keys.specs.Info.{key_shape, help_key, page_texts, plain_info, short_descr};
+ghost use Rattle.bpaf_keys.specs.Info.{usual_key, version_key, known_names};
+ghost use Rattle.bpaf_laws.specs.Laws.{shorts_of, ShowsVersion, version_text};
 ghost use Rattle.bpaf_line.specs.Situation.{open_count};
 
 use crate::environment::is_present;

@@ -5,7 +5,7 @@
 //! layer of parsers above, which hands on what programs need of it:
 //!
 //! - [`Info`] is what a run knows beside its parser: the keys that ask for help and for the
-//!   version, which [`Info::look`] looks for (specs/Extra.antt), and the texts of the help page
+//!   version, which [`Info::look`] looks for (specs/Info.antt), and the texts of the help page
 //!   (specs/Info.antt).
 //! - [`CommandNames`] are the names of a command; [`CommandNames::open`] takes its word.
 //! - [`is_present`] is the one test for flags; [`take_argument`] takes the text of an argument;

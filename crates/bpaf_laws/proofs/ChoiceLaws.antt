@@ -1,15 +1,24 @@
--- Choices keep to the laws where both branches do.
-use Rattle.std.specs.Prelude.{◌≡◌, ℕ, Bool, true, false, Result, Ok, Err, Option, Some, None}
-use Rattle.std.proofs.Common.{arith, sym, inl, inr}
-use Rattle.bpaf_line.specs.declared.error.Error.{Error}
-use Rattle.bpaf_line.specs.{Situation.Situation, Conflicts.ConflictsSaved, Combining.Combines}
-use Rattle.bpaf_laws.proofs.NamesAnswer.{names_combined, names_want}
-use Rattle.bpaf_laws.proofs.Keeping.{AnswersLawfully, LawfulAnswer, lawful_answer, lawful_by}
-use Rattle.bpaf_laws.proofs.Keeping.{keeps_refl, keeps_same}
-use Rattle.bpaf_laws.proofs.Keeping.{reads_as, reads_conflicts}
+-- Choices keep to the laws where their branches do, catch no want of memory, and the leftmost
+-- wins.
+use Rattle.std.proofs.Common.{◌≡◌, ℕ, Bool, true, false, Result, Ok, Err, Option, Some, None, arith}
+use Rattle.std.proofs.Common.{sym, inl, inr, List, [], ◌∷◌, not, refl, ap, ◌∙◌, ◌⊎◌, ⊎_elim, ◌++◌}
+use Rattle.std.proofs.Common.{subst, ◌≤◌, ◌&&◌, IsOk, true≢false}
+use Rattle.std.proofs.{lemmas.Bool.and_parts, lemmas.Bool.Decides.nat_tests}
+use Rattle.bpaf_line.specs.Situation.{Situation, is_taken, open_count}
+use Rattle.bpaf_line.specs.Taking.{ConflictsSaved, IsLeftmost, IsWinner, TakeTheSame}
+use Rattle.bpaf_line.specs.{declared.error.Error.Error, Messages.Combines}
+use Rattle.bpaf_laws.proofs.Keeping.{names_combined, names_want, AnswersLawfully, LawfulAnswer}
+use Rattle.bpaf_laws.proofs.Keeping.{lawful_answer, lawful_by, keeps_refl, keeps_same, reads_as}
+use Rattle.bpaf_laws.proofs.Keeping.{reads_conflicts, same_took_none}
+use Rattle.bpaf_laws.proofs.LeafLaws.{refusal_lawful}
 use Rattle.bpaf_laws.specs.Choice.{AnsweredBranch, branch_of, depth, Winner, EqualDepths, Chosen}
-use Rattle.bpaf_laws.specs.Choice.{BranchesEval, ChoiceOutcome, ChoiceReads}
-use Rattle.bpaf_laws.specs.{Reading.Readings, Reading.Outcome, Laws.Lawful}
+use Rattle.bpaf_laws.specs.Choice.{BranchesEval, ChoiceOutcome, ChoiceReads, Nested, ChoicesOutcome}
+use Rattle.bpaf_laws.specs.Choice.{ChoicesReads, no_choice, is_want, IsWant, ValueOfWinner}
+use Rattle.bpaf_laws.specs.Choice.{ChoiceDescribes, either_shape, Stands, IsChosen, TookAndIsChosen}
+use Rattle.bpaf_laws.specs.Choice.{LeftmostWins, LeftmostOfAll}
+use Rattle.bpaf_laws.specs.Laws.{Lawful, IsNotMemory, Spares, WithoutMemory}
+use Rattle.bpaf_laws.specs.{Reading.Readings, Reading.Outcome, Combinators.is_untouched}
+use Rattle.bpaf_doc.specs.Shape.{Shape}
 
 -- an error is no value
 pub no_value : {T : Type 0} (v : T) (e : Error) → ◌≡◌ {A = Result T Error} (Ok v) (Err e) → ⊥
@@ -102,3 +111,296 @@ module _ {T : Type 0} {first second : Outcome T} {rf rs : Readings T} (lf : Lawf
       answers s (Ok v) t o = evaluated s (Ok v) t o
       answers s (Err e) t (inl o) = evaluated s (Err e) t o
       answers s (Err e) t (inr want) = (keeps_same s t want.1, names_want e.0 want.0)
+
+-- a choice of a lawful outcome and of lawful parsers is lawful
+pub from_lawful : {T P : Type 0} (outcome : P → Outcome T) (reads : P → Readings T)
+    (before : Outcome T) (read : Readings T) (ps : List P)
+    → ((p : P) → Lawful T (outcome p) (reads p)) → Lawful T before read
+    → Lawful T (Nested ChoiceOutcome outcome before ps) (Nested ChoiceReads reads read ps)
+from_lawful outcome reads before read [] each law = law
+from_lawful outcome reads before read (p ∷ ps) each law =
+    from_lawful outcome reads (ChoiceOutcome before (outcome p)) (ChoiceReads read (reads p)) ps
+    each (choice_lawful law (each p))
+
+-- so is a choice of lawful parsers alone
+pub choices_lawful : {T P : Type 0} (outcome : P → Outcome T) (reads : P → Readings T) (ps : List P)
+    → ((p : P) → Lawful T (outcome p) (reads p))
+    → Lawful T (ChoicesOutcome outcome ps) (ChoicesReads reads ps)
+choices_lawful outcome reads [] each = refusal_lawful no_choice
+choices_lawful outcome reads (p ∷ ps) each =
+    from_lawful outcome reads (outcome p) (reads p) ps each (each p)
+
+-- A choice of two: what its evaluation shows, and that it catches no want of memory.
+
+-- an answer that isn't want of memory
+spared_of : {T : Type 0} (r : Result T Error) → is_want r ≡ false → IsNotMemory r
+spared_of r e = grind arith
+
+-- the answer of branches that ran is one of their choice
+choice_ran : {T : Type 0} (first second : Outcome T) (s : Situation) (r : Result T Error)
+    (t : Situation) → BranchesEval first second s r t → ChoiceOutcome first second s r t
+choice_ran first second s r t ran = grind arith
+
+-- so is want of memory
+choice_wants : {T : Type 0} (first second : Outcome T) (s : Situation) (r : Result T Error)
+    (t : Situation) → IsWant s r t → ChoiceOutcome first second s r t
+choice_wants first second s r t want = grind arith
+
+-- where two branches that didn't want memory ran, the choice of two gives the answer chosen by
+-- theirs, or want of memory
+pub ran_outcome : {T : Type 0} (first second : Outcome T) (s : Situation) (a : Result T Error)
+    (sa : Situation) (b : Result T Error) (sb : Situation) (r : Result T Error) (t : Situation)
+    → first s a sa → second s b sb → is_want a ≡ false → is_want b ≡ false
+    → Chosen s a sa b sb r t ⊎ IsWant s r t → ChoiceOutcome first second s r t
+ran_outcome first second s a sa b sb r t f g p q answer = ⊎_elim
+    (λ chosen. choice_ran first second s r t (record {
+      a = a;
+      sa = sa;
+      b = b;
+      sb = sb;
+      first_ran = f;
+      second_ran = g;
+      first_spared = spared_of a p;
+      second_spared = spared_of b q;
+      chosen = chosen;
+    }))
+    (choice_wants first second s r t) answer
+
+module _ {T : Type 0} (first second less other : Outcome T) (fewer : Spares first less)
+    (fewer_others : Spares second other) (s t : Situation) (r : Result T Error) where
+  -- fewer answers of two branches give fewer runs of both, which didn't want memory
+  abbrev pub branches_within : BranchesEval first second s r t → BranchesEval less other s r t
+  branches_within o = record {
+    a = o.a;
+    sa = o.sa;
+    b = o.b;
+    sb = o.sb;
+    first_ran = fewer s o.sa o.a o.first_ran o.first_spared;
+    second_ran = fewer_others s o.sb o.b o.second_ran o.second_spared;
+    first_spared = o.first_spared;
+    second_spared = o.second_spared;
+    chosen = o.chosen;
+  }
+
+-- so they do of a choice
+pub choice_within : {T : Type 0} (first second less other : Outcome T) → Spares first less
+    → Spares second other → (s t : Situation) (r : Result T Error)
+    → ChoiceOutcome first second s r t → ChoiceOutcome less other s r t
+choice_within first second less other fewer others s t r ran =
+    grind (arith, branches_within first second less other fewer others s t)
+
+-- a choice catches no want of memory
+pub choice_spared : {T : Type 0} (first second : Outcome T) (s t : Situation) (r : Result T Error)
+    → ChoiceOutcome first second s r t → IsNotMemory r
+    → ChoiceOutcome (WithoutMemory first) (WithoutMemory second) s r t
+choice_spared first second s t r ran spared =
+    choice_within first second (WithoutMemory first) (WithoutMemory second)
+    (λ s t r ran spared. (ran, spared)) (λ s t r ran spared. (ran, spared)) s t r ran
+
+-- of two situations the leftmost place of the one is that of the other
+pub leftmost_of_other : (s other : Situation) (p : ℕ) → IsLeftmost s other p → IsLeftmost other s p
+leftmost_of_other s other p h = record {
+  differs = turned (is_taken s p) (is_taken other p) h.differs;
+  first = λ q below. sym (h.first q below);
+}
+  where
+    turned : (a b : Bool) → a ≡ not b → b ≡ not a
+    turned a b e = grind arith
+
+-- where the second branch doesn't win against the first, the first one does
+pub first_wins : {T : Type 0} (first second : AnsweredBranch T) (place : ℕ) (t : Situation)
+    → IsWinner second.left first.left (false, Some place)
+    → ConflictsSaved first.left second.left place t → ValueOfWinner first second (Ok first.value) t
+first_wins first second place t winner saved =
+    let left = leftmost_of_other second.left first.left place winner.0 in
+    ((true, Some place), (left, left.differs ∙ ap not winner.1), (refl, saved))
+
+-- and where it wins, it is the winner
+pub second_wins : {T : Type 0} (first second : AnsweredBranch T) (place : ℕ) (t : Situation)
+    → IsWinner second.left first.left (true, Some place)
+    → ConflictsSaved second.left first.left place t → ValueOfWinner first second (Ok second.value) t
+second_wins first second place t winner saved =
+    let left = leftmost_of_other second.left first.left place winner.0 in
+    ((false, Some place), (left, left.differs ∙ ap not winner.1), (refl, saved))
+
+-- one more parser at the end
+nested_more : {A : Type 1} {P : Type 0} (choice : A → A → A) (meaning : P → A) (before : A)
+    (ps : List P) (p : P)
+    → Nested choice meaning before (ps ++ p ∷ []) ≡ choice (Nested choice meaning before ps)
+    (meaning p)
+nested_more choice meaning before [] p = refl
+nested_more choice meaning before (q ∷ ps) p =
+    nested_more choice meaning (choice before (meaning q)) ps p
+
+-- one more parser's answer
+pub one_more : {T P : Type 0} (outcome : P → Outcome T) (before : Outcome T) (ps : List P) (p : P)
+    (s : Situation) (r : Result T Error) (t : Situation)
+    → ChoiceOutcome (Nested ChoiceOutcome outcome before ps) (outcome p) s r t
+    → Nested ChoiceOutcome outcome before (ps ++ p ∷ []) s r t
+one_more outcome before ps p s r t chosen =
+    subst (λ combined. combined s r t) (sym (nested_more ChoiceOutcome outcome before ps p)) chosen
+
+-- one more parser is shown
+pub one_more_shown : {P : Type 0} (describes : P → Shape → Type 0) (before : Shape → Type 0)
+    (ps : List P) (p : P) (a b shape : Shape)
+    → Nested ChoiceDescribes describes before ps a → describes p b → shape ≡ either_shape a b
+    → Nested ChoiceDescribes describes before (ps ++ p ∷ []) shape
+one_more_shown describes before ps p a b shape first last is =
+    subst (λ shows. shows shape) (sym (nested_more ChoiceDescribes describes before ps p))
+    (a, b, first, last, is)
+
+-- fewer answers of parsers that aren't want of memory give fewer of a choice of many
+nested_spares : {T P : Type 0} (outcome without : P → Outcome T) (before less : Outcome T)
+    (ps : List P) → Spares before less → ((p : P) → Spares (outcome p) (without p))
+    → Spares (Nested ChoiceOutcome outcome before ps) (Nested ChoiceOutcome without less ps)
+nested_spares outcome without before less [] fewer each = fewer
+nested_spares outcome without before less (p ∷ ps) fewer each =
+    nested_spares outcome without (ChoiceOutcome before (outcome p))
+    (ChoiceOutcome less (without p)) ps
+    (λ s t r ran spared.
+    choice_within before (outcome p) less (without p) fewer (each p) s t r ran) each
+
+-- so a choice of any number catches no want of memory
+pub choices_spared : {T P : Type 0} (outcome : P → Outcome T) (ps : List P) (s t : Situation)
+    (r : Result T Error) → ChoicesOutcome outcome ps s r t → IsNotMemory r
+    → ChoicesOutcome (λ p. WithoutMemory (outcome p)) ps s r t
+choices_spared outcome [] s t r o spared = o
+choices_spared outcome (p ∷ ps) s t r o spared =
+    nested_spares outcome (λ q. WithoutMemory (outcome q)) (outcome p) (WithoutMemory (outcome p)) ps
+    (λ s t r ran spared. (ran, spared)) (λ q s t r ran spared. (ran, spared)) s t r o spared
+
+-- The leftmost place that only one of two branches took belongs to the chosen one.
+
+-- there is one leftmost place at most
+one_leftmost : (s other : Situation) (p q : ℕ) → IsLeftmost s other p → IsLeftmost s other q → q ≡ p
+one_leftmost s other p q a b = grind (arith, a.first, b.first)
+
+-- the chosen one of two answers took the leftmost place taken by only one of them; without one the
+-- first is chosen
+abbrev IsLeftmostChosen : {T : Type 0} → Result T Error → Situation → Result T Error → Situation
+    → T → Situation → Type 0
+IsLeftmostChosen a sa b sb v t =
+    ((p : ℕ) → IsLeftmost sa sb p → TookAndIsChosen p a sa v t ⊎ TookAndIsChosen p b sb v t)
+    × (TakeTheSame sa sb → IsChosen a sa v t)
+
+module _ {T : Type 0} (v : T) (t : Situation) where
+  -- a branch that stands is chosen
+  pub stands : (branch : AnsweredBranch T) → Stands branch (Ok v) t
+      → IsChosen (Ok branch.value) branch.left v t
+  stands branch answer = record {
+    answer = sym answer.0;
+    takes = λ p. ap (λ after. is_taken after p) answer.1;
+  }
+
+  -- so it is with a winner
+  winner_chosen : (first second : AnsweredBranch T) (winner : Bool × Option ℕ)
+      → IsWinner first.left second.left winner → Winner first second winner (Ok v) t
+      → IsLeftmostChosen (Ok first.value) first.left (Ok second.value) second.left v t
+  winner_chosen first second (wins, None) decided won = (
+    (λ p left. let same = decided.0 p in absurd (grind (arith, left.differs))),
+    (λ same. stands first won),
+  )
+  winner_chosen first second (true, Some place) decided won = (
+    (λ p left. inl (record {
+      chosen = record { answer = sym won.0; takes = won.1.taken };
+      took = grind (arith, one_leftmost first.left second.left p place left decided.0);
+    })),
+    (λ same. absurd (grind (arith, same place))),
+  )
+  winner_chosen first second (false, Some place) decided won = (
+    (λ p left. inr (record {
+      chosen = record { answer = sym won.0; takes = won.1.taken };
+      took = grind (arith, one_leftmost first.left second.left p place left decided.0);
+    })),
+    (λ same. absurd (grind (arith, same place))),
+  )
+
+-- what answered a value and left as many items took nothing
+pub took_nothing : {T : Type 0} {outcome : Outcome T} {reads : Readings T} → Lawful T outcome reads
+    → (s t : Situation) (v : T) → outcome s (Ok v) t → is_untouched s t ≡ true → TakeTheSame t s
+took_nothing law s t v ran untouched p =
+    let read = law.ok s t v ran in
+    let same : open_count s ≤ open_count t = grind (arith, nat_tests) in
+    grind (arith, read.keeps.stays p, same_took_none s t read.keeps read.closed same p)
+
+module _ {T : Type 0} {first second : Outcome T} {first_reads second_reads : Readings T}
+    (first_law : Lawful T first first_reads) (second_law : Lawful T second second_reads) where
+  -- where neither took an item no place is taken by only one
+  none_differs : (s : Situation) (x : T) (sa : Situation) (y : T) (sb : Situation)
+      → first s (Ok x) sa → second s (Ok y) sb
+      → (is_untouched s sa && is_untouched s sb) ≡ true → TakeTheSame sa sb
+  none_differs s x sa y sb first_ran second_ran both p =
+      let each = and_parts (is_untouched s sa) (is_untouched s sb) both in
+      took_nothing first_law s sa x first_ran each.0 p ∙ sym
+      (took_nothing second_law s sb y second_ran each.1 p)
+
+  -- so it is at equal depths
+  equal_chosen : (s : Situation) (v : T) (t : Situation) (a : Result T Error) (sa : Situation)
+      (b : Result T Error) (sb : Situation) → first s a sa → second s b sb
+      → EqualDepths s a sa b sb (Ok v) t → IsOk a → IsOk b → IsLeftmostChosen a sa b sb v t
+  equal_chosen s v t (Ok x) sa (Ok y) sb first_ran second_ran (inl neither) one other = (
+    (λ p left.
+        absurd (grind (arith, none_differs s x sa y sb first_ran second_ran neither.0 p))),
+    (λ same. stands v t (branch_of x sa) neither.1),
+  )
+  equal_chosen s v t (Ok x) sa (Ok y) sb first_ran second_ran (inr won) one other =
+      winner_chosen v t (branch_of x sa) (branch_of y sb) won.1.0 won.1.1 won.1.2
+  equal_chosen s v t (Ok x) sa (Err e) sb first_ran second_ran chosen one other =
+      absurd (true≢false (sym other))
+  equal_chosen s v t (Err e) sa b sb first_ran second_ran chosen one other =
+      absurd (true≢false (sym one))
+
+  -- in every choice
+  pub leftmost_is_chosen : (s t : Situation) (r : Result T Error) → ChoiceOutcome first second s r t
+      → LeftmostWins first second s r t
+  leftmost_is_chosen s t (Err e) ran = ran
+  leftmost_is_chosen s t (Ok v) ran =
+      let chosen = λ (one : IsOk ran.a) (other : IsOk ran.b) (depths : depth ran.sa ≡ depth ran.sb).
+      equal_chosen s v t ran.a ran.sa ran.b ran.sb ran.first_ran ran.second_ran
+      (chosen_at_equal s ran.a ran.sa ran.b ran.sb (Ok v) t depths ran.chosen) one other in
+      record {
+        ran = ran;
+        leftmost = λ one other depths. (chosen one other depths).0;
+        else_first = λ one other depths. (chosen one other depths).1;
+      }
+
+-- one choice more in which the leftmost wins
+choice_leftmost : {T : Type 0} {before second : Outcome T} {before_reads second_reads : Readings T}
+    (less : Outcome T) → Lawful T before before_reads → Lawful T second second_reads
+    → ((s t : Situation) (r : Result T Error) → before s r t → less s r t) → (s t : Situation)
+    (r : Result T Error) → ChoiceOutcome before second s r t → LeftmostWins less second s r t
+choice_leftmost {before = before} {second = second} less before_law second_law within s t (Err e)
+    ran = choice_within before second less second (λ s t r ran spared. within s t r ran)
+    (λ s t r ran spared. ran) s t (Err e) ran
+choice_leftmost {before = before} {second = second} less before_law second_law within s t (Ok v)
+    ran =
+    let chosen = leftmost_is_chosen before_law second_law s t (Ok v) ran in
+    record {
+      ran = branches_within before second less second (λ s t r ran spared. within s t r ran)
+          (λ s t r ran spared. ran) s t (Ok v) chosen.ran;
+      leftmost = chosen.leftmost;
+      else_first = chosen.else_first;
+    }
+
+module _ {T P : Type 0} (outcome : P → Outcome T) (reads : P → Readings T)
+    (laws : (p : P) → Lawful T (outcome p) (reads p)) where
+  -- so it is in each of the later choices
+  from_leftmost : {before : Outcome T} {before_reads : Readings T} (less : Outcome T)
+      → Lawful T before before_reads → (ps : List P)
+      → ((s t : Situation) (r : Result T Error) → before s r t → less s r t)
+      → (s t : Situation) (r : Result T Error) → Nested ChoiceOutcome outcome before ps s r t
+      → Nested LeftmostWins outcome less ps s r t
+  from_leftmost less before_law [] within s t r ran = within s t r ran
+  from_leftmost {before = before} {before_reads = before_reads} less before_law (p ∷ ps) within s t
+      r ran =
+      from_leftmost {before = ChoiceOutcome before (outcome p)}
+      {before_reads = ChoiceReads before_reads (reads p)} (LeftmostWins less (outcome p))
+      (choice_lawful before_law (laws p)) ps
+      (λ m n a ran. choice_leftmost less before_law (laws p) within m n a ran) s t r ran
+
+  -- and in the choice of all parsers
+  pub choices_leftmost : (ps : List P) (s t : Situation) (r : Result T Error)
+      → ChoicesOutcome outcome ps s r t → LeftmostOfAll outcome ps s r t
+  choices_leftmost [] s t r ran = tt
+  choices_leftmost (p ∷ ps) s t r ran =
+      from_leftmost (outcome p) (laws p) ps (λ m n a ran. ran) s t r ran

@@ -1,20 +1,36 @@
 -- How what evaluations keep is put together. No combinator builds a `Keeps` of its own: it goes
 -- through these lemmas and one for each call of a state, so that a clause can be added to the laws
 -- here.
-use Rattle.std.specs.Prelude.{◌≡◌, ℕ, ◌+◌, ◌==◌, true, not, ◌&&◌, ◌||◌, List, []}
-use Rattle.std.specs.Prelude.{◌∷◌, ◌++◌, Result, Ok, Err, Option, None, refl}
-use Rattle.std.proofs.Common.{sym, ◌∙◌, ap, subst, append_assoc, append-nil, arith}
-use Rattle.std.proofs.Common.{true≢false}
-use Rattle.std.proofs.lemmas.Bool.{Decides.nat_tests}
+use Rattle.std.proofs.Common.{◌≡◌, ℕ, ◌+◌, true, ◌&&◌, ◌||◌, List, [], ◌∷◌, ◌++◌, Result, Option}
+use Rattle.std.proofs.Common.{refl, sym, ◌∙◌, ap, subst, append_assoc, append-nil, arith}
+use Rattle.std.proofs.Common.{true≢false, Bool, false, ⊎_elim, zero, suc, ◌<◌, ◌≤◌, if◌then◌else◌}
+use Rattle.std.proofs.Common.{length, map}
+use Rattle.std.proofs.{lemmas.Bool.Decides.nat_tests, lemmas.Bool.cases_cond}
+use Rattle.std.proofs.{lemmas.List.map-append}
+use Rattle.std.specs.Prelude.{◌==◌, not, Ok, Err, None, Some}
 use Rattle.bpaf_line.specs.Situation.{Situation, Context, is_taken, is_open, in_scope, take_place}
-use Rattle.bpaf_line.specs.Situation.{with_scope, with_path, with_current}
+use Rattle.bpaf_line.specs.Situation.{with_scope, with_path, with_current, count_below, open_count}
+use Rattle.bpaf_line.specs.declared.error.Message.TheVariants.{Memory, Missing, ParseFailure}
+use Rattle.bpaf_line.specs.Messages.{Combines, CombinesSpared, can_catch, is_answer, is_memory}
+use Rattle.bpaf_line.specs.declared.failure.ParseFailure.{ParseFailure as Failure}
+use Rattle.bpaf_line.specs.{Taking.ConflictsSaved, declared.error.Error.Error}
+use Rattle.bpaf_line.specs.{declared.error.Message.Message, Rendering.Renders}
 use Rattle.bpaf_line.proofs.Marks.{keeps_marks_refl, keeps_marks_trans, keeps_marks_take}
 use Rattle.bpaf_line.proofs.Marks.{keeps_marks_scope, keeps_marks_path, keeps_marks_current}
 use Rattle.bpaf_line.proofs.Places.{taken_here, taken_other, taken_stays, open_not_taken}
-use Rattle.bpaf_line.specs.{Conflicts.ConflictsSaved, declared.error.Error.Error}
+use Rattle.bpaf_line.proofs.Places.{open_in_line}
 use Rattle.bpaf_laws.specs.Reading.{Share, Readings, Outcome, Joins, IsEmptyShare, IsPlace, IsPair}
-use Rattle.bpaf_laws.specs.Laws.{Keeps, Closes, Extends, Reads, Lawful, newly}
-use Rattle.bpaf_laws.specs.{RefusalNames.NamesAnswer, Product.BothReads}
+use Rattle.bpaf_laws.specs.Reading.{IsAbsence, HasPlace, IsKept, ReadsValue, TellsReading}
+use Rattle.bpaf_laws.specs.Laws.{Keeps, Closes, Extends, Reads, Lawful, newly, NamesAnswer}
+use Rattle.bpaf_laws.specs.Laws.{HasSomeName, Refusal, refusal_of, told, no_memory, wanting}
+use Rattle.bpaf_laws.specs.Laws.{taken_count, CountFalls}
+use Rattle.bpaf_laws.specs.Product.{BothReads, AppendsShapes, LastDescribes}
+use Rattle.bpaf_laws.specs.Combinators.{TellsFault, FallbackOutcome, GivesClone}
+use Rattle.bpaf_laws.specs.Leaves.{FlagOutcome}
+use Rattle.bpaf_doc.specs.Shape.{Part, Shape, shape_of}
+use Rattle.bpaf_doc.specs.{declared.doc.Piece.Piece, declared.meta.Meta.Meta}
+use Rattle.bpaf_text.specs.{Named.Named, Meaning.ReadsText, declared.fault.TextFault.TextFault}
+use Rattle.bpaf_line.specs.declared.failure.ParseFailure.TheVariants as failure
 
 -- what an evaluation keeps, whatever it answers
 pub keeps_of : {T : Type 0} {outcome : Outcome T} {reads : Readings T} → Lawful T outcome reads
@@ -246,3 +262,161 @@ module _ {T : Type 0} (reads : Readings T) (s m loser : Situation) (winner : ℕ
             saved.taken p ∙ read.closed p inside (sym (scope_conflicts p) ∙ outside);
         reading = subst (λ share. reads s.context share v) (sym newly_conflicts) read.reading;
       }
+
+-- Messages that are the answer of no run inside, or of one whose answer has a name.
+
+-- a message is one that names its answer
+pub names_same : (m n : Message) → NamesAnswer n → m ≡ n → NamesAnswer m
+names_same m n names same = subst NamesAnswer (sym same) names
+
+-- want of memory, also that of an inner run
+pub names_want : (m : Message) → is_memory m ≡ true → NamesAnswer m
+names_want (ParseFailure failure.Memory) want = (no_memory, wanting)
+names_want (ParseFailure f) want = absurd (true≢false (sym want))
+names_want m want = tt
+
+-- the text of a fault, or want of memory for it
+pub names_fault : {E : Type 0} (shown : E → Option (List ℕ)) (fault : E)
+    (refusal : List ℕ → Message) (m : Message) → ((text : List ℕ) → NamesAnswer (refusal text))
+    → TellsFault shown fault refusal m → NamesAnswer m
+names_fault shown fault refusal m names tells =
+    ⊎_elim (λ want. names_same m Memory tt want)
+    (λ told. names_same m (refusal told.0) (names told.0) told.1) tells
+
+-- the refusal of a key that is nowhere
+pub names_absence : (s : Situation) (part : Option Part) (envs : List (List ℕ)) (m : Message)
+    → IsAbsence s part envs m → NamesAnswer m
+names_absence s part envs m absent = grind arith
+
+-- two refusals combined, neither of which is want of memory
+names_spared : (first second both : Message) → NamesAnswer first → NamesAnswer second
+    → CombinesSpared first second both → NamesAnswer both
+names_spared (ParseFailure f) second both one other o = names_same both (ParseFailure f) one o
+names_spared first (ParseFailure f) both one other o = names_same both (ParseFailure f) other o
+names_spared (Missing items) (Missing others) both one other o =
+    ⊎_elim (λ all. names_same both (Missing _) tt all) (λ want. names_same both Memory tt want) o
+names_spared first second both one other o =
+    ⊎_elim (names_same both second other) (names_same both first one)
+    (cases_cond (can_catch first) second first both o)
+
+-- two refusals combined
+pub names_combined : (first second both : Message) → NamesAnswer first → NamesAnswer second
+    → Combines first second both → NamesAnswer both
+names_combined first second both one other o =
+    ⊎_elim (λ want. names_same both Memory tt want.1)
+    (λ spared. names_spared first second both one other spared.1) o
+
+-- each message but the answer of an inner run has a name
+pub name_of : (m : Message) → is_answer m ≡ false → (name : Refusal) × (refusal_of m ≡ Some name)
+name_of (ParseFailure inner) other = absurd (true≢false other)
+name_of m other = (_, refl)
+
+-- no message but the answer of an inner run shows something
+pub shows_nothing : (m : Message) (s : Situation) (doc : List Piece) (full : Bool)
+    → is_answer m ≡ false → ¬ (Renders m s (failure.Stdout doc full))
+shows_nothing m s doc full other tells = grind arith
+
+-- so has what is told of it
+pub told_has_name : (m : Message) (s : Situation) (f : Failure) → is_answer m ≡ false
+    → Renders m s f → HasSomeName f
+told_has_name m s failure.Memory plain tells = (no_memory, wanting)
+told_has_name m s (failure.Stdout doc full) plain tells =
+    absurd (shows_nothing m s doc full plain tells)
+told_has_name m s (failure.Stderr doc) plain tells =
+    let named : (name : Refusal) × (refusal_of m ≡ Some name) = name_of m plain in
+    (named.0, told named.0 m s doc named.1 tells)
+
+-- Counting what an evaluation newly took.
+
+-- two sets that have no number in common have together as many as the set that they make
+pub count_below-joined : (whole f g : ℕ → Bool) (n : ℕ) → ((p : ℕ) → whole p ≡ (f p || g p))
+    → ((p : ℕ) → (f p && g p) ≡ false) → count_below whole n ≡ count_below f n + count_below g n
+count_below-joined whole f g zero all apart = refl
+count_below-joined whole f g (suc n) all apart =
+    let here = all n in
+    let not_both = apart n in
+    let before = count_below-joined whole f g n all apart in
+    grind arith
+
+-- what is present at first is present still, or newly taken
+pub open_joins : (s t : Situation) → Keeps s t → Closes s t → Joins (is_open t) (newly s t) (is_open s)
+open_joins s t k c = record {
+  all = λ p. grind (arith, k.stays p, k.fresh p, k.narrows p, c p);
+  apart = λ p. grind arith;
+}
+
+-- the count of present places falls by the number of newly taken ones
+pub open_count-falls : (s t : Situation) → Keeps s t → Closes s t
+    → open_count s ≡ open_count t + taken_count s t
+open_count-falls s t k c =
+    let joins = open_joins s t k c in
+    let same : length t.context.line ≡ length s.context.line = ap (λ context. length context.line)
+    k.context in
+    count_below-joined (is_open s) (is_open t) (newly s t) (length s.context.line) joins.all
+    joins.apart ∙ ap (λ n. count_below (is_open t) n + taken_count s t) (sym same)
+
+-- so it does for every parser that keeps to the laws
+pub lawful_falls : {T : Type 0} {outcome : Outcome T} {reads : Readings T} → Lawful T outcome reads
+    → CountFalls outcome
+lawful_falls law s t v answered =
+    let read = law.ok s t v answered in open_count-falls s t read.keeps read.closed
+
+-- a set without numbers below n lacks each of them
+pub none_below : (set : ℕ → Bool) (n : ℕ) → count_below set n ≡ 0 → (p : ℕ) → p < n → set p ≡ false
+none_below set zero e p within = absurd (omega arith)
+none_below set (suc n) e p within = grind (arith, none_below set n)
+
+-- a set with some numbers below n has one
+some_below : (set : ℕ → Bool) (n : ℕ) → 0 < count_below set n → HasPlace set
+some_below set zero some = absurd (omega arith)
+some_below set (suc n) some = at (set n) refl some (some_below set n)
+  where
+    at : (b : Bool) → set n ≡ b → 0 < (if b then (count_below set n + 1) else (count_below set n))
+        → (0 < count_below set n → HasPlace set) → HasPlace set
+    at true here more below = (n, here)
+    at false lacking more below = below more
+
+-- an evaluation that left fewer present places took one
+pub fewer_took : (s t : Situation) → Keeps s t → Closes s t → open_count t < open_count s
+    → HasPlace (newly s t)
+fewer_took s t k c fewer =
+    let falls = open_count-falls s t k c in
+    some_below (newly s t) (length s.context.line) (omega arith)
+
+-- an evaluation that left as many present places took none
+pub same_took_none : (s t : Situation) → Keeps s t → Closes s t → open_count s ≤ open_count t
+    → IsEmptyShare (newly s t)
+same_took_none s t k c same p =
+    let falls = open_count-falls s t k c in
+    grind (arith, none_below (newly s t) (length s.context.line), open_in_line s p, k.fresh p)
+
+module _ {T : Type 0} {clones : T → T → Type 0}
+    (equal : (kept v : T) → clones kept v → v ≡ kept) where
+  -- a fallback answers the inner value or what it keeps
+  pub fallback_kept : (inner : Outcome T) (kept : T) (s : Situation) (r : Result T Error)
+      (t : Situation) → FallbackOutcome inner (GivesClone clones kept) s r t
+      → FallbackOutcome inner (GivesClone IsKept kept) s r t
+  fallback_kept inner kept s r t o = grind (arith, equal)
+
+  -- so a flag answers one of the two that it keeps
+  pub flag_kept : (named : Named) (present : T) (absent : Option T) (s : Situation)
+      (r : Result T Error) (t : Situation) → FlagOutcome clones named present absent s r t
+      → FlagOutcome IsKept named present absent s r t
+  flag_kept named present absent s r t o = grind (arith, equal)
+
+module _ {T : Type 0} (means : List ℕ → T → Type 0) (text : List ℕ) (current : Option ℕ) where
+  -- what is told of a reading of a text is an answer for that text
+  pub reading_told : (read : Result T TextFault) (result : Result T Error)
+      → ReadsText means text read → TellsReading read current result
+      → ReadsValue means text current result
+  reading_told read result meant same = grind arith
+
+-- one more shape, that of the last field
+pub last_shape : (describes : Shape → Type 0) (old new : List Meta) (meta : Meta)
+    → new ≡ old ++ meta ∷ [] → describes (shape_of meta)
+    → AppendsShapes (LastDescribes describes) (map shape_of old) (map shape_of new)
+last_shape describes old new meta appended shown = (
+  shape_of meta ∷ [],
+  (shape_of meta, shown, refl),
+  ap (map shape_of) appended ∙ map-append shape_of old (meta ∷ []),
+)

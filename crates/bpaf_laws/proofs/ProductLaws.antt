@@ -1,12 +1,13 @@
--- Products keep to the laws where their fields do.
+-- Products keep to the laws where their fields do, and catch no want of memory.
 use Rattle.std.specs.Prelude.{true, false, Result, Ok, Err, None, if◌then◌else◌}
-use Rattle.std.proofs.Common.{inl, inr}
+use Rattle.std.proofs.Common.{inl, inr, subst, arith}
 use Rattle.bpaf_line.specs.{Situation.Situation, Messages.is_memory, declared.error.Error.Error}
-use Rattle.bpaf_laws.proofs.Keeping.{AnswersLawfully, LawfulAnswer, lawful_answer, lawful_by, reads_both}
-use Rattle.bpaf_laws.proofs.Keeping.{keeps_trans, keeps_current}
+use Rattle.bpaf_laws.proofs.Keeping.{AnswersLawfully, LawfulAnswer, lawful_answer, lawful_by}
+use Rattle.bpaf_laws.proofs.Keeping.{reads_both, keeps_trans, keeps_current}
 use Rattle.bpaf_laws.specs.Product.{BothReads, BothEval, BothOutcome, FailFastOutcome, joined}
-use Rattle.bpaf_laws.specs.{Product.ProductOutcome, Laws.Lawful, Transform.MapReads}
-use Rattle.bpaf_laws.specs.Reading.{Readings, Outcome}
+use Rattle.bpaf_laws.specs.Product.{ProductOutcome}
+use Rattle.bpaf_laws.specs.Laws.{Lawful, IsNotMemory, Spares, WithoutMemory}
+use Rattle.bpaf_laws.specs.{Combinators.MapReads, Reading.Readings, Reading.Outcome}
 
 module _ {A B : Type 0} {first : Outcome A} {rest : Outcome B} {rf : Readings A} {rr : Readings B}
     (la : Lawful A first rf) (lb : Lawful B rest rr) where
@@ -64,3 +65,38 @@ product_lawful {V} {T} {fields} {reads} makes l = lawful_by answers
         })
     answers s (Err e) t o =
         rw o.2 (keeps_current s o.0 None (l.err s o.0 e o.1), l.named s o.0 e o.1)
+
+-- what isn't want of memory comes of others that isn't either
+rest_spared : {A B : Type 0} (a : Result A Error) (b : Result B Error) → IsNotMemory (joined a b)
+    → IsNotMemory b
+rest_spared a b spared = grind arith
+
+module _ {A B : Type 0} (first : Outcome A) (rest without : Outcome B)
+    (rests : Spares rest without) where
+  -- an evaluation of a field and those after it
+  spared_both : (s t : Situation) (r : Result (A × B) Error) → BothEval A B first rest s r t
+      → IsNotMemory r → BothEval A B (WithoutMemory first) without s r t
+  spared_both s t r ran spared = record {
+    a = ran.a;
+    middle = ran.middle;
+    b = ran.b;
+    first_ran = (ran.first_ran, ran.spared);
+    rest_ran = rests ran.middle t ran.b ran.rest_ran
+        (rest_spared ran.a ran.b (subst IsNotMemory ran.answer spared));
+    spared = ran.spared;
+    answer = ran.answer;
+  }
+
+  -- a field and those after it
+  pub both_spares : Spares (BothOutcome first rest) (BothOutcome (WithoutMemory first) without)
+  both_spares s t r ran spared = grind (arith, spared_both s t)
+
+  -- where a failing first field is the end
+  pub fail_fast_spares :
+      Spares (FailFastOutcome first rest) (FailFastOutcome (WithoutMemory first) without)
+  fail_fast_spares s t r ran spared = grind (arith, rests)
+
+-- a product of fields
+pub product_spares : {V T : Type 0} (fields without : Outcome V) (makes : V → T → Type 0)
+    → Spares fields without → Spares (ProductOutcome fields makes) (ProductOutcome without makes)
+product_spares fields without makes spares s t r ran spared = grind (arith, spares)

@@ -1,24 +1,24 @@
 -- Which short names each type shows, by those that its inner parsers show.
 use Rattle.std.proofs.Common.{◌≡◌, List, [], ◌∷◌, ◌++◌, ℕ, Option, Some, None, refl, ap, ap₂}
 use Rattle.std.proofs.Common.{Result, ◌∙◌, append_assoc, append-nil, arith}
-use Rattle.std.specs.declared.alloc.AllocError.{AllocError}
 use Rattle.std.proofs.lemmas.List.Concat.{flat_map-append}
+use Rattle.std.specs.declared.alloc.AllocError.{AllocError}
 use Rattle.bpaf_doc.specs.Shape.{Adjacent, Shown, Shape, Shapes, Or, Optional, Required, Many, Part}
 use Rattle.bpaf_doc.specs.Shape.{Suffix, Subsection, CustomUsage, none, ◌then◌, members, shape_of}
-use Rattle.bpaf_doc.specs.Shape.{alternatives, shapes_of}
-use Rattle.bpaf_doc.specs.Walks.{parts, parts_of_all, shorts_of_argument, shorts_of_flag}
+use Rattle.bpaf_doc.specs.Shape.{alternatives, shapes_of, parts, parts_of_all, shorts_of_argument}
+use Rattle.bpaf_doc.specs.Shape.{shorts_of_flag}
 use Rattle.bpaf_doc.specs.{declared.meta.MetaInfo.MetaInfo, declared.doc.Piece.Piece}
-use Rattle.bpaf_words.specs.Spelling.{ShortNames}
+use Rattle.bpaf_words.specs.Line.{ShortNames}
 use Rattle.bpaf_text.specs.Named.{KeyWithValue, Named}
-use Rattle.bpaf_laws.specs.Choice.{ChoiceDescribes, either_shape}
-use Rattle.bpaf_laws.specs.Default.{DefaultDescribes, OptionalDescribes}
-use Rattle.bpaf_laws.specs.Hide.{SectionDescribes, TitledDescribes, UsageDescribes, usage_pieces}
+use Rattle.bpaf_laws.specs.Choice.{ChoiceDescribes, either_shape, ChoicesDescribes, Nested}
+use Rattle.bpaf_laws.specs.Combinators.{DefaultDescribes, OptionalDescribes, SectionDescribes}
+use Rattle.bpaf_laws.specs.Combinators.{TitledDescribes, UsageDescribes, usage_pieces}
+use Rattle.bpaf_laws.specs.Combinators.{ManyDescribes, SomeDescribes}
 use Rattle.bpaf_laws.specs.Product.{BothDescribes, LastDescribes, ProductDescribes}
-use Rattle.bpaf_laws.specs.ShownNames.{FieldsShowNames, ShowsNames, all_shorts, joined_shorts}
-use Rattle.bpaf_laws.specs.ShownNames.{of_arguments, of_flags, shorts_of}
-use Rattle.bpaf_laws.specs.{Argument.argument_shape, Flag.flag_shape, Choices.ChoicesDescribes}
-use Rattle.bpaf_laws.specs.{Choices.Nested, AdjacentGroup.GroupDescribes, Repeat.ManyDescribes}
-use Rattle.bpaf_laws.specs.{Repeat.SomeDescribes, Command.Called, Command.CommandDescribes}
+use Rattle.bpaf_laws.specs.Laws.{FieldsShowNames, ShowsNames, all_shorts, joined_shorts}
+use Rattle.bpaf_laws.specs.Laws.{of_arguments, of_flags, shorts_of}
+use Rattle.bpaf_laws.specs.Leaves.{argument_shape, flag_shape}
+use Rattle.bpaf_laws.specs.{Adjacent.GroupDescribes, Command.Called, Command.CommandDescribes}
 
 -- a parser of one shape, of these names
 pub one_shape : {shape : Shape} {names : ShortNames} → shorts_of (parts shape) ≡ names

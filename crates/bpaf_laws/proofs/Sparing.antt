@@ -1,10 +1,13 @@
--- A turn catches no want of memory, and where it stops it takes nothing.
-use Rattle.std.proofs.Common.{◌≡◌, Bool, true, false, Result, Option}
-use Rattle.std.proofs.Common.{arith}
-use Rattle.bpaf_line.specs.declared.error.Message.{Message}
-use Rattle.bpaf_line.specs.{declared.error.Error.Error, Messages.is_memory, Situation.Situation}
-use Rattle.bpaf_laws.specs.Spared.{Spares, WithoutMemory, NoneTakesNothing}
-use Rattle.bpaf_laws.specs.{Reading.Outcome, Turn.TurnOutcome, Turn.stops_step}
+-- Want of memory is caught by no turn and no repeat.
+use Rattle.std.proofs.Common.{◌≡◌, Bool, true, false, Result, Option, arith, ℕ, List, [], ◌∷◌, Ok}
+use Rattle.std.proofs.Common.{Err, None, inl, inr}
+use Rattle.std.proofs.lemmas.Bool.{both_ways}
+use Rattle.bpaf_line.specs.{declared.error.Message.Message, declared.error.Error.Error}
+use Rattle.bpaf_line.specs.{Messages.is_memory, Situation.Situation}
+use Rattle.bpaf_laws.specs.Combinators.{TurnOutcome, stops_step, is_nil, Turns, UntilStop}
+use Rattle.bpaf_laws.specs.Combinators.{UntilError, UntilRest, stops, rests, ManyOutcome}
+use Rattle.bpaf_laws.specs.Combinators.{SomeOutcome, CollectOutcome, CountOutcome, LastOutcome}
+use Rattle.bpaf_laws.specs.{Laws.Spares, Laws.WithoutMemory, Laws.NoneTakesNothing, Reading.Outcome}
 
 -- what isn't want of memory comes of an inner answer that isn't want of memory either
 abbrev pub CatchesNoMemory : {T R : Type 0} → (Outcome T → Outcome R) → Outcome T → Type 0
@@ -13,7 +16,7 @@ CatchesNoMemory combined inner = Spares (combined inner) (combined (WithoutMemor
 -- an error at which a turn stops isn't want of memory
 pub stop_spared : (catches : Bool) (m : Message) (untouched : Bool)
     → stops_step catches m untouched ≡ true → is_memory m ≡ false
-stop_spared catches m untouched stops = grind arith
+stop_spared catches m untouched stopping = grind arith
 
 module _ {T : Type 0} (inner : Outcome T) where
   -- a turn catches no want of memory
@@ -25,3 +28,76 @@ module _ {T : Type 0} (inner : Outcome T) where
   pub none_takes_nothing : (catches : Bool) (s t : Situation) (r : Result (Option T) Error)
       → TurnOutcome inner catches true s r t → NoneTakesNothing s r t
   none_takes_nothing catches s t r o = grind arith
+
+-- Repeats catch no want of memory.
+
+module _ {T : Type 0} (inner : Outcome T) where
+  -- turns that answered values are those of inner answers that aren't want of memory
+  steps_spared : (catches first : Bool) (s : Situation) (vs : List T) (t : Situation)
+      → Turns inner catches first s vs t → Turns (WithoutMemory inner) catches first s vs t
+  steps_spared catches first s [] t o = o
+  steps_spared catches first s (v ∷ vs) t o =
+      (o.0, ((o.1.0, tt), o.1.1), steps_spared catches false o.0 vs t o.2)
+
+  -- so are those until one stops
+  until_stop_spared : (catches first : Bool) (s : Situation) (vs : List T) (t : Situation)
+      → UntilStop inner catches first s vs t → UntilStop (WithoutMemory inner) catches first s vs t
+  until_stop_spared catches first s vs t run = record {
+    last = run.last;
+    steps = steps_spared catches first s vs run.last run.steps;
+    stop = spared_step inner catches (is_nil vs) run.last t (Ok None) run.stop tt;
+  }
+
+  -- and until one fails of another error
+  until_error_spared : (catches first : Bool) (s : Situation) (e : Error) (t : Situation)
+      → UntilError inner catches first s e t → is_memory e.0 ≡ false
+      → UntilError (WithoutMemory inner) catches first s e t
+  until_error_spared catches first s e t run spared = record {
+    values = run.values;
+    last = run.last;
+    steps = steps_spared catches first s run.values run.last run.steps;
+    fails = spared_step inner catches (is_nil run.values) run.last t (Err e) run.fails spared;
+  }
+
+  -- many catches no want of memory
+  pub spared_many : (catches : Bool)
+      → CatchesNoMemory (λ outcome. ManyOutcome outcome catches) inner
+  spared_many catches s t r o spared =
+      grind (arith, until_stop_spared catches true s, until_error_spared catches true s)
+
+  -- nor does some
+  pub spared_some : (catches : Bool) (message : List ℕ)
+      → CatchesNoMemory (λ outcome. SomeOutcome outcome catches message) inner
+  spared_some catches message s t r o spared =
+      grind (arith, until_stop_spared catches true s, until_error_spared catches true s)
+
+  -- nor does collect
+  pub spared_collect : {C : Type 0} (catches : Bool) (fills : List T → C → Type 0)
+      → CatchesNoMemory (λ outcome. CollectOutcome outcome catches fills) inner
+  spared_collect catches fills s t (Ok v) o spared =
+      (o.0, until_stop_spared catches true s o.0 t o.1, o.2)
+  spared_collect catches fills s t (Err e) (inl failed) spared =
+      inl (until_error_spared catches true s e t failed spared)
+  spared_collect catches fills s t (Err e) (inr refused) spared =
+      absurd (both_ways (is_memory e.0) spared refused.2)
+
+  -- nor does a run that stopped or rested
+  until_rest_spared : (s : Situation) (vs : List T) (t : Situation) → UntilRest inner s vs t
+      → UntilRest (WithoutMemory inner) s vs t
+  until_rest_spared s vs t (stops run) = stops (until_stop_spared false false s vs t run)
+  until_rest_spared s vs t (rests v is o same) = rests v is (o, tt) same
+
+  -- nor does count
+  pub spared_count : CatchesNoMemory (λ outcome. CountOutcome outcome) inner
+  spared_count s t (Ok n) o spared = (o.0, until_rest_spared s o.0 t o.1, o.2)
+  spared_count s t (Err e) o spared = until_error_spared false false s e t o spared
+
+  -- nor does last
+  pub spared_last : CatchesNoMemory (λ outcome. LastOutcome outcome) inner
+  spared_last s t (Ok v) (inl run) spared = inl (run.0, until_rest_spared s _ t run.1)
+  spared_last s t (Ok v) (inr again) spared =
+      inr (again.0, until_rest_spared s [] again.0 again.1, (again.2, tt))
+  spared_last s t (Err e) (inl fault) spared =
+      inl (until_error_spared false false s e t fault spared)
+  spared_last s t (Err e) (inr again) spared =
+      inr (again.0, until_rest_spared s [] again.0 again.1, (again.2, spared))

@@ -1,12 +1,13 @@
--- A choice of two parsers, both of which are evaluated from the same situation.
+-- Choices, of two parsers or of any number.
 use Rattle.std.specs.Prelude.{◌≡◌, ◌⊎◌, ◌<◌, ℕ, Bool, true, false, ◌&&◌, ◌++◌, length, Result, Ok}
-use Rattle.std.specs.{Prelude.Err, Prelude.Option, Prelude.Some, Prelude.None, Result.IsOk}
-use Rattle.bpaf_doc.specs.Shape.{Shape, Or, alternatives, members}
-use Rattle.bpaf_line.specs.Conflicts.{IsLeftmost, TakeTheSame, IsWinner, ConflictsSaved}
-use Rattle.bpaf_line.specs.{Messages.is_memory, Messages.is_wrong_input, Combining.Combines}
+use Rattle.std.specs.Prelude.{Err, Option, Some, None, List, [], ◌∷◌, codes}
+use Rattle.std.specs.Result.{IsOk}
+use Rattle.bpaf_doc.specs.Shape.{Shape, Or, alternatives, members, Skip}
+use Rattle.bpaf_line.specs.Taking.{IsLeftmost, TakeTheSame, IsWinner, ConflictsSaved}
+use Rattle.bpaf_line.specs.Messages.{is_memory, is_wrong_input, Combines}
 use Rattle.bpaf_line.specs.{Situation.Situation, Situation.is_taken, declared.error.Error.Error}
-use Rattle.bpaf_laws.specs.Reading.{Readings, Outcome}
-use Rattle.bpaf_laws.specs.{Spared.IsNotMemory, Turn.is_untouched}
+use Rattle.bpaf_laws.specs.Combinators.{is_untouched, GivesRefusal, PureOutcome, PureReads}
+use Rattle.bpaf_laws.specs.{Reading.Readings, Reading.Outcome, Laws.IsNotMemory}
 
 -- how many names the path has
 abbrev pub depth : Situation → ℕ
@@ -152,3 +153,34 @@ pub record LeftmostIsChosen {T : Type 0} (first second : Outcome T) (s : Situati
 abbrev pub LeftmostWins : {T : Type 0} → Outcome T → Outcome T → Outcome T
 LeftmostWins first second s (Ok v) t = LeftmostIsChosen first second s v t
 LeftmostWins first second s (Err e) t = ChoiceOutcome first second s (Err e) t
+
+-- choices of two, nested to the left: what stands before, chosen against the meaning of each parser
+-- in turn
+abbrev pub Nested : {A : Type 1} {P : Type 0} → (A → A → A) → (P → A) → A → List P → A
+Nested choice meaning before [] = before
+Nested choice meaning before (p ∷ ps) = Nested choice meaning (choice before (meaning p)) ps
+
+-- the message of a choice without parsers
+abbrev pub no_choice : List ℕ
+no_choice = codes "Invalid choice usage"
+
+-- the choice of all parsers: of one, whatever that answers, also its refusals; without parsers a
+-- refusal
+abbrev pub ChoicesOutcome : {T P : Type 0} → (P → Outcome T) → List P → Outcome T
+ChoicesOutcome outcome [] = PureOutcome (GivesRefusal no_choice)
+ChoicesOutcome outcome (p ∷ ps) = Nested ChoiceOutcome outcome (outcome p) ps
+
+-- a reading of one parser; without parsers there is none
+abbrev pub ChoicesReads : {T P : Type 0} → (P → Readings T) → List P → Readings T
+ChoicesReads reads [] = PureReads (λ v. ⊥)
+ChoicesReads reads (p ∷ ps) = Nested ChoiceReads reads (reads p) ps
+
+-- what all parsers show; without parsers nothing is shown
+abbrev pub ChoicesDescribes : {P : Type 0} → (P → Shape → Type 0) → List P → Shape → Type 0
+ChoicesDescribes describes [] shape = shape ≡ Skip
+ChoicesDescribes describes (p ∷ ps) shape = Nested ChoiceDescribes describes (describes p) ps shape
+
+-- the leftmost wins in the choice of all parsers
+abbrev pub LeftmostOfAll : {T P : Type 0} → (P → Outcome T) → List P → Outcome T
+LeftmostOfAll outcome [] s r t = Unit {0}
+LeftmostOfAll outcome (p ∷ ps) s r t = Nested LeftmostWins outcome (outcome p) ps s r t

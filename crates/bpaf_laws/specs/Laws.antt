@@ -1,9 +1,105 @@
--- What every parser keeps to, whatever it parses.
-use Rattle.std.specs.Prelude.{◌≡◌, ℕ, true, false, not, ◌&&◌, List, ◌++◌, Ok, Err}
-use Rattle.bpaf_line.specs.Situation.{Situation, is_taken, is_open, in_scope}
-use Rattle.bpaf_line.specs.{Marks.KeepsMarks, declared.error.Error.Error}
+-- What every parser keeps to, whatever it parses: its answers, the names of its refusals and of
+-- its keys, counts of places, and want of memory, which is caught nowhere.
+use Rattle.std.specs.Prelude.{◌≡◌, false, List, ◌++◌, codes, ⊤, ℕ, Bool, Option, Some, None, true}
+use Rattle.std.specs.Prelude.{not, ◌&&◌, Ok, Err, ◌+◌, length, ◌⊎◌, Result, []}
+use Rattle.std.specs.List.{flat_map}
+use Rattle.bpaf_doc.specs.Shape.{Shape, Part, members, parts, parts_of_all, shorts_of_arguments}
+use Rattle.bpaf_doc.specs.Shape.{shorts_of_flags}
+use Rattle.bpaf_doc.specs.{declared.doc.Piece.Piece, Print.printed, Print.Print, Print.Prints}
+use Rattle.bpaf_line.specs.declared.failure.ParseFailure.{ParseFailure}
+use Rattle.bpaf_line.specs.Situation.{Situation, is_taken, is_open, in_scope, count_below}
+use Rattle.bpaf_line.specs.Situation.{open_count}
+use Rattle.bpaf_line.specs.{declared.error.Message.Message, Rendering.Renders, Marks.KeepsMarks}
+use Rattle.bpaf_line.specs.{declared.error.Error.Error, Messages.is_memory}
+use Rattle.bpaf_pages.specs.Help.{PageTexts, help_text}
 use Rattle.bpaf_laws.specs.Reading.{Share, Readings, Outcome}
-use Rattle.bpaf_laws.specs.RefusalNames.{NamesAnswer}
+use Rattle.bpaf_words.specs.Line.{ShortNames}
+use Rattle.bpaf_line.specs.declared.failure.ParseFailure.TheVariants as failure
+use Rattle.bpaf_line.specs.declared.error.Message.TheVariants as message
+
+-- the text of a version
+abbrev pub version_text : List Piece → Print
+version_text version full = codes "Version: " ++ printed full version ++ codes "\n"
+
+-- a version is shown; or memory for it is wanted
+abbrev pub ShowsVersion : List Piece → ParseFailure → Type 0
+ShowsVersion version (failure.Stdout doc full) = Prints (version_text version) doc × (full ≡ false)
+ShowsVersion version (failure.Stderr doc) = ⊥
+ShowsVersion version failure.Memory = ⊤
+
+-- The twelve names of refusals, and the failures that have one.
+
+-- the names
+pub data Refusal : Type 0 where
+  -- memory is wanted
+  no_memory : Refusal
+  -- a word of letters has two readings
+  ambiguous_word : Refusal
+  -- help, or the version, is shown
+  help_or_version : Refusal
+  -- nothing of what a parser looks for is there
+  missing_item : Refusal
+  -- a key has no value behind it
+  missing_value : Refusal
+  -- a word stands on the wrong side of `--`
+  wrong_side : Refusal
+  -- a text means no value
+  unreadable_text : Refusal
+  -- a check doesn't let a value pass
+  refused_value : Refusal
+  -- what looks at no item, or a repeat that wants a value, has none
+  no_value : Refusal
+  -- an item is excluded by one that was taken
+  conflict : Refusal
+  -- a key stands once more than it may
+  repeated_key : Refusal
+  -- no parser took an item
+  unexpected_item : Refusal
+
+-- the name of a message that isn't the answer of a run inside the parser
+abbrev pub refusal_of : Message → Option Refusal
+refusal_of message.Memory = Some no_memory
+refusal_of (message.Ambiguity word number) = Some ambiguous_word
+refusal_of (message.Missing items) = Some missing_item
+refusal_of (message.Expected items place) = Some missing_item
+refusal_of (message.NoArgument place metavar) = Some missing_value
+refusal_of (message.StrictPos place metavar) = Some wrong_side
+refusal_of (message.NonStrictPos place metavar) = Some wrong_side
+refusal_of (message.ParseFailed place fault) = Some unreadable_text
+refusal_of (message.GuardFailed place text) = Some refused_value
+refusal_of (message.NoEnv name) = Some no_value
+refusal_of (message.ParseSome text) = Some no_value
+refusal_of (message.ParseFail text) = Some no_value
+refusal_of (message.PureFailed text) = Some no_value
+refusal_of (message.Conflict winner place) = Some conflict
+refusal_of (message.OnlyOnce earlier place) = Some repeated_key
+refusal_of (message.Unconsumed place) = Some unexpected_item
+refusal_of (message.ParseFailure inner) = None
+
+-- a help page at some path, or a version
+pub data IsPage (doc : List Piece) : Type 0 where
+  help : (path : List (List ℕ)) (texts : PageTexts) (shape extra : Shape)
+      → Prints (help_text path texts shape extra) doc → IsPage doc
+  version : (text : List Piece) → Prints (version_text text) doc → IsPage doc
+
+-- a failure of this name, of any run: want of memory; a page; or the text of a message of this name
+-- in some situation
+pub data HasName : Refusal → ParseFailure → Type 0 where
+  wanting : HasName no_memory failure.Memory
+  shown : (doc : List Piece) (full : Bool) → IsPage doc
+      → HasName help_or_version (failure.Stdout doc full)
+  told : (name : Refusal) (m : Message) (s : Situation) (doc : List Piece)
+      → refusal_of m ≡ Some name → Renders m s (failure.Stderr doc)
+      → HasName name (failure.Stderr doc)
+
+-- a failure that has one of the names
+abbrev pub HasSomeName : ParseFailure → Type 0
+HasSomeName f = (name : Refusal) × HasName name f
+
+-- a message that is the answer of a run inside has one of the names
+abbrev pub NamesAnswer : Message → Type 0
+NamesAnswer (message.ParseFailure f) = HasSomeName f
+NamesAnswer m = ⊤
 
 -- the places taken since a situation
 abbrev pub newly : Situation → Situation → Share
@@ -47,3 +143,73 @@ pub record Lawful (T : Type 0) (outcome : Outcome T) (reads : Readings T) : Type
   pub err : (s t : Situation) (e : Error) → outcome s (Err e) t → Keeps s t
   -- where an error is the answer of a run inside, that has one of the twelve names
   pub named : (s t : Situation) (e : Error) → outcome s (Err e) t → NamesAnswer e.0
+
+-- how many places an evaluation newly took
+abbrev pub taken_count : Situation → Situation → ℕ
+taken_count s t = count_below (newly s t) (length s.context.line)
+
+-- after an Ok as many places fewer are present as were newly taken
+abbrev pub CountFalls : {T : Type 0} → Outcome T → Type 0
+CountFalls {T} outcome =
+    (s t : Situation) (v : T) → outcome s (Ok v) t → open_count s ≡ open_count t + taken_count s t
+
+-- an answer that isn't want of memory
+abbrev pub IsNotMemory : {T : Type 0} → Result T Error → Type 0
+IsNotMemory (Ok v) = Unit {0}
+IsNotMemory (Err e) = is_memory e.0 ≡ false
+
+-- an outcome's answers that aren't want of memory
+abbrev pub WithoutMemory : {T : Type 0} → Outcome T → Outcome T
+WithoutMemory outcome s r t = outcome s r t × IsNotMemory r
+
+-- of an outcome, what is answered where nothing inside wanted memory: each answer that isn't want
+-- of memory is one of these
+abbrev pub Spares : {T : Type 0} → Outcome T → Outcome T → Type 0
+Spares {T} outcome without = (s t : Situation) (r : Result T Error) → outcome s r t → IsNotMemory r
+    → without s r t
+
+-- None leaves the situation as it was
+abbrev pub NoneTakesNothing : {T : Type 0} → Outcome (Option T)
+NoneTakesNothing s (Ok None) t = t ≡ s
+NoneTakesNothing s r t = Unit {0}
+
+-- each answer but an inner value leaves the situation as it was
+abbrev pub DefaultTakesNothing : {T : Type 0} → Outcome T → Outcome T
+DefaultTakesNothing inner s (Ok v) t = inner s (Ok v) t ⊎ (t ≡ s)
+DefaultTakesNothing inner s (Err e) t = t ≡ s
+
+-- none
+abbrev pub no_shorts : ShortNames
+no_shorts = record { flags = []; arguments = [] }
+
+-- of flags alone
+abbrev pub of_flags : List ℕ → ShortNames
+of_flags shorts = record { flags = shorts; arguments = [] }
+
+-- of arguments alone
+abbrev pub of_arguments : List ℕ → ShortNames
+of_arguments shorts = record { flags = []; arguments = shorts }
+
+-- those of the one, and of the other
+abbrev pub joined_shorts : ShortNames → ShortNames → ShortNames
+joined_shorts one other =
+    record { flags = one.flags ++ other.flags; arguments = one.arguments ++ other.arguments }
+
+-- those of some parsers, one after the other
+abbrev pub all_shorts : {P : Type 0} → (P → ShortNames) → List P → ShortNames
+all_shorts names ps = record {
+  flags = flat_map (λ p. (names p).flags) ps;
+  arguments = flat_map (λ p. (names p).arguments) ps;
+}
+
+-- those of flags and of arguments among parts
+abbrev pub shorts_of : List Part → ShortNames
+shorts_of items = record { flags = shorts_of_flags items; arguments = shorts_of_arguments items }
+
+-- whichever shape a parser shows, these are its short names, those of keys inside commands too
+pub record ShowsNames (describes : Shape → Type 0) (names : ShortNames) : Type 0 where
+  pub each : (shape : Shape) → describes shape → shorts_of (parts shape) ≡ names
+
+-- so it is with fields
+pub record FieldsShowNames (describe : List Shape → Type 0) (names : ShortNames) : Type 0 where
+  pub each : (all : List Shape) → describe all → shorts_of (parts_of_all (members all)) ≡ names

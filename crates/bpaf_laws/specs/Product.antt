@@ -5,7 +5,7 @@ use Rattle.bpaf_doc.specs.Shape.{Shape, And, members}
 use Rattle.bpaf_line.specs.Situation.{Situation, Context, with_current}
 use Rattle.bpaf_line.specs.{Messages.is_memory, declared.error.Error.Error}
 use Rattle.bpaf_laws.specs.Reading.{Share, Readings, Outcome, Joins}
-use Rattle.bpaf_laws.specs.Spared.{IsNotMemory}
+use Rattle.bpaf_laws.specs.Laws.{IsNotMemory}
 
 -- the join of the fields' shares, and the fields' values
 pub record BothReads (A B : Type 0) (first : Readings A) (rest : Readings B) (context : Context)

@@ -2,18 +2,19 @@
 use Rattle.std.proofs.Common.{◌≡◌, ◌≢◌, ℕ, ◌-◌, ◌*◌, ◌<◌, ◌≤◌, ◌==◌, Bool, true, false, List}
 use Rattle.std.proofs.Common.{length, map, refl, ap, sym, ◌∙◌, subst, arith, Some, None, Option}
 use Rattle.std.proofs.Common.{IfSome, slice_get, nat_lt, ◌&&◌, ◌||◌, is_some, option_to_list, not}
-use Rattle.std.specs.{Int.from_bool, Prelude.string_bytes}
+use Rattle.std.proofs.Common.{vec_capacity, []}
 use Rattle.std.proofs.lemmas.Bool.{lt-ltb, and_right, or_right, or_left, eq-eqb}
-use Rattle.std.proofs.{Common.vec_capacity, Common.[], lemmas.Bool.Decides.nat_tests}
-use Rattle.bpaf_line.specs.Remembered.{no_aside, IsRemembered}
-use Rattle.bpaf_index.specs.Bits.{has_bit, IsFirstClear}
+use Rattle.std.proofs.lemmas.Bool.Decides.{nat_tests}
+use Rattle.std.specs.{Int.from_bool, Prelude.string_bytes}
+use Rattle.bpaf_line.specs.Inside.{no_aside, IsRemembered, situation_of, BitsOf, IsSound}
+use Rattle.bpaf_line.specs.Inside.{shared_entries}
 use Rattle.bpaf_line.specs.Situation.{Situation, Context, beginning, open_count, is_open, is_taken}
 use Rattle.bpaf_line.specs.Situation.{is_marker, is_dealt_place, TakenInTurn, IsFirstPresent}
-use Rattle.bpaf_index.specs.Chained.{AreBehind, HasNoKeyFrom}
-use Rattle.bpaf_line.specs.Inside.{situation_of, BitsOf, IsSound, shared_entries}
 use Rattle.bpaf_line.specs.declared.state.State.TheInside.{Inside}
-use Rattle.bpaf_index.proofs.Counts.{count_below-all, count_below-fewer}
-use Rattle.bpaf_line.proofs.{Remembered.remembers_nothing, Sound.first_by_bits, Sound.chains_anew}
+use Rattle.bpaf_index.specs.Bits.{has_bit, IsFirstClear}
+use Rattle.bpaf_index.specs.Chained.{AreBehind, HasNoKeyFrom}
+use Rattle.bpaf_index.proofs.BitSets.{count_below-all, count_below-fewer}
+use Rattle.bpaf_line.proofs.Sound.{remembers_nothing, first_by_bits, chains_anew}
 
 -- at the beginning of a run all places of the line are present but that of the marker
 pub taken_at_beginning : (context : Context) (p : ℕ) → is_taken (beginning context) p

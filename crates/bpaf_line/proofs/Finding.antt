@@ -3,22 +3,23 @@ use Rattle.std.proofs.Common.{◌≡◌, ℕ, ◌+◌, ◌<◌, ◌≤◌, ◌==
 use Rattle.std.proofs.Common.{◌++◌, Option, Some, None, length, refl, ap, sym, ◌∙◌, subst, arith}
 use Rattle.std.proofs.Common.{⊎_elim, if◌then◌else◌, nat_lt, slice_get, slice_index, bytes_eq}
 use Rattle.std.proofs.Common.{MatchOption, min}
-use Rattle.std.specs.{Bool.then_some, Option.option_map_or}
 use Rattle.std.proofs.lemmas.Bool.{cases_lt, cases_Bool, true≢false, ltb-true, ltb-false, le-ltb}
 use Rattle.std.proofs.lemmas.Bool.{lt-leb, not-true, and_left, and_right, and_parts}
-use Rattle.std.proofs.{lemmas.List.Folds.list_any-append}
+use Rattle.std.proofs.lemmas.List.Folds.{list_any-append}
+use Rattle.std.specs.{Bool.then_some, Option.option_map_or}
 use Rattle.bpaf_doc.specs.Names.{Names}
 use Rattle.bpaf_base.specs.declared.arg.Arg.{Arg}
 use Rattle.bpaf_base.specs.declared.arg.Arg.TheVariants.{Short, Long, ArgWord, Word, PosWord}
 use Rattle.bpaf_base.specs.Items.{is_key_of, is_argument_key, is_positional}
 use Rattle.bpaf_index.specs.Chained.{Chained, names_of, IsChainStart, IsChainStartOf, HasWalked}
-use Rattle.bpaf_index.specs.{Chained.HasNoKeyFrom, Classes.class_of}
-use Rattle.bpaf_line.specs.Finding.{HasNoneBefore, IsFirstAmong, IsFirstAlong}
+use Rattle.bpaf_index.specs.Chained.{HasNoKeyFrom, class_of}
+use Rattle.bpaf_line.specs.Taking.{HasNoneBefore, IsFirstAmong, IsFirstAlong, open_item, is_match}
+use Rattle.bpaf_line.specs.Taking.{HasNone, IsFirst}
 use Rattle.bpaf_line.specs.Situation.{Situation, is_marker, in_scope, is_open, is_taken, item_at}
-use Rattle.bpaf_line.specs.Taking.{open_item, is_match, HasNone, IsFirst}
-use Rattle.bpaf_line.specs.{Chaining.AreChainsOf, Situation.AreTaken, Situation.IsFirstPresent}
+use Rattle.bpaf_line.specs.Situation.{AreTaken, IsFirstPresent}
+use Rattle.bpaf_line.specs.Inside.{AreChainsOf}
 use Rattle.bpaf_index.proofs.Chained.{same_class, early_set}
-use Rattle.bpaf_line.proofs.{Matches.open_item_there, Places.open_not_taken}
+use Rattle.bpaf_line.proofs.Places.{open_item_there, open_not_taken}
 
 module _ (test : Arg → Bool) (s : Situation) where
   -- what isn't open passes no test

@@ -1,12 +1,6 @@
-pub use Rattle.bpaf_index.proofs.Counts
+pub use Rattle.bpaf_index.proofs.BitSets
 pub mod Places
-pub mod Matches
 pub mod Finding
-pub mod FirstPresent
-pub mod Remembered
 pub mod Sound
-pub mod OpenItems
-pub mod Conflicts
-pub mod Beginning
 pub mod Marks
-pub mod Winners
+pub mod Beginning

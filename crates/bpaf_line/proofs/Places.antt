@@ -1,20 +1,27 @@
--- Places: what a place changes that is put on the trail, or taken off it. The layers above cite the
--- lemmas on a place that is taken.
+-- Places: what a place changes that is put on the trail, or taken off it, and which present one is
+-- the first that passes a test. The layers above cite the lemmas on a place that is taken.
 use Rattle.std.proofs.Common.{◌≡◌, ◌≢◌, ℕ, zero, suc, ◌+◌, ◌-◌, ◌<◌, ◌≤◌, Bool, true, false, not}
 use Rattle.std.proofs.Common.{◌&&◌, ◌||◌, [], ◌∷◌, ◌++◌, length, take, refl, ap, sym, ◌∙◌, subst}
-use Rattle.std.proofs.Common.{arith, if◌then◌else◌, ⊎_elim, nat_lt, slice_index, add-one, min}
-use Rattle.std.specs.Int.{from_bool}
+use Rattle.std.proofs.Common.{arith, if◌then◌else◌, ⊎_elim, nat_lt, slice_index, add-one, min, List}
+use Rattle.std.proofs.Common.{Option, Some, None, option_and_then, slice_get, get_or, find, ◌⊎◌}
+use Rattle.std.proofs.Common.{inl, inr}
 use Rattle.std.proofs.lemmas.Bool.{cases_lt, cases_eq, eq-eqb, or_right, and_left, and_right}
 use Rattle.std.proofs.lemmas.Bool.{and_from, and_parts, not-true, cases_Bool, true≢false, le-leb}
+use Rattle.std.proofs.lemmas.Bool.{lt-ltb}
 use Rattle.std.proofs.lemmas.List.{take_at, take-take, take-append-le, get_or_push}
 use Rattle.std.proofs.lemmas.List.{get_or_append_left, get_or-take, length_push, length-take-le}
 use Rattle.std.proofs.lemmas.List.{take_more, take_all}
-use Rattle.std.proofs.{lemmas.Bool.lt-ltb, lemmas.Bool.Decides.nat_tests}
+use Rattle.std.proofs.{lemmas.Bool.Decides.nat_tests, lemmas.Option.slice_get-get_or}
+use Rattle.std.specs.{Int.from_bool, Option.option_map_or, List.range_with_len, Prelude.cond}
 use Rattle.bpaf_line.specs.Situation.{Situation, is_on, is_taken, is_marker, in_scope, is_open}
 use Rattle.bpaf_line.specs.Situation.{count_below, open_count, take_place, with_trail, cut_to}
-use Rattle.bpaf_line.specs.Situation.{TakenInTurn, IsFirstPresent}
-use Rattle.bpaf_index.proofs.Counts.{count_below-same, count_below-fewer, count_below-some}
-use Rattle.bpaf_index.proofs.{Places.is_on_push, Places.on_others, Counts.count_below-most}
+use Rattle.bpaf_line.specs.Situation.{TakenInTurn, IsFirstPresent, item_at, IsNextOpen, HasNoneOpen}
+use Rattle.bpaf_line.specs.Situation.{first_present, IsFirstPresentWithin}
+use Rattle.bpaf_line.specs.Taking.{is_match, open_item, value_after, open_items_from}
+use Rattle.bpaf_index.proofs.BitSets.{count_below-same, count_below-fewer, count_below-some}
+use Rattle.bpaf_index.proofs.BitSets.{is_on_push, on_others, count_below-most}
+use Rattle.bpaf_base.specs.Items.{value_text, any_item}
+use Rattle.bpaf_base.specs.{declared.arg.Arg.TheVariants.ArgWord, declared.arg.Arg.Arg}
 
 -- a present place of the scope lies in the scope
 pub open_in_scope : (s : Situation) (p : ℕ) → is_open s p ≡ true → (s.start ≤ p) × (p < s.end)
@@ -197,3 +204,173 @@ taken_other s p q other = put_other s p q other
 pub taken_stays : (s : Situation) (p q : ℕ) → is_taken s q ≡ true
     → is_taken (take_place s p) q ≡ true
 taken_stays s p q taken = put_stays s p q taken
+
+-- an open item is the item of its place, which is open
+pub open_item_there : (s : Situation) (p : ℕ) (item : Arg) → open_item s p ≡ Some item
+    → (is_open s p ≡ true) × (item_at s p ≡ Some item)
+open_item_there s p item there = of_test (is_open s p) (item_at s p) there
+  where
+    of_test : (b : Bool) (at : Option Arg) → (if b then at else None) ≡ Some item
+        → (b ≡ true) × (at ≡ Some item)
+    of_test true at e = (refl, e)
+    of_test false at e = cc
+
+module _ (test : Arg → Bool) (s : Situation) (p : ℕ) (matches : is_match test s p ≡ true) where
+  -- both hold where an item under a condition passes the test
+  both_of : (b : Bool) (at : Option Arg) → option_map_or test (if b then at else None) false ≡ true
+      → (b ≡ true) × (option_map_or test at false ≡ true)
+  both_of true at e = (refl, e)
+  both_of false at e = cc
+
+  -- a match is present, and in scope
+  pub match_is_open : is_open s p ≡ true
+  match_is_open = (both_of (is_open s p) (item_at s p) matches).0
+
+  -- and the item there passes the test
+  pub match_has_item : option_map_or test (item_at s p) false ≡ true
+  match_has_item = (both_of (is_open s p) (item_at s p) matches).1
+
+-- a place that is present and in scope has an item
+pub open_has_item : (s : Situation) (p : ℕ) → is_open s p ≡ true → is_match any_item s p ≡ true
+open_has_item s p there =
+    has (is_open s p) (is_marker s.context.marker p) there
+    (not_marker (nat_lt p (length s.context.line)) (is_marker s.context.marker p)
+    (is_on s.trail p) (open_not_taken s p there))
+    (slice_get s.context.line p) (get_or s.context.line p (ArgWord []))
+    (slice_get-get_or s.context.line p (ArgWord []) (open_in_line s p there))
+  where
+    not_marker : (within marker on : Bool) → (not within || (marker || on)) ≡ false → marker ≡ false
+    not_marker within false on e = refl
+    not_marker true true on e = cc
+    not_marker false true on e = cc
+
+    has : (b marker : Bool) → b ≡ true → marker ≡ false → (at : Option Arg) (item : Arg)
+        → at ≡ Some item
+        → option_map_or any_item (if b then (if marker then None else at) else None) false ≡ true
+    has true false e f (Some x) item at = refl
+    has true false e f None item at = cc
+    has true true e f at item is = cc
+    has false marker e f at item is = cc
+
+-- the place behind a key with a value is present and in scope, and has this text
+pub value_is_open : (s : Situation) (p : ℕ) (text : List ℕ) → value_after s p ≡ Some text
+    → (is_open s (p + 1) ≡ true) × (option_and_then value_text (item_at s (p + 1)) ≡ Some text)
+value_is_open s p text value = of_test (is_open s (p + 1)) (item_at s (p + 1)) value
+  where
+    of_test : (b : Bool) (at : Option Arg)
+        → option_and_then value_text (if b then at else None) ≡ Some text
+        → (b ≡ true) × (option_and_then value_text at ≡ Some text)
+    of_test true at e = (refl, e)
+    of_test false at e = cc
+
+-- a place that is open is the first of those from it on
+pub items_from : (s : Situation) (p : ℕ) (item : Arg) → p < length s.context.line
+    → open_item s p ≡ Some item → open_items_from s p ≡ (p, item) ∷ open_items_from s (p + 1)
+items_from s p item within there =
+    let more : length s.context.line - p ≡ suc (length s.context.line - (p + 1)) = omega arith in
+    rw (more, there) refl
+
+-- a place that isn't open is none of them
+pub items_past : (s : Situation) (p : ℕ) → p < length s.context.line → open_item s p ≡ None
+    → open_items_from s p ≡ open_items_from s (p + 1)
+items_past s p within lacking =
+    let more : length s.context.line - p ≡ suc (length s.context.line - (p + 1)) = omega arith in
+    rw (more, lacking) refl
+
+-- the line's end has none behind it
+none_past_line : (s : Situation) (p : ℕ) → length s.context.line ≤ p → open_items_from s p ≡ []
+none_past_line s p past = let none : length s.context.line - p ≡ 0 = omega arith in rw none refl
+
+-- a place that isn't open is none of them, also past the line
+items_past_closed : (s : Situation) (p : ℕ) → is_open s p ≡ false
+    → open_items_from s p ≡ open_items_from s (p + 1)
+items_past_closed s p closed = ⊎_elim
+    (λ (within : p < length s.context.line). items_past s p within
+    (ap (λ b. if b then item_at s p else None) closed))
+    (λ (past : length s.context.line ≤ p). none_past_line s p past
+    ∙ sym (none_past_line s (p + 1) (omega arith))) (cases_lt p (length s.context.line))
+
+-- nor are some places one after another that aren't
+items_past_all : (s : Situation) (n p : ℕ) → ((q : ℕ) → p ≤ q → q < p + n → is_open s q ≡ false)
+    → open_items_from s p ≡ open_items_from s (p + n)
+items_past_all s zero p closed = let none : p + 0 ≡ p = omega arith in ap (open_items_from s)
+    (sym none)
+items_past_all s (suc n) p closed =
+    let next : p + suc n ≡ (p + n) + 1 = omega arith in
+    let before : open_items_from s p ≡ open_items_from s (p + n) = items_past_all s n p
+    (λ q lower upper. closed q lower (omega arith)) in
+    before ∙ (items_past_closed s (p + n) (closed (p + n) (omega arith) (omega arith))
+    ∙ sym (ap (open_items_from s) next))
+
+-- the next open place is the first of those from one on
+pub items_next : (s : Situation) (low p : ℕ) (item : Arg) → IsNextOpen s low p
+    → open_item s p ≡ Some item → open_items_from s low ≡ (p, item) ∷ open_items_from s (p + 1)
+items_next s low p item next there =
+    let far : low + (p - low) ≡ p = omega (arith, next.from) in
+    let passed : open_items_from s low ≡ open_items_from s (low + (p - low)) = items_past_all s
+    (p - low) low (λ q lower upper. next.passed q lower (omega (arith, next.from))) in
+    passed ∙ (ap (open_items_from s) far
+    ∙ items_from s p item (open_in_line s p next.present) there)
+
+-- where no place from one on is open there are none
+pub items_none : (s : Situation) (low : ℕ) → HasNoneOpen s low → open_items_from s low ≡ []
+items_none s low none =
+    items_past_all s (length s.context.line) low (λ q lower upper. none q lower)
+    ∙ none_past_line s (low + length s.context.line) (omega arith)
+
+-- no number of a row passes a test
+none_found : (test : ℕ → Bool) (n low : ℕ) → ((q : ℕ) → low ≤ q → q < low + n → test q ≡ false)
+    → find test (range_with_len low n) ≡ None
+none_found test zero low fails = refl
+none_found test (suc n) low fails =
+    ap (λ x. cond x (Some low) (find test (range_with_len (low + 1) n)))
+    (fails low (omega arith) (omega arith))
+    ∙ none_found test n (low + 1) (λ q from within. fails q (omega arith) (omega arith))
+
+-- the first number of a row that passes a test
+first_found : (test : ℕ → Bool) (n low p : ℕ) → low ≤ p → p < low + n → test p ≡ true
+    → ((q : ℕ) → low ≤ q → q < p → test q ≡ false) → find test (range_with_len low n) ≡ Some p
+first_found test zero low p from within passes fails = absurd (omega arith)
+first_found test (suc n) low p from within passes fails =
+    by_first (test low) refl
+    (λ above. first_found test n (low + 1) p above (omega arith) passes
+    (λ q later before. fails q (omega arith) before))
+  where
+    by_first : (here : Bool) → test low ≡ here
+        → (low + 1 ≤ p → find test (range_with_len (low + 1) n) ≡ Some p)
+        → cond here (Some low) (find test (range_with_len (low + 1) n)) ≡ Some p
+    by_first true is later = ap Some (is_low (cases_lt low p))
+      where
+        is_low : (low < p) ⊎ (p ≤ low) → low ≡ p
+        is_low (inl below) = absurd (true≢false (sym is ∙ fails low (omega arith) below))
+        is_low (inr past) = omega arith
+    by_first false is later = later (behind (cases_lt low p))
+      where
+        behind : (low < p) ⊎ (p ≤ low) → low + 1 ≤ p
+        behind (inl below) = omega arith
+        behind (inr past) =
+            let same : p ≡ low = omega arith in
+            absurd (true≢false (sym passes ∙ ap test same ∙ is))
+
+-- a place that isn't below the line's end is taken
+taken_past : (s : Situation) (q : ℕ) → length s.context.line ≤ q → is_taken s q ≡ true
+taken_past s q past = grind (arith, nat_tests)
+
+-- no place is present, where all of the line are taken
+pub none_present : (s : Situation) (low high top : ℕ) → top ≡ min high (length s.context.line)
+    → ((q : ℕ) → low ≤ q → q < top → is_taken s q ≡ true) → first_present s low high ≡ None
+none_present s low high top is taken =
+    none_found (λ q. not (is_taken s q)) (high - low) low
+    (λ q from within. ap not (by_end q from within (cases_lt q top)))
+  where
+    by_end : (q : ℕ) → low ≤ q → q < low + (high - low) → (q < top) ⊎ (top ≤ q)
+        → is_taken s q ≡ true
+    by_end q from within (inl below) = taken q from below
+    by_end q from within (inr past) = taken_past s q (omega arith)
+
+-- the first present place of the line
+pub some_present : (s : Situation) (low high top p : ℕ) → top ≡ min high (length s.context.line)
+    → p < top → IsFirstPresentWithin s low top p → first_present s low high ≡ Some p
+some_present s low high top p is below first =
+    first_found (λ q. not (is_taken s q)) (high - low) low p first.from (omega arith)
+    (ap not (first.present below)) (λ q from before. ap not (first.passed q from before))

@@ -1,14 +1,47 @@
--- What a `State` and its `Steps` are kept as, and what they then mean.
-use Rattle.std.specs.Prelude.{◌≡◌, ◌≤◌, ◌<◌, ◌*◌, ℕ, List, length, map, string_bytes, IfSome}
-use Rattle.std.specs.Prelude.{slice_get, Some, vec_capacity, Option, []}
-use Rattle.std.specs.declared.alloc.Global.{Global}
-use Rattle.std.specs.{Option.option_map_or, declared.rc.RcSlice.RcSlice, Rc.rc_slice_items}
-use Rattle.bpaf_line.specs.declared.state.State.TheInside.{Inside}
-use Rattle.bpaf_index.specs.{Bits.has_bit, Chained.HasNoKeyFrom}
-use Rattle.bpaf_line.specs.Situation.{Situation, is_taken, open_count, TakenInTurn, IsFirstPresent}
-use Rattle.bpaf_line.specs.{Remembered.IsRemembered, Chaining.AreChainsOf, Changes.Changes}
-use Rattle.bpaf_line.specs.{TakenPlaces.places_of, Situation.AreTaken}
+-- What a `State` and its `Steps` are kept as, and what they then mean: what is kept of a left
+-- scope and of taken places, and the chains of the line. No contract above this crate speaks of
+-- these.
+use Rattle.std.specs.Prelude.{ℕ, ◌≡◌, ◌≤◌, ◌+◌, ◌&&◌, List, [], ◌∷◌, length, nat_le, nat_lt, ◌<◌}
+use Rattle.std.specs.Prelude.{◌*◌, map, string_bytes, IfSome, slice_get, Some, vec_capacity, Option}
+use Rattle.std.specs.{Int.from_bool, declared.alloc.Global.Global, Option.option_map_or}
+use Rattle.std.specs.{declared.rc.RcSlice.RcSlice, Rc.rc_slice_items}
+use Rattle.bpaf_line.specs.Situation.{Situation, with_scope, cut_to, open_count, IsFirstPresent}
+use Rattle.bpaf_line.specs.Situation.{is_taken, TakenInTurn, AreTaken}
+use Rattle.bpaf_line.specs.declared.taken.TakenPlaces.TheVariants.{Empty, One, Many}
 use Rattle.bpaf_line.specs.declared.mark.Steps.TheInside.{Inside as InsideSteps}
+use Rattle.bpaf_line.specs.{declared.aside.Aside.Aside, declared.taken.TakenPlaces.TakenPlaces}
+use Rattle.bpaf_line.specs.{declared.state.State.TheInside.Inside, Marks.Changes}
+use Rattle.bpaf_index.specs.{Chained.Chained, Chained.AreBehind, Chained.HasNoKeyFrom, Bits.has_bit}
+
+-- a scope of no places
+abbrev pub no_aside : Aside
+no_aside = record { start = 0; end = 0; left = 0; first = 0; taken = 0 }
+
+-- how many of some places lie in a scope
+abbrev pub count_within : ℕ → ℕ → List ℕ → ℕ
+count_within start end [] = 0
+count_within start end (p ∷ places) =
+    from_bool (nat_le start p && nat_lt p end) + count_within start end places
+
+-- how many places are present in another scope, and which is the first
+pub record IsSurvey (s : Situation) (start end left place : ℕ) : Type 0 where
+  pub counted : left ≡ open_count (with_scope s start end)
+  pub first : IsFirstPresent (with_scope s start end) place
+
+-- the scope was so when only the first of the taken places were
+pub record IsRemembered (s : Situation) (aside : Aside) : Type 0 where
+  pub taken : aside.taken ≤ length s.trail
+  pub survey : IsSurvey (cut_to s aside.taken) aside.start aside.end aside.left aside.first
+
+-- the places, whatever they are kept in
+abbrev pub places_of : TakenPlaces → List ℕ
+places_of Empty = []
+places_of (One place) = place ∷ []
+places_of (Many places) = places.items
+
+-- the chains are those of the situation's line, and what they passed is taken
+abbrev pub AreChainsOf : Situation → Chained → Type 0
+AreChainsOf s chains = AreBehind s.context.line (is_taken s) chains
 
 -- the entries of an environment that is kept where there is one
 abbrev pub shared_entries : Option (RcSlice (List ℕ × List ℕ) Global) → List (List ℕ × List ℕ)

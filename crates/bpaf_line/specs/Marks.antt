@@ -1,7 +1,17 @@
 -- Marks: how far a parse was, what it is when it goes back, and what it did since.
-use Rattle.std.specs.Prelude.{◌≡◌, ◌≤◌, ◌++◌, length, take, drop, IfSome}
-use Rattle.bpaf_line.specs.Situation.{Situation, PresentInTurn}
-use Rattle.bpaf_line.specs.{declared.mark.Mark.Mark, Changes.Changes}
+use Rattle.std.specs.Prelude.{ℕ, List, Option, ◌≡◌, ◌≤◌, ◌++◌, length, take, drop, IfSome}
+use Rattle.bpaf_line.specs.{Situation.Situation, Situation.PresentInTurn, declared.mark.Mark.Mark}
+
+-- the places that were taken, the conflicts and the names, in order, and what was left
+pub record Changes : Type 0 where
+  pub taken : List ℕ
+  pub conflicts : List (ℕ × ℕ)
+  pub path : List (List ℕ)
+  pub start : ℕ
+  pub end : ℕ
+  pub current : Option ℕ
+
+-- Marks: how far a parse was, what it is when it goes back, and what it did since.
 
 -- how far a parse is
 abbrev pub mark_of : Situation → Mark

@@ -1,5 +1,5 @@
--- The classes of refusals.
-use Rattle.std.specs.Prelude.{Bool, true, false}
+-- The classes of refusals, and the one refusal of two parsers of which either would have served.
+use Rattle.std.specs.Prelude.{Bool, true, false, ◌≡◌, ◌++◌, ◌⊎◌, ◌||◌, if◌then◌else◌}
 use Rattle.bpaf_line.specs.declared.error.Message.{Message}
 use Rattle.bpaf_line.specs.declared.error.Message.TheVariants.{Memory, NoEnv, ParseSome, ParseFail}
 use Rattle.bpaf_line.specs.declared.error.Message.TheVariants.{PureFailed, Missing, ParseFailure}
@@ -36,3 +36,18 @@ is_wrong_input (NoArgument place metavar) = true
 is_wrong_input (Unconsumed place) = true
 is_wrong_input (Ambiguity word number) = true
 is_wrong_input _ = false
+
+-- of two refusals that aren't want of memory: what a whole inner run answered; else all that is
+-- missing, for which memory may be wanted; else the first where it can't be caught, else the second
+abbrev pub CombinesSpared : Message → Message → Message → Type 0
+CombinesSpared (ParseFailure failure) second both = both ≡ ParseFailure failure
+CombinesSpared first (ParseFailure failure) both = both ≡ ParseFailure failure
+CombinesSpared (Missing items) (Missing others) both = (both ≡ Missing (items ++ others))
+    ⊎ (both ≡ Memory)
+CombinesSpared first second both = both ≡ (if can_catch first then second else first)
+
+-- want of memory, where one of the two is
+abbrev pub Combines : Message → Message → Message → Type 0
+Combines first second both =
+    (((is_memory first || is_memory second) ≡ true) × (both ≡ Memory))
+    ⊎ (((is_memory first || is_memory second) ≡ false) × CombinesSpared first second both)

@@ -1,20 +1,113 @@
--- The texts of messages.
-use Rattle.std.specs.Prelude.{ℕ, ◌≡◌, ◌+◌, max, true, List, [], ◌∷◌, ◌++◌, map, drop, codes, chars}
-use Rattle.std.specs.Prelude.{encode_utf8, encode_utf8_all, slice_get, Option, Some, None}
-use Rattle.std.specs.{Prelude.unwrap_or, Prelude.option_and_then, Prelude.⊤, Option.option_map_or}
-use Rattle.bpaf_doc.specs.Print.{printed, in_backticks}
-use Rattle.bpaf_doc.specs.{Fold.folded_whole, PartText.part_text, Shape.Part, Shape.part_of}
+-- The texts of messages, and what these show of missing items and of those of the line.
+use Rattle.std.specs.Prelude.{Bool, true, false, ◌&&◌, ◌||◌, ◌==◌, List, nat_lt, nat_le, [], ◌∷◌}
+use Rattle.std.specs.Prelude.{map, filter, if◌then◌else◌, ℕ, zero, suc, ◌+◌, ◌++◌, codes, Option}
+use Rattle.std.specs.Prelude.{Some, None, option_map, option_and_then, ◌≡◌, max, drop, chars}
+use Rattle.std.specs.Prelude.{encode_utf8, encode_utf8_all, slice_get, unwrap_or, ⊤}
+use Rattle.std.specs.{List.best_of, Option.option_map_or}
+use Rattle.bpaf_doc.specs.Shape.{Part, Any, Positional, Command, Flag, Argument, part_text, part_of}
+use Rattle.bpaf_doc.specs.Print.{printed, in_backticks, folded_whole}
+use Rattle.bpaf_line.specs.Missing.{Missed, missed_of}
+use Rattle.bpaf_line.specs.Situation.{Situation, line_item, first_present}
 use Rattle.bpaf_line.specs.declared.error.Message.TheVariants.{Memory, NoEnv, ParseSome, ParseFail}
 use Rattle.bpaf_line.specs.declared.error.Message.TheVariants.{PureFailed, Missing, ParseFailure}
 use Rattle.bpaf_line.specs.declared.error.Message.TheVariants.{StrictPos, NonStrictPos, NoArgument}
 use Rattle.bpaf_line.specs.declared.error.Message.TheVariants.{ParseFailed, GuardFailed, Conflict}
 use Rattle.bpaf_line.specs.declared.error.Message.TheVariants.{Unconsumed, Ambiguity, Expected}
-use Rattle.bpaf_line.specs.Shown.{shown_item, word_at, quoted_word, key_behind}
-use Rattle.bpaf_line.specs.{declared.error.Message.TheVariants.OnlyOnce, MissingText.furthest}
-use Rattle.bpaf_line.specs.{MissingText.told_parts, declared.error.Message.Message, Missing.Missed}
-use Rattle.bpaf_line.specs.{Missing.missed_of, Within.first_present, Situation.Situation}
+use Rattle.bpaf_line.specs.declared.error.Message.TheVariants.{OnlyOnce}
 use Rattle.bpaf_line.specs.declared.failure.ParseFailure.{ParseFailure as Failure}
+use Rattle.bpaf_line.specs.{Taking.open_item, declared.error.Message.Message}
+use Rattle.bpaf_base.specs.declared.arg.Arg.TheVariants.{Short, Long, ArgWord, Word, PosWord}
+use Rattle.bpaf_base.specs.{declared.arg.Arg.Arg, Items.display}
 use Rattle.bpaf_line.specs.declared.failure.ParseFailure.TheVariants as failure
+
+-- one item was looked for no less far on than another: from a later place, or from the same one in
+-- a scope that begins no earlier
+abbrev pub reaches : Missed → Missed → Bool
+reaches m n = nat_lt n.position m.position || (m.position == n.position && nat_le n.start m.start)
+
+-- the item that was looked for furthest on, the last of equals
+abbrev pub furthest : Missed → List Missed → Missed
+furthest first more = best_of reaches first more
+
+-- two items were looked for in one scope
+abbrev pub in_one_scope : Missed → Missed → Bool
+in_one_scope m n = m.start == n.start && m.«end» == n.«end»
+
+-- a command
+abbrev pub is_command : Part → Bool
+is_command (Any metavar help anywhere) = false
+is_command (Positional metavar help) = false
+is_command (Command name short help inner) = true
+is_command (Flag name shorts env help) = false
+is_command (Argument name shorts metavar env help) = false
+
+-- parts without the commands behind the first one; the flag tells that one stands before them
+abbrev pub one_command : Bool → List Part → List Part
+one_command after [] = []
+one_command after (part ∷ rest) =
+    if after && is_command part then one_command after rest
+    else part ∷ one_command (after || is_command part) rest
+
+-- the parts that are told: those looked for in the scope of the furthest one
+abbrev pub told_parts : Missed → List Missed → List Part
+told_parts far all = one_command false (map (λ m. m.item) (filter (in_one_scope far) all))
+
+-- how the item at a place is printed; past the line nothing is
+abbrev pub shown_item : Situation → ℕ → List ℕ
+shown_item s p = option_map_or display (line_item s p) []
+
+-- the text of a word; a key has none
+abbrev pub word_of : Arg → Option (List ℕ)
+word_of (Short c attached word) = None
+word_of (Long name attached word) = None
+word_of (ArgWord text) = Some text
+word_of (Word text) = Some text
+word_of (PosWord text) = Some text
+
+-- the text of a key; a word has none
+abbrev pub key_of : Arg → Option (List ℕ)
+key_of (Short c attached word) = Some word
+key_of (Long name attached word) = Some word
+key_of (ArgWord text) = None
+key_of (Word text) = None
+key_of (PosWord text) = None
+
+-- the word at a place
+abbrev pub word_at : Situation → ℕ → Option (List ℕ)
+word_at s p = option_and_then word_of (line_item s p)
+
+-- the text of the key at the next place, where it is present and in scope
+abbrev pub key_behind : Situation → ℕ → Option (List ℕ)
+key_behind s p = option_and_then key_of (open_item s (p + 1))
+
+-- what stands between a key and its value, by whether it is attached
+abbrev pub sign_behind : Bool → List ℕ
+sign_behind true = codes "="
+sign_behind false = codes " "
+
+-- a key as it stands before its value; of a word nothing
+abbrev pub before_value : Arg → List ℕ
+before_value (Short c attached word) = display (Short c attached word) ++ sign_behind attached
+before_value (Long name attached word) = display (Long name attached word) ++ sign_behind attached
+before_value (ArgWord text) = []
+before_value (Word text) = []
+before_value (PosWord text) = []
+
+-- the key before a place, as it stands before its value
+abbrev pub key_before : Situation → ℕ → List ℕ
+key_before s zero = []
+key_before s (suc p) = option_map_or before_value (line_item s p) []
+
+-- a word; an empty one as two quotes behind the key before it
+abbrev pub quoted : List ℕ → List ℕ → List ℕ
+quoted key [] = key ++ codes "\"\""
+quoted key (c ∷ word) = c ∷ word
+
+-- the word at a place, as a message tells it that says that it can't be read
+abbrev pub quoted_word : Situation → ℕ → Option (List ℕ)
+quoted_word s p = option_map (quoted (key_before s p)) (word_at s p)
+
+-- The texts of messages.
 
 -- a word stands on the wrong side of the marker, and should stand on this one
 abbrev pub side_text : List ℕ → List ℕ → List ℕ

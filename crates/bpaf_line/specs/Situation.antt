@@ -2,12 +2,13 @@
 -- The layers above speak by `item_at`, `is_taken`, `conflict_at`, `in_scope`, `is_open`,
 -- `open_count` and the steps `take_place`, `with_scope`, `with_path`, `with_current`, `beginning`
 -- alone; how what is taken is kept is this crate's own affair.
-use Rattle.std.specs.Prelude.{ℕ, ◌≡◌, ◌<◌, ◌≤◌, ◌==◌, Bool, true, false, not, ◌&&◌, ◌||◌, List}
-use Rattle.std.specs.Prelude.{[], ◌∷◌, ◌++◌, length, take, Option, Some, None, nat_lt}
-use Rattle.std.specs.Prelude.{nat_le, if◌then◌else◌, slice_get, slice_index, option_to_list}
-use Rattle.std.specs.Prelude.{option_map, find, reverse}
+use Rattle.std.specs.Prelude.{ℕ, ◌≡◌, ◌<◌, ◌≤◌, ◌==◌, Bool, true, false, not, ◌&&◌, ◌||◌, List, []}
+use Rattle.std.specs.Prelude.{◌∷◌, ◌++◌, length, take, Option, Some, None, nat_lt, nat_le}
+use Rattle.std.specs.Prelude.{if◌then◌else◌, slice_get, slice_index, option_to_list, option_map}
+use Rattle.std.specs.Prelude.{find, reverse, ◌-◌}
+use Rattle.std.specs.List.{range_with_len}
 use Rattle.bpaf_base.specs.declared.arg.Arg.{Arg}
-pub use Rattle.bpaf_index.specs.Places.{is_on, count_below}
+pub use Rattle.bpaf_index.specs.Bits.{is_on, count_below}
 
 -- what no evaluation changes: the line, the place of its first `--`, where one stands there, the
 -- environment and the set name
@@ -149,3 +150,23 @@ pub record IsNextOpen (s : Situation) (low p : ℕ) : Type 0 where
 -- no place from one on is present and in scope
 abbrev pub HasNoneOpen : Situation → ℕ → Type 0
 HasNoneOpen s low = (q : ℕ) → low ≤ q → is_open s q ≡ false
+
+-- the unbroken stretch of places from one on that are present and in scope
+pub record IsStretchFrom (s : Situation) (from end : ℕ) : Type 0 where
+  pub ordered : from ≤ end
+  pub present : (p : ℕ) → from ≤ p → p < end → is_open s p ≡ true
+  pub stops : is_open s end ≡ false
+
+-- each place that is present and in scope here is taken there
+abbrev pub HasNoneInBoth : Situation → Situation → Type 0
+HasNoneInBoth here there = (p : ℕ) → is_open here p ≡ true → is_taken there p ≡ true
+
+-- the first place that is present and in scope here, and present there
+pub record IsFirstInBoth (s other : Situation) (p : ℕ) : Type 0 where
+  pub present : is_open s p ≡ true
+  pub there : is_taken other p ≡ false
+  pub before : (q : ℕ) → q < p → is_open s q ≡ true → is_taken other q ≡ true
+
+-- the first present place from one on, below another
+abbrev pub first_present : Situation → ℕ → ℕ → Option ℕ
+first_present s low high = find (λ p. not (is_taken s p)) (range_with_len low (high - low))

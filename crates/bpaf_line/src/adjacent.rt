@@ -1,6 +1,6 @@
 //! Stretches of present places.
 ghost use Rattle.std.specs.Prelude.{◌≡◌, ◌≤◌, length, MatchOption};
-ghost use Rattle.bpaf_line.specs.Stretches.{IsStretchFrom, HasNoneInBoth, IsFirstInBoth};
+ghost use Rattle.bpaf_line.specs.Situation.{IsStretchFrom, HasNoneInBoth, IsFirstInBoth};
 
 use crate::state::State;
 use bpaf_index::bits;

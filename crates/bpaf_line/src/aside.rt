@@ -1,6 +1,6 @@
 //! A scope that a parse has left, to go back to it at no cost.
 ghost use Rattle.std.specs.Prelude.{◌≡◌, ◌&&◌, ◌==◌, if◌then◌else◌, nat_le};
-ghost use Rattle.bpaf_line.specs.Remembered.{no_aside, count_within};
+ghost use Rattle.bpaf_line.specs.Inside.{no_aside, count_within};
 
 use crate::state::lies_within;
 

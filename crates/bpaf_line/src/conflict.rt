@@ -3,7 +3,7 @@ ghost use Rattle.std.specs.Prelude.{ℕ, ◌≡◌, ◌&&◌, ◌++◌, List, no
 ghost use Rattle.std.specs.Prelude.{if◌then◌else◌};
 ghost use Rattle.bpaf_line.specs.Situation.{is_on, is_taken, conflict_at, last_of};
 ghost use Rattle.bpaf_line.specs.Marks.{HasReached, CanRedo, KeepsMarks, undone, redone};
-ghost use Rattle.bpaf_line.specs.Conflicts.{IsWinner, ConflictsSaved, first_conflict, leftmost_of};
+ghost use Rattle.bpaf_line.specs.Taking.{IsWinner, ConflictsSaved, first_conflict, leftmost_of};
 
 use crate::mark::{Mark, Steps};
 use crate::state::State;

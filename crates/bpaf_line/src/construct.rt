@@ -1,13 +1,12 @@
 //! How a state begins, and how it is copied.
 ghost use Rattle.std.specs.Prelude.{ℕ, ◌≡◌, ◌*◌, ◌<◌, ◌≤◌, length, IfOk, OnOk, IfSome, All, IsUtf8};
 ghost use Rattle.std.specs.Prelude.{map, option_map, option_to_list, string_bytes, [], true};
-ghost use Rattle.bpaf_words.specs.Arguments.{words_of, given_of, name_of, env_of, entries_of};
 ghost use Rattle.std.specs.Option.{option_map_or};
-ghost use Rattle.bpaf_words.specs.Spelling.{knowing, known_at};
-ghost use Rattle.bpaf_line.specs.Constructing.{Constructs};
-ghost use Rattle.bpaf_index.specs.Bits.{has_bit};
-ghost use Rattle.bpaf_line.specs.Inside.{shared_entries};
+ghost use Rattle.bpaf_words.specs.Arguments.{words_of, given_of, name_of, env_of, entries_of};
+ghost use Rattle.bpaf_words.specs.Line.{knowing, known_at};
 ghost use Rattle.bpaf_line.specs.Situation.{is_marker, beginning};
+ghost use Rattle.bpaf_line.specs.{Taking.Constructs, Inside.shared_entries};
+ghost use Rattle.bpaf_index.specs.Bits.{has_bit};
 
 use crate::aside::Aside;
 use crate::error::Message;

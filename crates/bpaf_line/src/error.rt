@@ -1,7 +1,7 @@
 //! What an evaluation refuses with, and which refusals are caught.
 ghost use Rattle.std.specs.Prelude.{◌≡◌, MatchResult, false, if◌then◌else◌};
-ghost use Rattle.bpaf_line.specs.Combining.{Combines, CombinesSpared};
-ghost use Rattle.bpaf_line.specs.Messages.{is_answer, is_memory, can_catch, is_wrong_input};
+ghost use Rattle.bpaf_line.specs.Messages.{Combines, CombinesSpared, is_answer, is_memory};
+ghost use Rattle.bpaf_line.specs.Messages.{can_catch, is_wrong_input};
 
 use crate::failure::ParseFailure;
 use crate::missing::MissingItems;
@@ -278,7 +278,7 @@ impl<T: Drop> From<AllocFailed<T>> for Error {
 
 impl From<LineFault> for Message {
     ghost use Rattle.std.specs.Prelude.{◌≡◌};
-    ghost use Rattle.bpaf_line.specs.Constructing.{message_of};
+    ghost use Rattle.bpaf_line.specs.Taking.{message_of};
 
     ghost from_gives = { λ fault message. message ≡ message_of fault };
 

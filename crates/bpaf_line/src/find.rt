@@ -1,10 +1,9 @@
 //! The first key with one of some names, and the first word, found along the chains of those.
 ghost use Rattle.std.specs.Prelude.{◌≡◌, ◌≤◌, [], IfSome, MatchOption, length};
 ghost use Rattle.bpaf_base.specs.Items.{is_argument_key, is_positional};
-ghost use Rattle.bpaf_line.specs.Chaining.{AreChainsOf};
-ghost use Rattle.bpaf_line.specs.Situation.{AreTaken};
-ghost use Rattle.bpaf_line.specs.Finding.{HasNoneBefore, IsFirstAmong, IsFirstAlong};
-ghost use Rattle.bpaf_line.specs.Taking.{is_match, HasNone, IsFirst};
+ghost use Rattle.bpaf_line.specs.Taking.{HasNoneBefore, IsFirstAmong, IsFirstAlong, is_match};
+ghost use Rattle.bpaf_line.specs.Taking.{HasNone, IsFirst};
+ghost use Rattle.bpaf_line.specs.{Inside.AreChainsOf, Situation.AreTaken};
 
 use crate::state::State;
 use bpaf_doc::Text;

@@ -14,7 +14,7 @@ impl<'a> Iterator for ArgsIter<'a> {
     type Item = (usize, &'a Arg);
 
     ghost use Rattle.std.specs.Iterator.{YieldsFirstBy, item_count};
-    ghost use Rattle.bpaf_line.specs.OpenItems.{items_left};
+    ghost use Rattle.bpaf_line.specs.Taking.{items_left};
 
     ghost next_gives = { YieldsFirstBy (λ x. (x.0, x.1.now)) items_left };
 

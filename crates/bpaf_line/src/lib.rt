@@ -3,7 +3,7 @@
 //! It stands on `bpaf_doc`, on `bpaf_words`, whose lines it holds, and on `bpaf_index`, by which it
 //! finds places. For the layers above:
 //!
-//! - [`State::construct`] begins a parse at the line of the words (specs/Constructing.antt), and
+//! - [`State::construct`] begins a parse at the line of the words (specs/Taking.antt), and
 //!   [`State::construct_numbers`] does so where negative numbers are words.
 //! - [`State`] is a parse in progress. Contracts see it as a `Situation` (specs/Situation.antt),
 //!   and the layers above speak of one only through its accessors (`item_at`, `is_taken`,
@@ -12,10 +12,10 @@
 //!   affair. What the steps change of it is in proofs/Places.antt. The marker, which is the first
 //!   `--`, is taken from the start and is the item of no place.
 //! - The take calls meet their relation of specs/Taking.antt for every answer, over the whole
-//!   state. [`State::items_iter`] walks the `open_items` (specs/OpenItems.antt).
+//!   state. [`State::items_iter`] walks the `open_items` (specs/Taking.antt).
 //! - Of two branches that went on from one mark [`State::pick_winner`] tells which took the
 //!   leftmost place that only one took; [`State::save_conflicts`] notes what the other took, and
-//!   [`State::conflict`] answers such a note (specs/Conflicts.antt; `conflict_at` is the accessor).
+//!   [`State::conflict`] answers such a note (specs/Taking.antt; `conflict_at` is the accessor).
 //!   What is noted is present.
 //! - [`State::undo`] goes back to a [`Mark`], and [`State::redo`] does the [`Steps`] since one
 //!   again (specs/Marks.antt). Each call that changes a state leaves what its earlier marks go back
@@ -23,9 +23,9 @@
 //! - [`Message`], [`Error`] and [`ParseFailure`] say why a parser, or a whole run, gives no value.
 //!   A [`Message`] is want of memory (`is_memory`), one past which an optional parser goes on
 //!   (`can_catch`), one for which the words are at fault (`is_wrong_input`; specs/Messages.antt),
-//!   or none of these. Of two there is one by `Combines` (specs/Combining.antt). Its text is
-//!   `message_text` (specs/Rendering.antt), made of what the line shows (specs/Shown.antt) and of
-//!   the items that were looked for furthest on (specs/MissingText.antt); `bpaf_messages` tells it.
+//!   or none of these. Of two there is one by `Combines`. Its text is `message_text`, made of what
+//!   the line shows and of the items that were looked for furthest on (specs/Rendering.antt);
+//!   `bpaf_messages` tells it.
 //!
 //! The source of the design is bpaf's `args.rs` and `error.rs`.
 #![tactic(auto)]

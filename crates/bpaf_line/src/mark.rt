@@ -2,7 +2,7 @@
 ghost use Rattle.std.specs.Prelude.{◌≡◌, ◌++◌, ◌<◌, ◌≤◌, ◌-◌, length, min, if◌then◌else◌, IfOk};
 ghost use Rattle.std.specs.Prelude.{OnOk, OnErr};
 ghost use Rattle.bpaf_line.specs.Situation.{with_trail, with_scope, cut_to, PresentInTurn};
-ghost use Rattle.bpaf_line.specs.Remembered.{IsSurvey};
+ghost use Rattle.bpaf_line.specs.Inside.{IsSurvey};
 ghost use Rattle.bpaf_line.specs.Marks.{mark_of, HasReached, Fits, undone, KeepsMarks, steps_since};
 ghost use Rattle.bpaf_line.specs.Marks.{CanRedo, redone};
 
@@ -53,7 +53,7 @@ impl Drop for Steps {
 }
 
 impl Model for Steps {
-    ghost use Rattle.bpaf_line.specs.Changes.{Changes};
+    ghost use Rattle.bpaf_line.specs.Marks.{Changes};
 
     ghost Value = { Changes };
 

@@ -4,19 +4,17 @@ ghost use Rattle.std.specs.Prelude.{if◌then◌else◌, not, nat_lt, nat_le, le
 ghost use Rattle.std.specs.Prelude.{false, Bool, MatchOption, option_copied, option_map};
 ghost use Rattle.std.specs.Prelude.{option_and_then, Some, None, IfOk, OnOk, OnErr, IfSome};
 ghost use Rattle.std.specs.Prelude.{string_bytes, map, List, ℕ, ◌*◌, ◌≢◌};
-ghost use Rattle.bpaf_index.specs.Bits.{has_bit, IsFirstClear};
 ghost use Rattle.std.specs.Borrow.{Bor};
+ghost use Rattle.bpaf_index.specs.Bits.{has_bit, IsFirstClear};
 ghost use Rattle.bpaf_doc.specs.Shape.{part_of};
-ghost use Rattle.bpaf_base.specs.declared.arg.Arg.{Arg};
-ghost use Rattle.bpaf_base.specs.Items.{is_positional, word_text};
-ghost use Rattle.bpaf_line.specs.MissingIn.{IsMissingIn};
-ghost use Rattle.bpaf_line.specs.OpenItems.{open_items, open_items_from, items_left};
+ghost use Rattle.bpaf_base.specs.{declared.arg.Arg.Arg, Items.is_positional, Items.word_text};
+ghost use Rattle.bpaf_line.specs.Taking.{IsMissingIn, open_items, open_items_from, items_left};
+ghost use Rattle.bpaf_line.specs.Taking.{HasNoneBefore, HasNone, IsFirst, value_after, open_item};
+ghost use Rattle.bpaf_line.specs.Taking.{entry_of};
 ghost use Rattle.bpaf_line.specs.Situation.{item_at, open_count, is_taken, is_open, take_place};
 ghost use Rattle.bpaf_line.specs.Situation.{with_trail, with_scope, with_path, with_current};
 ghost use Rattle.bpaf_line.specs.Situation.{HasNoneOpen, IsNextOpen};
 ghost use Rattle.bpaf_line.specs.Marks.{KeepsMarks};
-ghost use Rattle.bpaf_line.specs.Finding.{HasNoneBefore};
-ghost use Rattle.bpaf_line.specs.Taking.{HasNone, IsFirst, value_after, open_item, entry_of};
 
 use crate::aside::Aside;
 use crate::error::{Error, Message};

@@ -1,10 +1,9 @@
 //! The calls of a state that look for an item and take it.
 ghost use Rattle.bpaf_base.specs.Items.{any_item, is_command_word};
-ghost use Rattle.bpaf_line.specs.Marks.{KeepsMarks};
 ghost use Rattle.bpaf_line.specs.Taking.{TakesFlag, TakesArgument, TakesKeyText, FindsArgument};
 ghost use Rattle.bpaf_line.specs.Taking.{FindsWord, TakesWord, TakesCommand, HasNoCommand};
 ghost use Rattle.bpaf_line.specs.Taking.{IsCommandAt};
-ghost use Rattle.bpaf_line.specs.Situation.{is_open, take_place};
+ghost use Rattle.bpaf_line.specs.{Marks.KeepsMarks, Situation.is_open, Situation.take_place};
 ghost use Rattle.std.specs.Prelude.{◌≡◌, ◌+◌, ◌<◌, ◌^◌, true, IfOk, IfSome, MatchOption};
 
 use crate::error::{Error, Message};

@@ -1,6 +1,6 @@
 //! What a branch took: a few places, in order.
 ghost use Rattle.std.specs.Prelude.{◌≡◌, IfOk};
-ghost use Rattle.bpaf_line.specs.TakenPlaces.{places_of};
+ghost use Rattle.bpaf_line.specs.Inside.{places_of};
 
 use std::alloc::{AllocError, Global};
 use std::slice;

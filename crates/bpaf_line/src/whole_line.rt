@@ -1,7 +1,6 @@
 //! Places of the whole line, in scope or not.
 ghost use Rattle.std.specs.Prelude.{◌≡◌, ◌≤◌, length, option_copied};
-ghost use Rattle.bpaf_line.specs.Situation.{line_item, IsFirstPresentWithin};
-ghost use Rattle.bpaf_line.specs.Within.{first_present};
+ghost use Rattle.bpaf_line.specs.Situation.{line_item, IsFirstPresentWithin, first_present};
 
 use crate::state::State;
 use bpaf_index::bits;

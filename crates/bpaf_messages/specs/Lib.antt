@@ -1,3 +1,1 @@
-pub mod EarlierKey
 pub mod Leftover
-pub mod Faults

@@ -1,6 +1,6 @@
 //! What is told of words that have no line.
 ghost use Rattle.bpaf_words.specs.Arguments.{name_of};
-ghost use Rattle.bpaf_messages.specs.Faults.{TellsNoLine};
+ghost use Rattle.bpaf_messages.specs.Leftover.{TellsNoLine};
 
 use crate::rendering::render;
 use bpaf_line::{Message, ParseFailure, State};

@@ -6,8 +6,8 @@
 //!   its text is the `message_text` of `bpaf_line`.
 //! - [`leftover`] is the message of the first item that is left (specs/Leftover.antt): what
 //!   excludes it; else the last earlier key of its kind and name, which [`earlier_key`] finds
-//!   (specs/EarlierKey.antt); else that it isn't expected.
-//! - [`tell_fault`] tells a message of words that have no line (specs/Faults.antt).
+//!   (specs/Leftover.antt); else that it isn't expected.
+//! - [`tell_fault`] tells a message of words that have no line (specs/Leftover.antt).
 //!
 //! The source of the design is bpaf's `error.rs`.
 #![tactic(auto)]

@@ -1,14 +1,10 @@
 //! The texts of what was expected and is missing.
 ghost use Rattle.std.specs.Prelude.{◌≡◌, ◌++◌, true, IfOk, OnOk, map};
-ghost use Rattle.bpaf_doc.specs.PartText.{part_text};
-ghost use Rattle.bpaf_doc.specs.Print.{printed, in_backticks};
-ghost use Rattle.bpaf_doc.specs.Shape.{part_of};
-ghost use Rattle.bpaf_line.specs.declared.error.Message.TheVariants.{Expected};
-ghost use Rattle.bpaf_line.specs.Missing.{missed_of};
-ghost use Rattle.bpaf_line.specs.MissingText.{furthest, reaches, in_one_scope, is_command};
-ghost use Rattle.bpaf_line.specs.MissingText.{told_parts};
-ghost use Rattle.bpaf_line.specs.Rendering.{alternatives, got_text, expected_of, missing_text};
-ghost use Rattle.bpaf_line.specs.Rendering.{hidden_text, message_text};
+ghost use Rattle.bpaf_doc.specs.{Shape.part_text, Shape.part_of, Print.printed, Print.in_backticks};
+ghost use Rattle.bpaf_line.specs.Rendering.{furthest, reaches, in_one_scope, is_command};
+ghost use Rattle.bpaf_line.specs.Rendering.{told_parts, alternatives, got_text, expected_of};
+ghost use Rattle.bpaf_line.specs.Rendering.{missing_text, hidden_text, message_text};
+ghost use Rattle.bpaf_line.specs.{declared.error.Message.TheVariants.Expected, Missing.missed_of};
 
 use crate::shown::shown_item;
 use bpaf_doc::{Doc, Item, Style};

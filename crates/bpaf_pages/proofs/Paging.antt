@@ -1,12 +1,89 @@
--- The paragraphs of a help page.
-use Rattle.std.proofs.Common.{◌≡◌, ℕ, suc, ◌+◌, ◌<◌, List, [], ◌∷◌, ◌++◌, ap, sym, ◌∙◌, drop}
-use Rattle.std.proofs.Common.{length, get_or, drop-cons, add-one, append_assoc, subst, refl, codes}
+-- Joined documents, the lines that a walk gathers, and the paragraphs of a help page.
+use Rattle.std.proofs.Common.{◌≡◌, ℕ, List, [], ◌∷◌, ap, ◌∙◌, refl, zero, suc, ◌+◌, ◌<◌, ◌++◌}
+use Rattle.std.proofs.Common.{Option, map, sym, drop, length, get_or, arith, drop-cons, add-one}
+use Rattle.std.proofs.Common.{append_assoc, subst, codes}
+use Rattle.std.proofs.lemmas.List.{length-map, map-append, get_or-map}
 use Rattle.std.proofs.lemmas.Grind.{fold-append}
-use Rattle.bpaf_doc.specs.{declared.doc.Piece.Piece, Prints.Print, Prints.Prints, Prints.prints}
-use Rattle.bpaf_pages.specs.Joined.{nothing, glued, joined, joined_behind}
-use Rattle.bpaf_pages.specs.Help.{PageTexts, section, sections, opening, lists, widest, paragraph}
-use Rattle.bpaf_pages.specs.{Lines.Line, Help.paragraphs, Help.page, Help.prints_of}
-use Rattle.bpaf_pages.proofs.Joining.{shows, glued_behind}
+use Rattle.bpaf_doc.specs.Print.{Print, Prints, prints}
+use Rattle.bpaf_doc.specs.Shape.{Shown, part_of}
+use Rattle.bpaf_doc.specs.{declared.doc.Piece.Piece, declared.doc.Doc.Doc, declared.item.Item.Item}
+use Rattle.bpaf_pages.specs.Help.{glued, joined_behind, Line, Listed, Below, place_in, lines}
+use Rattle.bpaf_pages.specs.Help.{below_last, nothing, joined, PageTexts, section, sections}
+use Rattle.bpaf_pages.specs.Help.{opening, lists, widest, paragraph, paragraphs, page, prints_of}
+use Rattle.bpaf_pages.specs.{declared.lines.ListPlace.ListPlace, InsideLine.line_of}
+use Rattle.bpaf_pages.specs.{InsideLine.place_of, declared.lines.Line.Line as LineHere}
+use denote.Bor.{Bor}
+use Rattle.bpaf_pages.specs.declared.lines.Told.TheVariants as told
+
+-- what a document prints is the text that it prints
+pub shows : (text : Print) (doc : List Piece) → Prints text doc → prints doc ≡ text
+shows text doc same = λ i full. same full i
+
+-- a text was put behind a document
+pub glued_behind : (between : List ℕ) (first text : Print) (old more new : List Piece)
+    → prints old ≡ first → Prints text more → Prints (glued between (prints old) (prints more)) new
+    → prints new ≡ glued between first text
+glued_behind between first text old more new begins told put =
+    shows _ new put ∙ ap (glued between (prints old)) (shows text more told)
+    ∙ ap (λ x. glued between x text) begins
+
+-- three texts were put behind a document
+pub three_behind :
+    (between : List ℕ) (one two three : Print) (old first second third more most new : List Piece)
+    → Prints one first → Prints (glued between (prints old) (prints first)) more → Prints two second
+    → Prints (glued between (prints more) (prints second)) most → Prints three third
+    → Prints (glued between (prints most) (prints third)) new
+    → Prints (joined_behind between (prints old) (one ∷ two ∷ three ∷ [])) new
+three_behind between one two three old first second third more most new
+    told put told_too put_too told_last put_last =
+    let begins = glued_behind between (prints old) one old first more refl told put in
+    let goes_on = glued_behind between _ two more second most begins told_too put_too in
+    let ends = glued_behind between _ three most third new goes_on told_last put_last in
+    λ full. ap (λ text. text full) ends
+
+-- a text below the last line
+below_whole : (text : List Piece) (first : Line) (rest : List Line) (line : Line)
+    → line ≡ get_or (first ∷ rest) (length rest) line
+    → below_last text (first ∷ rest) ≡ record { place = line.place; told = Below text } ∷ []
+below_whole text first [] line here =
+    ap (λ (x : Line). record { place = x.place; told = Below text } ∷ []) (sym here)
+below_whole text first (next ∷ rest) line here = below_whole text next rest line here
+
+-- a text below the last of the lines from one on
+below_found : (text : List Piece) (all : List Line) (from last : ℕ) (line : Line)
+    → from < length all → last + 1 ≡ length all → line ≡ get_or all last line
+    → below_last text (drop from all) ≡ record { place = line.place; told = Below text } ∷ []
+below_found text [] from last line within ends here = absurd (omega arith)
+below_found text (first ∷ rest) zero last line within ends here =
+    let is_last : last ≡ length rest = omega arith in
+    below_whole text first rest line (here ∙ ap (λ x. get_or (first ∷ rest) x line) is_last)
+below_found text (first ∷ rest) (suc from) zero line within ends here = absurd (omega arith)
+below_found text (first ∷ rest) (suc from) (suc last) line within ends here =
+    below_found text rest from last line (omega arith) (omega arith) here
+
+-- a text was put below the last of the lines from one on
+pub below_put : (all new : List LineHere) (text : Bor Doc) (from last : ℕ) (line : LineHere)
+    → from < length all → last + 1 ≡ length all → line ≡ get_or all last line
+    → new ≡ all ++ record { place = line.place; told = told.Below text } ∷ []
+    → map line_of new ≡ map line_of all ++ below_last text.now (drop from (map line_of all))
+below_put all new text from last line within ends here put =
+    ap (map line_of) put ∙ map-append line_of all _ ∙ ap (λ x. map line_of all ++ x)
+    (sym (below_found text.now (map line_of all) from last (line_of line)
+    (rw length-map within) (rw length-map ends)
+    (ap line_of here ∙ sym (get_or-map line_of all last line (line_of line) (omega arith)))))
+
+-- an item was put behind lines
+pub item_put :
+    (all new : List LineHere) (item : Bor Item) (place : ListPlace) (home : Option ℕ) (met : ℕ)
+    → place_of place ≡ place_in home (part_of item.now)
+    → new ≡ all ++ record { place = place; told = told.Listed item } ∷ []
+    → map line_of new ≡ map line_of all ++ lines (Shown (part_of item.now)) home met
+item_put all new item place home met stands put =
+    ap (map line_of) put ∙ map-append line_of all _
+    ∙ ap (λ x. map line_of all ++ record { place = x; told = Listed (part_of item.now) } ∷ [])
+    stands
+
+-- The paragraphs of a help page.
 
 -- one section more
 pub section_step : (width : ℕ) (all : List Line) (titles items : List (List Piece)) (i : ℕ)

@@ -1,13 +1,166 @@
+-- The usage text and the help page of what a parser shows: joined texts, lines and paragraphs.
+use Rattle.std.specs.Prelude.{ℕ, ◌||◌, List, [], ◌++◌, fold, if◌then◌else◌, not, ◌∷◌, codes}
+use Rattle.std.specs.Prelude.{count_by, nat_lt, ◌+◌, Bool, true, false, ◌==◌, length, Option, Some}
+use Rattle.std.specs.Prelude.{None, filter, ◌-◌, max, replicate, chars, encode_utf8, flat_map}
+use Rattle.bpaf_doc.specs.Print.{Print, is_empty, prints, space}
+use Rattle.bpaf_doc.specs.Shape.{Shape, Shapes, And, Or, Optional, Required, Adjacent, Many, Strict}
+use Rattle.bpaf_doc.specs.Shape.{Subsection, Suffix, CustomUsage, Shown, Skip, none, ◌then◌}
+use Rattle.bpaf_doc.specs.Shape.{part_text, Part, Any, Positional, Command, Flag, Argument, Name}
+use Rattle.bpaf_doc.specs.Shape.{Short, Long, Both}
+use Rattle.bpaf_doc.specs.declared.doc.Piece.{Piece}
+
+-- no text
+abbrev pub nothing : Print
+nothing full = []
+
+-- a text behind another, with something between them where neither is empty
+abbrev pub glued : List ℕ → Print → Print → Print
+glued between first second full =
+    first full ++ (if is_empty first || is_empty second then [] else between) ++ second full
+
+-- texts in order behind a first one, with something between those that aren't empty
+abbrev pub joined_behind : List ℕ → Print → List Print → Print
+joined_behind between first texts = fold (glued between) first texts
+
+-- texts in order, with something between those that aren't empty
+abbrev pub joined : List ℕ → List Print → Print
+joined between texts = joined_behind between nothing texts
+
+-- a text with something around it; nothing where it is empty
+abbrev pub around : List ℕ → List ℕ → Print → Print
+around before after text full = if is_empty text then [] else before ++ text full ++ after
+
+-- how many texts aren't empty
+abbrev pub how_many : List Print → ℕ
+how_many texts = count_by (λ text. not (is_empty text)) texts
+
+-- one of some texts: between brackets where more than one isn't empty
+abbrev pub choice : List Print → Print
+choice texts full =
+    if nat_lt 1 (how_many texts)
+    then around (codes "(") (codes ")") (joined (codes " | ") texts) full
+    else joined (codes " | ") texts full
+
+-- how what a shape shows may be written on a line
+abbrev mutual
+  -- of a shape
+  pub usage_text : Shape → Print
+  usage_text (And all) full = joined (codes " ") (usage_texts all) full
+  usage_text (Or all) full = choice (usage_texts all) full
+  usage_text (Optional inner) full = around (codes "[") (codes "]") (usage_text inner) full
+  usage_text (Required inner) full = usage_text inner full
+  usage_text (Adjacent inner) full = usage_text inner full
+  usage_text (Many inner) full = around [] (codes "...") (usage_text inner) full
+  usage_text (Strict inner) full = codes "-- " ++ usage_text inner full
+  usage_text (Subsection inner title) full = usage_text inner full
+  usage_text (Suffix inner text) full = usage_text inner full
+  usage_text (CustomUsage inner text) full = prints text full
+  usage_text (Shown part) full = part_text part
+  usage_text Skip full = []
+
+  -- of each member of an And or an Or
+  pub usage_texts : Shapes → List Print
+  usage_texts none = []
+  usage_texts (first then rest) = usage_text first ∷ usage_texts rest
+
+-- The lines of a help page: the items that a shape shows, and the texts of its suffixes.
+
+-- where a line stands: in a list of the whole page, or in the section of this number, from 0
+pub data ListPlace : Type 0 where
+  Positionals : ListPlace
+  Options : ListPlace
+  Commands : ListPlace
+  Section : ℕ → ListPlace
+
+-- what a line tells: an item, or a text below what stands before it
+pub data Told : Type 0 where
+  Listed : Part → Told
+  Below : List Piece → Told
+
+-- one line
+pub record Line : Type 0 where
+  pub place : ListPlace
+  pub told : Told
+
+-- whether two places are one
+abbrev pub same_place : ListPlace → ListPlace → Bool
+same_place Positionals Positionals = true
+same_place Options Options = true
+same_place Commands Commands = true
+same_place (Section one) (Section other) = one == other
+same_place _ _ = false
+
+-- the list of an item outside of all sections
+abbrev pub list_of : Part → ListPlace
+list_of (Any metavar help anywhere) = if anywhere then Options else Positionals
+list_of (Positional metavar help) = Positionals
+list_of (Command name short help inner) = Commands
+list_of (Flag name shorts env help) = Options
+list_of (Argument name shorts metavar env help) = Options
+
+-- where an item stands, inside a section or outside
+abbrev pub place_in : Option ℕ → Part → ListPlace
+place_in None part = list_of part
+place_in (Some section) part = Section section
+
+-- the titles of the Subsections, in the order met
+abbrev mutual
+  -- of a shape: that of a Subsection stands before those inside it
+  pub titles : Shape → List (List Piece)
+  titles (And all) = titles_of_all all
+  titles (Or all) = titles_of_all all
+  titles (Optional inner) = titles inner
+  titles (Required inner) = titles inner
+  titles (Adjacent inner) = titles inner
+  titles (Many inner) = titles inner
+  titles (Strict inner) = titles inner
+  titles (Subsection inner title) = title ∷ titles inner
+  titles (Suffix inner text) = titles inner
+  titles (CustomUsage inner text) = titles inner
+  titles (Shown part) = []
+  titles Skip = []
+
+  -- of the members of an And or an Or
+  pub titles_of_all : Shapes → List (List Piece)
+  titles_of_all none = []
+  titles_of_all (first then rest) = titles first ++ titles_of_all rest
+
+-- a text below the last of some lines, none where there is no line
+abbrev pub below_last : List Piece → List Line → List Line
+below_last text [] = []
+below_last text (line ∷ []) = record { place = line.place; told = Below text } ∷ []
+below_last text (line ∷ next ∷ rest) = below_last text (next ∷ rest)
+
+-- all lines, where some sections were met before: those of a section stand in it, and those of a
+-- section inside it in that one; the inside of a command gives none
+abbrev mutual
+  -- of a shape, inside a section or outside
+  pub lines : Shape → Option ℕ → ℕ → List Line
+  lines (And all) home met = lines_of_all all home met
+  lines (Or all) home met = lines_of_all all home met
+  lines (Optional inner) home met = lines inner home met
+  lines (Required inner) home met = lines inner home met
+  lines (Adjacent inner) home met = lines inner home met
+  lines (Many inner) home met = lines inner home met
+  lines (Strict inner) home met = lines inner home met
+  lines (Subsection inner title) home met = lines inner (Some met) (met + 1)
+  lines (Suffix inner text) home met =
+      lines inner home met ++ below_last text (lines inner home met)
+  lines (CustomUsage inner text) home met = lines inner home met
+  lines (Shown part) home met = record { place = place_in home part; told = Listed part } ∷ []
+  lines Skip home met = []
+
+  -- of the members of an And or an Or
+  pub lines_of_all : Shapes → Option ℕ → ℕ → List Line
+  lines_of_all none home met = []
+  lines_of_all (first then rest) home met =
+      lines first home met ++ lines_of_all rest home (met + length (titles first))
+
+-- the lines that stand in one place
+abbrev pub lines_at : ListPlace → List Line → List Line
+lines_at place all = filter (λ line. same_place place line.place) all
+
 -- The help page of what a parser shows.
-use Rattle.std.specs.Prelude.{ℕ, ◌+◌, ◌-◌, max, true, List, [], ◌∷◌, ◌++◌, length, replicate, codes}
-use Rattle.std.specs.Prelude.{Option, Some, None, chars, encode_utf8, flat_map, fold, if◌then◌else◌}
-use Rattle.bpaf_doc.specs.Prints.{Print, prints, is_empty}
-use Rattle.bpaf_pages.specs.Lines.{Line, Told, Listed, Below, Positionals, Options, Commands}
-use Rattle.bpaf_pages.specs.Lines.{Section, lines, lines_at, titles}
-use Rattle.bpaf_doc.specs.Shape.{Shape, Part, And, none, ◌then◌, Any, Positional, Command, Flag}
-use Rattle.bpaf_doc.specs.Shape.{Argument, Name, Short, Long, Both}
-use Rattle.bpaf_doc.specs.{declared.doc.Piece.Piece, Fold.space}
-use Rattle.bpaf_pages.specs.{Joined.joined, Joined.around, Usage.usage_text}
 
 -- the texts that a program gives; each may be missing
 pub record PageTexts : Type 0 where

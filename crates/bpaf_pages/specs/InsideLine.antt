@@ -1,12 +1,12 @@
 -- What a line of the program is in contracts.
 use Rattle.bpaf_pages.specs.declared.lines.ListPlace.{ListPlace as PlaceHere}
-use Rattle.bpaf_pages.specs.declared.lines.ListPlace.TheVariants as here
 use Rattle.bpaf_pages.specs.declared.lines.Line.{Line as LineHere}
 use Rattle.bpaf_pages.specs.declared.lines.Told.{Told as ToldHere}
-use Rattle.bpaf_pages.specs.declared.lines.Told.TheVariants as told
-use Rattle.bpaf_pages.specs.Lines.{ListPlace, Positionals, Options, Commands, Section}
-use Rattle.bpaf_pages.specs.Lines.{Line, Told, Listed, Below}
+use Rattle.bpaf_pages.specs.Help.{ListPlace, Positionals, Options, Commands, Section, Line, Told}
+use Rattle.bpaf_pages.specs.Help.{Listed, Below}
 use Rattle.bpaf_doc.specs.Shape.{part_of}
+use Rattle.bpaf_pages.specs.declared.lines.ListPlace.TheVariants as here
+use Rattle.bpaf_pages.specs.declared.lines.Told.TheVariants as told
 
 -- a place
 abbrev pub place_of : PlaceHere → ListPlace

@@ -1,15 +1,12 @@
 //! The help page of what a parser shows.
-ghost use Rattle.std.specs.Prelude.{◌≡◌, ◌++◌, ◌∷◌, [], None, IfOk, OnOk, codes, flat_map};
-ghost use Rattle.std.specs.Prelude.{map, option_copied, string_bytes};
+ghost use Rattle.std.specs.Prelude.{◌≡◌, ◌++◌, ◌∷◌, [], None, IfOk, OnOk, codes, flat_map, map};
+ghost use Rattle.std.specs.Prelude.{option_copied, string_bytes};
 ghost use Rattle.bpaf_doc.specs.Shape.{shape_of, And, none, ◌then◌};
-ghost use Rattle.bpaf_doc.specs.Prints.{Prints, prints};
-ghost use Rattle.bpaf_pages.specs.Joined.{around, joined_behind};
-ghost use Rattle.bpaf_pages.specs.Usage.{usage_text};
-ghost use Rattle.bpaf_pages.specs.Lines.{lines, titles, lines_at};
-ghost use Rattle.bpaf_pages.specs.InsideLine.{place_of, line_of};
-ghost use Rattle.bpaf_pages.specs.InsideHelp.{given_by};
+ghost use Rattle.bpaf_doc.specs.Print.{Prints, prints};
+ghost use Rattle.bpaf_pages.specs.Help.{around, joined_behind, usage_text, lines, titles, lines_at};
 ghost use Rattle.bpaf_pages.specs.Help.{paragraph, prints_of, usage_line, usage_paragraph, rows};
 ghost use Rattle.bpaf_pages.specs.Help.{section, sections, opening, lists, help_text};
+ghost use Rattle.bpaf_pages.specs.{InsideLine.place_of, InsideLine.line_of, InsideHelp.given_by};
 
 use crate::joined::{around, glue};
 use crate::lines::{Lines, ListPlace, Title};

@@ -1,7 +1,7 @@
 //! Documents that are joined.
 ghost use Rattle.std.specs.Prelude.{◌≡◌, IfOk, OnOk};
-ghost use Rattle.bpaf_doc.specs.Prints.{prints, Prints};
-ghost use Rattle.bpaf_pages.specs.Joined.{glued, around};
+ghost use Rattle.bpaf_doc.specs.Print.{prints, Prints};
+ghost use Rattle.bpaf_pages.specs.Help.{glued, around};
 
 use bpaf_doc::{Doc, Style};
 use std::alloc::{AllocError, Global};

@@ -1,8 +1,8 @@
 //! The lines of a help page: the items that a tree shows, and the texts of its suffixes.
 ghost use Rattle.std.specs.Prelude.{◌≡◌, ◌++◌, [], OnOk, length, drop, map};
 ghost use Rattle.bpaf_doc.specs.Shape.{shape_of, members_of, part_of, Subsection, Suffix, Shown};
-ghost use Rattle.bpaf_pages.specs.Lines.{lines, lines_of_all, titles, titles_of_all, below_last};
-ghost use Rattle.bpaf_pages.specs.Lines.{list_of, place_in};
+ghost use Rattle.bpaf_pages.specs.Help.{lines, lines_of_all, titles, titles_of_all, below_last};
+ghost use Rattle.bpaf_pages.specs.Help.{list_of, place_in};
 ghost use Rattle.bpaf_pages.specs.InsideLine.{place_of, line_of};
 
 use bpaf_doc::{Doc, Item, Meta};

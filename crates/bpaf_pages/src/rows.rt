@@ -1,12 +1,11 @@
 //! The lines of a help page, as they are printed.
-ghost use Rattle.std.specs.Prelude.{◌≡◌, ◌++◌, None, Some, IfOk, OnOk, MatchOption};
-ghost use Rattle.std.specs.Prelude.{codes, replicate, string_bytes, map};
-ghost use Rattle.bpaf_doc.specs.Shape.{part_of, name_of};
-ghost use Rattle.bpaf_doc.specs.Prints.{Prints, prints};
-ghost use Rattle.bpaf_pages.specs.Lines.{Listed, same_place, lines_at};
+ghost use Rattle.std.specs.Prelude.{◌≡◌, ◌++◌, None, Some, IfOk, OnOk, MatchOption, codes};
+ghost use Rattle.std.specs.Prelude.{replicate, string_bytes, map};
+ghost use Rattle.bpaf_doc.specs.{Shape.part_of, Shape.name_of, Print.Prints, Print.prints};
+ghost use Rattle.bpaf_pages.specs.Help.{Listed, same_place, lines_at, key_names, also_short};
+ghost use Rattle.bpaf_pages.specs.Help.{list_name, help_of, width_of, name_width, widest, column};
+ghost use Rattle.bpaf_pages.specs.Help.{line_text, rows};
 ghost use Rattle.bpaf_pages.specs.InsideLine.{place_of, told_of, line_of};
-ghost use Rattle.bpaf_pages.specs.Help.{key_names, also_short, list_name, help_of, width_of};
-ghost use Rattle.bpaf_pages.specs.Help.{name_width, widest, column, line_text, rows};
 
 use crate::lines::{Lines, ListPlace, Told};
 use bpaf_doc::{Doc, Item, ShortLong, Style};

@@ -1,9 +1,7 @@
 //! The usage text of what a parser shows.
 ghost use Rattle.std.specs.Prelude.{◌≡◌, ◌++◌, IfOk, codes};
-ghost use Rattle.bpaf_doc.specs.Shape.{shape_of, members_of};
-ghost use Rattle.bpaf_doc.specs.Prints.{Prints, prints};
-ghost use Rattle.bpaf_pages.specs.Joined.{joined};
-ghost use Rattle.bpaf_pages.specs.Usage.{usage_text, usage_texts, how_many};
+ghost use Rattle.bpaf_doc.specs.{Shape.shape_of, Shape.members_of, Print.Prints, Print.prints};
+ghost use Rattle.bpaf_pages.specs.Help.{joined, usage_text, usage_texts, how_many};
 
 use crate::joined::{around, glue};
 use bpaf_doc::{Doc, Meta, Style};

@@ -3,9 +3,8 @@ use Rattle.std.proofs.Common.{◌≡◌, ◌⊎◌, Result, ap, sym, subst, ◌�
 use Rattle.bpaf_line.specs.Marks.{KeepsMarks, undone, redone}
 use Rattle.bpaf_line.specs.{declared.error.Error.Error, Situation.Situation, Situation.open_count}
 use Rattle.bpaf_line.proofs.Marks.{fits_undone, undone_twice}
-use Rattle.bpaf_laws.specs.Choice.{Chosen, ChoiceOutcome, IsWant}
-use Rattle.bpaf_laws.specs.Reading.{Outcome}
-use Rattle.bpaf_laws.proofs.Choosing.{choice_within}
+use Rattle.bpaf_laws.specs.{Choice.Chosen, Choice.ChoiceOutcome, Choice.IsWant, Reading.Outcome}
+use Rattle.bpaf_laws.proofs.ChoiceLaws.{choice_within}
 use Rattle.bpaf_parts.specs.Branches.{HasAnswered, IsStart, LedTo, start_of, end_of}
 use Rattle.bpaf_parts.specs.{declared.branch.Branch.Branch, declared.branch.Start.Start}
 

@@ -1,8 +1,7 @@
 -- Branches of a choice: where they begin, and where each led to.
 use Rattle.std.specs.Prelude.{◌≡◌, length, Result}
-use Rattle.bpaf_line.specs.Situation.{Situation, open_count}
 use Rattle.bpaf_line.specs.Marks.{Fits, CanRedo, undone, redone}
-use Rattle.bpaf_line.specs.declared.error.Error.{Error}
+use Rattle.bpaf_line.specs.{Situation.Situation, Situation.open_count, declared.error.Error.Error}
 use Rattle.bpaf_laws.specs.Reading.{Outcome}
 use Rattle.bpaf_parts.specs.{declared.branch.Start.Start, declared.branch.Branch.Branch}
 

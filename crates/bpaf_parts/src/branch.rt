@@ -1,8 +1,7 @@
 //! Branches of a choice, which begin at one place.
 ghost use Rattle.std.specs.Prelude.{◌≡◌, IfOk, OnOk, OnErr};
 ghost use Rattle.bpaf_line.specs.Marks.{Fits, HasReached, CanRedo, undone, redone};
-ghost use Rattle.bpaf_parts.specs.Failures.{GivesBack};
-ghost use Rattle.bpaf_parts.specs.Branches.{IsStart, LedTo};
+ghost use Rattle.bpaf_parts.specs.{Failures.GivesBack, Branches.IsStart, Branches.LedTo};
 
 use crate::failures::wants_memory;
 use bpaf_line::{Mark, ParseFailure, State, Steps};

@@ -1,5 +1,5 @@
 //! Closures that give a value without a line.
-ghost use Rattle.bpaf_laws.specs.Default.{GivesAnswer};
+ghost use Rattle.bpaf_laws.specs.Combinators.{GivesAnswer};
 
 use bpaf_doc::Text;
 use bpaf_line::{Error, Message};

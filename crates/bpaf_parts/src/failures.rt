@@ -1,7 +1,6 @@
 //! How what went wrong inside is told to those around it.
 ghost use Rattle.std.specs.Prelude.{◌≡◌, ◌⊎◌, ◌&&◌, not};
-ghost use Rattle.bpaf_laws.specs.Hide.{hidden};
-ghost use Rattle.bpaf_laws.specs.Turn.{stops_step};
+ghost use Rattle.bpaf_laws.specs.Combinators.{hidden, stops_step};
 ghost use Rattle.bpaf_line.specs.Messages.{is_memory};
 ghost use Rattle.bpaf_parts.specs.Failures.{end_message, is_shown};
 

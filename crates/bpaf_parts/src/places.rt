@@ -1,6 +1,6 @@
 //! Places that an inner run left.
 ghost use Rattle.std.specs.Prelude.{MatchOption};
-ghost use Rattle.bpaf_laws.specs.AdjacentCommand.{AllTaken, IsFirstLeft};
+ghost use Rattle.bpaf_laws.specs.Adjacent.{AllTaken, IsFirstLeft};
 
 use bpaf_line::State;
 

@@ -1,7 +1,7 @@
 //! How what may be left out, or may be there again and again, is shown.
 ghost use Rattle.std.specs.Prelude.{◌≡◌, IfOk};
 ghost use Rattle.bpaf_doc.specs.Shape.{Many, Optional, Required, shape_of};
-ghost use Rattle.bpaf_laws.specs.Default.{DefaultDescribes};
+ghost use Rattle.bpaf_laws.specs.Combinators.{DefaultDescribes};
 
 use bpaf_doc::{Doc, Meta};
 use std::alloc::{AllocError, Global};

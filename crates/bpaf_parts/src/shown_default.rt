@@ -1,8 +1,7 @@
 //! Defaults as a help page shows them.
-ghost use Rattle.std.specs.Prelude.{IfOk};
-ghost use Rattle.std.specs.Fn.{FnReturnsAt};
-ghost use Rattle.bpaf_doc.specs.Fold.{TextPieces};
-ghost use Rattle.bpaf_laws.specs.Default.{IsDefault, IsFormatted, default_text};
+ghost use Rattle.std.specs.{Prelude.IfOk, Fn.FnReturnsAt};
+ghost use Rattle.bpaf_doc.specs.Print.{TextPieces};
+ghost use Rattle.bpaf_laws.specs.Combinators.{IsDefault, IsFormatted, default_text};
 
 use bpaf_doc::Doc;
 use std::alloc::{AllocError, Global};

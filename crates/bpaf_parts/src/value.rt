@@ -1,6 +1,6 @@
 //! Values of taken texts, and their lists.
 ghost use Rattle.std.specs.Prelude.{◌≡◌, ◌++◌, ◌∷◌, [], OnOk};
-ghost use Rattle.bpaf_laws.specs.Value.{ReadsValue, TellsReading};
+ghost use Rattle.bpaf_laws.specs.Reading.{ReadsValue, TellsReading};
 
 use bpaf_doc::Text;
 use bpaf_line::{Error, Message, State};

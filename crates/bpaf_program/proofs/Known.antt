@@ -1,36 +1,203 @@
--- Parsers of a program whose makings are known: what each reads, shows and keeps to.
-use Rattle.std.proofs.Common.{◌≡◌, Bool, true, false, ℕ, List, [], ◌∷◌, Some, Result, IfOk}
-use Rattle.std.proofs.Common.{refl, subst, sym}
-use Rattle.std.specs.{Result.IfErr, Global.Vec}
+-- Parsers of a program whose makings are known: what each reads, shows and keeps to, commands and
+-- a word that must stand before `--` among them.
+use Rattle.std.proofs.Common.{◌≡◌, ℕ, List, [], ◌∷◌, Option, Result, Ok, Err, IfOk, inl, inr}
+use Rattle.std.proofs.Common.{⊎_elim, ap, ◌∙◌, Bool, true, false, Some, refl, subst, sym, not}
+use Rattle.std.proofs.Common.{option_and_then}
+use Rattle.std.specs.{Global.Vec, Result.IfErr, Prelude.option_map, List.Contains}
+use Rattle.bpaf_text.specs.Named.{Named, KeyWithValue, key_named}
+use Rattle.bpaf_text.specs.declared.params.ParseFlag.{ParseFlag}
+use Rattle.bpaf_words.specs.{Arguments.Given, Line.Known, Line.IsKnownAs}
+use Rattle.bpaf_line.specs.Situation.{Context, item_in}
+use Rattle.bpaf_line.specs.{declared.failure.ParseFailure.ParseFailure, Taking.IsContext}
+use Rattle.bpaf_laws.specs.Choice.{ChoiceReads, ChoiceDescribes, ChoiceOutcome}
+use Rattle.bpaf_laws.specs.Leaves.{FlagReads, ArgumentOutcome, ArgumentReads, argument_shape}
+use Rattle.bpaf_laws.specs.Leaves.{FlagOutcome, flag_shape}
+use Rattle.bpaf_laws.specs.Command.{CommandReads, Called, CommandDescribes, CommandPart, named_only}
+use Rattle.bpaf_laws.specs.Command.{opening_words}
+use Rattle.bpaf_laws.specs.Product.{BothReads, BothDescribes, LastDescribes, ProductDescribes}
+use Rattle.bpaf_laws.specs.Product.{BothOutcome, ProductOutcome}
+use Rattle.bpaf_laws.specs.Reading.{Readings, Share, Outcome}
+use Rattle.bpaf_laws.specs.Combinators.{EachReads, ListReads, MapReads, ManyDescribes, ManyOutcome}
+use Rattle.bpaf_laws.specs.{Adjacent.StretchReads, Laws.Lawful}
+use Rattle.bpaf.specs.Asked.{IfShown, ShowsNothing, WasAsked, nothing_shown, BehindWord, HandsOn}
+use Rattle.bpaf.specs.Asked.{IsAskedAt, RunShows, Showing, WordsShow}
+use Rattle.bpaf.specs.{declared.leaves.positional.Position.Position, Positional.PositionalReads}
+use Rattle.bpaf.specs.{Positional.PositionalOutcome, Positional.positional_shape}
+use Rattle.bpaf.specs.{Positional.positional_lawful, Run.IsDealtOut, Run.RunsWords, Info.RunInfo}
+use Rattle.bpaf.specs.{Info.plain_info, declared.leaves.positional.ParsePositional.ParsePositional}
+use Rattle.bpaf.specs.{Command.EitherCommandOutcome, Command.EitherCommandReads}
+use Rattle.bpaf.specs.{AdjacentLaws.either_lawful, Ending.EndsRun, Ending.run_ending}
+use Rattle.bpaf.specs.{declared.leaves.positional.Position.TheVariants.NonStrict}
+use Rattle.bpaf.specs.{Marker.words_before}
 use Rattle.bpaf_doc.specs.Shape.{Shape, And, Many, Optional, members}
 use Rattle.bpaf_doc.specs.{declared.doc.Piece.Piece, Names.Names}
-use Rattle.bpaf_text.specs.declared.params.ParseFlag.{ParseFlag}
-use Rattle.bpaf_text.specs.Named.{KeyWithValue, key_named}
-use Rattle.bpaf_words.specs.{Arguments.Given, Spelling.Known}
-use Rattle.bpaf_line.specs.declared.failure.ParseFailure.{ParseFailure}
-use Rattle.bpaf_laws.specs.Argument.{ArgumentOutcome, ArgumentReads, argument_shape}
-use Rattle.bpaf_laws.specs.Flag.{FlagOutcome, FlagReads, flag_shape}
-use Rattle.bpaf_laws.specs.Product.{BothDescribes, BothOutcome, BothReads, LastDescribes}
-use Rattle.bpaf_laws.specs.Product.{ProductDescribes, ProductOutcome}
-use Rattle.bpaf_laws.specs.Repeat.{ListReads, ManyDescribes, ManyOutcome}
-use Rattle.bpaf_laws.specs.{Laws.Lawful, Reading.Outcome, Reading.Readings, Transform.MapReads}
-use Rattle.bpaf_laws.proofs.ArgumentLaws.{argument_lawful}
+use Rattle.bpaf.proofs.Asked.{answer_asked, asked_also, argument_hands_on, both_hands_on}
+use Rattle.bpaf.proofs.Asked.{flag_hands_on, many_hands_on, positional_hands_on, product_hands_on}
+use Rattle.bpaf.proofs.Asked.{IsAlsoShown, answer_shows, asked_at_also, hands_also, words_also}
+use Rattle.bpaf.proofs.LeafLemmas.{argument_without_help, flag_without_help, key_with_help}
+use Rattle.bpaf.proofs.HandsOn.{behind_also, choice_hands_on, command_hands_on}
+use Rattle.bpaf.proofs.Sides.{all_spelled}
 use Rattle.bpaf_laws.proofs.ProductLaws.{both_lawful, product_lawful}
-use Rattle.bpaf_laws.proofs.{FlagLaws.flag_lawful, RepeatLaws.many_lawful}
-use Rattle.bpaf.specs.declared.leaves.positional.ParsePositional.{ParsePositional}
-use Rattle.bpaf.specs.declared.leaves.positional.Position.{Position}
-use Rattle.bpaf.specs.Asked.{IfShown, ShowsNothing, WasAsked, nothing_shown}
-use Rattle.bpaf.specs.Positional.{PositionalOutcome, PositionalReads, positional_shape}
-use Rattle.bpaf.specs.PositionalLaws.{positional_lawful}
-use Rattle.bpaf.specs.{Info.RunInfo, Info.plain_info, Dealt.IsDealtOut, Run.RunsWords}
-use Rattle.bpaf.proofs.Asked.{argument_hands_on, both_hands_on, flag_hands_on, many_hands_on}
-use Rattle.bpaf.proofs.Asked.{positional_hands_on, product_hands_on}
-use Rattle.bpaf.proofs.Helps.{argument_without_help, flag_without_help, key_with_help}
+use Rattle.bpaf_laws.proofs.{ArgumentLaws.argument_lawful, LeafLaws.flag_lawful}
+use Rattle.bpaf_laws.proofs.{CombinatorLaws.many_lawful, ChoiceLaws.choice_lawful}
 use Rattle.bpaf_program.specs.Fields.{IsArgument, IsSwitch, IsWord, NamedSwitchReads, switch_shape}
-use Rattle.bpaf_program.specs.Values.{IsKept}
-use Rattle.bpaf_program.proofs.ReadsToo.{IsAlso, also_dealt, both_also, made_also, many_also}
-use Rattle.bpaf_program.proofs.ReadsToo.{word_also}
-use Rattle.bpaf_program.proofs.Shown.{both_show, help_asked, last_shows, many_shows, product_shows}
+use Rattle.bpaf_program.specs.KnownParser.{IsKept}
+use Rattle.bpaf_base.specs.Items.{word_text}
+use Rattle.bpaf_base.specs.{declared.arg.Arg.TheVariants.Word, declared.arg.Arg.Arg}
+use Rattle.bpaf_record.proofs.Running.{each_at}
+use Rattle.bpaf_line.specs.declared.failure.ParseFailure.TheVariants as failure
+
+-- each reading of the one is a reading of the other
+abbrev pub IsAlso : {T : Type 0} → Readings T → Readings T → Type 0
+IsAlso {T} first second =
+    (context : Context) (share : Share) (v : T) → first context share v → second context share v
+
+-- what is dealt out to the one is dealt out to the other
+pub also_dealt : {T : Type 0} {reads wanted : Readings T} → IsAlso reads wanted
+    → {known names : Known} {given own : Given} (r : Result T ParseFailure)
+    → IfOk r (λ v. IsDealtOut T reads known given v) → known ≡ names → given ≡ own
+    → IfOk r (λ v. IsDealtOut T wanted names own v)
+also_dealt also (Ok v) dealt known_is given_is = record {
+  context = dealt.context;
+  is_context = rw (known_is, given_is) at dealt.is_context;
+  read = also dealt.context _ v dealt.read;
+}
+also_dealt also (Err f) dealt known_is given_is = tt
+
+-- a word at this position
+pub word_also : {T : Type 0} (means : List ℕ → T → Type 0) {at position : Position} → at ≡ position
+    → IsAlso (PositionalReads T means at) (PositionalReads T means position)
+word_also means is context share v read = rw is at read
+
+-- a flag of these names and values
+pub flag_also : {T : Type 0} (clones : T → T → Type 0) {named names : Named} {present shown : T}
+    {absent hidden : Option T} → named ≡ names → present ≡ shown → absent ≡ hidden
+    → IsAlso (FlagReads T clones named present absent) (FlagReads T clones names shown hidden)
+flag_also clones is is_present is_absent context share v read =
+    rw (is, is_present, is_absent) at read
+
+-- fields
+pub both_also : {A B : Type 0} {first first' : Readings A} {rest rest' : Readings B}
+    → IsAlso first first' → IsAlso rest rest'
+    → IsAlso (BothReads A B first rest) (BothReads A B first' rest')
+both_also one others context share v read = record {
+  first_share = read.first_share;
+  rest_share = read.rest_share;
+  joins = read.joins;
+  first_read = one context read.first_share v.0 read.first_read;
+  rest_read = others context read.rest_share v.1 read.rest_read;
+}
+
+-- what is made of a value
+pub made_also : {V T : Type 0} {inner inner' : Readings V} {makes makes' : V → T → Type 0}
+    → IsAlso inner inner' → ((x : V) (v : T) → makes x v → makes' x v)
+    → IsAlso (MapReads V T inner makes) (MapReads V T inner' makes')
+made_also also made context share v read = record {
+  from = read.from;
+  read = also context share read.from read.read;
+  made = made read.from v read.made;
+}
+
+module _ {T : Type 0} {inner inner' : Readings T} (also : IsAlso inner inner') where
+  -- values, one after another
+  each_also : IsAlso (EachReads inner) (EachReads inner')
+  each_also context share [] none = none
+  each_also context share (v ∷ vs) read = (
+    read.0,
+    read.1,
+    read.2,
+    read.3,
+    also context read.0 v read.4,
+    each_also context read.1 vs read.5,
+  )
+
+  -- so it is where the first share may be empty
+  list_also : IsAlso (ListReads inner) (ListReads inner')
+  list_also context share [] none = none
+  list_also context share (v ∷ vs) read = (
+    read.0,
+    read.1,
+    read.2,
+    also context read.0 v read.3,
+    each_also context read.1 vs read.4,
+  )
+
+  -- a repeat
+  pub many_also : IsAlso (MapReads (List T) (Vec T) (ListReads inner)
+      (λ values v. v.items ≡ values))
+      (MapReads (List T) (Vec T) (ListReads inner') (λ values v. v.items ≡ values))
+  many_also = made_also list_also (λ values v made. made)
+
+  -- an adjacent command of one name
+  pub adjacent_also : (words : List (List ℕ)) → IsAlso (StretchReads T (CommandReads T words inner))
+      (StretchReads T (CommandReads T words inner'))
+  adjacent_also words context share v read = record {
+    read = record {
+      name = read.read.name;
+      read = both_also (λ line own p named. named) also context share (read.read.name, v)
+          read.read.read;
+    };
+    stretch = read.stretch;
+  }
+
+-- a choice of two
+pub choice_also : {T : Type 0} {first first' second second' : Readings T} → IsAlso first first'
+    → IsAlso second second' → IsAlso (ChoiceReads first second) (ChoiceReads first' second')
+choice_also one other context share v =
+    ⊎_elim (λ read. inl (one context share v read)) (λ read. inr (other context share v read))
+
+-- this shape alone is shown
+abbrev pub ShowsOnly : (Shape → Type 0) → Shape → Type 0
+ShowsOnly describes wanted = (shape : Shape) → describes shape → shape ≡ wanted
+
+-- fields show these shapes alone
+abbrev pub FieldsShow : (List Shape → Type 0) → List Shape → Type 0
+FieldsShow describes wanted = (shapes : List Shape) → describes shapes → shapes ≡ wanted
+
+-- what may stand any number of times shows one shape, where its inside does
+pub many_shows : (inner : Shape → Type 0) (wanted : Shape) → ShowsOnly inner wanted
+    → ShowsOnly (ManyDescribes inner) (Many (Optional wanted))
+many_shows inner wanted only shape shown =
+    shown.2 ∙ ap (λ inside. Many (Optional inside)) (only shown.0 shown.1)
+
+-- so does a last field
+pub last_shows : (last : Shape → Type 0) (wanted : Shape) → ShowsOnly last wanted
+    → FieldsShow (LastDescribes last) (wanted ∷ [])
+last_shows last wanted only shapes shown = shown.2 ∙ ap (λ x. x ∷ []) (only shown.0 shown.1)
+
+-- a field and those after it show theirs
+pub both_show : (first : Shape → Type 0) (rest : List Shape → Type 0) (wanted : Shape)
+    (others : List Shape) → ShowsOnly first wanted → FieldsShow rest others
+    → FieldsShow (BothDescribes first rest) (wanted ∷ others)
+both_show first rest wanted others only all shapes shown =
+    shown.4 ∙ (ap (λ x. x ∷ shown.1) (only shown.0 shown.2)
+    ∙ ap (λ xs. wanted ∷ xs) (all shown.1 shown.3))
+
+-- a product shows those of its fields
+pub product_shows : (fields : List Shape → Type 0) (wanted : List Shape) → FieldsShow fields wanted
+    → ShowsOnly (ProductDescribes fields) (And (members wanted))
+product_shows fields wanted all shape shown =
+    shown.2 ∙ ap (λ xs. And (members xs)) (all shown.0 shown.1)
+
+-- what a run shows of a parser that shows nothing by itself is help that the words ask for
+pub help_asked : (describes shapes : Shape → Type 0) (info : RunInfo) (known : Known)
+    (given : Given) {T : Type 0} {inner : Outcome T} {reads : Readings T} → Lawful T inner reads
+    → ShowsNothing inner → ((shape : Shape) → describes shape → shapes shape)
+    → info ≡ plain_info → (r : Result T ParseFailure)
+    → RunsWords T inner describes info known given r
+    → IfErr r (IfShown (WasAsked shapes plain_info known given))
+help_asked describes shapes info known given law nothing also plain (Ok v) runs = tt
+help_asked describes shapes info known given law nothing also plain
+    (Err (failure.Stdout doc full)) runs =
+    let was : WasAsked describes info known given doc full =
+    answer_asked describes info known given law nothing
+    (ap (λ settings. settings.help_if_no_args) plain) (Err (failure.Stdout doc full)) runs in
+    asked_also describes shapes plain_info known given doc full also (rw plain at was)
+help_asked describes shapes info known given law nothing also plain (Err (failure.Stderr doc))
+    runs = tt
+help_asked describes shapes info known given law nothing also plain (Err failure.Memory) runs = tt
+
+-- Parsers of a program whose makings are known: what each reads, shows and keeps to.
 
 -- a parser, or fields, keep to the laws, show nothing by themselves, read what is wanted, and show
 -- this alone
@@ -164,3 +331,140 @@ module _ {T : Type 0} {outcome : Outcome T} {reads wanted : Readings T}
         help_asked describes shapes info names own is.law is.nothing
         (λ other shown. subst shapes (sym (is.only other shown)) this) plain r
         (rw (known_is, same) at runs)
+
+-- Parsers with adjacent commands inside: what they read, and that they show a page of theirs alone.
+
+-- a parser keeps to the laws, hands on what may be shown, reads what is wanted, and shows these
+-- shapes alone
+pub record Hands {T : Type 0} (showing : Showing) (outcome : Outcome T) (reads : Readings T)
+    (describes : Shape → Type 0) (wanted : Readings T) (shapes : Shape → Type 0) : Type 0 where
+  pub law : Lawful T outcome reads
+  pub hands : HandsOn showing outcome
+  pub also : IsAlso reads wanted
+  pub shows : (shape : Shape) → describes shape → shapes shape
+
+-- what a parser hands on may be shown
+pub hands_as : {T : Type 0} {one other : Showing} {outcome : Outcome T} {reads wanted : Readings T}
+    {describes shapes : Shape → Type 0} → IsAlsoShown one other
+    → Hands one outcome reads describes wanted shapes
+    → Hands other outcome reads describes wanted shapes
+hands_as {one = one} {other = other} also is = record {
+  law = is.law;
+  hands = hands_also one other also is.hands;
+  also = is.also;
+  shows = is.shows;
+}
+
+module _ {T : Type 0} {inner : Outcome T} {reads wanted : Readings T}
+    {describes shapes : Shape → Type 0} (law : Lawful T inner reads) (nothing : ShowsNothing inner)
+    (also : IsAlso reads wanted) (shows : (shape : Shape) → describes shape → shapes shape)
+    {adjacent : Bool} {called : Called} {help own : Option (List Piece)} (info : RunInfo)
+    (plain : info.help_if_no_args ≡ false) (name : List ℕ) (is_adjacent : adjacent ≡ true)
+    (is_called : called ≡ named_only name) (is_help : help ≡ own) where
+  -- an adjacent command of one name over a parser that shows nothing by itself hands on its page
+  pub command_hands : Hands (BehindWord (named_only name) (IsAskedAt shapes info))
+      (EitherCommandOutcome adjacent T inner (EndsRun describes info) called
+      (CommandPart called help describes))
+      (EitherCommandReads adjacent T (opening_words called) reads)
+      (CommandDescribes called help describes) (StretchReads T (CommandReads T (name ∷ []) wanted))
+      (CommandDescribes (named_only name) own shapes)
+  command_hands = record {
+    law = either_lawful law (run_ending describes info) called (CommandPart called help describes)
+        adjacent;
+    hands = hands_also _ (BehindWord (named_only name) (IsAskedAt shapes info))
+        (λ s doc full behind. behind_also (named_only name) (RunShows describes info nothing_shown)
+        (IsAskedAt shapes info)
+        (λ x d u. ⊎_elim (asked_at_also describes shapes info shows x d u) (λ none. absurd none))
+        s doc full
+        (subst (λ c. BehindWord c (RunShows describes info nothing_shown) s doc full) is_called
+        behind))
+        (command_hands_on describes info law nothing_shown nothing plain called
+        (CommandPart called help describes) adjacent);
+    also = λ context share v read. adjacent_also also (name ∷ []) context share v
+        (rw (is_adjacent, is_called) at read);
+    shows = λ shape shown. (
+      shown.0,
+      (shown.1.0, shows shown.1.0 shown.1.1, rw (is_called, is_help) at shown.1.2),
+      shown.2,
+    );
+  }
+
+-- so does a choice of two
+pub choice_hands : {T : Type 0} {showing : Showing} {first second : Outcome T}
+    {reads reads' wanted wanted' : Readings T} {describes describes' : Shape → Type 0}
+    {shapes shapes' : Shape → Type 0} → Hands showing first reads describes wanted shapes
+    → Hands showing second reads' describes' wanted' shapes'
+    → Hands showing (ChoiceOutcome first second) (ChoiceReads reads reads')
+    (ChoiceDescribes describes describes') (ChoiceReads wanted wanted')
+    (ChoiceDescribes shapes shapes')
+choice_hands {showing = showing} one other = record {
+  law = choice_lawful one.law other.law;
+  hands = choice_hands_on showing one.hands other.hands;
+  also = choice_also one.also other.also;
+  shows = λ shape shown. (
+    shown.0,
+    shown.1,
+    one.shows shown.0 shown.2,
+    other.shows shown.1 shown.3,
+    shown.4,
+  );
+}
+
+-- so does a repeat
+pub many_hands : {T : Type 0} {showing : Showing} {outcome : Outcome T}
+    {reads wanted : Readings T} {describes shapes : Shape → Type 0} (catches : Bool)
+    → Hands showing outcome reads describes wanted shapes
+    → Hands showing (ManyOutcome outcome catches)
+    (MapReads (List T) (Vec T) (ListReads reads) (λ values v. v.items ≡ values))
+    (ManyDescribes describes)
+    (MapReads (List T) (Vec T) (ListReads wanted) (λ values v. v.items ≡ values))
+    (ManyDescribes shapes)
+many_hands {showing = showing} catches is = record {
+  law = many_lawful is.law catches;
+  hands = many_hands_on showing is.law is.hands catches;
+  also = many_also is.also;
+  shows = λ shape shown. (shown.0, is.shows shown.0 shown.1, shown.2);
+}
+
+module _ {T : Type 0} {showing : Showing} {outcome : Outcome T} {reads wanted : Readings T}
+    {describes shapes : Shape → Type 0} (is : Hands showing outcome reads describes wanted shapes)
+    {known names : Known} {given own : Given} where
+  -- what it shows in place of a value is a page that the words ask for
+  pub hands_asked : IsAlsoShown (IsAskedAt shapes plain_info) showing → (r : Result T ParseFailure)
+      → {info : RunInfo} → RunsWords T outcome describes info known given r → info ≡ plain_info
+      → known ≡ names → given ≡ own → IfErr r (IfShown (WordsShow names own showing))
+  hands_asked asks (Err (failure.Stdout doc full)) {info} runs plain known_is same =
+      let was : WordsShow known given (RunShows describes info showing) doc full =
+      answer_shows describes info is.law showing is.hands
+      (ap (λ settings. settings.help_if_no_args) plain) known given
+      (Err (failure.Stdout doc full)) runs in
+      words_also names own (RunShows describes plain_info showing) showing
+      (λ s d u. ⊎_elim
+      (λ at. asks s d u (asked_at_also describes shapes plain_info is.shows s d u at))
+      (λ page. page)) doc full (rw (plain, known_is, same) at was)
+  hands_asked asks _ runs plain known_is same = tt
+
+-- an item that reads as a word on the left side of `--` is that word
+left_word : (at : Option Arg) (strict : Bool) (text : List ℕ)
+    → option_and_then word_text at ≡ Some (strict, text) → not strict ≡ true → at ≡ Some (Word text)
+left_word (Some (Word word)) strict text is left = ap (option_map (λ read. Word read.1)) is
+left_word at strict text is left =
+    let side = ap (option_map (λ (read : Bool × List ℕ). read.0)) is in cc
+
+-- the text of a word that is read before `--` is one of the words there
+pub word_before : {T : Type 0} {means : List ℕ → T → Type 0} (known : Known)
+    → ((c : ℕ) → ¬ (IsKnownAs false true known.names c))
+    → (given : Given) {context : Context} {share : Share} {v : T} → IsContext known given context
+    → (read : PositionalReads T means NonStrict context share v)
+    → Contains (words_before given.words) read.text
+word_before known none given {context = context} is read =
+    let before = words_before given.words in
+    let IsAmong : Arg → Type 0 =
+    λ item. (text : List ℕ) → item ≡ Word text → Contains before text in
+    each_at IsAmong is
+    (λ word among items. all_spelled IsAmong known word (λ c attached rest e text other. cc)
+    (λ c text other. cc) (λ name attached rest e text other. cc) (λ value text other. cc)
+    (λ text same. let own : word ≡ text = cc in subst (Contains before) own among)
+    (λ c text is. absurd (none c is)) items) (λ behind text other. cc) read.place (Word read.text)
+    (left_word (item_in context read.place) read.strict read.text read.is read.accepted) read.text
+    refl

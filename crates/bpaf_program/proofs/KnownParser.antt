@@ -1,27 +1,38 @@
--- The parsers of a program are known where what they are made of is.
+-- The parsers of a program, and their fields, are known where what they are made of is.
 use Rattle.std.proofs.Common.{All, Err, IsUtf8, List, Ok, Result, [], ap, ap₂, refl, true, ◌∙◌, ◌≡◌}
-use Rattle.std.proofs.Common.{ℕ}
-use Rattle.bpaf_doc.specs.Shape.{Shape}
-use Rattle.bpaf_line.specs.{declared.error.Error.Error, declared.failure.ParseFailure.ParseFailure}
-use Rattle.bpaf_line.specs.Situation.{Situation}
-use Rattle.bpaf_laws.specs.{Choice.ChoiceOutcome, Product.ProductOutcome, ShownNames.joined_shorts}
-use Rattle.bpaf_laws.specs.{Command.CommandPart, Product.BothOutcome, Transform.MapOutcome}
-use Rattle.bpaf_laws.specs.{Command.named_only, Reading.Outcome}
+use Rattle.std.proofs.Common.{ℕ, Bool, Option, Some, false}
+use Rattle.bpaf_doc.specs.{Shape.Shape, Names.Names, declared.doc.Piece.Piece}
+use Rattle.bpaf_line.specs.declared.failure.ParseFailure.{ParseFailure}
+use Rattle.bpaf_line.specs.{declared.error.Error.Error, Situation.Situation}
+use Rattle.bpaf_laws.specs.Laws.{joined_shorts, no_shorts, of_arguments, of_flags}
+use Rattle.bpaf_laws.specs.Combinators.{MapOutcome, FallbackOutcome, GivesClone, ManyOutcome}
+use Rattle.bpaf_laws.specs.Combinators.{TurnOutcome}
+use Rattle.bpaf_laws.specs.Leaves.{ArgumentOutcome, FlagOutcome}
+use Rattle.bpaf_laws.specs.{Choice.ChoiceOutcome, Product.ProductOutcome, Product.BothOutcome}
+use Rattle.bpaf_laws.specs.{Command.CommandPart, Command.named_only, Reading.Outcome}
 use Rattle.bpaf_exact.proofs.ProgramForm.{narrower_form, no_more, program_both_law, program_con_law}
 use Rattle.bpaf_exact.proofs.ProgramForm.{program_alone_law, program_choice_law, program_field_law}
-use Rattle.bpaf_exact.proofs.ProgramForm.{AllowsNoMore, map_law}
+use Rattle.bpaf_exact.proofs.ProgramForm.{AllowsNoMore, map_law, fallback_law, many_law}
+use Rattle.bpaf_exact.proofs.ProgramForm.{optional_law}
+use Rattle.bpaf_exact.proofs.Leaves.{argument_field_law, flag_field_law}
 use Rattle.bpaf_exact.specs.ProgramForm.{is_program, program_field}
-use Rattle.bpaf.specs.{Adjacent.EitherCommandOutcome, Info.plain_info, Known.known_names}
-use Rattle.bpaf.specs.{Ending.EndsRun, Info.RunInfo, Run.RunsWords}
+use Rattle.bpaf.specs.Run.{known_names, RunsWords}
+use Rattle.bpaf.specs.{Command.EitherCommandOutcome, Info.plain_info, Info.RunInfo, Ending.EndsRun}
+use Rattle.bpaf.specs.{Positional.PositionalOutcome, declared.leaves.positional.Position.Position}
 use Rattle.bpaf_core.specs.declared.commands.ParseCommand.{ParseCommand}
 use Rattle.bpaf_program.specs.KnownParser.{AreKnownFields, IsExactFor, IsKnownParser, program_names}
-use Rattle.bpaf_program.specs.{KnownFields.known_command, KnownParser.shown_shorts}
-use Rattle.bpaf_program.specs.{Fields.IsPlainCommand, KnownFields.known_con, KnownFields.known_map}
-use Rattle.bpaf_program.specs.KnownParser.{IsValueBy}
+use Rattle.bpaf_program.specs.KnownParser.{known_command, shown_shorts, known_con, known_map}
+use Rattle.bpaf_program.specs.KnownParser.{IsValueBy, known_default, known_many, known_optional}
+use Rattle.bpaf_program.specs.KnownParser.{known_switch, IsKept}
+use Rattle.bpaf_program.specs.Fields.{IsPlainCommand}
 use Rattle.bpaf_record.proofs.Programs.{answers_as_program}
 use Rattle.bpaf_record.specs.Grammar.{Grammar, alone, choice, command_words, keys_of, program_form}
-use Rattle.bpaf_record.specs.{Commands.plain_command_law, Grammar.both, Program.AnswersAsProgram}
-use Rattle.bpaf_words.specs.{Arguments.Given, Spelling.ShortNames}
+use Rattle.bpaf_record.specs.Grammar.{both, argument, word}
+use Rattle.bpaf_record.specs.Commands.{plain_command_law, positional_law}
+use Rattle.bpaf_record.specs.Record.{AnswersAsProgram}
+use Rattle.bpaf_words.specs.{Arguments.Given, Line.ShortNames}
+use Rattle.bpaf_text.specs.Named.{KeyWithValue, Named, key_named}
+use Rattle.bpaf_laws.proofs.Keeping.{fallback_kept}
 
 module _ {A B : Type 0} (inner : Outcome A) {answers wanted : A → B → Type 0}
     (only : (x : A) (v : B) → answers x v → wanted x v) where
@@ -44,20 +55,20 @@ module _ {A B : Type 0} (inner : Outcome A) {answers wanted : A → B → Type 0
       by_answer s t (Err e) o = o
 
 -- a command over a program, which is one that was made by its word alone
-pub command_known : {T P : Type 0} (word : List ℕ) (known : Grammar T)
+pub command_known : {T P : Type 0} (called : List ℕ) (known : Grammar T)
     (describes : Shape → Type 0) {parser : P} {command made : ParseCommand T P} → command ≡ made
-    → IsPlainCommand word parser made → {outcome : Outcome T} {shorts : ShortNames}
-    → IsKnownParser known outcome shorts → IsKnownParser (known_command word known)
+    → IsPlainCommand called parser made → {outcome : Outcome T} {shorts : ShortNames}
+    → IsKnownParser known outcome shorts → IsKnownParser (known_command called known)
     (EitherCommandOutcome command.adjacent T outcome (EndsRun describes command.info)
     command.names (CommandPart command.names command.help describes)) shorts
-command_known {T} word known describes {command = command} same plain {outcome} is =
+command_known {T} called known describes {command = command} same plain {outcome} is =
     rw (
       ap (λ c. c.names) same ∙ plain.names,
       ap (λ c. c.adjacent) same ∙ plain.adjacent,
       ap (λ c. c.info) same ∙ plain.info,
     ) (record {
       law = λ env. plain_command_law env T outcome describes plain_info
-          (named_only word) _ _ (keys_of known true) (command_words known)
+          (named_only called) _ _ (keys_of known true) (command_words known)
           (program_form known env) (is.law env);
       shown = is.shown;
     })
@@ -143,3 +154,74 @@ program_exactly {T} known own program {outcome} {describes} {r = r} runs is info
     exact_for known (answers_as_program T outcome describes plain_info (program_names known)
     (keys_of known true) (command_words known) (program_form known own.env) own (is.law own.env)
     program r (rw (info_is, given_is, is.shown) at runs)) refl refl
+
+-- The fields of a program are known where what they are made of is.
+
+-- a switch, with some help or none
+pub switch_known : (names : Names) (help : Option (List Piece)) {named : Named}
+    → named ≡ record (key_named names) { help = help } → {present : Bool} → present ≡ true
+    → {absent : Option Bool} → absent ≡ Some false
+    → IsKnownParser (known_switch names) (FlagOutcome IsKept named present absent)
+    (of_flags named.names.shorts)
+switch_known names help named_is present_is absent_is =
+    rw (named_is, present_is, absent_is) (record {
+      law = λ env. flag_field_law env Bool IsKept (record (key_named names) { help = help }) true
+          (Some false);
+      shown = refl;
+    })
+
+-- an argument, with some help or none
+pub argument_known : {T : Type 0} (means : List ℕ → T → Type 0) (key : KeyWithValue)
+    (help : Option (List Piece)) {own : KeyWithValue}
+    → own ≡ record key { named = record key.named { help = help } }
+    → IsKnownParser (argument means key) (ArgumentOutcome means own)
+    (of_arguments own.named.names.shorts)
+argument_known {T} means key help is =
+    rw is (record {
+      law = λ env. argument_field_law env T means
+          (record key { named = record key.named { help = help } });
+      shown = refl;
+    })
+
+-- a word
+pub word_known : {T : Type 0} (means : List ℕ → T → Type 0) (place : Position)
+    {position : Position} → position ≡ place → {metavar : List ℕ}
+    → IsKnownParser (word means place) (PositionalOutcome means position metavar) no_shorts
+word_known {T} means place is {metavar} =
+    rw is (record { law = λ env. positional_law env T means place metavar; shown = refl })
+
+module _ {T : Type 0} {known : Grammar T} {outcome : Outcome T} {shorts : ShortNames}
+    (is : IsKnownParser known outcome shorts) where
+  -- a repeat
+  pub many_known : {catch : Bool} → catch ≡ false
+      → IsKnownParser (known_many known) (ManyOutcome outcome catch) shorts
+  many_known none =
+      rw none (record {
+        law = λ env. many_law env T outcome false (keys_of known true) (command_words known)
+            (program_form known env) (is.law env);
+        shown = is.shown;
+      })
+
+  -- what may be left out
+  pub optional_known : {catch : Bool} → catch ≡ false
+      → IsKnownParser (known_optional known) (TurnOutcome outcome catch true) shorts
+  optional_known none =
+      rw none (record {
+        law = λ env. optional_law env T outcome false (keys_of known true)
+            (command_words known) (program_form known env) (is.law env);
+        shown = is.shown;
+      })
+
+  -- what is this value where it is left out
+  pub default_known : {clones : T → T → Type 0}
+      → ((own v : T) → clones own v → v ≡ own) → (value : T) {kept : T} → kept ≡ value
+      → IsKnownParser (known_default value known)
+      (FallbackOutcome outcome (GivesClone clones kept)) shorts
+  default_known {clones} equal value is_kept =
+      rw is_kept (record {
+        law = λ env. narrower_form env T _ _
+            (no_more (λ s t r o. fallback_kept equal outcome value s r t o))
+            (keys_of known true) [] _ (fallback_law env T outcome IsKept value
+            (keys_of known true) (command_words known) (program_form known env) (is.law env));
+        shown = is.shown;
+      })

@@ -1,15 +1,6 @@
-pub mod ReadsToo
-pub mod WordBefore
-pub mod Commands
-pub mod Ended
 pub mod Known
-pub mod Parts
-pub mod Pieces
 pub mod Running
 pub mod LookAlike
-pub mod Shown
-pub mod KnownFields
 pub mod KnownParser
-pub mod SeenPrograms
 pub mod OfCommands
 pub mod Texts

@@ -1,29 +1,38 @@
--- Flat fields and records all of whose values on the same pieces look alike.
+-- Flat fields, records and programs all of whose values on the same words look alike.
 use Rattle.std.proofs.Common.{Bool, List, [], ap, false, map, string_bytes, true, ℕ, ◌++◌, ◌∷◌, ◌≡◌}
-use Rattle.std.proofs.Common.{Some, not, subst, sym, ◌&&◌, ◌||◌, ◌∙◌}
+use Rattle.std.proofs.Common.{Some, not, subst, sym, ◌&&◌, ◌||◌, ◌∙◌, All, IsUtf8, ap₂, inl, inr}
 use Rattle.std.specs.Prelude.{option_map}
 use Rattle.bpaf_doc.specs.Names.{Names}
 use Rattle.bpaf_text.specs.{Meaning.SpellsUnsigned, Named.KeyWithValue, Named.key_named}
-use Rattle.bpaf_laws.specs.{Argument.ArgumentOutcome, Default.FallbackOutcome, Product.BothOutcome}
-use Rattle.bpaf_laws.specs.{Default.GivesClone, Environment.first_set, Product.ProductOutcome}
-use Rattle.bpaf_laws.specs.{Flag.FlagOutcome, Reading.Outcome, Repeat.ManyOutcome, Turn.TurnOutcome}
-use Rattle.bpaf_laws.specs.Repeat.{is_nil}
+use Rattle.bpaf_laws.specs.Combinators.{FallbackOutcome, GivesClone, ManyOutcome, TurnOutcome}
+use Rattle.bpaf_laws.specs.Combinators.{is_nil}
+use Rattle.bpaf_laws.specs.{Leaves.ArgumentOutcome, Leaves.FlagOutcome, Product.BothOutcome}
+use Rattle.bpaf_laws.specs.{Product.ProductOutcome, Reading.first_set, Reading.Outcome}
 use Rattle.bpaf_exact.proofs.OneView.{alone_view, argument_view, both_view, con_view, fallback_view}
 use Rattle.bpaf_exact.proofs.OneView.{field_view, flag_view, many_view, optional_field_view}
+use Rattle.bpaf_exact.proofs.OneView.{word_view, values_look_one}
 use Rattle.bpaf_exact.proofs.ProgramForm.{fallback_law, many_law, program_both_law, program_con_law}
 use Rattle.bpaf_exact.proofs.ProgramForm.{optional_law, program_alone_law, program_field_law}
-use Rattle.bpaf_exact.proofs.{Leaves.argument_field_law, Leaves.flag_field_law, OneView.word_view}
-use Rattle.bpaf_exact.specs.Leaves.{argument_field, argument_group, flag_field, key_field, word_by}
-use Rattle.bpaf_exact.specs.ProgramForm.{FormLaw, ProgramForm, completed, program_both, program_con}
-use Rattle.bpaf_exact.specs.ProgramForm.{program_alone, program_closed, program_optional}
-use Rattle.bpaf_exact.specs.{OneView.HasOneView, ProgramForm.program_field, Wrappers.FallbackValue}
-use Rattle.bpaf_exact.specs.{Gathered.list_closure, Leaves.ArgumentValue, Leaves.argument_roles}
-use Rattle.bpaf_exact.specs.{OneView.pair_view, Single.repeated, Wrappers.map_closure}
-use Rattle.bpaf_exact.specs.{Flat.Variables, OneView.Alike, Single.OwnList, Single.gap_of}
-use Rattle.bpaf.specs.{Positional.PositionalOutcome, declared.leaves.positional.Position.Position}
-use Rattle.bpaf.specs.Positional.{accepts}
-use Rattle.bpaf_program.specs.Values.{IsKept, MeansText, String}
-use Rattle.bpaf_record.specs.Positional.{positional_law}
+use Rattle.bpaf_exact.proofs.ProgramForm.{words_apart}
+use Rattle.bpaf_exact.proofs.Leaves.{argument_field_law, flag_field_law}
+use Rattle.bpaf_exact.proofs.Commands.{opens_apart, opens_left, opens_right}
+use Rattle.bpaf_exact.proofs.{Programs.opens_one, Cuts.one_take}
+use Rattle.bpaf_exact.specs.ProgramForm.{argument_field, argument_group, flag_field, key_field}
+use Rattle.bpaf_exact.specs.ProgramForm.{word_by, FormLaw, ProgramForm, completed, program_both}
+use Rattle.bpaf_exact.specs.ProgramForm.{program_con, program_alone, program_closed}
+use Rattle.bpaf_exact.specs.ProgramForm.{program_optional, program_field, ArgumentValue}
+use Rattle.bpaf_exact.specs.ProgramForm.{argument_roles, are_words_apart, program_value, CellsValue}
+use Rattle.bpaf_exact.specs.ProgramForm.{ChoiceValue, CommandValue, FieldThen, Opens, line_cells}
+use Rattle.bpaf_exact.specs.Says.{HasOneView, pair_view, Alike}
+use Rattle.bpaf_exact.specs.Flat.{FallbackValue, list_closure, repeated, map_closure, Variables}
+use Rattle.bpaf_exact.specs.Flat.{OwnList, gap_of, ClosedValue}
+use Rattle.bpaf_exact.specs.Pieces.{Cells, LinePiece, Roles}
+use Rattle.bpaf.specs.Positional.{PositionalOutcome, accepts}
+use Rattle.bpaf.specs.declared.leaves.positional.Position.{Position}
+use Rattle.bpaf_program.specs.KnownParser.{IsKept, MeansText, String, makes}
+use Rattle.bpaf_record.specs.{Commands.positional_law, Record.IsProgramValueOf}
+use Rattle.bpaf_record.proofs.Running.{same_context}
+use Rattle.bpaf_words.specs.{Arguments.Given, Line.Known}
 
 -- a form that this outcome, of a parser with these keys, keeps to, and whose values look alike
 pub record IsSeen {T X : Type 0} (outcome : Outcome T) (see : T → X) (names : List Names)
@@ -158,3 +167,114 @@ both_seen {A} {B} {X} {Y} {see} {look} {own} {others} {first} {rest} {outcome} {
           (more.law env);
       view = both_view A B X Y see look own others first rest one.view more.view;
     }
+
+-- Programs all of whose values on the same words look alike.
+
+-- all values on the same cells look alike
+abbrev pub LooksOne : {T X : Type 0} → (T → X) → CellsValue T → Type 0
+LooksOne see value = (cs : Cells) → Alike see (value cs)
+
+-- the values of commands look alike, and each is opened by one of these words
+pub record AreSeen {T X : Type 0} (see : T → X) (words : List (List ℕ)) (value : CellsValue T)
+    : Type 0 where
+  pub look : LooksOne see value
+  pub opened : (cs : Cells) (v : T) → value cs v → (ds : Cells) × Opens words cs ds
+
+-- a program whose values look alike
+pub values_look : {T X : Type 0} {outcome : Outcome T} {see : T → X} {names : List Names}
+    {form : ProgramForm T} → IsSeen outcome see names form → LooksOne see (program_value form)
+values_look {T} {X} {outcome} {see} {names} {form} is =
+    values_look_one T X see [] outcome names [] form (is.law []) is.view
+
+module _ {T X : Type 0} {see : T → X} where
+  -- a command over what looks alike
+  pub command_seen : (word : List ℕ) {value : CellsValue T} → LooksOne see value
+      → AreSeen see (word ∷ []) (CommandValue T (word ∷ []) value)
+  command_seen word {value} one = record {
+    look = λ cs v w a b. one b.0 v w
+        (subst (λ ds. value ds v) (opens_one (word ∷ []) a.1 b.1) a.2) b.2;
+    opened = λ cs v a. (a.0, a.1);
+  }
+
+  -- a choice of commands whose words are apart
+  pub choice_seen : {words more : List (List ℕ)} {first second : CellsValue T}
+      → AreSeen see words first → AreSeen see more second → are_words_apart words more ≡ true
+      → AreSeen see (words ++ more) (ChoiceValue T first second)
+  choice_seen {words} {more} {first} {second} one other apart =
+      record { look = choice_look; opened = choice_opened }
+    where
+      never : (cs : Cells) (v w : T) → first cs v → second cs w → ⊥
+      never cs v w a b =
+          opens_apart words more (words_apart words more apart) (one.opened cs v a).1
+          (other.opened cs w b).1
+
+      choice_look : LooksOne see (ChoiceValue T first second)
+      choice_look cs v w (inl a) (inl b) = one.look cs v w a b
+      choice_look cs v w (inr a) (inr b) = other.look cs v w a b
+      choice_look cs v w (inl a) (inr b) = absurd (never cs v w a b)
+      choice_look cs v w (inr a) (inl b) = absurd (never cs w v b a)
+
+      choice_opened : (cs : Cells) (v : T) → ChoiceValue T first second cs v
+          → (ds : Cells) × Opens (words ++ more) cs ds
+      choice_opened cs v (inl a) =
+          let o = one.opened cs v a in (o.0, opens_left words more o.1)
+      choice_opened cs v (inr a) =
+          let o = other.opened cs v a in (o.0, opens_right words more o.1)
+
+-- a last field of a record
+pub last_seen : {T X : Type 0} {outcome : Outcome T} {see : T → X} {names : List Names}
+    {form : ProgramForm T} → IsSeen outcome see names form
+    → IsSeen outcome see names (program_alone (program_field form))
+last_seen is = alone_seen (field_seen is)
+
+-- one before other fields
+pub fields_seen : {A B X Y : Type 0} {see : A → X} {look : B → Y} {own others : List Names}
+    {first : ProgramForm A} {rest : ProgramForm B} {outcome : Outcome A} {outcomes : Outcome B}
+    → IsSeen outcome see own first → IsSeen outcomes look others rest
+    → IsSeen (BothOutcome outcome outcomes) (pair_view see look) (own ++ others)
+    (program_both own others (program_field first) rest)
+fields_seen one more = both_seen (field_seen one) more
+
+-- a command over a record, whose constructor makes this of the fields
+pub record_seen : {V T X Y : Type 0} {outcome : Outcome V} {see : V → X} {names : List Names}
+    {fields : ProgramForm V} (word : List ℕ) (make : V → T) (look : T → Y)
+    → IsSeen outcome see names fields → ((x y : V) → see x ≡ see y → look (make x) ≡ look (make y))
+    → AreSeen look (word ∷ [])
+    (CommandValue T (word ∷ []) (program_value (program_con (makes make) fields)))
+record_seen word make look is same = command_seen word (values_look (con_seen is make look same))
+
+module _ {T X B Y : Type 0} {see : T → X} (make : T → B) (look : B → Y)
+    (same : (x y : T) → see x ≡ see y → look (make x) ≡ look (make y)) where
+  -- what is made of values that look alike
+  pub made_look : {value : CellsValue T} → LooksOne see value
+      → LooksOne look (ClosedValue value (makes make))
+  made_look one cs v w a b =
+      ap look a.made ∙ (same a.from b.from (one cs a.from b.from a.read b.read)
+      ∙ sym (ap look b.made))
+
+  -- so it is of commands
+  pub made_seen : {words : List (List ℕ)} {value : CellsValue T} → AreSeen see words value
+      → AreSeen look words (ClosedValue value (makes make))
+  made_seen are = record {
+    look = made_look are.look;
+    opened = λ cs v a. are.opened cs a.from a.read;
+  }
+
+-- a named field before others
+pub then_look : {A B X Y : Type 0} {see : A → X} {look : B → Y} {q : Roles}
+    {first : List LinePiece → A → Type 0} {value : CellsValue B}
+    → ((os : List LinePiece) → Alike see (first os)) → LooksOne look value
+    → LooksOne (pair_view see look) (FieldThen A B q first value)
+then_look {first = first} {value = value} one more cs v w a b =
+    let same = one_take a.taken b.taken in
+    ap₂ (λ x y. (x, y)) (one _ v.0 w.0 (subst (λ os. first os v.0) same.0 a.own) b.own)
+    (more _ v.1 w.1 (subst (λ ds. value ds v.1) same.1 a.left) b.left)
+
+-- all values of the program on the same words look alike
+pub program_looks_one : {T X : Type 0} {see : T → X} {form : ProgramForm T}
+    → LooksOne see (program_value form) → (known : Known) (given : Given) → All IsUtf8 given.words
+    → Alike see (IsProgramValueOf known form given)
+program_looks_one {form = form} one known given texts v w a b =
+    one _ v w
+    (subst (λ context. program_value form (line_cells context) v)
+    (same_context given texts known a.context b.context a.on_line b.on_line) a.read) b.read

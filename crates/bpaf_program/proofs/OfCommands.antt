@@ -1,20 +1,17 @@
 -- What the proofs of a program with commands cite, in one place.
 pub use Rattle.bpaf_text.specs.Meaning.{SpellsUnsigned}
 pub use Rattle.bpaf.specs.declared.leaves.positional.Position.TheVariants.{Unrestricted}
-pub use Rattle.bpaf_exact.specs.OneView.{Alike}
+pub use Rattle.bpaf_exact.specs.Says.{Alike}
 pub use Rattle.bpaf_record.specs.Grammar.{alone}
-pub use Rattle.bpaf_program.specs.KnownFields.{known_map}
-pub use Rattle.bpaf_program.specs.KnownParser.{program_names}
-pub use Rattle.bpaf_program.specs.Values.{MeansText}
-pub use Rattle.bpaf_program.proofs.KnownFields.{argument_known, default_known, many_known}
-pub use Rattle.bpaf_program.proofs.KnownFields.{optional_known}
-pub use Rattle.bpaf_program.proofs.KnownFields.{switch_known, word_known}
+pub use Rattle.bpaf_program.specs.KnownParser.{known_map, program_names, MeansText}
+pub use Rattle.bpaf_program.proofs.KnownParser.{argument_known, default_known, many_known}
+pub use Rattle.bpaf_program.proofs.KnownParser.{optional_known, switch_known, word_known}
 pub use Rattle.bpaf_program.proofs.KnownParser.{both_known, choice_known, command_known, con_known}
 pub use Rattle.bpaf_program.proofs.KnownParser.{exact_for, last_known, map_known}
 pub use Rattle.bpaf_program.proofs.Running.{are_texts, given_text, prints_text, refused_page}
 pub use Rattle.bpaf_program.proofs.Running.{runs_to}
 pub use Rattle.bpaf_program.proofs.LookAlike.{default_seen, field_seen, many_seen, number_seen}
 pub use Rattle.bpaf_program.proofs.LookAlike.{optional_seen, switch_seen, text_seen, text_word_seen}
-pub use Rattle.bpaf_program.proofs.SeenPrograms.{choice_seen, command_seen, fields_seen}
-pub use Rattle.bpaf_program.proofs.SeenPrograms.{last_seen, made_look, made_seen}
-pub use Rattle.bpaf_program.proofs.SeenPrograms.{program_looks_one, record_seen, then_look}
+pub use Rattle.bpaf_program.proofs.LookAlike.{choice_seen, command_seen, fields_seen, last_seen}
+pub use Rattle.bpaf_program.proofs.LookAlike.{made_look, made_seen, program_looks_one, record_seen}
+pub use Rattle.bpaf_program.proofs.LookAlike.{then_look}

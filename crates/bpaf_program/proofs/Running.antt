@@ -1,17 +1,26 @@
--- A program that prints its answer runs to the texts that answer its words.
+-- A program that prints its answer runs to the texts that answer its words, or to a part of one.
 use Rattle.std.proofs.Common.{Ok, ◌≡◌, ℕ, Bool, List, Result, Err, string_bytes, codes, All, IfOk}
-use Rattle.std.proofs.Common.{IsUtf8, inl, inr, map, refl, slice_index_or, subst, sym}
-use Rattle.std.specs.{declared.alloc.Global.Global, Prelude.String, Result.IsErr, Result.IsErrAnd}
+use Rattle.std.proofs.Common.{IsUtf8, inl, inr, map, refl, slice_index_or, subst, sym, ap, ◌==◌}
+use Rattle.std.proofs.Common.{true, false, ◌-◌, [], ◌∷◌, ◌++◌, Option, Some, None, OnOk, OnErr}
+use Rattle.std.proofs.Common.{take, drop, length, ◌∙◌, append_assoc, append-nil, ◌<◌, ◌+◌, ◌||◌}
+use Rattle.std.proofs.Common.{not, ap₂, arith, drop-cons, get_or, suc}
+use Rattle.std.proofs.KnownBytes.{Appends-trans, Appends-kept}
+use Rattle.std.proofs.lemmas.List.{take_rest, take-append-drop}
 use Rattle.std.proofs.{lemmas.List.Elements.All-map, lemmas.Str.IsUtf8-string_bytes}
+use Rattle.std.specs.{declared.alloc.Global.Global, Prelude.String, Result.IsErr, Result.IsErrAnd}
+use Rattle.std.specs.{Io.KnownBytes.Appends, Io.KnownBytes.Keeps}
 use Rattle.bpaf_doc.specs.{declared.doc.Piece.Piece, Print.printed}
 use Rattle.bpaf_line.specs.declared.failure.ParseFailure.{ParseFailure}
 use Rattle.bpaf_line.specs.declared.failure.ParseFailure.TheVariants.{Stdout, Stderr, Memory}
 use Rattle.bpaf.specs.Asked.{IfShown}
-use Rattle.bpaf_exact.specs.OneView.{Alike}
-use Rattle.bpaf_program.specs.Ending.{IsPrinted, IsShown, TellsFailure, given, told}
-use Rattle.bpaf_program.specs.Running.{AnswersByText, AnswersText, AnswersTextOf, IsTextOrWant}
-use Rattle.bpaf_program.specs.Running.{OrPage, Prints, PrintsTextOf, RunsTo, memory_wanted, shows}
-use Rattle.bpaf_program.specs.{KnownParser.IsExactFor, Running.tells, Running.written, Sink.Written}
+use Rattle.bpaf_exact.specs.Says.{Alike}
+use Rattle.bpaf_program.specs.Ending.{IsPrinted, IsShown, TellsFailure, given, told, AnswersByText}
+use Rattle.bpaf_program.specs.Ending.{AnswersText, AnswersTextOf, IsTextOrWant, OrPage, Prints}
+use Rattle.bpaf_program.specs.Ending.{PrintsTextOf, RunsTo, memory_wanted, shows, tells, written}
+use Rattle.bpaf_program.specs.Ending.{Written, EndsBy, with_status, with_value, IsUntouched, Failed}
+use Rattle.bpaf_program.specs.Ending.{KnownSink, Writes, WritesPart, wrote, TellsLine, told_in_part}
+use Rattle.bpaf_program.specs.Ending.{told_whole}
+use Rattle.bpaf_program.specs.KnownParser.{IsExactFor}
 
 -- texts are in UTF-8
 pub are_texts : (words : List (String Global)) → All IsUtf8 (map string_bytes words)
@@ -128,3 +137,174 @@ pub refused_page : {said : List ℕ → Type 0} {V : Type 0} {value : V → Type
     → {r : Result (String Global) ParseFailure} → IsErr r × IsErrAnd r (λ g. g ≡ f)
     → AnswersByText (OrPage said) value text_of r
 refused_page {said} alike {f} exact is = refused_text alike (page_answers said f) exact is
+
+module _ {T : Type 0} (out err : Written) (answer : Result T ParseFailure) (r : Result T ℕ)
+    (ends : EndsBy out err answer r) where
+  -- a value is the answer's, with nothing written
+  pub ended_value : (v : T) → r ≡ Ok v → (answer ≡ Ok v) × (IsUntouched out × IsUntouched err)
+  ended_value v is = by_end answer r ends is
+    where
+      by_end : (a : Result T ParseFailure) (s : Result T ℕ) → EndsBy out err a s → s ≡ Ok v
+          → (a ≡ Ok v) × (IsUntouched out × IsUntouched err)
+      by_end a s (with_value {v = w} kept quiet) e =
+          let same : w ≡ v = cc in (ap Ok same, (kept, quiet))
+      by_end a s (with_status said) e = absurd cc
+
+  -- a status is that of what is told of a failure
+  pub ended_status : (status : ℕ) → r ≡ Err status
+      → (f : ParseFailure) × (answer ≡ Err f) × TellsFailure out err f status
+  ended_status status is = by_end answer r ends is
+    where
+      by_end : (a : Result T ParseFailure) (s : Result T ℕ) → EndsBy out err a s → s ≡ Err status
+          → (f : ParseFailure) × (a ≡ Err f) × TellsFailure out err f status
+      by_end a s (with_value kept quiet) e = absurd cc
+      by_end a s (with_status {f = f} {status = n} said) e =
+          let same : n ≡ status = cc in (f, refl, subst (TellsFailure out err f) same said)
+
+-- A text of which a part is written.
+
+-- all of a text is written but this rest
+pub record IsWrittenBut (before after : Option (List ℕ)) (rest text : List ℕ) : Type 0 where
+  pub front : List ℕ
+  pub written : Appends before after front
+  pub whole : front ++ rest ≡ text
+
+module _ (before middle after : Option (List ℕ)) (rest text : List ℕ)
+    (so_far : IsWrittenBut before middle rest text) where
+  -- the next n bytes of the rest are written, and what is behind them is left
+  pub written_on : (n : ℕ) → Appends middle after (take n rest)
+      → IsWrittenBut before after (take (length rest - n) (drop n rest)) text
+  written_on n more = record {
+    front = so_far.front ++ take n rest;
+    written = Appends-trans before middle after so_far.front (take n rest) so_far.written more;
+    whole =
+        append_assoc so_far.front (take n rest) (take (length rest - n) (drop n rest))
+        ∙ (ap (λ x. so_far.front ++ (take n rest ++ x)) (take_rest rest n)
+        ∙ (ap (λ x. so_far.front ++ x) (take-append-drop n rest) ∙ so_far.whole));
+  }
+
+  -- no byte more is written
+  pub written_still : Keeps middle after → IsWrittenBut before after rest text
+  written_still kept = record {
+    front = so_far.front;
+    written = Appends-kept before middle after so_far.front so_far.written kept;
+    whole = so_far.whole;
+  }
+
+-- a write that takes nothing leaves all as it was
+pub written_nothing : (before middle after : Option (List ℕ)) (rest text : List ℕ) (n : ℕ)
+    → IsWrittenBut before middle rest text → n ≡ 0 → Appends middle after (take n rest)
+    → IsWrittenBut before after rest text
+written_nothing before middle after rest text n so_far none more = record {
+  front = so_far.front ++ [];
+  written = Appends-trans before middle after so_far.front [] so_far.written
+      (subst (λ k. Appends middle after (take k rest)) none more);
+  whole = ap (λ x. x ++ rest) (append-nil so_far.front) ∙ so_far.whole;
+}
+
+-- where a rest is left after a failed write, a part is written
+pub part_written : (sink : Written) (rest text : List ℕ)
+    → IsWrittenBut (sink.known.contents sink.before) (sink.known.contents sink.after) rest text
+    → (length rest ≡ 0 → ⊥) → Failed sink.known sink.after → WritesPart sink text
+part_written sink [] text so_far some failed = absurd (some refl)
+part_written sink (next ∷ rest) text so_far some failed = record {
+  front = so_far.front;
+  next = next;
+  rest = rest;
+  whole = so_far.whole;
+  written = so_far.written;
+  failed = failed;
+}
+
+-- a part of a text is one of a longer text
+pub part_of_more : (sink : Written) (text more : List ℕ) → WritesPart sink text
+    → WritesPart sink (text ++ more)
+part_of_more sink text more is = record {
+  front = is.front;
+  next = is.next;
+  rest = is.rest ++ more;
+  whole = sym (append_assoc is.front (is.next ∷ is.rest) more) ∙ ap (λ x. x ++ more) is.whole;
+  written = is.written;
+  failed = is.failed;
+}
+
+-- behind a whole text a part of another is one of both
+pub part_behind : {S : Type 0} (known : KnownSink S) (before middle after : S)
+    (text more : List ℕ) → Writes (wrote known before middle) text
+    → WritesPart (wrote known middle after) more
+    → WritesPart (wrote known before after) (text ++ more)
+part_behind known before middle after text more whole is = record {
+  front = text ++ is.front;
+  next = is.next;
+  rest = is.rest;
+  whole = append_assoc text is.front (is.next ∷ is.rest) ∙ ap (λ x. text ++ x) is.whole;
+  written = Appends-trans (known.contents before) (known.contents middle) (known.contents after)
+      text is.front whole is.written;
+  failed = is.failed;
+}
+
+-- whether all writes succeed or one fails, the line is told or a part of it
+pub line_told : {A E : Type 0} (r : Result A E) (err : Written) (line : List ℕ)
+    → OnOk r (Writes err line) → OnErr r (WritesPart err line) → TellsLine err line 1
+line_told (Ok v) err line whole part = told_whole whole
+line_told (Err e) err line whole part = told_in_part part
+
+-- the next text of those that are left is written
+pub written_next : (before middle after : Option (List ℕ)) (next rest text : List ℕ)
+    → IsWrittenBut before middle (next ++ rest) text → Appends middle after next
+    → IsWrittenBut before after rest text
+written_next before middle after next rest text so_far more = record {
+  front = so_far.front ++ next;
+  written = Appends-trans before middle after so_far.front next so_far.written more;
+  whole = append_assoc so_far.front next rest ∙ so_far.whole;
+}
+
+-- a part of it is
+pub part_of_next : {S : Type 0} (known : KnownSink S) (before middle after : S)
+    (next rest text : List ℕ)
+    → IsWrittenBut (known.contents before) (known.contents middle) (next ++ rest) text
+    → WritesPart (wrote known middle after) next → WritesPart (wrote known before after) text
+part_of_next known before middle after next rest text so_far part =
+    subst (WritesPart (wrote known before after)) so_far.whole
+    (part_behind known before middle after so_far.front (next ++ rest) so_far.written
+    (part_of_more (wrote known middle after) next rest part))
+
+-- what holds is so where a result is an error
+pub on_err : {A E : Type 0} {P : Type 0} (r : Result A E) → P → OnErr r P
+on_err (Ok v) p = tt
+on_err (Err e) p = p
+
+-- what holds there leads to what follows from it
+pub on_err_then : {A E : Type 0} {P Q : Type 0} (r : Result A E) → (P → Q) → OnErr r P → OnErr r Q
+on_err_then (Ok v) then p = tt
+on_err_then (Err e) then p = then p
+
+-- what isn't empty has some length
+pub some_left : (n : ℕ) (empty : Bool) → empty ≡ (n == 0) → empty ≡ false → n ≡ 0 → ⊥
+some_left n empty is some none = let all : empty ≡ true = is ∙ ap (λ k. k == 0) none in cc
+
+-- what is kept first and grows then grows
+pub kept_then : (before middle after : Option (List ℕ)) (text : List ℕ) → Keeps before middle
+    → Appends middle after text → Appends before after text
+kept_then None middle after text kept more = tt
+kept_then (Some xs) None after text kept more = absurd kept
+kept_then (Some xs) (Some ys) None text kept more = absurd more
+kept_then (Some xs) (Some ys) (Some zs) text kept more = more ∙ ap (λ z. z ++ text) kept
+
+module _ (full : Bool) (pieces : List Piece) (i : ℕ) (piece : Piece) (within : i < length pieces)
+    (here : piece ≡ get_or pieces i piece) where
+  -- the pieces from a place on are the one there, and those behind it
+  from_here : drop i pieces ≡ piece ∷ drop (i + 1) pieces
+  from_here =
+      let next : suc i ≡ i + 1 = omega arith in
+      drop-cons pieces i piece within ∙ ap₂ (λ x k. x ∷ drop k pieces) (sym here) next
+
+  -- its text is printed where it is shown
+  pub printed_here : (full || not piece.detail) ≡ true
+      → printed full (drop i pieces) ≡ piece.text ++ printed full (drop (i + 1) pieces)
+  printed_here is = ap (printed full) from_here ∙ rw is refl
+
+  -- else nothing is
+  pub printed_behind : (full || not piece.detail) ≡ false
+      → printed full (drop i pieces) ≡ printed full (drop (i + 1) pieces)
+  printed_behind is = ap (printed full) from_here ∙ rw is refl

@@ -1,7 +1,7 @@
 -- Texts that words mean, each of which means itself, are the texts of those words.
 use Rattle.std.proofs.Common.{◌≡◌, List, [], ◌∷◌, ap₂, map, refl, string_bytes, ℕ}
 use Rattle.std.specs.List.{AllZip}
-use Rattle.bpaf_program.specs.Values.{MeansText, String}
+use Rattle.bpaf_program.specs.KnownParser.{MeansText, String}
 
 -- the texts of words are those that they are read off
 pub texts_are : (texts : List (List ℕ)) (words : List String) → AllZip MeansText texts words

@@ -1,9 +1,63 @@
--- How a run of a program ends: what is written where it gives no value, and the status.
-use Rattle.std.specs.Prelude.{ℕ, true, List, [], ◌∷◌, ◌++◌, Result, Ok, Err, codes}
-use Rattle.bpaf_doc.specs.Print.{printed, line_break}
+-- Sinks, and how a run of a program ends: what it prints, what is written where it gives no value,
+-- and the status.
+use Rattle.std.specs.Prelude.{◌≡◌, ◌≢◌, ℕ, List, ◌∷◌, ◌++◌, length, Option, Result, Ok, Err, true}
+use Rattle.std.specs.Prelude.{[], codes, ◌⊎◌, Bool, String, string_bytes, if◌then◌else◌}
+use Rattle.std.specs.{Io.KnownBytes.Appends, declared.io.Error.Error, declared.alloc.Global.Global}
+use Rattle.bpaf_doc.specs.Print.{printed, line_break, TextPieces}
+use Rattle.bpaf_doc.specs.declared.doc.Piece.{Piece}
 use Rattle.bpaf_line.specs.declared.failure.ParseFailure.{ParseFailure}
 use Rattle.bpaf_line.specs.declared.failure.ParseFailure.TheVariants.{Stdout, Stderr, Memory}
-use Rattle.bpaf_program.specs.Sink.{IsUntouched, Writes, WritesPart, Written}
+
+-- what is known of a sink: the bytes that it holds, where these are known, and what a write of some
+-- bytes may answer and leave, which only a call of that write gives
+pub record KnownSink (S : Type 0) : Type 1 where
+  pub contents : S → Option (List ℕ)
+  pub answers : S → List ℕ → Result ℕ Error → S → Type 0
+
+-- of a writer the bytes alone are
+abbrev pub known_writer : {W : Type 0} → (W → Option (List ℕ)) → KnownSink W
+known_writer contents = record { contents = contents; answers = λ _ _ _ _. Unit {0} }
+
+-- an error, or nothing taken of some bytes
+abbrev pub IsFailure : List ℕ → Result ℕ Error → Type 0
+IsFailure bytes (Ok n) = (n ≡ 0) × (length bytes ≢ 0)
+IsFailure bytes (Err e) = Unit {0}
+
+-- the last write to a sink, which left it so, failed
+pub record Failed {S : Type 0} (known : KnownSink S) (after : S) : Type 0 where
+  pub before : S
+  pub bytes : List ℕ
+  pub answer : Result ℕ Error
+  pub answered : known.answers before bytes answer after
+  pub failed : IsFailure bytes answer
+
+-- a sink before a run and after it
+pub record Written : Type 1 where
+  pub Sink : Type 0
+  pub known : KnownSink Sink
+  pub before : Sink
+  pub after : Sink
+
+-- a sink of this type
+abbrev pub wrote : {S : Type 0} → KnownSink S → S → S → Written
+wrote {S} known before after = record { Sink = S; known = known; before = before; after = after }
+
+-- nothing is written: it is as it was
+abbrev pub IsUntouched : Written → Type 0
+IsUntouched sink = sink.after ≡ sink.before
+
+-- the bytes that it holds grow by a text
+abbrev pub Writes : Written → List ℕ → Type 0
+Writes sink text = Appends (sink.known.contents sink.before) (sink.known.contents sink.after) text
+
+-- they grow by a beginning of a text, and not by all of it, and the last write failed
+pub record WritesPart (sink : Written) (text : List ℕ) : Type 0 where
+  pub front : List ℕ
+  pub next : ℕ
+  pub rest : List ℕ
+  pub whole : front ++ (next ∷ rest) ≡ text
+  pub written : Writes sink front
+  pub failed : Failed sink.known sink.after
 
 -- the line that tells a message
 abbrev pub error_line : List ℕ → List ℕ
@@ -55,3 +109,78 @@ pub data IsPrinted (out err : Written) {A : Type 0} (text_of : A → List ℕ)
       → IsPrinted out err text_of (Ok v) status
   told : {f : ParseFailure} {status : ℕ} → TellsFailure out err f status
       → IsPrinted out err text_of (Err f) status
+
+-- an answer gives or shows one of the texts that answer the words, or it refuses
+abbrev pub AnswersText : (List ℕ → Type 0) → Result (String Global) ParseFailure → Type 0
+AnswersText answers (Ok text) = answers (string_bytes text)
+AnswersText answers (Err (Stdout doc full)) = answers (printed full doc)
+AnswersText answers (Err (Stderr doc)) = Unit {0}
+AnswersText answers (Err Memory) = Unit {0}
+
+-- a text of this kind, or a page that is shown
+abbrev pub OrPage : (List ℕ → Type 0) → List ℕ → Type 0
+OrPage said text = said text ⊎ ((doc : List Piece) × (full : Bool) × (text ≡ printed full doc))
+
+-- A program answers its words by one of these texts: by status 0 exactly one is written on `out`,
+-- and nothing on `err`; by status 1 a beginning of one, where a write failed, and nothing on `err`;
+-- or nothing, and on `err` the line of a message, or a beginning of it where a write failed.
+pub data RunsTo (answers : List ℕ → Type 0) (out err : Written) : ℕ → Type 0 where
+  shows : {status : ℕ} (text : List ℕ) → answers text → IsShown out text status
+      → IsUntouched err → RunsTo answers out err status
+  tells : {status : ℕ} (message : List ℕ) → IsUntouched out
+      → TellsLine err (error_line message) status → RunsTo answers out err status
+
+-- an answer is this text, or want of memory
+abbrev pub IsTextOrWant : List ℕ → Result (String Global) ParseFailure → Type 0
+IsTextOrWant text (Ok answer) = string_bytes answer ≡ text
+IsTextOrWant text (Err f) = f ≡ Memory
+
+-- all these values have the same text; and where there is one, the answer is its text, or want of
+-- memory
+pub record AnswersTextOf {V : Type 0} (value : V → Type 0) (text_of : V → List ℕ)
+    (r : Result (String Global) ParseFailure) : Type 0 where
+  pub alike : (v w : V) → value v → value w → text_of v ≡ text_of w
+  pub complete : (v : V) → value v → IsTextOrWant (text_of v) r
+
+-- a text is that of one of these values
+abbrev pub IsTextOf : {V : Type 0} → (V → Type 0) → (V → List ℕ) → List ℕ → Type 0
+IsTextOf {V = V} value text_of text = (v : V) × value v × (text ≡ text_of v)
+
+-- an answer gives or shows a text that answers the words, or refuses; and where there is one of
+-- these values, it is exact
+pub record AnswersByText {V : Type 0} (answers : List ℕ → Type 0) (value : V → Type 0)
+    (text_of : V → List ℕ) (r : Result (String Global) ParseFailure) : Type 0 where
+  pub answer : AnswersText answers r
+  pub exact : AnswersTextOf value text_of r
+
+-- a run prints a text: it is written, or a write failed, and a beginning of it is; or memory was
+-- wanted, which alone is told
+pub data Prints (text : List ℕ) (out err : Written) : ℕ → Type 0 where
+  written : {status : ℕ} → IsShown out text status → IsUntouched err → Prints text out err status
+  memory_wanted : {status : ℕ} → IsUntouched out → TellsLine err memory_line status
+      → Prints text out err status
+
+-- all these values have the same text; and where there is one, a run prints its text
+pub record PrintsTextOf {V : Type 0} (value : V → Type 0) (text_of : V → List ℕ) (out err : Written)
+    (status : ℕ) : Type 0 where
+  pub alike : (v w : V) → value v → value w → text_of v ≡ text_of w
+  pub prints : (v : V) → value v → Prints (text_of v) out err status
+
+-- memory was wanted, or it is told that one is no text
+abbrev pub IsUnread : ParseFailure → Type 0
+IsUnread (Stdout doc full) = ⊥
+IsUnread (Stderr doc) = TextPieces (codes "a word is no text in UTF-8") doc
+IsUnread Memory = Unit {0}
+
+-- a text and the end of its line
+abbrev pub line : List ℕ → List ℕ
+line text = text ++ line_break ∷ []
+
+-- a line for each text, with this before it
+abbrev pub line_each : List ℕ → List (List ℕ) → List ℕ
+line_each front [] = []
+line_each front (text ∷ texts) = line (front ++ text) ++ line_each front texts
+
+-- how a truth value is printed
+abbrev pub truth : Bool → List ℕ
+truth value = if value then codes "true" else codes "false"

@@ -1,13 +1,14 @@
 -- All that a field is which a function of a program makes: without a help, or with one of some text.
 use Rattle.std.specs.Prelude.{◌≡◌, Bool, true, false, ℕ, List, Option, Some, None}
-use Rattle.bpaf_doc.specs.{declared.doc.Piece.Piece, Fold.TextPieces, Names.Names, Shape.Shape}
+use Rattle.bpaf_doc.specs.{declared.doc.Piece.Piece, Print.TextPieces, Names.Names, Shape.Shape}
 use Rattle.bpaf_text.specs.declared.params.ParseFlag.{ParseFlag}
 use Rattle.bpaf_text.specs.Named.{KeyWithValue, key_named, with_help}
-use Rattle.bpaf_laws.specs.{Command.named_only, Flag.FlagReads, Flag.flag_shape, Reading.Readings}
+use Rattle.bpaf_laws.specs.Leaves.{FlagReads, flag_shape}
+use Rattle.bpaf_laws.specs.{Command.named_only, Reading.Readings}
 use Rattle.bpaf_core.specs.declared.commands.ParseCommand.{ParseCommand}
 use Rattle.bpaf.specs.declared.leaves.positional.ParsePositional.{ParsePositional}
 use Rattle.bpaf.specs.{Info.plain_info, declared.leaves.positional.Position.Position}
-use Rattle.bpaf_program.specs.Values.{IsKept}
+use Rattle.bpaf_program.specs.KnownParser.{IsKept}
 
 -- a flag with these names, its present value and perhaps an absent one, and no help
 abbrev pub plain_flag : {T : Type 0} → Names → T → Option T → ParseFlag T

@@ -1,16 +1,30 @@
--- What is known of the parsers that a function of a program is handed: of what they are made.
-use Rattle.std.specs.Prelude.{◌≡◌, true, IfOk, [], Result}
-use Rattle.bpaf_words.specs.{Arguments.Given, Spelling.Known, Spelling.ShortNames}
+-- What is known of the parsers that a function of a program makes or is handed: their fields,
+-- their values, and of what they are made.
+use Rattle.std.specs.Prelude.{◌≡◌, ℕ, List, string_bytes, String as StringIn, true, IfOk, []}
+use Rattle.std.specs.Prelude.{Result, Bool, false, Option, Some}
+use Rattle.std.specs.{declared.alloc.Global.Global, Global.Vec}
+use Rattle.bpaf_words.specs.{Arguments.Given, Line.Known, Line.ShortNames}
 use Rattle.bpaf_line.specs.declared.failure.ParseFailure.{ParseFailure}
-use Rattle.bpaf_laws.specs.Reading.{Outcome}
-use Rattle.bpaf_laws.specs.ShownNames.{joined_shorts, no_shorts, of_arguments, of_flags}
-use Rattle.bpaf.specs.{Info.plain_info, Known.known_names}
-use Rattle.bpaf_exact.specs.Wrappers.{Closure, map_closure}
-use Rattle.bpaf_exact.specs.{Flat.Variables, ProgramForm.FormLaw}
+use Rattle.bpaf_laws.specs.Laws.{joined_shorts, no_shorts, of_arguments, of_flags}
+use Rattle.bpaf_laws.specs.{Reading.Outcome, Command.named_only}
+use Rattle.bpaf.specs.{Info.plain_info, Info.RunInfo, Run.known_names}
+use Rattle.bpaf_exact.specs.Flat.{Closure, map_closure, Variables, list_closure}
+use Rattle.bpaf_exact.specs.ProgramForm.{FormLaw}
 use Rattle.bpaf_record.specs.Grammar.{Grammar, alone, argument, both, choice, closed, command}
 use Rattle.bpaf_record.specs.Grammar.{command_words, fallback, flag, keys_of, last, optional}
 use Rattle.bpaf_record.specs.Grammar.{product, program_form, repeat}
-use Rattle.bpaf_record.specs.{Program.IsProgramValueOf, Record.IsValueOrWant}
+use Rattle.bpaf_record.specs.Record.{IsProgramValueOf, IsValueOrWant}
+use Rattle.bpaf_doc.specs.Names.{Names}
+use Rattle.bpaf_text.specs.Named.{key_named}
+pub use Rattle.bpaf_laws.specs.Reading.{IsKept}
+
+-- a text of a program
+abbrev pub String : Type 0
+String = StringIn Global
+
+-- a text means itself
+abbrev pub MeansText : List ℕ → String → Type 0
+MeansText text word = string_bytes word ≡ text
 
 -- a closure that makes this of a value
 abbrev pub makes : {A B : Type 0} → (A → B) → Closure A B
@@ -61,3 +75,39 @@ pub record AreKnownFields {T : Type 0} (made : Grammar T) (outcome : Outcome T)
   pub law : (variables : Variables)
       → FormLaw variables outcome (keys_of made true) [] (program_form made variables)
   pub shown : shorts ≡ shown_shorts made
+
+-- a switch
+abbrev pub known_switch : Names → Grammar Bool
+known_switch names = flag IsKept (key_named names) true (Some false)
+
+-- a repeat
+abbrev pub known_many : {T : Type 0} → Grammar T → Grammar (Vec T)
+known_many {T = T} = repeat false (list_closure T)
+
+-- what may be left out
+abbrev pub known_optional : {T : Type 0} → Grammar T → Grammar (Option T)
+known_optional = optional false
+
+-- what is this value where it is left out
+abbrev pub known_default : {T : Type 0} → T → Grammar T → Grammar T
+known_default value = fallback (map_closure (λ u v. v ≡ value))
+
+-- what this is made of
+abbrev pub known_map : {A B : Type 0} → (A → B) → Grammar A → Grammar B
+known_map make = closed (makes make)
+
+-- a command of this word over a program
+abbrev pub known_command : {T : Type 0} → List ℕ → Grammar T → Grammar T
+known_command word = command false (named_only word) plain_info
+
+-- fields of which this is made
+abbrev pub known_con : {A B : Type 0} → (A → B) → Grammar A → Grammar B
+known_con make = product (makes make)
+
+-- only the version and the texts of the help page are other
+pub record HasOtherTexts (before after : RunInfo) : Type 0 where
+  pub help_arg : after.help_arg ≡ before.help_arg
+  pub version_arg : after.version_arg ≡ before.version_arg
+  pub help_if_no_args : after.help_if_no_args ≡ before.help_if_no_args
+  pub max_width : after.max_width ≡ before.max_width
+  pub numbers : after.numbers ≡ before.numbers

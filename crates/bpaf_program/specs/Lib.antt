@@ -1,10 +1,3 @@
-pub mod Sink
 pub mod Ending
-pub mod Words
-pub mod Running
-pub mod Lines
-pub mod Values
-pub mod Fields
-pub mod Texts
-pub mod KnownFields
 pub mod KnownParser
+pub mod Fields

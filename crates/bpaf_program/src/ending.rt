@@ -2,8 +2,7 @@
 ghost use Rattle.std.specs.Prelude.{string_bytes, true};
 ghost use Rattle.bpaf_doc.specs.Print.{printed};
 ghost use Rattle.bpaf_program.specs.Ending.{EndsBy, IsPrinted, IsShown, TellsFailure, TellsLine};
-ghost use Rattle.bpaf_program.specs.Ending.{error_line, memory_line};
-ghost use Rattle.bpaf_program.specs.Sink.{wrote};
+ghost use Rattle.bpaf_program.specs.Ending.{error_line, memory_line, wrote};
 
 use crate::sink::Sink;
 use crate::writing::{write_doc, write_message, write_text};

@@ -2,10 +2,10 @@
 ghost use Rattle.std.specs.Prelude.{◌≡◌, true};
 ghost use Rattle.bpaf_exact.specs.{Flat.Variables, ProgramForm.is_program};
 ghost use Rattle.bpaf_record.specs.Grammar.{Grammar, program_form};
-ghost use Rattle.bpaf_record.specs.Program.{AnswersAsProgram, IsProgramValueOf};
+ghost use Rattle.bpaf_record.specs.Record.{AnswersAsProgram, IsProgramValueOf};
 ghost use Rattle.bpaf.specs.Refusals.{IsOneOfTwelve};
-ghost use Rattle.bpaf.specs.{Dealt.IsDealtOut, Known.known_names, Run.RunsWords};
-ghost use Rattle.bpaf_laws.specs.Spared.{WithoutMemory};
+ghost use Rattle.bpaf.specs.Run.{IsDealtOut, known_names, RunsWords};
+ghost use Rattle.bpaf_laws.specs.Laws.{WithoutMemory};
 ghost use Rattle.bpaf_program.specs.KnownParser.{IsKnownParser, shown_shorts};
 
 use bpaf::{Args, OptionParser, ParseFailure, Parser};

@@ -1,6 +1,6 @@
 //! Lines of a text that a program prints.
 ghost use Rattle.std.specs.Prelude.{◌≡◌, ◌++◌, OnOk, map, string_bytes};
-ghost use Rattle.bpaf_program.specs.Lines.{line, line_each};
+ghost use Rattle.bpaf_program.specs.Ending.{line, line_each};
 
 use std::alloc::AllocError;
 

@@ -1,9 +1,9 @@
 //! A run of a program's options, with its end.
 ghost use Rattle.std.specs.{Prelude.◌≡◌, Prelude.IfOk, Prelude.true, Prelude.Result, Result.IfErr};
 ghost use Rattle.bpaf_words.specs.Arguments.{given_of, Given};
-ghost use Rattle.bpaf.specs.Run.{IsNotWant, RunsWords};
-ghost use Rattle.bpaf.specs.{Dealt.IsDealtOut, Known.known_names, Refusals.IsOneOfTwelve};
-ghost use Rattle.bpaf_program.specs.{Ending.Ends, Sink.wrote};
+ghost use Rattle.bpaf.specs.Run.{IsNotWant, RunsWords, IsDealtOut, known_names};
+ghost use Rattle.bpaf.specs.Refusals.{IsOneOfTwelve};
+ghost use Rattle.bpaf_program.specs.Ending.{Ends, wrote};
 ghost use Rattle.bpaf_line.specs.declared.failure.ParseFailure.{ParseFailure};
 
 use crate::ending::end;

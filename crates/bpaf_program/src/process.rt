@@ -1,12 +1,10 @@
 //! The words that the process was given.
 ghost use Rattle.std.specs.Prelude.{◌≡◌, ◌⊎◌, IfOk, List, codes, drop};
 ghost use Rattle.std.specs.Vec.Iter.{into_iter_items};
-ghost use Rattle.std.specs.Result.{IfErr};
-ghost use Rattle.bpaf_doc.specs.declared.doc.Piece.{Piece};
-ghost use Rattle.bpaf_doc.specs.Fold.{TextPieces};
-ghost use Rattle.std.specs.declared.io.ErrorKind.TheVariants.{OutOfMemory};
+ghost use Rattle.std.specs.{Result.IfErr, declared.io.ErrorKind.TheVariants.OutOfMemory};
+ghost use Rattle.bpaf_doc.specs.{declared.doc.Piece.Piece, Print.TextPieces};
 ghost use Rattle.bpaf_line.specs.declared.failure.ParseFailure.TheVariants.{Memory, Stderr};
-ghost use Rattle.bpaf_program.specs.Words.{IsUnread};
+ghost use Rattle.bpaf_program.specs.Ending.{IsUnread};
 
 use bpaf::{Doc, ParseFailure};
 use std::alloc::{AllocError, Global};

@@ -1,5 +1,5 @@
 //! Writers of whose writes a contract can speak.
-ghost use Rattle.bpaf_program.specs.Sink.{known_writer, KnownSink};
+ghost use Rattle.bpaf_program.specs.Ending.{known_writer, KnownSink};
 ghost use Rattle.std.specs.{Io.WritesAtMost, Io.KnownBytes.WriteAppends};
 
 use std::io;

@@ -1,8 +1,7 @@
 //! A text that is written, or a beginning of it where a write fails.
 ghost use Rattle.std.specs.Prelude.{◌≡◌, ◌||◌, OnErr, OnOk, not, true};
 ghost use Rattle.bpaf_doc.specs.Print.{printed};
-ghost use Rattle.bpaf_program.specs.Ending.{error_line};
-ghost use Rattle.bpaf_program.specs.Sink.{Writes, WritesPart, wrote};
+ghost use Rattle.bpaf_program.specs.Ending.{error_line, Writes, WritesPart, wrote};
 
 use crate::sink::Sink;
 use bpaf::{Doc, Piece};

@@ -1,17 +1,266 @@
--- What an answer to words says of one field, by the words.
-use Rattle.std.proofs.Common.{◌≡◌, ◌≢◌, ℕ, Bool, true, false, List, [], ◌∷◌, None, Some, Option}
-use Rattle.std.proofs.Common.{IsSome, Result, Ok, Err, IfOk, All, IsUtf8, sym, ◌∙◌, subst, refl}
+-- What an answer says by the words: of one field, of those in front of commands, of a command, and
+-- of the words behind `--`.
+use Rattle.std.proofs.Common.{◌≡◌, ◌≢◌, ℕ, zero, suc, Bool, true, false, List, [], ◌∷◌, ◌+◌, length}
+use Rattle.std.proofs.Common.{codes, map, refl, sym, ap, ◌∙◌, subst, cond, if◌then◌else◌, ◌||◌}
+use Rattle.std.proofs.Common.{arith, All, IsUtf8, slice_index_or, true≢false, ◌==◌, not, ◌++◌}
+use Rattle.std.proofs.Common.{slice_index, ◌<◌, None, Some, Option, IsSome, Result, Ok, Err, IfOk}
+use Rattle.std.proofs.Common.{⊎_elim, ◌⊎◌, inl, inr}
+use Rattle.std.proofs.lemmas.List.Elements.{All-contains, All-contains_itself, All-filter, All-take}
+use Rattle.std.proofs.lemmas.List.Elements.{Contains-append_left, Contains-append_right}
+use Rattle.std.proofs.lemmas.List.Elements.{Contains-get_or, filter_passes, Contains-append_cases}
+use Rattle.std.proofs.lemmas.List.Elements.{recursion_from_All}
+use Rattle.std.proofs.lemmas.List.Sums.{count_by_more_yes, length-filter, sum_by-take-le}
+use Rattle.std.proofs.lemmas.List.Sums.{AllPass-from_list_all}
+use Rattle.std.proofs.{lemmas.Str.encode_ascii, lemmas.Bool.or_cases, lemmas.Bool.not-true}
+use Rattle.std.specs.List.{AllZip, Contains, filter, position_or_len, list_all, AllByRecursion}
+use Rattle.std.specs.{Prelude.flat_map, Char.IsAsciiDigit, Option.option_to_list}
 use Rattle.bpaf_doc.specs.Names.{Names}
-use Rattle.bpaf_words.specs.{Arguments.Given, Spelling.Known}
+use Rattle.bpaf_base.specs.declared.arg.Arg.TheVariants.{Short, Long, PosWord}
+use Rattle.bpaf_base.specs.Items.{is_key_of, is_among, is_text_among, item_text}
+use Rattle.bpaf_base.specs.declared.arg.Arg.{Arg}
+use Rattle.bpaf_words.specs.Line.{Known, Items, Spells, HasNoMarker, SpellAll, HasNoEquals}
+use Rattle.bpaf_words.specs.Line.{IsNumberWord, by_dash, dash_char, long, short}
+use Rattle.bpaf_words.specs.Arguments.{Given}
+use Rattle.bpaf_words.proofs.OneSpelling.{one_spelling}
 use Rattle.bpaf_line.specs.declared.failure.ParseFailure.{ParseFailure}
-use Rattle.bpaf_exact.specs.Pieces.{LinePiece, Roles}
-use Rattle.bpaf_exact.specs.Says.{Said, FlagSays, says_present, says_variable, says_absent}
-use Rattle.bpaf_exact.specs.Says.{ArgumentSays, keyed, OptionalSays, says_some, says_none}
-use Rattle.bpaf_exact.specs.Says.{FallbackSays, says_own, says_kept, RepeatSays}
-use Rattle.bpaf_exact.specs.{ProgramForm.ProgramForm, ProgramSays.CutSays}
-use Rattle.bpaf_exact.proofs.Needed.{NeedsPiece, argument_needs, no_values, repeat_needs}
-use Rattle.bpaf_record.specs.{Program.TellsOfWords, Spelled.IsSpelledByAny, Spelled.WasSpelled}
-use Rattle.bpaf_record.proofs.Spelled.{piece_was_spelled, spelled_has_piece}
+use Rattle.bpaf_line.specs.{Taking.IsContext, Situation.Context}
+use Rattle.bpaf.specs.Marker.{is_marker_word, words_before, words_behind}
+use Rattle.bpaf.specs.declared.leaves.positional.Position.TheVariants.{NonStrict, Strict}
+use Rattle.bpaf.specs.Positional.{accepts}
+use Rattle.bpaf_exact.specs.Pieces.{Roles, LinePiece, Cut, is_value, Cells, Takes, no_cells}
+use Rattle.bpaf_exact.specs.Pieces.{empty_stays, other_stays, takes_argument, takes_flag}
+use Rattle.bpaf_exact.specs.Pieces.{is_own_role, Owns, Alone, IsNamed, One, is_own, stands_behind}
+use Rattle.bpaf_exact.specs.Pieces.{Two, others}
+use Rattle.bpaf_exact.specs.ProgramForm.{line_cells, ProgramForm, CellsValue, Opens, opens_here}
+use Rattle.bpaf_exact.specs.ProgramForm.{opens_later, flag_roles, WordValue}
+use Rattle.bpaf_exact.specs.Says.{first_item, keyed, Said, FlagSays, says_present, says_variable}
+use Rattle.bpaf_exact.specs.Says.{says_absent, ArgumentSays, OptionalSays, says_some, says_none}
+use Rattle.bpaf_exact.specs.Says.{FallbackSays, says_own, says_kept, RepeatSays, CutSays, WordSays}
+use Rattle.bpaf_exact.specs.Flat.{front, OneWord, back}
+use Rattle.bpaf_record.specs.Record.{IsSpelledByAny, IsSpelledItem, WasSpelled, TellsOfWords}
+use Rattle.bpaf_record.specs.Record.{WasCalled}
+use Rattle.bpaf_record.proofs.Running.{cut_kept, each_present, on_line, present}
+use Rattle.bpaf_exact.proofs.Says.{NeedsPiece, argument_needs, no_values, repeat_needs, word_values}
+use Rattle.bpaf_exact.proofs.{Fronts.of_front_one, Places.test_named}
+use Rattle.bpaf_laws.specs.Command.{is_one_of}
+use Rattle.bpaf.proofs.Sides.{all_spelled, of_words}
+
+module _ (known : Known) where
+  -- one of these words spells a part, whose items are among those of all
+  part_of : (words : List (List ℕ)) (parts : List (List Arg)) (word : List ℕ)
+      → AllZip (λ word items. Spells known word (Items items)) words parts → Contains words word
+      → (part : List Arg) × Spells known word (Items part)
+      × ((item : Arg) → Contains part item → Contains (flat_map (λ items. items) parts) item)
+  part_of [] parts word spelled (k, within, is) = absurd (omega arith)
+  part_of (first ∷ words) [] word spelled among = absurd spelled
+  part_of (first ∷ words) (items ∷ parts) word spelled (zero, within, is) = (
+    items,
+    subst (λ word. Spells known word (Items items)) is spelled.0,
+    Contains-append_left items (flat_map (λ items. items) parts),
+  )
+  part_of (first ∷ words) (items ∷ parts) word spelled (suc k, within, is) =
+      let part = part_of words parts word spelled.1 (k, omega arith, is) in (
+        part.0,
+        part.1,
+        λ item there. Contains-append_right items (flat_map (λ items. items) parts) item
+            (part.2 item there),
+      )
+
+  -- so the items that one spells are
+  among_all : (words : List (List ℕ)) (items own : List Arg) (word : List ℕ) (item : Arg)
+      → SpellAll known words items → All IsUtf8 words → HasNoMarker words → Contains words word
+      → Spells known word (Items own) → Contains own item → Contains items item
+  among_all words items own word item all texts none among spells there =
+      let one = one_spelling known word (All-contains IsUtf8 words word texts among)
+      (All-contains (λ word. word ≢ codes "--") words word none among) in
+      let part = part_of words all.parts word all.spelled among in
+      let these : Items own ≡ one.spelling = (one.only (Items own) spells).1 in
+      let those : Items part.0 ≡ one.spelling = (one.only (Items part.0) part.1).1 in
+      let same : own ≡ part.0 = cc in
+      subst (λ items. Contains items item) (sym all.joined)
+      (part.2 item (subst (λ items. Contains items item) same there))
+
+module _ (test : Arg → Bool) where
+  -- one that passes the test
+  abbrev pub HasPassing : List Arg → Type 0
+  HasPassing items = (item : Arg) × Contains items item × (test item ≡ true)
+
+  -- what is kept of items passes,
+  of_kept : (items : List Arg) → filter test items ≢ [] → HasPassing items
+  of_kept items some =
+      first (filter test items) some
+      (All-filter test (Contains items) items (All-contains_itself items))
+      (filter_passes test items)
+    where
+      first : (kept : List Arg) → kept ≢ [] → All (Contains items) kept
+          → All (λ item. test item ≡ true) kept → HasPassing items
+      first [] some among passes = absurd (some refl)
+      first (item ∷ kept) some among passes =
+          (item, among 0 item (omega arith), passes 0 item (omega arith))
+
+  -- and what passes is kept
+  some_kept : (items : List Arg) → HasPassing items → filter test items ≢ []
+  some_kept items (item, (k, within, is), passes) none =
+      let more = count_by_more_yes test items k item within (ap test is ∙ passes) in
+      let part = sum_by-take-le (λ item. cond (test item) 1 0) items (k + 1) in
+      let all = length-filter test items in
+      let size = ap length none in
+      omega arith
+
+  module _ (known : Known) (given : Given) (context : Context) (is : IsContext known given context)
+    where
+      -- an item of the line that passes is spelled by one of the words before the first `--`,
+      pub item_spelled : ((text : List ℕ) → test (PosWord text) ≡ false)
+          → HasPassing (present (line_cells context)) → IsSpelledItem known test given.words
+      item_spelled not_behind (item, among, passes) =
+          All-contains (λ item. test item ≡ true → IsSpelledItem known test given.words)
+          (present (line_cells context)) item
+          (each_present (λ item. test item ≡ true → IsSpelledItem known test given.words) is
+          (λ word before items spells k d within passes. record {
+            word = word;
+            before = before;
+            spells = record {
+              items = items;
+              spells = spells;
+              key = slice_index_or items k d;
+              among = Contains-get_or items k d within;
+              is_key = passes;
+            };
+          })
+          (λ text passes. absurd (true≢false (sym passes ∙ not_behind text))))
+          among passes
+
+      -- and one that one of these spells stands on it
+      spelled_item : All IsUtf8 given.words → IsSpelledItem known test given.words
+          → HasPassing (present (line_cells context))
+      spelled_item texts one =
+          let here = on_line known given.words context.line context.marker is.is_line in
+          let key = one.spells.key in (
+            key,
+            subst (λ items. Contains items key) (sym here.are)
+                (Contains-append_left here.items (map PosWord (words_behind given.words)) key
+                (among_all known (words_before given.words) here.items one.spells.items one.word key
+                here.spells
+                (All-take IsUtf8 (position_or_len is_marker_word given.words) given.words texts)
+                here.none one.before one.spells.spells one.spells.among)),
+            one.spells.is_key,
+          )
+
+module _ (names : Names) where
+  -- the value of a key is none
+  value_is_no_key : (w : Arg) → is_value w ≡ true → is_key_of names w ≡ false
+  value_is_no_key (Short c attached text) value = absurd cc
+  value_is_no_key (Long name attached text) value = absurd cc
+  value_is_no_key w value = refl
+
+  -- the keys that begin pieces are the first items of those that begin with one
+  keys_first : (os : List LinePiece)
+      → filter (is_key_of names) (map first_item os) ≡ map first_item (keyed (names ∷ []) os)
+  keys_first [] = refl
+  keys_first (o ∷ os) =
+      by_test (is_key_of names (first_item o)) (keyed (names ∷ []) os) (keys_first os)
+    where
+      by_test : (b : Bool) {ks : List Arg} (ps : List LinePiece) → ks ≡ map first_item ps
+          → (if b then (first_item o ∷ ks) else ks)
+          ≡ map first_item (if b || false then (o ∷ ps) else ps)
+      by_test true ps e = ap (λ ks. first_item o ∷ ks) e
+      by_test false ps e = e
+
+  module _ (known : Known) (given : Given) (context : Context) (on : IsContext known given context)
+      (r : Roles) (os : List LinePiece) (cut : Cut r (line_cells context) os) where
+    -- the keys on a line are those that begin its pieces
+    keys_on : filter (is_key_of names) (present (line_cells context))
+        ≡ map first_item (keyed (names ∷ []) os)
+    keys_on = cut_kept (is_key_of names) value_is_no_key cut ∙ keys_first os
+
+    -- A piece that begins with a key is spelled by one of the words before the first `--`,
+    pub piece_was_spelled : keyed (names ∷ []) os ≢ [] → WasSpelled names given.words
+    piece_was_spelled some = (
+      known,
+      item_spelled (is_key_of names) known given context on (λ text. refl)
+          (of_kept (is_key_of names) (present (line_cells context))
+          (λ none. some (map_none (keyed (names ∷ []) os) (sym keys_on ∙ none)))),
+    )
+      where
+        map_none : (ps : List LinePiece) → map first_item ps ≡ [] → ps ≡ []
+        map_none [] e = refl
+        map_none (p ∷ ps) e = absurd cc
+
+    -- and where one of them spells it, whatever names are known, there is such a piece.
+    pub spelled_has_piece : All IsUtf8 given.words → IsSpelledByAny known.numbers names given.words
+        → keyed (names ∷ []) os ≢ []
+    spelled_has_piece texts spelled none =
+        some_kept (is_key_of names) (present (line_cells context))
+        (spelled_item (is_key_of names) known given context on texts (spelled known.names))
+        (keys_on ∙ ap (map first_item) none)
+
+-- The word of a key by itself spells it, whatever names are known.
+
+-- a long name that stands by itself: not empty, and without `=`
+abbrev pub is_long_name : List ℕ → Bool
+is_long_name [] = false
+is_long_name (b ∷ bs) = list_all (λ byte. not (byte == 61)) (b ∷ bs)
+
+-- it is not empty
+is_some_name : (name : List ℕ) → is_long_name name ≡ true → name ≢ []
+is_some_name [] is none = cc
+is_some_name (b ∷ bs) is none = cc
+
+-- no byte of it is `=`
+has_no_equals : (name : List ℕ) → is_long_name name ≡ true → HasNoEquals name
+has_no_equals [] is i within same = absurd cc
+has_no_equals (b ∷ bs) is i within same =
+    let pass = AllPass-from_list_all (λ byte. not (byte == 61)) (b ∷ bs) is i 0 within in
+    let fails : not (slice_index (b ∷ bs) i == 61) ≡ false = ap (λ byte. not (byte == 61)) same in
+    cc
+
+-- `--name` is no number
+long_is_no_number : (numbers : Bool) (name : List ℕ) → ¬ (IsNumberWord numbers (codes "--" ++ name))
+long_is_no_number numbers name (on, number) =
+    let is : 45 ∷ 45 ∷ name ≡ 45 ∷ number.digits = number.is in
+    let same : number.digits ≡ 45 ∷ name = cc in
+    let digit : IsAsciiDigit (slice_index (45 ∷ name) 0) =
+    subst (λ ds. (i : ℕ) → i < length ds → IsAsciiDigit (slice_index ds i)) same number.each 0
+    (omega arith) in
+    omega (arith, digit.0)
+
+-- `--name` among the words before the first `--` spells the key of that name
+pub long_is_spelled : (numbers : Bool) (names : Names) (words : List (List ℕ)) (name : List ℕ)
+    → Contains (words_before words) (codes "--" ++ name) → is_long_name name ≡ true
+    → is_text_among names.longs name ≡ true → IsSpelledByAny numbers names words
+long_is_spelled numbers names words name there is key known = record {
+  word = codes "--" ++ name;
+  before = there;
+  spells = record {
+    items = Long name false (codes "--" ++ name) ∷ [];
+    spells = by_dash (Items (Long name false (codes "--" ++ name) ∷ []))
+        (long_is_no_number numbers name)
+        (long name refl (is_some_name name is) (has_no_equals name is));
+    key = Long name false (codes "--" ++ name);
+    among = (0, omega arith, refl);
+    is_key = key;
+  };
+}
+
+-- so does `-c` of an ASCII character, where no number is a word
+pub short_is_spelled : (numbers : Bool) → numbers ≡ false → (names : Names)
+    (words : List (List ℕ)) (c : ℕ) → Contains (words_before words) (codes "-" ++ c ∷ []) → c < 128
+    → c ≢ dash_char → is_among names.shorts c ≡ true → IsSpelledByAny numbers names words
+short_is_spelled numbers off names words c there ascii is key known = record {
+  word = codes "-" ++ c ∷ [];
+  before = there;
+  spells = record {
+    items = Short c false (codes "-" ++ c ∷ []) ∷ [];
+    spells = by_dash (Items (Short c false (codes "-" ++ c ∷ []) ∷ []))
+        (λ number. let wrong : true ≡ false = sym number.0 ∙ off in cc)
+        (short c (ap (λ bytes. codes "-" ++ bytes) (sym (encode_ascii c ascii))) is);
+    key = Short c false (codes "-" ++ c ∷ []);
+    among = (0, omega arith, refl);
+    is_key = key;
+  };
+}
+
+-- What an answer to words says of one field, by the words.
 
 -- what follows of a value that says so is said of the answer
 pub answer_says : {T : Type 0} {P Q : T → Type 0} (r : Result T ParseFailure) → IfOk r P
@@ -160,3 +409,250 @@ module _ {known : Known} {words : List (List ℕ)} {os : List LinePiece}
   spelled_repeat {key} {A} {inside} {xs} so values e names same texts spelled =
       λ none. spelled_key names same texts spelled
       (no_values (subst (RepeatSays inside (keyed (key ∷ []) os)) (sym e ∙ none) so))
+
+-- What an answer of a program says by the words: whose keys were spelled of the fields in front of
+-- commands, and which command's word was.
+
+-- what is left of cells: at each place what was there, or nothing
+pub data IsLeft : Cells → Cells → Type 0 where
+  none_left : IsLeft [] []
+  still_there : {c : Option Arg} {left cs : Cells} → IsLeft left cs → IsLeft (c ∷ left) (c ∷ cs)
+  gone : {c : Option Arg} {left cs : Cells} → IsLeft left cs → IsLeft (None ∷ left) (c ∷ cs)
+
+-- all of them
+all_left : (cs : Cells) → IsLeft cs cs
+all_left [] = none_left
+all_left (c ∷ cs) = still_there (all_left cs)
+
+-- what is left of what is left
+left_again : {a b c : Cells} → IsLeft a b → IsLeft b c → IsLeft a c
+left_again none_left none_left = none_left
+left_again (still_there l) (still_there m) = still_there (left_again l m)
+left_again (still_there l) (gone m) = gone (left_again l m)
+left_again (gone l) (still_there m) = gone (left_again l m)
+left_again (gone l) (gone m) = gone (left_again l m)
+
+-- the pieces of a field taken away
+taken_left : {q : Roles} {cs left : Cells} {os : List LinePiece} → Takes q cs os left
+    → IsLeft left cs
+taken_left no_cells = none_left
+taken_left (empty_stays t) = still_there (taken_left t)
+taken_left (other_stays e t) = still_there (taken_left t)
+taken_left (takes_flag e t) = gone (taken_left t)
+taken_left (takes_argument e v t) = gone (gone (taken_left t))
+
+-- what stands behind a command's word
+opens_left : {words : List (List ℕ)} {cs ds : Cells} → Opens words cs ds → IsLeft ds cs
+opens_left (opens_here {cs = cs} is) = gone (all_left cs)
+opens_left (opens_later o) = still_there (opens_left o)
+
+-- an item that is left is present where it is left of
+item_there : {left cs : Cells} → IsLeft left cs → (k : Arg) → Contains (present left) k
+    → Contains (present cs) k
+item_there none_left k there = there
+item_there (still_there {c = c} {left = left} {cs = cs} l) k there = ⊎_elim
+    (λ here. Contains-append_left (option_to_list c) (present cs) k here)
+    (λ behind. Contains-append_right (option_to_list c) (present cs) k (item_there l k behind))
+    (Contains-append_cases (option_to_list c) (present left) k there)
+item_there (gone {c = c} {cs = cs} l) k there =
+    Contains-append_right (option_to_list c) (present cs) k (item_there l k there)
+
+-- so is one that passes a test
+kept_on : (test : Arg → Bool) {left cs : Cells} → IsLeft left cs → HasPassing test (present left)
+    → HasPassing test (present cs)
+kept_on test l (k, among, passes) = (k, item_there l k among, passes)
+
+-- the word of a command stands where it opens
+opens_on : (words : List (List ℕ)) {cs ds : Cells} → Opens words cs ds
+    → HasPassing (is_one_of words) (present cs)
+opens_on words (opens_here {k = k} is) = (k, (0, omega arith, refl), is)
+opens_on words (opens_later o) = opens_on words o
+
+-- an own item is a key where its roles are those of its names
+own_first : {q : Roles} (key : Names) → Owns q (key ∷ []) → (k : Arg) (behind : List Arg)
+    → is_own_role (q k) ≡ true → HasPassing (is_key_of key) (k ∷ behind)
+own_first key owns k behind is = (
+  k,
+  (0, omega arith, refl),
+  ⊎_elim (λ passes. passes) (λ (no : false ≡ true). cc)
+      (or_cases (is_key_of key k) false (owns.own k is)),
+)
+
+-- and own pieces begin with one
+owned_on : {q : Roles} (key : Names) → Owns q (key ∷ []) → {cs left : Cells}
+    {os : List LinePiece} → Takes q cs os left → os ≢ [] → HasPassing (is_key_of key) (present cs)
+owned_on key owns no_cells some = absurd (some refl)
+owned_on key owns (empty_stays t) some = owned_on key owns t some
+owned_on key owns (other_stays {k = k} {cs = cs} e t) some =
+    let one = owned_on key owns t some in
+    (one.0, Contains-append_right (k ∷ []) (present cs) one.0 one.1, one.2)
+owned_on key owns (takes_flag {k = k} {cs = cs} e t) some =
+    own_first key owns k (present cs) (ap is_own_role e)
+owned_on key owns (takes_argument {k = k} {w = w} {cs = cs} e v t) some =
+    own_first key owns k (present (Some w ∷ cs)) (ap is_own_role e)
+
+-- what is left of the line of words
+pub record LeftOfLine (known : Known) (given : Given) (words : List (List ℕ)) (cs : Cells) : Type 0
+  where
+    pub are : given.words ≡ words
+    pub context : Context
+    pub on_line : IsContext known given context
+    pub left : IsLeft cs (line_cells context)
+
+-- Of what a value of a program is told, all of the line is left.
+pub told_line : {T : Type 0} {known : Known} {form : ProgramForm T} {said : CellsValue T}
+    {given : Given} {v : T} → (told : TellsOfWords known form said given v)
+    → (words : List (List ℕ)) → given.words ≡ words
+    → LeftOfLine known given words (line_cells told.is_value.context)
+told_line told words are = record {
+  are = are;
+  context = told.is_value.context;
+  on_line = told.is_value.on_line;
+  left = all_left (line_cells told.is_value.context);
+}
+
+module _ {known : Known} {given : Given} {words : List (List ℕ)} {cs : Cells}
+    (line : LeftOfLine known given words cs) where
+  -- So it is without the pieces of a field.
+  pub without_field : {q : Roles} {os : List LinePiece} {left : Cells} → Takes q cs os left
+      → LeftOfLine known given words left
+  without_field taken = record {
+    are = line.are;
+    context = line.context;
+    on_line = line.on_line;
+    left = left_again (taken_left taken) line.left;
+  }
+
+  -- The pieces of a named field are its key's own there.
+  pub of_field : {key : Names} {q : Roles} → Owns q (key ∷ []) → {os : List LinePiece}
+      {left : Cells} → Takes q cs os left → OwnOf words key os
+  of_field {key} owns taken = record {
+    spelled = λ some. subst (WasSpelled key) line.are (
+      known,
+      item_spelled (is_key_of key) known given line.context line.on_line (λ text. refl)
+          (kept_on (is_key_of key) line.left (owned_on key owns taken some)),
+    );
+  }
+
+  -- The word of a command that opens what is left was spelled.
+  pub command_called : {opens : List (List ℕ)} {behind : Cells} → Opens opens cs behind
+      → (names : List (List ℕ)) → opens ≡ names → WasCalled names words
+  command_called {opens} opened names same =
+      subst (WasCalled names) line.are
+      (subst (λ those. WasCalled those given.words) same (
+        known,
+        item_spelled (is_one_of opens) known given line.context line.on_line (none_behind opens)
+            (kept_on (is_one_of opens) line.left (opens_on opens opened)),
+      ))
+    where
+      none_behind : (words : List (List ℕ)) (text : List ℕ) → is_one_of words (PosWord text) ≡ false
+      none_behind [] text = refl
+      none_behind (word ∷ words) text = none_behind words text
+
+-- What follows of either of two commands follows of a choice of them.
+pub of_either : {A B X : Type 0} → A ⊎ B → (A → X) → (B → X) → X
+of_either (inl c) one other = one c
+of_either (inr c) one other = other c
+
+-- The words behind the first `--` are what a repeat of strict words at the end of a record reads,
+-- all of them and in order.
+
+-- the items behind `--` that begin pieces
+abbrev items_behind : List LinePiece → List Arg
+items_behind os = filter stands_behind (map first_item os)
+
+-- their texts
+abbrev pub pieces_behind : List LinePiece → List (List ℕ)
+pieces_behind os = map item_text (items_behind os)
+
+-- the value of a key doesn't stand behind `--`
+value_before : (w : Arg) → is_value w ≡ true → stands_behind w ≡ false
+value_before (PosWord text) h = absurd cc
+value_before w h = refl
+
+-- an item that doesn't stand there
+abbrev IsBefore : Arg → Type 0
+IsBefore item = stands_behind item ≡ false
+
+-- words behind items of which none stands there
+behind_is : (items : List Arg) (texts : List (List ℕ)) → AllByRecursion IsBefore items
+    → map item_text (filter stands_behind (items ++ map PosWord texts)) ≡ texts
+behind_is [] [] before = refl
+behind_is [] (text ∷ texts) before = ap (λ rest. text ∷ rest) (behind_is [] texts tt)
+behind_is (k ∷ items) texts before =
+    let kept = filter stands_behind (items ++ map PosWord texts) in
+    ap (λ b. map item_text (cond b (k ∷ kept) kept)) before.0 ∙ behind_is items texts before.1
+
+-- Of a context's line, cut for a record, what stands behind `--` are the words there.
+pub line_behind : {known : Known} {given : Given} {context : Context}
+    → IsContext known given context → {r : Roles} {os : List LinePiece}
+    → Cut r (line_cells context) os → pieces_behind os ≡ words_behind given.words
+line_behind {known} {given} {context} is cut =
+    let here = on_line known given.words context.line context.marker is.is_line in
+    ap (map item_text) (sym (cut_kept stands_behind value_before cut)
+    ∙ ap (filter stands_behind) here.are)
+    ∙ behind_is here.items (words_behind given.words) (recursion_from_All IsBefore here.items
+    (of_words known IsBefore (words_before given.words) here.items here.spells
+    (λ word among items. all_spelled IsBefore known word (λ c attached rest e. refl) (λ c. refl)
+    (λ name attached rest e. refl) (λ text. refl) refl (λ c text is. refl) items)))
+
+-- What the fields leave.
+
+module _ (q : Roles) (named : IsNamed q) where
+  -- no item of a named field stands there
+  own_before : (k : Arg) → is_own_role (q k) ≡ true → stands_behind k ≡ false
+  own_before (PosWord text) h =
+      absurd (true≢false (sym h ∙ ap is_own_role (named.only_keys (PosWord text) refl)))
+  own_before k h = refl
+
+  -- nor does one that begins a piece of its own
+  piece_before : (o : LinePiece) → is_own q o ≡ true → stands_behind (first_item o) ≡ false
+  piece_before (One k) h = own_before k h
+  piece_before (Two k w) h = own_before k h
+
+  -- so it leaves all items that do,
+  others_are : (os : List LinePiece) → items_behind (others q os) ≡ items_behind os
+  others_are [] = refl
+  others_are (o ∷ os) = by_own (is_own q o) refl (others_are os)
+    where
+      by_own : (b : Bool) → is_own q o ≡ b → items_behind (others q os) ≡ items_behind os
+          → items_behind (if not b then (o ∷ others q os) else others q os) ≡ items_behind (o ∷ os)
+      by_own true e h =
+          h ∙ sym (ap (λ b. cond b (first_item o ∷ items_behind os) (items_behind os))
+          (piece_before o e))
+      by_own false e h = ap (λ ks. cond (stands_behind (first_item o)) (first_item o ∷ ks) ks) h
+
+  -- and all texts,
+  pub others_behind : (os : List LinePiece) → pieces_behind (others q os) ≡ pieces_behind os
+  others_behind os = ap (map item_text) (others_are os)
+
+-- as a flag
+pub flag_leaves : (names : Names) (os : List LinePiece)
+    → pieces_behind (others (flag_roles names) os) ≡ pieces_behind os
+flag_leaves names os =
+    others_behind (flag_roles names) (test_named (is_key_of names) names Alone (λ k e. e)) os
+
+-- A word that has to stand before `--` leaves all of it,
+pub name_before : {T : Type 0} {means : List ℕ → T → Type 0} (ws : List LinePiece) {v : T}
+    → WordSays (accepts NonStrict) means (front (OneWord true) ws) v
+    → pieces_behind (back (OneWord true) ws) ≡ pieces_behind ws
+name_before ws so =
+    let left = items_behind (back (OneWord true) ws) in
+    sym (ap pieces_behind (of_front_one true ws (One so.word) so.is)
+    ∙ ap (λ b. map item_text (cond b (so.word ∷ left) left))
+    (not-true (stands_behind so.word) so.side))
+
+-- and a repeat of words that have to stand behind it reads it, in order.
+pub strict_words : {T : Type 0} {means : List ℕ → T → Type 0} {ws : List LinePiece} {vs : List T}
+    → RepeatSays (WordSays (accepts Strict) means) ws vs → AllZip means (pieces_behind ws) vs
+strict_words {T} {means} {ws} {vs} so = each ws vs (word_values so)
+  where
+    each : (ws : List LinePiece) (vs : List T) → AllZip (WordValue (accepts Strict) means) ws vs
+        → AllZip means (pieces_behind ws) vs
+    each [] [] all = tt
+    each [] (v ∷ vs) all = absurd all
+    each (o ∷ ws) [] all = absurd all
+    each (One k ∷ ws) (v ∷ vs) all =
+        subst (λ b. AllZip means (map item_text (cond b (k ∷ items_behind ws) (items_behind ws)))
+        (v ∷ vs)) (sym all.0.0) (all.0.1, each ws vs all.1)
+    each (Two k w ∷ ws) (v ∷ vs) all = absurd all.0

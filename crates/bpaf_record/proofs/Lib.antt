@@ -1,11 +1,4 @@
 pub mod Parts
-pub mod Nested
-pub mod OneLine
 pub mod Running
-pub mod OnLine
 pub mod Programs
-pub mod Spelled
-pub mod OwnWords
 pub mod Answered
-pub mod Called
-pub mod PassedOn

@@ -1,26 +1,27 @@
--- What the combinators make of a part of a program.
+-- What the combinators make of a part of a program, a choice of any number of parsers among them.
 use Rattle.std.proofs.Common.{◌≡◌, ℕ, Bool, true, false, not, ◌&&◌, ◌||◌, List, [], ◌∷◌, ◌++◌, refl}
-use Rattle.std.proofs.Common.{sym, ap, ◌∙◌, if◌then◌else◌}
+use Rattle.std.proofs.Common.{sym, ap, ◌∙◌, if◌then◌else◌, zero, suc, ◌+◌, ◌<◌, ◌≤◌, length, take}
+use Rattle.std.proofs.Common.{flat_map, slice_index_or, arith, append-nil, append_assoc}
+use Rattle.std.proofs.{lemmas.List.Folds.list_all-append, lemmas.List.take_more}
 use Rattle.std.specs.List.{list_all}
-use Rattle.std.proofs.lemmas.List.Folds.{list_all-append}
 use Rattle.bpaf_doc.specs.Names.{Names}
-use Rattle.bpaf_laws.specs.Command.{Called, opening_words}
-use Rattle.bpaf_exact.specs.Flat.{FieldKind, ByName, OneWord, EachWord}
+use Rattle.bpaf_laws.specs.{Command.Called, Command.opening_words, Choice.Nested}
+use Rattle.bpaf_exact.specs.Flat.{FieldKind, ByName, OneWord, EachWord, Gap, Groups, OwnList}
+use Rattle.bpaf_exact.specs.Flat.{repeated, Closure, FallbackValue, LastOf}
 use Rattle.bpaf_exact.specs.ProgramForm.{ProgramForm, no_program, alternative, single, complete}
 use Rattle.bpaf_exact.specs.ProgramForm.{product, commands, before_commands, program_if}
 use Rattle.bpaf_exact.specs.ProgramForm.{program_closed, program_dressed, completed}
 use Rattle.bpaf_exact.specs.ProgramForm.{program_optional, are_words_apart, program_choice}
 use Rattle.bpaf_exact.specs.ProgramForm.{choice_only, is_named, is_program, is_record, may_follow}
 use Rattle.bpaf_exact.specs.ProgramForm.{program_alone, program_both, program_command, program_con}
-use Rattle.bpaf_exact.specs.Single.{Gap, Groups, OwnList, repeated}
-use Rattle.bpaf_exact.specs.Wrappers.{Closure, FallbackValue}
-use Rattle.bpaf_exact.specs.{Gathered.LastOf, Names.are_all_apart, ProgramForm.program_field}
-use Rattle.bpaf_exact.specs.{Programs.are_plain, Pieces.LinePiece}
+use Rattle.bpaf_exact.specs.ProgramForm.{program_field, are_plain}
+use Rattle.bpaf_exact.specs.Pieces.{are_all_apart, LinePiece}
 use Rattle.bpaf_record.specs.declared.part.ProgramPart.TheVariants.{Complete, Product, Commands}
 use Rattle.bpaf_record.specs.Part.{kind_of, part_of, part_if, closed_part, completed_part}
 use Rattle.bpaf_record.specs.Part.{dressed_part, optional_part, chosen_part, only_part}
 use Rattle.bpaf_record.specs.Part.{is_program_part, is_record_part, command_part, field_part}
 use Rattle.bpaf_record.specs.Part.{last_part, before_part, is_named_kind, made_part, may_stand}
+use Rattle.bpaf_record.specs.Grammar.{Grammar, choice, choices_of, command_words, keys_of}
 
 -- where a test holds
 if_is : {T : Type 0} (b : Bool) (s : ProgramForm T)
@@ -197,3 +198,52 @@ pub con_part_is : {A B : Type 0} (f : Closure A B) (s : ProgramForm A)
     → made_part (part_of s) ≡ part_of (program_con f s)
 con_part_is f no_program = refl
 con_part_is f _ = refl
+
+module _ {P T : Type 0} (of : P → Grammar T) where
+  -- one parser more is chosen last
+  nested_more : (g : Grammar T) (ps : List P) (q : P)
+      → Nested choice of g (ps ++ q ∷ []) ≡ choice (Nested choice of g ps) (of q)
+  nested_more g [] q = refl
+  nested_more g (p ∷ ps) q = nested_more (choice g (of p)) ps q
+
+  -- so it is behind the first parsers of a list
+  pub one_more : (ps : List P) (i : ℕ) (d : P) → 1 ≤ i → i < length ps
+      → choices_of of (take (i + 1) ps) ≡ choice (choices_of of (take i ps))
+      (of (slice_index_or ps i d))
+  one_more ps zero d some l = absurd (omega arith)
+  one_more [] (suc i) d some l = absurd (omega arith)
+  one_more (p ∷ ps) (suc i) d some l =
+      ap (choices_of of) (take_more (p ∷ ps) (suc i) d l)
+      ∙ nested_more (of p) (take i ps) (slice_index_or (p ∷ ps) (suc i) d)
+
+  -- and of the first alone it is that one
+  pub first_is : (ps : List P) (d : P) → 1 ≤ length ps
+      → choices_of of (take 1 ps) ≡ of (slice_index_or ps 0 d)
+  first_is [] d some = absurd (omega arith)
+  first_is (p ∷ ps) d some = refl
+
+  -- its keys are those of all
+  pub choices_keys : (ps : List P) (deep : Bool)
+      → keys_of (choices_of of ps) deep ≡ flat_map (λ p. keys_of (of p) deep) ps
+  choices_keys [] deep = refl
+  choices_keys (p ∷ ps) deep = nested (of p) ps
+    where
+      nested : (g : Grammar T) (ps : List P) → keys_of (Nested choice of g ps) deep
+          ≡ keys_of g deep ++ flat_map (λ p. keys_of (of p) deep) ps
+      nested g [] = sym (append-nil (keys_of g deep))
+      nested g (p ∷ ps) = nested (choice g (of p)) ps
+          ∙ append_assoc (keys_of g deep) (keys_of (of p) deep)
+          (flat_map (λ p. keys_of (of p) deep) ps)
+
+  -- and so are its words
+  pub choices_words : (ps : List P)
+      → command_words (choices_of of ps) ≡ flat_map (λ p. command_words (of p)) ps
+  choices_words [] = refl
+  choices_words (p ∷ ps) = nested (of p) ps
+    where
+      nested : (g : Grammar T) (ps : List P) → command_words (Nested choice of g ps)
+          ≡ command_words g ++ flat_map (λ p. command_words (of p)) ps
+      nested g [] = sym (append-nil (command_words g))
+      nested g (p ∷ ps) = nested (choice g (of p)) ps
+          ∙ append_assoc (command_words g) (command_words (of p))
+          (flat_map (λ p. command_words (of p)) ps)

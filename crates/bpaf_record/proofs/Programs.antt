@@ -1,23 +1,22 @@
 -- Each answer that the table of a run allows to a program is exact.
 use Rattle.std.proofs.Common.{◌≡◌, ℕ, true, List, Result, Ok, Err, IfOk, refl, subst, sym}
+use Rattle.std.proofs.lemmas.Bool.{and_parts}
 use Rattle.bpaf_doc.specs.{Names.Names, Shape.Shape}
-use Rattle.bpaf_words.specs.{Arguments.Given, Spelling.Known}
-use Rattle.bpaf_line.specs.declared.failure.ParseFailure.{ParseFailure}
-use Rattle.bpaf_line.specs.{Constructing.IsContext, Situation.Context, Situation.beginning}
+use Rattle.bpaf_words.specs.{Arguments.Given, Line.Known}
+use Rattle.bpaf_line.specs.Situation.{Context, beginning}
+use Rattle.bpaf_line.specs.{declared.failure.ParseFailure.ParseFailure, Taking.IsContext}
 use Rattle.bpaf_laws.specs.Reading.{Outcome}
 use Rattle.bpaf.specs.Info.{RunInfo}
-use Rattle.bpaf_exact.specs.ProgramForm.{ProgramForm, FormLaw, is_program, program_value}
-use Rattle.bpaf_exact.specs.Record.{Accepted, IsAcceptedOrWant, line_cells}
-use Rattle.std.proofs.lemmas.Bool.{and_parts}
-use Rattle.bpaf_exact.specs.ProgramSays.{ProgramSaid, ProgramSays, cells_said}
-use Rattle.bpaf_exact.specs.{Flat.Variables, Says.SaidKind}
-use Rattle.bpaf_exact.proofs.{ProgramForm.runs_as_program, ProgramSays.program_says}
-use Rattle.bpaf_record.specs.Program.{AnswersAsProgram, IsProgramValueOf, TellsOfWords}
-use Rattle.bpaf_record.specs.{Program.is_whole_program, Record.answer_of, Record.IsValueOrWant}
-use Rattle.bpaf_record.proofs.OneLine.{never_without, same_context}
-use Rattle.bpaf_record.proofs.{Running.run_ran, OnLine.context_spelled}
-use Rattle.bpaf_line.specs.declared.failure.ParseFailure.TheVariants as failure
 use Rattle.bpaf.specs.Run.{RunsWords, ran, no_line as none_there, no_memory as wanted}
+use Rattle.bpaf_exact.specs.ProgramForm.{ProgramForm, FormLaw, is_program, program_value, Accepted}
+use Rattle.bpaf_exact.specs.ProgramForm.{IsAcceptedOrWant, line_cells}
+use Rattle.bpaf_exact.specs.Says.{ProgramSaid, ProgramSays, cells_said, SaidKind}
+use Rattle.bpaf_exact.specs.Flat.{Variables}
+use Rattle.bpaf_exact.proofs.{ProgramForm.runs_as_program, ProgramSays.program_says}
+use Rattle.bpaf_record.specs.Record.{AnswersAsProgram, IsProgramValueOf, TellsOfWords}
+use Rattle.bpaf_record.specs.Record.{is_whole_program, answer_of, IsValueOrWant}
+use Rattle.bpaf_record.proofs.Running.{never_without, same_context, run_ran, context_spelled}
+use Rattle.bpaf_line.specs.declared.failure.ParseFailure.TheVariants as failure
 
 module _ (T : Type 0) (outcome : Outcome T) (describes : Shape → Type 0) (info : RunInfo)
     (known : Known) (names : List Names) (words : List (List ℕ)) (form : ProgramForm T)

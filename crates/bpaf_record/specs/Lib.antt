@@ -1,9 +1,4 @@
 pub mod Part
-pub mod Keys
-pub mod Commands
-pub mod Positional
 pub mod Record
-pub mod Program
+pub mod Commands
 pub mod Grammar
-pub mod Nested
-pub mod Spelled

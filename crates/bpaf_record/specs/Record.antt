@@ -1,15 +1,21 @@
--- Flat records.
-use Rattle.std.specs.Prelude.{◌≡◌, All, Bool, ◌&&◌, IfOk, IsUtf8, List, Result, Ok, Err}
-use Rattle.std.specs.List.{list_all}
+-- Flat records and programs with commands, and their keys and words by the words that spell them.
+use Rattle.std.specs.Prelude.{◌≡◌, All, Bool, ◌&&◌, IfOk, IsUtf8, List, Result, Ok, Err, true, ℕ}
+use Rattle.std.specs.Prelude.{not}
+use Rattle.std.specs.List.{list_all, Contains}
 use Rattle.bpaf_doc.specs.Names.{Names}
-use Rattle.bpaf_words.specs.{Arguments.Given, Spelling.Known}
+use Rattle.bpaf_words.specs.Arguments.{Given}
+use Rattle.bpaf_words.specs.Line.{Known, Items, ShortNames, Spells, known_at}
 use Rattle.bpaf_line.specs.declared.failure.ParseFailure.{ParseFailure}
-use Rattle.bpaf_line.specs.{Constructing.IsContext, Situation.Context}
-use Rattle.bpaf.specs.Info.{RunInfo}
-use Rattle.bpaf_exact.specs.Pieces.{LinePiece, Cut}
-use Rattle.bpaf_exact.specs.Record.{RunAnswer, Accepted, NoMemory, Refusal, RecordValue, line_cells}
-use Rattle.bpaf_exact.specs.ProgramForm.{ProgramForm, is_record, product_roles, product_reading}
-use Rattle.bpaf_exact.specs.{Accepted.HoldsTogether, Names.are_apart, ProgramForm.whole_program}
+use Rattle.bpaf_line.specs.{Taking.IsContext, Situation.Context}
+use Rattle.bpaf.specs.{Info.RunInfo, Marker.words_before}
+use Rattle.bpaf_exact.specs.Pieces.{LinePiece, Cut, are_apart}
+use Rattle.bpaf_exact.specs.ProgramForm.{RunAnswer, Accepted, NoMemory, Refusal, RecordValue}
+use Rattle.bpaf_exact.specs.ProgramForm.{line_cells, ProgramForm, is_record, product_roles}
+use Rattle.bpaf_exact.specs.ProgramForm.{product_reading, HoldsTogether, whole_program, is_program}
+use Rattle.bpaf_exact.specs.ProgramForm.{program_value, CellsValue}
+use Rattle.bpaf_base.specs.Items.{is_key_of, is_among, is_text_among}
+use Rattle.bpaf_base.specs.declared.arg.Arg.{Arg}
+use Rattle.bpaf_laws.specs.Command.{is_one_of}
 use Rattle.bpaf_line.specs.declared.failure.ParseFailure.TheVariants as failure
 
 -- none of these keys shares a name with those of help and version
@@ -72,3 +78,69 @@ pub record AnswersByFields (T : Type 0) (known : Known) (form : ProgramForm T) (
   -- where a field has none, it is no value
   pub refused : All IsUtf8 given.words → (line : PiecesOf known form given)
       → ¬ (EachHasValue form line.cut_into) → IfOk r (λ v. ⊥)
+
+-- a program none of whose own keys shares a name with those of help and version
+abbrev pub is_whole_program : {T : Type 0} → ProgramForm T → List Names → RunInfo → Bool
+is_whole_program form keys info = is_program form && are_unusual keys info
+
+-- v is a value of the program on words: on their line, by the names that it knows
+pub record IsProgramValueOf {T : Type 0} (known : Known) (form : ProgramForm T) (given : Given)
+    (v : T) : Type 0 where
+  pub context : Context
+  pub on_line : IsContext known given context
+  pub read : program_value form (line_cells context) v
+
+-- v is a value of the program on words, and says so of the cells of their line
+pub record TellsOfWords {T : Type 0} (known : Known) (form : ProgramForm T) (said : CellsValue T)
+    (given : Given) (v : T) : Type 0 where
+  pub is_value : IsProgramValueOf known form given v
+  pub told : said (line_cells is_value.context) v
+
+-- An answer to words is exact. That words have a value is said of words that are texts.
+pub record AnswersAsProgram (T : Type 0) (known : Known) (form : ProgramForm T) (given : Given)
+    (r : Result T ParseFailure) : Type 0 where
+  -- it is a value only where that is one of the program's
+  pub sound : IfOk r (IsProgramValueOf known form given)
+  -- where the program has a value, it is one of its values, or want of memory
+  pub answered : All IsUtf8 given.words → (v : T) → IsProgramValueOf known form given v
+      → IsValueOrWant (IsProgramValueOf known form given) r
+
+-- an item that passes a test is one of the items that a word spells
+pub record SpellsItem (known : Known) (test : Arg → Bool) (word : List ℕ) : Type 0 where
+  pub items : List Arg
+  pub spells : Spells known word (Items items)
+  pub key : Arg
+  pub among : Contains items key
+  pub is_key : test key ≡ true
+
+-- one of the words before the first `--` spells such an item
+pub record IsSpelledItem (known : Known) (test : Arg → Bool) (words : List (List ℕ)) : Type 0
+  where
+    pub word : List ℕ
+    pub before : Contains (words_before words) word
+    pub spells : SpellsItem known test word
+
+-- one of them spells a key with one of these names
+abbrev pub IsSpelled : Known → Names → List (List ℕ) → Type 0
+IsSpelled known names words = IsSpelledItem known (is_key_of names) words
+
+-- so it does by the names that some parser knows
+abbrev pub WasSpelled : Names → List (List ℕ) → Type 0
+WasSpelled names words = (known : Known) × IsSpelled known names words
+
+-- one of them does whatever short names are known, where a negative number is a word or isn't
+abbrev pub IsSpelledByAny : (numbers : Bool) → Names → List (List ℕ) → Type 0
+IsSpelledByAny numbers names words =
+    (known : ShortNames) → IsSpelled (known_at numbers known) names words
+
+-- one of the words before the first `--` spells a word that opens a command of these words
+abbrev pub WasCalled : List (List ℕ) → List (List ℕ) → Type 0
+WasCalled opening words = (known : Known) × IsSpelledItem known (is_one_of opening) words
+
+-- none of the short names is one of the others
+abbrev pub has_no_short : List ℕ → List ℕ → Bool
+has_no_short others own = list_all (λ name. not (is_among others name)) own
+
+-- none of the long names is one of the others
+abbrev pub has_no_long : List (List ℕ) → List (List ℕ) → Bool
+has_no_long others own = list_all (λ name. not (is_text_among others name)) own

@@ -1,11 +1,11 @@
 //! Choices of fields, and of commands.
 ghost use Rattle.std.specs.Prelude.{◌≡◌, ◌≤◌, flat_map, length, take, true};
 ghost use Rattle.std.specs.List.{list_all};
-ghost use Rattle.bpaf_exact.specs.ProgramSays.{said_choice, said_choices};
+ghost use Rattle.bpaf_exact.specs.Says.{said_choice, said_choices};
 ghost use Rattle.bpaf_exact.specs.{Flat.Variables, ProgramForm.EachAgrees};
 ghost use Rattle.bpaf_record.specs.Grammar.{choices_of, command_words, keys_of, program_form};
-ghost use Rattle.bpaf_record.specs.Grammar.{said_kind, choice, only};
-ghost use Rattle.bpaf_record.specs.{Part.part_of, Nested.choices_law, Nested.choices_says};
+ghost use Rattle.bpaf_record.specs.Grammar.{said_kind, choice, only, choices_law, choices_says};
+ghost use Rattle.bpaf_record.specs.Part.{part_of};
 ghost use Rattle.bpaf_exact.proofs.ProgramForm.{program_choice_law};
 ghost use Rattle.bpaf_exact.proofs.ProgramSays.{program_choice_says};
 

@@ -3,12 +3,12 @@ ghost use Rattle.std.specs.Prelude.{◌≡◌, Result, false, true, Bool, IfOk};
 ghost use Rattle.std.specs.Result.{IfErr};
 ghost use Rattle.bpaf_words.specs.Arguments.{given_of, Given};
 ghost use Rattle.bpaf_record.specs.Grammar.{keys_of, program_form};
-ghost use Rattle.bpaf_record.specs.Program.{is_whole_program, AnswersAsProgram, TellsOfWords};
+ghost use Rattle.bpaf_record.specs.Record.{is_whole_program, AnswersAsProgram, TellsOfWords};
 ghost use Rattle.bpaf_line.specs.declared.failure.ParseFailure.{ParseFailure};
-ghost use Rattle.bpaf.specs.Run.{IsNotWant, RunsWords};
-ghost use Rattle.bpaf.specs.{Dealt.IsDealtOut, Known.known_names, Refusals.IsOneOfTwelve};
-ghost use Rattle.bpaf_exact.specs.{Flat.Variables, ProgramSays.cells_said};
-ghost use Rattle.bpaf_laws.specs.Spared.{WithoutMemory};
+ghost use Rattle.bpaf.specs.Run.{IsNotWant, RunsWords, IsDealtOut, known_names};
+ghost use Rattle.bpaf.specs.Refusals.{IsOneOfTwelve};
+ghost use Rattle.bpaf_exact.specs.{Flat.Variables, Says.cells_said};
+ghost use Rattle.bpaf_laws.specs.Laws.{WithoutMemory};
 
 use crate::field::ProgramField;
 use crate::usual::are_unusual;

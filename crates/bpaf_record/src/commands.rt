@@ -3,7 +3,7 @@ ghost use Rattle.std.specs.Prelude.{◌≡◌, ◌&&◌, false, not, true};
 ghost use Rattle.bpaf_record.specs.Grammar.{command_words, keys_of, program_form, command};
 ghost use Rattle.bpaf_record.specs.{Commands.either_command_law, Record.are_unusual};
 ghost use Rattle.bpaf_laws.specs.Command.{CommandPart};
-ghost use Rattle.bpaf_exact.specs.ProgramSays.{said_command};
+ghost use Rattle.bpaf_exact.specs.Says.{said_command};
 ghost use Rattle.bpaf_exact.proofs.ProgramSays.{program_command_says};
 
 use crate::field::ProgramField;

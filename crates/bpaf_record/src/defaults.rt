@@ -2,8 +2,8 @@
 ghost use Rattle.std.specs.Prelude.{◌≡◌, true, Ok, Err};
 ghost use Rattle.bpaf_record.specs.Grammar.{command_words, keys_of, program_form, optional};
 ghost use Rattle.bpaf_record.specs.Grammar.{fallback};
-ghost use Rattle.bpaf_exact.specs.ProgramSays.{said_optional, said_fallback};
-ghost use Rattle.bpaf_exact.specs.Wrappers.{map_closure, answer_closure, parse_closure};
+ghost use Rattle.bpaf_exact.specs.Says.{said_optional, said_fallback};
+ghost use Rattle.bpaf_exact.specs.Flat.{map_closure, answer_closure, parse_closure};
 ghost use Rattle.bpaf_exact.proofs.ProgramForm.{optional_law, fallback_law, fallback_with_law};
 ghost use Rattle.bpaf_exact.proofs.ProgramSays.{program_optional_says, program_fallback_says};
 

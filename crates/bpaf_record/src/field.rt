@@ -1,7 +1,6 @@
 //! The traits of the parsers that may stand in a program, and of those that may in a flat record.
 ghost use Rattle.std.specs.{Prelude.◌≡◌, Prelude.true, List.list_all};
-ghost use Rattle.bpaf_exact.specs.ProgramSays.{ProgramSaid, ProgramSays, FieldsKeep};
-ghost use Rattle.bpaf_exact.specs.ProgramSays.{ProgramFieldsSaid};
+ghost use Rattle.bpaf_exact.specs.Says.{ProgramSaid, ProgramSays, FieldsKeep, ProgramFieldsSaid};
 ghost use Rattle.bpaf_exact.specs.{ProgramForm.FormLaw, Flat.Variables};
 ghost use Rattle.bpaf_record.specs.{Grammar.Grammar, Grammar.command_words, Grammar.keys_of};
 ghost use Rattle.bpaf_record.specs.{Grammar.program_form, Grammar.said_kind, Part.part_of};

@@ -1,7 +1,7 @@
 //! Four fields of a program at once.
 
 ghost use Rattle.bpaf_record.specs.Grammar.{command_words, keys_of, said_kind};
-ghost use Rattle.bpaf_exact.specs.ProgramSays.{fields_said_inside};
+ghost use Rattle.bpaf_exact.specs.Says.{fields_said_inside};
 ghost use Rattle.bpaf_exact.proofs.ProgramSays.{keep_before, keep_inside};
 ghost use Rattle.std.specs.Prelude.{true};
 

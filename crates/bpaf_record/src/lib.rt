@@ -26,14 +26,14 @@
 //!   name shared with another field, help or version.
 //! - [`CommandLine::is_program`] tells, without memory, whether options are a program: a flat
 //!   record, or named fields and then commands, each over a program again (`is_whole_program`,
-//!   specs/Program.antt). [`CommandLine::run_program`] runs such options as `run_inner` does, and
+//!   specs/Record.antt). [`CommandLine::run_program`] runs such options as `run_inner` does, and
 //!   each answer is exact (`AnswersAsProgram`): a value comes only where it is one of the program
 //!   on the words' line, and where the program has a value there no other answer comes, but for
 //!   want of memory.
 //! - Its clause `fields` says of each value what its fields say, each of the pieces of the line that
 //!   are its own, whatever the others are, and which command's word stands there (`TellsOfWords`):
 //!   by the ghost member `says` of each field's type, over that of the parser inside. Lemmas of
-//!   proofs/Answered.antt and proofs/Called.antt tell it of the words.
+//!   proofs/Answered.antt and proofs/Answered.antt tell it of the words.
 //! - [`Record::run_record`] is that run of a flat record, of which it says more (`AnswersByFields`,
 //!   specs/Record.antt): where each field has a value no other answer than one of the record's
 //!   comes, but for want of memory, and where one has none no value does. The line of each value is

@@ -2,10 +2,10 @@
 ghost use Rattle.std.specs.Prelude.{◌≡◌, true};
 ghost use Rattle.bpaf_record.specs.Grammar.{command_words, keys_of, program_form, said_kind, alone};
 ghost use Rattle.bpaf_record.specs.Grammar.{both, product};
-ghost use Rattle.bpaf_exact.specs.ProgramSays.{said_alone, said_both, said_con};
-ghost use Rattle.bpaf_exact.specs.Wrappers.{map_closure};
-ghost use Rattle.bpaf_exact.proofs.ProgramSays.{keep_last, keep_before};
-ghost use Rattle.bpaf_exact.proofs.{ProgramForm.program_con_law, ProgramSays.program_con_says};
+ghost use Rattle.bpaf_exact.specs.Says.{said_alone, said_both, said_con};
+ghost use Rattle.bpaf_exact.specs.Flat.{map_closure};
+ghost use Rattle.bpaf_exact.proofs.ProgramSays.{keep_last, keep_before, program_con_says};
+ghost use Rattle.bpaf_exact.proofs.ProgramForm.{program_con_law};
 
 use crate::field::{FlatField, FlatFields, ProgramField, ProgramFields};
 use crate::keys::{ApartFromFields, KeyTest, NoKey};

@@ -5,7 +5,7 @@ ghost use Rattle.bpaf_words.specs.Arguments.{given_of, Given};
 ghost use Rattle.bpaf_record.specs.Grammar.{keys_of, program_form};
 ghost use Rattle.bpaf_record.specs.Record.{is_flat_record, AnswersByFields};
 ghost use Rattle.bpaf_line.specs.declared.failure.ParseFailure.{ParseFailure};
-ghost use Rattle.bpaf.specs.{Run.IsNotWant, Known.known_names};
+ghost use Rattle.bpaf.specs.Run.{IsNotWant, known_names};
 ghost use Rattle.bpaf_exact.specs.Flat.{Variables};
 
 use crate::command_line::CommandLine;

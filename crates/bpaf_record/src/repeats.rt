@@ -1,9 +1,8 @@
 //! Fields that may be given again and again.
 ghost use Rattle.std.specs.Prelude.{◌≡◌, true, length, false};
 ghost use Rattle.bpaf_record.specs.Grammar.{command_words, keys_of, program_form, repeat, last};
-ghost use Rattle.bpaf_exact.specs.Gathered.{list_closure, some_closure};
-ghost use Rattle.bpaf_exact.specs.ProgramSays.{said_repeat, said_last};
-ghost use Rattle.bpaf_exact.specs.Wrappers.{map_closure};
+ghost use Rattle.bpaf_exact.specs.Flat.{list_closure, some_closure, map_closure};
+ghost use Rattle.bpaf_exact.specs.Says.{said_repeat, said_last};
 ghost use Rattle.bpaf_exact.proofs.ProgramForm.{many_law, some_law, collect_law, count_law};
 ghost use Rattle.bpaf_exact.proofs.ProgramForm.{program_last_law};
 ghost use Rattle.bpaf_exact.proofs.ProgramSays.{program_repeat_says, program_last_says};

@@ -3,9 +3,9 @@
 //! flat record; one that ends in commands is no program then.
 ghost use Rattle.std.specs.Prelude.{◌≡◌, true};
 ghost use Rattle.bpaf_record.specs.Grammar.{command_words, keys_of, program_form, dressed};
-ghost use Rattle.bpaf_exact.specs.ProgramSays.{said_dressed};
+ghost use Rattle.bpaf_exact.specs.Says.{said_dressed};
 ghost use Rattle.bpaf_exact.proofs.ProgramSays.{program_dressed_says};
-ghost use Rattle.bpaf_exact.proofs.{ProgramForm.program_dressed_law, ProgramForm.hide_law};
+ghost use Rattle.bpaf_exact.proofs.ProgramForm.{program_dressed_law, hide_law};
 
 use crate::field::{FlatField, ProgramField};
 use crate::keys::KeyTest;

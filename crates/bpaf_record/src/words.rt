@@ -2,7 +2,7 @@
 ghost use Rattle.std.specs.Prelude.{◌≡◌, ◌++◌, not, bytes_eq, encode_utf8, map, Bool, ℕ, List};
 ghost use Rattle.std.specs.List.{list_all};
 ghost use Rattle.bpaf_laws.specs.Command.{opening_words};
-ghost use Rattle.bpaf_exact.specs.Programs.{is_dashed};
+ghost use Rattle.bpaf_exact.specs.ProgramForm.{is_dashed};
 ghost use Rattle.bpaf_record.specs.Grammar.{command_words};
 
 use crate::field::ProgramField;

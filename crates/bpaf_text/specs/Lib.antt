@@ -1,4 +1,2 @@
 pub mod Meaning
 pub mod Named
-pub mod Filled
-pub mod Members

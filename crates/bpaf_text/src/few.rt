@@ -25,7 +25,7 @@ impl<T> Model for Few<T> {
 
     ghost Value = { List T };
 
-    ghost use Rattle.bpaf_text.specs.Members.{members_of};
+    ghost use Rattle.bpaf_text.specs.Meaning.{members_of};
 
     ghost view = { λ few. members_of few.kept };
 }

@@ -55,7 +55,7 @@ impl<T: Drop> FromList<T> for VecDeque<T> {
 /// The values inserted one after another: of two equal ones the first stays.
 impl<T: Ord + Drop> FromList<T> for BTreeSet<T> {
     ghost use Rattle.std.specs.Prelude.{◌≡◌, [], IfOk};
-    ghost use Rattle.bpaf_text.specs.Filled.{inserted};
+    ghost use Rattle.bpaf_text.specs.Meaning.{inserted};
 
     ghost fills = { λ items set. set.keys ≡ inserted T.cmp [] items };
 

@@ -10,7 +10,7 @@
 //!   whole numbers, `bool`, `char` and `String`, and a caller writes more for types of its own.
 //! - [`FromList`] is the trait of what a list of values fills, from front to back: by its ghost
 //!   relation `fills` an implementation says what it holds then. Implementations stand for `Vec`,
-//!   `VecDeque` and `BTreeSet` (specs/Filled.antt), and a caller writes more.
+//!   `VecDeque` and `BTreeSet` (specs/Meaning.antt), and a caller writes more.
 //! - [`NamedArg`] is a key with its names, built by [`short()`], [`long()`] and [`env()`].
 //!   Contracts see it as the lists of its names in the order in which they were given, those in the
 //!   environment among them, and its help (specs/Named.antt), so each builder is one equation: it

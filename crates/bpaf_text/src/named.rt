@@ -1,9 +1,8 @@
 //! Keys by their names, before it is said what they give.
 ghost use Rattle.std.specs.Prelude.{◌≡◌, Some, None, true, false, IfOk, List};
 ghost use Rattle.std.specs.Option.{option_map};
-ghost use Rattle.bpaf_doc.specs.declared.doc.Piece.{Piece};
-ghost use Rattle.bpaf_doc.specs.Fold.{TextPieces};
 ghost use Rattle.bpaf_doc.specs.Shape.{name_of, part_of, shown_name};
+ghost use Rattle.bpaf_doc.specs.{declared.doc.Piece.Piece, Print.TextPieces};
 ghost use Rattle.bpaf_text.specs.Named.{flag_part, argument_part, first_text, key_named};
 ghost use Rattle.bpaf_text.specs.Named.{nothing_named, with_short, with_long, with_env, with_help};
 

@@ -1,7 +1,6 @@
 //! Flags and arguments.
 ghost use Rattle.std.specs.Prelude.{◌≡◌, IfOk, IsSomeAnd, MatchOption, None, false, true, List};
-ghost use Rattle.bpaf_doc.specs.declared.doc.Piece.{Piece};
-ghost use Rattle.bpaf_doc.specs.Fold.{TextPieces};
+ghost use Rattle.bpaf_doc.specs.{declared.doc.Piece.Piece, Print.TextPieces};
 ghost use Rattle.bpaf_text.specs.Named.{with_help};
 
 use crate::named::NamedArg;

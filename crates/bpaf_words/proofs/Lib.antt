@@ -1,8 +1,4 @@
-pub mod Lists
-pub mod SplitLemmas
-pub mod JoinedLemmas
-pub mod Numbers
 pub mod OneSpelling
+pub mod SplitLemmas
 pub mod LineLemmas
 pub mod OneLine
-pub mod Fronts

@@ -1,16 +1,26 @@
--- Lines: a word more.
-use Rattle.std.proofs.Common.{◌≡◌, ◌≢◌, ℕ, Bool, ◌+◌, List, [], ◌∷◌, ◌++◌, take}
-use Rattle.std.proofs.Common.{drop, map, refl, ap, sym, ◌∙◌, arith, append_assoc, append-nil, codes}
-use Rattle.std.proofs.Common.{Some, slice_get, bytes_eq, true, false, IsUtf8, ⊎_elim, subst, length}
+-- Lines with a word more, with a spelled front, and walks over joined letters.
+use Rattle.std.proofs.Common.{◌≡◌, ◌≢◌, ℕ, Bool, ◌+◌, List, [], ◌∷◌, ◌++◌, take, drop, map, refl}
+use Rattle.std.proofs.Common.{ap, sym, ◌∙◌, arith, append_assoc, append-nil, codes, Some, slice_get}
+use Rattle.std.proofs.Common.{bytes_eq, true, false, IsUtf8, ⊎_elim, subst, length, All, ◌<◌, ◌≤◌}
+use Rattle.std.proofs.Common.{Option, IfSome, IfOk, Result, Ok, Err, length-append, nat_lt, ◌==◌}
+use Rattle.std.proofs.Common.{rules, if◌then◌else◌, encode_utf8, encode_utf8_all}
 use Rattle.std.proofs.lemmas.Option.{get_or_from_slice_get, slice_get_within}
 use Rattle.std.proofs.lemmas.List.Elements.{AllWithin-more, All-push}
+use Rattle.std.proofs.lemmas.Grind.{flat_map-append, common_steps}
+use Rattle.std.proofs.lemmas.Str.{cons_from_encodes, encodes_same, encodes-append}
+use Rattle.std.proofs.lemmas.Str.{length-le-encodes, length-encode, len_utf8_bounds}
+use Rattle.std.proofs.lemmas.List.{nil_from_length}
+use Rattle.std.proofs.{lemmas.Bool.cases_lt, lemmas.Bool.Decides.nat_tests}
 use Rattle.std.specs.List.{flat_map, AllWithin}
-use Rattle.std.proofs.{Common.All, lemmas.Bool.cases_lt, lemmas.Grind.flat_map-append}
-use Rattle.bpaf_base.specs.{declared.arg.Arg.Arg, declared.arg.Arg.TheVariants.PosWord}
-use Rattle.bpaf_words.specs.Spelling.{Known, Items, Ambiguous, Spells, known_at}
-use Rattle.bpaf_words.specs.Line.{HasNoLine}
-use Rattle.bpaf_words.specs.Splitting.{Begins, BeginsByAny, SpellsByAny}
-use Rattle.bpaf_words.proofs.Lists.{AllZip_push, take_next, drop_next, cut_at}
+use Rattle.std.specs.{Bool.then_some, declared.alloc.AllocError.AllocError}
+use Rattle.bpaf_base.specs.declared.arg.Arg.{Arg}
+use Rattle.bpaf_base.specs.declared.arg.Arg.TheVariants.{PosWord, Short, Word}
+use Rattle.bpaf_words.specs.Line.{Known, Items, Ambiguous, Spells, known_at, HasNoLine, IsLine}
+use Rattle.bpaf_words.specs.Line.{without_marker, with_marker, ShortNames, IsKnownAs, flags_of}
+use Rattle.bpaf_words.specs.Line.{argument_of, SpellsJoined, flags, argument, neither, both}
+use Rattle.bpaf_words.specs.Splitting.{Begins, BeginsByAny, SpellsByAny, EndsFront, IsLineByAny}
+use Rattle.bpaf_words.specs.declared.line.Line.{Line as WordsLine}
+use Rattle.bpaf_words.proofs.OneSpelling.{AllZip_push, take_next, drop_next, cut_at}
 
 -- a word of the rest goes over to the items
 pub rest_moved : (words : List (List ℕ)) (i : ℕ) (word : List ℕ) (old new all : List Arg)
@@ -89,3 +99,185 @@ not_marker word h e = let t : false ≡ true = h ∙ ap (λ x. bytes_eq x (codes
 pub texts_all : (words : List (List ℕ)) (n : ℕ) → AllWithin IsUtf8 words 0 n
     → AllWithin IsUtf8 words n (length words) → All IsUtf8 words
 texts_all words n f r k d l = ⊎_elim (λ b. f k d (omega arith) b) (λ a. r k d a l) (cases_lt k n)
+
+-- a front as long as the list, or longer, is the whole list
+take_whole : {X : Type 0} (xs : List X) (n : ℕ) → length xs ≤ n → take n xs ≡ xs
+take_whole xs n h = grind (arith, common_steps)
+
+-- and nothing is behind it
+drop_whole : {X : Type 0} (xs : List X) (n : ℕ) → length xs ≤ n → drop n xs ≡ []
+drop_whole xs n h = grind (arith, common_steps)
+
+-- the line of words with a spelled front, by whether words are left behind it
+line_by : (known : Known) (words : List (List ℕ)) (items : List Arg) (n : ℕ) (b : Bool)
+    → nat_lt n (length words) ≡ b → Begins known words items n → EndsFront words n
+    → IsLine known words (items ++ map PosWord (drop n words)) (then_some b (length items))
+line_by known words items n true e begun ends =
+    let below : n < length words = grind (arith, nat_tests) in
+    let at = ends below in
+    rw (drop_next words n (codes "--") at) (with_marker (take n words) (drop (n + 1) words) items
+    (cut_at words n (codes "--") at) begun.without_marker begun.spelled)
+line_by known words items n false e begun ends =
+    let past : length words ≤ n = grind (arith, nat_tests) in
+    let whole = take_whole words n past in
+    rw (drop_whole words n past, append-nil items)
+    (without_marker items (rw whole at begun.without_marker) (rw whole at begun.spelled))
+
+-- the line of words with a spelled front: its items, then the other words as PosWords
+pub line_of_front : (known : Known) (words : List (List ℕ)) (items : List Arg) (n : ℕ)
+    → Begins known words items n → EndsFront words n
+    → IsLine known words (items ++ map PosWord (drop n words))
+    (then_some (nat_lt n (length words)) (length items))
+line_of_front known words items n begun ends =
+    line_by known words items n (nat_lt n (length words)) refl begun ends
+
+-- the same of an answer, whatever names are known
+pub line_found : (numbers : Bool) (words : List (List ℕ)) (items : List Arg) (n : ℕ)
+    (result : Result WordsLine AllocError) → BeginsByAny numbers words items n → EndsFront words n
+    → IfOk result (λ line. line.items.items ≡ items ++ map PosWord (drop n words))
+    → IfOk result (λ line. line.marker ≡ then_some (nat_lt n (length words)) (length items))
+    → IfOk result (IsLineByAny numbers words)
+line_found numbers words items n (Ok line) begun ends are marker = λ names.
+    rw (are, marker) (line_of_front (known_at numbers names) words items n (begun names) ends)
+line_found numbers words items n (Err e) begun ends are marker = tt
+
+-- the marker of a line lies in it
+pub marker_of_line : (known : Known) (words : List (List ℕ)) (line : List Arg) (marker : Option ℕ)
+    → IsLine known words line marker → IfSome marker (λ p. p < length line)
+marker_of_line known words line marker (without_marker items none s) = tt
+marker_of_line known words line marker (with_marker before after items cut none s) =
+    simp length-append (omega arith)
+
+-- A walk over joined letters: the flags at the front, and what stands where they end.
+
+-- the letters are those of the flags fs and the rest, and the items of fs stand at the end of the
+-- old ones
+pub record Walked (names : ShortNames) (word letters : List ℕ) (old new : List Arg) (count : ℕ)
+    (rest : List ℕ) : Type 0 where
+  pub fs : List ℕ
+  pub cut : letters ≡ encode_utf8_all fs ++ rest
+  pub all_flags : All (IsKnownAs true false names) fs
+  pub items : new ≡ old ++ flags_of word fs
+  pub counted : count ≡ length fs
+
+-- the text of the flag after fs
+text_after : List ℕ → List ℕ → List ℕ
+text_after word [] = word
+text_after word (f ∷ fs) = []
+
+-- the items of one flag more: the new one has the text of the flag after the others
+flags_of_push : (word fs : List ℕ) (c : ℕ)
+    → flags_of word (fs ++ c ∷ []) ≡ flags_of word fs ++ Short c false (text_after word fs) ∷ []
+unfolding text_after
+flags_of_push word [] c = refl
+flags_of_push word (f ∷ []) c = refl
+flags_of_push word (f ∷ g ∷ fs) c = ap (λ x. Short f false word ∷ x) (flags_of_push [] (g ∷ fs) c)
+
+-- the text of the next flag: the word for the first one, else the empty text
+text_after_is : (word fs : List ℕ) (count : ℕ) → count ≡ length fs
+    → text_after word fs ≡ (if count == 0 then word else [])
+unfolding text_after
+text_after_is word fs count e = grind (arith, nat_tests)
+
+-- a walk that hasn't begun: no flags, and all letters are left
+pub walked_none : (names : ShortNames) (word letters : List ℕ) (old : List Arg)
+    → Walked names word letters old old 0 letters
+walked_none names word letters old =
+    record {
+      fs = [];
+      cut = refl;
+      all_flags = λ k d l. absurd (omega arith);
+      items = sym (append-nil old);
+      counted = refl;
+    }
+
+-- characters that begin with the letters of fs
+after_encodes : (fs cs r : List ℕ) → encode_utf8_all cs ≡ encode_utf8_all fs ++ r → (ds : List ℕ)
+    × (cs ≡ fs ++ ds) × (encode_utf8_all ds ≡ r)
+after_encodes [] cs r e = (cs, refl, e)
+after_encodes (f ∷ fs) cs r e =
+    let h = cons_from_encodes cs (encode_utf8_all fs ++ r) f
+    (e ∙ append_assoc (encode_utf8 f) (encode_utf8_all fs) r) in
+    let t = after_encodes fs h.0 r h.2 in
+    (t.0, h.1 ∙ ap (λ x. f ∷ x) t.1, t.2)
+
+module _ {names : ShortNames} {word letters : List ℕ} {old new : List Arg} {count : ℕ}
+    {rest : List ℕ} (w : Walked names word letters old new count rest) where
+  -- where a walk leaves no letters they spell the items of the flags
+  pub ends : (cs : List ℕ) → length rest ≡ 0 → letters ≡ encode_utf8_all cs → (xs : List Arg)
+      × SpellsJoined names word cs (Items xs) × (new ≡ old ++ xs)
+  ends cs e l =
+      let empty : rest ≡ [] = nil_from_length rest e in
+      let same : cs ≡ w.fs = encodes_same cs w.fs
+      (sym l ∙ (w.cut ∙ (ap (λ x. encode_utf8_all w.fs ++ x) empty
+      ∙ append-nil (encode_utf8_all w.fs)))) in
+      (flags_of word w.fs, rw same (flags w.all_flags), w.items)
+
+  module _ (c : ℕ) (after : List ℕ) (e : rest ≡ encode_utf8 c ++ after) where
+    -- a walk over one flag more
+    pub walked_more : (text : List ℕ) (newer : List Arg) → IsKnownAs true false names c
+        → text ≡ (if count == 0 then word else []) → newer ≡ new ++ Short c false text ∷ []
+        → Walked names word letters old newer (count + 1) after
+    walked_more text newer f t n = record {
+      fs = w.fs ++ c ∷ [];
+      cut = w.cut ∙ (ap (λ x. encode_utf8_all w.fs ++ x) e
+          ∙ (sym (append_assoc (encode_utf8_all w.fs) (encode_utf8 c) after)
+          ∙ ap (λ x. x ++ after) (sym (encodes-append w.fs (c ∷ [])
+          ∙ ap (λ x. encode_utf8_all w.fs ++ x) (append-nil (encode_utf8 c))))));
+      all_flags = All-push (IsKnownAs true false names) w.fs c w.all_flags f;
+      items = n ∙ (ap (λ x. x ++ Short c false text ∷ []) w.items
+          ∙ (append_assoc old (flags_of word w.fs) (Short c false text ∷ [])
+          ∙ ap (λ x. old ++ x) (rw (t ∙ sym (text_after_is word w.fs count w.counted))
+          (sym (flags_of_push word w.fs c)))));
+      counted = rw (w.counted, length-append) (search rules);
+    }
+
+    -- the letters left are fewer than all of them
+    pub walked_bound : count + 1 ≤ length letters
+    walked_bound =
+        let sizes : length letters ≡ length (encode_utf8_all w.fs) +
+        (length (encode_utf8 c) + length after) =
+        ap length w.cut ∙ (ap (λ x. length (encode_utf8_all w.fs ++ x)) e ∙ simp length-append) in
+        omega (arith, length-le-encodes w.fs, w.counted, length-encode c, len_utf8_bounds c)
+
+    -- where a walk stops at c
+    stopped : (cs : List ℕ) → letters ≡ encode_utf8_all cs → (ds : List ℕ)
+        × (cs ≡ w.fs ++ c ∷ ds) × (encode_utf8_all ds ≡ after)
+    stopped cs l =
+        let h = after_encodes w.fs cs rest (sym l ∙ w.cut) in
+        let t = cons_from_encodes h.0 after c (h.2 ∙ e) in
+        (t.0, h.1 ∙ ap (λ x. w.fs ++ x) t.1, t.2)
+
+    -- at a character that is both the letters are ambiguous there
+    pub stops_both : IsKnownAs true true names c → (cs : List ℕ) → letters ≡ encode_utf8_all cs
+        → SpellsJoined names word cs (Ambiguous (count + 1))
+    stops_both b cs l =
+        let s = stopped cs l in rw w.counted (both w.fs c s.0 s.1 w.all_flags b)
+
+    -- at one that is neither they spell the word itself
+    pub stops_neither : (newer : List Arg) → IsKnownAs false false names c
+        → newer ≡ old ++ Word word ∷ [] → (cs : List ℕ) → letters ≡ encode_utf8_all cs
+        → (xs : List Arg) × SpellsJoined names word cs (Items xs) × (newer ≡ old ++ xs)
+    stops_neither newer b n cs l =
+        let s = stopped cs l in (Word word ∷ [], neither w.fs c s.0 s.1 w.all_flags b, n)
+
+    -- at an argument they spell the flags and that argument
+    pub stops_argument : (newer : List Arg) → IsKnownAs false true names c
+        → newer ≡ new ++ argument_of word c after → (cs : List ℕ) → letters ≡ encode_utf8_all cs
+        → (xs : List Arg) × SpellsJoined names word cs (Items xs) × (newer ≡ old ++ xs)
+    stops_argument newer b n cs l =
+        let s = stopped cs l in (
+          flags_of word w.fs ++ argument_of word c (encode_utf8_all s.0),
+          argument w.fs c s.0 s.1 w.all_flags b,
+          rw s.2 (n ∙ (ap (λ x. x ++ argument_of word c after) w.items
+              ∙ append_assoc old (flags_of word w.fs) (argument_of word c after))),
+        )
+
+-- items cut back to the old length are the old ones
+pub taken_back : (old zs ys : List Arg) (n : ℕ) → n ≡ length old → zs ≡ old ++ ys → take n zs ≡ old
+taken_back old zs ys n h e = rw (e, h) (grind (arith, common_steps))
+
+-- a text that is the word for the first flag, and empty for the others
+pub first_text : (word text : List ℕ) (count : ℕ) → (count ≡ 0 → text ≡ word)
+    → (count ≢ 0 → text ≡ []) → text ≡ (if count == 0 then word else [])
+first_text word text count f g = grind (arith, nat_tests)

@@ -1,16 +1,14 @@
 -- Words have one line, or none and then a first ambiguous word.
 use Rattle.std.proofs.Common.{◌≡◌, ◌≢◌, ◌⊎◌, inl, inr, ⊎_elim, ℕ, ◌+◌, List, [], ◌∷◌, ◌++◌, length}
 use Rattle.std.proofs.Common.{map, codes, refl, ap, sym, ◌∙◌, subst, arith, append_assoc, None}
-use Rattle.std.proofs.Common.{Some, Option, All, IsUtf8, length-append}
-use Rattle.std.proofs.Common.{append-nil}
-use Rattle.std.specs.Cmp.Lexicographic.{bytes_decides}
-use Rattle.std.specs.{Option.option_map, List.AllZip, List.flat_map}
-use Rattle.bpaf_base.specs.{declared.arg.Arg.Arg, declared.arg.Arg.TheVariants.PosWord}
-use Rattle.bpaf_words.specs.Spelling.{Known, Spelling, Items, Ambiguous, Spells}
-use Rattle.bpaf_words.specs.Line.{SpellAll, HasNoMarker, IsLine, HasNoLine, without_marker}
-use Rattle.bpaf_words.specs.Line.{with_marker, LinesAreUnique}
-use Rattle.bpaf_words.proofs.OneSpelling.{one_spelling}
+use Rattle.std.proofs.Common.{Some, Option, All, IsUtf8, length-append, append-nil}
 use Rattle.std.proofs.lemmas.List.Elements.{All-head, All-tail, All-cons}
+use Rattle.std.specs.List.{AllZip, flat_map}
+use Rattle.std.specs.{Cmp.Lexicographic.bytes_decides, Option.option_map}
+use Rattle.bpaf_base.specs.{declared.arg.Arg.Arg, declared.arg.Arg.TheVariants.PosWord}
+use Rattle.bpaf_words.specs.Line.{Known, Spelling, Items, Ambiguous, Spells, SpellAll, HasNoMarker}
+use Rattle.bpaf_words.specs.Line.{IsLine, HasNoLine, without_marker, with_marker, LinesAreUnique}
+use Rattle.bpaf_words.proofs.OneSpelling.{one_spelling}
 
 -- what words come to: a line and the place of its marker; or a first ambiguous word and the number
 -- of its ambiguous character

@@ -1,24 +1,109 @@
--- Each word but `--` has exactly one spelling: the one that a plain walk over its characters finds.
-use Rattle.std.proofs.Common.{◌≡◌, ◌≢◌, ◌==◌, ℕ, zero, suc, ◌+◌, Bool, true, false, if◌then◌else◌}
-use Rattle.std.proofs.Common.{List, [], ◌∷◌, ◌++◌, length, refl, ap, sym, ◌∙◌, subst, arith}
-use Rattle.std.proofs.Common.{append_assoc, append-nil, None, Some, Option, encode_utf8}
-use Rattle.std.proofs.Common.{encode_utf8_all, All, lit<, IsUtf8, ⊎_elim, codes}
-use Rattle.std.specs.Option.{option_map}
+-- Each word but `--` has exactly one spelling: the one that a plain walk over its characters
+-- finds.
+use Rattle.std.proofs.Common.{◌≡◌, ◌∙◌, ℕ, ◌+◌, List, [], ◌∷◌, ◌++◌, take, drop, sym, ap, Some}
+use Rattle.std.proofs.Common.{slice_get, add-one, ◌==◌, zero, suc, Bool, true, false, refl, subst}
+use Rattle.std.proofs.Common.{arith, ◌⊎◌, inl, inr, ⊎_elim, EachIndex, slice_index, ◌≢◌}
+use Rattle.std.proofs.Common.{if◌then◌else◌, length, append_assoc, append-nil, None, Option}
+use Rattle.std.proofs.Common.{encode_utf8, encode_utf8_all, All, lit<, IsUtf8, codes}
+use Rattle.std.proofs.Math.Seq.{drop-cons, take-suc}
+use Rattle.std.proofs.lemmas.Option.{get_or_from_slice_get, slice_get_within}
 use Rattle.std.proofs.lemmas.Str.{encode_ascii, encode_same, cons_from_encodes, encodes_same}
-use Rattle.std.proofs.lemmas.Bool.{eqb-false, eqb-true, ne_eqb, Decides.nat_tests}
+use Rattle.std.proofs.lemmas.Bool.{eqb-false, eqb-true, ne_eqb}
 use Rattle.std.proofs.lemmas.List.Elements.{All-head, All-push, All-tail}
+use Rattle.std.proofs.{lemmas.List.take-append-drop, lemmas.Bool.Decides.nat_tests}
+use Rattle.std.specs.{List.AllZip, Char.IsAsciiDigit, Option.option_map}
+use Rattle.bpaf_words.specs.Line.{IsNumber, IsNumberWord, ShortNames, Known, SpellsByDash}
+use Rattle.bpaf_words.specs.Line.{number_word, by_dash, NumberWord, dash_case_of, IsKnownAs}
+use Rattle.bpaf_words.specs.Line.{HasNoEquals, Spelling, Items, Ambiguous, flags_of, argument_of}
+use Rattle.bpaf_words.specs.Line.{SpellsJoined, flags, argument, neither, both, Spells, plain, dash}
+use Rattle.bpaf_words.specs.Line.{long, long_value, short, short_value, short_long_value, joined}
+use Rattle.bpaf_words.specs.Line.{Case, PlainWord, DashAlone, LongAlone, LongWithValue, ShortAlone}
+use Rattle.bpaf_words.specs.Line.{ShortWithValue, ShortWithLongValue, JoinedFlags}
+use Rattle.bpaf_words.specs.Line.{JoinedWithArgument, JoinedWithNeither, JoinedWithBoth, case_of}
+use Rattle.bpaf_words.specs.Line.{joined_case_of, SpellingsAreUnique}
 use Rattle.bpaf_base.specs.declared.arg.Arg.TheVariants.{Short, Long, ArgWord, Word}
 use Rattle.bpaf_base.specs.Items.{is_among}
-use Rattle.bpaf_words.specs.Spelling.{ShortNames, Known, IsNumberWord, SpellsByDash, number_word}
-use Rattle.bpaf_words.specs.Spelling.{by_dash, NumberWord, dash_case_of, IsKnownAs, HasNoEquals}
-use Rattle.bpaf_words.specs.Spelling.{Spelling, Items, Ambiguous, flags_of, argument_of}
-use Rattle.bpaf_words.specs.Spelling.{SpellsJoined, flags, argument, neither, both, Spells, plain}
-use Rattle.bpaf_words.specs.Spelling.{dash, long, long_value, short, short_value, short_long_value}
-use Rattle.bpaf_words.specs.Spelling.{joined, Case, PlainWord, DashAlone, LongAlone, LongWithValue}
-use Rattle.bpaf_words.specs.Spelling.{ShortAlone, ShortWithValue, ShortWithLongValue, JoinedFlags}
-use Rattle.bpaf_words.specs.Spelling.{JoinedWithArgument, JoinedWithNeither, JoinedWithBoth}
-use Rattle.bpaf_words.specs.Spelling.{case_of, joined_case_of, SpellingsAreUnique}
-use Rattle.bpaf_words.proofs.{Numbers.number_or_not}
+
+-- two lists that are related member by member, with one more pair
+pub AllZip_push : {A B : Type 0} (R : A → B → Type 0) (xs : List A) (ys : List B) (x : A) (y : B)
+    → AllZip R xs ys → R x y → AllZip R (xs ++ x ∷ []) (ys ++ y ∷ [])
+AllZip_push R [] [] x y all r = (r, tt)
+AllZip_push R [] (b ∷ ys) x y all r = absurd all
+AllZip_push R (a ∷ xs) [] x y all r = absurd all
+AllZip_push R (a ∷ xs) (b ∷ ys) x y all r = (all.0, AllZip_push R xs ys x y all.1 r)
+
+module _ {X : Type 0} (xs : List X) (i : ℕ) (x : X) (at : slice_get xs i ≡ Some x) where
+  -- one member more at the front
+  pub take_next : take (i + 1) xs ≡ take i xs ++ x ∷ []
+  take_next =
+      rw (add-one, take-suc xs i x (slice_get_within xs i x at), get_or_from_slice_get xs i x x at)
+
+  -- one member less at the back
+  pub drop_next : drop i xs ≡ x ∷ drop (i + 1) xs
+  drop_next =
+      rw (add-one, drop-cons xs i x (slice_get_within xs i x at), get_or_from_slice_get xs i x x at)
+
+  -- a list around one of its members
+  pub cut_at : xs ≡ take i xs ++ x ∷ drop (i + 1) xs
+  cut_at = sym (take-append-drop i xs) ∙ ap (λ z. take i xs ++ z) drop_next
+
+-- each byte is a digit
+abbrev AreDigits : List ℕ → Type 0
+AreDigits digits = EachIndex digits (λ k. IsAsciiDigit (slice_index digits k))
+
+-- one digit more in front
+digits_more : (d : ℕ) (ds : List ℕ) → IsAsciiDigit d → AreDigits ds → AreDigits (d ∷ ds)
+digits_more d ds one more zero within = one
+digits_more d ds one more (suc k) within = more k (omega arith)
+
+-- a byte is a digit or none
+digit_or_not : (d : ℕ) → IsAsciiDigit d ⊎ ¬ (IsAsciiDigit d)
+digit_or_not d = grind arith
+
+-- bytes are digits, or not all of them are
+digits_or_not : (ds : List ℕ) → AreDigits ds ⊎ ¬ (AreDigits ds)
+digits_or_not [] = inl (λ k within. absurd (omega arith))
+digits_or_not (d ∷ ds) = ⊎_elim
+    (λ one. ⊎_elim
+    (λ more. inl (digits_more d ds one more))
+    (λ none. inr (λ all. none (λ k within. all (suc k) (omega arith))))
+    (digits_or_not ds)) (λ none. inr (λ all. none (all 0 (omega arith)))) (digit_or_not d)
+
+-- a word of one byte and more is a number or none, by whether that byte is the dash
+number_by : (b : ℕ) (ds : List ℕ) (is_dash : Bool) → (b == 45) ≡ is_dash
+    → AreDigits ds ⊎ ¬ (AreDigits ds) → IsNumber (b ∷ ds) ⊎ ¬ (IsNumber (b ∷ ds))
+number_by b ds false e either = inr (λ n. let is : b ∷ ds ≡ 45 ∷ n.digits = n.is in
+    let same : b ≡ 45 = cc in let t : true ≡ false = sym (ap (λ x. x == 45) same) ∙ e in cc)
+number_by b [] true e either = inr (λ n. let is : b ∷ [] ≡ 45 ∷ n.digits = n.is in n.some cc)
+number_by b (d ∷ ds) true e either = ⊎_elim
+    (λ all. let same : b ≡ 45 = grind (arith, nat_tests) in inl (record {
+      digits = d ∷ ds;
+      is = ap (λ x. x ∷ d ∷ ds) same;
+      some = λ none. cc;
+      each = all;
+    }))
+    (λ none. inr (λ n. let is : b ∷ d ∷ ds ≡ 45 ∷ n.digits = n.is in
+    let same : n.digits ≡ d ∷ ds = cc in none (subst AreDigits same n.each)))
+    either
+
+-- a word is a number or none
+is_or_not : (word : List ℕ) → IsNumber word ⊎ ¬ (IsNumber word)
+is_or_not [] = inr (λ n. let is : [] ≡ 45 ∷ n.digits = n.is in cc)
+is_or_not (b ∷ ds) = number_by b ds (b == 45) refl (digits_or_not ds)
+
+-- a number is a word by the setting alone
+by_setting : (numbers b : Bool) (word : List ℕ) → numbers ≡ b → IsNumber word ⊎ ¬ (IsNumber word)
+    → IsNumberWord numbers word ⊎ ¬ (IsNumberWord numbers word)
+by_setting numbers true word e either =
+    ⊎_elim (λ is. inl (e, is)) (λ none. inr (λ both. none both.1)) either
+by_setting numbers false word e either = inr (λ both. let t : false ≡ true = sym e ∙ both.0 in cc)
+
+-- a word is a number that is a word, or none
+pub number_or_not : (numbers : Bool) (word : List ℕ)
+    → IsNumberWord numbers word ⊎ ¬ (IsNumberWord numbers word)
+number_or_not numbers word = by_setting numbers numbers word refl (is_or_not word)
+
+-- Each word but `--` has exactly one spelling: the one that a plain walk over its characters finds.
 
 -- a text around its first `=`
 abbrev split_equals : List ℕ → Option (List ℕ × List ℕ)

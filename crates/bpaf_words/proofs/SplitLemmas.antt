@@ -1,19 +1,19 @@
 -- From what the calls on text say to the cases of a spelling.
-use Rattle.std.proofs.Common.{◌≡◌, ◌≢◌, ℕ, Bool, true, List, [], ◌∷◌, ◌++◌}
-use Rattle.std.proofs.Common.{length, refl, ap, sym, ◌∙◌, subst, arith, lit<, Option, None, Some}
-use Rattle.std.proofs.Common.{IfOk, Result, Ok, Err, encode_utf8, encode_utf8_all, IsUtf8}
+use Rattle.std.proofs.Common.{◌≡◌, ◌≢◌, ℕ, Bool, true, List, [], ◌∷◌, ◌++◌, length, refl, ap, sym}
+use Rattle.std.proofs.Common.{◌∙◌, subst, arith, lit<, Option, None, Some, IfOk, Result, Ok, Err}
+use Rattle.std.proofs.Common.{encode_utf8, encode_utf8_all, IsUtf8}
 use Rattle.std.proofs.lemmas.Str.{encode_ascii, cons_from_encodes}
 use Rattle.std.proofs.lemmas.Str.Pattern.{NoCharPasses-char, IsSplitOnceResult, split_parts}
 use Rattle.bpaf_base.specs.declared.arg.Arg.{Arg}
 use Rattle.bpaf_base.specs.declared.arg.Arg.TheVariants.{Short, ArgWord}
 use Rattle.bpaf_words.specs.declared.split.SplitFault.{SplitFault}
 use Rattle.bpaf_words.specs.declared.split.SplitFault.TheVariants.{Ambiguous, Memory}
-use Rattle.bpaf_words.specs.Spelling.{ShortNames, Known, IsNumberWord, HasNoEquals, Spelling, Items}
-use Rattle.bpaf_words.specs.Spelling.{SpellsJoined, short_value, short_long_value, joined}
+use Rattle.bpaf_words.specs.Line.{ShortNames, Known, IsNumberWord, HasNoEquals, Spelling, Items}
+use Rattle.bpaf_words.specs.Line.{SpellsJoined, short_value, short_long_value, joined}
+use Rattle.bpaf_words.specs.Line.{Ambiguous as NoItems, Spells, by_dash, SpellsByDash}
 use Rattle.bpaf_words.specs.Splitting.{Answers, Splits, SplitsJoined, AreJoined, SplitsDashed}
 use Rattle.bpaf_words.specs.Splitting.{SplitsAlone, SpellsByAny}
 use Rattle.std.specs.{Str.Pattern.FindsChar, Borrow.Bor, declared.alloc.AllocError.AllocError}
-use Rattle.bpaf_words.specs.Spelling.{Ambiguous as NoItems, Spells, by_dash, SpellsByDash}
 
 -- a text in which no `=` was found has none
 pub no_equals : (bs : List ℕ) → FindsChar 61 bs None → HasNoEquals bs

@@ -1,4 +1,3 @@
 pub mod Arguments
-pub mod Spelling
-pub mod Splitting
 pub mod Line
+pub mod Splitting

@@ -1,6 +1,5 @@
 //! Laws of the definitions, as contracts of functions that do nothing.
-ghost use Rattle.bpaf_words.specs.Line.{LinesAreUnique};
-ghost use Rattle.bpaf_words.specs.Spelling.{SpellingsAreUnique};
+ghost use Rattle.bpaf_words.specs.Line.{LinesAreUnique, SpellingsAreUnique};
 
 /// Each word but `--` has exactly one spelling.
 pub fn spellings_are_unique()

@@ -5,7 +5,7 @@
 //!
 //! - [`Args`] lends the words, the name and the environment of a run (specs/Arguments.antt).
 //! - [`split_word`] answers the items of one word. Contracts say which by `Spells`
-//!   (specs/Spelling.antt), by the ways in which a word falls into parts and not by a walk over it;
+//!   (specs/Line.antt), by the ways in which a word falls into parts and not by a walk over it;
 //!   what a spelling depends on is one record, `Known`: the known short names, and whether a
 //!   negative number such as `-5` is a word. Each word but `--` has exactly one spelling.
 //! - [`line_of`] answers the [`Line`] of all words and the place of their first `--`. A line is

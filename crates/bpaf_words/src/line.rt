@@ -1,11 +1,10 @@
 //! The line of all words.
-ghost use Rattle.std.specs.Prelude.{◌≡◌, ◌≤◌, [], ◌++◌, true, IfOk, OnOk, All, IsUtf8};
-ghost use Rattle.std.specs.Prelude.{drop, map, length, nat_lt};
+ghost use Rattle.std.specs.Prelude.{◌≡◌, ◌≤◌, [], ◌++◌, true, IfOk, OnOk, All, IsUtf8, drop, map};
+ghost use Rattle.std.specs.Prelude.{length, nat_lt};
 ghost use Rattle.std.specs.Bool.{then_some};
-ghost use Rattle.bpaf_words.specs.Arguments.{words_in};
-ghost use Rattle.bpaf_words.specs.Spelling.{known_at};
 ghost use Rattle.bpaf_words.specs.Splitting.{Begins, BeginsByAny, EndsFront, IsFront, IsLineByAny};
 ghost use Rattle.bpaf_words.specs.Splitting.{SplitsWords, ReadsLine, AreTexts};
+ghost use Rattle.bpaf_words.specs.{Arguments.words_in, Line.known_at};
 
 use crate::args::Words;
 use crate::split::{SplitFault, split_alone, split_word};

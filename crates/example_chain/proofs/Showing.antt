@@ -3,12 +3,13 @@ use Rattle.std.proofs.Common.{◌≡◌, true, ap}
 use Rattle.bpaf_laws.specs.Command.{CommandDescribes, named_only, opening_words}
 use Rattle.bpaf_laws.specs.{Laws.Lawful, Reading.Outcome, Reading.Readings}
 use Rattle.bpaf_keys.specs.Info.{short_descr}
-use Rattle.bpaf_core.specs.Adjacent.{EitherCommandReads, OutcomeOfCommand}
+use Rattle.bpaf_core.specs.Command.{EitherCommandReads, OutcomeOfCommand}
 use Rattle.bpaf_core.specs.declared.commands.ParseCommand.{ParseCommand}
 use Rattle.bpaf.proofs.Asked.{hands_also}
-use Rattle.bpaf_program.proofs.Commands.{Hands, command_hands}
-use Rattle.example_chain.specs.Shown.{IsCommandPage, IsCommandShape, IsDescribed, ShownShapes, ShowsAs}
-use Rattle.example_chain.specs.{declared.steps.Step.Step, Dealing.ChainedReads, Shown.Titled}
+use Rattle.bpaf_program.proofs.Known.{Hands, command_hands}
+use Rattle.example_chain.specs.Running.{IsCommandPage, IsCommandShape, IsDescribed, ShownShapes}
+use Rattle.example_chain.specs.Running.{ShowsAs, ChainedReads, Titled}
+use Rattle.example_chain.specs.declared.steps.Step.{Step}
 
 -- a command of this title over this parser
 pub record IsTitled {P : Type 0} (title : Titled) (parser : P) (command : ParseCommand Step P)

@@ -1,4 +1,1 @@
-pub mod Dealing
-pub mod Lines
 pub mod Running
-pub mod Shown

@@ -1,8 +1,198 @@
--- What a run of the program answers.
-use Rattle.std.specs.{Prelude.ℕ, Prelude.Bool, Prelude.List, Global.Vec}
-use Rattle.bpaf_doc.specs.{declared.doc.Piece.Piece, Print.printed}
+-- What a run of the program answers: the steps that its words have, a line for each, and what it
+-- shows where it is asked for help.
+use Rattle.std.specs.Prelude.{◌≡◌, ℕ, ℤ, Bool, List, [], ◌∷◌, Some, codes, ◌++◌, if◌then◌else◌}
+use Rattle.std.specs.Prelude.{false}
+use Rattle.std.specs.{Global.Vec, Fmt.decimal, Fmt.signed_decimal}
+use mir.Syntax.{w64}
+use Rattle.bpaf_doc.specs.Print.{TextPieces, printed}
+use Rattle.bpaf_doc.specs.{Names.Names, declared.doc.Piece.Piece, Shape.Shape}
+use Rattle.bpaf_text.specs.{Meaning.SpellsSigned, Meaning.SpellsUnsigned, Named.key_named}
+use Rattle.bpaf_words.specs.{Arguments.Given, Line.Known, Line.knowing}
+use Rattle.bpaf_laws.specs.Command.{CommandReads, CommandDescribes, named_only}
+use Rattle.bpaf_laws.specs.Product.{BothReads, BothDescribes, LastDescribes, ProductDescribes}
+use Rattle.bpaf_laws.specs.Combinators.{ListReads, MapReads, ManyDescribes}
+use Rattle.bpaf_laws.specs.{Adjacent.StretchReads, Choice.ChoiceReads, Choice.ChoiceDescribes}
+use Rattle.bpaf_laws.specs.{Reading.Readings, Reading.Outcome, Leaves.flag_shape}
+use Rattle.bpaf.specs.Positional.{PositionalReads, positional_shape}
+use Rattle.bpaf.specs.Asked.{BehindWord, IsAskedAt, ShowsNothing, WordsShow}
+use Rattle.bpaf.specs.{declared.leaves.positional.Position.TheVariants.Unrestricted, Run.IsDealtOut}
+use Rattle.bpaf_program.specs.{Fields.NamedSwitchReads, Ending.line}
 use Rattle.example_chain.specs.declared.steps.Step.{Step}
-use Rattle.example_chain.specs.{Dealing.AreDealtSteps, Lines.step_lines, Shown.IsHelpAsked}
+use Rattle.example_chain.specs.declared.steps.Step.TheVariants.{Move, Turn, Repeat}
+use Rattle.bpaf_line.specs.Situation.{Situation}
+use Rattle.bpaf_keys.specs.Info.{RunInfo, plain_info, short_descr}
+
+-- what the program is given
+abbrev pub program_given : List (List ℕ) → Given
+program_given words = record { words = words; env = []; name = Some (codes "chain") }
+
+-- the known short names: those of help and of version, both flags
+abbrev pub program_known : Known
+program_known = knowing (record { flags = codes "hV"; arguments = [] })
+
+-- the name of the switch by which a turn goes to the left
+abbrev pub left_names : Names
+left_names = record { shorts = []; longs = codes "left" ∷ [] }
+
+-- a word that spells a number
+abbrev pub NumberReads : Readings ℕ
+NumberReads = PositionalReads ℕ (SpellsUnsigned 64) Unrestricted
+
+-- a word that spells a number with a sign
+abbrev pub IntegerReads : Readings ℤ
+IntegerReads = PositionalReads ℤ (SpellsSigned w64) Unrestricted
+
+-- the switch `--left`
+abbrev pub LeftReads : Readings Bool
+LeftReads = NamedSwitchReads left_names
+
+-- a step, by what it is made of
+abbrev pub PartsRead : {V : Type 0} → Readings V → (V → Step) → Readings Step
+PartsRead {V} parts make = MapReads V Step parts (λ x step. step ≡ make x)
+
+-- `DX DY`
+abbrev pub MoveReads : Readings Step
+MoveReads = PartsRead {V = ℤ × ℤ} (BothReads ℤ ℤ IntegerReads IntegerReads) (λ x. Move x.0 x.1)
+
+-- `[--left] DEGREES`
+abbrev pub TurnReads : Readings Step
+TurnReads = PartsRead {V = Bool × ℕ} (BothReads Bool ℕ LeftReads NumberReads) (λ x. Turn x.0 x.1)
+
+-- `N`
+abbrev pub RepeatReads : Readings Step
+RepeatReads = PartsRead {V = ℕ} NumberReads (λ n. Repeat n)
+
+-- one stretch of words: this name, and what is read behind it
+abbrev pub ChainedReads : List ℕ → Readings Step → Readings Step
+ChainedReads word inner = StretchReads Step (CommandReads Step (word ∷ []) inner)
+
+-- one of the three commands, by what is read behind their names
+abbrev pub StepReads : (move turn repeat : Readings Step) → Readings Step
+StepReads move turn repeat =
+    ChoiceReads (ChoiceReads (ChainedReads (codes "move") move)
+    (ChainedReads (codes "turn") turn)) (ChainedReads (codes "repeat") repeat)
+
+-- some steps, each of which is one of three kinds
+abbrev pub StepsRead : (move turn repeat : Readings Step) → Readings (Vec Step)
+StepsRead move turn repeat =
+    MapReads (List Step) (Vec Step) (ListReads (StepReads move turn repeat))
+    (λ values v. v.items ≡ values)
+
+-- all places of the words' line but the first `--` are dealt out to the steps, each used once
+abbrev pub AreDealt : (move turn repeat : Readings Step) → List (List ℕ) → Vec Step → Type 0
+AreDealt move turn repeat words =
+    IsDealtOut (Vec Step) (StepsRead move turn repeat) program_known (program_given words)
+
+-- so are the steps of the program, each made of its own parts
+abbrev pub AreDealtSteps : List (List ℕ) → Vec Step → Type 0
+AreDealtSteps = AreDealt MoveReads TurnReads RepeatReads
+
+-- the line of a turn
+abbrev pub turn_line : Bool → ℕ → List ℕ
+turn_line left degrees =
+    line ((if left then codes "turn left " else codes "turn right ") ++ decimal degrees)
+
+-- the line of a step
+abbrev pub step_line : Step → List ℕ
+step_line (Move dx dy) = line (codes "move " ++ signed_decimal dx ++ codes " " ++ signed_decimal dy)
+step_line (Turn left degrees) = turn_line left degrees
+step_line (Repeat times) = line (codes "repeat " ++ decimal times)
+
+-- those of all steps, in order
+abbrev pub step_lines : List Step → List ℕ
+step_lines [] = []
+step_lines (step ∷ steps) = step_line step ++ step_lines steps
+
+-- What the program shows where it is asked for help.
+
+-- what shapes may be shown
+abbrev pub ShownShapes : Type 1
+ShownShapes = Shape → Type 0
+
+-- a word by this name, with this help
+pub record IsWordShape (name text : List ℕ) (shape : Shape) : Type 0 where
+  pub help : List Piece
+  pub told : TextPieces text help
+  pub is : shape ≡ positional_shape Unrestricted name (Some help)
+
+-- the switch `--left`
+abbrev pub IsLeftShape : ShownShapes
+IsLeftShape shape = shape ≡ flag_shape (key_named left_names) (Some false)
+
+-- `DX DY`
+abbrev pub IsMoveShape : ShownShapes
+IsMoveShape =
+    ProductDescribes (BothDescribes (IsWordShape (codes "DX") (codes "How far to the right"))
+    (LastDescribes (IsWordShape (codes "DY") (codes "How far up"))))
+
+-- `[--left] DEGREES`
+abbrev pub IsTurnShape : ShownShapes
+IsTurnShape =
+    ProductDescribes (BothDescribes IsLeftShape
+    (LastDescribes (IsWordShape (codes "DEGREES") (codes "How far to turn"))))
+
+-- `N`
+abbrev pub IsRepeatShape : ShownShapes
+IsRepeatShape = ProductDescribes (LastDescribes (IsWordShape (codes "N") (codes "How many times")))
+
+-- a parser shows nothing by itself, and these shapes alone
+pub record ShowsAs (shapes describes : ShownShapes) (outcome : Outcome Step) : Type 0 where
+  pub nothing : ShowsNothing outcome
+  pub shapes_are : (shape : Shape) → describes shape → shapes shape
+
+-- a command by its name, the text that describes it, and what is shown behind its name
+pub record Titled : Type 1 where
+  pub name : List ℕ
+  pub text : List ℕ
+  pub shapes : ShownShapes
+
+-- the commands of the program
+abbrev pub move_title : Titled
+move_title = record { name = codes "move"; text = codes "Moves by so far"; shapes = IsMoveShape }
+
+abbrev pub turn_title : Titled
+turn_title =
+    record { name = codes "turn"; text = codes "Turns where it stands"; shapes = IsTurnShape }
+
+abbrev pub repeat_title : Titled
+repeat_title =
+    record { name = codes "repeat"; text = codes "Repeats all before it"; shapes = IsRepeatShape }
+
+-- what a run knows beside its parser is this text alone, which describes it
+pub record IsDescribed (text : List ℕ) (info : RunInfo) : Type 0 where
+  pub descr : List Piece
+  pub told : TextPieces text descr
+  pub is : info ≡ record plain_info { descr = Some descr }
+
+-- what a command shows: its name, the first line of its text, and what is shown behind its name
+pub record IsCommandShape (title : Titled) (shape : Shape) : Type 0 where
+  pub info : RunInfo
+  pub described : IsDescribed title.text info
+  pub is : CommandDescribes (named_only title.name) (short_descr info) title.shapes shape
+
+-- what the program shows: any number of its commands
+abbrev pub IsProgramShape : ShownShapes
+IsProgramShape =
+    ManyDescribes (ChoiceDescribes (ChoiceDescribes (IsCommandShape move_title)
+    (IsCommandShape turn_title)) (IsCommandShape repeat_title))
+
+-- the help page of a command, which was asked for behind its name
+pub record IsCommandPage (title : Titled) (s : Situation) (doc : List Piece) (full : Bool) : Type 0
+  where
+    pub info : RunInfo
+    pub described : IsDescribed title.text info
+    pub asked : BehindWord (named_only title.name) (IsAskedAt title.shapes info) s doc full
+
+-- a help page that was asked for: that of the program, or of one of its commands
+pub data IsPage (s : Situation) (doc : List Piece) (full : Bool) : Type 0 where
+  of_program : IsAskedAt IsProgramShape plain_info s doc full → IsPage s doc full
+  of_move : IsCommandPage move_title s doc full → IsPage s doc full
+  of_turn : IsCommandPage turn_title s doc full → IsPage s doc full
+  of_repeat : IsCommandPage repeat_title s doc full → IsPage s doc full
+
+-- the words ask for this help page
+abbrev pub IsHelpAsked : List (List ℕ) → List Piece → Bool → Type 0
+IsHelpAsked words doc full = WordsShow program_known (program_given words) IsPage doc full
 
 -- a text that answers the words: the lines of steps that are dealt out of them, or the text of a
 -- help page that they ask for

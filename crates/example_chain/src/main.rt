@@ -21,9 +21,9 @@
 //!
 //! What is proved of it: where the writers tell their bytes, status 0 comes only where exactly the
 //! lines of steps were written that are dealt out of the words, each step read off one stretch of
-//! them (specs/Dealing.antt, specs/Lines.antt); or where exactly a help page was written that the
+//! them (specs/Running.antt); or where exactly a help page was written that the
 //! words ask for: that of the program, or that of a command, the key of help behind the command's
-//! name (specs/Shown.antt, specs/Running.antt). Where the status is 1, a write failed, the last
+//! name (specs/Running.antt). Where the status is 1, a write failed, the last
 //! one, and a beginning of such a text was written, not all, and nothing on standard error; or
 //! nothing was, and there the line of a message, whole unless a write failed.
 #![tactic(auto)]

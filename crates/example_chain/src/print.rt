@@ -1,8 +1,7 @@
 //! What the steps of a chain print.
 ghost use Rattle.std.specs.Prelude.{◌≡◌, ◌++◌, OnOk, map, string_bytes};
-ghost use Rattle.bpaf_program.specs.Running.{AnswersText, IsTextOrWant};
-ghost use Rattle.example_chain.specs.Lines.{step_line, step_lines, turn_line};
-ghost use Rattle.example_chain.specs.Running.{Answers};
+ghost use Rattle.bpaf_program.specs.Ending.{AnswersText, IsTextOrWant};
+ghost use Rattle.example_chain.specs.Running.{step_line, step_lines, turn_line, Answers};
 
 use crate::steps::{Step, read_steps};
 use bpaf::ParseFailure;

@@ -1,13 +1,11 @@
 //! The steps of a chain, as adjacent commands.
 ghost use Rattle.std.specs.Prelude.{◌≡◌, IfOk, map, string_bytes, true};
 ghost use Rattle.std.specs.Result.{IfErr};
-ghost use Rattle.bpaf_laws.specs.Command.{named_only};
-ghost use Rattle.bpaf_laws.specs.ShownNames.{joined_shorts, no_shorts};
+ghost use Rattle.bpaf_laws.specs.{Command.named_only, Laws.joined_shorts, Laws.no_shorts};
 ghost use Rattle.bpaf_keys.specs.Info.{short_descr};
 ghost use Rattle.bpaf.specs.Asked.{IfShown};
-ghost use Rattle.example_chain.specs.Dealing.{AreDealt, AreDealtSteps};
-ghost use Rattle.example_chain.specs.Shown.{IsDescribed, IsHelpAsked, IsMoveShape, IsRepeatShape};
-ghost use Rattle.example_chain.specs.Shown.{IsTurnShape, ShowsAs};
+ghost use Rattle.example_chain.specs.Running.{AreDealt, AreDealtSteps, IsDescribed, IsHelpAsked};
+ghost use Rattle.example_chain.specs.Running.{IsMoveShape, IsRepeatShape, IsTurnShape, ShowsAs};
 
 use bpaf::parsers::ParseCommand;
 use bpaf::{Args, Doc, ParseFailure, Parser, construct, long, positional};

@@ -3,7 +3,7 @@ use Rattle.std.specs.Prelude.{◌≡◌, ◌≢◌, true, ℕ, List, [], ◌∷�
 use Rattle.std.specs.List.{Contains}
 use Rattle.bpaf_doc.specs.Names.{Names}
 use Rattle.bpaf.specs.Marker.{words_before}
-use Rattle.bpaf_record.specs.Spelled.{WasSpelled}
+use Rattle.bpaf_record.specs.Record.{WasSpelled}
 use Rattle.bpaf_program.specs.Fields.{plain_argument, plain_flag, plain_switch}
 use Rattle.example_guide.specs.{declared.archive.Archive.Archive, declared.archive.Keys.Keys}
 

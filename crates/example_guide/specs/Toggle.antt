@@ -4,7 +4,7 @@ use Rattle.bpaf_doc.specs.Names.{Names}
 use Rattle.bpaf_base.specs.Items.{is_key_of}
 use Rattle.bpaf_line.specs.Situation.{Situation, Context, is_open}
 use Rattle.bpaf_line.specs.Taking.{TakesFlag}
-use Rattle.bpaf_line.proofs.Matches.{match_is_open, match_has_item}
+use Rattle.bpaf_line.proofs.Places.{match_is_open, match_has_item}
 use Rattle.bpaf_laws.specs.Reading.{Share, Readings, Outcome, HasItem, IsPlace, IsEmptyShare}
 use Rattle.bpaf_laws.specs.Laws.{Reads, Lawful}
 use Rattle.bpaf_laws.proofs.Keeping.{closes_take, keeps_take, newly_take, newly_none, reads_same}

@@ -1,9 +1,8 @@
 //! A program with commands, of which it is proved that it removes nothing unless its key in front of
 //! the commands was spelled and the command's word stands there.
 ghost use Rattle.std.specs.Prelude.{◌≡◌, [], ◌∷◌, true, IfOk, codes, map, string_bytes};
-ghost use Rattle.bpaf_record.specs.Spelled.{WasCalled, WasSpelled};
-ghost use Rattle.example_guide.specs.Clean.{IsRemoval};
-ghost use Rattle.example_guide.specs.Remove.{force_names};
+ghost use Rattle.bpaf_record.specs.Record.{WasCalled, WasSpelled};
+ghost use Rattle.example_guide.specs.{Clean.IsRemoval, Remove.force_names};
 
 use bpaf::{Args, ParseFailure, Parser, construct, positional, short};
 use bpaf_program::{key, plain_command};

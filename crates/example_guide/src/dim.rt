@@ -1,6 +1,6 @@
 //! How a lamp is dimmed, by closures that check its numbers, of which it is proved that they decide.
 ghost use Rattle.std.specs.Prelude.{◌<◌, ◌≤◌, IfOk, map, string_bytes};
-ghost use Rattle.bpaf_record.specs.Spelled.{WasSpelled};
+ghost use Rattle.bpaf_record.specs.Record.{WasSpelled};
 ghost use Rattle.example_guide.specs.Dim.{percent_names};
 
 use bpaf::{Args, ParseFailure, Parser, construct, short};

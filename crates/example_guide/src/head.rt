@@ -2,9 +2,8 @@
 //! proved from its words to its bytes.
 ghost use Rattle.std.specs.Prelude.{◌≡◌, IfOk, IsSome, codes, map, string_bytes};
 ghost use Rattle.bpaf_program.specs.Fields.{plain_argument};
-ghost use Rattle.bpaf_program.specs.Running.{OrPage, RunsTo};
-ghost use Rattle.bpaf_program.specs.Sink.{wrote};
-ghost use Rattle.bpaf_record.specs.Spelled.{WasSpelled};
+ghost use Rattle.bpaf_program.specs.Ending.{OrPage, RunsTo, wrote};
+ghost use Rattle.bpaf_record.specs.Record.{WasSpelled};
 ghost use Rattle.example_guide.specs.Head.{IsHeadText, bytes_names};
 
 use bpaf::params::ParseArgument;

@@ -1,6 +1,5 @@
 //! One parser of each kind. None holds a closure, so each has a type that a function may answer.
-ghost use Rattle.bpaf_laws.specs.Flag.{FlagOutcome};
-ghost use Rattle.bpaf_laws.specs.Kept.{IsKept};
+ghost use Rattle.bpaf_laws.specs.{Leaves.FlagOutcome, Reading.IsKept};
 
 use crate::types::Level;
 use bpaf::params::{ParseArgument, ParseFlag, ParsePositional};

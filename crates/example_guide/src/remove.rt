@@ -1,10 +1,9 @@
 //! A remover, of which it is proved, from its words to its bytes, that it tells of no file as
 //! removed unless its key was spelled.
 ghost use Rattle.std.specs.Prelude.{◌≡◌, true, IfOk, codes, map, string_bytes};
-ghost use Rattle.bpaf_program.specs.Running.{OrPage, RunsTo};
-ghost use Rattle.bpaf_program.specs.Sink.{wrote};
-ghost use Rattle.bpaf_program.specs.Texts.{HasOtherTexts};
-ghost use Rattle.bpaf_record.specs.Spelled.{WasSpelled};
+ghost use Rattle.bpaf_program.specs.Ending.{OrPage, RunsTo, wrote};
+ghost use Rattle.bpaf_program.specs.KnownParser.{HasOtherTexts};
+ghost use Rattle.bpaf_record.specs.Record.{WasSpelled};
 ghost use Rattle.example_guide.specs.Remove.{IsRemovalText, force_names};
 
 use bpaf::{Args, OptionParser, ParseFailure, Parser, construct, positional, short};

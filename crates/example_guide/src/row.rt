@@ -1,10 +1,9 @@
 //! A row of a test: a program, and words that are lent.
 ghost use Rattle.std.specs.Prelude.{◌≡◌, false, true};
 ghost use Rattle.bpaf_words.specs.Arguments.{given_of};
-ghost use Rattle.bpaf.specs.Known.{known_names};
+ghost use Rattle.bpaf.specs.Run.{known_names};
 ghost use Rattle.bpaf_record.specs.Grammar.{keys_of, program_form};
-ghost use Rattle.bpaf_record.specs.Program.{IsProgramValueOf, is_whole_program};
-ghost use Rattle.bpaf_record.specs.Record.{IsValueOrWant};
+ghost use Rattle.bpaf_record.specs.Record.{IsProgramValueOf, is_whole_program, IsValueOrWant};
 
 use bpaf::{Args, OptionParser, ParseFailure, Parser, short};
 use bpaf_program::see_texts;

@@ -18,7 +18,7 @@ pub struct Toggle {
 impl Parser<Option<bool>> for Toggle {
     ghost use Rattle.std.specs.Prelude.{◌≡◌, refl};
     ghost use Rattle.bpaf_doc.specs.Shape.{Skip};
-    ghost use Rattle.bpaf_laws.specs.ShownNames.{no_shorts};
+    ghost use Rattle.bpaf_laws.specs.Laws.{no_shorts};
     ghost use Rattle.bpaf_laws.proofs.ShownNames.{one_shape};
     ghost use Rattle.example_guide.specs.Toggle.{ToggleReads, ToggleOutcome, toggle_lawful};
 

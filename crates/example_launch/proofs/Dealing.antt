@@ -1,23 +1,41 @@
--- A value that a run deals out of the words, and that is one of the program's there, is a launch
--- that the words ask for.
-use Rattle.std.proofs.Common.{◌≡◌, List, [], ℕ, None, IfOk, Ok, Err, Result, ap, map, inl, inr}
-use Rattle.std.proofs.Common.{string_bytes, subst, sym, true≢false, ◌∙◌}
-use Rattle.std.specs.List.{Contains}
-use Rattle.bpaf_line.specs.declared.failure.ParseFailure.{ParseFailure}
-use Rattle.bpaf.specs.declared.leaves.positional.Position.TheVariants.{Strict, NonStrict}
+-- A value that a run deals out of the words is a launch that they ask for; all print the same
+-- lines.
+use Rattle.std.proofs.Common.{[], ◌++◌, All, Bool, IsUtf8, List, ap, codes, ℕ, ◌≡◌, None, IfOk, Ok}
+use Rattle.std.proofs.Common.{Err, Result, map, inl, inr, string_bytes, subst, sym, true≢false, ◌∙◌}
+use Rattle.bpaf.specs.declared.leaves.positional.Position.TheVariants.{NonStrict, Strict}
 use Rattle.bpaf.specs.Marker.{words_before, words_behind}
 use Rattle.bpaf.specs.Positional.{accepts}
-use Rattle.bpaf_exact.specs.Leaves.{WordValue, flag_roles}
-use Rattle.bpaf_exact.specs.Single.{FrontOf, SingleValue, gap_of}
-use Rattle.bpaf_exact.specs.{Gathered.list_closure, Pieces.LinePiece, Pieces.others, Says.WordSays}
-use Rattle.bpaf_record.proofs.PassedOn.{flag_leaves, line_behind, name_before, strict_words}
-use Rattle.bpaf_program.specs.Values.{MeansText, String}
-use Rattle.bpaf_program.proofs.{WordBefore.word_before, Texts.texts_are}
-use Rattle.example_launch.specs.Dealing.{IsDealtLaunch, IsLaunchOf, dry_run_names, program_given}
-use Rattle.example_launch.specs.Dealing.{program_known, verbose_names}
+use Rattle.bpaf_exact.specs.ProgramForm.{WordValue, flag_roles}
+use Rattle.bpaf_exact.specs.Flat.{FrontOf, SingleValue, gap_of, list_closure}
+use Rattle.bpaf_exact.specs.{Says.Alike, Says.WordSays, Pieces.LinePiece, Pieces.others}
+use Rattle.bpaf_program.specs.Ending.{line, line_each, truth}
+use Rattle.bpaf_program.specs.KnownParser.{MeansText, String}
+use Rattle.bpaf_program.proofs.LookAlike.{alone_seen, both_seen, con_seen, field_seen, many_seen}
+use Rattle.bpaf_program.proofs.LookAlike.{switch_seen, text_word_seen, program_looks_one}
+use Rattle.bpaf_program.proofs.LookAlike.{values_look}
+use Rattle.bpaf_program.proofs.{Known.word_before, Texts.texts_are}
+use Rattle.example_launch.specs.Running.{dry_run_names, launch_of, program_given, program_known}
+use Rattle.example_launch.specs.Running.{verbose_names, IsLaunchValue, lines, IsDealtLaunch}
+use Rattle.example_launch.specs.Running.{IsLaunchOf, AnswersLaunch}
 use Rattle.example_launch.specs.declared.options.Launch.{Launch}
-use Rattle.example_launch.specs.Exact.{AnswersLaunch, IsLaunchValue}
+use Rattle.std.specs.List.{Contains}
+use Rattle.bpaf_line.specs.declared.failure.ParseFailure.{ParseFailure}
+use Rattle.bpaf_record.proofs.Answered.{flag_leaves, line_behind, name_before, strict_words}
 use Rattle.bpaf_exact.proofs.{Says.listed_says, Says.word_by_says, Says.word_says, Cuts.read_cut}
+
+-- of a launch the lines are seen
+pub same_lines : (words : List (List ℕ)) → All IsUtf8 words → Alike lines (IsLaunchValue words)
+same_lines words =
+    program_looks_one
+    (values_look (con_seen
+    (both_seen (field_seen (switch_seen verbose_names))
+    (both_seen (field_seen (switch_seen dry_run_names))
+    (both_seen (field_seen (text_word_seen NonStrict []))
+    (alone_seen (field_seen (many_seen (text_word_seen Strict []))))))) launch_of lines
+    (λ x y same. ap (λ (seen : Bool × (Bool × (List ℕ × List (List ℕ)))).
+    line (codes "verbose: " ++ truth seen.0) ++ line (codes "dry run: " ++ truth seen.1.0)
+    ++ line (codes "name: " ++ seen.1.1.0) ++ line_each (codes "word: ") seen.1.1.1) same)))
+    program_known (program_given words)
 
 -- what the name says of its piece
 name_says : (os : List LinePiece) (v : String)

@@ -1,5 +1,1 @@
-pub mod Dealing
-pub mod Exact
-pub mod Lines
 pub mod Running
-pub mod Shown

@@ -1,10 +1,140 @@
--- What a run of the program answers.
-use Rattle.std.specs.Prelude.{ℕ, Bool, List, Result}
-use Rattle.bpaf_doc.specs.{declared.doc.Piece.Piece, Print.printed}
+-- What a run of the program answers: the launch that its words ask for, its lines, and what it
+-- shows where it is asked for help.
+use Rattle.std.specs.Prelude.{◌≡◌, ℕ, Bool, List, [], ◌∷◌, Some, codes, map, string_bytes, Contains}
+use Rattle.std.specs.Prelude.{Result, ◌++◌}
+use Rattle.std.specs.Global.{Vec}
+use Rattle.bpaf_doc.specs.Shape.{Shape, And, Many, Optional, members}
+use Rattle.bpaf_doc.specs.{Names.Names, declared.doc.Piece.Piece, Print.TextPieces, Print.printed}
+use Rattle.bpaf_words.specs.{Arguments.Given, Line.Known, Line.knowing}
+use Rattle.bpaf_laws.specs.Combinators.{MapReads, ListReads}
+use Rattle.bpaf_laws.specs.{Product.BothReads, Reading.Readings}
+use Rattle.bpaf.specs.declared.leaves.positional.Position.TheVariants.{Strict, NonStrict}
+use Rattle.bpaf.specs.Marker.{words_before, words_behind}
+use Rattle.bpaf.specs.Positional.{PositionalReads, positional_shape}
+use Rattle.bpaf.specs.Asked.{IfShown, WasAsked}
+use Rattle.bpaf.specs.{declared.leaves.positional.Position.Position, Run.IsDealtOut}
+use Rattle.bpaf_program.specs.Fields.{NamedSwitchReads, switch_shape}
+use Rattle.bpaf_program.specs.KnownParser.{MeansText, String, known_con, known_many, known_switch}
+use Rattle.bpaf_program.specs.KnownParser.{IsExactFor, IsValueBy}
+use Rattle.bpaf_program.specs.Ending.{line, line_each, truth, AnswersByText}
+use Rattle.example_launch.specs.declared.options.Launch.{Launch}
 use Rattle.bpaf_line.specs.declared.failure.ParseFailure.{ParseFailure}
-use Rattle.bpaf_program.specs.{Running.AnswersByText, Values.String}
-use Rattle.example_launch.specs.{declared.options.Launch.Launch, Dealing.IsLaunchOf}
-use Rattle.example_launch.specs.{Exact.IsLaunchValue, Lines.lines, Shown.IsHelpAsked}
+use Rattle.bpaf_record.specs.Grammar.{Grammar, alone, both, word}
+use Rattle.bpaf_keys.specs.Info.{plain_info}
+
+-- the names of the switch by which more is told
+abbrev pub verbose_names : Names
+verbose_names = record { shorts = codes "v"; longs = codes "verbose" ∷ [] }
+
+-- the names of the switch by which nothing is started
+abbrev pub dry_run_names : Names
+dry_run_names = record { shorts = []; longs = codes "dry-run" ∷ [] }
+
+-- the known short names: those of the switch, of help and of version, all flags
+abbrev pub program_known : Known
+program_known = knowing (record { flags = codes "vhV"; arguments = [] })
+
+-- what the program is given
+abbrev pub program_given : List (List ℕ) → Given
+program_given words = record { words = words; env = []; name = Some (codes "launch") }
+
+-- what a word at this position reads
+abbrev pub WordReads : Position → Readings String
+WordReads position = PositionalReads String MeansText position
+
+-- the values of the two switches, the name and the words that are passed on
+abbrev pub FieldValues : Type 0
+FieldValues = Bool × (Bool × (String × Vec String))
+
+-- the launch of them
+abbrev pub launch_of : FieldValues → Launch
+launch_of x = record { verbose = x.0; dry_run = x.1.0; name = x.1.1.0; words = x.1.1.1 }
+
+-- what the words that are passed on read: each one behind the first `--`
+abbrev pub PassedReads : Readings (Vec String)
+PassedReads =
+    MapReads (List String) (Vec String) (ListReads (WordReads Strict))
+    (λ values v. v.items ≡ values)
+
+-- what a launch reads: the two switches, a name that stands before the first `--`, and the words
+-- that are passed on, each behind it; each place once
+abbrev pub LaunchReads : Readings Launch
+LaunchReads =
+    MapReads FieldValues Launch
+    (BothReads Bool (Bool × (String × Vec String)) (NamedSwitchReads verbose_names)
+    (BothReads Bool (String × Vec String) (NamedSwitchReads dry_run_names)
+    (BothReads String (Vec String) (WordReads NonStrict) PassedReads)))
+    (λ x launch. launch ≡ launch_of x)
+
+-- all places of the words' line but the first `--` are dealt out to the two switches, the name and
+-- the words that are passed on, each used once
+abbrev pub IsDealtLaunch : List (List ℕ) → Launch → Type 0
+IsDealtLaunch words = IsDealtOut Launch LaunchReads program_known (program_given words)
+
+-- the words ask for a launch: it is dealt out of them, its name stands before the first `--`, and
+-- its words are those behind that
+pub record IsLaunchOf (words : List (List ℕ)) (launch : Launch) : Type 0 where
+  pub dealt : IsDealtLaunch words launch
+  pub named : Contains (words_before words) (string_bytes launch.name)
+  pub passed : map string_bytes launch.words.items ≡ words_behind words
+
+-- two switches, a word before `--`, and all words behind it
+abbrev pub fields : Grammar FieldValues
+fields =
+    both (known_switch verbose_names) (both (known_switch dry_run_names)
+    (both (word MeansText NonStrict) (alone (known_many (word MeansText Strict)))))
+
+-- the program: a launch that is made of them
+abbrev pub launcher : Grammar Launch
+launcher = known_con launch_of fields
+
+-- v is a launch that the words have
+abbrev pub IsLaunchValue : List (List ℕ) → Launch → Type 0
+IsLaunchValue words = IsValueBy launcher (program_given words)
+
+-- an answer to words is exact: a launch only where it is one that they have; and where they have
+-- one, one of them, or want of memory
+abbrev pub AnswersLaunch : List (List ℕ) → Result Launch ParseFailure → Type 0
+AnswersLaunch words = IsExactFor (IsLaunchValue words)
+
+-- the lines of a launch
+abbrev pub lines : Launch → List ℕ
+lines launch =
+    line (codes "verbose: " ++ truth launch.verbose)
+    ++ line (codes "dry run: " ++ truth launch.dry_run)
+    ++ line (codes "name: " ++ string_bytes launch.name)
+    ++ line_each (codes "word: ") (map string_bytes launch.words.items)
+
+-- what the program's name shows
+abbrev pub name_shape : List Piece → Shape
+name_shape help = positional_shape NonStrict (codes "NAME") (Some help)
+
+-- what the words that are passed on show
+abbrev pub words_shape : List Piece → Shape
+words_shape help = Many (Optional (positional_shape Strict (codes "WORD") (Some help)))
+
+-- a shape is what the program shows: the two switches, the name and the words, each with its help
+pub record IsProgramShape (shape : Shape) : Type 0 where
+  pub verbose : List Piece
+  pub dry_run : List Piece
+  pub name : List Piece
+  pub words : List Piece
+  pub verbose_help : TextPieces (codes "Print more") verbose
+  pub dry_run_help : TextPieces (codes "Start nothing") dry_run
+  pub name_help : TextPieces (codes "Program to start") name
+  pub words_help : TextPieces (codes "Words to pass on") words
+  pub is : shape
+      ≡ And (members (switch_shape verbose_names verbose ∷ switch_shape dry_run_names dry_run
+      ∷ name_shape name ∷ words_shape words ∷ []))
+
+-- the words ask for help, and this is the help page of the program
+abbrev pub IsHelpAsked : List (List ℕ) → List Piece → Bool → Type 0
+IsHelpAsked words doc full =
+    WasAsked IsProgramShape plain_info program_known (program_given words) doc full
+
+-- what is shown in place of a launch is help that the words ask for
+abbrev pub ShowsHelpAsked : List (List ℕ) → ParseFailure → Type 0
+ShowsHelpAsked words = IfShown (IsHelpAsked words)
 
 -- a text that answers the words: the lines of a launch that they ask for, or the text of the help
 -- page that they ask for

@@ -3,9 +3,8 @@ ghost use Rattle.std.specs.Prelude.{◌≡◌, IfOk, codes, false, map, string_b
 ghost use Rattle.std.specs.Result.{IfErr};
 ghost use Rattle.bpaf.specs.declared.leaves.positional.Position.TheVariants.{NonStrict, Strict};
 ghost use Rattle.bpaf_program.specs.Fields.{HasSwitch, HasWord};
-ghost use Rattle.example_launch.specs.Dealing.{IsLaunchOf, dry_run_names, verbose_names};
-ghost use Rattle.example_launch.specs.Exact.{AnswersLaunch};
-ghost use Rattle.example_launch.specs.Shown.{ShowsHelpAsked};
+ghost use Rattle.example_launch.specs.Running.{IsLaunchOf, dry_run_names, verbose_names};
+ghost use Rattle.example_launch.specs.Running.{AnswersLaunch, ShowsHelpAsked};
 
 use bpaf::params::{ParseFlag, ParsePositional};
 use bpaf::parsers::ParseMany;

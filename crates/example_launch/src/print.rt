@@ -1,8 +1,7 @@
 //! What the launcher prints.
 ghost use Rattle.std.specs.Prelude.{map, string_bytes};
-ghost use Rattle.bpaf_program.specs.Running.{IsTextOrWant};
-ghost use Rattle.example_launch.specs.Lines.{lines};
-ghost use Rattle.example_launch.specs.Running.{AnswersLines};
+ghost use Rattle.bpaf_program.specs.Ending.{IsTextOrWant};
+ghost use Rattle.example_launch.specs.Running.{lines, AnswersLines};
 
 use crate::options::{Launch, read_launch};
 use bpaf::ParseFailure;

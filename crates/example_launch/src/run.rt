@@ -1,10 +1,7 @@
 //! The program from its words to its bytes and its status.
 ghost use Rattle.std.specs.Prelude.{map, string_bytes};
-ghost use Rattle.bpaf_program.specs.Running.{PrintsTextOf, RunsTo};
-ghost use Rattle.bpaf_program.specs.Sink.{wrote};
-ghost use Rattle.example_launch.specs.Exact.{IsLaunchValue};
-ghost use Rattle.example_launch.specs.Lines.{lines};
-ghost use Rattle.example_launch.specs.Running.{Answers};
+ghost use Rattle.bpaf_program.specs.Ending.{PrintsTextOf, RunsTo, wrote};
+ghost use Rattle.example_launch.specs.Running.{IsLaunchValue, lines, Answers};
 
 use crate::print::lines_of;
 use bpaf_program::{Sink, print};

@@ -1,10 +1,10 @@
 -- All values of the program on the same words print the same lines.
 use Rattle.std.proofs.Common.{[], List, ap, codes, map, refl, string_bytes}
-use Rattle.bpaf_program.specs.Values.{String}
+use Rattle.bpaf_program.specs.KnownParser.{String}
+use Rattle.example_notes.specs.Notes.{lines, tag_lines, task_lines}
 use Rattle.bpaf_program.proofs.OfCommands as of
 use Rattle.example_notes.specs.declared.options.Tag.TheVariants as tag
 use Rattle.example_notes.specs.declared.options.Task.TheVariants as task
-use Rattle.example_notes.specs.Lines.{lines, tag_lines, task_lines}
 use Rattle.example_notes.specs.Notes as notes
 
 -- of all values the lines are seen

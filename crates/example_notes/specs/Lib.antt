@@ -1,3 +1,1 @@
 pub mod Notes
-pub mod Lines
-pub mod Running

@@ -1,20 +1,49 @@
--- The program: its keys, its commands, and its values on words.
-use Rattle.std.specs.Prelude.{Bool, ℕ, List, [], ◌∷◌, Option, Some, Result, codes}
-use Rattle.std.specs.Global.{Vec}
+-- The program: its keys, its commands, its values on words, the lines of these, and what a run
+-- does.
+use Rattle.std.specs.Prelude.{ℕ, List, [], ◌++◌, Option, Some, None, map, codes, option_map}
+use Rattle.std.specs.Prelude.{string_bytes, Bool, ◌∷◌, Result}
+use Rattle.std.specs.{Fmt.decimal, Global.Vec}
+use Rattle.bpaf_program.specs.Ending.{line, line_each, truth, AnswersByText, IsTextOf, OrPage}
+use Rattle.bpaf_program.specs.KnownParser.{known_command, known_con, known_default, known_many}
+use Rattle.bpaf_program.specs.KnownParser.{known_map, known_optional, known_switch, IsExactFor}
+use Rattle.bpaf_program.specs.KnownParser.{IsValueBy, MeansText, String}
+use Rattle.bpaf_program.specs.Fields.{plain_argument}
+use Rattle.example_notes.specs.declared.options.Notes.{Notes}
+use Rattle.example_notes.specs.{declared.options.Tag.Tag, declared.options.Task.Task}
 use Rattle.bpaf_doc.specs.Names.{Names}
 use Rattle.bpaf_text.specs.{Meaning.SpellsUnsigned, Named.KeyWithValue}
 use Rattle.bpaf_words.specs.Arguments.{Given}
 use Rattle.bpaf_line.specs.declared.failure.ParseFailure.{ParseFailure}
 use Rattle.bpaf.specs.declared.leaves.positional.Position.TheVariants.{Unrestricted}
 use Rattle.bpaf_record.specs.Grammar.{Grammar, alone, argument, both, choice, word}
-use Rattle.bpaf_program.specs.KnownFields.{known_command, known_con, known_default, known_many}
-use Rattle.bpaf_program.specs.KnownFields.{known_map, known_optional, known_switch}
-use Rattle.bpaf_program.specs.KnownParser.{IsExactFor, IsValueBy}
-use Rattle.bpaf_program.specs.{Fields.plain_argument, Values.MeansText, Values.String}
-use Rattle.example_notes.specs.declared.options.Notes.{Notes}
-use Rattle.example_notes.specs.{declared.options.Tag.Tag, declared.options.Task.Task}
 use Rattle.example_notes.specs.declared.options.Tag.TheVariants as tag
 use Rattle.example_notes.specs.declared.options.Task.TheVariants as task
+
+-- the line of a directory, where there is one
+abbrev pub dir_lines : Option (List ℕ) → List ℕ
+dir_lines None = []
+dir_lines (Some dir) = line (codes "dir: " ++ dir)
+
+-- the line of a tag
+abbrev pub tag_lines : Tag → List ℕ
+tag_lines (tag.Add name) = line (codes "tag add: " ++ string_bytes name)
+tag_lines (tag.Remove name) = line (codes "tag remove: " ++ string_bytes name)
+
+-- the lines of a task
+abbrev pub task_lines : Task → List ℕ
+task_lines (task.Add tags texts) =
+    line (codes "add") ++ (line_each (codes "tag: ") (map string_bytes tags.items)
+    ++ line_each (codes "text: ") (map string_bytes texts.items))
+task_lines (task.List max) = line (codes "list: " ++ decimal max)
+task_lines (task.Tag tag) = tag_lines tag
+
+-- the lines of all that is asked for
+abbrev pub lines : Notes → List ℕ
+lines v =
+    line (codes "verbose: " ++ truth v.verbose)
+    ++ (dir_lines (option_map string_bytes v.dir) ++ task_lines v.task)
+
+-- The program: its keys, its commands, and its values on words.
 
 -- a key of one letter and this name
 abbrev pub key : List ℕ → List ℕ → Names
@@ -134,3 +163,12 @@ IsNotesOf words = IsValueBy notes_parser (program_given words)
 -- where it has one there, one of them, or want of memory
 abbrev pub AnswersNotes : List (List ℕ) → Result Notes ParseFailure → Type 0
 AnswersNotes words = IsExactFor (IsNotesOf words)
+
+-- a text is the lines of a value of the program on words
+abbrev pub AreLinesOf : (words : List (List ℕ)) (text : List ℕ) → Type 0
+AreLinesOf words = IsTextOf (IsNotesOf words) lines
+
+-- an answer to words is the lines of a value, or a page; and where there is one, its lines, or want
+-- of memory
+abbrev pub AnswersLines : List (List ℕ) → Result String ParseFailure → Type 0
+AnswersLines words = AnswersByText (OrPage (AreLinesOf words)) (IsNotesOf words) lines

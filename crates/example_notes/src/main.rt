@@ -25,7 +25,7 @@
 //! - An answer to words is exact (`AnswersNotes`): notes come only where they are a value of the
 //!   program on the words, and where it has one there, one is answered, or want of memory.
 //! - Status 0 comes only with nothing written on the error writer, and on the other exactly the
-//!   lines of such a value (specs/Lines.antt) or a help page; status 1 only where a write failed,
+//!   lines of such a value (specs/Notes.antt) or a help page; status 1 only where a write failed,
 //!   the last one, with part of such a text, or with the line of a message on the error writer,
 //!   whole unless a write failed.
 //! - Where the program has a value on the words, its lines are written and the status is 0; or a

@@ -1,8 +1,7 @@
 //! What the program prints.
 ghost use Rattle.std.specs.Prelude.{◌≡◌, ◌++◌, OnOk, map, string_bytes};
-ghost use Rattle.bpaf_program.specs.Running.{IsTextOrWant};
-ghost use Rattle.example_notes.specs.Lines.{lines, tag_lines, task_lines};
-ghost use Rattle.example_notes.specs.Running.{AnswersLines};
+ghost use Rattle.bpaf_program.specs.Ending.{IsTextOrWant};
+ghost use Rattle.example_notes.specs.Notes.{lines, tag_lines, task_lines, AnswersLines};
 
 use crate::options::{Notes, Tag, Task, read_notes};
 use bpaf::ParseFailure;

@@ -1,10 +1,7 @@
 //! The program from its words to its bytes and its status.
 ghost use Rattle.std.specs.Prelude.{map, string_bytes};
-ghost use Rattle.bpaf_program.specs.Running.{OrPage, PrintsTextOf, RunsTo};
-ghost use Rattle.bpaf_program.specs.Sink.{wrote};
-ghost use Rattle.example_notes.specs.Lines.{lines};
-ghost use Rattle.example_notes.specs.Notes.{IsNotesOf};
-ghost use Rattle.example_notes.specs.Running.{AreLinesOf};
+ghost use Rattle.bpaf_program.specs.Ending.{OrPage, PrintsTextOf, RunsTo, wrote};
+ghost use Rattle.example_notes.specs.Notes.{lines, IsNotesOf, AreLinesOf};
 
 use crate::print::lines_of;
 use bpaf_program::{Sink, print};

@@ -11,7 +11,7 @@ struct Verbose {}
 
 impl KnownProgram<bool> for Verbose {
     ghost use Rattle.std.specs.Prelude.{[], codes, refl};
-    ghost use Rattle.bpaf_program.specs.KnownFields.{known_switch};
+    ghost use Rattle.bpaf_program.specs.KnownParser.{known_switch};
 
     ghost grammar = { known_switch (record { shorts = codes "v"; longs = [] }) };
 

@@ -2,10 +2,9 @@
 ghost use Rattle.std.specs.Prelude.{◌≡◌, ◌≤◌, true, None, Some, Ok, Err, length, MatchOption};
 ghost use Rattle.std.specs.Prelude.{MatchResult};
 ghost use Rattle.bpaf_line.specs.Messages.{is_memory};
-ghost use Rattle.bpaf_line.specs.Stretches.{IsStretchFrom};
-ghost use Rattle.bpaf_line.specs.Situation.{open_count, with_scope, HasNoneOpen, IsNextOpen};
-ghost use Rattle.bpaf_laws.specs.Spared.{IsNotMemory};
-ghost use Rattle.bpaf_laws.specs.AdjacentGroup.{Tries};
+ghost use Rattle.bpaf_line.specs.Situation.{IsStretchFrom, open_count, with_scope, HasNoneOpen};
+ghost use Rattle.bpaf_line.specs.Situation.{IsNextOpen};
+ghost use Rattle.bpaf_laws.specs.{Laws.IsNotMemory, Adjacent.Tries};
 ghost use Rattle.bpaf.specs.Remembering.{EndsAttempt, Takes};
 
 use bpaf_core::Parser;

@@ -2,8 +2,7 @@
 ghost use Rattle.std.specs.Prelude.{◌≡◌, true, false, None, Some, Ok, Err, OnOk, OnErr};
 ghost use Rattle.std.specs.Prelude.{MatchResult};
 ghost use Rattle.bpaf_doc.specs.Shape.{part_of};
-ghost use Rattle.bpaf_line.specs.Marks.{Fits, undone};
-ghost use Rattle.bpaf_line.specs.Messages.{is_memory};
+ghost use Rattle.bpaf_line.specs.{Marks.Fits, Marks.undone, Messages.is_memory};
 ghost use Rattle.bpaf_laws.specs.Laws.{Keeps};
 ghost use Rattle.bpaf.specs.Remembering.{IsEnd, IsMissingFirst, IsRemembered, TriesFrom};
 

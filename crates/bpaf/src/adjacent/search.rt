@@ -2,10 +2,9 @@
 ghost use Rattle.std.specs.Prelude.{◌≡◌, ◌+◌, ◌≤◌, None, Some, Ok, Err, length, IfSome};
 ghost use Rattle.std.specs.Prelude.{MatchOption};
 ghost use Rattle.bpaf_doc.specs.Shape.{part_of};
-ghost use Rattle.bpaf_laws.specs.AdjacentGroup.{GroupOutcome, Tries, HasNoStart, IsGroupStart};
-ghost use Rattle.bpaf_laws.specs.AdjacentGroup.{place_count};
-ghost use Rattle.bpaf.specs.PlaceTried.{TriesAt};
-ghost use Rattle.bpaf.specs.Remembering.{IsRemembered, failure_of};
+ghost use Rattle.bpaf_laws.specs.Adjacent.{GroupOutcome, Tries, HasNoStart, IsGroupStart};
+ghost use Rattle.bpaf_laws.specs.Adjacent.{place_count};
+ghost use Rattle.bpaf.specs.Remembering.{TriesAt, IsRemembered, failure_of};
 
 use super::attempts::{attempts, first_present, takes_item};
 use super::failures::Remembered;

@@ -1,12 +1,12 @@
 //! An item of any kind, as far as a check takes it.
 ghost use Rattle.std.specs.Prelude.{◌≡◌, ◌∷◌, [], IfOk, Some, None, true, false, List, refl};
 ghost use Rattle.std.specs.Result.{IfErr};
-ghost use Rattle.bpaf_doc.specs.Fold.{TextPieces};
-ghost use Rattle.bpaf_doc.specs.{declared.doc.Piece.Piece, Print.shown_as, Shape.Shown, Shape.Any};
-ghost use Rattle.bpaf_laws.specs.Any.{ChecksText, AnyOutcome, AnyReads};
-ghost use Rattle.bpaf_laws.specs.ShownNames.{no_shorts};
-ghost use Rattle.bpaf.specs.Leaves.{PassesAll};
-ghost use Rattle.bpaf_laws.proofs.{AnyLaws.any_lawful, ShownNames.one_shape};
+ghost use Rattle.bpaf_doc.specs.Print.{TextPieces, shown_as};
+ghost use Rattle.bpaf_doc.specs.{declared.doc.Piece.Piece, Shape.Shown, Shape.Any};
+ghost use Rattle.bpaf_laws.specs.Leaves.{ChecksText, AnyOutcome, AnyReads};
+ghost use Rattle.bpaf_laws.specs.Laws.{no_shorts};
+ghost use Rattle.bpaf.specs.Positional.{PassesAll};
+ghost use Rattle.bpaf_laws.proofs.{LeafLaws.any_lawful, ShownNames.one_shape};
 
 use crate::leaves::look::{Look, any_item, take_match};
 use bpaf_core::Parser;
@@ -145,7 +145,7 @@ impl<I: FromText, T: Drop, F: Fn(I) -> Option<T>> Parser<T> for ParseAny<I, T, F
     ghost outcome = { λ p. AnyOutcome (ChecksText I.means (λ x v. F.post p.check x v))
         (Any p.metavar p.help p.anywhere) p.anywhere };
 
-    #[tactic(auto, using(crate::proofs::LeafSparing::any_passes_all))]
+    #[tactic(auto, using(crate::proofs::LeafLemmas::any_passes_all))]
     fn eval(&self, state: &mut State) -> Result<T, Error>
         requires { F.IsAlwaysCallable self.now.check }
         ensures outcome { AnyOutcome (ChecksText I.means (λ x v. F.post self.now.check x v))

@@ -2,9 +2,8 @@
 ghost use Rattle.std.specs.{Prelude.◌≡◌, Prelude.true, Prelude.refl, Result.IfErr};
 ghost use Rattle.bpaf_doc.specs.Shape.{Skip};
 ghost use Rattle.bpaf_line.specs.Messages.{is_memory};
-ghost use Rattle.bpaf_laws.specs.Appname.{AppnameOutcome, AppnameReads};
-ghost use Rattle.bpaf_laws.specs.ShownNames.{no_shorts};
-ghost use Rattle.bpaf_laws.proofs.{AppnameLaws.appname_lawful, ShownNames.one_shape};
+ghost use Rattle.bpaf_laws.specs.{Leaves.AppnameOutcome, Leaves.AppnameReads, Laws.no_shorts};
+ghost use Rattle.bpaf_laws.proofs.{LeafLaws.appname_lawful, ShownNames.one_shape};
 
 use bpaf_core::Parser;
 use bpaf_doc::Meta;

@@ -1,12 +1,12 @@
 //! A word that stands on the line as it is.
 ghost use Rattle.std.specs.Prelude.{◌≡◌, ◌∷◌, [], IfOk, Some, None, true, false, List, refl};
 ghost use Rattle.std.specs.Result.{IfErr};
-ghost use Rattle.bpaf_doc.specs.Fold.{TextPieces};
-ghost use Rattle.bpaf_doc.specs.{declared.doc.Piece.Piece, Print.shown_as, Shape.Shown, Shape.Any};
-ghost use Rattle.bpaf_laws.specs.Any.{IsLiteral, AnyOutcome, AnyReads};
-ghost use Rattle.bpaf_laws.specs.ShownNames.{no_shorts};
-ghost use Rattle.bpaf.specs.Leaves.{PassesAll};
-ghost use Rattle.bpaf_laws.proofs.{AnyLaws.any_lawful, ShownNames.one_shape};
+ghost use Rattle.bpaf_doc.specs.Print.{TextPieces, shown_as};
+ghost use Rattle.bpaf_doc.specs.{declared.doc.Piece.Piece, Shape.Shown, Shape.Any};
+ghost use Rattle.bpaf_laws.specs.Leaves.{IsLiteral, AnyOutcome, AnyReads};
+ghost use Rattle.bpaf_laws.specs.Laws.{no_shorts};
+ghost use Rattle.bpaf.specs.Positional.{PassesAll};
+ghost use Rattle.bpaf_laws.proofs.{LeafLaws.any_lawful, ShownNames.one_shape};
 
 use crate::leaves::look::{Look, any_item, take_match};
 use bpaf_core::Parser;
@@ -117,7 +117,7 @@ impl Parser<()> for ParseLiteral {
     ghost outcome = { λ p.
         AnyOutcome (IsLiteral p.text) (Any p.metavar p.help p.anywhere) p.anywhere };
 
-    #[tactic(auto, using(crate::proofs::LeafSparing::any_passes_all))]
+    #[tactic(auto, using(crate::proofs::LeafLemmas::any_passes_all))]
     fn eval(&self, state: &mut State) -> Result<(), Error>
         ensures outcome { AnyOutcome (IsLiteral self.now.text)
             (Any self.now.metavar self.now.help self.now.anywhere) self.now.anywhere

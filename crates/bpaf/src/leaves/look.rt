@@ -2,8 +2,8 @@
 ghost use Rattle.std.specs.Prelude.{◌≡◌, true, IfOk, OnErr};
 ghost use Rattle.bpaf_doc.specs.Shape.{part_of, Any};
 ghost use Rattle.bpaf_line.specs.Situation.{is_open};
-ghost use Rattle.bpaf_laws.specs.Any.{TakesMatch, take_item, Looks};
-ghost use Rattle.bpaf.specs.Matching.{FindsMatch};
+ghost use Rattle.bpaf_laws.specs.Leaves.{TakesMatch, take_item, Looks};
+ghost use Rattle.bpaf.specs.Remembering.{FindsMatch};
 
 use bpaf_doc::{Doc, Item};
 use bpaf_line::State;

@@ -1,12 +1,11 @@
 //! A word of the line, by its place and not by a name.
 ghost use Rattle.std.specs.Prelude.{◌≡◌, IfOk, Some, None, List};
 ghost use Rattle.std.specs.Result.{IfErr};
-ghost use Rattle.bpaf_doc.specs.{declared.doc.Piece.Piece, Fold.TextPieces};
+ghost use Rattle.bpaf_doc.specs.{declared.doc.Piece.Piece, Print.TextPieces};
 ghost use Rattle.bpaf.specs.Positional.{accepts, misplaced, PositionalOutcome, PositionalReads};
-ghost use Rattle.bpaf.specs.Positional.{positional_shape};
-ghost use Rattle.bpaf.specs.Leaves.{FaultsWordAlone};
-ghost use Rattle.bpaf.specs.PositionalLaws.{positional_lawful, positional_shows};
-ghost use Rattle.bpaf_laws.specs.ShownNames.{no_shorts};
+ghost use Rattle.bpaf.specs.Positional.{positional_shape, FaultsWordAlone, positional_lawful};
+ghost use Rattle.bpaf.specs.Positional.{positional_shows};
+ghost use Rattle.bpaf_laws.specs.Laws.{no_shorts};
 
 use bpaf_core::{Parser, value_or_refusal};
 use bpaf_doc::{Doc, Item, Meta, Metavar, Text};
@@ -175,7 +174,7 @@ impl<T: FromText> Parser<T> for ParsePositional<T> {
 
     ghost outcome = { λ p. PositionalOutcome T.means p.position p.metavar.0.now };
 
-    #[tactic(auto, using(crate::proofs::LeafSparing::word_faults_alone))]
+    #[tactic(auto, using(crate::proofs::LeafLemmas::word_faults_alone))]
     fn eval(&self, state: &mut State) -> Result<T, Error>
         ensures outcome { PositionalOutcome T.means self.now.position self.now.metavar.0.now
             state.old result state.new }

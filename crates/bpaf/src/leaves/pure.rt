@@ -2,12 +2,13 @@
 ghost use Rattle.std.specs.{Prelude.◌≡◌, Prelude.refl, Prelude.true, Prelude.Ok, Result.IfErr};
 ghost use Rattle.bpaf_doc.specs.Shape.{Skip};
 ghost use Rattle.bpaf_line.specs.Messages.{is_memory};
-ghost use Rattle.bpaf_laws.specs.Pure.{PureOutcome, PureReads, PureWithOutcome, GivesRefusal};
-ghost use Rattle.bpaf_laws.specs.{Default.GivesClone, Default.GivesAnswer, ShownNames.no_shorts};
-ghost use Rattle.bpaf_laws.proofs.PureLaws.{pure_lawful, pure_with_lawful, refusal_lawful};
-ghost use Rattle.bpaf_laws.proofs.DefaultLaws.{names_answer};
-ghost use Rattle.bpaf_laws.proofs.{NamesAnswer.names_want, ShownNames.one_shape};
-ghost use Rattle.bpaf.specs.Leaves.{TellsAnswer, TellsWhole};
+ghost use Rattle.bpaf_laws.specs.Combinators.{PureOutcome, PureReads, PureWithOutcome};
+ghost use Rattle.bpaf_laws.specs.Combinators.{GivesRefusal, GivesClone, GivesAnswer};
+ghost use Rattle.bpaf_laws.specs.Laws.{no_shorts};
+ghost use Rattle.bpaf_laws.proofs.LeafLaws.{pure_lawful, pure_with_lawful, refusal_lawful};
+ghost use Rattle.bpaf_laws.proofs.CombinatorLaws.{names_answer};
+ghost use Rattle.bpaf_laws.proofs.{Keeping.names_want, ShownNames.one_shape};
+ghost use Rattle.bpaf.specs.Positional.{TellsAnswer, TellsWhole};
 
 use bpaf_core::{Parser, given_by};
 use bpaf_doc::{Meta, Text};
@@ -107,7 +108,7 @@ impl<T, F: Fn() -> Result<T, E>, E: Display + Drop> Parser<T> for ParsePureWith<
 
     ghost outcome = { λ p. PureWithOutcome (GivesAnswer (λ r. F.post p.f r) E.output) };
 
-    #[tactic(auto, using(crate::proofs::LeafSparing::answer_told))]
+    #[tactic(auto, using(crate::proofs::LeafLemmas::answer_told))]
     fn eval(&self, state: &mut State) -> Result<T, Error>
         requires { F.IsAlwaysCallable self.now.f }
         ensures outcome { PureWithOutcome (GivesAnswer (λ r. F.post self.now.f r) E.output)
@@ -163,7 +164,7 @@ impl<T> Parser<T> for ParseFail<T> {
 
     ghost outcome = { λ p. PureOutcome (GivesRefusal p.message.now) };
 
-    #[tactic(auto, using(crate::proofs::LeafSparing::refusal_told))]
+    #[tactic(auto, using(crate::proofs::LeafLemmas::refusal_told))]
     fn eval(&self, state: &mut State) -> Result<T, Error>
         ensures outcome { PureOutcome (GivesRefusal self.now.message.now)
             state.old result state.new }

@@ -4,11 +4,10 @@ ghost use Rattle.std.specs.Prelude.{◌≡◌, ◌<◌, IfOk, true, false};
 ghost use Rattle.bpaf_doc.specs.Shape.{part_of};
 ghost use Rattle.bpaf_laws.specs.{Command.CommandPart, Command.CommandDescribes};
 ghost use Rattle.bpaf_laws.specs.{Command.LeavesNothing, Command.opening_words, Laws.newly};
-ghost use Rattle.bpaf_laws.specs.{OneStretch.IsStretch, Spared.IsNotMemory, Spared.WithoutMemory};
-ghost use Rattle.bpaf_core.specs.Adjacent.{Enters, RunsInside, OutcomeOfCommand};
-ghost use Rattle.bpaf_core.specs.Adjacent.{EitherCommandReads};
-ghost use Rattle.bpaf_core.specs.AdjacentLaws.{either_lawful};
-ghost use Rattle.bpaf_core.specs.{Command.IsMissingPart, Ending.EndsRun, EndingLaws.run_ending};
+ghost use Rattle.bpaf_laws.specs.{Laws.IsNotMemory, Laws.WithoutMemory, Adjacent.IsStretch};
+ghost use Rattle.bpaf_core.specs.Command.{Enters, RunsInside, OutcomeOfCommand, EitherCommandReads};
+ghost use Rattle.bpaf_core.specs.Command.{IsMissingPart};
+ghost use Rattle.bpaf_core.specs.{AdjacentLaws.either_lawful, Ending.EndsRun, Ending.run_ending};
 ghost use Rattle.bpaf_laws.proofs.ShownNames.{command_shows};
 
 use crate::commands::ParseCommand;

@@ -1,13 +1,9 @@
 //! A run over words: their line is read, and the parser runs over it.
-ghost use Rattle.std.specs.Prelude.{◌≡◌, IfOk};
-ghost use Rattle.std.specs.Result.{IfErr};
-ghost use Rattle.bpaf_words.specs.Arguments.{given_of, words_in};
-ghost use Rattle.bpaf_words.specs.Splitting.{ReadsLine};
-ghost use Rattle.bpaf_laws.specs.Spared.{WithoutMemory};
-ghost use Rattle.bpaf_keys.specs.KnownNames.{known_names};
-ghost use Rattle.bpaf_core.specs.Known.{Starts};
-ghost use Rattle.bpaf_core.specs.Dealt.{IsDealtOut};
-ghost use Rattle.bpaf_core.specs.Run.{IsNotWant, RunsWords};
+ghost use Rattle.std.specs.{Prelude.◌≡◌, Prelude.IfOk, Result.IfErr};
+ghost use Rattle.bpaf_words.specs.{Arguments.given_of, Arguments.words_in, Splitting.ReadsLine};
+ghost use Rattle.bpaf_laws.specs.Laws.{WithoutMemory};
+ghost use Rattle.bpaf_keys.specs.Info.{known_names};
+ghost use Rattle.bpaf_core.specs.Run.{Starts, IsDealtOut, IsNotWant, RunsWords};
 ghost use Rattle.bpaf_core.specs.Refusals.{IsOneOfTwelve};
 
 use crate::options::OptionParser;

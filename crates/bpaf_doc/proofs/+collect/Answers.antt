@@ -1,4 +1,4 @@
-use Rattle.bpaf_doc.specs.Walks.{shorts_of_flag, shorts_of_argument}
+use Rattle.bpaf_doc.specs.Shape.{shorts_of_flag, shorts_of_argument}
 use Rattle.bpaf_doc.proofs.Gathering.{gathered_step}
 use Rattle.bpaf_doc.proofs.+collect.Goals as goal
 

@@ -1,5 +1,5 @@
 use Rattle.std.proofs.Common.{◌≡◌, ◌++◌, drop}
-use Rattle.bpaf_doc.specs.{Shape.And, Shape.members_of, Walks.flag_shorts, Walks.argument_shorts}
+use Rattle.bpaf_doc.specs.Shape.{And, members_of, flag_shorts, argument_shorts}
 use Rattle.bpaf_doc.proofs.+collect.Given as goal
 
 -- the names of the members so far, and those of the others, are those of all

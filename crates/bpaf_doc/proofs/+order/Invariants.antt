@@ -1,6 +1,5 @@
 use Rattle.std.proofs.Common.{◌≡◌, ◌&&◌, ◌||◌, drop}
-use Rattle.bpaf_doc.specs.Shape.{members_of}
-use Rattle.bpaf_doc.specs.Order.{all_in_order, each_in_order, any_has_word}
+use Rattle.bpaf_doc.specs.Shape.{members_of, all_in_order, each_in_order, any_has_word}
 use Rattle.bpaf_doc.proofs.+order.Given as goal
 
 -- the members so far, and the others behind them, give the answer for all

@@ -1,4 +1,4 @@
-use Rattle.bench_rows.proofs.Members.{two_members, three_members}
+use Rattle.bench_rows.proofs.Grouping.{two_members, three_members}
 use Rattle.bench_rows.proofs.groups.group.Goals as goal
 
 pub returns-in-len2 : goal.returns-in-len2

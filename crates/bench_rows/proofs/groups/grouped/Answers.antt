@@ -1,6 +1,6 @@
 use Rattle.std.proofs.Common.{rules}
 use Rattle.bpaf_doc.specs.Shape.{part_of}
-use Rattle.bench_rows.specs.Groups.{begun, headless, wanted}
+use Rattle.bench_rows.specs.Levels.{begun, headless, wanted}
 use Rattle.bench_rows.proofs.Grouping.{begun_by}
 use Rattle.bench_rows.proofs.groups.grouped.Goals as goal
 

@@ -1,4 +1,4 @@
-use Rattle.bench_rows.proofs.Members.{two_members, three_members, four_members}
+use Rattle.bench_rows.proofs.Grouping.{two_members, three_members, four_members}
 use Rattle.bench_rows.proofs.several.product.Goals as goal
 
 pub returns-in-len2 : goal.returns-in-len2

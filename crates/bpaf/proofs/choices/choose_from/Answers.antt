@@ -1,7 +1,7 @@
 use Rattle.std.proofs.Common.{◌≡◌, ◌+◌, ◌++◌, ◌∷◌, [], take, sym, ◌∙◌, subst, refl}
 use Rattle.std.proofs.lemmas.List.{take_more}
-use Rattle.bpaf_laws.specs.{Choice.ChoiceOutcome, Choices.Nested}
-use Rattle.bpaf_laws.proofs.{ChoicesLaws.from_lawful, ChoosingAll.one_more, Keeping.keeps_of}
+use Rattle.bpaf_laws.specs.Choice.{ChoiceOutcome, Nested}
+use Rattle.bpaf_laws.proofs.{ChoiceLaws.from_lawful, ChoiceLaws.one_more, Keeping.keeps_of}
 use Rattle.bpaf_core.proofs.Branching.{answered_choice, start_kept}
 use Rattle.bpaf.proofs.choices.choose_from.Goals as goal
 

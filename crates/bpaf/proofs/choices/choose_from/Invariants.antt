@@ -1,5 +1,5 @@
 use Rattle.std.proofs.Common.{take}
-use Rattle.bpaf_laws.specs.{Choice.ChoiceOutcome, Choices.Nested}
+use Rattle.bpaf_laws.specs.Choice.{ChoiceOutcome, Nested}
 use Rattle.bpaf.proofs.choices.choose_from.Given as goal
 
 abbrev pub invariant-loop-parser : goal.invariant-loop-parser

@@ -1,8 +1,8 @@
 use Rattle.std.proofs.Common.{◌≡◌, ◌+◌, ◌++◌, ◌∷◌, [], take, sym, ◌∙◌, subst, refl}
 use Rattle.std.proofs.lemmas.List.{take_more}
 use Rattle.bpaf_doc.specs.Shape.{shape_of}
-use Rattle.bpaf_laws.specs.{Choice.ChoiceDescribes, Choices.Nested}
-use Rattle.bpaf_laws.proofs.ChoosingAll.{one_more_shown}
+use Rattle.bpaf_laws.specs.Choice.{ChoiceDescribes, Nested}
+use Rattle.bpaf_laws.proofs.ChoiceLaws.{one_more_shown}
 use Rattle.bpaf.proofs.choices.meta_from.Goals as goal
 
 pub loop-parser-preserved : goal.loop-parser-preserved

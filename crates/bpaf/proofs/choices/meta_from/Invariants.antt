@@ -1,6 +1,6 @@
 use Rattle.std.proofs.Common.{take}
 use Rattle.bpaf_doc.specs.Shape.{shape_of}
-use Rattle.bpaf_laws.specs.{Choice.ChoiceDescribes, Choices.Nested}
+use Rattle.bpaf_laws.specs.Choice.{ChoiceDescribes, Nested}
 use Rattle.bpaf.proofs.choices.meta_from.Given as goal
 
 abbrev pub invariant-loop-parser : goal.invariant-loop-parser

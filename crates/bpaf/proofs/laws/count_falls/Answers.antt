@@ -1,4 +1,4 @@
-use Rattle.bpaf_laws.proofs.CountingLaws.{lawful_falls}
+use Rattle.bpaf_laws.proofs.Keeping.{lawful_falls}
 use Rattle.bpaf.proofs.laws.count_falls.Goals as goal
 
 pub returns : goal.returns

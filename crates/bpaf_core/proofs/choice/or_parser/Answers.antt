@@ -1,6 +1,6 @@
 use Rattle.std.proofs.Common.{refl, sym, ◌∙◌, subst}
 use Rattle.bpaf_line.proofs.Marks.{undone_twice}
-use Rattle.bpaf_laws.proofs.{Choosing.ran_outcome, Keeping.keeps_of}
+use Rattle.bpaf_laws.proofs.{ChoiceLaws.ran_outcome, Keeping.keeps_of}
 use Rattle.bpaf_parts.specs.Branches.{HasAnswered, LedTo, start_of}
 use Rattle.bpaf_parts.proofs.Branching.{chosen_kept, start_behind}
 use Rattle.bpaf_core.proofs.choice.or_parser.Goals as goal

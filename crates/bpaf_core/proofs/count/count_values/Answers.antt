@@ -1,8 +1,8 @@
 use Rattle.std.proofs.Common.{◌≡◌, ◌≤◌, ◌+◌, ◌++◌, ◌∷◌, [], List, ℕ, length, arith, length-append}
 use Rattle.std.proofs.Common.{⊎_elim, ◌⊎◌, refl}
 use Rattle.bpaf_line.specs.Situation.{open_count}
-use Rattle.bpaf_laws.specs.Repeat.{stops}
-use Rattle.bpaf_laws.proofs.Repeating.{none_nil, rests_here, goes_on, fits_more}
+use Rattle.bpaf_laws.specs.Combinators.{stops}
+use Rattle.bpaf_laws.proofs.CombinatorLaws.{none_nil, rests_here, goes_on, fits_more}
 use Rattle.bpaf_core.proofs.count.count_values.Goals as goal
 
 -- one value more is counted

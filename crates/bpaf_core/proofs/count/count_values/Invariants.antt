@@ -1,7 +1,7 @@
 -- Each turn so far answered a value and took an item, and these are counted.
 use Rattle.std.proofs.Common.{◌≡◌, List, length, false}
 use Rattle.bpaf_line.specs.Situation.{open_count}
-use Rattle.bpaf_laws.specs.Repeat.{EndsIn, Turns}
+use Rattle.bpaf_laws.specs.Combinators.{EndsIn, Turns}
 use Rattle.bpaf_core.proofs.count.count_values.Given as goal
 
 abbrev pub invariant-loop-last : goal.invariant-loop-last

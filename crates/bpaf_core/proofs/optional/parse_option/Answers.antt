@@ -1,7 +1,7 @@
 use Rattle.std.proofs.Common.{◌≡◌, ◌∙◌, ◌==◌, ℕ, Bool, ap, inl, inr, sym, rules, true≢false}
 use Rattle.bpaf_line.specs.declared.error.Message.{Message}
 use Rattle.bpaf_line.specs.Situation.{Situation, open_count}
-use Rattle.bpaf_laws.specs.Turn.{stops_step, is_untouched}
+use Rattle.bpaf_laws.specs.Combinators.{stops_step, is_untouched}
 use Rattle.bpaf_laws.proofs.Keeping.{keeps_of}
 use Rattle.bpaf_core.proofs.optional.parse_option.Goals.{then-first, else-first}
 use Rattle.bpaf_core.proofs.optional.parse_option.Goals as goal

@@ -1,7 +1,6 @@
 use Rattle.std.proofs.Common.{arith, sym, subst, true, ◌∙◌}
-use Rattle.bpaf_laws.specs.Repeat.{Turns}
-use Rattle.bpaf_laws.proofs.Repeating.{vec_nil, steps_refused, not_nil}
-use Rattle.bpaf_laws.proofs.RepeatLaws.{step_falls, steps_more}
+use Rattle.bpaf_laws.specs.Combinators.{Turns}
+use Rattle.bpaf_laws.proofs.CombinatorLaws.{vec_nil, steps_refused, not_nil, step_falls, steps_more}
 use Rattle.bpaf_core.proofs.repeat.values_until_stop.Goals as goal
 
 pub loop-values-preserved : goal.loop-values-preserved

@@ -1,7 +1,7 @@
 -- Each turn so far answered a value, and those are the list.
 use Rattle.std.proofs.Common.{◌+◌, true, if◌then◌else◌}
 use Rattle.bpaf_line.specs.Situation.{open_count}
-use Rattle.bpaf_laws.specs.Repeat.{Turns, is_nil}
+use Rattle.bpaf_laws.specs.Combinators.{Turns, is_nil}
 use Rattle.bpaf_core.proofs.repeat.values_until_stop.Given as goal
 
 abbrev pub invariant-loop-values : goal.invariant-loop-values

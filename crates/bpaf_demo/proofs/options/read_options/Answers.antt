@@ -4,15 +4,14 @@ use Rattle.bpaf_text.specs.Meaning.{SpellsUnsigned}
 use Rattle.bpaf_keys.specs.Info.{plain_info}
 use Rattle.bpaf.specs.declared.leaves.positional.Position.TheVariants.{Unrestricted}
 use Rattle.bpaf_program.specs.Fields.{HasArgument, HasSwitch, HasWord}
-use Rattle.bpaf_program.specs.{KnownFields.known_switch, Values.MeansText}
-use Rattle.bpaf_program.proofs.KnownFields.{argument_known, many_known, switch_known, word_known}
+use Rattle.bpaf_program.specs.KnownParser.{known_switch, MeansText}
+use Rattle.bpaf_program.proofs.KnownParser.{argument_known, many_known, switch_known, word_known}
 use Rattle.bpaf_program.proofs.KnownParser.{both_known, con_known, last_known, program_exactly}
 use Rattle.bpaf_program.proofs.Running.{are_texts}
-use Rattle.bpaf_demo.specs.Record.{number_key, options_of, program_given, verbose_names}
-use Rattle.bpaf_demo.specs.Shown.{IsProgramShape}
-use Rattle.bpaf_demo.proofs.Flat.{is_flat}
+use Rattle.bpaf_demo.specs.Running.{number_key, options_of, program_given, verbose_names}
+use Rattle.bpaf_demo.specs.Running.{IsProgramShape, fields as record_fields, record_of}
+use Rattle.bpaf_demo.proofs.Alike.{is_flat}
 use Rattle.bpaf_program.proofs.Known as dealt
-use Rattle.bpaf_demo.specs.Exact.{fields as record_fields, record_of}
 use Rattle.bpaf_demo.proofs.options.read_options.Goals as goal
 
 pub run_record-requires-clause-record : goal.run_record-requires-clause-record

@@ -1,6 +1,6 @@
 use Rattle.std.proofs.Common.{map, string_bytes}
 use Rattle.bpaf_program.proofs.Running.{are_texts, given_text, refusal_answers, refused_text}
-use Rattle.bpaf_demo.specs.{Running.Answers, Running.help, Running.options, Shown.IsHelpAsked}
+use Rattle.bpaf_demo.specs.Running.{Answers, help, options, IsHelpAsked}
 use Rattle.bpaf_demo.proofs.Alike.{same_lines}
 use Rattle.bpaf_demo.proofs.print.lines_of.Goals as goal
 

@@ -1,7 +1,7 @@
 use Rattle.std.proofs.Common.{◌≡◌, ◌++◌, length, string_bytes}
 use denote.Shadow.{shadow}
 use denote.Text.{Utf8}
-use Rattle.bpaf_doc.specs.Fold.{folded, folded_after}
+use Rattle.bpaf_doc.specs.Print.{folded, folded_after}
 use Rattle.bpaf_doc.proofs.fold.folded_lines.Given as goal
 
 -- what is printed so far, and the rest folded, are the whole text folded

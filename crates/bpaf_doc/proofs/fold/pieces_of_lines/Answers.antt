@@ -1,5 +1,5 @@
 use Rattle.std.proofs.{Common.Some, lemmas.Str.Pattern.split_text_parts}
-use Rattle.bpaf_doc.specs.Fold.{empty_line}
+use Rattle.bpaf_doc.specs.Print.{empty_line}
 use Rattle.bpaf_doc.proofs.Folding.{text_whole, text_cut}
 use Rattle.bpaf_doc.proofs.fold.pieces_of_lines.Goals as goal
 

@@ -1,4 +1,4 @@
-use Rattle.bpaf_index.proofs.WordBits.{zeros_stretch}
+use Rattle.bpaf_index.proofs.BitSets.{zeros_stretch}
 use Rattle.bpaf_index.proofs.bits.clear_stretch.Goals as goal
 
 pub returns : goal.returns

@@ -1,4 +1,4 @@
-use Rattle.bpaf_index.proofs.WordBits.{clear_counted, clear_all, clear_none}
+use Rattle.bpaf_index.proofs.BitSets.{clear_counted, clear_all, clear_none}
 use Rattle.bpaf_index.proofs.bits.clear_within.Goals as goal
 
 pub returns-then-word-eq0 : goal.returns-then-word-eq0

@@ -1,5 +1,5 @@
 use Rattle.std.proofs.Common.{◌+◌, sym, arith}
-use Rattle.bpaf_index.proofs.BitLemmas.{count_clear-none, count_clear-word, count_clear-most}
+use Rattle.bpaf_index.proofs.BitSets.{count_clear-none, count_clear-word, count_clear-most}
 use Rattle.bpaf_index.proofs.bits.count_clear.Goals as goal
 
 pub loop-place-init : goal.loop-place-init

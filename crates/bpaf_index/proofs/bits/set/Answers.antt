@@ -1,6 +1,6 @@
 use Rattle.std.proofs.Common.{◌%◌, ◌==◌, ap, ◌∙◌, arith, w64, length-set}
 use Rattle.std.proofs.lemmas.Nat.Bits.{bit_at_set_same, bit_at_set_other}
-use Rattle.bpaf_index.proofs.BitLemmas.{has_bit_written, has_bit_others}
+use Rattle.bpaf_index.proofs.BitSets.{has_bit_written, has_bit_others}
 use Rattle.bpaf_index.proofs.bits.set.Goals as goal
 
 pub returns : goal.returns

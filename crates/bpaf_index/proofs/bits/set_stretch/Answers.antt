@@ -1,4 +1,4 @@
-use Rattle.bpaf_index.proofs.WordBits.{stretch_flipped}
+use Rattle.bpaf_index.proofs.BitSets.{stretch_flipped}
 use Rattle.bpaf_index.proofs.bits.set_stretch.Goals as goal
 
 pub returns : goal.returns

@@ -1,6 +1,6 @@
 -- The names that the loop has passed are not set.
 use Rattle.std.proofs.Common.{◌≡◌, drop}
-use Rattle.bpaf_laws.specs.Environment.{first_set}
+use Rattle.bpaf_laws.specs.Reading.{first_set}
 use Rattle.bpaf_keys.proofs.environment.first_set.Given as goal
 
 abbrev pub invariant-loop-name : goal.invariant-loop-name

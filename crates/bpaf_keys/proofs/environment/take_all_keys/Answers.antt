@@ -1,5 +1,5 @@
 use Rattle.std.proofs.Common.{◌++◌, ◌∷◌, [], refl}
-use Rattle.bpaf_laws.proofs.KeysTaken.{pair_fewer, texts_more}
+use Rattle.bpaf_laws.proofs.ArgumentLaws.{pair_fewer, texts_more}
 use Rattle.bpaf_keys.proofs.environment.take_all_keys.Goals as goal
 
 pub loop-last-smaller : goal.loop-last-smaller

@@ -1,5 +1,5 @@
 use Rattle.std.proofs.Common.{◌≡◌, ◌+◌, ◌≤◌, drop}
-use Rattle.bpaf_line.specs.Remembered.{count_within}
+use Rattle.bpaf_line.specs.Inside.{count_within}
 use Rattle.bpaf_line.proofs.aside.count_within.Given as goal
 
 abbrev pub invariant-loop-place : goal.invariant-loop-place

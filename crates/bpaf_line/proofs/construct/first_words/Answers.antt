@@ -2,9 +2,9 @@ use Rattle.std.proofs.Common.{◌∙◌, ap, sym, subst, true}
 use Rattle.std.proofs.lemmas.List.{with_items_is}
 use Rattle.bpaf_index.specs.Bits.{has_bit, ChangesBit}
 use Rattle.bpaf_line.specs.Situation.{is_marker}
-use Rattle.bpaf_index.proofs.BitLemmas.{has_bit_zero, has_bit_one}
-use Rattle.bpaf_line.proofs.construct.first_words.Goals as goal
+use Rattle.bpaf_index.proofs.BitSets.{has_bit_zero, has_bit_one}
 use Rattle.bpaf_line.proofs.construct.first_words.Goals.{in-Some, in_default}
+use Rattle.bpaf_line.proofs.construct.first_words.Goals as goal
 
 pub returns-clause-bits : goal.returns-clause-bits
 returns-clause-bits c =

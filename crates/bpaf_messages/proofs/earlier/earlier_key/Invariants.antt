@@ -1,6 +1,6 @@
 use Rattle.std.proofs.Common.{◌≡◌, ℕ, ◌<◌, ◌≤◌, false, Some}
 use Rattle.bpaf_line.specs.Situation.{line_item}
-use Rattle.bpaf_messages.specs.EarlierKey.{repeats}
+use Rattle.bpaf_messages.specs.Leftover.{repeats}
 use Rattle.bpaf_messages.proofs.earlier.earlier_key.Given as goal
 
 abbrev pub invariant-loop-later : goal.invariant-loop-later

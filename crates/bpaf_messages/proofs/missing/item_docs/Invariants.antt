@@ -1,5 +1,5 @@
 use Rattle.std.proofs.Common.{◌≡◌, map, take, true}
-use Rattle.bpaf_doc.specs.{PartText.part_text, Print.printed, Shape.part_of}
+use Rattle.bpaf_doc.specs.{Shape.part_text, Shape.part_of, Print.printed}
 use Rattle.bpaf_messages.proofs.missing.item_docs.Given as goal
 
 abbrev pub invariant-loop-item : goal.invariant-loop-item

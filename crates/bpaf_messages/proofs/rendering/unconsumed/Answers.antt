@@ -1,6 +1,6 @@
 use Rattle.std.proofs.Common.{true, ap, ◌∙◌, codes}
 use Rattle.bpaf_doc.specs.Print.{printed, in_backticks}
-use Rattle.bpaf_line.specs.Shown.{shown_item}
+use Rattle.bpaf_line.specs.Rendering.{shown_item}
 use Rattle.bpaf_messages.proofs.Appended.{two_more}
 use Rattle.bpaf_messages.proofs.rendering.unconsumed.Goals as goal
 

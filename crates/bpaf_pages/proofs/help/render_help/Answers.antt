@@ -1,6 +1,6 @@
 use Rattle.std.proofs.Common.{map, string_bytes}
 use Rattle.bpaf_doc.specs.Shape.{shape_of}
-use Rattle.bpaf_pages.specs.{Help.help_text, InsideHelp.given_by, Usage.usage_text}
+use Rattle.bpaf_pages.specs.{Help.help_text, Help.usage_text, InsideHelp.given_by}
 use Rattle.bpaf_pages.proofs.Paging.{page_put}
 use Rattle.bpaf_pages.proofs.help.render_help.Goals as goal
 

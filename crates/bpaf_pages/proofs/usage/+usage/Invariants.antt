@@ -1,6 +1,6 @@
 use Rattle.std.proofs.Common.{◌≡◌, ◌≤◌, ◌+◌, drop}
-use Rattle.bpaf_doc.specs.{Shape.members_of, Prints.prints}
-use Rattle.bpaf_pages.specs.{Joined.joined, Joined.joined_behind, Usage.usage_texts, Usage.how_many}
+use Rattle.bpaf_doc.specs.{Shape.members_of, Print.prints}
+use Rattle.bpaf_pages.specs.Help.{joined, joined_behind, usage_texts, how_many}
 use Rattle.bpaf_pages.proofs.usage.+usage.Given as goal
 
 -- the usage texts so far, and those of the others behind them, are those of all

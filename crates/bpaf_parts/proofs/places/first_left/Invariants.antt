@@ -1,5 +1,5 @@
 -- The places that the loop has passed are taken.
-use Rattle.bpaf_laws.specs.AdjacentCommand.{AllTaken}
+use Rattle.bpaf_laws.specs.Adjacent.{AllTaken}
 use Rattle.bpaf_parts.proofs.places.first_left.Given as goal
 
 abbrev pub invariant-loop-place : goal.invariant-loop-place

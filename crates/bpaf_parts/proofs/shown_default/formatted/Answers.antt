@@ -1,6 +1,6 @@
 use Rattle.std.proofs.Common.{refl, subst}
-use Rattle.bpaf_doc.specs.Fold.{TextPieces}
-use Rattle.bpaf_laws.specs.Default.{default_text}
+use Rattle.bpaf_doc.specs.Print.{TextPieces}
+use Rattle.bpaf_laws.specs.Combinators.{default_text}
 use Rattle.bpaf_parts.proofs.shown_default.formatted.Goals as goal
 
 pub returns : goal.returns

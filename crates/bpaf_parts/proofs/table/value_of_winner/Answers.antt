@@ -1,7 +1,6 @@
 use Rattle.std.proofs.Common.{ap, subst, ◌∙◌}
-use Rattle.bpaf_line.specs.Conflicts.{IsWinner, ConflictsSaved}
-use Rattle.bpaf_line.specs.Marks.{undone, redone}
-use Rattle.bpaf_laws.proofs.Choosing.{first_wins, second_wins}
+use Rattle.bpaf_line.specs.{Taking.IsWinner, Taking.ConflictsSaved, Marks.undone, Marks.redone}
+use Rattle.bpaf_laws.proofs.ChoiceLaws.{first_wins, second_wins}
 use Rattle.bpaf_laws.specs.Choice.{branch_of}
 use Rattle.bpaf_parts.proofs.table.value_of_winner.Goals as goal
 

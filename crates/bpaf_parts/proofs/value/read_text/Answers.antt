@@ -1,4 +1,4 @@
-use Rattle.bpaf_laws.proofs.Reading.{reading_told}
+use Rattle.bpaf_laws.proofs.Keeping.{reading_told}
 use Rattle.bpaf_parts.proofs.value.read_text.Goals as goal
 
 pub returns : goal.returns

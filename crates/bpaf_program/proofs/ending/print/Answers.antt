@@ -1,5 +1,5 @@
 use Rattle.bpaf_program.specs.Ending.{given, in_part, told, whole}
-use Rattle.bpaf_program.proofs.Ended.{ended_status, ended_value}
+use Rattle.bpaf_program.proofs.Running.{ended_status, ended_value}
 use Rattle.bpaf_program.proofs.ending.print.Goals as goal
 
 pub returns-in-Ok-write_text : goal.returns-in-Ok-write_text

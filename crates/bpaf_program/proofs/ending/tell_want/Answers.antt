@@ -1,4 +1,4 @@
-use Rattle.bpaf_program.proofs.Parts.{line_told}
+use Rattle.bpaf_program.proofs.Running.{line_told}
 use Rattle.bpaf_program.proofs.ending.tell_want.Goals as goal
 
 pub returns : goal.returns

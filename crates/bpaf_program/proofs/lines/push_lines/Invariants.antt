@@ -1,6 +1,6 @@
 -- The lines of the texts that the loop has passed are appended.
 use Rattle.std.proofs.Common.{◌≡◌, ◌++◌, map, drop, string_bytes}
-use Rattle.bpaf_program.specs.Lines.{line_each}
+use Rattle.bpaf_program.specs.Ending.{line_each}
 use Rattle.bpaf_program.proofs.lines.push_lines.Given as goal
 
 abbrev pub invariant-loop-line : goal.invariant-loop-line

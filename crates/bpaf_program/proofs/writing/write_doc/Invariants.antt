@@ -1,7 +1,7 @@
 -- All is written but what the other pieces print.
 use Rattle.std.proofs.Common.{drop}
 use Rattle.bpaf_doc.specs.Print.{printed}
-use Rattle.bpaf_program.proofs.Parts.{IsWrittenBut}
+use Rattle.bpaf_program.proofs.Running.{IsWrittenBut}
 use Rattle.bpaf_program.proofs.writing.write_doc.Given as goal
 
 abbrev pub invariant-loop-piece : goal.invariant-loop-piece

@@ -1,6 +1,6 @@
 use Rattle.std.proofs.Common.{[], ◌∷◌, ◌++◌, codes, true}
 use Rattle.bpaf_doc.specs.Print.{printed}
-use Rattle.bpaf_program.proofs.Parts.{part_behind, part_of_more, on_err, on_err_then}
+use Rattle.bpaf_program.proofs.Running.{part_behind, part_of_more, on_err, on_err_then}
 use Rattle.bpaf_program.proofs.writing.write_message.Goals as goal
 
 pub returns-in_err-write_text-clause-part : goal.returns-in_err-write_text-clause-part

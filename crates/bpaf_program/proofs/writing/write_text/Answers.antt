@@ -1,6 +1,6 @@
 use Rattle.std.proofs.Common.{rules}
-use Rattle.bpaf_program.proofs.Parts.{part_written, some_left, written_nothing, written_on}
-use Rattle.bpaf_program.proofs.Parts.{written_still}
+use Rattle.bpaf_program.proofs.Running.{part_written, some_left, written_nothing, written_on}
+use Rattle.bpaf_program.proofs.Running.{written_still}
 use Rattle.bpaf_program.proofs.writing.write_text.Goals as goal
 
 pub returns-in-Ok-eq0-clause-part : goal.returns-in-Ok-eq0-clause-part

@@ -1,6 +1,6 @@
 -- All of the text is written but the rest.
 use Rattle.std.proofs.Common.{length}
-use Rattle.bpaf_program.proofs.Parts.{IsWrittenBut}
+use Rattle.bpaf_program.proofs.Running.{IsWrittenBut}
 use Rattle.bpaf_program.proofs.writing.write_text.Given as goal
 
 abbrev pub invariant-loop-rest : goal.invariant-loop-rest

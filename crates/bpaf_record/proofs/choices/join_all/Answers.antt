@@ -1,6 +1,6 @@
 use Rattle.std.proofs.Common.{◌∙◌, ap, sym}
 use Rattle.bpaf_record.specs.{Grammar.program_form, Part.part_of}
-use Rattle.bpaf_record.proofs.Nested.{first_is}
+use Rattle.bpaf_record.proofs.Parts.{first_is}
 use Rattle.bpaf_record.proofs.choices.join_all.Goals as goal
 
 pub join_rest-requires-clause-first : goal.join_rest-requires-clause-first

@@ -1,10 +1,9 @@
 use Rattle.std.proofs.Common.{sym, arith, ◌∙◌, ap, ap₂, take, true}
 use Rattle.std.proofs.lemmas.List.{take_all}
-use Rattle.bpaf_exact.specs.{Names.are_all_apart, ProgramForm.are_words_apart}
+use Rattle.bpaf_exact.specs.{Pieces.are_all_apart, ProgramForm.are_words_apart}
 use Rattle.bpaf_record.specs.Grammar.{choice, choices_of, command_words, keys_of, program_form}
 use Rattle.bpaf_record.specs.Part.{chosen_part, part_of}
-use Rattle.bpaf_record.proofs.Nested.{choices_keys, choices_words, one_more}
-use Rattle.bpaf_record.proofs.Parts.{choice_part_is}
+use Rattle.bpaf_record.proofs.Parts.{choices_keys, choices_words, one_more, choice_part_is}
 use Rattle.bpaf_record.proofs.choices.join_rest.Goals as goal
 
 pub loop-index-init : goal.loop-index-init

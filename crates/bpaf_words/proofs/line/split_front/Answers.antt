@@ -1,5 +1,5 @@
 use Rattle.std.proofs.Common.{subst, sym, arith}
-use Rattle.bpaf_words.specs.{Arguments.words_in, Spelling.known_at, Splitting.Begins}
+use Rattle.bpaf_words.specs.{Arguments.words_in, Line.known_at, Splitting.Begins}
 use Rattle.bpaf_words.proofs.LineLemmas.{begins_none, begins_alone, not_marker}
 use Rattle.bpaf_words.proofs.SplitLemmas.{alone, with_names}
 use Rattle.bpaf_words.proofs.line.split_front.Goals as goal

@@ -1,4 +1,4 @@
-use Rattle.bpaf_words.specs.{Arguments.words_in, Splitting.Begins, Spelling.known_at}
+use Rattle.bpaf_words.specs.{Arguments.words_in, Splitting.Begins, Line.known_at}
 use Rattle.bpaf_words.proofs.line.split_words.Given as goal
 
 abbrev pub invariant-loop-index : goal.invariant-loop-index

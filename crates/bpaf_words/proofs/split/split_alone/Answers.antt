@@ -1,6 +1,6 @@
 use Rattle.std.proofs.Common.{[], ◌∷◌}
 use Rattle.bpaf_base.specs.declared.arg.Arg.TheVariants.{Word}
-use Rattle.bpaf_words.specs.Spelling.{by_dash, plain, Items}
+use Rattle.bpaf_words.specs.Line.{by_dash, plain, Items}
 use Rattle.bpaf_words.proofs.split.split_alone.Goals as goal
 
 pub returns-in_ok-push_word-in-None : goal.returns-in_ok-push_word-in-None

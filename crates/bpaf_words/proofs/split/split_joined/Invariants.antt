@@ -1,5 +1,5 @@
 use Rattle.std.specs.Str.Iter.{chars_rest}
-use Rattle.bpaf_words.proofs.JoinedLemmas.{Walked}
+use Rattle.bpaf_words.proofs.LineLemmas.{Walked}
 use Rattle.bpaf_words.proofs.split.split_joined.Given as goal
 
 abbrev pub invariant-loop-c : goal.invariant-loop-c

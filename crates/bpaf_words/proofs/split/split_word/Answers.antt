@@ -1,4 +1,4 @@
-use Rattle.bpaf_words.specs.Spelling.{known_at}
+use Rattle.bpaf_words.specs.Line.{known_at}
 use Rattle.bpaf_words.proofs.SplitLemmas.{alone, with_names, joined_word}
 use Rattle.bpaf_words.proofs.split.split_word.Goals as goal
 

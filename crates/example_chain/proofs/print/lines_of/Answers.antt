@@ -1,7 +1,7 @@
 use Rattle.std.proofs.Common.{map, string_bytes}
 use Rattle.bpaf_program.proofs.Running.{handed_on, refusal_answers, text_answers}
-use Rattle.bpaf_program.specs.Running.{AnswersText}
-use Rattle.example_chain.specs.{Running.Answers, Running.help, Running.steps, Shown.IsHelpAsked}
+use Rattle.bpaf_program.specs.Ending.{AnswersText}
+use Rattle.example_chain.specs.Running.{Answers, help, steps, IsHelpAsked}
 use Rattle.example_chain.proofs.print.lines_of.Goals as goal
 
 pub returns-in_err-steps : goal.returns-in_err-steps

@@ -1,12 +1,11 @@
 use Rattle.std.proofs.Common.{◌≡◌, ap₂, map, rules, string_bytes}
 use Rattle.bpaf_words.specs.Arguments.{given_of}
 use Rattle.bpaf_keys.specs.Info.{plain_info}
-use Rattle.bpaf_laws.specs.ShownNames.{joined_shorts, no_shorts}
-use Rattle.bpaf.specs.Known.{known_names}
-use Rattle.bpaf_program.proofs.Commands.{choice_hands, hands_as, hands_asked, many_hands}
-use Rattle.bpaf_program.proofs.ReadsToo.{also_dealt}
-use Rattle.example_chain.specs.Shown.{IsPage, move_title, of_move, of_program, of_repeat, of_turn}
-use Rattle.example_chain.specs.{Dealing.program_given, Shown.repeat_title, Shown.turn_title}
+use Rattle.bpaf_laws.specs.Laws.{joined_shorts, no_shorts}
+use Rattle.bpaf.specs.Run.{known_names}
+use Rattle.bpaf_program.proofs.Known.{choice_hands, hands_as, hands_asked, many_hands, also_dealt}
+use Rattle.example_chain.specs.Running.{IsPage, move_title, of_move, of_program, of_repeat, of_turn}
+use Rattle.example_chain.specs.Running.{program_given, repeat_title, turn_title}
 use Rattle.example_chain.proofs.Showing.{IsTitled, chained}
 use Rattle.example_chain.proofs.steps.read_chain.Goals as goal
 

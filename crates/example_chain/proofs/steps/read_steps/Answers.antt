@@ -1,7 +1,7 @@
 use Rattle.std.proofs.Common.{refl, rules}
-use Rattle.bpaf_program.proofs.ReadsToo.{adjacent_also, also_dealt, both_also, choice_also}
-use Rattle.bpaf_program.proofs.ReadsToo.{flag_also, many_also, made_also, word_also}
-use Rattle.example_chain.specs.Dealing.{MoveReads, RepeatReads, StepsRead, TurnReads}
+use Rattle.bpaf_program.proofs.Known.{adjacent_also, also_dealt, both_also, choice_also, flag_also}
+use Rattle.bpaf_program.proofs.Known.{many_also, made_also, word_also}
+use Rattle.example_chain.specs.Running.{MoveReads, RepeatReads, StepsRead, TurnReads}
 use Rattle.example_chain.proofs.steps.read_steps.Goals as goal
 
 pub read_chain-requires-clause-no_names : goal.read_chain-requires-clause-no_names

@@ -1,10 +1,10 @@
 use Rattle.std.proofs.Common.{arith, rules, codes, map, refl, string_bytes}
-use Rattle.bpaf_exact.proofs.Needed.{argument_needs, flag_needs, last_needs, made_needs}
+use Rattle.bpaf_exact.proofs.Says.{argument_needs, flag_needs, last_needs, made_needs}
 use Rattle.bpaf_record.proofs.Answered.{answer_says, of_line, argument_spelled, fallback_spelled}
 use Rattle.bpaf_record.proofs.Answered.{flag_spelled, optional_spelled, repeat_spelled}
 use Rattle.bpaf_record.proofs.Answered.{spelled_optional, spelled_repeat, spelled_switch}
-use Rattle.bpaf_record.proofs.Answered.{value_spelled, told_of_line}
-use Rattle.bpaf_record.proofs.OwnWords.{long_is_spelled, short_is_spelled}
+use Rattle.bpaf_record.proofs.Answered.{value_spelled, told_of_line, long_is_spelled}
+use Rattle.bpaf_record.proofs.Answered.{short_is_spelled}
 use Rattle.bpaf_program.proofs.Running.{are_texts}
 use Rattle.example_guide.specs.Archive as archive
 use Rattle.example_guide.proofs.archive.read_archive.Goals as goal

@@ -1,8 +1,8 @@
 use Rattle.std.proofs.Common.{◌≡◌, [], ◌∷◌, codes, map, rules, string_bytes, subst}
-use Rattle.bpaf_record.proofs.Answered.{answer_says, switch_spelled}
-use Rattle.bpaf_record.proofs.Called.{command_called, of_either, of_field, told_line, without_field}
-use Rattle.example_guide.specs.declared.clean.Task.TheVariants.{List}
-use Rattle.example_guide.specs.{Clean.IsRemoval, Remove.force_names}
+use Rattle.bpaf_record.proofs.Answered.{answer_says, switch_spelled, command_called, of_either}
+use Rattle.bpaf_record.proofs.Answered.{of_field, told_line, without_field}
+use Rattle.example_guide.specs.Remove.{force_names}
+use Rattle.example_guide.specs.{declared.clean.Task.TheVariants.List, Clean.IsRemoval}
 use Rattle.example_guide.proofs.clean.read_cleaning.Goals as goal
 
 pub returns-clause-forced : goal.returns-clause-forced

@@ -1,6 +1,6 @@
 use Rattle.std.proofs.Common.{rules, map, string_bytes}
-use Rattle.bpaf_exact.proofs.Agreeing.{argument_one, closed_one, closure_agrees, number_one}
-use Rattle.bpaf_exact.proofs.Needed.{argument_needs, made_needs}
+use Rattle.bpaf_exact.proofs.OneView.{argument_one, closed_one, closure_agrees, number_one}
+use Rattle.bpaf_exact.proofs.Says.{argument_needs, made_needs}
 use Rattle.bpaf_record.proofs.Answered.{answer_says, of_line, value_spelled, told_of_line}
 use Rattle.example_guide.specs.Dim.{percent_names}
 use Rattle.example_guide.proofs.dim.read_dimming.Goals as goal

@@ -1,5 +1,5 @@
 use Rattle.std.proofs.Common.{rules, map, string_bytes}
-use Rattle.bpaf_exact.proofs.Needed.{argument_needs}
+use Rattle.bpaf_exact.proofs.Says.{argument_needs}
 use Rattle.bpaf_record.proofs.Answered.{answer_says, of_line, optional_spelled, told_of_line}
 use Rattle.example_guide.specs.Head.{bytes_names}
 use Rattle.example_guide.proofs.head.read_head.Goals as goal

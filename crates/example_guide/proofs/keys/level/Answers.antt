@@ -1,4 +1,4 @@
-use Rattle.bpaf_laws.proofs.Clones.{flag_kept}
+use Rattle.bpaf_laws.proofs.Keeping.{flag_kept}
 use Rattle.example_guide.proofs.keys.level.Goals as goal
 
 pub returns : goal.returns

@@ -2,14 +2,13 @@ use Rattle.std.proofs.Common.{◌≡◌, Some, codes, false, map, refl, rules, s
 use Rattle.bpaf_words.specs.Arguments.{given_of}
 use Rattle.bpaf.specs.declared.leaves.positional.Position.TheVariants.{Strict, NonStrict}
 use Rattle.bpaf_program.specs.Fields.{HasSwitch, HasWord}
+use Rattle.bpaf_program.specs.KnownParser.{known_switch, MeansText}
 use Rattle.bpaf_record.specs.Grammar.{word}
-use Rattle.bpaf_program.specs.{KnownFields.known_switch, Values.MeansText}
-use Rattle.bpaf_program.proofs.KnownFields.{many_known, switch_known, word_known}
-use Rattle.bpaf_program.proofs.KnownParser.{both_known, con_known, last_known, program_exactly}
+use Rattle.bpaf_program.proofs.KnownParser.{many_known, switch_known, word_known, both_known}
+use Rattle.bpaf_program.proofs.KnownParser.{con_known, last_known, program_exactly}
 use Rattle.bpaf_program.proofs.Running.{are_texts}
-use Rattle.example_launch.specs.Dealing.{dry_run_names, launch_of, program_given, verbose_names}
-use Rattle.example_launch.specs.Exact.{AnswersLaunch, fields, launcher}
-use Rattle.example_launch.specs.Shown.{IsProgramShape}
+use Rattle.example_launch.specs.Running.{dry_run_names, launch_of, program_given, verbose_names}
+use Rattle.example_launch.specs.Running.{AnswersLaunch, fields, launcher, IsProgramShape}
 use Rattle.example_launch.proofs.Dealing.{launch_asked}
 use Rattle.bpaf_program.proofs.Known as dealt
 use Rattle.example_launch.proofs.options.read_launch.Goals as goal

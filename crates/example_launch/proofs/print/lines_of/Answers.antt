@@ -1,7 +1,7 @@
 use Rattle.std.proofs.Common.{map, string_bytes}
 use Rattle.bpaf_program.proofs.Running.{are_texts, given_text, refusal_answers, refused_text}
-use Rattle.example_launch.specs.{Running.Answers, Running.help, Running.launch, Shown.IsHelpAsked}
-use Rattle.example_launch.proofs.Alike.{same_lines}
+use Rattle.example_launch.specs.Running.{Answers, help, launch, IsHelpAsked}
+use Rattle.example_launch.proofs.Dealing.{same_lines}
 use Rattle.example_launch.proofs.print.lines_of.Goals as goal
 
 pub returns-in_err-launch : goal.returns-in_err-launch

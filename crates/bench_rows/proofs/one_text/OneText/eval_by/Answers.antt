@@ -1,4 +1,4 @@
-use Rattle.bench_rows.proofs.Accepting.{accepted_by}
+use Rattle.bench_rows.proofs.Grouping.{accepted_by}
 use Rattle.bench_rows.proofs.one_text.OneText.eval_by.Goals as goal
 
 pub returns : goal.returns

@@ -1,7 +1,7 @@
 use Rattle.bpaf_doc.specs.Shape.{part_of}
 use Rattle.bpaf_laws.specs.Product.{ProductOutcome}
-use Rattle.bpaf_laws.proofs.AdjacentGroupLaws.{group_takes_stretch, spared_group}
-use Rattle.bpaf_laws.proofs.{ProductLaws.product_lawful, ProductSparing.product_spares}
+use Rattle.bpaf_laws.proofs.AdjacentLaws.{group_takes_stretch, spared_group}
+use Rattle.bpaf_laws.proofs.ProductLaws.{product_lawful, product_spares}
 use Rattle.bpaf.proofs.adjacent.ParseAdjacentParseConParser.eval.Goals as goal
 
 pub returns-clause-takes_one_stretch : goal.returns-clause-takes_one_stretch

@@ -1,6 +1,6 @@
 use Rattle.std.proofs.Common.{refl, ap, ◌∙◌, Ok, arith, ◌≤◌, length}
-use Rattle.bpaf_laws.specs.AdjacentGroup.{whole}
-use Rattle.bpaf.proofs.Attempting.{whole_answers, error_answers, left_narrows}
+use Rattle.bpaf_laws.specs.Adjacent.{whole}
+use Rattle.bpaf.proofs.Remembering.{whole_answers, error_answers, left_narrows}
 use Rattle.bpaf.proofs.adjacent.attempts.attempts.Goals as goal
 
 pub loop-value-init : goal.loop-value-init

@@ -1,6 +1,6 @@
 -- All is as before, and the next attempt ends where the one before says.
 use Rattle.std.proofs.Common.{◌≡◌, ◌≤◌, length}
-use Rattle.bpaf_laws.specs.AdjacentGroup.{Narrowed}
+use Rattle.bpaf_laws.specs.Adjacent.{Narrowed}
 use Rattle.bpaf.proofs.adjacent.attempts.attempts.Given as goal
 
 abbrev pub invariant-loop-value : goal.invariant-loop-value

@@ -1,4 +1,4 @@
-use Rattle.bpaf.proofs.StretchEnds.{told_end}
+use Rattle.bpaf.proofs.Remembering.{told_end}
 use Rattle.bpaf.proofs.adjacent.attempts.stretch_end.Goals as goal
 
 pub returns-then-len-scope-clause-stretch : goal.returns-then-len-scope-clause-stretch

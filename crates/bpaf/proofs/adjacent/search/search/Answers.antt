@@ -1,8 +1,8 @@
 use Rattle.std.proofs.Common.{◌≤◌, ap, refl, subst, ◌∙◌, arith, Ok}
 use Rattle.bpaf_doc.specs.Shape.{part_of}
 use Rattle.bpaf.specs.Remembering.{IsRemembered}
-use Rattle.bpaf.proofs.PlacesInVain.{refused_at, search_ends, unchanged, vain_begins, vain_on}
-use Rattle.bpaf.proofs.PlacesInVain.{value_found}
+use Rattle.bpaf.proofs.Remembering.{refused_at, search_ends, unchanged, vain_begins, vain_on}
+use Rattle.bpaf.proofs.Remembering.{value_found}
 use Rattle.bpaf.proofs.adjacent.search.search.Goals as goal
 
 pub returns-in-Err : goal.returns-in-Err

@@ -2,7 +2,7 @@
 use Rattle.std.proofs.Common.{◌≡◌, ◌≤◌, ◌-◌}
 use Rattle.bpaf_doc.specs.Shape.{part_of}
 use Rattle.bpaf.specs.Remembering.{IsRemembered}
-use Rattle.bpaf.proofs.PlacesInVain.{InVain}
+use Rattle.bpaf.proofs.Remembering.{InVain}
 use Rattle.bpaf.proofs.adjacent.search.search.Given as goal
 
 abbrev pub invariant-loop-places : goal.invariant-loop-places

@@ -1,8 +1,8 @@
 use Rattle.std.proofs.Common.{refl, sym, ap, subst, ◌∙◌}
-use Rattle.bpaf_line.specs.Marks.{Fits}
-use Rattle.bpaf_line.specs.Situation.{Situation}
+use Rattle.bpaf_line.specs.{Marks.Fits, Situation.Situation}
 use Rattle.bpaf.specs.Remembering.{IsRemembered, TriesFrom, failure_of}
-use Rattle.bpaf.proofs.PlaceTried.{attempts_gone, back_at, wanted_at, skipped_at, found_at, failed_at}
+use Rattle.bpaf.proofs.Remembering.{attempts_gone, back_at, wanted_at, skipped_at, found_at}
+use Rattle.bpaf.proofs.Remembering.{failed_at}
 use Rattle.bpaf.proofs.adjacent.search.try_at.Goals as goal
 
 pub returns-in_err-takes_item-clause-tried : goal.returns-in_err-takes_item-clause-tried

@@ -1,5 +1,5 @@
 use Rattle.std.proofs.Common.{refl, Ok}
-use Rattle.bpaf_laws.proofs.ProductSparing.{both_spares}
+use Rattle.bpaf_laws.proofs.ProductLaws.{both_spares}
 use Rattle.bpaf.proofs.cargo.CargoHelperParser.eval.Goals as goal
 
 pub returns : goal.returns

@@ -1,4 +1,4 @@
-use Rattle.bpaf_laws.proofs.{ChoosingAll.choices_spared, LeftmostOfAll.choices_leftmost}
+use Rattle.bpaf_laws.proofs.ChoiceLaws.{choices_spared, choices_leftmost}
 use Rattle.bpaf.proofs.choices.ParseChoiceParser.eval.Goals as goal
 
 pub returns-clause-leftmost_wins : goal.returns-clause-leftmost_wins

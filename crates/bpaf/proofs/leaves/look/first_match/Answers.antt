@@ -1,5 +1,5 @@
 use Rattle.std.proofs.Common.{◌∙◌}
-use Rattle.bpaf.proofs.Looking.{passed_more}
+use Rattle.bpaf.proofs.LeafLemmas.{passed_more}
 use Rattle.bpaf.proofs.leaves.look.first_match.Goals as goal
 
 pub loop-place-preserved : goal.loop-place-preserved

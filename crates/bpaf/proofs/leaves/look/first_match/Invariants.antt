@@ -1,5 +1,5 @@
-use Rattle.bpaf_line.specs.OpenItems.{items_left}
-use Rattle.bpaf.proofs.Looking.{HasPassed}
+use Rattle.bpaf_line.specs.Taking.{items_left}
+use Rattle.bpaf.proofs.LeafLemmas.{HasPassed}
 use Rattle.bpaf.proofs.leaves.look.first_match.Given as goal
 
 abbrev pub invariant-loop-place : goal.invariant-loop-place

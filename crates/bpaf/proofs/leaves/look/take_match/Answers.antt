@@ -1,4 +1,4 @@
-use Rattle.bpaf.proofs.Looking.{found_open}
+use Rattle.bpaf.proofs.LeafLemmas.{found_open}
 use Rattle.bpaf.proofs.leaves.look.take_match.Goals as goal
 
 pub take_item-requires : goal.take_item-requires

@@ -1,4 +1,4 @@
-use Rattle.bpaf_laws.proofs.Shapes.{last_shape}
+use Rattle.bpaf_laws.proofs.Keeping.{last_shape}
 use Rattle.bpaf.proofs.product.LastFields.push_metas.Goals as goal
 
 pub returns : goal.returns

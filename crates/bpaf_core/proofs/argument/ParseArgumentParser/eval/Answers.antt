@@ -1,8 +1,8 @@
 use Rattle.std.proofs.Common.{◌≡◌, Result, Ok, Err, sym, subst}
 use Rattle.std.specs.Result.{IsErr, IsErrAnd}
 use Rattle.bpaf_line.specs.declared.error.Error.{Error}
-use Rattle.bpaf_laws.specs.KeyFirst.{KeyBeforeEnvironment}
-use Rattle.bpaf_laws.proofs.{KeyFirst.key_first, KeyFirst.refused_first, ArgumentAnswers.value_read}
+use Rattle.bpaf_laws.specs.Leaves.{KeyBeforeEnvironment}
+use Rattle.bpaf_laws.proofs.ArgumentLaws.{key_first, refused_first, value_read}
 use Rattle.bpaf_core.proofs.argument.ParseArgumentParser.eval.Goals as goal
 
 -- what holds of an error holds of the refusal that hands it on

@@ -1,4 +1,5 @@
-use Rattle.bpaf_laws.proofs.{Choosing.choice_spared, Keeping.keeps_of, Leftmost.leftmost_is_chosen}
+use Rattle.bpaf_laws.proofs.ChoiceLaws.{choice_spared, leftmost_is_chosen}
+use Rattle.bpaf_laws.proofs.Keeping.{keeps_of}
 use Rattle.bpaf_parts.proofs.Branching.{answered_choice}
 use Rattle.bpaf_core.proofs.choice.ParseOrElseParser.eval.Goals as goal
 

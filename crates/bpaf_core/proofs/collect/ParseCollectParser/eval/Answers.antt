@@ -1,4 +1,4 @@
-use Rattle.bpaf_laws.proofs.{Bounded.collect_bounded, RepeatSparing.spared_collect}
+use Rattle.bpaf_laws.proofs.{CombinatorLaws.collect_bounded, Sparing.spared_collect}
 use Rattle.bpaf_core.proofs.collect.ParseCollectParser.eval.Goals as goal
 
 pub returns-clause-repeat_is_bounded : goal.returns-clause-repeat_is_bounded

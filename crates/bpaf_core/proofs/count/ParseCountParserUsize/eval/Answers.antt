@@ -1,4 +1,4 @@
-use Rattle.bpaf_laws.proofs.RepeatSparing.{spared_count}
+use Rattle.bpaf_laws.proofs.Sparing.{spared_count}
 use Rattle.bpaf_core.proofs.count.ParseCountParserUsize.eval.Goals as goal
 
 pub returns-clause-memory_is_never_caught : goal.returns-clause-memory_is_never_caught

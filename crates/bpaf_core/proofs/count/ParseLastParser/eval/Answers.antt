@@ -1,4 +1,4 @@
-use Rattle.bpaf_laws.proofs.RepeatSparing.{spared_last}
+use Rattle.bpaf_laws.proofs.Sparing.{spared_last}
 use Rattle.bpaf_core.proofs.count.ParseLastParser.eval.Goals as goal
 
 pub returns-clause-memory_is_never_caught : goal.returns-clause-memory_is_never_caught

@@ -1,4 +1,4 @@
-use Rattle.bpaf_core.proofs.Shown.{default_shown}
+use Rattle.bpaf_core.proofs.Running.{default_shown}
 use Rattle.bpaf_core.proofs.fallback.ParseFallbackParser.meta.Goals as goal
 
 pub returns : goal.returns

@@ -1,5 +1,5 @@
 use Rattle.bpaf_words.specs.Arguments.{given_of}
-use Rattle.bpaf_words.proofs.Fronts.{marker_of_line}
+use Rattle.bpaf_words.proofs.LineLemmas.{marker_of_line}
 use Rattle.bpaf_core.proofs.Running.{starts_at}
 use Rattle.bpaf_core.proofs.options.OptionParser.construct.Goals as goal
 

@@ -1,6 +1,6 @@
 use Rattle.bpaf_words.specs.Arguments.{given_of}
-use Rattle.bpaf_core.proofs.Running.{started, line_refused}
-use Rattle.bpaf_core.proofs.{Dealing.if_dealt, RunSparing.words_spared, Refusing.words_are_named}
+use Rattle.bpaf_core.proofs.Running.{started, line_refused, if_dealt, words_are_named}
+use Rattle.bpaf_core.proofs.RunSparing.{words_spared}
 use Rattle.bpaf_core.proofs.options.OptionParser.run_inner.Goals as goal
 
 pub returns-in-Ok-clause-outcome : goal.returns-in-Ok-clause-outcome

@@ -1,4 +1,4 @@
-use Rattle.bpaf_laws.proofs.{Bounded.many_bounded, RepeatSparing.spared_many}
+use Rattle.bpaf_laws.proofs.{CombinatorLaws.many_bounded, Sparing.spared_many}
 use Rattle.bpaf_core.proofs.repeat.ParseManyParserVec.eval.Goals as goal
 
 pub returns-clause-repeat_is_bounded : goal.returns-clause-repeat_is_bounded

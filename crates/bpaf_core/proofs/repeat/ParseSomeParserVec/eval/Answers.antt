@@ -1,4 +1,4 @@
-use Rattle.bpaf_laws.proofs.{Bounded.some_bounded, RepeatSparing.spared_some}
+use Rattle.bpaf_laws.proofs.{CombinatorLaws.some_bounded, Sparing.spared_some}
 use Rattle.bpaf_core.proofs.repeat.ParseSomeParserVec.eval.Goals as goal
 
 pub returns-clause-repeat_is_bounded : goal.returns-clause-repeat_is_bounded

@@ -1,5 +1,5 @@
-use Rattle.bpaf_core.specs.EndingLaws.{run_ending}
-use Rattle.bpaf_core.proofs.Attempting.{attempt_context, attempt_marks}
+use Rattle.bpaf_core.specs.Ending.{run_ending}
+use Rattle.bpaf_core.proofs.Commanding.{attempt_context, attempt_marks}
 use Rattle.bpaf_core.proofs.run.Run.attempt.Goals as goal
 
 pub returns-clause-marks : goal.returns-clause-marks

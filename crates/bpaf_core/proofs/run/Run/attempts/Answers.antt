@@ -1,7 +1,7 @@
 use Rattle.std.proofs.Common.{◌∙◌}
 use Rattle.bpaf_line.specs.Marks.{undone}
-use Rattle.bpaf_core.specs.Adjacent.{first_counts}
-use Rattle.bpaf_core.proofs.Attempting.{then_retried}
+use Rattle.bpaf_core.specs.Command.{first_counts}
+use Rattle.bpaf_core.proofs.Commanding.{then_retried}
 use Rattle.bpaf_core.proofs.run.Run.attempts.Goals as goal
 
 pub returns-in-Ok : goal.returns-in-Ok

@@ -1,5 +1,5 @@
 use Rattle.std.proofs.Common.{sym, ◌∙◌}
-use Rattle.bpaf_core.proofs.Ending.{memory_ends, others_end, usage_ends}
+use Rattle.bpaf_core.proofs.Running.{memory_ends, others_end, usage_ends}
 use Rattle.bpaf_core.proofs.run.Run.end_refused.Goals as goal
 
 pub returns-then-is_memory : goal.returns-then-is_memory

@@ -1,7 +1,7 @@
 use Rattle.std.proofs.Common.{subst, refl}
 use Rattle.bpaf_pages.specs.Help.{help_text}
-use Rattle.bpaf_doc.specs.{Prints.Prints, Shape.shape_of}
-use Rattle.bpaf_keys.specs.{Extra.extra_shape, Info.page_texts}
+use Rattle.bpaf_doc.specs.{Print.Prints, Shape.shape_of}
+use Rattle.bpaf_keys.specs.Info.{extra_shape, page_texts}
 use Rattle.bpaf_core.proofs.run.Run.help.Goals as goal
 
 pub returns-in-Ok-page : goal.returns-in-Ok-page

@@ -1,8 +1,8 @@
 use Rattle.std.proofs.Common.{sym, ◌∙◌}
 use Rattle.bpaf_line.specs.Marks.{redone, undone}
-use Rattle.bpaf_core.specs.{Adjacent.nothing_left, Ending.EndsRun}
-use Rattle.bpaf_core.proofs.Attempting.{back_again, led_again, memory_end, memory_refused}
-use Rattle.bpaf_core.proofs.Attempting.{memory_wanted, second_answers, second_refuses}
+use Rattle.bpaf_core.specs.{Command.nothing_left, Ending.EndsRun}
+use Rattle.bpaf_core.proofs.Commanding.{back_again, led_again, memory_end, memory_refused}
+use Rattle.bpaf_core.proofs.Commanding.{memory_wanted, second_answers, second_refuses}
 use Rattle.bpaf_core.proofs.run.Run.retry.Goals as goal
 
 pub returns-then-wants_memory : goal.returns-then-wants_memory

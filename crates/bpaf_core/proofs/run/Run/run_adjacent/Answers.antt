@@ -1,5 +1,5 @@
-use Rattle.bpaf_core.specs.EndingLaws.{run_ending}
-use Rattle.bpaf_core.proofs.{Leaving.attempts_context, Attempting.still_inside}
+use Rattle.bpaf_core.specs.Ending.{run_ending}
+use Rattle.bpaf_core.proofs.Commanding.{attempts_context, still_inside}
 use Rattle.bpaf_core.proofs.run.Run.run_adjacent.Goals as goal
 
 pub set_scope-requires-clause-inside : goal.set_scope-requires-clause-inside

@@ -1,5 +1,5 @@
 use Rattle.std.proofs.Common.{sym, ap, ◌∙◌}
-use Rattle.bpaf_laws.proofs.HideLaws.{titled_shape}
+use Rattle.bpaf_laws.proofs.CombinatorLaws.{titled_shape}
 use Rattle.bpaf_core.proofs.usage.ParseWithGroupHelpParser.meta.Goals as goal
 
 pub returns : goal.returns

@@ -1,5 +1,5 @@
 use Rattle.std.proofs.Common.{sym, ◌∙◌, ap, length, ◌==◌}
-use Rattle.bpaf_doc.proofs.Emptiness.{not_empty}
+use Rattle.bpaf_doc.proofs.Folding.{not_empty}
 use Rattle.bpaf_doc.proofs.doc.Doc.is_empty.Goals as goal
 
 pub returns-then-not-is_empty : goal.returns-then-not-is_empty

@@ -1,5 +1,5 @@
 use Rattle.std.proofs.Common.{◌≡◌, drop, true}
-use Rattle.bpaf_doc.specs.{Print.printed, Prints.is_nil}
+use Rattle.bpaf_doc.specs.Print.{printed, is_nil}
 use Rattle.bpaf_doc.proofs.doc.Doc.is_empty.Given as goal
 
 -- the other pieces print nothing just where all of them do

@@ -1,7 +1,6 @@
-use Rattle.std.proofs.Common.{◌≡◌, ◌++◌, true}
-use Rattle.std.proofs.lemmas.Result.{IfOk-weaker}
-use Rattle.bpaf_doc.specs.{Fold.folded_whole, Print.printed}
-use Rattle.bpaf_doc.proofs.Cutting.{printed_text}
+use Rattle.std.proofs.{Common.◌≡◌, Common.◌++◌, Common.true, lemmas.Result.IfOk-weaker}
+use Rattle.bpaf_doc.specs.Print.{folded_whole, printed}
+use Rattle.bpaf_doc.proofs.Folding.{printed_text}
 use Rattle.bpaf_doc.proofs.doc.Doc.text.Goals as goal
 
 pub returns-clause-printed : goal.returns-clause-printed

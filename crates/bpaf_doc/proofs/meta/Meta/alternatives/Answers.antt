@@ -1,4 +1,4 @@
-use Rattle.bpaf_doc.proofs.Members.{or_adds}
+use Rattle.bpaf_doc.proofs.Gathering.{or_adds}
 use Rattle.bpaf_doc.proofs.meta.Meta.alternatives.Goals as goal
 
 pub returns-in-Or : goal.returns-in-Or

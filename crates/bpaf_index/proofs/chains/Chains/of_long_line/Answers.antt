@@ -1,8 +1,7 @@
 use Rattle.std.proofs.Common.{◌∙◌, ◌≡◌, sym, subst, arith, length, slice_index}
 use Rattle.std.proofs.lemmas.List.{length-take-le, with_items_is}
 use Rattle.bpaf_index.specs.Chained.{HasNoKeyFrom, IsNextOf}
-use Rattle.bpaf_index.proofs.Chained.{behind_nothing}
-use Rattle.bpaf_index.proofs.Noting.{classes_of_front}
+use Rattle.bpaf_index.proofs.Chained.{behind_nothing, classes_of_front}
 use Rattle.bpaf_index.proofs.chains.Chains.of_long_line.Goals as goal
 
 pub returns : goal.returns

@@ -1,6 +1,6 @@
 use Rattle.std.proofs.Common.{◌∙◌, ◌≡◌, None, sym, subst}
-use Rattle.bpaf_index.specs.Classes.{IsNoted, class_of}
-use Rattle.bpaf_index.proofs.Noting.{noted_long}
+use Rattle.bpaf_index.specs.Chained.{IsNoted, class_of}
+use Rattle.bpaf_index.proofs.Chained.{noted_long}
 use Rattle.bpaf_index.proofs.classes.NameClasses.note.Goals as goal
 
 pub returns-in_ok-insert-in-Long : goal.returns-in_ok-insert-in-Long

@@ -1,6 +1,6 @@
 use Rattle.std.proofs.Common.{◌≤◌, ◌∙◌, ap, subst, sym, arith, length}
-use Rattle.bpaf_line.specs.{Inside.situation_of, Remembered.IsSurvey}
-use Rattle.bpaf_line.proofs.{Remembered.remembers_left, Sound.sound_scope}
+use Rattle.bpaf_line.specs.Inside.{situation_of, IsSurvey}
+use Rattle.bpaf_line.proofs.Sound.{remembers_left, sound_scope}
 use Rattle.bpaf_line.proofs.state.State.change_scope.Goals as goal
 
 pub invariant_of-self : goal.invariant_of-self

@@ -1,6 +1,6 @@
 use Rattle.std.proofs.Common.{refl, subst, All, IsUtf8}
-use Rattle.bpaf_words.specs.{Arguments.env_of, Arguments.name_of, Spelling.known_at, Line.IsLine}
-use Rattle.bpaf_words.proofs.Fronts.{marker_of_line}
+use Rattle.bpaf_words.specs.{Arguments.env_of, Arguments.name_of, Line.known_at, Line.IsLine}
+use Rattle.bpaf_words.proofs.LineLemmas.{marker_of_line}
 use Rattle.bpaf_line.specs.Situation.{Context}
 use Rattle.bpaf_line.proofs.state.State.construct_by.Goals.{In_ok-of_line}
 use Rattle.bpaf_line.proofs.state.State.construct_by.Goals as goal

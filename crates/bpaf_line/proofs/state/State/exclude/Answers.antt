@@ -1,6 +1,6 @@
 use Rattle.std.proofs.Common.{ℕ, ◌∙◌, ◌++◌, ◌∷◌, [], ap, sym, subst, get_or, append_assoc, arith}
 use Rattle.std.proofs.lemmas.List.{take_all, take_more}
-use Rattle.bpaf_line.proofs.Winners.{PairsOf, pairs_more, pairs_not}
+use Rattle.bpaf_line.proofs.Marks.{PairsOf, pairs_more, pairs_not}
 use Rattle.bpaf_line.proofs.state.State.exclude.Goals as goal
 
 pub loop-place-preserved-then-is_taken : goal.loop-place-preserved-then-is_taken

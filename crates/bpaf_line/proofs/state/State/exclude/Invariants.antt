@@ -1,5 +1,5 @@
 use Rattle.std.proofs.Common.{◌≡◌, ℕ, List, ◌++◌, take}
-use Rattle.bpaf_line.proofs.Winners.{PairsOf}
+use Rattle.bpaf_line.proofs.Marks.{PairsOf}
 use Rattle.bpaf_line.proofs.state.State.exclude.Given as goal
 
 abbrev pub invariant-loop-place : goal.invariant-loop-place

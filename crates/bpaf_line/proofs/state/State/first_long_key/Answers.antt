@@ -1,7 +1,7 @@
 use Rattle.std.proofs.Common.{◌++◌, ◌∷◌, [], ◌∙◌, ap, sym, subst, take, false, arith}
 use Rattle.std.proofs.lemmas.List.{take_more}
 use Rattle.bpaf_base.specs.{declared.arg.Arg.TheVariants.Long, Items.is_argument_key}
-use Rattle.bpaf_line.specs.Finding.{IsFirstAmong}
+use Rattle.bpaf_line.specs.Taking.{IsFirstAmong}
 use Rattle.bpaf_line.proofs.Finding.{among_more, first_named}
 use Rattle.bpaf_line.proofs.state.State.first_long_key.Goals as goal
 

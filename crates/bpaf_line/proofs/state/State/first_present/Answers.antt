@@ -1,5 +1,5 @@
 use Rattle.std.proofs.Common.{arith, sym}
-use Rattle.bpaf_line.proofs.FirstPresent.{none_present, some_present}
+use Rattle.bpaf_line.proofs.Places.{none_present, some_present}
 use Rattle.bpaf_line.proofs.state.State.first_present.Goals as goal
 
 pub returns-then-low-high : goal.returns-then-low-high

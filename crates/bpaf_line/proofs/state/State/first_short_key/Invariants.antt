@@ -1,6 +1,6 @@
 use Rattle.std.proofs.Common.{take, []}
 use Rattle.bpaf_base.specs.Items.{is_argument_key}
-use Rattle.bpaf_line.specs.Finding.{IsFirstAmong}
+use Rattle.bpaf_line.specs.Taking.{IsFirstAmong}
 use Rattle.bpaf_line.proofs.state.State.first_short_key.Given as goal
 
 abbrev pub invariant-loop-short : goal.invariant-loop-short

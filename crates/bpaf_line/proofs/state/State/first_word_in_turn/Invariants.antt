@@ -1,6 +1,6 @@
 use Rattle.std.proofs.Common.{◌-◌}
 use Rattle.bpaf_base.specs.Items.{is_positional}
-use Rattle.bpaf_line.specs.Finding.{HasNoneBefore}
+use Rattle.bpaf_line.specs.Taking.{HasNoneBefore}
 use Rattle.bpaf_line.proofs.state.State.first_word_in_turn.Given as goal
 
 abbrev pub invariant-loop-place : goal.invariant-loop-place

@@ -1,6 +1,6 @@
 use Rattle.std.proofs.Common.{ap, refl, sym, subst, ◌∙◌, ◌≡◌, ◌+◌, ◌∷◌, [], MatchOption, Some}
-use Rattle.bpaf_line.specs.{Situation.is_open, OpenItems.open_items_from, Taking.open_item}
-use Rattle.bpaf_line.proofs.{Sound.open_item_is, OpenItems.items_next, OpenItems.items_none}
+use Rattle.bpaf_line.specs.{Situation.is_open, Taking.open_items_from, Taking.open_item}
+use Rattle.bpaf_line.proofs.{Sound.open_item_is, Places.items_next, Places.items_none}
 use Rattle.bpaf_line.proofs.state.State.next_open.Goals as goal
 
 pub returns-in_err-place-clause-items : goal.returns-in_err-place-clause-items

@@ -1,7 +1,7 @@
 use Rattle.std.proofs.Common.{◌∙◌, ◌++◌, ap, sym, subst, not, ◌&&◌, if◌then◌else◌, Some, None}
-use Rattle.bpaf_line.specs.{Marks.undone, Marks.redone, Situation.is_on, Situation.is_taken}
-use Rattle.bpaf_line.specs.{Situation.with_conflicts, Conflicts.ConflictsSaved, Inside.situation_of}
-use Rattle.bpaf_line.proofs.{Conflicts.conflicts_saved, Winners.excluded_there, Winners.where_ok}
+use Rattle.bpaf_line.specs.Situation.{is_on, is_taken, with_conflicts}
+use Rattle.bpaf_line.specs.{Marks.undone, Marks.redone, Taking.ConflictsSaved, Inside.situation_of}
+use Rattle.bpaf_line.proofs.Marks.{conflicts_saved, excluded_there, where_ok}
 use Rattle.bpaf_line.proofs.state.State.save_conflicts.Goals as goal
 
 pub returns-clause-ok : goal.returns-clause-ok

@@ -1,9 +1,8 @@
 use Rattle.std.proofs.Common.{◌≤◌, ◌∙◌, ◌-◌, ap, sym, subst, arith, length, drop}
 use Rattle.std.proofs.lemmas.List.{take_rest}
 use Rattle.bpaf_index.specs.Bits.{count_clear, IsFirstClear}
-use Rattle.bpaf_line.specs.{Inside.situation_of, Remembered.count_within, Remembered.IsSurvey}
-use Rattle.bpaf_line.proofs.Remembered.{survey_narrowed}
-use Rattle.bpaf_line.proofs.Sound.{survey_counted, survey_recalled, gone_were_left}
+use Rattle.bpaf_line.specs.Inside.{situation_of, count_within, IsSurvey}
+use Rattle.bpaf_line.proofs.Sound.{survey_narrowed, survey_counted, survey_recalled, gone_were_left}
 use Rattle.bpaf_line.proofs.state.State.survey.Goals as goal
 
 pub returns-then-start-self : goal.returns-then-start-self

@@ -1,6 +1,6 @@
 use Rattle.std.proofs.Common.{◌≡◌, ◌++◌, length, drop, map}
 use Rattle.bpaf_doc.specs.Shape.{members_of}
-use Rattle.bpaf_pages.specs.{Lines.lines_of_all, Lines.titles_of_all, InsideLine.line_of}
+use Rattle.bpaf_pages.specs.{Help.lines_of_all, Help.titles_of_all, InsideLine.line_of}
 use Rattle.bpaf_pages.proofs.lines.Lines.+lines.Given as goal
 
 -- what was gathered so far, and what the other members give, is what all of them give

@@ -1,5 +1,5 @@
 use Rattle.std.proofs.Common.{◌-◌, arith}
-use Rattle.bpaf_pages.proofs.Listing.{below_put}
+use Rattle.bpaf_pages.proofs.Paging.{below_put}
 use Rattle.bpaf_pages.proofs.lines.Lines.push_below.Goals as goal
 
 pub returns-in_ok-push-clause-all : goal.returns-in_ok-push-clause-all

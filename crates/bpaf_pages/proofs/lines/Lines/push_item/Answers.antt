@@ -1,5 +1,5 @@
 use Rattle.std.proofs.Common.{length}
-use Rattle.bpaf_pages.proofs.Listing.{item_put}
+use Rattle.bpaf_pages.proofs.Paging.{item_put}
 use Rattle.bpaf_pages.proofs.lines.Lines.push_item.Goals as goal
 
 pub returns-clause-all : goal.returns-clause-all

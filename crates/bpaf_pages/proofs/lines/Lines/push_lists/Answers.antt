@@ -1,5 +1,5 @@
 use Rattle.std.proofs.Common.{codes}
-use Rattle.bpaf_pages.proofs.Joining.{three_behind}
+use Rattle.bpaf_pages.proofs.Paging.{three_behind}
 use Rattle.bpaf_pages.proofs.lines.Lines.push_lists.Goals as goal
 
 pub returns : goal.returns

@@ -1,6 +1,6 @@
 use Rattle.std.proofs.Common.{◌≡◌, drop, map, codes}
-use Rattle.bpaf_doc.specs.Prints.{prints}
-use Rattle.bpaf_pages.specs.{Joined.joined_behind, Help.sections, InsideLine.line_of}
+use Rattle.bpaf_doc.specs.Print.{prints}
+use Rattle.bpaf_pages.specs.{Help.joined_behind, Help.sections, InsideLine.line_of}
 use Rattle.bpaf_pages.proofs.lines.Lines.push_sections.Given as goal
 
 -- the page so far, and the other sections behind it

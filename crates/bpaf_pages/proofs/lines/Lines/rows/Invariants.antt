@@ -1,6 +1,6 @@
 use Rattle.std.proofs.Common.{◌≡◌, Bool, ◌++◌, drop, map}
 use Rattle.bpaf_doc.specs.Print.{printed}
-use Rattle.bpaf_pages.specs.{Lines.lines_at, Help.rows, InsideLine.place_of, InsideLine.line_of}
+use Rattle.bpaf_pages.specs.{Help.lines_at, Help.rows, InsideLine.place_of, InsideLine.line_of}
 use Rattle.bpaf_pages.proofs.lines.Lines.rows.Given as goal
 
 -- what was printed so far, and the other lines there, are all lines there

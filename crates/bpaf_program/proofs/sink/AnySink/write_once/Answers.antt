@@ -1,4 +1,4 @@
-use Rattle.bpaf_program.proofs.Parts.{kept_then}
+use Rattle.bpaf_program.proofs.Running.{kept_then}
 use Rattle.bpaf_program.proofs.sink.AnySink.write_once.Goals as goal
 
 pub returns-in-Ok-clause-bytes : goal.returns-in-Ok-clause-bytes

@@ -1,6 +1,6 @@
 use Rattle.std.proofs.Common.{ap, sym}
 use Rattle.std.specs.List.{list_all}
-use Rattle.bpaf_record.proofs.Nested.{choices_keys}
+use Rattle.bpaf_record.proofs.Parts.{choices_keys}
 use Rattle.bpaf_record.proofs.choices.ParseChoiceProgramField.all_keys.Goals as goal
 
 pub returns : goal.returns

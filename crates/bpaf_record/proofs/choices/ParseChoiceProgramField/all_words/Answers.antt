@@ -1,6 +1,6 @@
 use Rattle.std.proofs.Common.{ap, sym}
 use Rattle.std.specs.List.{list_all}
-use Rattle.bpaf_record.proofs.Nested.{choices_words}
+use Rattle.bpaf_record.proofs.Parts.{choices_words}
 use Rattle.bpaf_record.proofs.choices.ParseChoiceProgramField.all_words.Goals as goal
 
 pub returns : goal.returns

@@ -1,5 +1,5 @@
 use Rattle.std.proofs.Common.{◌∙◌, ap₂, true}
-use Rattle.bpaf_exact.specs.{Names.are_all_apart, ProgramForm.are_words_apart}
+use Rattle.bpaf_exact.specs.{Pieces.are_all_apart, ProgramForm.are_words_apart}
 use Rattle.bpaf_record.specs.Grammar.{command_words, keys_of, program_form}
 use Rattle.bpaf_record.specs.Part.{chosen_part}
 use Rattle.bpaf_record.proofs.Parts.{choice_part_is}

@@ -1,7 +1,7 @@
 use Rattle.std.proofs.Common.{true, false}
 use Rattle.bpaf_words.specs.Arguments.{given_of}
 use Rattle.bpaf_record.specs.Grammar.{command_words, keys_of, program_form}
-use Rattle.bpaf.specs.Known.{known_names}
+use Rattle.bpaf.specs.Run.{known_names}
 use Rattle.bpaf_record.proofs.Programs.{answers_as_program, is_program_form, tells_of_words}
 use Rattle.bpaf_record.proofs.command_line.OptionParserCommandLine.run_program.Goals as goal
 

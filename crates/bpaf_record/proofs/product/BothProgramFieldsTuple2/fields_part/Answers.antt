@@ -1,6 +1,6 @@
 use Rattle.std.proofs.Common.{◌∙◌, ap, ap₂, true, false}
 use Rattle.std.specs.List.{list_all}
-use Rattle.bpaf_exact.specs.Names.{are_all_apart}
+use Rattle.bpaf_exact.specs.Pieces.{are_all_apart}
 use Rattle.bpaf_record.specs.Grammar.{keys_of, program_form}
 use Rattle.bpaf_record.specs.Part.{before_part, field_part}
 use Rattle.bpaf_record.proofs.Parts.{both_part_is}

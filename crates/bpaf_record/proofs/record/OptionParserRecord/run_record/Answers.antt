@@ -1,7 +1,7 @@
 use Rattle.std.proofs.Common.{true, false}
 use Rattle.bpaf_words.specs.Arguments.{given_of}
 use Rattle.bpaf_record.specs.Grammar.{command_words, keys_of, program_form}
-use Rattle.bpaf.specs.Known.{known_names}
+use Rattle.bpaf.specs.Run.{known_names}
 use Rattle.bpaf_record.proofs.Running.{answers_by_fields, flat_is_whole, is_flat_form}
 use Rattle.bpaf_record.proofs.record.OptionParserRecord.run_record.Goals as goal
 

@@ -1,6 +1,6 @@
 use Rattle.std.proofs.Common.{◌≡◌, List, [], ◌∷◌, ◌++◌, refl, sym, ap, ◌∙◌}
 use Rattle.std.specs.{BTreeSet.insert_key, declared.cmp.Ordering.Ordering}
-use Rattle.bpaf_text.specs.Filled.{inserted}
+use Rattle.bpaf_text.specs.Meaning.{inserted}
 use Rattle.bpaf_text.proofs.from_list.BTreeSetFromList.from_list.Goals as goal
 
 -- one value more at the end is inserted last

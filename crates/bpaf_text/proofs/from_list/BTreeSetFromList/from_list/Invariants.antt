@@ -1,6 +1,6 @@
 -- The values so far were inserted one after another.
 use Rattle.std.proofs.Common.{◌≡◌, []}
-use Rattle.bpaf_text.specs.Filled.{inserted}
+use Rattle.bpaf_text.specs.Meaning.{inserted}
 use Rattle.bpaf_text.proofs.from_list.BTreeSetFromList.from_list.Given as goal
 
 abbrev pub invariant-loop-item : goal.invariant-loop-item

@@ -1,5 +1,5 @@
 use Rattle.bpaf_words.specs.Arguments.{words_in}
-use Rattle.bpaf_words.proofs.Fronts.{line_found}
+use Rattle.bpaf_words.proofs.LineLemmas.{line_found}
 use Rattle.bpaf_words.proofs.line.Front.line.Goals as goal
 
 pub returns : goal.returns

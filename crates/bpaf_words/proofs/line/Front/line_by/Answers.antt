@@ -1,5 +1,5 @@
 use Rattle.bpaf_words.specs.Arguments.{words_in}
-use Rattle.bpaf_words.proofs.{Fronts.line_of_front, LineLemmas.texts_all}
+use Rattle.bpaf_words.proofs.LineLemmas.{line_of_front, texts_all}
 use Rattle.bpaf_words.proofs.line.Front.line_by.Goals as goal
 
 pub returns-clause-texts : goal.returns-clause-texts

@@ -1,8 +1,7 @@
 use Rattle.std.proofs.Common.{sym, ◌∙◌}
-use Rattle.bpaf_laws.proofs.Reading.{reading_told}
-use Rattle.bpaf.proofs.LeafSparing.{word_faults_alone}
-use Rattle.bpaf.proofs.PositionalAnswers.{word_read, word_misplaced}
-use Rattle.bpaf_line.proofs.Matches.{match_is_open}
+use Rattle.bpaf_laws.proofs.Keeping.{reading_told}
+use Rattle.bpaf.proofs.LeafLemmas.{word_faults_alone, word_read, word_misplaced}
+use Rattle.bpaf_line.proofs.Places.{match_is_open}
 use Rattle.bpaf_base.specs.Items.{is_positional}
 use Rattle.bpaf.proofs.leaves.positional.ParsePositionalParser.eval.Goals as goal
 

@@ -1,8 +1,7 @@
 use Rattle.std.proofs.Common.{Ok, Err}
 use Rattle.bpaf_laws.specs.Command.{CommandPart}
-use Rattle.bpaf_core.specs.{Ending.EndsRun, EndingLaws.run_ending}
-use Rattle.bpaf_core.proofs.CommandSparing.{spared_either}
-use Rattle.bpaf_core.proofs.Leaving.{plain_leaves_nothing, takes_one_stretch}
+use Rattle.bpaf_core.specs.Ending.{EndsRun, run_ending}
+use Rattle.bpaf_core.proofs.Commanding.{spared_either, plain_leaves_nothing, takes_one_stretch}
 use Rattle.bpaf_core.proofs.Commanding.{inside_answers, inside_refuses, refused_inside}
 use Rattle.bpaf_core.proofs.commands.entering.ParseCommandParser.eval.Goals as goal
 
