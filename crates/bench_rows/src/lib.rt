@@ -17,15 +17,15 @@
 //!   repository's rows.
 //!
 //! Rows: [`run_bench`] reads files, runs the words of each row on the parser of the description
-//! above it, prints each row whose answer isn't the wanted one, and answers a status. It knows of no
-//! parser but that it is [`Described`], and holds the description that stands and one line.
+//! above it, prints each row whose answer isn't the wanted one, and answers a status. It knows of
+//! no parser but that it is [`Described`], and holds the description that stands and one line.
 //!
-//! For the layer above: [`Leaf`] and [`Level`] are lawful parsers, each from its inner parsers' laws
-//! alone, and meet the tables of the combinators that they name, but for what the checks of `guard`
-//! and `parse` answer and for the texts of faults, of which nothing is said. So is any type that is
-//! [`Described`], which may always be evaluated: what it answers is dealt out of the words as for
-//! any parser. That the rows of a file are run as they stand there is tested, by the files of
-//! `bench`.
+//! For the layer above: [`Leaf`] and [`Level`] are lawful parsers, each from its inner parsers'
+//! laws alone, and meet the tables of the combinators that they name, but for what the checks of
+//! `guard` and `parse` answer and for the texts of faults, of which nothing is said. So is any type
+//! that is [`Described`], which may always be evaluated: what it answers is dealt out of the words
+//! as for any parser. That the rows of a file are run as they stand there is tested, by the files
+//! of `bench`.
 #![tactic(auto)]
 
 mod answer;

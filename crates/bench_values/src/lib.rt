@@ -1,9 +1,9 @@
 //! The tokens and values of described parsers, and what is made of one parser whose value is such a
 //! one.
 //!
-//! It stands on `bpaf_core`. A [`Description`] is a list of tokens, gathered line by line, each with
-//! its [`Place`]; [`Tokens`] walks over them; a [`Fault`] tells which token stands at which place,
-//! and why it can't. docs/BENCH.md says how a description is written.
+//! It stands on `bpaf_core`. A [`Description`] is a list of tokens, gathered line by line, each
+//! with its [`Place`]; [`Tokens`] walks over them; a [`Fault`] tells which token stands at which
+//! place, and why it can't. docs/BENCH.md says how a description is written.
 //!
 //! A [`Value`] is what any described parser gives, and
 //! [`Told`] says which value one of another type is; [`AsValue`] is a parser of any type whose

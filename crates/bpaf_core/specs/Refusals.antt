@@ -23,9 +23,9 @@ pub data IsToldOf {T : Type 0} (inner : Outcome T) (s : Situation) (m : Message)
   leftover : (v : T) (left : Situation) → inner s (Ok v) left → IsLeftover left m
       → IsToldOf inner s m left
 
--- a failure of this name, of a run from a situation on: want of memory; the page that was asked for,
--- or that of help where nothing was there to read; the text of a message of this name that the run
--- tells, once neither help nor the version was found there; or what a run inside ended with
+-- a failure of this name, of a run from a situation on: want of memory; the page that was asked
+-- for, or that of help where nothing was there to read; the text of a message of this name that the
+-- run tells, once neither help nor the version was found there; or what a run inside ended with
 pub data IsNamed {T : Type 0} (inner : Outcome T) (describes : Shape → Type 0) (info : RunInfo)
     (s : Situation) : Refusal → ParseFailure → Type 0 where
   wanting : IsNamed inner describes info s no_memory failure.Memory

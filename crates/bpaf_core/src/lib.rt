@@ -1,24 +1,24 @@
 //! Parsers: what reads a value off a line, and a run over a whole line.
 //!
-//! It stands on `bpaf_keys`, whose [`Info`] and [`CommandNames`] it hands on, on `bpaf_parts`, whose
-//! [`read_text`] it hands on, and on the crates below these. For the layers above:
+//! It stands on `bpaf_keys`, whose [`Info`] and [`CommandNames`] it hands on, on `bpaf_parts`,
+//! whose [`read_text`] it hands on, and on the crates below these. For the layers above:
 //!
 //! - [`Parser`] is the trait of every parser. By its ghost members an implementation says what it
 //!   means: `reads`, which values may be read off which places of a line; `outcome`, what one
 //!   evaluation may answer in a situation and which situation it leaves; `describes`, what it may
-//!   show of itself; `shorts`, which short names of keys it shows. Its law `lawful` ties the outcome
-//!   to the readings: the newly taken places with the value are a reading, each taken place lay
-//!   present in the scope, and so on; and what a run inside ended with, handed on as a refusal, has
-//!   one of twelve names (specs/Laws.antt). Its law `shows` ties what it may show to the short names
-//!   (specs/Laws.antt). Every implementation proves them, from the laws of its inner parsers
+//!   show of itself; `shorts`, which short names of keys it shows. Its law `lawful` ties the
+//!   outcome to the readings: the newly taken places with the value are a reading, each taken place
+//!   lay present in the scope, and so on; and what a run inside ended with, handed on as a refusal,
+//!   has one of twelve names (specs/Laws.antt). Its law `shows` ties what it may show to the short
+//!   names (specs/Laws.antt). Every implementation proves them, from the laws of its inner parsers
 //!   alone.
 //! - [`bpaf_text::ParseFlag`] and [`bpaf_text::ParseArgument`] are the first parsers. Where their
 //!   key isn't on the line, the first of their names in the environment that is set counts
 //!   (specs/Reading.antt).
-//! - [`ParseMap`], [`ParseWith`] and [`ParseGuard`] change or check a value;
-//!   [`ParseOptional`], [`ParseFallback`] and [`ParseFallbackWith`] stand in for one that isn't
-//!   there (specs/Combinators.antt). By clauses of their `eval` none of these catches want of memory,
-//!   and what stands in takes nothing (specs/Laws.antt).
+//! - [`ParseMap`], [`ParseWith`] and [`ParseGuard`] change or check a value; [`ParseOptional`],
+//!   [`ParseFallback`] and [`ParseFallbackWith`] stand in for one that isn't there
+//!   (specs/Combinators.antt). By clauses of their `eval` none of these catches want of memory, and
+//!   what stands in takes nothing (specs/Laws.antt).
 //! - [`ParseMany`], [`ParseSome`], [`ParseCollect`], [`ParseCount`] and [`ParseLast`] take turns of
 //!   one parser until one stops (specs/Combinators.antt); [`bpaf_text::FromList`] is what a list of
 //!   values fills. Each turn but the first takes an item, so there are no more values than items

@@ -1,6 +1,7 @@
 //! Documents and shapes: what a parser shows of itself, and what is printed.
 //!
-//! It stands on `bpaf_base`, whose [`Text`] it hands on, and knows nothing of lines, values or runs.
+//! It stands on `bpaf_base`, whose [`Text`] it hands on, and knows nothing of lines, values or
+//! runs.
 //!
 //! - [`Doc`] is a list of pieces, each a text with a [`Style`]. Its contract for the layers above:
 //!   a `Doc` is the list of the pieces that its calls appended, and `monochrome` is their text;

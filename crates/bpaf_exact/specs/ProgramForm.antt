@@ -513,8 +513,8 @@ word_by {T = T} accepts means =
     single (not (accepts true && accepts false)) (OneWord (not (accepts true)))
     (roles_of is_positional Alone) (FrontOf T (WordValue accepts means)) (gap_of means None)
 
--- the first word taken and its value; it has none; there is no word; the first one stands behind `--`,
--- where that stops it; or want of memory
+-- the first word taken and its value; it has none; there is no word; the first one stands behind
+-- `--`, where that stops it; or want of memory
 pub data WordEval (T : Type 0) (stops : Bool) (value : LinePiece → T → Type 0) (s : Situation)
     : Result T Error → Situation → Type 0 where
   word_read : {p : ℕ} {strict : Bool} {text : List ℕ} {v : T} {t : Situation}

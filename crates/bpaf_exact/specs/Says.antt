@@ -83,8 +83,8 @@ pub data FlagSays {T : Type 0} (clones : T → T → Type 0) (present : T) (abse
       → FlagSays clones present absent set os v
 
 -- an argument: what the text behind its one key means; or, where the last value counts, what the
--- text behind the last of its keys means, each of which has one; or no key, and what the text of its
--- variable means
+-- text behind the last of its keys means, each of which has one; or no key, and what the text of
+-- its variable means
 pub data ArgumentSays {T : Type 0} (means : List ℕ → T → Type 0) (last : Bool)
     (set : Option (List ℕ)) (os : List LinePiece) (v : T) : Type 0 where
   says_text : (k w : Arg) → os ≡ Two k w ∷ [] → means (item_text w) v
@@ -219,11 +219,11 @@ pub record FieldsSay {V : Type 0} (names : List Names) (form : ProgramForm V) (s
     : Type 0 where
   pub by : FieldsFormSays names form said
 
--- What the values of a program with commands say: each named field of its own pieces, and the rest of
--- what is left without these.
+-- What the values of a program with commands say: each named field of its own pieces, and the rest
+-- of what is left without these.
 
--- what the value of each parser of a type says: of the pieces that are its own; or, where it ends in
--- commands, of the cells of its scope
+-- what the value of each parser of a type says: of the pieces that are its own; or, where it ends
+-- in commands, of the cells of its scope
 pub data ProgramSaid (P T : Type 0) : Type 1 where
   of_pieces : (P → Said T) → ProgramSaid P T
   of_cells : (P → CellsValue T) → ProgramSaid P T

@@ -11,17 +11,17 @@
 //!   (specs/Flat.antt). Single evaluations, which repeats and defaults build on, keep to
 //!   `SingleLaw` (specs/Flat.antt), required flags, arguments and choices of them to
 //!   `AlternativeLaw` (specs/Flat.antt).
-//! - What a parser is to a flat record, and to a program, is its `ProgramForm`: how it reads what is
-//!   present. Each combinator is a function on forms; what is nothing to a program computes to
+//! - What a parser is to a flat record, and to a program, is its `ProgramForm`: how it reads what
+//!   is present. Each combinator is a function on forms; what is nothing to a program computes to
 //!   `no_program` (specs/ProgramForm.antt, specs/Flat.antt). Keys are kept apart by their names
 //!   (specs/Pieces.antt).
 //! - The value of a record on a line is read off the pieces of its cut, and each answer of a run is
 //!   exact (specs/ProgramForm.antt).
-//! - A line that is cut holds together (`HoldsTogether`): each key is one of the record's, behind an
-//!   argument's key stands its value, which no positional field gets, an attached value stands
-//!   nowhere else, and what is left to positional fields are words
-//!   (`cut_holds_together`, proofs/Cuts.antt). An occurrence or a word too many leaves no value
-//!   (`HasNoSurplus`), nor does an occurrence that can't be read (proofs/Surplus.antt).
+//! - A line that is cut holds together (`HoldsTogether`): each key is one of the record's, behind
+//!   an argument's key stands its value, which no positional field gets, an attached value stands
+//!   nowhere else, and what is left to positional fields are words (`cut_holds_together`,
+//!   proofs/Cuts.antt). An occurrence or a word too many leaves no value (`HasNoSurplus`), nor does
+//!   an occurrence that can't be read (proofs/Surplus.antt).
 //! - What the value of a field says of its own pieces, whatever the other fields are and whatever
 //!   stands round it, is told by names (specs/Says.antt), and follows of each form
 //!   (proofs/ProgramSays.antt, one lemma for each combinator).
@@ -29,12 +29,12 @@
 //!   text. Where closures can't tell apart what looks alike, the values of a line look alike
 //!   (specs/Says.antt, `values_look_one` and `runs_to_one` of proofs/OneView.antt).
 //!
-//! - A program is a flat record, or named fields and then commands, behind the word of each of which
-//!   stands a program again. Its values are said of the cells of its scope: the fields' own pieces
-//!   are taken away, the first thing left opens a command, and what stands behind it is that
-//!   command's (specs/ProgramForm.antt). Each answer of a run is exact where the parser is a program
-//!   (`runs_as_program`, proofs/ProgramForm.antt). What its values say of the cells stands in
-//!   specs/Says.antt and proofs/ProgramSays.antt.
+//! - A program is a flat record, or named fields and then commands, behind the word of each of
+//!   which stands a program again. Its values are said of the cells of its scope: the fields' own
+//!   pieces are taken away, the first thing left opens a command, and what stands behind it is that
+//!   command's (specs/ProgramForm.antt). Each answer of a run is exact where the parser is a
+//!   program (`runs_as_program`, proofs/ProgramForm.antt). What its values say of the cells stands
+//!   in specs/Says.antt and proofs/ProgramSays.antt.
 //!
 //! Proofs that closures, repeats, choices and products keep to these laws by their tables stand in
 //! proofs/: proofs/ProgramForm.antt has one lemma for each type of parser,

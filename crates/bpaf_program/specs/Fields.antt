@@ -1,4 +1,5 @@
--- All that a field is which a function of a program makes: without a help, or with one of some text.
+-- All that a field is which a function of a program makes: without a help, or with one of some
+-- text.
 use Rattle.std.specs.Prelude.{◌≡◌, Bool, true, false, ℕ, List, Option, Some, None}
 use Rattle.bpaf_doc.specs.{declared.doc.Piece.Piece, Print.TextPieces, Names.Names, Shape.Shape}
 use Rattle.bpaf_text.specs.declared.params.ParseFlag.{ParseFlag}

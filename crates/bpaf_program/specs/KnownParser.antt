@@ -55,8 +55,8 @@ program_names g = known_names plain_info (shown_shorts g)
 abbrev pub IsValueBy : {T : Type 0} → Grammar T → Given → T → Type 0
 IsValueBy g given = IsProgramValueOf (program_names g) (program_form g given.env) given
 
--- an answer is exact for these values: a value only where it is one of them; and where there is one,
--- one of them, or want of memory
+-- an answer is exact for these values: a value only where it is one of them; and where there is
+-- one, one of them, or want of memory
 pub record IsExactFor {T : Type 0} (value : T → Type 0) (r : Result T ParseFailure) : Type 0 where
   pub sound : IfOk r value
   pub complete : (v : T) → value v → IsValueOrWant value r

@@ -11,7 +11,8 @@ ghost use Rattle.bpaf_program.specs.KnownParser.{IsKnownParser, shown_shorts};
 use bpaf::{Args, OptionParser, ParseFailure, Parser};
 use bpaf_record::CommandLine;
 
-/// What a program knows of the parser that it makes: of what it is made, and that this is a program.
+/// What a program knows of the parser that it makes: of what it is made, and that this is a
+/// program.
 pub trait KnownProgram<T> {
     /// Of what it is made.
     ghost grammar: { Grammar T };

@@ -6,15 +6,16 @@
 //! - [`Program::run`] runs options over words and ends a run that gives no value: what was asked
 //!   for stands on one writer, with status 0, or the line of a message on the other, with status 1
 //!   (`TellsFailure`, specs/Ending.antt). A value comes with nothing written. [`run_record`] is the
-//!   same for a flat record, whose answer is exact, and [`run_program`] for a program with commands.
+//!   same for a flat record, whose answer is exact, and [`run_program`] for a program with
+//!   commands.
 //! - [`end`] does so with the answer of any run, and [`print`] prints the text of an answer and
 //!   gives the status (`IsPrinted`). [`write_text`] writes a text of which, where a write fails, a
 //!   beginning stands there and nothing behind it.
 //! - Each takes a [`Sink`], of whose writes a contract can say that the last one failed (`Failed`,
 //!   specs/Ending.antt). Any `Write` is one, of which nothing is known but its bytes.
 //! - [`push_line`] appends a line to a text, and [`push_lines`] one for each of some texts.
-//! - [`key`] is a key of a letter and a name, and [`plain_command`] a command over a parser, without
-//!   help. A parser that is made of these in functions of the program's own runs by
+//! - [`key`] is a key of a letter and a name, and [`plain_command`] a command over a parser,
+//!   without help. A parser that is made of these in functions of the program's own runs by
 //!   [`KnownOptions`], exactly for what the program says that it is made of ([`KnownProgram`]).
 //! - [`words`] are the words of the process.
 //! - [`see_texts`] tells a contract that lent words are texts, as a run that is exact asks.

@@ -119,8 +119,8 @@ said_kind (last g) variables = repeated_kind (said_kind g variables)
 said_kind (product f g) variables = form_kind (program_form g variables)
 said_kind _ variables = of_kind ByName
 
--- A choice of any number of parsers keeps to the laws of its form, and its values say what is told of
--- them, where those of the parsers do.
+-- A choice of any number of parsers keeps to the laws of its form, and its values say what is told
+-- of them, where those of the parsers do.
 
 module _ {P T : Type 0} (of : P → Grammar T) (variables : Variables) where
   -- it keeps to the laws of its form

@@ -13,9 +13,9 @@
 //!   and takes depends on what is its own alone. A parser that has no [`ProgramField`] stands in no
 //!   program: the compiler tells.
 //! - [`FlatField`] and [`FlatFields`], marks without members, are written for those that may stand
-//!   in a flat record: all but commands, `hide` and `pure`. What such a type is to a flat record may
-//!   be told by its value alone: an adjacent argument or a positional word with `strict` is a field
-//!   of a program, and of no flat record (`wide`).
+//!   in a flat record: all but commands, `hide` and `pure`. What such a type is to a flat record
+//!   may be told by its value alone: an adjacent argument or a positional word with `strict` is a
+//!   field of a program, and of no flat record (`wide`).
 //! - Its premise is `agrees`: whether a closure of `parse`, `guard` or `fallback_with` accepts
 //!   depends on the pieces alone. `map` and constructors need none, nor do kept values and
 //!   `from_text`.
@@ -30,10 +30,10 @@
 //!   each answer is exact (`AnswersAsProgram`): a value comes only where it is one of the program
 //!   on the words' line, and where the program has a value there no other answer comes, but for
 //!   want of memory.
-//! - Its clause `fields` says of each value what its fields say, each of the pieces of the line that
-//!   are its own, whatever the others are, and which command's word stands there (`TellsOfWords`):
-//!   by the ghost member `says` of each field's type, over that of the parser inside. Lemmas of
-//!   proofs/Answered.antt and proofs/Answered.antt tell it of the words.
+//! - Its clause `fields` says of each value what its fields say, each of the pieces of the line
+//!   that are its own, whatever the others are, and which command's word stands there
+//!   (`TellsOfWords`): by the ghost member `says` of each field's type, over that of the parser
+//!   inside. Lemmas of proofs/Answered.antt and proofs/Answered.antt tell it of the words.
 //! - [`Record::run_record`] is that run of a flat record, of which it says more (`AnswersByFields`,
 //!   specs/Record.antt): where each field has a value no other answer than one of the record's
 //!   comes, but for want of memory, and where one has none no value does. The line of each value is

@@ -34,8 +34,8 @@ impl Kind {
     }
 }
 
-/// What a parser is to a program with commands. A wide field or record may stand in a program alone,
-/// and in no flat record.
+/// What a parser is to a program with commands. A wide field or record may stand in a program
+/// alone, and in no flat record.
 #[derive(Clone, Copy)]
 pub enum ProgramPart {
     /// Nothing.

@@ -1,5 +1,5 @@
-//! A program with commands, of which it is proved that it removes nothing unless its key in front of
-//! the commands was spelled and the command's word stands there.
+//! A program with commands, of which it is proved that it removes nothing unless its key in front
+//! of the commands was spelled and the command's word stands there.
 ghost use Rattle.std.specs.Prelude.{◌≡◌, [], ◌∷◌, true, IfOk, codes, map, string_bytes};
 ghost use Rattle.bpaf_record.specs.Record.{WasCalled, WasSpelled};
 ghost use Rattle.example_guide.specs.{Clean.IsRemoval, Remove.force_names};
@@ -25,9 +25,9 @@ pub enum Task {
     Remove { files: Vec<String> },
 }
 
-/// The task that the words give, as `list -l`, or `remove FILE`, with `-f` wherever it stands. It is
-/// forced only where one of the words before the first `--` spells `-f` or `--force`, and files are
-/// removed only where one is `remove`.
+/// The task that the words give, as `list -l`, or `remove FILE`, with `-f` wherever it stands. It
+/// is forced only where one of the words before the first `--` spells `-f` or `--force`, and files
+/// are removed only where one is `remove`.
 pub fn read_cleaning(alloc: Global, words: &[String]) -> Result<Cleaning, ParseFailure>
     ensures forced { IfOk result (λ cleaning.
         cleaning.force ≡ true → WasSpelled force_names (map string_bytes words.now)) }

@@ -1,4 +1,5 @@
-//! How a lamp is dimmed, by closures that check its numbers, of which it is proved that they decide.
+//! How a lamp is dimmed, by closures that check its numbers, of which it is proved that they
+//! decide.
 ghost use Rattle.std.specs.Prelude.{◌<◌, ◌≤◌, IfOk, map, string_bytes};
 ghost use Rattle.bpaf_record.specs.Record.{WasSpelled};
 ghost use Rattle.example_guide.specs.Dim.{percent_names};

@@ -19,14 +19,14 @@
 //!
 //! What is proved of it: where the writers tell their bytes, status 0 comes only where the launch
 //! that was printed is dealt out of the words, its name stands before the first `--`, and its words
-//! are all words behind that, in order, byte for byte (specs/Running.antt); or
-//! where the words ask for help and its page was printed (specs/Running.antt).
-//! Where the status is 1, a write failed, the last one, and a beginning of the lines of such a
-//! launch or of that page was printed, not all, and nothing on standard error; or nothing was, and
-//! there the line of a message, whole unless a write failed. It runs as a program with words on one
-//! side of `--`, exactly: where the words have a launch (specs/Running.antt), its lines are printed,
-//! or a part of them where a write failed, or nothing but that memory was wanted; and all launches
-//! that the same words have print the same lines.
+//! are all words behind that, in order, byte for byte (specs/Running.antt); or where the words ask
+//! for help and its page was printed (specs/Running.antt). Where the status is 1, a write failed,
+//! the last one, and a beginning of the lines of such a launch or of that page was printed, not
+//! all, and nothing on standard error; or nothing was, and there the line of a message, whole
+//! unless a write failed. It runs as a program with words on one side of `--`, exactly: where the
+//! words have a launch (specs/Running.antt), its lines are printed, or a part of them where a write
+//! failed, or nothing but that memory was wanted; and all launches that the same words have print
+//! the same lines.
 #![tactic(auto)]
 
 mod options;

@@ -9,8 +9,8 @@ use std::test::Fail;
 use test_support::{cut, reads, rows_of};
 
 /// Words, what is told of them with its places, and the text of that; a text that a program gives
-/// is `no`. Of each missing item its short name is told (`>` is a command), where it was looked for,
-/// and the scope.
+/// is `no`. Of each missing item its short name is told (`>` is a command), where it was looked
+/// for, and the scope.
 const ROWS: &str = "
  | no_env K | environment variable `K` is not set
 a | strict | expected `FILE` to be on the right side of `--`

@@ -2,9 +2,9 @@
 //!
 //! A row of a parser that can be described stands in the data of `bench`, where it costs no proof.
 //! Here stand each form of `construct!`, types and closures of a caller's own, which no described
-//! parser reaches, texts that a parser shows, what a run is asked for beside its value, and the laws.
-//! Nothing stands on this crate: one with tests is proved twice. docs/ROWS.md names each row and its
-//! test.
+//! parser reaches, texts that a parser shows, what a run is asked for beside its value, and the
+//! laws. Nothing stands on this crate: one with tests is proved twice. docs/ROWS.md names each row
+//! and its test.
 #![tactic(auto)]
 
 #[cfg(test)]

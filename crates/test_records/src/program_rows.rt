@@ -1,5 +1,5 @@
-//! Worked rows through `run_program`, each with its value, or that it is refused or a text is shown.
-//! It runs as `run_inner` does, whose texts stand in rows.txt.
+//! Worked rows through `run_program`, each with its value, or that it is refused or a text is
+//! shown. It runs as `run_inner` does, whose texts stand in rows.txt.
 use crate::record_rows::word;
 use bpaf::params::{ParseArgument, ParseFlag};
 use bpaf::parsers::{ParseCommand, ParseOrElse};
@@ -199,8 +199,8 @@ build -n 12 | refused
 build -n 5 | refused
 ";
 
-/// Compares the answers of a number below 10, twice, that isn't 10, or may be left out, in a section
-/// and without a usage.
+/// Compares the answers of a number below 10, twice, that isn't 10, or may be left out, in a
+/// section and without a usage.
 fn compare_doubled<P: ProgramField<u64> + Drop>(
     alloc: Global,
     parser: P,

@@ -1,6 +1,6 @@
-//! Worked rows through `run_record`, and through `run_program`, which gives the same: each field of a
-//! flat record once, on lines of words, each with its whole answer. Both run as `run_inner` does, on
-//! which rows.txt has them all.
+//! Worked rows through `run_record`, and through `run_program`, which gives the same: each field of
+//! a flat record once, on lines of words, each with its whole answer. Both run as `run_inner` does,
+//! on which rows.txt has them all.
 use bpaf::params::{ParseArgument, ParsePositional};
 use bpaf::{Args, Doc, OptionParser, Parser, choice, construct, positional};
 use bpaf_record::{CommandLine, FlatField, ProgramField, Record};

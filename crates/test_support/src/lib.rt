@@ -1,8 +1,8 @@
-//! What tests need: comparisons, answers of parsers, runs of a program, and a writer that can be made
-//! to fail.
+//! What tests need: comparisons, answers of parsers, runs of a program, and a writer that can be
+//! made to fail.
 //!
-//! It stands on `bpaf_core` and what is below, and no library or program stands on it but for tests.
-//! It has no contract but that each call returns: what it tells is compared by tests.
+//! It stands on `bpaf_core` and what is below, and no library or program stands on it but for
+//! tests. It has no contract but that each call returns: what it tells is compared by tests.
 //!
 //! - [`reads`] compares a text with the wanted one, and [`prints`] what Rust's Debug prints.
 //! - [`answers`] tells what a parser answers to lines of words, and [`value`] the value of one. The

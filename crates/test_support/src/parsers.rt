@@ -44,8 +44,8 @@ fn kind_and_text(alloc: Global, kind: &str, doc: &Doc, full: bool) -> Result<Str
     format!(in alloc; "{kind} {text}")
 }
 
-/// What a run answers: `ok` and the value as Rust's Debug prints it, `err` and the message, `out` and
-/// a text that was asked for, or `full` and one that was asked for in full.
+/// What a run answers: `ok` and the value as Rust's Debug prints it, `err` and the message, `out`
+/// and a text that was asked for, or `full` and one that was asked for in full.
 pub(crate) fn told<T: Debug + Drop>(
     alloc: Global,
     answer: Result<T, ParseFailure>,

@@ -44,8 +44,8 @@ pub fn rows_of<'a>(alloc: Global, table: &'a str) -> Result<Vec<Row<'a>>, AllocE
     Ok(rows)
 }
 
-/// Whether an answer is the wanted one, for which `refused` is any message and `shown` any text that
-/// was asked for.
+/// Whether an answer is the wanted one, for which `refused` is any message and `shown` any text
+/// that was asked for.
 fn is_wanted(found: &str, wanted: &str) -> bool {
     found == wanted
         || (wanted == "refused" && found.starts_with("err "))

@@ -26,7 +26,8 @@ impl<T: Drop, P: Parser<T>> OptionParser<T, P> {
     /// parser looks for; a key without its value; a word on the wrong side of `--`; a text that
     /// means no value; a value that a check refused; no value of what looks at no item, or of a
     /// repeat that wants one; an item that another excludes; a key once more than it may stand; an
-    /// item that no parser took. So has one that a run inside the parser ended with, as a command's.
+    /// item that no parser took. So has one that a run inside the parser ended with, as a
+    /// command's.
     ///
     /// Want of memory is caught nowhere: where the answer isn't want of memory, nor is that of the
     /// parser.
