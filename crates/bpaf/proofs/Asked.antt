@@ -1,6 +1,6 @@
 -- What a run shows it was asked for, or its parser hands it on.
 use Rattle.std.proofs.Common.{◌≡◌, Bool, true, false, List, [], Option, Some, None, Result, Ok, inl}
-use Rattle.std.proofs.Common.{inr, Err, refl, sym, subst, ap, ◌∙◌, ⊎_elim, true≢false}
+use Rattle.std.proofs.Common.{inr, Err, refl, sym, ap, ◌∙◌, ⊎_elim, true≢false}
 use Rattle.std.proofs.Common.{if◌then◌else◌}
 use Rattle.std.specs.{Prelude.ℕ, Prelude.◌∷◌, Result.IfErr}
 use Rattle.bpaf_doc.specs.{declared.doc.Piece.Piece, Shape.Part, Shape.Shape}
@@ -14,12 +14,12 @@ use Rattle.bpaf_laws.specs.Reading.{Readings, Outcome, IsAbsence}
 use Rattle.bpaf_laws.specs.Leaves.{ArgumentOutcome, FlagOutcome}
 use Rattle.bpaf_laws.specs.{Laws.Keeps, Laws.Lawful, Combinators.ManyOutcome, Combinators.Turns}
 use Rattle.bpaf_laws.proofs.Keeping.{keeps_same, keeps_trans}
-use Rattle.bpaf_core.specs.Ending.{EndsRun, Tells, leftover, memory, passed_on, refused, shown}
-use Rattle.bpaf_core.specs.Ending.{told, usage, wanting, Shows, shows_usage, leftover_is_told}
+use Rattle.bpaf_core.specs.Ending.{EndsRun, Tells, leftover, passed_on, refused, shown}
+use Rattle.bpaf_core.specs.Ending.{told, usage, Shows, shows_usage, leftover_is_told}
 use Rattle.bpaf_core.specs.Run.{Runs, RunsWords}
 use Rattle.bpaf_core.specs.{Rendering.Renders, ExtraParams.ExtraParams, Info.RunInfo}
 use Rattle.bpaf.specs.Asked.{CameTo, HandsOn, IfShown, IsAskedAt, RunShows, Showing, ShowsNothing}
-use Rattle.bpaf.specs.Asked.{WasAsked, WordsShow, inner_answer, nothing_shown}
+use Rattle.bpaf.specs.Asked.{WasAsked, WordsShow, inner_answer}
 use Rattle.bpaf.specs.{declared.leaves.positional.Position.Position, Positional.PositionalOutcome}
 use Rattle.bpaf_line.specs.declared.error.Message.TheVariants as message
 use Rattle.bpaf_line.specs.declared.failure.ParseFailure.TheVariants as failure
@@ -27,9 +27,9 @@ use Rattle.bpaf_core.specs.ExtraParams.TheVariants as extra
 use Rattle.bpaf_core.specs.Run as run
 
 -- what was come to from a later situation was come to from the first one too
-pub came_from : (showing : Showing) (s m : Situation) (doc : List Piece) (full : Bool) → Keeps s m
+pub came_from : {showing : Showing} {s m : Situation} {doc : List Piece} {full : Bool} → Keeps s m
     → CameTo showing m doc full → CameTo showing s doc full
-came_from showing s m doc full keeps came = record {
+came_from {s = s} {m} keeps came = record {
   there = came.there;
   keeps = keeps_trans s m came.there keeps came.keeps;
   shown = came.shown;
@@ -41,36 +41,35 @@ IsAlsoShown showing other =
     (s : Situation) (doc : List Piece) (full : Bool) → showing s doc full → other s doc full
 
 -- so it is where that was come to
-pub came_also : (showing other : Showing) → IsAlsoShown showing other → (s : Situation)
-    (doc : List Piece) (full : Bool) → CameTo showing s doc full → CameTo other s doc full
-came_also showing other also s doc full came = record {
+pub came_also : {showing other : Showing} → IsAlsoShown showing other → {s : Situation}
+    {doc : List Piece} {full : Bool} → CameTo showing s doc full → CameTo other s doc full
+came_also also {doc = doc} {full} came = record {
   there = came.there;
   keeps = came.keeps;
   shown = also came.there doc full came.shown;
 }
 
 -- so it is of what a parser hands on
-pub hands_also : {T : Type 0} {inner : Outcome T} (showing other : Showing)
+pub hands_also : {T : Type 0} {inner : Outcome T} {showing other : Showing}
     → IsAlsoShown showing other → HandsOn showing inner → HandsOn other inner
-hands_also showing other also inside = record {
-  all = λ s e t doc full o is.
-      came_also showing other also s doc full (inside.all s e t doc full o is);
+hands_also also inside = record {
+  all = λ s e t doc full o is. came_also also (inside.all s e t doc full o is);
 }
 
 -- that a key is nowhere shows nothing
-absence_hands_on : (s : Situation) (part : Option Part) (envs : List (List ℕ)) (m : Message)
-    (doc : List Piece) (full : Bool) → m ≡ inner_answer doc full → ¬ (IsAbsence s part envs m)
-absence_hands_on s (Some part) envs m doc full is absent = rw is at absent
-absence_hands_on s None [] m doc full is absent = rw is at absent
-absence_hands_on s None (name ∷ names) m doc full is absent = rw is at absent
+absence_hands_on : (s : Situation) (part : Option Part) (envs : List (List ℕ)) (doc : List Piece)
+    (full : Bool) → ¬ (IsAbsence s part envs (inner_answer doc full))
+absence_hands_on s (Some part) envs doc full absent = absent
+absence_hands_on s None [] doc full absent = absent
+absence_hands_on s None (name ∷ names) doc full absent = absent
 
-module _ (showing : Showing) where
+module _ {showing : Showing} where
   -- a flag shows nothing
   pub flag_hands_on : {T : Type 0} (clones : T → T → Type 0) (named : Named) (present : T)
       (absent : Option T) → HandsOn showing (FlagOutcome clones named present absent)
   flag_hands_on clones named present absent = record {
-    all = λ s e t doc full o is. absurd (absence_hands_on s (flag_part named) named.envs
-        (inner_answer doc full) doc full refl (rw is at o).2);
+    all = λ s e t doc full o is.
+        absurd (absence_hands_on s (flag_part named) named.envs doc full (rw is at o).2);
   }
 
   -- nor does an argument
@@ -78,7 +77,7 @@ module _ (showing : Showing) where
       → HandsOn showing (ArgumentOutcome means argument)
   argument_hands_on means argument = record {
     all = λ s e t doc full o is. absurd (absence_hands_on s (argument_part argument)
-        argument.named.envs (inner_answer doc full) doc full refl (rw is at o).1.1);
+        argument.named.envs doc full (rw is at o).1.1);
   }
 
   -- nor does a positional word
@@ -94,31 +93,26 @@ module _ (showing : Showing) where
       (is : e.0 ≡ inner_answer doc full) where
     -- what the fields behind the first one show was come to from the start
     rest_hands_on : Keeps s m → rest m (Err e) t → CameTo showing s doc full
-    rest_hands_on keeps o = came_from showing s m doc full keeps (others.all m e t doc full o is)
-
-    -- fields that were all evaluated, and of which two failed, show what one of these does
-    errors_hand_on : (second : Bool) (f g : Error) → first s (Err f) m → rest m (Err g) t
-        → (r : Result (A × B) Error) → r ≡ Err e → r ≡ (if second then Err g else Err f)
-        → CameTo showing s doc full
-    errors_hand_on true f g o later r failed same =
-        let that : g ≡ e = cc in
-        rest_hands_on (law.err s m f o) (subst (λ x. rest m (Err x) t) that later)
-    errors_hand_on false f g o later r failed same =
-        let that : f ≡ e = cc in
-        one.all s e m doc full (subst (λ x. first s (Err x) m) that o) is
+    rest_hands_on keeps o = came_from keeps (others.all m e t doc full o is)
 
     -- fields that were all evaluated show what one of them does
     fields_hand_on : (a : Result A Error) (b : Result B Error) → first s a m → rest m b t
         → Err e ≡ joined a b → CameTo showing s doc full
     fields_hand_on (Ok x) (Ok y) o later same = cc
     fields_hand_on (Ok x) (Err f) o later same =
-        let that : f ≡ e = cc in
-        rest_hands_on (law.ok s m x o).keeps (subst (λ g. rest m (Err g) t) that later)
+        let that : f ≡ e = cc in rest_hands_on (law.ok s m x o).keeps (rw that at later)
     fields_hand_on (Err f) (Ok y) o later same =
-        let that : f ≡ e = cc in
-        one.all s e m doc full (subst (λ g. first s (Err g) m) that o) is
-    fields_hand_on (Err f) (Err g) o later same =
-        errors_hand_on (is_memory g.0) f g o later (Err e) refl same
+        let that : f ≡ e = cc in one.all s f m doc full o (ap (λ x. x.0) that ∙ is)
+    fields_hand_on (Err f) (Err g) o later same = by_worse (is_memory g.0) same
+      where
+        -- of two failures the one that counts
+        by_worse : (second : Bool)
+            → ◌≡◌ {A = Result (A × B) Error} (Err e) (if second then Err g else Err f)
+            → CameTo showing s doc full
+        by_worse true same =
+            let that : g ≡ e = cc in rest_hands_on (law.err s m f o) (rw that at later)
+        by_worse false same =
+            let that : f ≡ e = cc in one.all s f m doc full o (ap (λ x. x.0) that ∙ is)
 
   -- fields show what one of them does
   pub both_hands_on : {A B : Type 0} {first : Outcome A} {rest : Outcome B} {reads : Readings A}
@@ -133,9 +127,9 @@ module _ (showing : Showing) where
   }
 
   -- a product shows what its fields do
-  pub product_hands_on : {V T : Type 0} {fields : Outcome V} (makes : V → T → Type 0)
+  pub product_hands_on : {V T : Type 0} {fields : Outcome V} {makes : V → T → Type 0}
       → HandsOn showing fields → HandsOn showing (ProductOutcome fields makes)
-  product_hands_on makes inside = record {
+  product_hands_on inside = record {
     all = λ s e t doc full o is. inside.all s e o.0 doc full o.1 is;
   }
 
@@ -152,114 +146,89 @@ module _ (showing : Showing) where
     pub many_hands_on : HandsOn showing (ManyOutcome inner catches)
     many_hands_on = record {
       all = λ s e t doc full o is. ⊎_elim
-          (λ failed.
-          came_from showing s o.last doc full (steps_keep true s o.values o.last o.steps)
+          (λ failed. came_from (steps_keep true s o.values o.last o.steps)
           (inside.all o.last e t doc full failed.0 is))
           (λ want. absurd (true≢false (sym want.0 ∙ ap is_memory is))) o.fails;
     }
 
-module _ (describes : Shape → Type 0) (info : RunInfo) where
-  -- what is told of a message, other than help or a version, shows nothing
-  renders_nothing : (m : Message) (s : Situation) (doc : List Piece) (full : Bool)
-      → is_answer m ≡ false → ¬ (Renders m s (failure.Stdout doc full))
-  renders_nothing (message.ParseFailure f) s doc full plain says = absurd (true≢false plain)
-  renders_nothing message.Memory s doc full plain says = cc
-  renders_nothing _ s doc full plain says = says
+-- what is told of a message, other than help or a version, shows nothing
+renders_nothing : (m : Message) (s : Situation) (doc : List Piece) (full : Bool)
+    → is_answer m ≡ false → ¬ (Renders m s (failure.Stdout doc full))
+renders_nothing (message.ParseFailure f) s doc full plain says = absurd (true≢false plain)
+renders_nothing message.Memory s doc full plain says = cc
+renders_nothing _ s doc full plain says = says
 
+module _ {describes : Shape → Type 0} {info : RunInfo} where
   -- what is told of a message was asked for, if it shows anything
-  tells_asked : (m : Message) (s t : Situation) (doc : List Piece) (full : Bool)
-      → is_answer m ≡ false → (f : ParseFailure) → Tells describes info m s f t
-      → f ≡ failure.Stdout doc full → IsAskedAt describes info s doc full
-  tells_asked m s t doc full plain f (shown asked g u looked shows) is = record {
-    after = t;
+  tells_asked : {m : Message} {s t : Situation} {doc : List Piece} {full : Bool}
+      → is_answer m ≡ false → Tells describes info m s (failure.Stdout doc full) t
+      → IsAskedAt describes info s doc full
+  tells_asked plain (shown asked g u looked shows) = record {
+    after = u;
     asked = asked;
     looked = looked;
-    shows = rw is at shows;
+    shows = shows;
   }
-  tells_asked m s t doc full plain f (told e g u looked other renders) is =
-      absurd (renders_nothing m t doc full plain (rw is at renders))
-  tells_asked m s t doc full plain f (wanting e u looked wants) is = cc
+  tells_asked {m} plain (told e g u looked other renders) = absurd (renders_nothing m u _ _ plain renders)
 
   module _ {T : Type 0} {inner : Outcome T} {reads : Readings T} (law : Lawful T inner reads)
-      (showing : Showing) (inside : HandsOn showing inner)
+      {showing : Showing} (inside : HandsOn showing inner)
       (plain : info.help_if_no_args ≡ false) where
-    -- what a run shows or hands on
-    abbrev pub Either : Showing
-    Either = RunShows describes info showing
-
     -- what is told where a parser led to was asked for, if it shows anything
-    told_asked : (m : Message) (s left t : Situation) (doc : List Piece) (full : Bool)
-        → Keeps s left → is_answer m ≡ false → (f : ParseFailure) → Tells describes info m left f t
-        → f ≡ failure.Stdout doc full → CameTo Either s doc full
-    told_asked m s left t doc full keeps other f tells is = record {
-      there = left;
-      keeps = keeps;
-      shown = inl (tells_asked m left t doc full other f tells is);
-    }
+    told_asked : {m : Message} {s left t : Situation} {doc : List Piece} {full : Bool}
+        → Keeps s left → is_answer m ≡ false
+        → Tells describes info m left (failure.Stdout doc full) t
+        → CameTo (RunShows describes info showing) s doc full
+    told_asked {left = left} keeps other tells =
+        record { there = left; keeps = keeps; shown = inl (tells_asked other tells) }
 
     -- the end of a run shows what it was asked for, or what its parser does
-    end_shows : (m : Option Message) (s left t : Situation) (f : ParseFailure) (doc : List Piece)
-        (full : Bool) → Keeps s left
+    end_shows : {m : Option Message} {s left t : Situation} {doc : List Piece} {full : Bool}
+        → Keeps s left
         → ((said : Message) → m ≡ Some said → said ≡ inner_answer doc full
         → CameTo showing s doc full)
-        → EndsRun describes info m s left f t → f ≡ failure.Stdout doc full
-        → CameTo Either s doc full
-    end_shows m s left t f doc full keeps handed (memory n before u wants) is = cc
-    end_shows m s left t f doc full keeps handed (usage n before g u spared wanted shows) is =
+        → EndsRun describes info m s left (failure.Stdout doc full) t
+        → CameTo (RunShows describes info showing) s doc full
+    end_shows keeps handed (usage n before g u spared wanted shows) =
         absurd (no_usage n before wanted)
       where
         no_usage : (n : Message) (before : Situation) → ¬ (shows_usage info n before ≡ true)
         no_usage n before wanted = cc
-    end_shows m s left t f doc full keeps handed (passed_on g before u spared unwanted) is =
-        came_also showing Either (λ x d u shown. inr shown) s doc full
-        (handed (message.ParseFailure g) refl (ap message.ParseFailure is))
-    end_shows m s left t f doc full keeps handed
-        (refused n before from g u spared unwanted other tells) is =
-        told_asked n s left t doc full keeps other f tells is
-    end_shows m s left t f doc full keeps handed (leftover n before from g u is_left tells) is =
-        told_asked n s left t doc full keeps (leftover_is_told left n is_left) f tells is
+    end_shows keeps handed (passed_on g before u spared unwanted) =
+        came_also (λ x d u shown. inr shown) (handed (message.ParseFailure g) refl refl)
+    end_shows keeps handed (refused n before from g u spared unwanted other tells) =
+        told_asked keeps other tells
+    end_shows {left = left} keeps handed (leftover n before from g u is_left tells) =
+        told_asked keeps (leftover_is_told left n is_left) tells
 
     -- so does a run
-    pub run_shows : (s t : Situation) (f : ParseFailure) (doc : List Piece) (full : Bool)
-        → Runs T inner (EndsRun describes info) s (Err f) t → f ≡ failure.Stdout doc full
-        → CameTo Either s doc full
-    run_shows s t f doc full (run.leftover v left g u answered ends) is =
-        end_shows None s left t f doc full (law.ok s left v answered).keeps
-        (λ said same. cc) ends is
-    run_shows s t f doc full (run.refused e left g u answered ends) is =
-        end_shows (Some e.0) s left t f doc full (law.err s left e answered)
-        (λ said same answer. inside.all s e left doc full answered cc) ends is
-
-    -- so does a run over words
-    words_show : (known : Known) (given : Given) (f : ParseFailure) (doc : List Piece) (full : Bool)
-        → RunsWords T inner describes info known given (Err f) → f ≡ failure.Stdout doc full
-        → WordsShow known given Either doc full
-    words_show known given f doc full (run.ran context q t line runs) is = record {
-      context = context;
-      on_line = line;
-      run = run_shows (beginning context) t f doc full runs is;
-    }
-    words_show known given f doc full
-        (run.no_line word number context g lacks empty name renders) is =
-        absurd (renders_nothing (message.Ambiguity word number) (beginning context) doc full refl
-        (subst (λ h. Renders (message.Ambiguity word number) (beginning context) h) is renders))
-    words_show known given f doc full run.no_memory is = cc
+    pub run_shows : {s t : Situation} {doc : List Piece} {full : Bool}
+        → Runs T inner (EndsRun describes info) s (Err (failure.Stdout doc full)) t
+        → CameTo (RunShows describes info showing) s doc full
+    run_shows {s} (run.leftover v left g u answered ends) =
+        end_shows (law.ok s left v answered).keeps (λ said same. cc) ends
+    run_shows {s} {doc = doc} {full} (run.refused e left g u answered ends) =
+        end_shows (law.err s left e answered)
+        (λ said same answer. inside.all s e left doc full answered cc) ends
 
     -- so does an answer without a value
-    pub answer_shows : (known : Known) (given : Given) (r : Result T ParseFailure)
+    pub answer_shows : {known : Known} {given : Given} (r : Result T ParseFailure)
         → RunsWords T inner describes info known given r
-        → IfErr r (IfShown (WordsShow known given Either))
-    answer_shows known given (Ok v) runs = tt
-    answer_shows known given (Err (failure.Stdout doc full)) runs =
-        words_show known given (failure.Stdout doc full) doc full runs refl
-    answer_shows known given (Err (failure.Stderr doc)) runs = tt
-    answer_shows known given (Err failure.Memory) runs = tt
+        → IfErr r (IfShown (WordsShow known given (RunShows describes info showing)))
+    answer_shows (Err (failure.Stdout doc full)) (run.ran context q t line runs) =
+        record { context = context; on_line = line; run = run_shows runs }
+    answer_shows (Err (failure.Stdout doc full))
+        (run.no_line word number context g lacks empty name renders) =
+        absurd (renders_nothing (message.Ambiguity word number) (beginning context) doc full refl renders)
+    answer_shows (Ok v) runs = tt
+    answer_shows (Err (failure.Stderr doc)) runs = tt
+    answer_shows (Err failure.Memory) runs = tt
 
 -- what is asked of a parser is asked of each whose shapes are among those of another
-pub asked_at_also : (describes others : Shape → Type 0) (info : RunInfo)
+pub asked_at_also : {describes others : Shape → Type 0} {info : RunInfo}
     → ((shape : Shape) → describes shape → others shape)
     → IsAlsoShown (IsAskedAt describes info) (IsAskedAt others info)
-asked_at_also describes others info also s doc full at = record {
+asked_at_also {describes} {others} {info} also s doc full at = record {
   after = at.after;
   asked = at.asked;
   looked = at.looked;
@@ -276,35 +245,22 @@ asked_at_also describes others info also s doc full at = record {
     shows_also (extra.Version version) shows = shows
 
 -- so it is of a run over words, of which more may be shown
-pub words_also : (known : Known) (given : Given) (showing wider : Showing)
-    → IsAlsoShown showing wider → (doc : List Piece) (full : Bool)
+pub words_also : {known : Known} {given : Given} {showing wider : Showing}
+    → IsAlsoShown showing wider → {doc : List Piece} {full : Bool}
     → WordsShow known given showing doc full → WordsShow known given wider doc full
-words_also known given showing wider more doc full was = record {
-  context = was.context;
-  on_line = was.on_line;
-  run = came_also showing wider more (beginning was.context) doc full was.run;
-}
+words_also more was =
+    record { context = was.context; on_line = was.on_line; run = came_also more was.run }
 
--- a run over words of a parser that shows nothing by itself was asked for what it shows
-pub answer_asked : (describes : Shape → Type 0) (info : RunInfo) (known : Known) (given : Given)
-    {T : Type 0} {inner : Outcome T} {reads : Readings T} → Lawful T inner reads
-    → ShowsNothing inner → info.help_if_no_args ≡ false → (r : Result T ParseFailure)
+-- what a run shows of a parser that shows nothing by itself is help that its words ask for
+pub answer_asked : {describes others : Shape → Type 0} {info : RunInfo} {known : Known}
+    {given : Given} {T : Type 0} {inner : Outcome T} {reads : Readings T} → Lawful T inner reads
+    → ShowsNothing inner → info.help_if_no_args ≡ false
+    → ((shape : Shape) → describes shape → others shape) → (r : Result T ParseFailure)
     → RunsWords T inner describes info known given r
-    → IfErr r (IfShown (WasAsked describes info known given))
-answer_asked describes info known given law nothing plain (Ok v) runs = tt
-answer_asked describes info known given law nothing plain (Err (failure.Stdout doc full)) runs =
-    words_also known given (RunShows describes info nothing_shown) (IsAskedAt describes info)
-    (λ s d u. ⊎_elim (λ at. at) (λ none. absurd none)) doc full
-    (answer_shows describes info law nothing_shown nothing plain known given
-    (Err (failure.Stdout doc full)) runs)
-answer_asked describes info known given law nothing plain (Err (failure.Stderr doc)) runs = tt
-answer_asked describes info known given law nothing plain (Err failure.Memory) runs = tt
-
--- what was asked of a parser was asked of each whose shapes are among those of another
-pub asked_also : (describes others : Shape → Type 0) (info : RunInfo) (known : Known)
-    (given : Given) (doc : List Piece) (full : Bool)
-    → ((shape : Shape) → describes shape → others shape)
-    → WasAsked describes info known given doc full → WasAsked others info known given doc full
-asked_also describes others info known given doc full also was =
-    words_also known given (IsAskedAt describes info) (IsAskedAt others info)
-    (asked_at_also describes others info also) doc full was
+    → IfErr r (IfShown (WasAsked others info known given))
+answer_asked law nothing plain also (Err (failure.Stdout doc full)) runs =
+    words_also (λ s d u. ⊎_elim (asked_at_also also s d u) (λ none. absurd none))
+    (answer_shows law nothing plain (Err (failure.Stdout doc full)) runs)
+answer_asked law nothing plain also (Ok v) runs = tt
+answer_asked law nothing plain also (Err (failure.Stderr doc)) runs = tt
+answer_asked law nothing plain also (Err failure.Memory) runs = tt

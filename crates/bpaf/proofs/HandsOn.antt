@@ -1,10 +1,10 @@
 -- What choices and commands show is what their parsers do.
-use Rattle.std.proofs.Common.{◌≡◌, ◌⊎◌, Bool, true, false, ℕ, ◌+◌, List, Result, Ok, inl, inr, Err}
+use Rattle.std.proofs.Common.{◌≡◌, ◌⊎◌, Bool, true, false, ℕ, List, Result, Ok, inl, inr, Err}
 use Rattle.std.proofs.Common.{sym, ap, ◌∙◌, ⊎_elim, true≢false, if◌then◌else◌}
 use Rattle.bpaf_doc.specs.{declared.doc.Piece.Piece, Shape.Part, Shape.Shape}
 use Rattle.bpaf_line.specs.declared.error.Message.TheVariants.{Memory, Missing, ParseFailure}
-use Rattle.bpaf_line.specs.Messages.{Combines, CombinesSpared, can_catch, is_memory}
-use Rattle.bpaf_line.specs.Situation.{Situation, with_scope, IsStretchFrom}
+use Rattle.bpaf_line.specs.Messages.{CombinesSpared, can_catch, is_memory}
+use Rattle.bpaf_line.specs.Situation.{Situation, IsStretchFrom}
 use Rattle.bpaf_line.specs.declared.failure.ParseFailure.{ParseFailure as Failure}
 use Rattle.bpaf_line.specs.{declared.error.Error.Error, declared.error.Message.Message}
 use Rattle.bpaf_laws.proofs.{ChoiceLaws.of_chosen, Keeping.keeps_refl, AdjacentLaws.keeps_stretch}
@@ -13,19 +13,12 @@ use Rattle.bpaf_laws.specs.Command.{Called, IsOpenedAt, inside, opening_words}
 use Rattle.bpaf_laws.specs.{Laws.Lawful, Reading.Outcome, Reading.Readings}
 use Rattle.bpaf_core.specs.Command.{AdjacentOutcome, Attempt, Attempts, EitherCommandOutcome, Retry}
 use Rattle.bpaf_core.specs.Command.{failed, first_fails, no_path, nothing_left, second_fails}
-use Rattle.bpaf_core.specs.Command.{unnamed, wants_memory, CommandOutcome, IsMissingPart, ended}
+use Rattle.bpaf_core.specs.Command.{unnamed, CommandOutcome, IsMissingPart, ended}
 use Rattle.bpaf_core.specs.Command.{missing, no_memory}
 use Rattle.bpaf_core.specs.{Failures.end_message, Ending.Ending, Ending.EndsRun, Info.RunInfo}
 use Rattle.bpaf.specs.Asked.{BehindWord, CameTo, HandsOn, RunShows, Showing, inner_answer}
 use Rattle.bpaf.proofs.Asked.{IsAlsoShown, came_also, came_from, run_shows}
 use Rattle.bpaf_line.specs.declared.failure.ParseFailure.TheVariants as failure
-
--- one of two, by a test
-of_either : (caught : Bool) (first second both : Message) (f : Failure)
-    → both ≡ (if caught then second else first) → both ≡ ParseFailure f
-    → (first ≡ ParseFailure f) ⊎ (second ≡ ParseFailure f)
-of_either true first second both f same is = inr (sym same ∙ is)
-of_either false first second both f same is = inl (sym same ∙ is)
 
 -- of two refusals combined one is the inner run's answer that both are
 spared_shows : (first second both : Message) (f : Failure) → CombinesSpared first second both
@@ -34,17 +27,14 @@ spared_shows (ParseFailure g) second both f o is = inl (sym o ∙ is)
 spared_shows first (ParseFailure g) both f o is = inr (sym o ∙ is)
 spared_shows (Missing items) (Missing others) both f o is =
     ⊎_elim (λ all. absurd cc) (λ want. absurd cc) o
-spared_shows first second both f o is = of_either (can_catch first) first second both f o is
+spared_shows first second both f o is = of_either (can_catch first) o
+  where
+    of_either : (caught : Bool) → both ≡ (if caught then second else first)
+        → (first ≡ ParseFailure f) ⊎ (second ≡ ParseFailure f)
+    of_either true same = inr (sym same ∙ is)
+    of_either false same = inl (sym same ∙ is)
 
--- so it is where one may be want of memory
-combined_shows : (first second both : Message) (doc : List Piece) (full : Bool)
-    → Combines first second both → both ≡ inner_answer doc full
-    → (first ≡ inner_answer doc full) ⊎ (second ≡ inner_answer doc full)
-combined_shows first second both doc full o is =
-    ⊎_elim (λ want. absurd cc)
-    (λ spared. spared_shows first second both (failure.Stdout doc full) spared.1 is) o
-
-module _ (showing : Showing) {T : Type 0} {first second : Outcome T}
+module _ {showing : Showing} {T : Type 0} {first second : Outcome T}
     (one : HandsOn showing first) (other : HandsOn showing second) where
   module _ (s : Situation) (doc : List Piece) (full : Bool) where
     -- an answer that hands on what was shown came to it
@@ -64,7 +54,8 @@ module _ (showing : Showing) {T : Type 0} {first second : Outcome T}
     chosen_shows r t ran =
         of_chosen s Shows (λ v m loser place t saved it. tt) (λ e m shows. shows)
         (λ f g both m n combined here there is.
-        ⊎_elim here there (combined_shows f.0 g.0 both.0 doc full combined is))
+        ⊎_elim (λ want. absurd cc) (λ spared. ⊎_elim here there
+        (spared_shows f.0 g.0 both.0 (failure.Stdout doc full) spared.1 is)) combined)
         ran.a ran.sa ran.b ran.sb r t ran.chosen (branch_shows one ran.a ran.sa ran.first_ran)
         (branch_shows other ran.b ran.sb ran.second_ran)
 
@@ -83,107 +74,85 @@ end_is_shown (failure.Stdout text more) doc full is = cc
 end_is_shown (failure.Stderr text) doc full is = cc
 
 -- that a command's part is missing shows nothing
-missing_shows_nothing : (shows : Part → Type 0) (s : Situation) (m : Message) (doc : List Piece)
-    (full : Bool) → IsMissingPart shows s m → ¬ (m ≡ inner_answer doc full)
-missing_shows_nothing shows s m doc full lacks is =
+missing_shows_nothing : {shows : Part → Type 0} (s : Situation) {m : Message} {doc : List Piece}
+    {full : Bool} → IsMissingPart shows s m → ¬ (m ≡ inner_answer doc full)
+missing_shows_nothing s {m} lacks is =
     ⊎_elim (λ want. absurd cc) (λ part. let other : m ≡ Missing part.1 = part.3 in absurd cc) lacks
 
 -- want of memory shows nothing
-want_shows_nothing : {A : Type 0} (m : Message) (doc : List Piece) (full : Bool) → m ≡ Memory
+want_shows_nothing : {A : Type 0} {m : Message} {doc : List Piece} {full : Bool} → m ≡ Memory
     → m ≡ inner_answer doc full → A
-want_shows_nothing m doc full want is = cc
-
--- nor is it a page at the end of a run
-want_is_no_page : {A : Type 0} (doc : List Piece) (full : Bool)
-    → failure.Memory ≡ failure.Stdout doc full → A
-want_is_no_page doc full is = cc
+want_shows_nothing want is = cc
 
 module _ (describes : Shape → Type 0) (info : RunInfo) {T : Type 0} {inner : Outcome T}
-    {reads : Readings T} (law : Lawful T inner reads) (showing : Showing)
+    {reads : Readings T} (law : Lawful T inner reads) {showing : Showing}
     (handed : HandsOn showing inner) (plain : info.help_if_no_args ≡ false) where
   -- what runs behind the word shows or hands on
-  abbrev pub Behind : Showing
+  abbrev Behind : Showing
   Behind = RunShows describes info showing
 
   -- how it ends
-  abbrev pub Ends : Ending
+  abbrev Ends : Ending
   Ends = EndsRun describes info
 
-  module _ (s : Situation) (from : ℕ) (doc : List Piece) (full : Bool) where
+  module _ {s : Situation} {from : ℕ} {doc : List Piece} {full : Bool} where
     -- an attempt shows what it was asked for, or what the parser does
-    attempt_shows : (end : ℕ) (f : Failure) (t : Situation) → IsStretchFrom s from end
-        → Attempt T inner Ends s from end (Err f) t → f ≡ failure.Stdout doc full
+    attempt_shows : {end : ℕ} {t : Situation} → IsStretchFrom s from end
+        → Attempt T inner Ends s from end (Err (failure.Stdout doc full)) t
         → CameTo Behind s doc full
-    attempt_shows end f t run ran is =
-        came_from Behind s (with_scope s from end) doc full (keeps_stretch s from end run.present)
-        (run_shows describes info law showing handed plain
-        (with_scope s from end) t f doc full ran is)
+    attempt_shows {end} run ran =
+        came_from (keeps_stretch s from end run.present) (run_shows law handed plain ran)
 
     -- so does what follows it
-    retry_shows : (end : ℕ) (f g : Failure) (t u : Situation) → IsStretchFrom s from end
-        → Attempt T inner Ends s from end (Err f) t → Retry T inner Ends s from end f t (Err g) u
-        → g ≡ failure.Stdout doc full → CameTo Behind s doc full
-    retry_shows end f g t u run ran (nothing_left told taken) is = attempt_shows end f t run ran is
-    retry_shows end f g t u run ran (second_fails h stop w told left again other) is =
-        attempt_shows end f t run ran is
-    retry_shows end f g t u run ran wants_memory is = want_is_no_page doc full is
+    retry_shows : {end : ℕ} {f : Failure} {t u : Situation} → IsStretchFrom s from end
+        → Attempt T inner Ends s from end (Err f) t
+        → Retry T inner Ends s from end f t (Err (failure.Stdout doc full)) u
+        → CameTo Behind s doc full
+    retry_shows run ran (nothing_left told taken) = attempt_shows run ran
+    retry_shows run ran (second_fails h stop w told left again other) = attempt_shows run ran
 
     -- so do attempts
-    attempts_show : (g : Failure) (u : Situation) → Attempts T inner Ends s from (Err g) u
-        → g ≡ failure.Stdout doc full → CameTo Behind s doc full
-    attempts_show g u (first_fails f end t r w run ran retry) is =
-        retry_shows end f g t w run ran retry is
+    attempts_show : {u : Situation}
+        → Attempts T inner Ends s from (Err (failure.Stdout doc full)) u → CameTo Behind s doc full
+    attempts_show (first_fails f end t r w run ran retry) = retry_shows run ran retry
+
+  -- what is shown behind the word
+  behind : {called : Called} {s : Situation} {p : ℕ} {doc : List Piece} {full : Bool}
+      → IsOpenedAt (opening_words called) s p → CameTo Behind (inside called s p) doc full
+      → CameTo (BehindWord called Behind) s doc full
+  behind {s = s} {p} at came = record {
+    there = s;
+    keeps = keeps_refl s;
+    shown = record { place = p; word = at; run = came };
+  }
 
   module _ (called : Called) (shows : Part → Type 0) where
-    -- what is shown behind the word
-    behind : (s : Situation) (p : ℕ) (doc : List Piece) (full : Bool)
-        → IsOpenedAt (opening_words called) s p → CameTo Behind (inside called s p) doc full
-        → CameTo (BehindWord called Behind) s doc full
-    behind s p doc full at came = record {
-      there = s;
-      keeps = keeps_refl s;
-      shown = record { place = p; word = at; run = came };
-    }
-
-    -- a plain command shows what its own run was asked for, or hands on
-    plain_shows : (s : Situation) (e : Error) (t : Situation) (doc : List Piece) (full : Bool)
-        → CommandOutcome T inner Ends called shows s (Err e) t → e.0 ≡ inner_answer doc full
-        → CameTo (BehindWord called Behind) s doc full
-    plain_shows s e t doc full (ended f told p left at ran same) is =
-        behind s p doc full at
-        (run_shows describes info law showing handed plain (inside called s p) left f doc full ran
-        (end_is_shown f doc full (sym same ∙ is)))
-    plain_shows s e t doc full (missing told none same) is =
-        absurd (missing_shows_nothing shows s e.0 doc full same is)
-    plain_shows s e t doc full (no_memory told p at same) is =
-        want_shows_nothing e.0 doc full same is
-
-    -- so does an adjacent one
-    adjacent_shows : (s : Situation) (e : Error) (t : Situation) (doc : List Piece) (full : Bool)
-        → AdjacentOutcome T inner Ends called shows s (Err e) t → e.0 ≡ inner_answer doc full
-        → CameTo (BehindWord called Behind) s doc full
-    adjacent_shows s e t doc full (failed f told p left at ran same) is =
-        behind s p doc full at
-        (attempts_show (inside called s p) (p + 1) doc full f left ran
-        (end_is_shown f doc full (sym same ∙ is)))
-    adjacent_shows s e t doc full (unnamed told none same) is =
-        absurd (missing_shows_nothing shows s e.0 doc full same is)
-    adjacent_shows s e t doc full (no_path told p at same) is =
-        want_shows_nothing e.0 doc full same is
-
-    -- so does each command
+    -- each command shows what its own run was asked for, or hands on
     pub command_hands_on : (adjacent : Bool) → HandsOn (BehindWord called Behind)
         (EitherCommandOutcome adjacent T inner Ends called shows)
-    command_hands_on true = record {
-      all = λ s e t doc full o is. adjacent_shows s e t doc full o is;
-    }
-    command_hands_on false = record { all = λ s e t doc full o is. plain_shows s e t doc full o is }
+    command_hands_on true = record { all = adjacent_shows }
+      where
+        adjacent_shows : (s : Situation) (e : Error) (t : Situation) (doc : List Piece)
+            (full : Bool) → AdjacentOutcome T inner Ends called shows s (Err e) t
+            → e.0 ≡ inner_answer doc full → CameTo (BehindWord called Behind) s doc full
+        adjacent_shows s e t doc full (failed f told p left at ran same) is =
+            behind at (attempts_show (rw (end_is_shown f doc full (sym same ∙ is)) at ran))
+        adjacent_shows s e t doc full (unnamed told none same) is =
+            absurd (missing_shows_nothing s same is)
+        adjacent_shows s e t doc full (no_path told p at same) is = want_shows_nothing same is
+    command_hands_on false = record { all = plain_shows }
+      where
+        plain_shows : (s : Situation) (e : Error) (t : Situation) (doc : List Piece)
+            (full : Bool) → CommandOutcome T inner Ends called shows s (Err e) t
+            → e.0 ≡ inner_answer doc full → CameTo (BehindWord called Behind) s doc full
+        plain_shows s e t doc full (ended f told p left at ran same) is = behind at
+            (run_shows law handed plain (rw (end_is_shown f doc full (sym same ∙ is)) at ran))
+        plain_shows s e t doc full (missing told none same) is =
+            absurd (missing_shows_nothing s same is)
+        plain_shows s e t doc full (no_memory told p at same) is = want_shows_nothing same is
 
 -- what is shown behind a word may be shown there by what may show more
-pub behind_also : (called : Called) (showing other : Showing) → IsAlsoShown showing other
+pub behind_also : {called : Called} {showing other : Showing} → IsAlsoShown showing other
     → IsAlsoShown (BehindWord called showing) (BehindWord called other)
-behind_also called showing other also s doc full behind = record {
-  place = behind.place;
-  word = behind.word;
-  run = came_also showing other also (inside called s behind.place) doc full behind.run;
-}
+behind_also also s doc full behind =
+    record { place = behind.place; word = behind.word; run = came_also also behind.run }

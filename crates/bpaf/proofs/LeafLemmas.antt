@@ -1,7 +1,7 @@
 -- Leaves: how the answer of a positional word is put together, that want of memory is told as
 -- nothing else, and that a key reads the same without its help.
 use Rattle.std.proofs.Common.{◌≡◌, ℕ, Bool, true, false, List, Result, Ok, Err, inr, sym, refl}
-use Rattle.std.proofs.Common.{subst, Option, true≢false, ◌∙◌, ap, inl, [], ◌∷◌, ◌++◌, append_assoc}
+use Rattle.std.proofs.Common.{Option, true≢false, ◌∙◌, ap, inl, [], ◌∷◌, ◌++◌, append_assoc}
 use Rattle.std.proofs.Common.{Some, None}
 use Rattle.std.proofs.lemmas.List.Elements.{All-push}
 use Rattle.bpaf_line.specs.declared.error.Message.TheVariants.{Memory, ParseFailed, Missing}
@@ -22,7 +22,7 @@ use Rattle.bpaf_laws.proofs.LeafLaws.{match_placed}
 use Rattle.bpaf_text.specs.Named.{Named, KeyWithValue, with_help}
 
 module _ {T : Type 0} (means : List ℕ → T → Type 0) (position : Position) (metavar : List ℕ)
-    (s t : Situation) (place : ℕ) (strict : Bool) (text : List ℕ)
+    {s t : Situation} {place : ℕ} {strict : Bool} {text : List ℕ}
     (takes : TakesText s place strict text t) where
   -- a fault in the text of an accepted word is a refusal of the positional
   fault_refused : (m : Message) → accepts position strict ≡ true
@@ -49,55 +49,51 @@ module _ {T : Type 0} (means : List ℕ → T → Type 0) (position : Position) 
   -- a word on the wrong side that was taken is a refusal of the positional
   pub word_misplaced : (m : Message) → accepts position strict ≡ false
       → m ≡ misplaced strict place metavar → PositionalFails means position metavar s m t
-  word_misplaced m wrong is = subst (λ x. PositionalFails means position metavar s x t) (sym is)
-      (by_side strict wrong takes)
+  word_misplaced m wrong is = rw is (by_side strict wrong takes)
     where
       by_side : (b : Bool) → accepts position b ≡ false → TakesText s place b text t
           → PositionalFails means position metavar s (misplaced b place metavar) t
       by_side true wrong takes = (wrong, refl, (text, takes))
       by_side false wrong takes = (wrong, refl, (text, takes))
 
-module _ {T : Type 0} (looks : Looks T) (part : Part) (anywhere : Bool) (s t : Situation) where
-  -- by the message of the refusal
-  by_message : (m : Message) → AnyFails looks part anywhere s m t → is_memory m ≡ false
-      → ArePassed looks (looked_at anywhere s)
-  by_message Memory fails spared = absurd (true≢false spared)
-  by_message (Missing items) fails spared = fails.0.0
-  by_message _ fails spared = absurd fails
+-- an item is passed by where no memory was wanted for it
+pub any_passes_all : {T : Type 0} (looks : Looks T) (part : Part) (anywhere : Bool)
+    (s t : Situation) (r : Result T Error) → AnyOutcome looks part anywhere s r t
+    → IfErr r (PassesAll looks anywhere s)
+any_passes_all looks part anywhere s t (Ok v) answered = tt
+any_passes_all looks part anywhere s t (Err e) answered = λ spared. by_message e.0 answered spared
+  where
+    -- by the message of the refusal
+    by_message : (m : Message) → AnyFails looks part anywhere s m t → is_memory m ≡ false
+        → ArePassed looks (looked_at anywhere s)
+    by_message Memory fails spared = absurd (true≢false spared)
+    by_message (Missing items) fails spared = fails.0.0
+    by_message _ fails spared = absurd fails
 
-  -- an item is passed by where no memory was wanted for it
-  pub any_passes_all : (r : Result T Error) → AnyOutcome looks part anywhere s r t
-      → IfErr r (PassesAll looks anywhere s)
-  any_passes_all (Ok v) answered = tt
-  any_passes_all (Err e) answered = λ spared. by_message e.0 answered spared
-
-module _ {T : Type 0} (means : List ℕ → T → Type 0) (position : Position) (metavar : List ℕ)
-    (s t : Situation) where
-  -- a word tells no fault of a text that means a value
-  pub word_faults_alone : (r : Result T Error) → PositionalOutcome means position metavar s r t
-      → IfErr r (FaultsWordAlone means s t)
-  word_faults_alone (Ok v) answered = tt
-  word_faults_alone (Err e) answered = λ place fault is.
-      let failed = subst (λ m. PositionalFails means position metavar s m t) is answered in
-      (failed.0, failed.2.0)
+-- a word tells no fault of a text that means a value
+pub word_faults_alone : {T : Type 0} (means : List ℕ → T → Type 0) (position : Position)
+    (metavar : List ℕ) (s t : Situation) (r : Result T Error)
+    → PositionalOutcome means position metavar s r t → IfErr r (FaultsWordAlone means s t)
+word_faults_alone means position metavar s t (Ok v) answered = tt
+word_faults_alone means position metavar s t (Err e) answered = λ place fault is.
+    let failed = rw is at answered in (failed.0, failed.2.0)
 
 -- want of memory isn't spared
-not_spared : (m : Message) → m ≡ Memory → is_memory m ≡ false → ⊥
-not_spared m is spared = true≢false (sym (ap is_memory is) ∙ spared)
+not_spared : {m : Message} → m ≡ Memory → is_memory m ≡ false → ⊥
+not_spared is spared = true≢false (sym (ap is_memory is) ∙ spared)
 
 -- a refusal that is always given is told whole
 pub refusal_told : {T : Type 0} (message : List ℕ) (r : Result T Error) → GivesRefusal message r
     → IfErr r (TellsWhole message)
 refusal_told message (Ok v) given = absurd given
 refusal_told message (Err e) (inl whole) = λ spared. whole
-refusal_told message (Err e) (inr is) = λ spared. absurd (not_spared e.0 is spared)
+refusal_told message (Err e) (inr is) = λ spared. absurd (not_spared is spared)
 
 -- a closure's fault is told whole
 pub answer_told : {T E : Type 0} (answers : Result T E → Type 0) (shown : E → Option (List ℕ))
     (r : Result T Error) → GivesAnswer answers shown r → IfErr r (TellsAnswer answers shown)
 answer_told answers shown (Ok v) given = tt
-answer_told answers shown (Err e) (fault, answered, inl is) = λ spared.
-    absurd (not_spared e.0 is spared)
+answer_told answers shown (Err e) (fault, answered, inl is) = λ spared. absurd (not_spared is spared)
 answer_told answers shown (Err e) (fault, answered, inr told) = λ spared. (fault, answered, told)
 
 -- the items that were passed by, and those that are left; without `anywhere` none was passed by
@@ -108,74 +104,63 @@ pub record HasPassed {T : Type 0} (looks : Looks T) (anywhere : Bool) (s : Situa
   pub passed : ArePassed looks before
   pub alone : anywhere ≡ false → before ≡ []
 
-module _ {T : Type 0} (looks : Looks T) (s : Situation) where
-  -- an item may be passed by
-  abbrev IsPassed : ℕ × Arg → Type 0
-  IsPassed placed = looks (item_text placed.1) None
-
+module _ {T : Type 0} (looks : Looks T) (s : Situation) (anywhere : Bool) where
   -- one more item is passed by
-  pub passed_more : (anywhere : Bool) (placed : ℕ × Arg) (items left : List (ℕ × Arg))
-      → items ≡ placed ∷ left → HasPassed looks anywhere s items → IsPassed placed
-      → anywhere ≡ true → HasPassed looks anywhere s left
-  passed_more anywhere placed items left next h here all = record {
+  pub passed_more : {placed : ℕ × Arg} {items left : List (ℕ × Arg)} → items ≡ placed ∷ left
+      → HasPassed looks anywhere s items → looks (item_text placed.1) None → anywhere ≡ true
+      → HasPassed looks anywhere s left
+  passed_more {placed} {left = left} next h here all = record {
     before = h.before ++ placed ∷ [];
     split = h.split ∙ (ap (λ rest. h.before ++ rest) next
         ∙ sym (append_assoc h.before (placed ∷ []) left));
-    passed = All-push IsPassed h.before placed h.passed here;
+    passed = All-push (λ (item : ℕ × Arg). looks (item_text item.1) None) h.before placed h.passed
+        here;
     alone = λ first. absurd (true≢false (sym all ∙ first));
   }
 
   -- the place of a match is present and in scope
-  pub found_open : (anywhere : Bool) (found : Option (ℕ × Bool × T)) (place : ℕ) (attached : Bool)
-      (v : T) → found ≡ Some (place, attached, v) → FindsMatch looks anywhere s found
+  pub found_open : {found : Option (ℕ × Bool × T)} {place : ℕ} {attached : Bool} {v : T}
+      → found ≡ Some (place, attached, v) → FindsMatch looks anywhere s found
       → is_open s place ≡ true
-  found_open anywhere found place attached v is finds =
+  found_open {place = place} {v = v} is finds =
       let at = rw is at finds in (match_placed looks anywhere s place at.0 v at.1).0
 
 -- what a flag with a help reads it reads without
-pub flag_without_help : (T : Type 0) (clones : T → T → Type 0) (named : Named) (help : List Piece)
-    (present : T) (absent : Option T) (context : Context) (share : Share) (v : T)
+pub flag_without_help : {T : Type 0} {clones : T → T → Type 0} (named : Named) (help : List Piece)
+    {present : T} {absent : Option T} {context : Context} {share : Share} {v : T}
     → FlagReads T clones (with_help named help) present absent context share v
     → FlagReads T clones named present absent context share v
-flag_without_help T clones named help present absent context share v (at_key key has alone is) =
-    at_key key has alone is
-flag_without_help T clones named help present absent context share v (nowhere none is) =
-    nowhere none is
+flag_without_help named help (at_key key has alone is) = at_key key has alone is
+flag_without_help named help (nowhere none is) = nowhere none is
 
 -- the key with this help
 abbrev pub key_with_help : KeyWithValue → List Piece → KeyWithValue
 key_with_help key help = record key { named = with_help key.named help }
 
--- a key with a text behind it is one without the help
-before_without_help : (key : KeyWithValue) (help : List Piece) (context : Context) (place : ℕ)
-    (text : List ℕ) → IsKeyBefore (key_with_help key help) context place text
-    → IsKeyBefore key context place text
-before_without_help key help context place text is =
-    record { is_key = is.is_key; behind_it = is.behind_it }
-
--- the text of an argument's key is that of the key with a help
-own_without_help : (last : Bool) (key : KeyWithValue) (help : List Piece) (context : Context)
-    (share : Share) (text : List ℕ) → IsOwnText last (key_with_help key help) context share text
-    → IsOwnText last key context share text
-own_without_help false key help context share text is =
-    (is.0, before_without_help key help context is.0 text is.1, is.2)
-own_without_help true key help context share text is = record {
-  keys = is.keys;
-  are_keys = λ p one.
-      let that = is.are_keys p one in
-      (that.0, before_without_help key help context p that.0 that.1);
-  places = is.places;
-  greatest = is.greatest;
-  is_key = is.is_key;
-  no_greater = is.no_greater;
-  before = before_without_help key help context is.greatest text is.before;
-}
-
 -- so it is of an argument
-pub argument_without_help : (T : Type 0) (means : List ℕ → T → Type 0) (key : KeyWithValue)
-    (help : List Piece) (context : Context) (share : Share) (v : T)
+pub argument_without_help : {T : Type 0} (means : List ℕ → T → Type 0) (key : KeyWithValue)
+    (help : List Piece) (context : Context) {share : Share} {v : T}
     → ArgumentReads T means (key_with_help key help) context share v
     → ArgumentReads T means key context share v
-argument_without_help T means key help context share v (inl read) =
-    inl (read.0, own_without_help key.last key help context share read.0 read.1, read.2)
-argument_without_help T means key help context share v (inr read) = inr read
+argument_without_help means key help context {share} (inl read) =
+    inl (read.0, own key.last read.0 read.1, read.2)
+  where
+    -- a key with a text behind it is one without the help
+    before : {place : ℕ} {text : List ℕ} → IsKeyBefore (key_with_help key help) context place text
+        → IsKeyBefore key context place text
+    before is = record { is_key = is.is_key; behind_it = is.behind_it }
+
+    -- its text is that of the key with a help
+    own : (last : Bool) (text : List ℕ) → IsOwnText last (key_with_help key help) context share text
+        → IsOwnText last key context share text
+    own false text is = (is.0, before is.1, is.2)
+    own true text is = record {
+      keys = is.keys;
+      are_keys = λ p one. let that = is.are_keys p one in (that.0, before that.1);
+      places = is.places;
+      greatest = is.greatest;
+      is_key = is.is_key;
+      no_greater = is.no_greater;
+      before = before is.before;
+    }
+argument_without_help means key help context (inr read) = inr read

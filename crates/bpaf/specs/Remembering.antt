@@ -9,7 +9,6 @@ use Rattle.bpaf_line.specs.{declared.missing.MissingItem.MissingItem, Taking.IsM
 use Rattle.bpaf_laws.specs.Adjacent.{Failure, Probe, Tries, longer, EndsWith, taken_by}
 use Rattle.bpaf_laws.specs.Reading.{Outcome, IsEmptyShare, HasPlace, Share}
 use Rattle.bpaf_laws.specs.Leaves.{Looks, ArePassed, FirstMatch, looked_at}
-use Rattle.bpaf_laws.specs.Laws.{newly, IsNotMemory}
 use Rattle.bpaf_base.specs.{declared.arg.Arg.Arg, Items.is_attached}
 use Rattle.bpaf_doc.specs.Shape.{Shape, Part, part_of, first_part}
 use Rattle.bpaf_doc.specs.declared.item.Item.{Item}
@@ -81,13 +80,8 @@ HasPlaceIf true = HasPlace
 HasPlaceIf false = IsEmptyShare
 
 -- whether an evaluation over the places from one on up to another takes one of them
-pub record Takes (T : Type 0) (inner : Outcome T) (s : Situation) (place stop : ℕ)
-    (takes : Bool) : Type 0 where
-  pub answer : Result T Error
-  pub left : Situation
-  pub ran : inner (with_scope s place stop) answer left
-  pub spared : IsNotMemory answer
-  pub taken : HasPlaceIf takes (newly s left)
+abbrev pub Takes : (T : Type 0) → Outcome T → Situation → ℕ → ℕ → Bool → Type 0
+Takes T inner s place stop takes = Probe T inner s place stop (HasPlaceIf takes)
 
 -- an attempt over the places from one on up to another left none of them present, or this is the
 -- first one; or it failed

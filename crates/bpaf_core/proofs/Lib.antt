@@ -1,5 +1,4 @@
 pub use Rattle.bpaf_parts.proofs.Branching
 pub mod Running
 pub mod Commanding
-pub mod RunSparing
-pub mod LeafSparing
+pub mod Sparing

@@ -1,7 +1,7 @@
 -- How the answers and the end of a run are put together: a value is dealt out of its words, a
 -- refusal is one of the twelve.
 use Rattle.std.proofs.Common.{◌≡◌, ◌==◌, ℕ, Bool, true, List, [], ap, Result, Ok, Err, ⊎_elim}
-use Rattle.std.proofs.Common.{subst, sym, refl, IsErrAnd, arith, false, not, ◌&&◌, ◌∙◌, ◌<◌, length}
+use Rattle.std.proofs.Common.{subst, refl, IsErrAnd, arith, false, not, ◌&&◌, ◌<◌, length}
 use Rattle.std.proofs.Common.{IfOk, true≢false, nat_lt, Some, None, Option}
 use Rattle.std.proofs.lemmas.Bool.Decides.{nat_tests}
 use Rattle.std.specs.Result.{IfErr}
@@ -10,16 +10,16 @@ use Rattle.bpaf_line.specs.declared.failure.ParseFailure.{ParseFailure}
 use Rattle.bpaf_line.specs.Situation.{Situation, Context, beginning, is_taken, is_open, in_scope}
 use Rattle.bpaf_line.specs.Situation.{is_marker, is_dealt_place, open_count}
 use Rattle.bpaf_line.specs.Messages.{is_memory, is_answer}
-use Rattle.bpaf_line.specs.{declared.error.Message.Message, Rendering.Renders, Taking.IsContext}
+use Rattle.bpaf_line.specs.{declared.error.Message.Message, Rendering.Renders}
 use Rattle.bpaf_line.specs.{declared.error.Error.Error}
 use Rattle.bpaf_keys.specs.{Info.RunInfo, Info.ExtraOutcome, declared.info.ExtraParams.ExtraParams}
 use Rattle.bpaf_doc.specs.Shape.{Shape, parts, shape_of}
 use Rattle.bpaf_doc.specs.{declared.doc.Piece.Piece, declared.meta.Meta.Meta}
-use Rattle.bpaf_laws.specs.Reading.{Outcome, Readings, Share}
+use Rattle.bpaf_laws.specs.Reading.{Outcome, Readings}
 use Rattle.bpaf_laws.specs.Laws.{ShowsNames, shorts_of, Lawful, Keeps, Closes, newly, NamesAnswer}
 use Rattle.bpaf_laws.specs.Laws.{Refusal, refusal_of}
 use Rattle.bpaf_laws.specs.Combinators.{DefaultDescribes}
-use Rattle.bpaf_words.specs.Line.{Known, ShortNames, known_at, IsLine}
+use Rattle.bpaf_words.specs.Line.{Known, ShortNames, known_at}
 use Rattle.bpaf_words.specs.{Arguments.Given, Splitting.ReadsLine, declared.line.Line.Line}
 use Rattle.bpaf_words.specs.{declared.line.LineFault.LineFault}
 use Rattle.bpaf_core.specs.Run.{Runs, RunsWords, ran, no_line, no_memory, known_names, Starts}
@@ -43,33 +43,24 @@ use Rattle.bpaf_core.specs.Run as run
 pub nothing_left : (n : ℕ) (empty : Bool) → empty ≡ (n == 0) → empty ≡ true → n ≡ 0
 nothing_left n empty is holds = grind (arith, nat_tests)
 
--- the known names of what a parser shows are those that are told of it
-known_are : {describes : Shape → Type 0} {shorts : ShortNames} → ShowsNames describes shorts
-    → (info : RunInfo) (numbers : Bool) (flags arguments : List ℕ) (shape : Shape)
-    → numbers ≡ info.numbers → describes shape
-    → flags ≡ (known_names info (shorts_of (parts shape))).names.flags
-    → arguments ≡ (known_names info (shorts_of (parts shape))).names.arguments
-    → known_at numbers (record { flags = flags; arguments = arguments }) ≡ known_names info shorts
-known_are shows info numbers flags arguments shape setting shown flags_are arguments_are =
-    rw (setting, flags_are, arguments_are) (ap (known_names info) (shows.each shape shown))
-
 -- what was read by the names that are shown was read by the known ones
 pub read_by_shown : {describes : Shape → Type 0} {shorts : ShortNames}
-    → ShowsNames describes shorts → (info : RunInfo) (words : List (List ℕ))
-    (numbers : Bool) (flags arguments : List ℕ) (shape : Shape) (result : Result Line LineFault)
+    → ShowsNames describes shorts → (info : RunInfo) (words : List (List ℕ)) {numbers : Bool}
+    {flags arguments : List ℕ} {shape : Shape} (result : Result Line LineFault)
     → numbers ≡ info.numbers → describes shape
     → flags ≡ (known_names info (shorts_of (parts shape))).names.flags
     → arguments ≡ (known_names info (shorts_of (parts shape))).names.arguments
     → ReadsLine (known_at numbers (record { flags = flags; arguments = arguments })) words result
     → ReadsLine (known_names info shorts) words result
-read_by_shown shows info words numbers flags arguments shape result setting shown flags_are
-    arguments_are =
-    subst (λ known. ReadsLine known words result)
-    (known_are shows info numbers flags arguments shape setting shown flags_are arguments_are)
+read_by_shown shows info words {shape = shape} result setting shown flags_are arguments_are
+    reads =
+    let same = ap (known_names info) (shows.each shape shown) in
+    subst (λ known. ReadsLine known words result) same
+    (rw (setting, flags_are, arguments_are) at reads)
 
 -- a run starts at the beginning of the line that was read
-pub starts_at : (known : Known) (given : Given) (words : List (List ℕ)) (line : Line)
-    (s : Situation) → words ≡ given.words → ReadsLine known words (Ok line)
+pub starts_at : {known : Known} {given : Given} {words : List (List ℕ)} (line : Line)
+    {s : Situation} → words ≡ given.words → ReadsLine known words (Ok line)
     → s ≡ beginning (record {
       line = line.items.items;
       marker = line.marker;
@@ -77,98 +68,61 @@ pub starts_at : (known : Known) (given : Given) (words : List (List ℕ)) (line 
       name = given.name;
     })
     → Starts known given (Ok s)
-starts_at known given words line s same reads begun = (
+starts_at {given = given} line same reads begun = (
   record { line = line.items.items; marker = line.marker; env = given.env; name = given.name },
-  record {
-    is_line = subst (λ xs. IsLine known xs line.items.items line.marker) same reads;
-    env = refl;
-    name = refl;
-  },
+  record { is_line = rw same at reads; env = refl; name = refl },
   begun,
 )
 
 module _ {T : Type 0} {inner : Outcome T} {describes : Shape → Type 0} {info : RunInfo}
-    {known : Known} (given : Given)
-  where
-    -- a run from the state that the words made
-    pub started : (s : Situation) (r : Result T ParseFailure) (t : Situation)
-        → Starts known given (Ok s) → Runs T inner (EndsRun describes info) s r t
-        → RunsWords T inner describes info known given r
-    started s r t starts run = ran starts.0 r t starts.1
-        (subst (λ from. Runs T inner (EndsRun describes info) from r t) starts.2 run)
+    {known : Known} {given : Given} where
+  -- a run from the state that the words made
+  pub started : {s : Situation} {r : Result T ParseFailure} {t : Situation}
+      → Starts known given (Ok s) → Runs T inner (EndsRun describes info) s r t
+      → RunsWords T inner describes info known given r
+  started {r = r} {t} starts run = ran starts.0 r t starts.1 (rw starts.2 at run)
 
-    -- words without a line, or no memory for it
-    pub line_refused : (m : Message) (f : ParseFailure) → Starts known given (Err m)
-        → TellsNoLine given.name m f → RunsWords T inner describes info known given (Err f)
-    line_refused m f refuses tells = ⊎_elim
-        (λ (wanted : f ≡ failure.Memory).
-        subst (λ x. RunsWords T inner describes info known given (Err x)) (sym wanted) no_memory)
-        (λ told. told_line m f refuses told.0 told.1 told.2 told.3) tells
-      where
-        -- a message of the line is told
-        told_line : (m : Message) (f : ParseFailure) → Starts known given (Err m)
-            → (context : Context) → context.line ≡ [] → context.name ≡ given.name
-            → Renders m (beginning context) f → RunsWords T inner describes info known given (Err f)
-        told_line Memory f refuses context empty named told =
-            subst (λ x. RunsWords T inner describes info known given (Err x)) (sym told) no_memory
-        told_line (Ambiguity word number) f refuses context empty named told =
-            no_line word number context f refuses empty named told
-        told_line other f refuses context empty named told = absurd refuses
+  -- words without a line, or no memory for it
+  pub line_refused : (m : Message) {f : ParseFailure} → Starts known given (Err m)
+      → TellsNoLine given.name m f → RunsWords T inner describes info known given (Err f)
+  line_refused m {f} refuses tells =
+      ⊎_elim (λ wanted. rw wanted no_memory) (λ told. told_line m refuses told) tells
+    where
+      -- a message of the line is told
+      told_line : (m : Message) → Starts known given (Err m)
+          → (context : Context) × (context.line ≡ []) × (context.name ≡ given.name)
+          × Renders m (beginning context) f → RunsWords T inner describes info known given (Err f)
+      told_line Memory refuses told = rw told.3 no_memory
+      told_line (Ambiguity word number) refuses told =
+          no_line word number told.0 f refuses told.1 told.2 told.3
+      told_line other refuses told = absurd refuses
 
-    -- want of memory before the run
-    pub want_runs : (r : Result T ParseFailure) → IsErrAnd r (λ f. f ≡ failure.Memory)
-        → RunsWords T inner describes info known given r
-    want_runs (Ok v) wanted = absurd wanted
-    want_runs (Err f) wanted =
-        subst (λ x. RunsWords T inner describes info known given (Err x)) (sym wanted) no_memory
+  -- want of memory before the run
+  pub want_runs : {r : Result T ParseFailure} → IsErrAnd r (λ f. f ≡ failure.Memory)
+      → RunsWords T inner describes info known given r
+  want_runs {r = Ok v} wanted = absurd wanted
+  want_runs {r = Err f} wanted = rw wanted no_memory
 
--- it is one of the twelve
-pub want_named : {T : Type 0} (inner : Outcome T) (describes : Shape → Type 0) (info : RunInfo)
-    (known : Known) (given : Given) (r : Result T ParseFailure) → IsErrAnd r (λ f. f ≡ failure.Memory)
-    → IfErr r (IsOneOfTwelve inner describes info known given)
-want_named inner describes info known given (Ok v) wanted = absurd wanted
-want_named inner describes info known given (Err f) wanted =
-    subst (IsOneOfTwelve inner describes info known given) (sym wanted) without_memory
-
-module _ (describes : Shape → Type 0) (info : RunInfo) (t : Situation) where
+module _ {describes : Shape → Type 0} {info : RunInfo} {t : Situation} (m : Message)
+    (wanted : Bool) where
   -- want of memory ends the run
-  pub memory_ends : (m : Message) (wanted : Bool) → is_memory m ≡ true
-      → EndsRefused describes info wanted m t failure.Memory t
-  memory_ends m wanted is s wants = memory m s t is
+  pub memory_ends : is_memory m ≡ true → EndsRefused describes info wanted m t failure.Memory t
+  memory_ends is s wants = memory m s t is
 
   -- help stands in for the message
-  pub usage_ends : (m : Message) (wanted : Bool) → is_memory m ≡ false
-      → (wanted && not (is_shown m)) ≡ true → (f : ParseFailure)
+  pub usage_ends : is_memory m ≡ false → (wanted && not (is_shown m)) ≡ true → {f : ParseFailure}
       → ShowsHelp describes info false t f → EndsRefused describes info wanted m t f t
-  usage_ends m wanted other is f shows s wants =
-      usage m s f t other (sym (ap (λ x. x && not (is_shown m)) wants) ∙ is) shows
+  usage_ends other is {f} shows s wants = usage m s f t other (rw wants at is) shows
 
-  -- a message is told
-  told_ends : (m : Message) (wanted : Bool) → is_memory m ≡ false
-      → (wanted && not (is_shown m)) ≡ false → is_answer m ≡ false → (f : ParseFailure)
-      → (u : Situation) → Tells describes info m t f u → EndsRefused describes info wanted m t f u
-  told_ends m wanted other is plain f u tells s wants =
-      refused m s t f u other (sym (ap (λ x. x && not (is_shown m)) wants) ∙ is) plain tells
-
-  -- the answer of an inner run is passed on
-  answer_ends : (inner : ParseFailure) (wanted : Bool)
-      → is_memory (message.ParseFailure inner) ≡ false
-      → (wanted && not (is_shown (message.ParseFailure inner))) ≡ false
-      → EndsRefused describes info wanted (message.ParseFailure inner) t inner t
-  answer_ends inner wanted other is s wants =
-      passed_on inner s t other
-      (sym (ap (λ x. x && not (is_shown (message.ParseFailure inner))) wants) ∙ is)
-
-  -- one or the other
-  pub others_end : (m : Message) (wanted : Bool) → is_memory m ≡ false
-      → (wanted && not (is_shown m)) ≡ false → (f : ParseFailure) (u : Situation)
-      → PassesOrTells describes info m t f u → EndsRefused describes info wanted m t f u
-  others_end (message.ParseFailure inner) wanted other is f u passes =
-      subst (λ x. EndsRefused describes info wanted (message.ParseFailure inner) t f x)
-      (sym passes.1)
-      (subst (λ x. EndsRefused describes info wanted (message.ParseFailure inner) t x t)
-      (sym passes.0) (answer_ends inner wanted other is))
-  others_end m wanted other is f u tells = told_ends m wanted other is refl f u tells
+-- the answer of an inner run is passed on, and each other message is told
+pub others_end : {describes : Shape → Type 0} {info : RunInfo} {t : Situation} (m : Message)
+    (wanted : Bool) → is_memory m ≡ false → (wanted && not (is_shown m)) ≡ false
+    → {f : ParseFailure} {u : Situation} → PassesOrTells describes info m t f u
+    → EndsRefused describes info wanted m t f u
+others_end {t = t} (message.ParseFailure inner) wanted other is passes s wants =
+    rw (passes.1, passes.0) (passed_on inner s t other (rw wants at is))
+others_end {t = t} m wanted other is {f} {u} tells s wants =
+    refused m s t f u other (rw wants at is) refl tells
 
 -- What a run accepts is dealt out of its words.
 
@@ -218,30 +172,22 @@ all_newly context t keeps closed none =
     (none_below (is_open t) (length t.context.line) none p (omega arith))))
 
 module _ {T : Type 0} {inner : Outcome T} {reads : Readings T} {describes : Shape → Type 0}
-    {info : RunInfo} {known : Known} (given : Given) (law : Lawful T inner reads) where
-  -- a value that a run over the words' line answers is dealt out of the words
-  dealt_from : (context : Context) (v : T) (t : Situation) → IsContext known given context
-      → Runs T inner (EndsRun describes info) (beginning context) (Ok v) t
-      → IsDealtOut T reads known given v
-  dealt_from context v t is_context (value w left answered none) =
-      let read = law.ok (beginning context) left w answered in
-      record {
-        context = context;
-        is_context = is_context;
-        read = subst (λ (share : Share). reads context share w)
-            (all_newly context left read.keeps read.closed none) read.reading;
-      }
-
+    {info : RunInfo} {known : Known} {given : Given} (law : Lawful T inner reads) where
   -- a value that a run over words answers is dealt out of them
-  pub words_dealt : (v : T) → RunsWords T inner describes info known given (Ok v)
-      → IsDealtOut T reads known given v
-  words_dealt v (ran context r t is_context run) = dealt_from context v t is_context run
-
-  -- so is each value among its answers
-  pub if_dealt : (r : Result T ParseFailure) → RunsWords T inner describes info known given r
+  pub if_dealt : {r : Result T ParseFailure} → RunsWords T inner describes info known given r
       → IfOk r (λ v. IsDealtOut T reads known given v)
-  if_dealt (Ok v) run = words_dealt v run
-  if_dealt (Err f) run = tt
+  if_dealt {r = Ok v} (ran context r t is_context run) = dealt_from run
+    where
+      dealt_from : {t : Situation} → Runs T inner (EndsRun describes info) (beginning context) (Ok v) t
+          → IsDealtOut T reads known given v
+      dealt_from (value w left answered none) =
+          let read = law.ok (beginning context) left w answered in
+          record {
+            context = context;
+            is_context = is_context;
+            read = rw (all_newly context left read.keeps read.closed none) at read.reading;
+          }
+  if_dealt {r = Err f} run = tt
 
 -- Each refusal of a run is one of the twelve.
 
@@ -304,7 +250,7 @@ module _ {T : Type 0} (inner : Outcome T) (describes : Shape → Type 0) (info :
         wanting_is_named
     refused_is_named m e left f t came is answers
         (ending.usage other before given after spared wanted shows) =
-        usage_is_named e left f came (subst (λ n. shows_usage info n s ≡ true) (sym is) wanted) shows
+        usage_is_named e left f came (rw is wanted) shows
     refused_is_named m e left f t came is answers (ending.passed_on given before after spared none) =
         (answers.0, name.handed_on answers.0 e left f came is answers.1)
     refused_is_named m e left f t came is answers
@@ -328,32 +274,30 @@ module _ {T : Type 0} (inner : Outcome T) (describes : Shape → Type 0) (info :
         refused_is_named s e.0 e left f t came refl (law.named s left e came) ends
 
     -- a run over words
-    pub words_are_named : (known : Known) (given : Given) (r : Result T ParseFailure)
+    pub words_are_named : {known : Known} {given : Given} {r : Result T ParseFailure}
         → RunsWords T inner describes info known given r
         → IfErr r (IsOneOfTwelve inner describes info known given)
-    words_are_named known given (Ok v) runs = tt
-    words_are_named known given (Err f) (run.ran context answer t is_context runs) =
+    words_are_named {r = Ok v} runs = tt
+    words_are_named {r = Err f} (run.ran context answer t is_context runs) =
         let named = run_is_named (beginning context) f t runs in
         name.named context named.0 f is_context named.1
-    words_are_named known given (Err f)
-        (run.no_line word number context told lacks empty named tells) =
+    words_are_named {r = Err f} (run.no_line word number context told lacks empty named tells) =
         name.no_line word number context f lacks empty named tells
-    words_are_named known given (Err f) run.no_memory = name.without_memory
+    words_are_named {r = Err f} run.no_memory = name.without_memory
 
--- what is shown of one shape is shown of a parser that may show it
-default_of : (describes : Shape → Type 0) (inner : Shape) (text : Option (List Piece))
-    (shape : Shape) → describes inner → DefaultDescribes (λ s. s ≡ inner) text shape
-    → DefaultDescribes describes text shape
-default_of describes inner None shape shown of_it =
-    (of_it.0, subst describes (sym of_it.1) shown, of_it.2)
-default_of describes inner (Some text) shape shown of_it =
-    (of_it.0, subst describes (sym of_it.1) shown, of_it.2)
+  -- want of memory before the run
+  pub want_named : (known : Known) (given : Given) (r : Result T ParseFailure)
+      → IsErrAnd r (λ f. f ≡ failure.Memory)
+      → IfErr r (IsOneOfTwelve inner describes info known given)
+  want_named known given (Ok v) wanted = absurd wanted
+  want_named known given (Err f) wanted = rw wanted without_memory
 
--- so what is shown, where memory for it isn't refused, is shown of that parser
-pub default_shown : {E : Type 0} (describes : Shape → Type 0) (inner : Shape)
+-- what is shown of one shape, where memory for it isn't refused, is shown of a parser that may show
+-- that shape
+pub default_shown : {E : Type 0} (describes : Shape → Type 0) {inner : Shape}
     (text : Option (List Piece)) (shown : Result Meta E) → describes inner
     → IfOk shown (λ meta. DefaultDescribes (λ s. s ≡ inner) text (shape_of meta))
     → IfOk shown (λ meta. DefaultDescribes describes text (shape_of meta))
-default_shown describes inner text (Ok meta) of_it told =
-    default_of describes inner text (shape_of meta) of_it told
-default_shown describes inner text (Err e) of_it told = _
+default_shown describes None (Ok meta) of_it told = (told.0, rw told.1 of_it, told.2)
+default_shown describes (Some text) (Ok meta) of_it told = (told.0, rw told.1 of_it, told.2)
+default_shown describes text (Err e) of_it told = _

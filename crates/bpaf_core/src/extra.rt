@@ -29,7 +29,7 @@ impl Parser<ExtraParams> for Info {
 
     ghost outcome = { λ info. ExtraOutcome info };
 
-    #[tactic(auto, using(crate::proofs::LeafSparing::neither_asked))]
+    #[tactic(auto, using(crate::proofs::Sparing::neither_asked))]
     fn eval(&self, state: &mut State) -> Result<ExtraParams, Error>
         ensures outcome { ExtraOutcome self.now state.old result state.new }
         ensures memory_is_never_caught { IfErr result

@@ -46,7 +46,7 @@ pub struct ParseFallback<P, T> {
     pub shown: Option<Doc>,
 }
 
-impl<T: Display + Drop, P: Drop> ParseFallback<P, T> {
+impl<T: Drop, P: Drop> ParseFallback<P, T> {
     /// The value is shown in the help page, as Display prints it (bpaf's `display_fallback`).
     /// Refused only for want of memory, and then the parser is gone.
     ///
@@ -54,31 +54,29 @@ impl<T: Display + Drop, P: Drop> ParseFallback<P, T> {
     /// num.fallback(7).display_fallback(alloc)?     shows `[default: 7]`
     /// ```
     pub fn display_fallback(mut self, alloc: Global) -> Result<ParseFallback<P, T>, AllocError>
-        ensures inner { IfOk result (λ parser. parser.inner ≡ self.inner) }
-        ensures value { IfOk result (λ parser. parser.value ≡ self.value) }
+    where
+        T: Display,
+        ensures rest { IfOk result (λ parser. parser ≡ record self { shown = parser.shown }) }
         ensures shown { IfOk result (λ parser.
             ShowsDefault (T.output self.value) parser.shown) }
     {
         self.shown = Some(displayed(alloc, &self.value)?);
         Ok(self)
     }
-}
 
-impl<T: Debug + Drop, P: Drop> ParseFallback<P, T> {
     /// The value is shown in the help page, as Debug prints it (bpaf's `debug_fallback`). Refused
     /// only for want of memory, and then the parser is gone.
     pub fn debug_fallback(mut self, alloc: Global) -> Result<ParseFallback<P, T>, AllocError>
-        ensures inner { IfOk result (λ parser. parser.inner ≡ self.inner) }
-        ensures value { IfOk result (λ parser. parser.value ≡ self.value) }
+    where
+        T: Debug,
+        ensures rest { IfOk result (λ parser. parser ≡ record self { shown = parser.shown }) }
         ensures shown { IfOk result (λ parser.
             ShowsDefault (T.debug_output self.value) parser.shown) }
     {
         self.shown = Some(debugged(alloc, &self.value)?);
         Ok(self)
     }
-}
 
-impl<T: Drop, P: Drop> ParseFallback<P, T> {
     /// The value is shown in the help page, as a closure writes it (bpaf's `format_fallback`, whose
     /// closure writes to a formatter). Refused only for want of memory, which the closure may want
     /// too, and then the parser is gone.
@@ -92,8 +90,7 @@ impl<T: Drop, P: Drop> ParseFallback<P, T> {
         format: F,
     ) -> Result<ParseFallback<P, T>, AllocError>
         requires callable { F.IsAlwaysCallable format }
-        ensures inner { IfOk result (λ parser. parser.inner ≡ self.inner) }
-        ensures value { IfOk result (λ parser. parser.value ≡ self.value) }
+        ensures rest { IfOk result (λ parser. parser ≡ record self { shown = parser.shown }) }
         ensures shown { IfOk result (λ parser.
             ShowsFormatted (FnReturnsAt F.Fn format) self.value parser.shown) }
     {
@@ -156,12 +153,7 @@ pub struct ParseFallbackWith<T, P, F, E> {
     pub err: PhantomData<E>,
 }
 
-impl<T: Display + Drop, P: Drop, F: Fn() -> Result<T, E> + Drop, E: Drop> ParseFallbackWith<
-    T,
-    P,
-    F,
-    E,
-> {
+impl<T: Drop, P: Drop, F: Fn() -> Result<T, E> + Drop, E: Drop> ParseFallbackWith<T, P, F, E> {
     /// The closure's value is shown in the help page, as Display prints it; the closure is called
     /// once, and where it has none what was shown stays (bpaf's `display_fallback`). Refused only
     /// for want of memory, and then the parser is gone.
@@ -169,31 +161,20 @@ impl<T: Display + Drop, P: Drop, F: Fn() -> Result<T, E> + Drop, E: Drop> ParseF
         mut self,
         alloc: Global,
     ) -> Result<ParseFallbackWith<T, P, F, E>, AllocError>
+    where
+        T: Display,
         requires callable { F.IsAlwaysCallable self.fallback }
-        ensures inner { IfOk result (λ parser. parser.inner ≡ self.inner) }
-        ensures fallback { IfOk result (λ parser. parser.fallback ≡ self.fallback) }
+        ensures rest { IfOk result (λ parser. parser ≡ record self { shown = parser.shown }) }
         ensures shown { IfOk result (λ parser. ShowsAnswer (λ r. F.post self.fallback r)
             (λ v. ShowsDefault (T.output v)) self.shown parser.shown) }
     {
-        match (self.fallback)() {
-            Ok(value) => {
-                self.shown = Some(displayed(alloc, &value)?);
-                Ok(self)
-            }
-            Err(fault) => {
-                drop(fault);
-                Ok(self)
-            }
-        }
+        let Some(value) = (self.fallback)().ok() else {
+            return Ok(self);
+        };
+        self.shown = Some(displayed(alloc, &value)?);
+        Ok(self)
     }
-}
 
-impl<T: Debug + Drop, P: Drop, F: Fn() -> Result<T, E> + Drop, E: Drop> ParseFallbackWith<
-    T,
-    P,
-    F,
-    E,
-> {
     /// The closure's value is shown in the help page, as Debug prints it; the closure is called
     /// once, and where it has none what was shown stays (bpaf's `debug_fallback`). Refused only for
     /// want of memory, and then the parser is gone.
@@ -201,26 +182,20 @@ impl<T: Debug + Drop, P: Drop, F: Fn() -> Result<T, E> + Drop, E: Drop> ParseFal
         mut self,
         alloc: Global,
     ) -> Result<ParseFallbackWith<T, P, F, E>, AllocError>
+    where
+        T: Debug,
         requires callable { F.IsAlwaysCallable self.fallback }
-        ensures inner { IfOk result (λ parser. parser.inner ≡ self.inner) }
-        ensures fallback { IfOk result (λ parser. parser.fallback ≡ self.fallback) }
+        ensures rest { IfOk result (λ parser. parser ≡ record self { shown = parser.shown }) }
         ensures shown { IfOk result (λ parser. ShowsAnswer (λ r. F.post self.fallback r)
             (λ v. ShowsDefault (T.debug_output v)) self.shown parser.shown) }
     {
-        match (self.fallback)() {
-            Ok(value) => {
-                self.shown = Some(debugged(alloc, &value)?);
-                Ok(self)
-            }
-            Err(fault) => {
-                drop(fault);
-                Ok(self)
-            }
-        }
+        let Some(value) = (self.fallback)().ok() else {
+            return Ok(self);
+        };
+        self.shown = Some(debugged(alloc, &value)?);
+        Ok(self)
     }
-}
 
-impl<T: Drop, P: Drop, F: Fn() -> Result<T, E> + Drop, E: Drop> ParseFallbackWith<T, P, F, E> {
     /// The closure's value is shown in the help page, as another closure writes it; the first one
     /// is called once, and where it has none what was shown stays (bpaf's `format_fallback`).
     /// Refused only for want of memory, and then the parser is gone.
@@ -231,21 +206,15 @@ impl<T: Drop, P: Drop, F: Fn() -> Result<T, E> + Drop, E: Drop> ParseFallbackWit
     ) -> Result<ParseFallbackWith<T, P, F, E>, AllocError>
         requires callable { F.IsAlwaysCallable self.fallback }
         requires writes { G.IsAlwaysCallable format }
-        ensures inner { IfOk result (λ parser. parser.inner ≡ self.inner) }
-        ensures fallback { IfOk result (λ parser. parser.fallback ≡ self.fallback) }
+        ensures rest { IfOk result (λ parser. parser ≡ record self { shown = parser.shown }) }
         ensures shown { IfOk result (λ parser. ShowsAnswer (λ r. F.post self.fallback r)
             (ShowsFormatted (FnReturnsAt G.Fn format)) self.shown parser.shown) }
     {
-        match (self.fallback)() {
-            Ok(value) => {
-                self.shown = Some(formatted(alloc, &format, &value)?);
-                Ok(self)
-            }
-            Err(fault) => {
-                drop(fault);
-                Ok(self)
-            }
-        }
+        let Some(value) = (self.fallback)().ok() else {
+            return Ok(self);
+        };
+        self.shown = Some(formatted(alloc, &format, &value)?);
+        Ok(self)
     }
 }
 

@@ -29,7 +29,7 @@ impl<T: Clone> Parser<T> for ParseFlag<T> {
 
     ghost outcome = { λ p. FlagOutcome T.is_clone p.named p.present p.absent };
 
-    #[tactic(auto, using(crate::proofs::LeafSparing::flag_clones_nothing))]
+    #[tactic(auto, using(crate::proofs::Sparing::flag_clones_nothing))]
     fn eval(&self, state: &mut State) -> Result<T, Error>
         ensures outcome { FlagOutcome T.is_clone self.now.named self.now.present self.now.absent
             state.old result state.new }

@@ -219,12 +219,11 @@ module _ {T : Type 0} (inner without : Outcome T) (spares : Spares inner without
       (tries_spared spared tries) spared
 
   -- so an adjacent group catches none
-  pub spared_group : (first : Part) (r : Result T Error) (t : Situation)
-      → Searches T inner s first r t → IsNotMemory r → Searches T without s first r t
-  spared_group first r t (gave from a failures v left before start probe tries) spared =
+  pub spared_group : {first : Part} {r : Result T Error} {t : Situation}
+      → Searches T inner s first r t → Searches T without s first r t
+  spared_group (gave from a failures v left before start probe tries) =
       gave from a failures v left (vain_spared before) start (probe_spared probe)
       (tries_spared tt tries)
-  spared_group first r t (none_gave from failures e left before none ends) spared =
+  spared_group (none_gave from failures e left before none ends) =
       none_gave from failures e left (vain_spared before) none ends
-  spared_group first r t (wanted e memory) spared =
-      absurd (both_ways (is_memory e.0) spared memory)
+  spared_group (wanted e memory) = wanted e memory

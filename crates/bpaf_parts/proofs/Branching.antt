@@ -37,7 +37,7 @@ module _ {s : Situation} {start : Start} (begins : IsStart start s)
   answered_choice first second {a} {t} r u ran keeps chosen =
       choice_within (HasAnswered s a t) second first second
       (λ w v b was spared. rw (was.0, was.1, was.2) ran) (λ w v b ran spared. ran) s u r
-      (subst (λ w. ChoiceOutcome (HasAnswered w a t) second w r u) (start_back keeps) chosen)
+      (rw (start_back keeps) at chosen)
 
   module _ {branch : Branch} {sa t : Situation} (led : LedTo branch s sa)
       (keeps : KeepsMarks s t) where

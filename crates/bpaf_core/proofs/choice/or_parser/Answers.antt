@@ -1,7 +1,7 @@
-use Rattle.std.proofs.Common.{refl, sym, ◌∙◌, subst}
+use Rattle.std.proofs.Common.{refl, sym, ◌∙◌}
 use Rattle.bpaf_line.proofs.Marks.{undone_twice}
 use Rattle.bpaf_laws.proofs.{ChoiceLaws.ran_outcome, Keeping.keeps_of}
-use Rattle.bpaf_parts.specs.Branches.{HasAnswered, LedTo, start_of}
+use Rattle.bpaf_parts.specs.Branches.{HasAnswered, start_of}
 use Rattle.bpaf_parts.proofs.Branching.{chosen_kept, start_behind}
 use Rattle.bpaf_core.proofs.choice.or_parser.Goals as goal
 
@@ -13,8 +13,8 @@ returns g c =
     let outcome = g.P.Parser.outcome c.args.parser.now in
     let r = c.eval-second.result in
     let u = c.eval-second.new.state in
-    let ran = subst (λ w. outcome w r u) c.leave.ensures.back c.eval-second.ensures in
-    let led = subst (λ w. LedTo c.in-Ok.this w t) c.leave.ensures.back c.in-Ok.ensures.left in
+    let ran = rw c.leave.ensures.back at c.eval-second.ensures in
+    let led = rw c.leave.ensures.back at c.in-Ok.ensures.left in
     ran_outcome (HasAnswered s first t) outcome s first t r u c.this_or_that.result
     c.this_or_that.new.state (refl, refl, refl) ran (sym c.is_want.ensures ∙ c.if-is_want.false)
     (sym c.is_want-2.ensures ∙ c.if-is_want-2.false)

@@ -1,5 +1,4 @@
 use Rattle.bpaf_doc.specs.Shape.{part_of}
-use Rattle.bpaf_laws.specs.Product.{ProductOutcome}
 use Rattle.bpaf_laws.proofs.AdjacentLaws.{group_takes_stretch, spared_group}
 use Rattle.bpaf_laws.proofs.ProductLaws.{product_lawful, product_spares}
 use Rattle.bpaf.proofs.adjacent.ParseAdjacentParseConParser.eval.Goals as goal
@@ -12,13 +11,9 @@ returns-clause-takes_one_stretch g c =
     c.search.new.state c.search.ensures
 
 pub returns-clause-memory_is_never_caught : goal.returns-clause-memory_is_never_caught
-returns-clause-memory_is_never_caught g c =
+returns-clause-memory_is_never_caught g c spared =
     let fields = c.args.self.now.inner.fields in
-    let makes : g.row.V.Denot → g.row.T.Denot → Type 0 =
-    λ x y. g.F.Fn.post c.args.self.now.inner.make (x, tt) y in
-    let answers = g.P.Fields.fast_outcome fields in
-    let without = g.P.Fields.fast_spared_outcome fields in
-    spared_group (ProductOutcome answers makes) (ProductOutcome without makes)
-    (product_spares answers without makes (g.met.P.Fields.fast_memory_is_never_caught fields))
-    c.args.state.now (part_of c.args.self.now.first) c.search.result c.search.new.state
-    c.search.ensures
+    spared_group _ _ (product_spares (g.P.Fields.fast_outcome fields)
+    (g.P.Fields.fast_spared_outcome fields)
+    (λ x y. g.F.Fn.post c.args.self.now.inner.make (x, tt) y)
+    (g.met.P.Fields.fast_memory_is_never_caught fields)) c.args.state.now c.search.ensures

@@ -1,5 +1,4 @@
-use Rattle.std.proofs.Common.{◌∙◌, ap, subst, Ok}
-use Rattle.bpaf_line.specs.Situation.{with_scope, HasNoneOpen, IsNextOpen}
+use Rattle.std.proofs.Common.{◌∙◌, refl}
 use Rattle.bpaf_laws.proofs.Keeping.{keeps_of}
 use Rattle.bpaf.proofs.adjacent.attempts.attempt.Goals as goal
 
@@ -13,17 +12,15 @@ undo-requires g c =
 
 pub returns-in-None : goal.returns-in-None
 returns-in-None g c =
-    let s = c.args.state.now in
-    let t = c.eval.new.state in
-    let scope = c.scope-scope.result in (
+    let t = c.eval.new.state in (
       t,
-      subst (λ m. g.P.Parser.outcome c.args.parser.now m (Ok c.in_ok-value.value) t)
-          c.set_scope.ensures.scope c.in_ok-value.ensures,
-      subst (λ m. HasNoneOpen m c.args.place) c.set_scope-2.ensures.scope c.in-None.ensures,
-      c.set_scope-in-None.ensures.scope
-          ∙ (ap (λ m. with_scope m scope.start scope.end) c.set_scope-2.ensures.scope
-          ∙ (ap (λ n. with_scope t n scope.end) c.scope-scope.ensures.start
-          ∙ ap (λ n. with_scope t s.start n) c.scope-scope.ensures.stop)),
+      rw c.set_scope.ensures.scope at c.in_ok-value.ensures,
+      rw c.set_scope-2.ensures.scope at c.in-None.ensures,
+      c.set_scope-in-None.ensures.scope ∙ rw (
+        c.set_scope-2.ensures.scope,
+        c.scope-scope.ensures.start,
+        c.scope-scope.ensures.stop,
+      ) refl,
     )
 
 pub returns-in-Some : goal.returns-in-Some
@@ -36,10 +33,8 @@ returns-in-Some g c =
     let fits = moved.fit mark c.mark-mark.ensures.fits in (
       c.in_ok-value.value,
       t,
-      subst (λ m. g.P.Parser.outcome c.args.parser.now m (Ok c.in_ok-value.value) t)
-          c.set_scope.ensures.scope c.in_ok-value.ensures,
-      subst (λ m. IsNextOpen m c.args.place c.in-Some.left) c.set_scope-2.ensures.scope
-          c.in-Some.ensures,
+      rw c.set_scope.ensures.scope at c.in_ok-value.ensures,
+      rw c.set_scope-2.ensures.scope at c.in-Some.ensures,
       c.undo.ensures.undone
           ∙ (c.set_scope-2.ensures.marks.same mark (kept.marks.fit mark fits)
           ∙ (kept.marks.same mark fits

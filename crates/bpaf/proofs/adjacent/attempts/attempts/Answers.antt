@@ -9,24 +9,18 @@ loop-value-init g c =
     record { same = refl; narrowed = whole _ told.stretch; inside = told.inside c.requires.inside }
 
 pub returns-in-Err : goal.returns-in-Err
-returns-in-Err g c =
-    error_answers g.row.T.Denot (g.P.Parser.outcome c.args.parser.now) c.args.state.now
-    c.loop-value.state c.attempt.new.state c.args.place c.loop-value.end c.loop-value.invariant.same
-    c.loop-value.invariant.narrowed c.attempt.result c.in-Err.error c.in-Err.is c.attempt.ensures
+returns-in-Err g c = error_answers c.loop-value.invariant.same c.loop-value.invariant.narrowed
+    c.in-Err.is c.attempt.ensures
 
 pub returns-in-Ok-Whole : goal.returns-in-Ok-Whole
-returns-in-Ok-Whole g c =
-    whole_answers g.row.T.Denot (g.P.Parser.outcome c.args.parser.now) c.args.state.now
-    c.loop-value.state c.attempt.new.state c.args.place c.loop-value.end
-    c.loop-value.invariant.same c.loop-value.invariant.narrowed c.attempt.result
-    c.in-Ok-Whole.value (c.in-Ok-Whole.is ∙ ap Ok c.in-Ok-Whole.field-0-is) c.attempt.ensures
+returns-in-Ok-Whole g c = whole_answers c.loop-value.invariant.same
+    c.loop-value.invariant.narrowed (c.in-Ok-Whole.is ∙ ap Ok c.in-Ok-Whole.field-0-is)
+    c.attempt.ensures
 
 pub loop-value-preserved : goal.loop-value-preserved
 loop-value-preserved g c =
-    let left = left_narrows g.row.T.Denot (g.P.Parser.outcome c.args.parser.now) c.args.state.now
-    c.loop-value.state c.attempt.new.state c.args.place c.loop-value.end
-    c.loop-value.invariant.same c.loop-value.invariant.narrowed c.attempt.result
-    c.in-Ok-Left.left (c.in-Ok-Left.is ∙ ap Ok c.in-Ok-Left.field-0-is) c.attempt.ensures in
+    let left = left_narrows c.loop-value.invariant.same c.loop-value.invariant.narrowed
+    (c.in-Ok-Left.is ∙ ap Ok c.in-Ok-Left.field-0-is) c.attempt.ensures in
     let before : c.loop-value.end ≤ length c.args.state.now.context.line =
     c.loop-value.invariant.inside in
     record { same = left.0; narrowed = left.1; inside = omega arith }

@@ -3,7 +3,5 @@ use Rattle.bpaf.proofs.adjacent.attempts.stretch_end.Goals as goal
 
 pub returns-then-len-scope-clause-stretch : goal.returns-then-len-scope-clause-stretch
 returns-then-len-scope-clause-stretch c =
-    told_end c.args.state.now c.scope-scope.result.start c.scope-scope.result.end c.args.place
-    c.in-Some.first c.len.result c.scope-scope.ensures.start c.scope-scope.ensures.stop
-    c.scope-scope.ensures.inside c.in-Some.ensures c.if-first-place.true c.len.ensures
-    c.if-len-scope.true
+    told_end c.scope-scope.ensures.start c.scope-scope.ensures.stop c.scope-scope.ensures.inside
+    c.in-Some.ensures c.if-first-place.true c.len.ensures c.if-len-scope.true

@@ -2,6 +2,4 @@ use Rattle.bpaf_core.proofs.Running.{default_shown}
 use Rattle.bpaf_core.proofs.fallback.ParseFallbackWithParser.meta.Goals as goal
 
 pub returns : goal.returns
-returns g c =
-    default_shown (g.P.Parser.describes c.args.self.now.inner) _ _ c.default_meta.result
-    c.in_ok-meta.ensures c.default_meta.ensures
+returns g c = default_shown _ c.args.self.now.shown _ c.in_ok-meta.ensures c.default_meta.ensures

@@ -1,35 +1,27 @@
-use Rattle.bpaf_words.specs.Arguments.{given_of}
 use Rattle.bpaf_core.proofs.Running.{started, line_refused, if_dealt, words_are_named}
-use Rattle.bpaf_core.proofs.RunSparing.{words_spared}
+use Rattle.bpaf_core.proofs.Sparing.{words_spared}
 use Rattle.bpaf_core.proofs.options.OptionParser.run_inner.Goals as goal
 
 pub returns-in-Ok-clause-outcome : goal.returns-in-Ok-clause-outcome
-returns-in-Ok-clause-outcome g c =
-    started (given_of c.args.args) _ _ _ c.in-Ok.ensures c.run_from.ensures
+returns-in-Ok-clause-outcome g c = started c.in-Ok.ensures c.run_from.ensures
 
 pub returns-in-Err-clause-outcome : goal.returns-in-Err-clause-outcome
-returns-in-Err-clause-outcome g c =
-    line_refused (given_of c.args.args) _ _ c.in-Err.ensures c.tell_fault.ensures
+returns-in-Err-clause-outcome g c = line_refused _ c.in-Err.ensures c.tell_fault.ensures
 
 pub returns-in-Ok-clause-dealt : goal.returns-in-Ok-clause-dealt
 returns-in-Ok-clause-dealt g c =
-    if_dealt (given_of c.args.args) (g.met.P.Parser.lawful c.args.self.now.inner) _
-    (returns-in-Ok-clause-outcome g c)
+    if_dealt (g.met.P.Parser.lawful c.args.self.now.inner) (returns-in-Ok-clause-outcome g c)
 
 pub returns-in-Ok-clause-named : goal.returns-in-Ok-clause-named
 returns-in-Ok-clause-named g c =
-    words_are_named _ _ _ (g.met.P.Parser.lawful c.args.self.now.inner) _ (given_of c.args.args) _
-    (returns-in-Ok-clause-outcome g c)
+    words_are_named _ _ _ (g.met.P.Parser.lawful c.args.self.now.inner) (returns-in-Ok-clause-outcome g c)
 
 pub returns-in-Err-clause-named : goal.returns-in-Err-clause-named
 returns-in-Err-clause-named g c =
-    words_are_named _ _ _ (g.met.P.Parser.lawful c.args.self.now.inner) _ (given_of c.args.args) _
-    (returns-in-Err-clause-outcome g c)
+    words_are_named _ _ _ (g.met.P.Parser.lawful c.args.self.now.inner) (returns-in-Err-clause-outcome g c)
 
 pub returns-in-Ok-clause-memory_is_never_caught : goal.returns-in-Ok-clause-memory_is_never_caught
-returns-in-Ok-clause-memory_is_never_caught g c =
-    words_spared _ _ _ _ (given_of c.args.args) _ (returns-in-Ok-clause-outcome g c)
+returns-in-Ok-clause-memory_is_never_caught g c = words_spared (returns-in-Ok-clause-outcome g c)
 
 pub returns-in-Err-clause-memory_is_never_caught : goal.returns-in-Err-clause-memory_is_never_caught
-returns-in-Err-clause-memory_is_never_caught g c =
-    words_spared _ _ _ _ (given_of c.args.args) _ (returns-in-Err-clause-outcome g c)
+returns-in-Err-clause-memory_is_never_caught g c = words_spared (returns-in-Err-clause-outcome g c)

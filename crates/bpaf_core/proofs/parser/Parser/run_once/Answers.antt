@@ -1,11 +1,8 @@
-use Rattle.bpaf_words.specs.Arguments.{given_of}
 use Rattle.bpaf_core.proofs.Running.{want_named, want_runs}
 use Rattle.bpaf_core.proofs.parser.Parser.run_once.Goals as goal
 
 pub returns-in_err-to_options-clause-outcome : goal.returns-in_err-to_options-clause-outcome
-returns-in_err-to_options-clause-outcome g c =
-    want_runs (given_of c.args.args) c.from_residual.result c.from_residual.ensures.1
+returns-in_err-to_options-clause-outcome g c = want_runs c.from_residual.ensures.1
 
 pub returns-in_err-to_options-clause-named : goal.returns-in_err-to_options-clause-named
-returns-in_err-to_options-clause-named g c =
-    want_named _ _ _ _ (given_of c.args.args) c.from_residual.result c.from_residual.ensures.1
+returns-in_err-to_options-clause-named g c = want_named _ _ _ _ _ _ c.from_residual.ensures.1

@@ -1,23 +1,14 @@
-use Rattle.std.proofs.Common.{sym, subst, ◌∙◌}
-use Rattle.bpaf_core.specs.Ending.{Shows, shown, told, wanting}
+use Rattle.std.proofs.Common.{sym, ◌∙◌}
+use Rattle.bpaf_core.specs.Ending.{shown, told, wanting}
 use Rattle.bpaf_core.proofs.run.Run.tell.Goals as goal
 
 pub returns-in-Ok-Help : goal.returns-in-Ok-Help
-returns-in-Ok-Help g c =
-    let p = c.args.self.now in
-    shown c.in-Ok-Help.field-0 _ _ c.in-Ok-Help.ensures
-    (subst (λ asked. Shows (g.P.Parser.describes p.inner.now) p.info.now asked c.look.new.state
-    c.help.result)
-    (sym c.in-Ok-Help.field-0-is) c.help.ensures)
+returns-in-Ok-Help g c = shown c.in-Ok-Help.field-0 _ _ c.in-Ok-Help.ensures
+    (rw c.in-Ok-Help.field-0-is c.help.ensures)
 
 pub returns-in-Ok-Version : goal.returns-in-Ok-Version
-returns-in-Ok-Version g c =
-    let p = c.args.self.now in
-    shown c.in-Ok-Version.field-0 _ _ c.in-Ok-Version.ensures
-    (subst
-    (λ asked. Shows (g.P.Parser.describes p.inner.now) p.info.now asked c.look.new.state
-    c.version_page.result)
-    (sym c.in-Ok-Version.field-0-is) c.version_page.ensures)
+returns-in-Ok-Version g c = shown c.in-Ok-Version.field-0 _ _ c.in-Ok-Version.ensures
+    (rw c.in-Ok-Version.field-0-is c.version_page.ensures)
 
 pub returns-then-is_memory : goal.returns-then-is_memory
 returns-then-is_memory g c =

@@ -6,27 +6,18 @@ pub returns-in_err-help : goal.returns-in_err-help
 returns-in_err-help c = help_unknown _ _ _ c.from_residual.ensures
 
 pub returns-then-is_present : goal.returns-then-is_present
-returns-then-is_present c =
-    help_asked c.args.self.now c.args.state.now c.in_ok-help.help c.is_present.result
-    c.is_present.new.state c.is_present.ensures c.in_ok-help.ensures
-    c.if-is_present.true _ _ c.is_present-then-is_present.ensures
+returns-then-is_present c = help_asked _ _ _ _ c.is_present.ensures c.in_ok-help.ensures
+    c.if-is_present.true _ c.is_present-then-is_present.ensures
 
 pub returns-in_err-version : goal.returns-in_err-version
 returns-in_err-version c =
-    version_refused c.args.self.now c.args.state.now c.in_ok-help.help c.is_present.result
-    c.is_present.new.state c.is_present.ensures c.in_ok-help.ensures c.if-is_present.false
-    c.version.new.state _ c.in_err-version.ensures _ c.from_residual-in_err-version.ensures
+    version_refused _ _ _ _ c.is_present.ensures c.in_ok-help.ensures c.if-is_present.false _
+    c.in_err-version.ensures _ c.from_residual-in_err-version.ensures
 
 pub returns-in-Some : goal.returns-in-Some
-returns-in-Some c =
-    then_version c.args.self.now c.args.state.now c.in_ok-help.help c.is_present.result
-    c.is_present.new.state c.is_present.ensures c.in_ok-help.ensures
-    c.if-is_present.false c.version.new.state c.in_ok-version.field-0
-    c.in_ok-version.ensures c.in-Some.version c.in-Some.is
+returns-in-Some c = then_version _ _ _ _ c.is_present.ensures c.in_ok-help.ensures c.if-is_present.false _ _
+    c.in_ok-version.ensures c.in-Some.is
 
 pub returns : goal.returns
-returns c =
-    then_neither c.args.self.now c.args.state.now c.in_ok-help.help c.is_present.result
-    c.is_present.new.state c.is_present.ensures c.in_ok-help.ensures c.if-is_present.false
-    c.version.new.state c.in_ok-version.field-0 c.in_ok-version.ensures c.in-None.is _
-    c.not_asked.ensures
+returns c = then_neither _ _ _ _ c.is_present.ensures c.in_ok-help.ensures c.if-is_present.false _ _
+    c.in_ok-version.ensures c.in-None.is c.not_asked.ensures

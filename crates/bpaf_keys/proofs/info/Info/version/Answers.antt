@@ -3,20 +3,14 @@ use Rattle.bpaf_keys.proofs.Looking.{version_asked, version_unasked, version_wan
 use Rattle.bpaf_keys.proofs.info.Info.version.Goals as goal
 
 pub returns-in_err-copy : goal.returns-in_err-copy
-returns-in_err-copy c =
-    version_wanting c.args.self.now c.args.state.now c.in_ok-key.key c.is_present.result
-    c.is_present.new.state c.is_present.ensures c.in_ok-key.ensures c.in-Some.version
+returns-in_err-copy c = version_wanting c.args.self.now _ _ _ c.is_present.ensures c.in_ok-key.ensures
     (sym (ap (λ i. i.version) c.self.view_is) ∙ c.in-Some.is) _ c.from_residual-in_err-copy.ensures
 
 pub returns-then-is_present : goal.returns-then-is_present
-returns-then-is_present c =
-    version_asked c.args.self.now c.args.state.now c.in_ok-key.key c.is_present.result
-    c.is_present.new.state c.is_present.ensures c.in_ok-key.ensures c.in-Some.version
+returns-then-is_present c = version_asked c.args.self.now _ _ _ c.is_present.ensures c.in_ok-key.ensures
     (sym (ap (λ i. i.version) c.self.view_is) ∙ c.in-Some.is) c.if-is_present.true
-    c.in_ok-copy.field-0 c.in_ok-copy.ensures
+    c.in_ok-copy.ensures
 
 pub returns : goal.returns
-returns c =
-    version_unasked c.args.self.now c.args.state.now c.in_ok-key.key c.is_present.result
-    c.is_present.new.state c.is_present.ensures c.in_ok-key.ensures c.in-Some.version
+returns c = version_unasked c.args.self.now _ _ _ c.is_present.ensures c.in_ok-key.ensures
     (sym (ap (λ i. i.version) c.self.view_is) ∙ c.in-Some.is) c.if-is_present.false

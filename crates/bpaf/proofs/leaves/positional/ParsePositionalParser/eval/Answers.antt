@@ -16,20 +16,17 @@ take-requires-2 g c = match_is_open is_positional c.args.state.now c.in_ok-place
 pub returns-then-not-accepts-clause-outcome : goal.returns-then-not-accepts-clause-outcome
 returns-then-not-accepts-clause-outcome g c =
     let word = c.in_ok-place.ensures in
-    word_misplaced _ _ _ _ _ _ _ _
-    (record { first = word.0; is = word.1; taken = c.take.ensures.taken }) _
+    word_misplaced _ _ _ (record { first = word.0; is = word.1; taken = c.take.ensures.taken }) _
     (sym c.accepts.ensures ∙ c.if-not-accepts.true) c.in_ok-misplaced.ensures
 
 pub returns-clause-outcome : goal.returns-clause-outcome
 returns-clause-outcome g c =
     let word = c.in_ok-place.ensures in
-    word_read _ _ _ _ _ _ _ _
-    (record { first = word.0; is = word.1; taken = c.take-2.ensures.taken }) _
+    word_read _ _ _ (record { first = word.0; is = word.1; taken = c.take-2.ensures.taken }) _
     (sym c.accepts.ensures ∙ c.if-not-accepts.false)
     (reading_told g.T.FromText.means c.in_ok-place.text.now _ _ _
     (rw c.as_str.ensures at c.from_text-read.ensures) c.value_or_refusal.ensures)
 
 pub returns-clause-memory_is_never_caught : goal.returns-clause-memory_is_never_caught
 returns-clause-memory_is_never_caught g c =
-    word_faults_alone g.T.FromText.means c.args.self.now.position c.args.self.now.metavar.0.now
-    c.args.state.now c.take-2.new.self c.value_or_refusal.result (returns-clause-outcome g c)
+    word_faults_alone _ _ _ _ _ c.value_or_refusal.result (returns-clause-outcome g c)
