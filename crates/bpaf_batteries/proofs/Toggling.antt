@@ -35,306 +35,293 @@ before_is_leftmost s p q before there = record {
   first = λ r low. grind (arith, taken_other s p r, taken_other s q r);
 }
 
--- a step of the choice: the leftmost key is taken, and its value is the answer
-record TookKey {T : Type 0} (clones : T → T → Type 0) (one other : ParseFlag T) (s : Situation)
-    (v : T) (t : Situation) : Type 0 where
-  place : ℕ
-  none_before : (r : ℕ) → r < place → is_match (is_either one other) s r ≡ false
-  gives : GivesValue clones one other s place v
-  taken : IsPlace place (newly s t)
+module _ {T : Type 0} (clones : T → T → Type 0) (one other : ParseFlag T) where
+  -- a step of the choice: the leftmost key is taken, and its value is the answer
+  record TookKey (s : Situation) (v : T) (t : Situation) : Type 0 where
+    place : ℕ
+    none_before : (r : ℕ) → r < place → is_match (is_either one other) s r ≡ false
+    gives : GivesValue clones one other s place v
+    taken : IsPlace place (newly s t)
 
-module _ {T : Type 0} (clones : T → T → Type 0) (one other : ParseFlag T) (s : Situation) where
   -- the place of a key with a value has a key of either
-  gives_key : (p : ℕ) (v : T) → GivesValue clones one other s p v
+  gives_key : (s : Situation) (p : ℕ) (v : T) → GivesValue clones one other s p v
       → is_match (is_either one other) s p ≡ true
-  gives_key p v gives = grind arith
+  gives_key s p v gives = grind arith
 
   -- where neither flag has a key there is none of either
-  neither : (p : ℕ) → is_match (is_key one) s p ≡ false → is_match (is_key other) s p ≡ false
-      → is_match (is_either one other) s p ≡ false
-  neither p mine theirs = grind arith
+  neither : (s : Situation) (p : ℕ) → is_match (is_key one) s p ≡ false
+      → is_match (is_key other) s p ≡ false → is_match (is_either one other) s p ≡ false
+  neither s p mine theirs = grind arith
 
-  -- where a first key is taken, and none of the other flag stands before it, it is the leftmost
-  took : (p : ℕ) (v : T) (t : Situation) → is_open s p ≡ true
-      → ((r : ℕ) → r < p → is_match (is_key one) s r ≡ false)
-      → ((r : ℕ) → r < p → is_match (is_key other) s r ≡ false) → GivesValue clones one other s p v
-      → TakeTheSame t (take_place s p) → TookKey clones one other s v t
-  took p v t there mine theirs gives same = record {
-    place = p;
-    none_before = λ r before. neither r (mine r before) (theirs r before);
-    gives = gives;
-    taken = λ q. ap (λ taken. taken && not (is_taken s q)) (same q) ∙ newly_take s p there q;
-  }
+  module _ {s t : Situation} {p : ℕ} {v : T} where
+    -- where a first key is taken, and none of the other flag stands before it, it is the leftmost
+    took : is_open s p ≡ true → ((r : ℕ) → r < p → is_match (is_key one) s r ≡ false)
+        → ((r : ℕ) → r < p → is_match (is_key other) s r ≡ false)
+        → GivesValue clones one other s p v → TakeTheSame t (take_place s p) → TookKey s v t
+    took there mine theirs gives same = record {
+      place = p;
+      none_before = λ r before. neither s r (mine r before) (theirs r before);
+      gives = gives;
+      taken = λ q. ap (λ taken. taken && not (is_taken s q)) (same q) ∙ newly_take s p there q;
+    }
 
-  -- so it is with the one flag, where its answer is the chosen one
-  took_one : (p : ℕ) (x v : T) (t : Situation) → IsFirst (is_key one) s p
-      → ((r : ℕ) → r < p → is_match (is_key other) s r ≡ false) → clones one.present x
-      → IsChosen (Ok x) (take_place s p) v t → TookKey clones one other s v t
-  took_one p x v t mine theirs value chosen =
-      let same : x ≡ v = let answer = chosen.answer in cc in
-      took p v t (match_is_open (is_key one) s p mine.matches) mine.first theirs
-      (inl (mine.matches, subst (clones one.present) same value)) chosen.takes
+    -- so it is with the one flag, where its answer is the chosen one
+    took_one : {x : T} → IsFirst (is_key one) s p
+        → ((r : ℕ) → r < p → is_match (is_key other) s r ≡ false) → clones one.present x → IsChosen (Ok x) (take_place s p) v t → TookKey s v t
+    took_one {x} mine theirs value chosen =
+        let same : x ≡ v = let answer = chosen.answer in cc in
+        took (match_is_open (is_key one) s p mine.matches) mine.first theirs
+        (inl (mine.matches, rw same at value)) chosen.takes
 
-  -- and with the other one
-  took_other : (p : ℕ) (x v : T) (t : Situation) → IsFirst (is_key other) s p
-      → ((r : ℕ) → r < p → is_match (is_key one) s r ≡ false) → clones other.present x
-      → IsChosen (Ok x) (take_place s p) v t → TookKey clones one other s v t
-  took_other p x v t theirs mine value chosen =
-      let same : x ≡ v = let answer = chosen.answer in cc in
-      took p v t (match_is_open (is_key other) s p theirs.matches) mine theirs.first
-      (inr (theirs.matches, subst (clones other.present) same value)) chosen.takes
+    -- and with the other one
+    took_other : {x : T} → IsFirst (is_key other) s p
+        → ((r : ℕ) → r < p → is_match (is_key one) s r ≡ false) → clones other.present x → IsChosen (Ok x) (take_place s p) v t → TookKey s v t
+    took_other {x} theirs mine value chosen =
+        let same : x ≡ v = let answer = chosen.answer in cc in
+        took (match_is_open (is_key other) s p theirs.matches) mine theirs.first
+        (inr (theirs.matches, rw same at value)) chosen.takes
 
   -- the answer of a flag leaves the path
-  ran_depth : (flag : ParseFlag T) (r : Result T Error) (t : Situation)
+  ran_depth : (flag : ParseFlag T) (s : Situation) (r : Result T Error) (t : Situation)
       → KeyEval clones flag s r t → depth t ≡ depth s
-  ran_depth flag r t o = grind arith
+  ran_depth flag s r t o = grind arith
 
   -- a value of a flag took an item
-  ran_touched : (flag : ParseFlag T) (v : T) (t : Situation) → KeyOutcome clones flag s (Ok v) t
-      → KeyEval clones flag s (Ok v) t → is_untouched s t ≡ false
-  ran_touched flag v t ran key = false_from_ne_true (is_untouched s t) (λ same.
+  ran_touched : (flag : ParseFlag T) {s : Situation} {v : T} {t : Situation}
+      → KeyOutcome clones flag s (Ok v) t → KeyEval clones flag s (Ok v) t
+      → is_untouched s t ≡ false
+  ran_touched flag {s} {v} {t} ran key = false_from_ne_true (is_untouched s t) (λ same.
       let none = took_nothing (flag_lawful T clones flag.named flag.present flag.absent) s t v ran
       same key.0 in
       let there = match_is_open (is_key flag) s key.0 key.1.matches in
       true≢false (sym (ap (λ w. is_taken w key.0) key.2 ∙ taken_here s key.0)
       ∙ (none ∙ open_not_taken s key.0 there)))
 
-module _ {T : Type 0} (clones : T → T → Type 0) (one other : ParseFlag T)
-    (keys : AreKeysApart one other) (s : Situation) where
-  -- a place of either flag's key isn't one of the other's
-  two_places : (p q : ℕ) → is_match (is_key one) s p ≡ true → is_match (is_key other) s q ≡ true
-      → p ≢ q
-  two_places p q mine theirs same =
-      grind (arith, not_both (is_key one) (is_key other) (open_item s p) keys.apart)
+  module _ (keys : AreKeysApart one other) where
+    -- a place of either flag's key isn't one of the other's
+    two_places : (s : Situation) (p q : ℕ) → is_match (is_key one) s p ≡ true
+        → is_match (is_key other) s q ≡ true → p ≢ q
+    two_places s p q mine theirs same =
+        grind (arith, not_both (is_key one) (is_key other) (open_item s p) keys.apart)
 
-  -- of two values that of the leftmost key is the chosen one
-  both_took : (p q : ℕ) (x y v : T) (t : Situation) → IsFirst (is_key one) s p
-      → IsFirst (is_key other) s q → clones one.present x → clones other.present y
-      → ((r : ℕ) → IsLeftmost (take_place s p) (take_place s q) r
-      → TookAndIsChosen r (Ok x) (take_place s p) v t
-      ⊎ TookAndIsChosen r (Ok y) (take_place s q) v t)
-      → TookKey clones one other s v t
-  both_took p q x y v t mine theirs value_one value_other wins =
-      let apart = two_places p q mine.matches theirs.matches in
-      ⊎_elim
-      (λ (before : p < q).
-      let there = match_is_open (is_key one) s p mine.matches in
-      ⊎_elim
-      (λ won. took_one clones one other s p x v t mine (λ r low. theirs.first r (omega arith))
-      value_one won.chosen)
-      (λ lost. absurd (both_ways _ (taken_other s q p apart ∙ open_not_taken s p there) lost.took))
-      (wins p (before_is_leftmost s p q before there)))
-      (λ (behind : q ≤ p).
-      let there = match_is_open (is_key other) s q theirs.matches in
-      let turned : q ≢ p = (λ same. apart (sym same)) in
-      ⊎_elim
-      (λ lost. absurd (both_ways _ (taken_other s p q turned ∙ open_not_taken s q there) lost.took))
-      (λ won. took_other clones one other s q y v t theirs (λ r low. mine.first r (omega arith))
-      value_other won.chosen)
-      (wins q (leftmost_of_other (take_place s q) (take_place s p) q
-      (before_is_leftmost s q p (omega arith) there))))
-      (cases_lt p q)
+    module _ (s : Situation) where
+      -- of two values that of the leftmost key is the chosen one
+      both_took : {p q : ℕ} {x y v : T} {t : Situation} → IsFirst (is_key one) s p
+          → IsFirst (is_key other) s q → clones one.present x → clones other.present y
+          → ((r : ℕ) → IsLeftmost (take_place s p) (take_place s q) r
+          → TookAndIsChosen r (Ok x) (take_place s p) v t
+          ⊎ TookAndIsChosen r (Ok y) (take_place s q) v t)
+          → TookKey s v t
+      both_took {p} {q} mine theirs value_one value_other wins =
+          let apart = two_places s p q mine.matches theirs.matches in
+          ⊎_elim
+          (λ (before : p < q).
+          let there = match_is_open (is_key one) s p mine.matches in
+          ⊎_elim
+          (λ won. took_one mine (λ r low. theirs.first r (omega arith)) value_one won.chosen)
+          (λ lost. absurd (both_ways _ (taken_other s q p apart ∙ open_not_taken s p there)
+          lost.took))
+          (wins p (before_is_leftmost s p q before there)))
+          (λ (behind : q ≤ p).
+          let there = match_is_open (is_key other) s q theirs.matches in
+          let turned : q ≢ p = (λ same. apart (sym same)) in
+          ⊎_elim
+          (λ lost. absurd (both_ways _ (taken_other s p q turned ∙ open_not_taken s q there)
+          lost.took))
+          (λ won. took_other theirs (λ r low. mine.first r (omega arith)) value_other won.chosen)
+          (wins q (leftmost_of_other (take_place s q) (take_place s p) q
+          (before_is_leftmost s q p (omega arith) there))))
+          (cases_lt p q)
 
-  -- a value at equal depths
-  equal_took : (a : Result T Error) (sa : Situation) (b : Result T Error) (sb : Situation) (v : T)
-      (t : Situation) → KeyEval clones one s a sa → KeyEval clones other s b sb
-      → EqualDepths s a sa b sb (Ok v) t → (IsOk a → IsOk b → (r : ℕ) → IsLeftmost sa sb r
-      → TookAndIsChosen r a sa v t ⊎ TookAndIsChosen r b sb v t)
-      → TookKey clones one other s v t
-  equal_took (Ok x) sa (Ok y) sb v t f g equal wins =
-      let chosen = rw (f.2, g.2) at wins in
-      both_took f.0 g.0 x y v t f.1 g.1 f.3 g.3 (chosen refl refl)
-  equal_took (Ok x) sa (Err e) sb v t f g (inl wrong) wins = absurd (no_value v e wrong.1)
-  equal_took (Ok x) sa (Err e) sb v t f g (inr right) wins =
-      took_one clones one other s f.0 x v t f.1 (λ r before. g.0 r) f.3
-      (subst (λ w. IsChosen (Ok x) w v t) f.2 (stands v t (branch_of x sa) right.1))
-  equal_took (Err e) sa (Ok y) sb v t f g (inl wrong) wins = absurd (no_value v e wrong.1)
-  equal_took (Err e) sa (Ok y) sb v t f g (inr right) wins =
-      took_other clones one other s g.0 y v t g.1 (λ r before. f.0 r) g.3
-      (subst (λ w. IsChosen (Ok y) w v t) g.2 (stands v t (branch_of y sb) right.1))
-  equal_took (Err e) sa (Err d) sb v t f g o wins = absurd (no_value v o.0.0 o.0.2)
+      -- a value at equal depths
+      equal_took : (a : Result T Error) {sa : Situation} (b : Result T Error) {sb : Situation}
+          {v : T} {t : Situation} → KeyEval clones one s a sa → KeyEval clones other s b sb
+          → EqualDepths s a sa b sb (Ok v) t → (IsOk a → IsOk b → (r : ℕ) → IsLeftmost sa sb r
+          → TookAndIsChosen r a sa v t ⊎ TookAndIsChosen r b sb v t)
+          → TookKey s v t
+      equal_took (Ok x) (Ok y) f g equal wins =
+          let chosen = rw (f.2, g.2) at wins in both_took f.1 g.1 f.3 g.3 (chosen refl refl)
+      equal_took (Ok x) (Err e) {v = v} f g (inl wrong) wins = absurd (no_value v e wrong.1)
+      equal_took (Ok x) {sa} (Err e) {v = v} {t} f g (inr right) wins =
+          took_one f.1 (λ r before. g.0 r) f.3
+          (rw f.2 at (stands v t (branch_of x sa) right.1))
+      equal_took (Err e) (Ok y) {v = v} f g (inl wrong) wins = absurd (no_value v e wrong.1)
+      equal_took (Err e) (Ok y) {sb} {v} {t} f g (inr right) wins =
+          took_other g.1 (λ r before. f.0 r) g.3
+          (rw g.2 at (stands v t (branch_of y sb) right.1))
+      equal_took (Err e) (Err d) {v = v} f g o wins = absurd (no_value v o.0.0 o.0.2)
 
-  module _ (r : Result T Error) (t : Situation)
-      (ran : BranchesEval (KeyOutcome clones one) (KeyOutcome clones other) s r t) where
-    -- what the one flag answered
-    one_ran : KeyEval clones one s ran.a ran.sa
-    one_ran = key_ran clones one keys.one_stands s ran.sa ran.a ran.first_ran ran.first_spared
+      module _ {r : Result T Error} {t : Situation}
+          (ran : BranchesEval (KeyOutcome clones one) (KeyOutcome clones other) s r t) where
+        -- what the one flag answered
+        one_ran : KeyEval clones one s ran.a ran.sa
+        one_ran = key_ran clones one keys.one_stands s ran.sa ran.a ran.first_ran ran.first_spared
 
-    -- and the other one
-    other_ran : KeyEval clones other s ran.b ran.sb
-    other_ran =
-        key_ran clones other keys.other_stands s ran.sb ran.b ran.second_ran ran.second_spared
+        -- and the other one
+        other_ran : KeyEval clones other s ran.b ran.sb
+        other_ran =
+            key_ran clones other keys.other_stands s ran.sb ran.b ran.second_ran ran.second_spared
 
-    -- both are equally deep
-    same_depth : depth ran.sa ≡ depth ran.sb
-    same_depth =
-        ran_depth clones one other s one ran.a ran.sa one_ran
-        ∙ sym (ran_depth clones one other s other ran.b ran.sb other_ran)
+        -- both are equally deep
+        same_depth : depth ran.sa ≡ depth ran.sb
+        same_depth = ran_depth one s ran.a ran.sa one_ran ∙ sym (ran_depth other s ran.b ran.sb other_ran)
 
-    -- so the table is that of equal depths
-    equal : EqualDepths s ran.a ran.sa ran.b ran.sb r t
-    equal = chosen_at_equal s ran.a ran.sa ran.b ran.sb r t same_depth ran.chosen
+        -- so the table is that of equal depths
+        equal : EqualDepths s ran.a ran.sa ran.b ran.sb r t
+        equal = chosen_at_equal s ran.a ran.sa ran.b ran.sb r t same_depth ran.chosen
 
-  -- a refusal at equal depths comes where neither has a key
-  equal_none : (a : Result T Error) (sa : Situation) (b : Result T Error) (sb : Situation)
-      (e : Error) (t : Situation) → KeyOutcome clones one s a sa → KeyOutcome clones other s b sb
-      → KeyEval clones one s a sa → KeyEval clones other s b sb → EqualDepths s a sa b sb (Err e) t
-      → HasNone (is_either one other) s
-  equal_none (Ok x) sa (Ok y) sb e t a b f g (inl o) = absurd (no_value x e (sym o.1.0))
-  equal_none (Ok x) sa (Ok y) sb e t a b f g (inr o) =
-      absurd (not_winner (branch_of x sa) (branch_of y sb) o.1.0 e t o.1.2)
-  equal_none (Ok x) sa (Err d) sb e t a b f g (inl o) = absurd (both_ways _
-      (ran_touched clones one other s one x sa a f) (and_parts (is_untouched s sa) _ o.0).0)
-  equal_none (Ok x) sa (Err d) sb e t a b f g (inr o) = absurd (no_value x e (sym o.1.0))
-  equal_none (Err d) sa (Ok y) sb e t a b f g (inl o) = absurd (both_ways _
-      (ran_touched clones one other s other y sb b g) (and_parts (is_untouched s sb) _ o.0).0)
-  equal_none (Err d) sa (Ok y) sb e t a b f g (inr o) = absurd (no_value y e (sym o.1.0))
-  equal_none (Err d) sa (Err c) sb e t a b f g o =
-      λ q. neither clones one other s q (f.0 q) (g.0 q)
+      -- a refusal at equal depths comes where neither has a key
+      equal_none : (a : Result T Error) (sa : Situation) (b : Result T Error) (sb : Situation)
+          (e : Error) (t : Situation) → KeyOutcome clones one s a sa
+          → KeyOutcome clones other s b sb → KeyEval clones one s a sa
+          → KeyEval clones other s b sb → EqualDepths s a sa b sb (Err e) t
+          → HasNone (is_either one other) s
+      equal_none (Ok x) sa (Ok y) sb e t a b f g (inl o) = absurd (no_value x e (sym o.1.0))
+      equal_none (Ok x) sa (Ok y) sb e t a b f g (inr o) =
+          absurd (not_winner (branch_of x sa) (branch_of y sb) o.1.0 e t o.1.2)
+      equal_none (Ok x) sa (Err d) sb e t a b f g (inl o) = absurd (both_ways _ (ran_touched one a f)
+          (and_parts (is_untouched s sa) _ o.0).0)
+      equal_none (Ok x) sa (Err d) sb e t a b f g (inr o) = absurd (no_value x e (sym o.1.0))
+      equal_none (Err d) sa (Ok y) sb e t a b f g (inl o) = absurd (both_ways _ (ran_touched other b g)
+          (and_parts (is_untouched s sb) _ o.0).0)
+      equal_none (Err d) sa (Ok y) sb e t a b f g (inr o) = absurd (no_value y e (sym o.1.0))
+      equal_none (Err d) sa (Err c) sb e t a b f g o = λ q. neither s q (f.0 q) (g.0 q)
 
-  -- a refusal of the choice that isn't want of memory comes where there is no key
-  choice_none : (t : Situation) (e : Error) → EitherOutcome clones one other s (Err e) t
-      → is_memory e.0 ≡ false → HasNone (is_either one other) s
-  choice_none t e (inl ran) spared =
-      equal_none ran.a ran.sa ran.b ran.sb e t ran.first_ran ran.second_ran (one_ran (Err e) t ran)
-      (other_ran (Err e) t ran) (equal (Err e) t ran)
-  choice_none t e (inr want) spared = absurd (both_ways (is_memory e.0) spared want.0)
+    -- a refusal of the choice that isn't want of memory comes where there is no key
+    choice_none : {s t : Situation} {e : Error} → EitherOutcome clones one other s (Err e) t
+        → is_memory e.0 ≡ false → HasNone (is_either one other) s
+    choice_none {s} {t} {e} (inl ran) spared =
+        equal_none s ran.a ran.sa ran.b ran.sb e t ran.first_ran ran.second_ran (one_ran s ran)
+        (other_ran s ran) (equal s ran)
+    choice_none {e = e} (inr want) spared = absurd (both_ways (is_memory e.0) spared want.0)
 
-module _ {T : Type 0} (clones : T → T → Type 0) (one other : ParseFlag T)
-    (keys : AreKeysApart one other) where
-  -- the choice keeps to the laws
-  law : Lawful T (EitherOutcome clones one other)
-      (ChoiceReads (KeyReads clones one) (KeyReads clones other))
-  law = choice_lawful (flag_lawful T clones one.named one.present one.absent)
-      (flag_lawful T clones other.named other.present other.absent)
+    -- the choice keeps to the laws
+    law : Lawful T (EitherOutcome clones one other)
+        (ChoiceReads (KeyReads clones one) (KeyReads clones other))
+    law = choice_lawful (flag_lawful T clones one.named one.present one.absent)
+        (flag_lawful T clones other.named other.present other.absent)
 
-  -- a value of the choice is that of the leftmost key, which is taken
-  choice_took : (s t : Situation) (v : T) → EitherOutcome clones one other s (Ok v) t
-      → TookKey clones one other s v t
-  choice_took s t v o =
-      let wins = leftmost_is_chosen (flag_lawful T clones one.named one.present one.absent)
-      (flag_lawful T clones other.named other.present other.absent) s t (Ok v) o in
-      let ran = wins.ran in
-      equal_took clones one other keys s ran.a ran.sa ran.b ran.sb v t
-      (one_ran clones one other keys s (Ok v) t ran) (other_ran clones one other keys s (Ok v) t ran)
-      (equal clones one other keys s (Ok v) t ran)
-      (λ a b. wins.leftmost a b (same_depth clones one other keys s (Ok v) t ran))
+    -- a value of the choice is that of the leftmost key, which is taken
+    choice_took : {s t : Situation} {v : T} → EitherOutcome clones one other s (Ok v) t
+        → TookKey s v t
+    choice_took {s} {t} {v} o =
+        let wins = leftmost_is_chosen (flag_lawful T clones one.named one.present one.absent)
+        (flag_lawful T clones other.named other.present other.absent) s t (Ok v) o in
+        let ran = wins.ran in
+        equal_took s ran.a ran.b (one_ran s ran) (other_ran s ran) (equal s ran)
+        (λ a b. wins.leftmost a b (same_depth s ran))
 
-  module _ (s t : Situation) (v : T) (ran : EitherOutcome clones one other s (Ok v) t) where
-    -- the place of the key that a value took
-    place : ℕ
-    place = (choice_took s t v ran).place
+    module _ {s t : Situation} {v : T} (ran : EitherOutcome clones one other s (Ok v) t) where
+      -- the place of the key that a value took
+      place : ℕ
+      place = (choice_took ran).place
 
-    -- afterwards the same matches are there, but for that place
-    match_after : (test : Arg → Bool) (q : ℕ)
-        → is_match test t q ≡ (is_match test s q && not (q == place))
+      -- afterwards the same matches are there, but for that place
+      match_after : (test : Arg → Bool) (q : ℕ)
+          → is_match test t q ≡ (is_match test s q && not (q == place))
+      unfolding place
+      match_after test q =
+          let read = law.ok s t v ran in
+          let joins = open_joins s t read.keeps read.closed in
+          ap (λ context. option_map_or test (if is_open t q then item_in context q else None) false)
+          read.keeps.context
+          ∙ passes (is_open t q) (is_open s q) (newly s t q) (q == place) (item_at s q)
+          (joins.all q) (joins.apart q) ((choice_took ran).taken q)
+        where
+          passes : (now before new here : Bool) (at : Option Arg) → before ≡ (now || new)
+              → (now && new) ≡ false → new ≡ here
+              → option_map_or test (if now then at else None) false
+              ≡ (option_map_or test (if before then at else None) false && not here)
+          passes now before new here at a b c = grind arith
+
+      -- a match that is there afterwards was there before, elsewhere
+      match_before : (test : Arg → Bool) (q : ℕ) → is_match test t q ≡ true
+          → (is_match test s q ≡ true) × (q ≢ place)
+      match_before test q there =
+          let parts = and_parts (is_match test s q) (not (q == place))
+          (sym (match_after test q) ∙ there) in
+          let elsewhere = parts.1 in
+          (parts.0, λ same. absurd (grind (arith, nat_tests)))
+
+      -- where there is none elsewhere afterwards there was none
+      none_elsewhere : (test : Arg → Bool) (q : ℕ) → q ≢ place → is_match test t q ≡ false
+          → is_match test s q ≡ false
+      none_elsewhere test q elsewhere none = grind (arith, nat_tests, match_after test q)
+
+      -- a value took an item
+      not_dropped : open_count s ≤ open_count t → ⊥
+      not_dropped same =
+          let took = choice_took ran in
+          let read = law.ok s t v ran in
+          let none = same_took_none s t read.keeps read.closed same took.place in
+          grind (arith, nat_tests, took.taken took.place)
+
+      -- a key behind the one that was taken is the rightmost of all
+      rightmost_behind : (r : ℕ) → IsLast (is_either one other) t r
+          → IsLast (is_either one other) s r
+      unfolding place
+      rightmost_behind r there =
+          let before = match_before (is_either one other) r there.matches in
+          let behind : place ≤ r = grind (arith, (choice_took ran).none_before r) in
+          record {
+            matches = before.0;
+            last = λ q later. none_elsewhere (is_either one other) q
+                (λ same. absurd (omega arith)) (there.last q later);
+          }
+
+      -- its value is as it was
+      gives_before : (w : T) (r : ℕ) → GivesValue clones one other t r w
+          → GivesValue clones one other s r w
+      gives_before w r gives =
+          grind (arith, match_before (is_key one) r, match_before (is_key other) r)
+
+    -- where a step stops there is no key
+    stopped_none : (catches first : Bool) {s t : Situation}
+        → TurnOutcome (EitherOutcome clones one other) catches first s (Ok None) t
+        → HasNone (is_either one other) s
+    stopped_none catches first (inl dropped) = absurd (not_dropped dropped.1 dropped.3)
+    stopped_none catches first {s} (inr ((e, m, ran, stops), same)) =
+        choice_none ran (stop_spared catches e.0 (is_untouched s m) stops)
+
+    -- the last step before there is no key took the rightmost one
+    last_step : (catches first : Bool) (s : Situation) (before : List T) (v : T) (t : Situation)
+        → Turns (EitherOutcome clones one other) catches first s (before ++ v ∷ []) t
+        → HasNone (is_either one other) t → RightmostGives clones one other s (Some v)
     unfolding place
-    match_after test q =
-        let read = law.ok s t v ran in
-        let joins = open_joins s t read.keeps read.closed in
-        ap (λ context. option_map_or test (if is_open t q then item_in context q else None) false)
-        read.keeps.context
-        ∙ passes (is_open t q) (is_open s q) (newly s t q) (q == place) (item_at s q) (joins.all q)
-        (joins.apart q) ((choice_took s t v ran).taken q)
-      where
-        passes : (now before new here : Bool) (at : Option Arg) → before ≡ (now || new)
-            → (now && new) ≡ false → new ≡ here
-            → option_map_or test (if now then at else None) false
-            ≡ (option_map_or test (if before then at else None) false && not here)
-        passes now before new here at a b c = grind arith
+    last_step catches first s [] v t (m, step, same) none =
+        let took = choice_took step.0 in (
+          took.place,
+          record {
+            matches = gives_key s took.place v took.gives;
+            last = λ q later. none_elsewhere step.0 (is_either one other) q
+                (λ same. absurd (omega arith)) (subst (HasNone (is_either one other)) (sym same) none q);
+          },
+          took.gives,
+        )
+    last_step catches first s (b ∷ bs) v t (m, step, later) none =
+        let last : RightmostGives clones one other m (Some v) =
+        last_step catches false m bs v t later none in (
+          last.0,
+          rightmost_behind step.0 last.0 last.1,
+          gives_before step.0 v last.0 last.2,
+        )
 
-    -- a match that is there afterwards was there before, elsewhere
-    match_before : (test : Arg → Bool) (q : ℕ) → is_match test t q ≡ true
-        → (is_match test s q ≡ true) × (q ≢ place)
-    match_before test q there =
-        let parts = and_parts (is_match test s q) (not (q == place))
-        (sym (match_after test q) ∙ there) in
-        let elsewhere = parts.1 in
-        (parts.0, λ same. absurd (grind (arith, nat_tests)))
-
-    -- where there is none elsewhere afterwards there was none
-    none_elsewhere : (test : Arg → Bool) (q : ℕ) → q ≢ place → is_match test t q ≡ false
-        → is_match test s q ≡ false
-    none_elsewhere test q elsewhere none = grind (arith, nat_tests, match_after test q)
-
-    -- a value took an item
-    not_dropped : open_count s ≤ open_count t → ⊥
-    not_dropped same =
-        let took = choice_took s t v ran in
-        let read = law.ok s t v ran in
-        let none = same_took_none s t read.keeps read.closed same took.place in
-        grind (arith, nat_tests, took.taken took.place)
-
-    -- a key behind the one that was taken is the rightmost of all
-    rightmost_behind : (r : ℕ) → IsLast (is_either one other) t r → IsLast (is_either one other) s r
-    unfolding place
-    rightmost_behind r there =
-        let before = match_before (is_either one other) r there.matches in
-        let behind : place ≤ r = grind (arith, (choice_took s t v ran).none_before r) in
-        record {
-          matches = before.0;
-          last = λ q later. none_elsewhere (is_either one other) q (λ same. absurd (omega arith))
-              (there.last q later);
-        }
-
-    -- its value is as it was
-    gives_before : (w : T) (r : ℕ) → GivesValue clones one other t r w
-        → GivesValue clones one other s r w
-    gives_before w r gives =
-        grind (arith, match_before (is_key one) r, match_before (is_key other) r)
-
-  -- where a step stops there is no key
-  stopped_none : (catches first : Bool) (s t : Situation)
-      → TurnOutcome (EitherOutcome clones one other) catches first s (Ok None) t
-      → HasNone (is_either one other) s
-  stopped_none catches first s t (inl dropped) =
-      absurd (not_dropped s t dropped.0 dropped.1 dropped.3)
-  stopped_none catches first s t (inr ((e, m, ran, stops), same)) =
-      choice_none clones one other keys s m e ran
-      (stop_spared catches e.0 (is_untouched s m) stops)
-
-  -- the last step before there is no key took the rightmost one
-  last_step : (catches first : Bool) (s : Situation) (before : List T) (v : T) (t : Situation)
-      → Turns (EitherOutcome clones one other) catches first s (before ++ v ∷ []) t
-      → HasNone (is_either one other) t → RightmostGives clones one other s (Some v)
-  unfolding place
-  last_step catches first s [] v t (m, step, same) none =
-      let took = choice_took s m v step.0 in (
-        took.place,
-        record {
-          matches = gives_key clones one other s took.place v took.gives;
-          last = λ q later. none_elsewhere s m v step.0 (is_either one other) q
-              (λ same. absurd (omega arith))
-              (subst (HasNone (is_either one other)) (sym same) none q);
-        },
-        took.gives,
-      )
-  last_step catches first s (b ∷ bs) v t (m, step, later) none =
-      let last : RightmostGives clones one other m (Some v) =
-      last_step catches false m bs v t later none in (
-        last.0,
-        rightmost_behind s m b step.0 last.0 last.1,
-        gives_before s m b step.0 v last.0 last.2,
-      )
-
-  -- the last of the values that a repeat of the choice answers is that of the rightmost key
-  last_wins : (catches : Bool) (s t : Situation) (values : List T) (v : Option T)
-      → UntilStop (EitherOutcome clones one other) catches true s values t → EndsIn values v
-      → RightmostGives clones one other s v
-  last_wins catches s t values (Some v) run last =
-      last_step catches true s last.0 v run.last
-      (subst (λ vs. Turns (EitherOutcome clones one other) catches true s vs run.last) last.1
-      run.steps) (stopped_none catches (is_nil values) run.last t run.stop)
-  last_wins catches s t values None run last =
-      let same : s ≡ run.last =
-      subst (λ vs. Turns (EitherOutcome clones one other) catches true s vs run.last) last
-      run.steps in
-      subst (HasNone (is_either one other)) (sym same)
-      (stopped_none catches (is_nil values) run.last t run.stop)
+    -- the last of the values that a repeat of the choice answers is that of the rightmost key
+    last_wins : (catches : Bool) {s t : Situation} {values : List T} (v : Option T)
+        → UntilStop (EitherOutcome clones one other) catches true s values t → EndsIn values v
+        → RightmostGives clones one other s v
+    last_wins catches {s} {values = values} (Some v) run last =
+        last_step catches true s last.0 v run.last (rw last.1 at run.steps)
+        (stopped_none catches (is_nil values) run.stop)
+    last_wins catches {s} {values = values} None run last =
+        let same : s ≡ run.last =
+        subst (λ vs. Turns (EitherOutcome clones one other) catches true s vs run.last) last
+        run.steps in
+        rw same (stopped_none catches (is_nil values) run.stop)
 
 -- the last toggle wins
-pub toggle_wins : {T : Type 0} (clones : T → T → Type 0) (one other : ParseFlag T) (catches : Bool)
-    (s t : Situation) (v : Option T)
-    → ToggleOutcome clones one other catches s (Ok v) t → LastToggleWins clones one other s v
-toggle_wins clones one other catches s t v o keys =
-    last_wins clones one other keys catches s t o.0.items v o.1 o.2
+pub toggle_wins : {T : Type 0} (clones : T → T → Type 0) {one other : ParseFlag T} (catches : Bool)
+    {s t : Situation} (v : Option T) → ToggleOutcome clones one other catches s (Ok v) t
+    → LastToggleWins clones one other s v
+toggle_wins clones {one} {other} catches v o keys =
+    last_wins clones one other keys catches v o.1 o.2

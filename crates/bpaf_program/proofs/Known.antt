@@ -1,7 +1,7 @@
 -- Parsers of a program whose makings are known: what each reads, shows and keeps to, commands and
 -- a word that must stand before `--` among them.
 use Rattle.std.proofs.Common.{◌≡◌, ℕ, List, [], ◌∷◌, Option, Result, Ok, Err, IfOk, inl, inr}
-use Rattle.std.proofs.Common.{⊎_elim, ap, ◌∙◌, Bool, true, false, Some, refl, subst, sym, not}
+use Rattle.std.proofs.Common.{⊎_elim, ap, ◌∙◌, Bool, true, false, Some, refl, subst, not}
 use Rattle.std.proofs.Common.{option_and_then}
 use Rattle.std.specs.{Global.Vec, Result.IfErr, Prelude.option_map, List.Contains}
 use Rattle.bpaf_text.specs.Named.{Named, KeyWithValue, key_named}
@@ -19,8 +19,8 @@ use Rattle.bpaf_laws.specs.Product.{BothOutcome, ProductOutcome}
 use Rattle.bpaf_laws.specs.Reading.{Readings, Share, Outcome}
 use Rattle.bpaf_laws.specs.Combinators.{EachReads, ListReads, MapReads, ManyDescribes, ManyOutcome}
 use Rattle.bpaf_laws.specs.{Adjacent.StretchReads, Laws.Lawful}
-use Rattle.bpaf.specs.Asked.{IfShown, ShowsNothing, WasAsked, nothing_shown, BehindWord, HandsOn}
-use Rattle.bpaf.specs.Asked.{IsAskedAt, RunShows, Showing, WordsShow}
+use Rattle.bpaf.specs.Asked.{IfShown, ShowsNothing, WasAsked, BehindWord, HandsOn}
+use Rattle.bpaf.specs.Asked.{IsAskedAt, Showing, WordsShow}
 use Rattle.bpaf.specs.{declared.leaves.positional.Position.Position, Positional.PositionalReads}
 use Rattle.bpaf.specs.{Positional.PositionalOutcome, Positional.positional_shape}
 use Rattle.bpaf.specs.{Positional.positional_lawful, Run.IsDealtOut, Run.RunsWords, Info.RunInfo}
@@ -31,7 +31,7 @@ use Rattle.bpaf.specs.{declared.leaves.positional.Position.TheVariants.NonStrict
 use Rattle.bpaf.specs.{Marker.words_before}
 use Rattle.bpaf_doc.specs.Shape.{Shape, And, Many, Optional, members}
 use Rattle.bpaf_doc.specs.{declared.doc.Piece.Piece, Names.Names}
-use Rattle.bpaf.proofs.Asked.{answer_asked, asked_also, argument_hands_on, both_hands_on}
+use Rattle.bpaf.proofs.Asked.{answer_asked, argument_hands_on, both_hands_on}
 use Rattle.bpaf.proofs.Asked.{flag_hands_on, many_hands_on, positional_hands_on, product_hands_on}
 use Rattle.bpaf.proofs.Asked.{IsAlsoShown, answer_shows, asked_at_also, hands_also, words_also}
 use Rattle.bpaf.proofs.LeafLemmas.{argument_without_help, flag_without_help, key_with_help}
@@ -146,57 +146,6 @@ pub choice_also : {T : Type 0} {first first' second second' : Readings T} → Is
 choice_also one other context share v =
     ⊎_elim (λ read. inl (one context share v read)) (λ read. inr (other context share v read))
 
--- this shape alone is shown
-abbrev pub ShowsOnly : (Shape → Type 0) → Shape → Type 0
-ShowsOnly describes wanted = (shape : Shape) → describes shape → shape ≡ wanted
-
--- fields show these shapes alone
-abbrev pub FieldsShow : (List Shape → Type 0) → List Shape → Type 0
-FieldsShow describes wanted = (shapes : List Shape) → describes shapes → shapes ≡ wanted
-
--- what may stand any number of times shows one shape, where its inside does
-pub many_shows : (inner : Shape → Type 0) (wanted : Shape) → ShowsOnly inner wanted
-    → ShowsOnly (ManyDescribes inner) (Many (Optional wanted))
-many_shows inner wanted only shape shown =
-    shown.2 ∙ ap (λ inside. Many (Optional inside)) (only shown.0 shown.1)
-
--- so does a last field
-pub last_shows : (last : Shape → Type 0) (wanted : Shape) → ShowsOnly last wanted
-    → FieldsShow (LastDescribes last) (wanted ∷ [])
-last_shows last wanted only shapes shown = shown.2 ∙ ap (λ x. x ∷ []) (only shown.0 shown.1)
-
--- a field and those after it show theirs
-pub both_show : (first : Shape → Type 0) (rest : List Shape → Type 0) (wanted : Shape)
-    (others : List Shape) → ShowsOnly first wanted → FieldsShow rest others
-    → FieldsShow (BothDescribes first rest) (wanted ∷ others)
-both_show first rest wanted others only all shapes shown =
-    shown.4 ∙ (ap (λ x. x ∷ shown.1) (only shown.0 shown.2)
-    ∙ ap (λ xs. wanted ∷ xs) (all shown.1 shown.3))
-
--- a product shows those of its fields
-pub product_shows : (fields : List Shape → Type 0) (wanted : List Shape) → FieldsShow fields wanted
-    → ShowsOnly (ProductDescribes fields) (And (members wanted))
-product_shows fields wanted all shape shown =
-    shown.2 ∙ ap (λ xs. And (members xs)) (all shown.0 shown.1)
-
--- what a run shows of a parser that shows nothing by itself is help that the words ask for
-pub help_asked : (describes shapes : Shape → Type 0) (info : RunInfo) (known : Known)
-    (given : Given) {T : Type 0} {inner : Outcome T} {reads : Readings T} → Lawful T inner reads
-    → ShowsNothing inner → ((shape : Shape) → describes shape → shapes shape)
-    → info ≡ plain_info → (r : Result T ParseFailure)
-    → RunsWords T inner describes info known given r
-    → IfErr r (IfShown (WasAsked shapes plain_info known given))
-help_asked describes shapes info known given law nothing also plain (Ok v) runs = tt
-help_asked describes shapes info known given law nothing also plain
-    (Err (failure.Stdout doc full)) runs =
-    let was : WasAsked describes info known given doc full =
-    answer_asked describes info known given law nothing
-    (ap (λ settings. settings.help_if_no_args) plain) (Err (failure.Stdout doc full)) runs in
-    asked_also describes shapes plain_info known given doc full also (rw plain at was)
-help_asked describes shapes info known given law nothing also plain (Err (failure.Stderr doc))
-    runs = tt
-help_asked describes shapes info known given law nothing also plain (Err failure.Memory) runs = tt
-
 -- Parsers of a program whose makings are known: what each reads, shows and keeps to.
 
 -- a parser, or fields, keep to the laws, show nothing by themselves, read what is wanted, and show
@@ -206,7 +155,6 @@ pub record IsKnown {T S : Type 0} (outcome : Outcome T) (reads : Readings T)
   pub law : Lawful T outcome reads
   pub nothing : ShowsNothing outcome
   pub also : IsAlso reads wanted
-  pub shown : describes shape
   pub only : (other : S) → describes other → other ≡ shape
 
 -- a switch is known
@@ -218,10 +166,9 @@ pub switch_known : {names : Names} {text : List ℕ} {help : List Piece} {switch
     (NamedSwitchReads names) (switch_shape names help)
 switch_known {names} {text} {help} {switch} is = record {
   law = flag_lawful Bool IsKept switch.named switch.present switch.absent;
-  nothing = flag_hands_on nothing_shown IsKept switch.named switch.present switch.absent;
-  also = λ context share v read. flag_without_help Bool IsKept (key_named names) help true
-      (Some false) context share v (rw (is.named_is, is.present_is, is.absent_is) at read);
-  shown = rw (is.named_is, is.absent_is) refl;
+  nothing = flag_hands_on IsKept switch.named switch.present switch.absent;
+  also = λ context share v read. flag_without_help (key_named names) help
+      (rw (is.named_is, is.present_is, is.absent_is) at read);
   only = λ shape shown. rw (is.named_is, is.absent_is) at shown;
 }
 
@@ -234,10 +181,8 @@ pub argument_known : {T : Type 0} (means : List ℕ → T → Type 0) {key : Key
     (argument_shape (key_with_help key help))
 argument_known {T} means {key} {text} {help} {argument} is = record {
   law = argument_lawful T means argument;
-  nothing = argument_hands_on nothing_shown means argument;
-  also = λ context share v read.
-      argument_without_help T means key help context share v (rw is.key_is at read);
-  shown = rw is.key_is refl;
+  nothing = argument_hands_on means argument;
+  also = λ context share v read. argument_without_help means key help context (rw is.key_is at read);
   only = λ shape shown. rw is.key_is at shown;
 }
 
@@ -251,9 +196,8 @@ pub word_known : {T : Type 0} (means : List ℕ → T → Type 0) {position : Po
     (PositionalReads T means position) (positional_shape position metavar (Some help))
 word_known {T} means {position} {metavar} {text} {help} {word} is = record {
   law = positional_lawful T means word.position word.metavar.0.now;
-  nothing = positional_hands_on nothing_shown means word.position word.metavar.0.now;
+  nothing = positional_hands_on means word.position word.metavar.0.now;
   also = word_also means is.position_is;
-  shown = rw (is.position_is, is.metavar_is, is.help_is) refl;
   only = λ shape shown. rw (is.position_is, is.metavar_is, is.help_is) at shown;
 }
 
@@ -267,10 +211,10 @@ pub many_known : {T : Type 0} {outcome : Outcome T} {reads wanted : Readings T}
     (Many (Optional shape))
 many_known catches inner = record {
   law = many_lawful inner.law catches;
-  nothing = many_hands_on nothing_shown inner.law inner.nothing catches;
+  nothing = many_hands_on inner.law inner.nothing _;
   also = many_also inner.also;
-  shown = (_, inner.shown, refl);
-  only = many_shows _ _ inner.only;
+  only = λ other shown.
+      shown.2 ∙ ap (λ inside. Many (Optional inside)) (inner.only shown.0 shown.1);
 }
 
 -- so is a last field
@@ -281,8 +225,7 @@ last_known inner = record {
   law = inner.law;
   nothing = inner.nothing;
   also = inner.also;
-  shown = (_, inner.shown, refl);
-  only = last_shows _ _ inner.only;
+  only = λ shapes shown. shown.2 ∙ ap (λ x. x ∷ []) (inner.only shown.0 shown.1);
 }
 
 -- so are a field and those after it
@@ -294,10 +237,9 @@ pub both_known : {A B : Type 0} {first : Outcome A} {rest : Outcome B} {one want
     (BothReads A B wanted wants) (shape ∷ shapes)
 both_known first rest = record {
   law = both_lawful first.law rest.law;
-  nothing = both_hands_on nothing_shown first.law first.nothing rest.nothing;
+  nothing = both_hands_on first.law first.nothing rest.nothing;
   also = both_also first.also rest.also;
-  shown = (_, _, first.shown, rest.shown, refl);
-  only = both_show _ _ _ _ first.only rest.only;
+  only = λ others shown. shown.4 ∙ rw (first.only _ shown.2, rest.only _ shown.3) refl;
 }
 
 -- so is what a constructor makes of fields
@@ -308,10 +250,9 @@ pub product_known : {V T : Type 0} {fields : Outcome V} {reads wanted : Readings
     (ProductDescribes describes) (MapReads V T wanted wants) (And (members shapes))
 product_known {makes = makes} made fields = record {
   law = product_lawful makes fields.law;
-  nothing = product_hands_on nothing_shown makes fields.nothing;
+  nothing = product_hands_on fields.nothing;
   also = made_also fields.also made;
-  shown = (_, fields.shown, refl);
-  only = product_shows _ _ fields.only;
+  only = λ other shown. shown.2 ∙ ap (λ xs. And (members xs)) (fields.only shown.0 shown.1);
 }
 
 module _ {T : Type 0} {outcome : Outcome T} {reads wanted : Readings T}
@@ -328,9 +269,9 @@ module _ {T : Type 0} {outcome : Outcome T} {reads wanted : Readings T}
         → {info : RunInfo} → RunsWords T outcome describes info known given r → info ≡ plain_info
         → known ≡ names → given ≡ own → IfErr r (IfShown (WasAsked shapes plain_info names own))
     known_asked shapes this r {info} runs plain known_is same =
-        help_asked describes shapes info names own is.law is.nothing
-        (λ other shown. subst shapes (sym (is.only other shown)) this) plain r
-        (rw (known_is, same) at runs)
+        answer_asked {others = shapes} is.law is.nothing refl
+        (λ other shown. rw (is.only other shown) this) r
+        (rw (plain, known_is, same) at runs)
 
 -- Parsers with adjacent commands inside: what they read, and that they show a page of theirs alone.
 
@@ -348,9 +289,9 @@ pub hands_as : {T : Type 0} {one other : Showing} {outcome : Outcome T} {reads w
     {describes shapes : Shape → Type 0} → IsAlsoShown one other
     → Hands one outcome reads describes wanted shapes
     → Hands other outcome reads describes wanted shapes
-hands_as {one = one} {other = other} also is = record {
+hands_as also is = record {
   law = is.law;
-  hands = hands_also one other also is.hands;
+  hands = hands_also also is.hands;
   also = is.also;
   shows = is.shows;
 }
@@ -371,15 +312,9 @@ module _ {T : Type 0} {inner : Outcome T} {reads wanted : Readings T}
   command_hands = record {
     law = either_lawful law (run_ending describes info) called (CommandPart called help describes)
         adjacent;
-    hands = hands_also _ (BehindWord (named_only name) (IsAskedAt shapes info))
-        (λ s doc full behind. behind_also (named_only name) (RunShows describes info nothing_shown)
-        (IsAskedAt shapes info)
-        (λ x d u. ⊎_elim (asked_at_also describes shapes info shows x d u) (λ none. absurd none))
-        s doc full
-        (subst (λ c. BehindWord c (RunShows describes info nothing_shown) s doc full) is_called
-        behind))
-        (command_hands_on describes info law nothing_shown nothing plain called
-        (CommandPart called help describes) adjacent);
+    hands = rw is_called (hands_also (behind_also
+        (λ x d u. ⊎_elim (asked_at_also shows x d u) (λ none. absurd none)))
+        (command_hands_on _ _ law nothing plain _ _ adjacent));
     also = λ context share v read. adjacent_also also (name ∷ []) context share v
         (rw (is_adjacent, is_called) at read);
     shows = λ shape shown. (
@@ -397,9 +332,9 @@ pub choice_hands : {T : Type 0} {showing : Showing} {first second : Outcome T}
     → Hands showing (ChoiceOutcome first second) (ChoiceReads reads reads')
     (ChoiceDescribes describes describes') (ChoiceReads wanted wanted')
     (ChoiceDescribes shapes shapes')
-choice_hands {showing = showing} one other = record {
+choice_hands one other = record {
   law = choice_lawful one.law other.law;
-  hands = choice_hands_on showing one.hands other.hands;
+  hands = choice_hands_on one.hands other.hands;
   also = choice_also one.also other.also;
   shows = λ shape shown. (
     shown.0,
@@ -419,9 +354,9 @@ pub many_hands : {T : Type 0} {showing : Showing} {outcome : Outcome T}
     (ManyDescribes describes)
     (MapReads (List T) (Vec T) (ListReads wanted) (λ values v. v.items ≡ values))
     (ManyDescribes shapes)
-many_hands {showing = showing} catches is = record {
+many_hands catches is = record {
   law = many_lawful is.law catches;
-  hands = many_hands_on showing is.law is.hands catches;
+  hands = many_hands_on is.law is.hands _;
   also = many_also is.also;
   shows = λ shape shown. (shown.0, is.shows shown.0 shown.1, shown.2);
 }
@@ -434,14 +369,9 @@ module _ {T : Type 0} {showing : Showing} {outcome : Outcome T} {reads wanted : 
       → {info : RunInfo} → RunsWords T outcome describes info known given r → info ≡ plain_info
       → known ≡ names → given ≡ own → IfErr r (IfShown (WordsShow names own showing))
   hands_asked asks (Err (failure.Stdout doc full)) {info} runs plain known_is same =
-      let was : WordsShow known given (RunShows describes info showing) doc full =
-      answer_shows describes info is.law showing is.hands
-      (ap (λ settings. settings.help_if_no_args) plain) known given
-      (Err (failure.Stdout doc full)) runs in
-      words_also names own (RunShows describes plain_info showing) showing
-      (λ s d u. ⊎_elim
-      (λ at. asks s d u (asked_at_also describes shapes plain_info is.shows s d u at))
-      (λ page. page)) doc full (rw (plain, known_is, same) at was)
+      words_also (λ s d u. ⊎_elim (λ at. asks s d u (asked_at_also is.shows s d u at))
+      (λ page. page)) (answer_shows is.law is.hands refl (Err (failure.Stdout doc full))
+      (rw (plain, known_is, same) at runs))
   hands_asked asks _ runs plain known_is same = tt
 
 -- an item that reads as a word on the left side of `--` is that word

@@ -2,7 +2,7 @@
 use Rattle.std.proofs.Common.{Ok, ◌≡◌, ℕ, Bool, List, Result, Err, string_bytes, codes, All, IfOk}
 use Rattle.std.proofs.Common.{IsUtf8, inl, inr, map, refl, slice_index_or, subst, sym, ap, ◌==◌}
 use Rattle.std.proofs.Common.{true, false, ◌-◌, [], ◌∷◌, ◌++◌, Option, Some, None, OnOk, OnErr}
-use Rattle.std.proofs.Common.{take, drop, length, ◌∙◌, append_assoc, append-nil, ◌<◌, ◌+◌, ◌||◌}
+use Rattle.std.proofs.Common.{take, drop, length, ◌∙◌, append_assoc, ◌<◌, ◌+◌, ◌||◌}
 use Rattle.std.proofs.Common.{not, ap₂, arith, drop-cons, get_or, suc}
 use Rattle.std.proofs.KnownBytes.{Appends-trans, Appends-kept}
 use Rattle.std.proofs.lemmas.List.{take_rest, take-append-drop}
@@ -14,7 +14,7 @@ use Rattle.bpaf_line.specs.declared.failure.ParseFailure.{ParseFailure}
 use Rattle.bpaf_line.specs.declared.failure.ParseFailure.TheVariants.{Stdout, Stderr, Memory}
 use Rattle.bpaf.specs.Asked.{IfShown}
 use Rattle.bpaf_exact.specs.Says.{Alike}
-use Rattle.bpaf_program.specs.Ending.{IsPrinted, IsShown, TellsFailure, given, told, AnswersByText}
+use Rattle.bpaf_program.specs.Ending.{IsPrinted, TellsFailure, given, told, AnswersByText}
 use Rattle.bpaf_program.specs.Ending.{AnswersText, AnswersTextOf, IsTextOrWant, OrPage, Prints}
 use Rattle.bpaf_program.specs.Ending.{PrintsTextOf, RunsTo, memory_wanted, shows, tells, written}
 use Rattle.bpaf_program.specs.Ending.{Written, EndsBy, with_status, with_value, IsUntouched, Failed}
@@ -41,68 +41,62 @@ pub refusal_answers : (answers : List ℕ → Type 0) (asked : List Piece → Bo
 refusal_answers answers asked (Stdout doc full) help is = help doc full refl is
 refusal_answers answers asked f help is = tt
 
-module _ (answers : List ℕ → Type 0) (out err : Written) where
-  -- what is told of a failure is a text that was asked for, or a message
-  told_runs : (f : ParseFailure) (status : ℕ) → TellsFailure out err f status
-      → AnswersText answers (Err f) → RunsTo answers out err status
-  told_runs (Stdout doc full) status is answer = shows _ answer is.0 is.1
-  told_runs (Stderr doc) status is answer = tells _ is.0 is.1
-  told_runs Memory status is answer = tells (codes "out of memory") is.0 is.1
-
-  -- so it is with what is printed
-  pub runs_to : (r : Result (String Global) ParseFailure) (status : ℕ)
-      → IsPrinted out err string_bytes r status → AnswersText answers r
-      → RunsTo answers out err status
-  runs_to r status (given is quiet) answer = shows _ answer is quiet
-  runs_to r status (told {f = f} {status = n} is) answer = told_runs f n is answer
+-- what is printed runs to a text that was asked for, or to a message
+pub runs_to : {answers : List ℕ → Type 0} {out err : Written}
+    {r : Result (String Global) ParseFailure} {status : ℕ}
+    → IsPrinted out err string_bytes r status → AnswersText answers r
+    → RunsTo answers out err status
+runs_to (given is quiet) answer = shows _ answer is quiet
+runs_to {answers} {out} {err} (told {f = f} is) answer = told_runs f is answer
+  where
+    told_runs : (f : ParseFailure) {status : ℕ} → TellsFailure out err f status
+        → AnswersText answers (Err f) → RunsTo answers out err status
+    told_runs (Stdout doc full) is answer = shows _ answer is.0 is.1
+    told_runs (Stderr doc) is answer = tells _ is.0 is.1
+    told_runs Memory is answer = tells (codes "out of memory") is.0 is.1
 
 -- a refusal that shows a page shows one, whatever it is
 page_answers : (said : List ℕ → Type 0) (f : ParseFailure) → AnswersText (OrPage said) (Err f)
 page_answers said (Stdout doc full) = inr (doc, full, refl)
 page_answers said f = tt
 
--- where texts of this kind are given, an answer gives one or shows a page
-gives_or_shows : (said : List ℕ → Type 0) (r : Result (String Global) ParseFailure)
-    → IfOk r (λ text. said (string_bytes text)) → AnswersText (OrPage said) r
-gives_or_shows said (Ok text) is = inl is
-gives_or_shows said (Err f) is = page_answers said f
-
 -- So it is with what is printed, whatever the page is.
 pub runs_to_said : (said : List ℕ → Type 0) {out err : Written}
     {r : Result (String Global) ParseFailure} {status : ℕ}
     → IsPrinted out err string_bytes r status → IfOk r (λ text. said (string_bytes text))
     → RunsTo (OrPage said) out err status
-runs_to_said said {out} {err} {r} {status} printed is =
-    runs_to (OrPage said) out err r status printed (gives_or_shows said r is)
+runs_to_said said {r = r} printed is = runs_to printed (by_answer r is)
+  where
+    by_answer : (r : Result (String Global) ParseFailure)
+        → IfOk r (λ text. said (string_bytes text)) → AnswersText (OrPage said) r
+    by_answer (Ok text) is = inl is
+    by_answer (Err f) is = page_answers said f
 
-module _ (out err : Written) where
-  -- where memory was wanted, that alone is told
-  wants : (text : List ℕ) (f : ParseFailure) (status : ℕ) → TellsFailure out err f status → f ≡ Memory
-      → Prints text out err status
-  wants text Memory status is own = memory_wanted is.0 is.1
-  wants text f status is own = absurd cc
+-- where all values have the text of the answer, a run prints it, or tells that memory was wanted
+pub prints_text : {out err : Written} {V : Type 0} {value : V → Type 0} {text_of : V → List ℕ}
+    {r : Result (String Global) ParseFailure} {status : ℕ}
+    → IsPrinted out err string_bytes r status → AnswersTextOf value text_of r
+    → PrintsTextOf value text_of out err status
+prints_text {out} {err} is answers = record {
+  alike = answers.alike;
+  prints = λ v there. prints is (answers.complete v there);
+}
+  where
+    wants : (f : ParseFailure) {status : ℕ} {text : List ℕ} → TellsFailure out err f status
+        → f ≡ Memory → Prints text out err status
+    wants Memory is own = memory_wanted is.0 is.1
+    wants f is own = absurd cc
 
-  -- an answer that is a text, or want of memory, is printed
-  prints : (text : List ℕ) (r : Result (String Global) ParseFailure) (status : ℕ)
-      → IsPrinted out err string_bytes r status → IsTextOrWant text r → Prints text out err status
-  prints text r status (given is quiet) own =
-      written (subst (λ bytes. IsShown out bytes status) own is) quiet
-  prints text r status (told {f = f} {status = n} is) own = wants text f n is own
-
-  -- so is the text of the values
-  pub prints_text : {V : Type 0} {value : V → Type 0} {text_of : V → List ℕ}
-      (r : Result (String Global) ParseFailure) (status : ℕ)
-      → IsPrinted out err string_bytes r status → AnswersTextOf value text_of r
-      → PrintsTextOf value text_of out err status
-  prints_text {text_of = text_of} r status is answers = record {
-    alike = answers.alike;
-    prints = λ v there. prints (text_of v) r status is (answers.complete v there);
-  }
+    prints : {text : List ℕ} {r : Result (String Global) ParseFailure} {status : ℕ}
+        → IsPrinted out err string_bytes r status → IsTextOrWant text r
+        → Prints text out err status
+    prints (given is quiet) own = written (rw own at is) quiet
+    prints (told {f = f} is) own = wants f is own
 
 -- an answer that is a text which answers the words, or want of memory, answers them
 pub text_answers : (answers : List ℕ → Type 0) (text : List ℕ) → answers text
     → (r : Result (String Global) ParseFailure) → IsTextOrWant text r → AnswersText answers r
-text_answers answers text own (Ok made) is = subst answers (sym is) own
+text_answers answers text own (Ok made) is = rw is own
 text_answers answers text own (Err (Stdout doc full)) is = absurd cc
 text_answers answers text own (Err f) is = tt
 
@@ -138,28 +132,16 @@ pub refused_page : {said : List ℕ → Type 0} {V : Type 0} {value : V → Type
     → AnswersByText (OrPage said) value text_of r
 refused_page {said} alike {f} exact is = refused_text alike (page_answers said f) exact is
 
-module _ {T : Type 0} (out err : Written) (answer : Result T ParseFailure) (r : Result T ℕ)
-    (ends : EndsBy out err answer r) where
-  -- a value is the answer's, with nothing written
-  pub ended_value : (v : T) → r ≡ Ok v → (answer ≡ Ok v) × (IsUntouched out × IsUntouched err)
-  ended_value v is = by_end answer r ends is
-    where
-      by_end : (a : Result T ParseFailure) (s : Result T ℕ) → EndsBy out err a s → s ≡ Ok v
-          → (a ≡ Ok v) × (IsUntouched out × IsUntouched err)
-      by_end a s (with_value {v = w} kept quiet) e =
-          let same : w ≡ v = cc in (ap Ok same, (kept, quiet))
-      by_end a s (with_status said) e = absurd cc
+-- a value at the end of a run is the answer's, with nothing written
+pub ended_value : {T : Type 0} {out err : Written} {answer : Result T ParseFailure} {v : T}
+    → EndsBy out err answer (Ok v) → (answer ≡ Ok v) × (IsUntouched out × IsUntouched err)
+ended_value (with_value kept quiet) = (refl, (kept, quiet))
 
-  -- a status is that of what is told of a failure
-  pub ended_status : (status : ℕ) → r ≡ Err status
-      → (f : ParseFailure) × (answer ≡ Err f) × TellsFailure out err f status
-  ended_status status is = by_end answer r ends is
-    where
-      by_end : (a : Result T ParseFailure) (s : Result T ℕ) → EndsBy out err a s → s ≡ Err status
-          → (f : ParseFailure) × (a ≡ Err f) × TellsFailure out err f status
-      by_end a s (with_value kept quiet) e = absurd cc
-      by_end a s (with_status {f = f} {status = n} said) e =
-          let same : n ≡ status = cc in (f, refl, subst (TellsFailure out err f) same said)
+-- a status is that of what is told of a failure
+pub ended_status : {T : Type 0} {out err : Written} {answer : Result T ParseFailure} {status : ℕ}
+    → EndsBy out err answer (Err status)
+    → (f : ParseFailure) × (answer ≡ Err f) × TellsFailure out err f status
+ended_status (with_status {f = f} said) = (f, refl, said)
 
 -- A text of which a part is written.
 
@@ -169,19 +151,27 @@ pub record IsWrittenBut (before after : Option (List ℕ)) (rest text : List ℕ
   pub written : Appends before after front
   pub whole : front ++ rest ≡ text
 
-module _ (before middle after : Option (List ℕ)) (rest text : List ℕ)
+-- the beginning of the rest is written, and what is behind it is left
+pub written_next : {before middle after : Option (List ℕ)} (next : List ℕ) {rest text : List ℕ}
+    → IsWrittenBut before middle (next ++ rest) text → Appends middle after next
+    → IsWrittenBut before after rest text
+written_next {before} {middle} {after} next {rest} so_far more = record {
+  front = so_far.front ++ next;
+  written = Appends-trans before middle after so_far.front next so_far.written more;
+  whole = append_assoc so_far.front next rest ∙ so_far.whole;
+}
+
+module _ {before middle after : Option (List ℕ)} {rest text : List ℕ}
     (so_far : IsWrittenBut before middle rest text) where
-  -- the next n bytes of the rest are written, and what is behind them is left
+  -- so it is with the next n bytes
   pub written_on : (n : ℕ) → Appends middle after (take n rest)
       → IsWrittenBut before after (take (length rest - n) (drop n rest)) text
-  written_on n more = record {
-    front = so_far.front ++ take n rest;
-    written = Appends-trans before middle after so_far.front (take n rest) so_far.written more;
-    whole =
-        append_assoc so_far.front (take n rest) (take (length rest - n) (drop n rest))
-        ∙ (ap (λ x. so_far.front ++ (take n rest ++ x)) (take_rest rest n)
-        ∙ (ap (λ x. so_far.front ++ x) (take-append-drop n rest) ∙ so_far.whole));
-  }
+  written_on n more = written_next (take n rest) (record {
+    front = so_far.front;
+    written = so_far.written;
+    whole = ap (λ x. so_far.front ++ x) (ap (λ x. take n rest ++ x) (take_rest rest n)
+        ∙ take-append-drop n rest) ∙ so_far.whole;
+  }) more
 
   -- no byte more is written
   pub written_still : Keeps middle after → IsWrittenBut before after rest text
@@ -191,23 +181,17 @@ module _ (before middle after : Option (List ℕ)) (rest text : List ℕ)
     whole = so_far.whole;
   }
 
--- a write that takes nothing leaves all as it was
-pub written_nothing : (before middle after : Option (List ℕ)) (rest text : List ℕ) (n : ℕ)
-    → IsWrittenBut before middle rest text → n ≡ 0 → Appends middle after (take n rest)
-    → IsWrittenBut before after rest text
-written_nothing before middle after rest text n so_far none more = record {
-  front = so_far.front ++ [];
-  written = Appends-trans before middle after so_far.front [] so_far.written
-      (subst (λ k. Appends middle after (take k rest)) none more);
-  whole = ap (λ x. x ++ rest) (append-nil so_far.front) ∙ so_far.whole;
-}
+  -- a write that takes nothing leaves all as it was
+  pub written_nothing : {n : ℕ} → n ≡ 0 → Appends middle after (take n rest)
+      → IsWrittenBut before after rest text
+  written_nothing none more = written_next [] so_far (rw none at more)
 
 -- where a rest is left after a failed write, a part is written
-pub part_written : (sink : Written) (rest text : List ℕ)
+pub part_written : {sink : Written} {rest text : List ℕ}
     → IsWrittenBut (sink.known.contents sink.before) (sink.known.contents sink.after) rest text
     → (length rest ≡ 0 → ⊥) → Failed sink.known sink.after → WritesPart sink text
-part_written sink [] text so_far some failed = absurd (some refl)
-part_written sink (next ∷ rest) text so_far some failed = record {
+part_written {rest = []} so_far some failed = absurd (some refl)
+part_written {rest = next ∷ rest} so_far some failed = record {
   front = so_far.front;
   next = next;
   rest = rest;
@@ -217,9 +201,9 @@ part_written sink (next ∷ rest) text so_far some failed = record {
 }
 
 -- a part of a text is one of a longer text
-pub part_of_more : (sink : Written) (text more : List ℕ) → WritesPart sink text
+pub part_of_more : {sink : Written} {text : List ℕ} (more : List ℕ) → WritesPart sink text
     → WritesPart sink (text ++ more)
-part_of_more sink text more is = record {
+part_of_more more is = record {
   front = is.front;
   next = is.next;
   rest = is.rest ++ more;
@@ -229,11 +213,11 @@ part_of_more sink text more is = record {
 }
 
 -- behind a whole text a part of another is one of both
-pub part_behind : {S : Type 0} (known : KnownSink S) (before middle after : S)
-    (text more : List ℕ) → Writes (wrote known before middle) text
+pub part_behind : {S : Type 0} {known : KnownSink S} {before middle after : S}
+    (text : List ℕ) {more : List ℕ} → Writes (wrote known before middle) text
     → WritesPart (wrote known middle after) more
     → WritesPart (wrote known before after) (text ++ more)
-part_behind known before middle after text more whole is = record {
+part_behind {known = known} {before} {middle} {after} text whole is = record {
   front = text ++ is.front;
   next = is.next;
   rest = is.rest;
@@ -243,31 +227,19 @@ part_behind known before middle after text more whole is = record {
   failed = is.failed;
 }
 
--- whether all writes succeed or one fails, the line is told or a part of it
-pub line_told : {A E : Type 0} (r : Result A E) (err : Written) (line : List ℕ)
-    → OnOk r (Writes err line) → OnErr r (WritesPart err line) → TellsLine err line 1
-line_told (Ok v) err line whole part = told_whole whole
-line_told (Err e) err line whole part = told_in_part part
-
--- the next text of those that are left is written
-pub written_next : (before middle after : Option (List ℕ)) (next rest text : List ℕ)
-    → IsWrittenBut before middle (next ++ rest) text → Appends middle after next
-    → IsWrittenBut before after rest text
-written_next before middle after next rest text so_far more = record {
-  front = so_far.front ++ next;
-  written = Appends-trans before middle after so_far.front next so_far.written more;
-  whole = append_assoc so_far.front next rest ∙ so_far.whole;
-}
-
--- a part of it is
-pub part_of_next : {S : Type 0} (known : KnownSink S) (before middle after : S)
-    (next rest text : List ℕ)
+-- so it is behind the texts that are written, and before those that are left
+pub part_of_next : {S : Type 0} {known : KnownSink S} {before middle after : S}
+    {next : List ℕ} (rest : List ℕ) {text : List ℕ}
     → IsWrittenBut (known.contents before) (known.contents middle) (next ++ rest) text
     → WritesPart (wrote known middle after) next → WritesPart (wrote known before after) text
-part_of_next known before middle after next rest text so_far part =
-    subst (WritesPart (wrote known before after)) so_far.whole
-    (part_behind known before middle after so_far.front (next ++ rest) so_far.written
-    (part_of_more (wrote known middle after) next rest part))
+part_of_next rest so_far part =
+    rw (← so_far.whole) (part_behind so_far.front so_far.written (part_of_more rest part))
+
+-- whether all writes succeed or one fails, the line is told or a part of it
+pub line_told : {A E : Type 0} (r : Result A E) {err : Written} {line : List ℕ}
+    → OnOk r (Writes err line) → OnErr r (WritesPart err line) → TellsLine err line 1
+line_told (Ok v) whole part = told_whole whole
+line_told (Err e) whole part = told_in_part part
 
 -- what holds is so where a result is an error
 pub on_err : {A E : Type 0} {P : Type 0} (r : Result A E) → P → OnErr r P
@@ -280,8 +252,9 @@ on_err_then (Ok v) then p = tt
 on_err_then (Err e) then p = then p
 
 -- what isn't empty has some length
-pub some_left : (n : ℕ) (empty : Bool) → empty ≡ (n == 0) → empty ≡ false → n ≡ 0 → ⊥
-some_left n empty is some none = let all : empty ≡ true = is ∙ ap (λ k. k == 0) none in cc
+pub some_left : {n : ℕ} {empty : Bool} → empty ≡ (n == 0) → empty ≡ false → n ≡ 0 → ⊥
+some_left is some none =
+    let all : true ≡ false = sym (is ∙ ap (λ k. k == 0) none) ∙ some in cc
 
 -- what is kept first and grows then grows
 pub kept_then : (before middle after : Option (List ℕ)) (text : List ℕ) → Keeps before middle
@@ -289,9 +262,10 @@ pub kept_then : (before middle after : Option (List ℕ)) (text : List ℕ) → 
 kept_then None middle after text kept more = tt
 kept_then (Some xs) None after text kept more = absurd kept
 kept_then (Some xs) (Some ys) None text kept more = absurd more
-kept_then (Some xs) (Some ys) (Some zs) text kept more = more ∙ ap (λ z. z ++ text) kept
+kept_then (Some xs) (Some ys) (Some zs) text kept more =
+    more ∙ ap (λ z. z ++ text) kept
 
-module _ (full : Bool) (pieces : List Piece) (i : ℕ) (piece : Piece) (within : i < length pieces)
+module _ (full : Bool) (pieces : List Piece) {i : ℕ} {piece : Piece} (within : i < length pieces)
     (here : piece ≡ get_or pieces i piece) where
   -- the pieces from a place on are the one there, and those behind it
   from_here : drop i pieces ≡ piece ∷ drop (i + 1) pieces

@@ -4,7 +4,7 @@ use Rattle.bpaf_program.proofs.ending.print.Goals as goal
 
 pub returns-in-Ok-write_text : goal.returns-in-Ok-write_text
 returns-in-Ok-write_text g c =
-    let i = ended_value _ _ c.args.answer c.end.result c.end.ensures c.in-Ok.text c.in-Ok.is in
+    let i = ended_value (rw c.in-Ok.is at c.end.ensures) in
     rw i.0 (given (whole
     (rw (i.1.0, c.as_bytes.ensures.value, c.as_str.ensures.value) at
     c.in-Ok-write_text.ensures.whole))
@@ -12,7 +12,7 @@ returns-in-Ok-write_text g c =
 
 pub returns-in-Ok : goal.returns-in-Ok
 returns-in-Ok g c =
-    let i = ended_value _ _ c.args.answer c.end.result c.end.ensures c.in-Ok.text c.in-Ok.is in
+    let i = ended_value (rw c.in-Ok.is at c.end.ensures) in
     rw i.0 (given (in_part
     (rw (i.1.0, c.as_bytes.ensures.value, c.as_str.ensures.value) at
     c.in-Err-write_text.ensures.part))
@@ -20,5 +20,5 @@ returns-in-Ok g c =
 
 pub returns : goal.returns
 returns g c =
-    let i = ended_status _ _ c.args.answer c.end.result c.end.ensures _ c.in-Err.is in
+    let i = ended_status (rw c.in-Err.is at c.end.ensures) in
     rw i.1 (told {f = i.0} i.2)

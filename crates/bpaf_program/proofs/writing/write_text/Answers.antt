@@ -5,9 +5,8 @@ use Rattle.bpaf_program.proofs.writing.write_text.Goals as goal
 
 pub returns-in-Ok-eq0-clause-part : goal.returns-in-Ok-eq0-clause-part
 returns-in-Ok-eq0-clause-part g c =
-    let left = some_left _ _ c.is_empty.ensures (search rules) in
-    part_written _ _ _
-    (written_nothing _ _ _ _ _ _ c.loop-rest.invariant c.in-Ok-eq0.field-0-test
+    let left = some_left c.is_empty.ensures (search rules) in
+    part_written (written_nothing c.loop-rest.invariant c.in-Ok-eq0.field-0-test
     c.in-Ok-eq0.ensures.bytes)
     left
     (record {
@@ -19,12 +18,12 @@ returns-in-Ok-eq0-clause-part g c =
     })
 
 pub loop-rest-preserved : goal.loop-rest-preserved
-loop-rest-preserved g c = written_on _ _ _ _ _ c.loop-rest.invariant _ c.in-Ok.ensures.bytes
+loop-rest-preserved g c = written_on c.loop-rest.invariant _ c.in-Ok.ensures.bytes
 
 pub returns-in-Err-clause-part : goal.returns-in-Err-clause-part
 returns-in-Err-clause-part g c =
-    part_written _ _ _ (written_still _ _ _ _ _ c.loop-rest.invariant c.in-Err.ensures.bytes)
-    (some_left _ _ c.is_empty.ensures (search rules))
+    part_written (written_still c.loop-rest.invariant c.in-Err.ensures.bytes)
+    (some_left c.is_empty.ensures (search rules))
     (record {
       before = _;
       bytes = _;

@@ -3,9 +3,8 @@ use Rattle.bpaf_batteries.proofs.toggle.ToggleFlagParserOption.eval.Goals as goa
 
 pub returns-in-Ok-clause-last_toggle_wins : goal.returns-in-Ok-clause-last_toggle_wins
 returns-in-Ok-clause-last_toggle_wins g c =
-    let p = c.args.self.now.toggles in
-    toggle_wins g.T.Clone.is_clone p.inner.this p.inner.that p.catch c.args.state.now
-    c.eval.new.state c.last_of.result (c.in-Ok.values, c.in-Ok.ensures.outcome, c.last_of.ensures)
+    toggle_wins g.T.Clone.is_clone c.args.self.now.toggles.catch _
+    (c.in-Ok.values, c.in-Ok.ensures.outcome, c.last_of.ensures)
 
 pub returns-in-Ok-clause-memory_is_never_caught : goal.returns-in-Ok-clause-memory_is_never_caught
 returns-in-Ok-clause-memory_is_never_caught g c spared =
