@@ -1,7 +1,7 @@
 -- A group by what its constructor makes of the values, the members of a short list, and a check
 -- that accepts one text alone.
-use Rattle.std.proofs.Common.{◌≡◌, ℕ, Bool, List, Result, Ok, Err, Option, Some, None, sym, subst}
-use Rattle.std.proofs.Common.{⊎_elim, String, string_bytes, ◌+◌, inl, inr, ◌<◌, ◌≤◌, [], ◌∷◌}
+use Rattle.std.proofs.Common.{◌≡◌, ℕ, Bool, List, Result, Ok, Err, Option, Some, None, sym}
+use Rattle.std.proofs.Common.{⊎_elim, String, string_bytes, inl, inr, ◌<◌, ◌≤◌, [], ◌∷◌}
 use Rattle.std.proofs.Common.{length, get_or, refl, arith}
 use Rattle.std.proofs.lemmas.List.Elements.{All-weaker}
 use Rattle.std.specs.declared.alloc.Global.{Global}
@@ -11,12 +11,10 @@ use Rattle.bpaf_line.specs.declared.error.Message.TheVariants.{Memory, Missing}
 use Rattle.bpaf_line.specs.Situation.{Situation}
 use Rattle.bpaf_line.specs.{declared.error.Message.Message, declared.error.Error.Error}
 use Rattle.bpaf_laws.specs.Leaves.{Looks, AnyOutcome, AnyFails, ArePassed, ChecksText}
-use Rattle.bpaf_laws.specs.Adjacent.{Failure, GroupOutcome, Narrowed, Probe, Searches, Tries}
-use Rattle.bpaf_laws.specs.Adjacent.{TriedInVain, again, all_failed, answered, gave, none_gave}
-use Rattle.bpaf_laws.specs.Adjacent.{none_tried, not_taken, place_count, refused, wanted, whole}
-use Rattle.bpaf_laws.specs.Reading.{HasPlace, IsEmptyShare, Outcome, Share}
-use Rattle.bpaf_laws.specs.Product.{ProductOutcome}
-use Rattle.bench_rows.specs.Levels.{AcceptsText, BegunOutcome}
+use Rattle.bpaf_laws.specs.{Adjacent.GroupOutcome, Laws.Spares, Product.ProductOutcome}
+use Rattle.bpaf_laws.specs.Reading.{Outcome}
+use Rattle.bpaf_laws.proofs.AdjacentLaws.{spared_group}
+use Rattle.bench_rows.specs.Levels.{AcceptsText, BegunOutcome, NestedOutcome}
 use Rattle.bench_values.specs.{declared.value.Value.Value, Modifiers.ToldOutcome}
 
 module _ {T : Type 0} (looks more : Looks T)
@@ -62,108 +60,64 @@ accepts_text : (accepted : String Global) (checks : String Global → Option Val
     → (text : List ℕ) (found : Option Value) → ChecksText MeansText checks text found
     → AcceptsText (string_bytes accepted) text found
 accepts_text accepted checks by text (Some v) look =
-    subst (λ bytes. AcceptsText (string_bytes accepted) bytes (Some v)) look.1
-    (by look.0 (Some v) look.2)
+    rw look.1 at (by look.0 (Some v) look.2)
 accepts_text accepted checks by text None look = ⊎_elim (λ unread. λ same. unread accepted (sym same))
-    (λ seen. subst (λ bytes. AcceptsText (string_bytes accepted) bytes None) seen.1
-    (by seen.0 None seen.2)) look
+    (λ seen. rw seen.1 at (by seen.0 None seen.2)) look
 
 -- what `any` answers by such a check, shown by an equal metavar
-pub accepted_by : (accepted : String Global) (checks : String Global → Option Value → Type 0)
+pub accepted_by : (accepted : String Global) {checks : String Global → Option Value → Type 0}
     → ((x : String Global) (found : Option Value) → checks x found
     → AcceptsText (string_bytes accepted) (string_bytes x) found)
-    → (metavar shown : List Piece) → metavar ≡ shown
+    → {metavar shown : List Piece} → metavar ≡ shown
     → (anywhere : Bool) (s t : Situation) (r : Result Value Error)
     → AnyOutcome (ChecksText MeansText checks) (Any metavar None anywhere) anywhere s r t
     → AnyOutcome (AcceptsText (string_bytes accepted)) (Any shown None anywhere) anywhere s r t
-accepted_by accepted checks by metavar shown is anywhere s t r o =
-    let accepts = AcceptsText (string_bytes accepted) in
-    subst (λ doc. AnyOutcome accepts (Any doc None anywhere) anywhere s r t) is
-    (any_more (ChecksText MeansText checks) accepts (accepts_text accepted checks by)
-    (Any metavar None anywhere) anywhere s t r o)
+accepted_by accepted {checks} by {metavar} is anywhere s t r o =
+    rw (← is) (any_more (ChecksText MeansText checks) (AcceptsText (string_bytes accepted))
+    (accepts_text accepted checks by) (Any metavar None anywhere) anywhere s t r o)
 
--- A group by what its constructor makes of the values: here the values themselves.
-
--- each answer of the one is one of the other
-abbrev pub Allows : {T : Type 0} → Outcome T → Outcome T → Type 0
-Allows {T} inner more =
-    (s : Situation) (r : Result T Error) (t : Situation) → inner s r t → more s r t
-
-module _ {T : Type 0} (inner more : Outcome T) (allows : Allows inner more) (s : Situation) where
-  -- where the scope of an attempt ends
-  narrowed_more : (a b : ℕ) → Narrowed T inner s a b → Narrowed T more s a b
-  narrowed_more a b (whole stop run) = whole stop run
-  narrowed_more a b (again stop left v t before ran next) =
-      again stop left v t (narrowed_more a stop before) (allows _ _ _ ran) next
-
-  -- the last attempt from a place on
-  tries_more : (a : ℕ) (r : Result T Error) (t : Situation) → Tries T inner s a r t
-      → Tries T more s a r t
-  tries_more a r t (answered stop v left narrowed ran none) =
-      answered stop v left (narrowed_more a stop narrowed) (allows _ _ _ ran) none
-  tries_more a r t (refused stop e left narrowed ran) =
-      refused stop e left (narrowed_more a stop narrowed) (allows _ _ _ ran)
-
-  -- a probe
-  probe_more : (a stop : ℕ) (Takes : Share → Type 0) → Probe T inner s a stop Takes
-      → Probe T more s a stop Takes
-  probe_more a stop Takes probe = record {
-    answer = probe.answer;
-    left = probe.left;
-    ran = allows _ _ _ probe.ran;
-    spared = probe.spared;
-    takes = probe.takes;
-  }
-
-  -- places that were tried in vain
-  vain_more : (first : Part) (from : ℕ) (failures : List Failure)
-      → TriedInVain T inner s first from failures → TriedInVain T more s first from failures
-  vain_more first from failures none_tried = none_tried
-  vain_more first from failures (not_taken from' a failures' before start probe) =
-      not_taken from' a failures' (vain_more first from' failures' before) start
-      (probe_more a (a + place_count first) IsEmptyShare probe)
-  vain_more first from failures (all_failed from' a failures' e t before start probe tries spared) =
-      all_failed from' a failures' e t (vain_more first from' failures' before) start
-      (probe_more a (a + place_count first) HasPlace probe) (tries_more a (Err e) t tries) spared
-
-  -- so is each answer of a group over the one that of a group over the other
-  group_more : (first : Part) (r : Result T Error) (t : Situation) → Searches T inner s first r t
-      → Searches T more s first r t
-  group_more first r t (gave from a failures v t' before start probe tries) =
-      gave from a failures v t' (vain_more first from failures before) start
-      (probe_more a (a + place_count first) HasPlace probe) (tries_more a (Ok v) t' tries)
-  group_more first r t (none_gave from failures e t' before none ends) =
-      none_gave from failures e t' (vain_more first from failures before) none ends
-  group_more first r t (wanted e memory) = wanted e memory
+-- A product and a group by what their constructor makes of the values: here the values themselves.
 
 -- a constructor that makes of values these values
 abbrev pub IsSame : {V : Type 0} → (V → V → Type 0) → Type 0
 IsSame {V} makes = (x y : V) → makes x y → y ≡ x
 
 -- a product by such a constructor
-same_product : {V : Type 0} (fast : Outcome V) (makes : V → V → Type 0) → IsSame makes
-    → Allows (ProductOutcome fast makes) (ProductOutcome fast (λ x v. v ≡ x))
-same_product fast makes same s (Ok v) t ran = (ran.0, ran.1, ran.2, same ran.1 v ran.3, ran.4)
-same_product fast makes same s (Err e) t ran = ran
+same_product : {V : Type 0} (fields : Outcome V) {makes : V → V → Type 0} → IsSame makes
+    → Spares (ProductOutcome fields makes) (ProductOutcome fields (λ x v. v ≡ x))
+same_product fields same s t (Ok v) ran spared = (ran.0, ran.1, ran.2, same ran.1 v ran.3, ran.4)
+same_product fields same s t (Err e) ran spared = ran
 
--- a group by such a constructor that begins with an item, told as one value
-pub begun_by : {V : Type 0} (fast : Outcome V) (makes : V → V → Type 0) (told : V → Value → Type 0)
-    (first : Part) (s t : Situation) (r : Result Value Error)
+-- what is told of the one answer is told of the other, where each is such a one
+told_as : {V : Type 0} (inner more : Outcome V) (told : V → Value → Type 0) (s t : Situation)
+    → ((r : Result V Error) → inner s r t → more s r t) → (r : Result Value Error)
+    → ToldOutcome inner told s r t → ToldOutcome more told s r t
+told_as inner more told s t by (Ok v) ran = (ran.0, by (Ok ran.0) ran.1, ran.2)
+told_as inner more told s t by (Err e) ran = ⊎_elim (λ refusal. inl (by (Err e) refusal))
+    (λ short. inr (short.0, by (Ok short.0) short.1, short.2)) ran
+
+-- a product by such a constructor, told as one value
+pub nested_by : {V : Type 0} (fields : Outcome V) {makes : V → V → Type 0}
+    (told : V → Value → Type 0) (s t : Situation) (r : Result Value Error)
+    → ToldOutcome (ProductOutcome fields makes) told s r t → IsSame makes
+    → NestedOutcome fields told s r t
+nested_by {V} fields {makes} told s t r ran same = told_as (ProductOutcome fields makes)
+    (ProductOutcome fields (λ x v. v ≡ x)) told s t by_answer r ran
+  where
+    by_answer : (r : Result V Error) → ProductOutcome fields makes s r t
+        → ProductOutcome fields (λ x v. v ≡ x) s r t
+    by_answer (Ok v) ran = same_product fields same s t (Ok v) ran tt
+    by_answer (Err e) ran = ran
+
+-- so is a group by it that begins with an item
+pub begun_by : {V : Type 0} (fast : Outcome V) {makes : V → V → Type 0}
+    (told : V → Value → Type 0) (first : Part) (s t : Situation) (r : Result Value Error)
     → ToldOutcome (GroupOutcome V (ProductOutcome fast makes) first) told s r t → IsSame makes
     → BegunOutcome fast told first s r t
-begun_by {V} fast makes told first s t (Ok v) ran same =
-    let more = same_product fast makes same in (
-      ran.0,
-      group_more (ProductOutcome fast makes) (ProductOutcome fast (λ x y. y ≡ x)) more s first
-          (Ok ran.0) t ran.1,
-      ran.2,
-    )
-begun_by {V} fast makes told first s t (Err e) ran same =
-    let more = same_product fast makes same in
-    let by = group_more (ProductOutcome fast makes) (ProductOutcome fast (λ x y. y ≡ x)) more s
-    first in
-    ⊎_elim (λ refusal. inl (by (Err e) t refusal))
-    (λ short. inr (short.0, by (Ok short.0) t short.1, short.2)) ran
+begun_by {V} fast {makes} told first s t r ran same = told_as
+    (GroupOutcome V (ProductOutcome fast makes) first)
+    (GroupOutcome V (ProductOutcome fast (λ x v. v ≡ x)) first) told s t
+    (λ answer group. spared_group _ _ (same_product fast same) s group) r ran
 
 -- two members
 pub two_members : {T : Type 0} (xs : List T) (a b : T) → 2 ≤ length xs → length xs < 3

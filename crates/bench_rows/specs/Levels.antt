@@ -5,21 +5,20 @@ use Rattle.std.specs.declared.alloc.Global.{Global}
 use Rattle.bpaf_doc.specs.Shape.{Shape, Skip, Part, part_of}
 use Rattle.bpaf_doc.specs.declared.item.Item.{Item}
 use Rattle.bpaf_words.specs.Line.{ShortNames}
-use Rattle.bpaf_laws.specs.Laws.{ShowsNames, joined_shorts, no_shorts, Lawful, Keeps, Reads}
-use Rattle.bpaf_laws.specs.Laws.{NamesAnswer, all_shorts}
-use Rattle.bpaf_laws.specs.Choice.{ChoiceOutcome, ChoiceReads, ChoiceDescribes, ChoicesOutcome}
-use Rattle.bpaf_laws.specs.Choice.{ChoicesReads, ChoicesDescribes}
+use Rattle.bpaf_laws.specs.Laws.{ShowsNames, joined_shorts, no_shorts, Lawful, all_shorts}
+use Rattle.bpaf_laws.specs.Laws.{FieldsShowNames}
+use Rattle.bpaf_laws.specs.Choice.{ChoicesOutcome, ChoicesReads, ChoicesDescribes}
 use Rattle.bpaf_laws.specs.Product.{BothOutcome, BothReads, BothDescribes, LastDescribes}
 use Rattle.bpaf_laws.specs.Product.{ProductOutcome, ProductDescribes, FailFastOutcome}
 use Rattle.bpaf_laws.specs.Combinators.{GivesRefusal, PureOutcome, PureReads, MapReads}
 use Rattle.bpaf_laws.specs.Reading.{Readings, Outcome}
 use Rattle.bpaf_laws.specs.Adjacent.{GroupOutcome, StretchReads, GroupDescribes}
 use Rattle.bpaf_laws.specs.{Command.CommandDescribes, Leaves.Looks}
-use Rattle.bpaf_laws.proofs.ShownNames.{both_show, choice_shows, last_shows, one_shape}
+use Rattle.bpaf_laws.proofs.ShownNames.{both_show, last_shows, one_shape}
 use Rattle.bpaf_laws.proofs.ShownNames.{product_shows, choices_show, command_shows, group_shows}
-use Rattle.bpaf_laws.proofs.ChoiceLaws.{choice_lawful, choices_lawful}
+use Rattle.bpaf_laws.proofs.ChoiceLaws.{choices_lawful}
 use Rattle.bpaf_laws.proofs.ProductLaws.{both_lawful, product_lawful, fail_fast_lawful}
-use Rattle.bpaf_laws.proofs.Keeping.{keeps_refl, names_same}
+use Rattle.bpaf_laws.proofs.Keeping.{keeps_refl, names_same, lawful_by, lawful_answer, AnswersLawfully}
 use Rattle.bpaf_laws.proofs.{LeafLaws.refusal_lawful, AdjacentLaws.group_lawful}
 use Rattle.bench_values.specs.Modifiers.{ToldPair, ToldTriple, ToldQuadruple, ToldOutcome}
 use Rattle.bench_values.specs.Modifiers.{told_lawful, CalledOutcome, CalledReads, called_lawful}
@@ -51,19 +50,6 @@ nested_lawful : {V : Type 0} {fields : Outcome V} {reads : Readings V} (told : V
     → Lawful V fields reads → Lawful Value (NestedOutcome fields told) (NestedReads reads told)
 nested_lawful told law = told_lawful told (product_lawful (λ x v. v ≡ x) law)
 
--- the product of two parsers
-abbrev pub TwoOutcome : Outcome Value → Outcome Value → Outcome Value
-TwoOutcome p q = NestedOutcome (BothOutcome p q) ToldPair
-
--- the product of three parsers
-abbrev pub ThreeOutcome : Outcome Value → Outcome Value → Outcome Value → Outcome Value
-ThreeOutcome p q r = NestedOutcome (BothOutcome p (BothOutcome q r)) ToldTriple
-
--- the product of four parsers
-abbrev pub FourOutcome : Outcome Value → Outcome Value → Outcome Value → Outcome Value
-    → Outcome Value
-FourOutcome p q r s = NestedOutcome (BothOutcome p (BothOutcome q (BothOutcome r s))) ToldQuadruple
-
 -- the fields of two parsers, as they read
 abbrev pub TwoFields : Readings Value → Readings Value → Readings (Value × Value)
 TwoFields p q = BothReads Value Value p q
@@ -82,23 +68,30 @@ FourFields p q r s = BothReads Value (Value × (Value × Value)) p (ThreeFields 
 abbrev pub Describes : Type 1
 Describes = Shape → Type 0
 
--- what two fields show, the one after the other
-abbrev pub TwoDescribe : Describes → Describes → List Shape → Type 0
-TwoDescribe p q = BothDescribes p (LastDescribes q)
+-- what the fields of a parser and of those after it show, one after the other
+abbrev pub FieldsDescribe : {P : Type 0} → (P → Describes) → P → List P → List Shape → Type 0
+FieldsDescribe d p [] = LastDescribes (d p)
+FieldsDescribe d p (q ∷ qs) = BothDescribes (d p) (FieldsDescribe d q qs)
 
--- what three fields show
-abbrev pub ThreeDescribe : Describes → Describes → Describes → List Shape → Type 0
-ThreeDescribe p q r = BothDescribes p (TwoDescribe q r)
+-- the short names that they show
+abbrev pub fields_shorts : {P : Type 0} → (P → ShortNames) → P → List P → ShortNames
+fields_shorts n p [] = n p
+fields_shorts n p (q ∷ qs) = joined_shorts (n p) (fields_shorts n q qs)
 
--- what four fields show
-abbrev pub FourDescribe : Describes → Describes → Describes → Describes → List Shape → Type 0
-FourDescribe p q r s = BothDescribes p (ThreeDescribe q r s)
+-- so they do where the parsers show theirs
+fields_show : {P : Type 0} {d : P → Describes} {n : P → ShortNames}
+    → ((p : P) → ShowsNames (d p) (n p)) → (p : P) (ps : List P)
+    → FieldsShowNames (FieldsDescribe d p ps) (fields_shorts n p ps)
+fields_show each p [] = last_shows (each p)
+fields_show each p (q ∷ qs) = both_show (each p) (fields_show each q qs)
 
 -- the product of two, three or four parsers
 abbrev pub TupleOutcome : {P : Type 0} → (P → Outcome Value) → List P → Outcome Value
-TupleOutcome o (p ∷ q ∷ []) = TwoOutcome (o p) (o q)
-TupleOutcome o (p ∷ q ∷ r ∷ []) = ThreeOutcome (o p) (o q) (o r)
-TupleOutcome o (p ∷ q ∷ r ∷ s ∷ []) = FourOutcome (o p) (o q) (o r) (o s)
+TupleOutcome o (p ∷ q ∷ []) = NestedOutcome (BothOutcome (o p) (o q)) ToldPair
+TupleOutcome o (p ∷ q ∷ r ∷ []) =
+    NestedOutcome (BothOutcome (o p) (BothOutcome (o q) (o r))) ToldTriple
+TupleOutcome o (p ∷ q ∷ r ∷ s ∷ []) =
+    NestedOutcome (BothOutcome (o p) (BothOutcome (o q) (BothOutcome (o r) (o s)))) ToldQuadruple
 TupleOutcome o _ = PureOutcome (GivesRefusal wrong_number)
 
 -- what is read of it
@@ -110,81 +103,37 @@ TupleReads f _ = PureReads (λ v. ⊥)
 
 -- what it shows
 abbrev pub TupleDescribes : {P : Type 0} → (P → Describes) → List P → Shape → Type 0
-TupleDescribes d (p ∷ q ∷ []) shape = ProductDescribes (TwoDescribe (d p) (d q)) shape
-TupleDescribes d (p ∷ q ∷ r ∷ []) shape = ProductDescribes (ThreeDescribe (d p) (d q) (d r)) shape
+TupleDescribes d (p ∷ q ∷ []) shape = ProductDescribes (FieldsDescribe d p (q ∷ [])) shape
+TupleDescribes d (p ∷ q ∷ r ∷ []) shape = ProductDescribes (FieldsDescribe d p (q ∷ r ∷ [])) shape
 TupleDescribes d (p ∷ q ∷ r ∷ s ∷ []) shape =
-    ProductDescribes (FourDescribe (d p) (d q) (d r) (d s)) shape
+    ProductDescribes (FieldsDescribe d p (q ∷ r ∷ s ∷ [])) shape
 TupleDescribes d _ shape = shape ≡ Skip
 
 -- the short names that it shows
 abbrev pub tuple_shorts : {P : Type 0} → (P → ShortNames) → List P → ShortNames
-tuple_shorts n (p ∷ q ∷ []) = joined_shorts (n p) (n q)
-tuple_shorts n (p ∷ q ∷ r ∷ []) = joined_shorts (n p) (joined_shorts (n q) (n r))
-tuple_shorts n (p ∷ q ∷ r ∷ s ∷ []) =
-    joined_shorts (n p) (joined_shorts (n q) (joined_shorts (n r) (n s)))
+tuple_shorts n (p ∷ q ∷ []) = fields_shorts n p (q ∷ [])
+tuple_shorts n (p ∷ q ∷ r ∷ []) = fields_shorts n p (q ∷ r ∷ [])
+tuple_shorts n (p ∷ q ∷ r ∷ s ∷ []) = fields_shorts n p (q ∷ r ∷ s ∷ [])
 tuple_shorts n _ = no_shorts
 
 -- so it does where its parsers show theirs
-pub tuple_shows : {P : Type 0} (d : P → Describes) (n : P → ShortNames)
+pub tuple_shows : {P : Type 0} {d : P → Describes} {n : P → ShortNames}
     → ((p : P) → ShowsNames (d p) (n p)) → (ps : List P)
     → ShowsNames (TupleDescribes d ps) (tuple_shorts n ps)
-tuple_shows d n each (p ∷ q ∷ []) = product_shows (both_show (each p) (last_shows (each q)))
-tuple_shows d n each (p ∷ q ∷ r ∷ []) =
-    product_shows (both_show (each p) (both_show (each q) (last_shows (each r))))
-tuple_shows d n each (p ∷ q ∷ r ∷ s ∷ []) =
-    let last_two = both_show (each r) (last_shows (each s)) in
-    product_shows (both_show (each p) (both_show (each q) last_two))
-tuple_shows d n each _ = one_shape refl
+tuple_shows each (p ∷ q ∷ []) = product_shows (fields_show each p (q ∷ []))
+tuple_shows each (p ∷ q ∷ r ∷ []) = product_shows (fields_show each p (q ∷ r ∷ []))
+tuple_shows each (p ∷ q ∷ r ∷ s ∷ []) = product_shows (fields_show each p (q ∷ r ∷ s ∷ []))
+tuple_shows each _ = one_shape refl
 
 -- it keeps to the laws where its parsers do
-pub tuple_lawful : {P : Type 0} (o : P → Outcome Value) (f : P → Readings Value) (ps : List P)
+pub tuple_lawful : {P : Type 0} {o : P → Outcome Value} {f : P → Readings Value} (ps : List P)
     → ((p : P) → Lawful Value (o p) (f p)) → Lawful Value (TupleOutcome o ps) (TupleReads f ps)
-tuple_lawful o f (p ∷ q ∷ []) each = nested_lawful ToldPair (both_lawful (each p) (each q))
-tuple_lawful o f (p ∷ q ∷ r ∷ []) each =
+tuple_lawful (p ∷ q ∷ []) each = nested_lawful ToldPair (both_lawful (each p) (each q))
+tuple_lawful (p ∷ q ∷ r ∷ []) each =
     nested_lawful ToldTriple (both_lawful (each p) (both_lawful (each q) (each r)))
-tuple_lawful o f (p ∷ q ∷ r ∷ s ∷ []) each =
-    let last_two = both_lawful (each r) (each s) in
-    nested_lawful ToldQuadruple (both_lawful (each p) (both_lawful (each q) last_two))
-tuple_lawful o f _ each = refusal_lawful wrong_number
-
--- the first that reads of two or three parsers
-abbrev pub OrElseOutcome : {P : Type 0} → (P → Outcome Value) → List P → Outcome Value
-OrElseOutcome o (p ∷ q ∷ []) = ChoiceOutcome (o p) (o q)
-OrElseOutcome o (p ∷ q ∷ r ∷ []) = ChoiceOutcome (ChoiceOutcome (o p) (o q)) (o r)
-OrElseOutcome o _ = PureOutcome (GivesRefusal wrong_number)
-
--- what is read of it
-abbrev pub OrElseReads : {P : Type 0} → (P → Readings Value) → List P → Readings Value
-OrElseReads f (p ∷ q ∷ []) = ChoiceReads (f p) (f q)
-OrElseReads f (p ∷ q ∷ r ∷ []) = ChoiceReads (ChoiceReads (f p) (f q)) (f r)
-OrElseReads f _ = PureReads (λ v. ⊥)
-
--- what it shows
-abbrev pub OrElseDescribes : {P : Type 0} → (P → Describes) → List P → Shape → Type 0
-OrElseDescribes d (p ∷ q ∷ []) shape = ChoiceDescribes (d p) (d q) shape
-OrElseDescribes d (p ∷ q ∷ r ∷ []) shape = ChoiceDescribes (ChoiceDescribes (d p) (d q)) (d r) shape
-OrElseDescribes d _ shape = shape ≡ Skip
-
--- the short names that it shows
-abbrev pub or_else_shorts : {P : Type 0} → (P → ShortNames) → List P → ShortNames
-or_else_shorts n (p ∷ q ∷ []) = joined_shorts (n p) (n q)
-or_else_shorts n (p ∷ q ∷ r ∷ []) = joined_shorts (joined_shorts (n p) (n q)) (n r)
-or_else_shorts n _ = no_shorts
-
--- so it does where its parsers show theirs
-pub or_else_shows : {P : Type 0} (d : P → Describes) (n : P → ShortNames)
-    → ((p : P) → ShowsNames (d p) (n p)) → (ps : List P)
-    → ShowsNames (OrElseDescribes d ps) (or_else_shorts n ps)
-or_else_shows d n each (p ∷ q ∷ []) = choice_shows (each p) (each q)
-or_else_shows d n each (p ∷ q ∷ r ∷ []) = choice_shows (choice_shows (each p) (each q)) (each r)
-or_else_shows d n each _ = one_shape refl
-
--- it keeps to the laws where its parsers do
-pub or_else_lawful : {P : Type 0} (o : P → Outcome Value) (f : P → Readings Value) (ps : List P)
-    → ((p : P) → Lawful Value (o p) (f p)) → Lawful Value (OrElseOutcome o ps) (OrElseReads f ps)
-or_else_lawful o f (p ∷ q ∷ []) each = choice_lawful (each p) (each q)
-or_else_lawful o f (p ∷ q ∷ r ∷ []) each = choice_lawful (choice_lawful (each p) (each q)) (each r)
-or_else_lawful o f _ each = refusal_lawful wrong_number
+tuple_lawful (p ∷ q ∷ r ∷ s ∷ []) each = nested_lawful ToldQuadruple
+    (both_lawful (each p) (both_lawful (each q) (both_lawful (each r) (each s))))
+tuple_lawful _ each = refusal_lawful wrong_number
 
 -- Adjacent groups of parsers of one type.
 
@@ -222,56 +171,28 @@ begun_lawful : {V : Type 0} {fast : Outcome V} {reads : Readings V} (told : V �
 begun_lawful told first law =
     told_lawful told (group_lawful first (product_lawful (λ x v. v ≡ x) law))
 
-module _ {V : Type 0} {fast : Outcome V} {reads : Readings V} (describes : List Shape → Type 0)
-    (told : V → Value → Type 0) (law : Lawful V fast reads) (s : Situation) where
-  -- a value of a group is a reading
-  grouped_ok : (v : Value) (t : Situation) → GroupedOutcome fast describes told s (Ok v) t
-      → Reads Value (GroupedReads reads told) s v t
-  grouped_ok v t (begun item r t' shown ran) = (begun_lawful told (part_of item) law).ok s t v ran
-  grouped_ok v t (headless r t' none refused) = absurd refused.0
-
-  -- a refusal keeps all
-  grouped_err : (e : Error) (t : Situation) → GroupedOutcome fast describes told s (Err e) t
-      → Keeps s t
-  grouped_err e t (begun item r t' shown ran) = (begun_lawful told (part_of item) law).err s t e ran
-  grouped_err e t (headless r t' none refused) =
-      (refusal_lawful {T = Value} no_first_item).err s t e refused
-  grouped_err e t (wanted e' memory) = keeps_refl s
-
-  -- a refusal names its answer
-  grouped_named : (e : Error) (t : Situation) → GroupedOutcome fast describes told s (Err e) t
-      → NamesAnswer e.0
-  grouped_named e t (begun item r t' shown ran) =
-      (begun_lawful told (part_of item) law).named s t e ran
-  grouped_named e t (headless r t' none refused) =
-      (refusal_lawful {T = Value} no_first_item).named s t e refused
-  grouped_named e t (wanted e' memory) = names_same e.0 Memory tt memory
-
--- a group keeps to the laws where its fields do
+-- so does a group
 grouped_lawful : {V : Type 0} {fast : Outcome V} {reads : Readings V}
     (describes : List Shape → Type 0) (told : V → Value → Type 0) → Lawful V fast reads
     → Lawful Value (GroupedOutcome fast describes told) (GroupedReads reads told)
-grouped_lawful describes told law = record {
-  ok = λ s t v o. grouped_ok describes told law s v t o;
-  err = λ s t e o. grouped_err describes told law s e t o;
-  named = λ s t e o. grouped_named describes told law s e t o;
-}
-
--- the group of two parsers
-abbrev pub TwoGrouped : Outcome Value → Outcome Value → Describes → Describes → Outcome Value
-TwoGrouped p q dp dq = GroupedOutcome (FailFastOutcome p q) (TwoDescribe dp dq) ToldPair
-
--- the group of three parsers
-abbrev pub ThreeGrouped : Outcome Value → Outcome Value → Outcome Value → Describes → Describes
-    → Describes → Outcome Value
-ThreeGrouped p q r dp dq dr =
-    GroupedOutcome (FailFastOutcome p (BothOutcome q r)) (ThreeDescribe dp dq dr) ToldTriple
+grouped_lawful {fast = fast} {reads} describes told law = lawful_by answers
+  where
+    answers : AnswersLawfully (GroupedOutcome fast describes told) (GroupedReads reads told)
+    answers s r t (begun item _ _ shown ran) =
+        lawful_answer (begun_lawful told (part_of item) law) s r t ran
+    answers s (Ok v) t (headless _ _ none refused) = absurd refused.0
+    answers s (Err e) t (headless _ _ none refused) =
+        lawful_answer (refusal_lawful {T = Value} no_first_item) s (Err e) t refused
+    answers s r t (wanted e memory) = (keeps_refl s, names_same e.0 Memory tt memory)
 
 -- the group of two or three parsers
 abbrev pub TogetherOutcome : {P : Type 0} → (P → Outcome Value) → (P → Describes) → List P
     → Outcome Value
-TogetherOutcome o d (p ∷ q ∷ []) = TwoGrouped (o p) (o q) (d p) (d q)
-TogetherOutcome o d (p ∷ q ∷ r ∷ []) = ThreeGrouped (o p) (o q) (o r) (d p) (d q) (d r)
+TogetherOutcome o d (p ∷ q ∷ []) =
+    GroupedOutcome (FailFastOutcome (o p) (o q)) (FieldsDescribe d p (q ∷ [])) ToldPair
+TogetherOutcome o d (p ∷ q ∷ r ∷ []) =
+    GroupedOutcome (FailFastOutcome (o p) (BothOutcome (o q) (o r)))
+    (FieldsDescribe d p (q ∷ r ∷ [])) ToldTriple
 TogetherOutcome o d _ = PureOutcome (GivesRefusal wrong_number)
 
 -- what is read of it
@@ -281,26 +202,26 @@ TogetherReads f (p ∷ q ∷ r ∷ []) = GroupedReads (ThreeFields (f p) (f q) (
 TogetherReads f _ = PureReads (λ v. ⊥)
 
 -- it keeps to the laws where its parsers do
-pub together_lawful : {P : Type 0} (o : P → Outcome Value) (f : P → Readings Value)
+pub together_lawful : {P : Type 0} {o : P → Outcome Value} {f : P → Readings Value}
     (d : P → Describes) (ps : List P) → ((p : P) → Lawful Value (o p) (f p))
     → Lawful Value (TogetherOutcome o d ps) (TogetherReads f ps)
-together_lawful o f d (p ∷ q ∷ []) each =
-    grouped_lawful (TwoDescribe (d p) (d q)) ToldPair (fail_fast_lawful (each p) (each q))
-together_lawful o f d (p ∷ q ∷ r ∷ []) each =
-    grouped_lawful (ThreeDescribe (d p) (d q) (d r)) ToldTriple
-    (fail_fast_lawful (each p) (both_lawful (each q) (each r)))
-together_lawful o f d _ each = refusal_lawful wrong_number
+together_lawful d (p ∷ q ∷ []) each =
+    grouped_lawful _ ToldPair (fail_fast_lawful (each p) (each q))
+together_lawful d (p ∷ q ∷ r ∷ []) each =
+    grouped_lawful _ ToldTriple (fail_fast_lawful (each p) (both_lawful (each q) (each r)))
+together_lawful d _ each = refusal_lawful wrong_number
 
 -- A level: what its kind makes of the inner parsers.
 
--- what a level answers: a modifier and a command are over the choice of all its parsers
+-- what a level answers: a modifier and a command are over the choice of all its parsers, which
+-- `or_else` writes one after the other
 abbrev pub LevelOutcome : {P : Type 0} → (P → Outcome Value) → (P → Shape → Type 0) → Clones → Kind
     → List P → Outcome Value
 LevelOutcome outcome describes clones (kind.Over m) ps =
     OverOutcome clones m (ChoicesOutcome outcome ps)
 LevelOutcome outcome describes clones kind.Product ps = TupleOutcome outcome ps
 LevelOutcome outcome describes clones kind.Group ps = TogetherOutcome outcome describes ps
-LevelOutcome outcome describes clones kind.OrElse ps = OrElseOutcome outcome ps
+LevelOutcome outcome describes clones kind.OrElse ps = ChoicesOutcome outcome ps
 LevelOutcome outcome describes clones (kind.Command called adjacent) ps =
     CalledOutcome adjacent called (ChoicesOutcome outcome ps) (ChoicesDescribes describes ps)
 
@@ -310,7 +231,7 @@ abbrev pub LevelReads : {P : Type 0} → (P → Readings Value) → Clones → K
 LevelReads reads clones (kind.Over m) ps = OverReads clones m (ChoicesReads reads ps)
 LevelReads reads clones kind.Product ps = TupleReads reads ps
 LevelReads reads clones kind.Group ps = TogetherReads reads ps
-LevelReads reads clones kind.OrElse ps = OrElseReads reads ps
+LevelReads reads clones kind.OrElse ps = ChoicesReads reads ps
 LevelReads reads clones (kind.Command called adjacent) ps =
     CalledReads adjacent called (ChoicesReads reads ps)
 
@@ -320,7 +241,7 @@ LevelDescribes describes (kind.Over m) ps shape =
     OverDescribes m (ChoicesDescribes describes ps) shape
 LevelDescribes describes kind.Product ps shape = TupleDescribes describes ps shape
 LevelDescribes describes kind.Group ps shape = GroupDescribes (TupleDescribes describes ps) shape
-LevelDescribes describes kind.OrElse ps shape = OrElseDescribes describes ps shape
+LevelDescribes describes kind.OrElse ps shape = ChoicesDescribes describes ps shape
 LevelDescribes describes (kind.Command called adjacent) ps shape =
     CommandDescribes called None (ChoicesDescribes describes ps) shape
 
@@ -329,7 +250,7 @@ abbrev pub level_shorts : {P : Type 0} → (P → ShortNames) → Kind → List 
 level_shorts names (kind.Over m) ps = over_shorts m (all_shorts names ps)
 level_shorts names kind.Product ps = tuple_shorts names ps
 level_shorts names kind.Group ps = tuple_shorts names ps
-level_shorts names kind.OrElse ps = or_else_shorts names ps
+level_shorts names kind.OrElse ps = all_shorts names ps
 level_shorts names (kind.Command called adjacent) ps = all_shorts names ps
 
 -- so it does where its parsers show theirs
@@ -338,9 +259,9 @@ pub level_shows : {P : Type 0} (describes : P → Shape → Type 0) (names : P �
     → ShowsNames (LevelDescribes describes k ps) (level_shorts names k ps)
 level_shows describes names each (kind.Over m) ps =
     over_shows m (choices_show describes names each ps)
-level_shows describes names each kind.Product ps = tuple_shows describes names each ps
-level_shows describes names each kind.Group ps = group_shows (tuple_shows describes names each ps)
-level_shows describes names each kind.OrElse ps = or_else_shows describes names each ps
+level_shows describes names each kind.Product ps = tuple_shows each ps
+level_shows describes names each kind.Group ps = group_shows (tuple_shows each ps)
+level_shows describes names each kind.OrElse ps = choices_show describes names each ps
 level_shows describes names each (kind.Command called adjacent) ps =
     command_shows (choices_show describes names each ps) called None
 
@@ -351,12 +272,11 @@ pub level_lawful : {P : Type 0} (outcome : P → Outcome Value) (reads : P → R
     → Lawful Value (LevelOutcome outcome describes clones k ps) (LevelReads reads clones k ps)
 level_lawful outcome reads describes clones (kind.Over m) ps each =
     over_lawful clones m (choices_lawful outcome reads ps each)
-level_lawful outcome reads describes clones kind.Product ps each =
-    tuple_lawful outcome reads ps each
+level_lawful outcome reads describes clones kind.Product ps each = tuple_lawful ps each
 level_lawful outcome reads describes clones kind.Group ps each =
-    together_lawful outcome reads describes ps each
+    together_lawful describes ps each
 level_lawful outcome reads describes clones kind.OrElse ps each =
-    or_else_lawful outcome reads ps each
+    choices_lawful outcome reads ps each
 level_lawful outcome reads describes clones (kind.Command called adjacent) ps each =
     called_lawful adjacent called (ChoicesDescribes describes ps)
     (choices_lawful outcome reads ps each)

@@ -2,8 +2,7 @@
 ghost use Rattle.std.specs.Prelude.{All, IfOk};
 ghost use Rattle.bpaf_doc.specs.Shape.{shape_of};
 ghost use Rattle.bpaf_laws.specs.Adjacent.{GroupDescribes};
-ghost use Rattle.bench_rows.specs.Levels.{GroupedOutcome, ThreeGrouped, TogetherOutcome};
-ghost use Rattle.bench_rows.specs.Levels.{TwoGrouped, TupleDescribes};
+ghost use Rattle.bench_rows.specs.Levels.{GroupedOutcome, TogetherOutcome, TupleDescribes};
 
 use crate::several::{Three, ThreeFields, Two, TwoFields, product_meta, three_fields, two_fields};
 use bench_values::{Told, Value, tell};
@@ -33,28 +32,6 @@ where
     }
 }
 
-/// The values of an adjacent group of two parsers.
-fn two_together<P: Parser<Value>>(a: &P, b: &P, state: &mut State) -> Result<Value, Error>
-    requires a { P.can_eval a.now }
-    requires b { P.can_eval b.now }
-    ensures { TwoGrouped (P.outcome a.now) (P.outcome b.now) (P.describes a.now)
-        (P.describes b.now) state.old result state.new }
-{
-    grouped::<Two, TwoFields<'_, P>>(two_fields(a, b), state)
-}
-
-/// The values of an adjacent group of three parsers.
-fn three_together<P: Parser<Value>>(a: &P, b: &P, c: &P, state: &mut State) -> Result<Value, Error>
-    requires a { P.can_eval a.now }
-    requires b { P.can_eval b.now }
-    requires c { P.can_eval c.now }
-    ensures { ThreeGrouped (P.outcome a.now) (P.outcome b.now) (P.outcome c.now)
-        (P.describes a.now) (P.describes b.now) (P.describes c.now)
-        state.old result state.new }
-{
-    grouped::<Three, ThreeFields<'_, P>>(three_fields(a, b, c), state)
-}
-
 /// The values of an adjacent group of two or three parsers; a refusal where the first of them shows
 /// no item first.
 pub fn group<P: Parser<Value>>(parsers: &[P], state: &mut State) -> Result<Value, Error>
@@ -62,8 +39,8 @@ pub fn group<P: Parser<Value>>(parsers: &[P], state: &mut State) -> Result<Value
     ensures { TogetherOutcome P.outcome P.describes parsers.now state.old result state.new }
 {
     match parsers {
-        [a, b] => two_together(a, b, state),
-        [a, b, c] => three_together(a, b, c, state),
+        [a, b] => grouped::<Two, TwoFields<'_, P>>(two_fields(a, b), state),
+        [a, b, c] => grouped::<Three, ThreeFields<'_, P>>(three_fields(a, b, c), state),
         _ => fail::<Value>("wrong number of parsers").eval(state),
     }
 }

@@ -41,7 +41,7 @@ impl<P: Parser<Value> + Drop> Parser<Value> for Level<P> {
             Kind::Over(modifier) => modified(*modifier, &self.inner, state),
             Kind::Product => product(self.inner.parsers.as_slice(), state),
             Kind::Group => group(self.inner.parsers.as_slice(), state),
-            Kind::OrElse => or_else(self.inner.parsers.as_slice(), state),
+            Kind::OrElse => or_else(&self.inner, state),
             Kind::Command(names, adjacent) => called(names, *adjacent, &self.inner, state),
         }
     }
@@ -51,7 +51,7 @@ impl<P: Parser<Value> + Drop> Parser<Value> for Level<P> {
             Kind::Over(modifier) => modified_meta(*modifier, &self.inner, alloc),
             Kind::Product => product_meta(self.inner.parsers.as_slice(), alloc),
             Kind::Group => group_meta(self.inner.parsers.as_slice(), alloc),
-            Kind::OrElse => or_else_meta(self.inner.parsers.as_slice(), alloc),
+            Kind::OrElse => or_else_meta(&self.inner, alloc),
             Kind::Command(names, _) => called_meta(names, &self.inner, alloc),
         }
     }

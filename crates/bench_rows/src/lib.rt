@@ -36,7 +36,6 @@ mod level;
 mod names;
 mod one_text;
 mod options;
-mod product;
 mod reading;
 mod run;
 mod several;

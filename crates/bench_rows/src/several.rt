@@ -1,14 +1,12 @@
 //! Products and choices of several described parsers.
 ghost use Rattle.std.specs.Prelude.{◌≡◌, All, IfOk};
 ghost use Rattle.bpaf_doc.specs.Shape.{shape_of};
+ghost use Rattle.bpaf_laws.specs.Choice.{ChoicesDescribes, ChoicesOutcome};
 ghost use Rattle.bpaf_laws.specs.Product.{ProductDescribes};
-ghost use Rattle.bench_rows.specs.Levels.{FourOutcome, NestedOutcome, ThreeOutcome, TwoOutcome};
-ghost use Rattle.bench_rows.specs.Levels.{OrElseDescribes, OrElseOutcome, TupleDescribes};
-ghost use Rattle.bench_rows.specs.Levels.{TupleOutcome};
+ghost use Rattle.bench_rows.specs.Levels.{NestedOutcome, TupleDescribes, TupleOutcome};
 
-use crate::product::Product;
 use bench_values::{Lent, Told, Value, tell};
-use bpaf::parsers::ParseOrElse;
+use bpaf::parsers::{ParseChoice, ParseCon, ParseOrElse};
 use bpaf::{Both, Error, Fields, Last, Meta, Parser, State, fail};
 use std::alloc::{AllocError, Global};
 use std::marker::PhantomData;
@@ -36,8 +34,9 @@ fn nested<V: Told + Drop, F: Fields<V> + Drop>(fields: F, state: &mut State) -> 
     requires { F.can_eval fields }
     ensures { NestedOutcome (F.outcome fields) V.told state.old result state.new }
 {
-    let product: Product<V, F> = Product {
+    let product = ParseCon {
         fields,
+        make: |values: V| values,
         values: PhantomData,
     };
     tell(product, state)
@@ -48,8 +47,9 @@ fn nested_meta<V: Drop, F: Fields<V> + Drop>(fields: F, alloc: Global) -> Result
     requires { F.can_eval fields }
     ensures { IfOk result (λ meta. ProductDescribes (F.describes fields) (shape_of meta)) }
 {
-    let product: Product<V, F> = Product {
+    let product = ParseCon {
         fields,
+        make: |values: V| values,
         values: PhantomData,
     };
     product.meta(alloc)
@@ -89,53 +89,15 @@ fn four_fields<'p, P>(a: &'p P, b: &'p P, c: &'p P, d: &'p P) -> FourFields<'p, 
     Both { first, rest }
 }
 
-/// The values of two parsers, the one after the other.
-fn two_values<P: Parser<Value>>(a: &P, b: &P, state: &mut State) -> Result<Value, Error>
-    requires a { P.can_eval a.now }
-    requires b { P.can_eval b.now }
-    ensures { TwoOutcome (P.outcome a.now) (P.outcome b.now) state.old result state.new }
-{
-    nested::<Two, TwoFields<'_, P>>(two_fields(a, b), state)
-}
-
-/// The values of three parsers, the one after the other.
-fn three_values<P: Parser<Value>>(a: &P, b: &P, c: &P, state: &mut State) -> Result<Value, Error>
-    requires a { P.can_eval a.now }
-    requires b { P.can_eval b.now }
-    requires c { P.can_eval c.now }
-    ensures { ThreeOutcome (P.outcome a.now) (P.outcome b.now) (P.outcome c.now)
-        state.old result state.new }
-{
-    nested::<Three, ThreeFields<'_, P>>(three_fields(a, b, c), state)
-}
-
-/// The values of four parsers, the one after the other.
-fn four_values<P: Parser<Value>>(
-    a: &P,
-    b: &P,
-    c: &P,
-    d: &P,
-    state: &mut State,
-) -> Result<Value, Error>
-    requires a { P.can_eval a.now }
-    requires b { P.can_eval b.now }
-    requires c { P.can_eval c.now }
-    requires d { P.can_eval d.now }
-    ensures { FourOutcome (P.outcome a.now) (P.outcome b.now) (P.outcome c.now)
-        (P.outcome d.now) state.old result state.new }
-{
-    nested::<Four, FourFields<'_, P>>(four_fields(a, b, c, d), state)
-}
-
 /// The values of two, three or four parsers, the one after the other.
 pub fn product<P: Parser<Value>>(parsers: &[P], state: &mut State) -> Result<Value, Error>
     requires { All P.can_eval parsers.now }
     ensures { TupleOutcome P.outcome parsers.now state.old result state.new }
 {
     match parsers {
-        [a, b] => two_values(a, b, state),
-        [a, b, c] => three_values(a, b, c, state),
-        [a, b, c, d] => four_values(a, b, c, d, state),
+        [a, b] => nested::<Two, TwoFields<'_, P>>(two_fields(a, b), state),
+        [a, b, c] => nested::<Three, ThreeFields<'_, P>>(three_fields(a, b, c), state),
+        [a, b, c, d] => nested::<Four, FourFields<'_, P>>(four_fields(a, b, c, d), state),
         _ => fail::<Value>("wrong number of parsers").eval(state),
     }
 }
@@ -159,12 +121,15 @@ type EitherOf<'p, P> = ParseOrElse<Lent<'p, P>, Lent<'p, P>>;
 /// The choice of three lent parsers.
 type AnyOf<'p, P> = ParseOrElse<EitherOf<'p, P>, Lent<'p, P>>;
 
-/// The value of one of two or three parsers.
-pub fn or_else<P: Parser<Value>>(parsers: &[P], state: &mut State) -> Result<Value, Error>
-    requires { All P.can_eval parsers.now }
-    ensures { OrElseOutcome P.outcome parsers.now state.old result state.new }
+/// The value of one of the parsers: two or three are written one after the other.
+pub fn or_else<P: Parser<Value> + Drop>(
+    inner: &ParseChoice<P>,
+    state: &mut State,
+) -> Result<Value, Error>
+    requires { All P.can_eval inner.now.parsers.items }
+    ensures { ChoicesOutcome P.outcome inner.now.parsers.items state.old result state.new }
 {
-    match parsers {
+    match inner.parsers.as_slice() {
         [a, b] => {
             let this = Lent { inner: a };
             let that = Lent { inner: b };
@@ -179,16 +144,20 @@ pub fn or_else<P: Parser<Value>>(parsers: &[P], state: &mut State) -> Result<Val
             let parser: AnyOf<'_, P> = ParseOrElse { this, that };
             parser.eval(state)
         }
-        _ => fail::<Value>("wrong number of parsers").eval(state),
+        _ => inner.eval(state),
     }
 }
 
 /// What a choice shows.
-pub fn or_else_meta<P: Parser<Value>>(parsers: &[P], alloc: Global) -> Result<Meta, AllocError>
-    requires { All P.can_eval parsers.now }
-    ensures { IfOk result (λ meta. OrElseDescribes P.describes parsers.now (shape_of meta)) }
+pub fn or_else_meta<P: Parser<Value> + Drop>(
+    inner: &ParseChoice<P>,
+    alloc: Global,
+) -> Result<Meta, AllocError>
+    requires { All P.can_eval inner.now.parsers.items }
+    ensures { IfOk result (λ meta.
+        ChoicesDescribes P.describes inner.now.parsers.items (shape_of meta)) }
 {
-    match parsers {
+    match inner.parsers.as_slice() {
         [a, b] => {
             let this = Lent { inner: a };
             let that = Lent { inner: b };
@@ -203,6 +172,6 @@ pub fn or_else_meta<P: Parser<Value>>(parsers: &[P], alloc: Global) -> Result<Me
             let parser: AnyOf<'_, P> = ParseOrElse { this, that };
             <AnyOf<'_, P> as Parser<Value>>::meta(&parser, alloc)
         }
-        _ => fail::<Value>("wrong number of parsers").meta(alloc),
+        _ => inner.meta(alloc),
     }
 }
