@@ -45,13 +45,11 @@ module _ {P : Type 0} (outcome : P → Outcome Step) (reads : P → Readings Ste
       is.help_is in
       record {
         law = hands.law;
-        hands = hands_also _ (IsCommandPage title)
-            (λ s doc full behind. record {
-              info = command.info;
-              described = is.described;
-              asked = behind;
-            })
-            hands.hands;
+        hands = hands_also (λ s doc full behind. record {
+          info = command.info;
+          described = is.described;
+          asked = behind;
+        }) hands.hands;
         also = hands.also;
         shows = λ shape shown. record {
           info = command.info;

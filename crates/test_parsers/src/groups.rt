@@ -1,28 +1,9 @@
 //! Adjacent groups as a program writes them, and how often one is evaluated.
-use bpaf::params::ParseFlag;
 use bpaf::{AdjacentError, Parser, construct, long, positional, pure};
 use std::alloc::{AllocError, Global};
 use std::cell::Cell;
-use std::fmt::Debug;
 use std::test::Fail;
 use test_support::{answers, num, reads, value, verbose};
-
-/// A flag of this name that has to be there.
-fn required(alloc: Global, name: &str) -> Result<ParseFlag<()>, AllocError> {
-    Ok(long(alloc, name)?.req_flag(()))
-}
-
-/// What the switch `-v` and a group answer to lines.
-fn behind_switch<T: Debug + Drop, P: Parser<T> + Drop>(
-    alloc: Global,
-    group: P,
-    lines: &[&[&str]],
-) -> Result<String, AllocError>
-    requires { P.can_eval group }
-{
-    let verbose = verbose(alloc)?;
-    answers(alloc, construct!(verbose, group), lines)
-}
 
 /// A group between a switch and its words, and behind it.
 const SWITCH_AND_POINT: &[&[&str]] = &[&["--point", "1", "-v", "2"], &["-v", "--point", "1", "2"]];
@@ -34,7 +15,8 @@ fn answered(answers: Result<String, AllocError>) -> Result<String, AdjacentError
 
 /// What the group of `--point` and two numbers answers behind a switch, or any number of groups.
 fn points(alloc: Global, many: bool) -> Result<String, AdjacentError> {
-    let point = required(alloc, "point")?;
+    let point = long(alloc, "point")?.req_flag(());
+    let verbose = verbose(alloc)?;
     let x = positional::<u64>("X");
     let y = positional::<u64>("Y");
     let group = construct!(point, x, y).adjacent(alloc)?;
@@ -42,7 +24,7 @@ fn points(alloc: Global, many: bool) -> Result<String, AdjacentError> {
         let words: [&str; 6] = ["--point", "1", "2", "--point", "3", "4"];
         return answered(answers(alloc, group.many(), &[&words]));
     }
-    answered(behind_switch(alloc, group, SWITCH_AND_POINT))
+    answered(answers(alloc, construct!(verbose, group), SWITCH_AND_POINT))
 }
 
 /// A group whose first field shows no item.
@@ -73,80 +55,6 @@ fn points_are_groups(rt: HostRuntime) -> Result<(), Fail> {
     let two = "ok [((), 1, 2), ((), 3, 4)]\n";
     reads(made(a, points(a, true)), two)?;
     reads(made(a, without_first_item(a)), "no first item")
-}
-
-/// Five groups with a switch inside, and without one.
-const BROKEN: &[&[&str]] = &[&["--a", "--b", "-v", "--c", "--d", "--e", "x"]];
-
-const WHOLE: &[&[&str]] = &[&["--a", "--b", "--c", "--d", "--e", "x"]];
-
-/// What the group of `--a` and another one answers to the whole line, or that behind a switch to
-/// the `broken` one.
-fn behind_a<T: Debug + Drop, P: Parser<T> + Drop>(
-    alloc: Global,
-    inner: P,
-    broken: bool,
-) -> Result<String, AdjacentError>
-    requires { P.can_eval inner }
-{
-    let a = required(alloc, "a")?;
-    let group = construct!(a, inner).adjacent(alloc)?;
-    if broken {
-        return answered(behind_switch(alloc, group, BROKEN));
-    }
-    answered(answers(alloc, group, WHOLE))
-}
-
-/// The same of `--b` inside.
-fn behind_b<T: Debug + Drop, P: Parser<T> + Drop>(
-    alloc: Global,
-    inner: P,
-    broken: bool,
-) -> Result<String, AdjacentError>
-    requires { P.can_eval inner }
-{
-    let b = required(alloc, "b")?;
-    behind_a(alloc, construct!(b, inner).adjacent(alloc)?, broken)
-}
-
-/// The same of `--c` inside.
-fn behind_c<T: Debug + Drop, P: Parser<T> + Drop>(
-    alloc: Global,
-    inner: P,
-    broken: bool,
-) -> Result<String, AdjacentError>
-    requires { P.can_eval inner }
-{
-    let c = required(alloc, "c")?;
-    behind_b(alloc, construct!(c, inner).adjacent(alloc)?, broken)
-}
-
-/// The same of `--d` inside.
-fn behind_d<T: Debug + Drop, P: Parser<T> + Drop>(
-    alloc: Global,
-    inner: P,
-    broken: bool,
-) -> Result<String, AdjacentError>
-    requires { P.can_eval inner }
-{
-    let d = required(alloc, "d")?;
-    behind_c(alloc, construct!(d, inner).adjacent(alloc)?, broken)
-}
-
-/// The same of `--e` and a word inside.
-fn five(alloc: Global, broken: bool) -> Result<String, AdjacentError> {
-    let e = required(alloc, "e")?;
-    let x = positional::<String>("X");
-    behind_d(alloc, construct!(e, x).adjacent(alloc)?, broken)
-}
-
-#[test]
-fn groups_stand_in_one_another(rt: HostRuntime) -> Result<(), Fail> {
-    let a = rt.alloc();
-    let whole = "ok ((), ((), ((), ((), ((), \"x\")))))\n";
-    reads(made(a, five(a, false)), whole)?;
-    let broken = "err expected `--c`, pass `--help` for usage information\n";
-    reads(made(a, five(a, true)), broken)
 }
 
 /// How often the closure of a group's field is called, or why the group can't be made.

@@ -1,5 +1,4 @@
 //! The messages of refusals, where a row needs a text or a metavar that no description has.
-use crate::shared::file;
 use bpaf::{Parser, Text, construct, fail, long, positional, short};
 use std::alloc::{AllocError, Global};
 use std::cell::Cell;
@@ -37,26 +36,6 @@ fn first_alone(alloc: Global) -> Result<String, AllocError> {
 #[test]
 fn check_that_changes_tells_the_word(rt: HostRuntime) -> Result<(), Fail> {
     reads(first_alone(rt.alloc()), "err `2`: no\n")
-}
-
-/// A word behind `--` alone.
-fn strict(alloc: Global) -> Result<String, AllocError> {
-    answers(alloc, file().strict(), &[&["a"], &["--", "a"]])
-}
-
-/// A word before `--` alone.
-fn non_strict(alloc: Global) -> Result<String, AllocError> {
-    answers(alloc, file().non_strict(), &[&["--", "a"]])
-}
-
-/// What the first answers.
-const STRICT: &str = "err expected `FILE` to be on the right side of `--`\nok \"a\"\n";
-
-#[test]
-fn words_on_the_wrong_side_are_told(rt: HostRuntime) -> Result<(), Fail> {
-    reads(strict(rt.alloc()), STRICT)?;
-    let left = "err expected `FILE` to be on the left side of `--`\n";
-    reads(non_strict(rt.alloc()), left)
 }
 
 /// Words that are kept as texts, behind one behind a key.

@@ -3,6 +3,6 @@ use Rattle.example_notes.proofs.run.run.Goals as goal
 
 pub returns : goal.returns
 returns g c = record {
-  answers = of.runs_to _ _ _ _ _ c.print.ensures c.lines_of.ensures.answer;
-  exact = of.prints_text _ _ _ _ c.print.ensures c.lines_of.ensures.exact;
+  answers = of.runs_to c.print.ensures c.lines_of.ensures.answer;
+  exact = of.prints_text c.print.ensures c.lines_of.ensures.exact;
 }
