@@ -180,8 +180,8 @@ module _ (T : Type 0) {qa qb r : Roles} (u : Union qa qb r) (va : LinePiece → 
         rw e (won_first head.2 a.takes o a.first);
   }
 
-module _ {env : Variables} (T : Type 0) (a b : Outcome T) (qa qb : Roles)
-    (va vb : LinePiece → T → Type 0) (la : AlternativeLaw env T a qa va)
+module _ {env : Variables} {T : Type 0} {a b : Outcome T} {qa qb : Roles}
+    {va vb : LinePiece → T → Type 0} (la : AlternativeLaw env T a qa va)
     (lb : AlternativeLaw env T b qb vb) (apart : Apart qa qb) where
   -- the items of both
   u : Union qa qb (either qa qb)

@@ -27,8 +27,7 @@ memory_kept Memory e = refl
 memory_kept (ParseFailure f) e = refl
 memory_kept other e = absurd cc
 
--- what the three tests of a class answer: want of memory, a missing item, and whether it can be
--- caught
+-- what the three tests of a class answer: want of memory, a missing item, whether it can be caught
 abbrev tests_of : ErrorClass → Bool × Bool × Bool
 tests_of OfMemory = (true, false, false)
 tests_of OfMissing = (false, true, true)

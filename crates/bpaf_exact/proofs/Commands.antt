@@ -26,15 +26,11 @@ use Rattle.bpaf_exact.specs.ProgramForm.{Opens, OpensNone, ProgramLaw, ProgramTo
 use Rattle.bpaf_exact.specs.ProgramForm.{OptionalCommands, WordsApart, opens_later, opens_here}
 
 -- Closures.
-module _ {A B : Type 0} (inner : Outcome A) (r : Roles) {value : CellsValue A} {f : Closure A B}
+module _ {A B : Type 0} {inner : Outcome A} {r : Roles} {value : CellsValue A} {f : Closure A B}
     (agrees : (cs : Cells) → AgreesOn (value cs) f) (c : ErrorClass) where
-  -- what the closure makes of the values
-  abbrev closed : CellsValue B
-  closed = ClosedValue value f
-
   -- round a program
   pub closed_program : {env : Variables} → ProgramLaw env A inner r value
-      → ProgramLaw env B (ClosedEval A B inner f c) r closed
+      → ProgramLaw env B (ClosedEval A B inner f c) r (ClosedValue value f)
   closed_program l = record {
     others = λ q n a cs v s h. l.others q n a cs h.from s h.read;
     keeps = closed_keeps c l.keeps (λ s t x v i y. record {
@@ -49,7 +45,7 @@ module _ {A B : Type 0} (inner : Outcome A) (r : Roles) {value : CellsValue A} {
   -- round commands
   pub closed_commands : {env : Variables} {words : List (List ℕ)}
       → CommandsLaw env A inner r words value
-      → CommandsLaw env B (ClosedEval A B inner f c) r words closed
+      → CommandsLaw env B (ClosedEval A B inner f c) r words (ClosedValue value f)
   closed_commands l = record {
     program = closed_program l.program;
     opened = λ cs v h. l.opened cs h.from h.read;
@@ -183,8 +179,8 @@ alike_saved other c = record {
   depth_alike = ap length c.path;
 }
 
-module _ {env : Variables} (T : Type 0) (a b : Outcome T) (ra rb : Roles) (wa wb : List (List ℕ))
-    (va vb : CellsValue T) (la : CommandsLaw env T a ra wa va) (lb : CommandsLaw env T b rb wb vb)
+module _ {env : Variables} {T : Type 0} {a b : Outcome T} {ra rb : Roles} {wa wb : List (List ℕ)}
+    {va vb : CellsValue T} (la : CommandsLaw env T a ra wa va) (lb : CommandsLaw env T b rb wb vb)
     (apart : WordsApart wa wb) where
   -- the values of either
   abbrev values : CellsValue T

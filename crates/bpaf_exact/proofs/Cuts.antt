@@ -569,8 +569,7 @@ owner {qa} {qb} {r} (Some k ∷ cs) {o} u e =
         ⊎_elim (λ a. inl ((a.0, begin_at k cs (pieces qa cs) f ∙ a.1, a.2)))
         (λ b. inr ((b.0, begin_at k cs (pieces qb cs) g ∙ b.1, b.2))) (i h)
 
--- An item that isn't the first field's own goes before the first piece only where it isn't the
--- other's either.
+-- An item that isn't the first field's own, before the first piece, isn't the other's either.
 not_either : {qa qb r : Roles} {k : Arg} (cs : Cells) {o : LinePiece} {os : List LinePiece}
     → Union qa qb r → qa k ≡ Foreign → is_own qa o ≡ true → pieces r (Some k ∷ cs) ≡ o ∷ os
     → (r k ≡ Foreign) × (pieces r cs ≡ o ∷ os)
@@ -611,8 +610,7 @@ pub data TookLeft : Cells → Cells → Type 0 where
   left_later : {c d : Option Arg} {cs ds : Cells} → c ≡ d → TookLeft cs ds
       → TookLeft (c ∷ cs) (d ∷ ds)
 
--- If the first piece of both is the second field's and it took that, the first field took nothing
--- further left.
+-- If the second field took the first piece of both, the first field took nothing further left.
 pub not_left : {qa qb r : Roles} {cs ca cb : Cells} {oa ob o : LinePiece} {os : List LinePiece}
     → Union qa qb r → pieces r cs ≡ o ∷ os → is_own qb o ≡ true → TakesPiece qa cs oa ca
     → TakesFirst qb cs ob cb → TookLeft ca cb → ⊥

@@ -42,7 +42,7 @@ use Rattle.bpaf_exact.specs.ProgramForm.{FlagValue, LastGroup, WordValue, argume
 use Rattle.bpaf_exact.specs.ProgramForm.{argument_group, ArgumentValue, WordEval, argument_roles}
 use Rattle.bpaf_exact.specs.ProgramForm.{flag_field, flag_roles, pure_field, word_fault}
 use Rattle.bpaf_exact.specs.ProgramForm.{word_memory, word_missing, word_passed, key_field, FormLaw}
-use Rattle.bpaf_exact.specs.ProgramForm.{word_by, word_read}
+use Rattle.bpaf_exact.specs.ProgramForm.{word_by, word_read, CellsValue}
 use Rattle.bpaf_exact.specs.Pieces.{Alone, Cells, IsNamed, One, Roles, Two, WithNext, stands_behind}
 use Rattle.bpaf_exact.specs.Pieces.{TakesPiece, TakesPieces, takes_more, takes_none, word_roles}
 use Rattle.bpaf_exact.specs.Pieces.{Owns, LinePiece, pieces}
@@ -75,8 +75,7 @@ pub data NoneRead (T : Type 0) (gap : Gap T) (other : Type 0) (s : Situation) : 
       → (class e ≡ OfMissing) ⊎ ((class e ≡ Caught) × other) → gap.has ≡ false
       → (class e ≡ OfMissing → t ≡ s) → NoneRead T gap other s (Err e) t
 
--- What a parser answers that reads the first of its pieces alone: that has a value, or it has none;
--- or there is none; or want of memory.
+-- What a parser answers that reads the first of its pieces alone, if there is one.
 pub data FirstRead (T : Type 0) (k : FieldKind) (q : Roles) (value : LinePiece → T → Type 0)
     (gap : Gap T) (other : Type 0) (s : Situation) : Result T Error → Situation → Type 0 where
   read_first : {o : LinePiece} {v : T} {t : Situation} → Steady s t
@@ -158,30 +157,34 @@ pub key_field_law : {env : Variables} {T : Type 0} {outcome : Outcome T} {q : Ro
     → ((s t : Situation) (r : Result T Error) → s.context.env ≡ env → outcome s r t
     → FirstRead T ByName q value gap other s r t)
     → FormLaw env outcome names [] (key_field wide may q value (FrontOf T value) gap)
-key_field_law other wide true named owns empty must reads = (
-  record {
-    named = named;
-    keeps = record {
-      ok = λ s t v w o. alternative_ok (must refl).0 (reads s t (Ok v) w.environment o);
-      err = λ s t e w o.
-          alternative_err (must refl).0 (must refl).1 (reads s t (Err e) w.environment o);
-    };
-  },
-  owns,
-)
-key_field_law other wide false named owns empty must reads = (
-  record {
-    own = named;
-    words = tt;
-    starts = λ v rest g. let e = g.1 in cc;
-    no_absent = empty;
-    keeps = record {
-      ok = λ s t v w o. first_ok (reads s t (Ok v) w.environment o);
-      err = λ s t e w o. first_err (reads s t (Err e) w.environment o);
-    };
-  },
-  owns,
-)
+key_field_law other wide true named owns empty must reads = record {
+  by = (
+    record {
+      named = named;
+      keeps = record {
+        ok = λ s t v w o. alternative_ok (must refl).0 (reads s t (Ok v) w.environment o);
+        err = λ s t e w o.
+            alternative_err (must refl).0 (must refl).1 (reads s t (Err e) w.environment o);
+      };
+    },
+    owns,
+  );
+}
+key_field_law other wide false named owns empty must reads = record {
+  by = (
+    record {
+      own = named;
+      words = tt;
+      starts = λ v rest g. let e = g.1 in cc;
+      no_absent = empty;
+      keeps = record {
+        ok = λ s t v w o. first_ok (reads s t (Ok v) w.environment o);
+        err = λ s t e w o. first_err (reads s t (Err e) w.environment o);
+      };
+    },
+    owns,
+  );
+}
 
 -- no variable's name is among none
 pub none_named : (envs : List (List ℕ)) → is_nil envs ≡ true → envs ≡ []
@@ -593,7 +596,8 @@ argument_field_law variables T means argument =
         (argument_read argument means once variables)
     by_last true all true e =
         let no = (and_parts (is_nil argument.named.envs) false (sym e)).1 in absurd cc
-    by_last true all false e = (last_argument_law argument means all variables, owns argument)
+    by_last true all false e =
+        record { by = (last_argument_law argument means all variables, owns argument) }
 
 -- Positional words.
 
@@ -728,7 +732,8 @@ pub word_by_law : (env : Variables) (T : Type 0) (accepts : Bool → Bool)
     (means : List ℕ → T → Type 0)
     → FormLaw env (WordEval T (not (accepts true)) (WordValue accepts means)) [] []
     (word_by accepts means)
-word_by_law env T accepts means = (word_law clear, record { own = λ k e. absurd cc })
+word_by_law env T accepts means =
+    record { by = (word_law clear, record { own = λ k e. absurd cc }) }
   where
     clear : not (accepts true) ≡ true → (o : LinePiece) (v : T) → WordValue accepts means o v
         → is_behind o ≡ false
@@ -741,24 +746,26 @@ module _ (T : Type 0) (clones : T → T → Type 0) (kept : T) where
   -- the laws
   pub pure_field_law : {env : Variables}
       → FormLaw env (PureOutcome (GivesClone clones kept)) [] [] (pure_field (clones kept))
-  pure_field_law = (
-    record {
-      own = record { only_keys = λ k h. refl };
-      keeps = record {
-        ok = λ s t v w o. rw o.1 (record {
-          steady = same_steady steady_refl;
-          takes = rw (current_cells s) takes_none;
-          read = λ none. o.0;
-          rest = λ none. none;
-          all = λ u h. none_of_nobody (cells (with_current s None));
-        });
-        err = λ s t e w o v h. memory_class e.0 o.0;
-      };
-    },
-    record { own = λ k e. absurd cc },
-  )
+  pure_field_law = record {
+    by = (
+      record {
+        own = record { only_keys = λ k h. refl };
+        keeps = record {
+          ok = λ s t v w o. rw o.1 (record {
+            steady = same_steady steady_refl;
+            takes = rw (current_cells s) takes_none;
+            read = λ none. o.0;
+            rest = λ none. none;
+            all = λ u h. none_of_nobody (cells (with_current s None));
+          });
+          err = λ s t e w o v h. memory_class e.0 o.0;
+        };
+      },
+      record { own = λ k e. absurd cc },
+    );
+  }
 
 -- its value says what it is, whatever the pieces are
-pub pure_says : {T : Type 0} {names : List Names} (given : T → Type 0)
-    → Says names (pure_field given) (of_kind ByName) (λ os v. given v)
-pure_says given = record { by = (refl, λ os v all h. h) }
+pub pure_says : {T : Type 0} {names : List Names} {cells : CellsValue T} (given : T → Type 0)
+    → Says names (pure_field given) (of_kind ByName) false (λ os v. given v) cells
+pure_says given = record { by = (refl, refl, λ os v all h. h) }

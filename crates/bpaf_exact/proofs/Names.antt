@@ -1,5 +1,4 @@
--- Fields whose keys are apart have no item in common, and pieces that are shared out by roles are
--- shared out by names.
+-- Fields with keys apart have no item in common; pieces shared out by roles are so by names.
 use Rattle.std.proofs.Common.{Bool, List, [], append-nil, ap₂, bytes_eq, false, if◌then◌else◌, refl}
 use Rattle.std.proofs.Common.{ap, not, sym, true, true≢false, ◌&&◌, ◌++◌, ◌==◌, ◌||◌, ◌∙◌, ◌∷◌, ◌≡◌}
 use Rattle.std.proofs.Common.{⊎_elim}
@@ -152,8 +151,7 @@ own_first r (One k) = refl
 own_first r (Two k w) = refl
 
 module _ (r : Roles) (names : List Names) where
-  -- where the own pieces are those that begin with a key of one's names, a test keeps the same of
-  -- the one as of the other
+  -- where own pieces are those that begin with a key of one's names, a test keeps the same of both
   fits_kept : (f : Bool → Bool) (os : List LinePiece) → Fits names r os
       → filter (λ o. f (is_own r o)) os ≡ filter (λ o. f (is_key_of_any names (first_item o))) os
   fits_kept f [] fits = refl
@@ -310,8 +308,7 @@ pub apart_none : (names : List Names) → are_all_apart names [] ≡ true
 apart_none [] = refl
 apart_none (own ∷ names) = apart_none names
 
--- Of a product with words, which stands last in another: the pieces that begin with its keys, and
--- the words that are left to it.
+-- Of a product with words, which stands last in another: its keys' pieces, and words left to it.
 
 -- what is left of pieces without those of others fits as they do
 pub others_fit : (q r : Roles) (names : List Names) (os : List LinePiece) → Fits names r os

@@ -1,5 +1,4 @@
--- Where closures can't tell apart what looks alike, the premise of exactness holds, and all values
--- of a line look alike.
+-- Where closures can't tell apart what looks alike they agree, and a line's values look alike.
 use Rattle.std.proofs.Common.{Bool, List, None, Some, [], false, map, true, ℕ, ◌&&◌, ◌||◌, ◌∷◌, ◌≡◌}
 use Rattle.std.proofs.Common.{Option, ap, inl, inr, not, refl, subst, sym, ◌∙◌}
 use Rattle.std.specs.{Global.Vec, Option.IsSomeRelated, Option.is_none, Prelude.option_map}
@@ -9,7 +8,7 @@ use Rattle.bpaf_line.specs.Situation.{Context}
 use Rattle.bpaf_text.specs.{Named.KeyWithValue, Named.Named as Key, Meaning.SpellsUnsigned}
 use Rattle.bpaf_laws.specs.{Reading.first_set, Reading.Outcome, Combinators.is_nil}
 use Rattle.bpaf_exact.proofs.Cuts.{one_take, one_cut, read_cut}
-use Rattle.bpaf_exact.proofs.ProgramForm.{runs_exactly, record_law, whole_law}
+use Rattle.bpaf_exact.proofs.ProgramForm.{runs_as_program, whole_law}
 use Rattle.bpaf_exact.proofs.Wrappers.{alternative_single}
 use Rattle.bpaf_exact.proofs.{Commands.none_opens, Leaves.last_same, Repeat.own_nil}
 use Rattle.bpaf_exact.specs.ProgramForm.{ArgumentValue, FlagValue, WordValue, argument_field}
@@ -17,26 +16,25 @@ use Rattle.bpaf_exact.specs.ProgramForm.{flag_field, argument_group, argument_ro
 use Rattle.bpaf_exact.specs.ProgramForm.{key_field, word_by, ProgramForm, alternative}
 use Rattle.bpaf_exact.specs.ProgramForm.{before_commands, product, single, FormLaw, commands}
 use Rattle.bpaf_exact.specs.ProgramForm.{complete, program_closed, program_field, completed}
-use Rattle.bpaf_exact.specs.ProgramForm.{is_record, may_follow, program_both, program_if}
-use Rattle.bpaf_exact.specs.ProgramForm.{product_reading, program_alone, program_con, whole_program}
+use Rattle.bpaf_exact.specs.ProgramForm.{is_program, may_follow, program_both, program_if}
+use Rattle.bpaf_exact.specs.ProgramForm.{program_alone, program_con, whole_program}
 use Rattle.bpaf_exact.specs.ProgramForm.{program_optional, program_value, whole_value, Accepted}
-use Rattle.bpaf_exact.specs.ProgramForm.{NoMemory, RecordValue, Refusal, RunAnswer, line_cells}
-use Rattle.bpaf_exact.specs.ProgramForm.{IsExact, OptionalCommands, Agrees}
-use Rattle.bpaf_exact.specs.Says.{Alike, HasOneView, LooksLike, OneGroup, RunsToOne, pair_view}
+use Rattle.bpaf_exact.specs.ProgramForm.{NoMemory, Refusal, RunAnswer, line_cells}
+use Rattle.bpaf_exact.specs.ProgramForm.{IsAcceptedOrWant, OptionalCommands, Agrees}
+use Rattle.bpaf_exact.specs.Says.{Alike, HasOneView, OneGroup, RunsToOne, pair_view}
 use Rattle.bpaf_exact.specs.Says.{Respects}
 use Rattle.bpaf_exact.specs.Pieces.{Cells, IsNamed, LinePiece, One, Roles, Two, are_all_apart}
 use Rattle.bpaf_exact.specs.Flat.{FrontOf, Gap, Groups, OwnList, SingleLaw, SingleValue, own_none}
 use Rattle.bpaf_exact.specs.Flat.{Own, listed, listed_and_absent, only_absent, own_more, repeated}
 use Rattle.bpaf_exact.specs.Flat.{ClosedValue, Closure, FallbackValue, OptionalValue, FieldKind}
-use Rattle.bpaf_exact.specs.Flat.{FieldsLaw, FieldsReading, ByName, ReadOff, Variables}
+use Rattle.bpaf_exact.specs.Flat.{ByName, ReadOff, Variables}
 use Rattle.bpaf_exact.specs.Flat.{list_closure, AgreesOn, Decides}
 
 -- Closures.
 
 module _ (A B X Y : Type 0) (see : A → X) (look : B → Y) (f : Closure A B)
     (respects : Respects A B X Y see look f) where
-  -- What a closure that can't tell apart what looks alike makes of such values looks alike again:
-  -- of the same pieces or cells,
+  -- What such a closure makes of values that look alike looks alike: of the same pieces or cells,
   made_view : {Z : Type 0} (value : Z → A → Type 0) → ((z : Z) → Alike see (value z)) → (z : Z)
       → Alike look (ClosedValue value f z)
   made_view value u z v w a b =
@@ -205,69 +203,65 @@ module _ {env : Variables} {T X : Type 0} {see : T → X} {inner : Outcome T} (k
   fallback_value_view f given os v w (inr e) (inl g) = absurd (none_single e.0 e.1 g)
   fallback_value_view f given os v w (inr e) (inr d) = given v w e.2 d.2
 
-module _ (env : Variables) (T X : Type 0) (see : T → X) (inner : Outcome T) where
+module _ {env : Variables} {T X : Type 0} {inner : Outcome T} {names : List Names}
+    {words : List (List ℕ)} (see : T → X) where
   -- a repeat or default round a field, all values of which look alike
-  whole_view : {B Y : Type 0} {look : B → Y} (kind : FieldKind → FieldKind)
+  whole_view : {B Y : Type 0} {s : ProgramForm T} (look : B → Y) (kind : FieldKind → FieldKind)
       (value : Groups T → Gap T → List LinePiece → B → Type 0)
       → ((k : FieldKind) (q : Roles) (group : Groups T) (gap : Gap T) → SingleLaw env T inner k q
       group gap → OneGroup see group → Alike see gap.absent → (os : List LinePiece)
-      → Alike look (value group gap os)) → (names : List Names) (words : List (List ℕ))
-      (s : ProgramForm T) → FormLaw env inner names words s → HasOneView see s
+      → Alike look (value group gap os)) → FormLaw env inner names words s → HasOneView see s
       → HasOneView look (completed kind value s)
-  whole_view kind value each names words (alternative wide q one) l u =
-      each ByName q _ _ (alternative_single l.0) (front_view one u) (λ v w a b. absurd a)
-  whole_view kind value each names words (single wide k q group gap) l u =
-      each k q group gap l.0 u.0 u.1
-  whole_view kind value each names words _ l u = tt
+  whole_view {s = alternative wide q one} look kind value each l u =
+      each ByName q _ _ (alternative_single l.by.0) (front_view one u) (λ v w a b. absurd a)
+  whole_view {s = single wide k q group gap} look kind value each l u =
+      each k q group gap l.by.0 u.0 u.1
+  whole_view look kind value each l u = tt
 
   -- what may be left out
-  pub optional_field_view : (names : List Names) (words : List (List ℕ)) (s : ProgramForm T)
-      → FormLaw env inner names words s → HasOneView see s
-      → HasOneView (option_map see) (program_optional s)
-  optional_field_view names words (commands false value) l u = by_value
+  pub optional_field_view : {s : ProgramForm T} → FormLaw env inner names words s
+      → HasOneView see s → HasOneView (option_map see) (program_optional s)
+  optional_field_view {s = commands false value} l u = by_value
     where
       by_value : (cs : Cells) → Alike (option_map see) (OptionalCommands T value cs)
       by_value cs (Some x) (Some y) a b = ap Some (u cs x y a b)
       by_value cs None None a b = refl
-      by_value cs (Some x) None a none = absurd (none_opens none _ (l.commands.opened cs x a).1)
-      by_value cs None (Some y) none b = absurd (none_opens none _ (l.commands.opened cs y b).1)
-  optional_field_view names words s l u =
-      whole_view (λ k. k) (OptionalValue T) optional_value_view names words s l u
+      by_value cs (Some x) None a none =
+          absurd (none_opens none _ (l.by.commands.opened cs x a).1)
+      by_value cs None (Some y) none b =
+          absurd (none_opens none _ (l.by.commands.opened cs y b).1)
+  optional_field_view l u =
+      whole_view (option_map see) (λ k. k) (OptionalValue T) optional_value_view l u
 
   -- a field with a default
-  pub fallback_view : (f : Closure (Unit {0}) T) → Alike see (λ v. f.yes tt v)
-      → (names : List Names) (words : List (List ℕ)) (s : ProgramForm T)
+  pub fallback_view : {s : ProgramForm T} (f : Closure (Unit {0}) T) → Alike see (λ v. f.yes tt v)
       → FormLaw env inner names words s → HasOneView see s
       → HasOneView see (completed (λ k. k) (λ group gap. FallbackValue T group gap f) s)
   fallback_view f given =
-      whole_view (λ k. k) (λ group gap. FallbackValue T group gap f)
+      whole_view see (λ k. k) (λ group gap. FallbackValue T group gap f)
       (λ k q group gap l one absent. fallback_value_view k q group gap l one absent f given)
 
   -- any field of a record
-  pub field_view : (names : List Names) (words : List (List ℕ)) (s : ProgramForm T)
-      → FormLaw env inner names words s → HasOneView see s → HasOneView see (program_field s)
-  field_view names words (complete wide k q value) l u = u
-  field_view names words (product wide true q fields) l u = u
-  field_view names words (product wide false q fields) l u = u
-  field_view names words (commands optional value) l u = u
-  field_view names words (before_commands value) l u = u
-  field_view names words s l u = whole_view (λ k. k) (SingleValue T) value_view names words s l u
+  pub field_view : {s : ProgramForm T} → FormLaw env inner names words s → HasOneView see s
+      → HasOneView see (program_field s)
+  field_view {s = complete wide k q value} l u = u
+  field_view {s = product wide true q fields} l u = u
+  field_view {s = product wide false q fields} l u = u
+  field_view {s = commands optional value} l u = u
+  field_view {s = before_commands value} l u = u
+  field_view l u = whole_view see (λ k. k) (SingleValue T) value_view l u
 
--- The list of a repeat, as the program keeps it.
-
--- many
-pub many_view : (env : Variables) (T X : Type 0) (see : T → X) (inner : Outcome T)
-    (names : List Names) (words : List (List ℕ)) (s : ProgramForm T)
-    → FormLaw env inner names words s → HasOneView see s
-    → HasOneView (λ values. map see values.items)
-    (program_closed (list_closure T) (completed repeated (OwnList T) s))
-many_view env T X see inner names words s l u =
-    closed_view (List T) (Vec T) (List X) (List X) (map see) (λ values. map see values.items)
-    (list_closure T) (record {
-      same = λ x y v w e f g. ap (map see) f ∙ (e ∙ sym (ap (map see) g));
-      apart = λ x y v e f n. n;
-    }) (completed repeated (OwnList T) s)
-    (whole_view env T X see inner repeated (OwnList T) list_view names words s l u)
+  -- many, as the program keeps it
+  pub many_view : {s : ProgramForm T} → FormLaw env inner names words s → HasOneView see s
+      → HasOneView (λ values. map see values.items)
+      (program_closed (list_closure T) (completed repeated (OwnList T) s))
+  many_view {s} l u =
+      closed_view (List T) (Vec T) (List X) (List X) (map see) (λ values. map see values.items)
+      (list_closure T) (record {
+        same = λ x y v w e f g. ap (map see) f ∙ (e ∙ sym (ap (map see) g));
+        apart = λ x y v e f n. n;
+      }) (completed repeated (OwnList T) s)
+      (whole_view (map see) repeated (OwnList T) list_view l u)
 
 -- Products.
 
@@ -286,7 +280,7 @@ both_view A B X Y see look own others (complete wide ByName q fv) (before_comman
     let e = n _ v.1 w.1 (rw (← same.1) a.left) b.left in λ i. (d i, e i))
 both_view A B X Y see look own others _ _ u n = tt
 
-module _ (T X : Type 0) (see : T → X) where
+module _ {T X : Type 0} (see : T → X) where
   -- the last field
   pub alone_view : (s : ProgramForm T) → HasOneView see s → HasOneView see (program_alone s)
   alone_view (complete wide k q value) u = λ os v w a b. u _ v w a.0 b.0
@@ -295,62 +289,41 @@ module _ (T X : Type 0) (see : T → X) where
   alone_view (before_commands value) u = u
   alone_view _ u = tt
 
-  -- a record
-  record_view : (env : Variables) (inner : Outcome T) (names : List Names)
-      (words : List (List ℕ)) (s : ProgramForm T) → FormLaw env inner names words s
+  -- a whole program
+  record_view : {env : Variables} {inner : Outcome T} {names : List Names}
+      {words : List (List ℕ)} {s : ProgramForm T} → FormLaw env inner names words s
       → HasOneView see s → HasOneView see (whole_program s)
-  record_view env inner names words (product wide named q fields) l u = u
-  record_view env inner names words s l u =
-      alone_view (program_field s) (field_view env T X see inner names words s l u)
-
-  -- the values of a record
-  product_view : (s : ProgramForm T) → HasOneView see s → (os : List LinePiece)
-      → Alike see ((product_reading s).value os)
-  product_view (product wide named q fields) u os v w a b = u os v w a b
-  product_view _ u os v w a b = absurd a
-
-  -- an exact answer looks like each value of the record
-  like_this : {env : Variables} {inner : Outcome T} {r : Roles} {reading : FieldsReading T}
-      {context : Context} → FieldsLaw env T inner r reading
-      → Alike see (λ v. RecordValue r reading.value context v) → (a : RunAnswer T) (v : T)
-      → IsExact T r reading context a → RecordValue r reading.value context v → LooksLike see v a
-  like_this l one (Accepted w) v e h = one w v (e.sound w refl) h
-  like_this l one NoMemory v e h = tt
-  like_this l one Refusal v e h =
-      e.complete h.cut_into (read_cut h) (l.has_each h.cut_into v h.read)
-
-  -- all that is read off the same cells looks alike
-  reads_one : {r : Roles} {value : List LinePiece → T → Type 0} → IsNamed r
-      → ((os : List LinePiece) → Alike see (value os)) → (cs : Cells)
-      → Alike see (ReadOff T r value cs)
-  reads_one {value} named one cs v w a b =
-      one b.cut_into v w (rw (← one_cut named (read_cut a) (read_cut b)) a.read) b.read
+  record_view {s = product wide named q fields} l u = u
+  record_view {s} l u = alone_view (program_field s) (field_view see l u)
 
   -- All values of a program on the same cells look alike.
-  pub values_look_one : (env : Variables) (outcome : Outcome T) (names : List Names)
-      (words : List (List ℕ)) (s : ProgramForm T) → FormLaw env outcome names words s
+  pub values_look_one : {env : Variables} {outcome : Outcome T} {names : List Names}
+      {words : List (List ℕ)} {s : ProgramForm T} → FormLaw env outcome names words s
       → HasOneView see s → (cs : Cells) → Alike see (program_value s cs)
-  values_look_one env outcome names words s l u =
-      by_whole (whole_program s) (whole_law env T outcome names words s l)
-      (record_view env outcome names words s l u)
+  values_look_one {env} {outcome} {names} {s} l u =
+      by_whole (whole_program s) (whole_law l) (record_view l u)
     where
       by_whole : (w : ProgramForm T) → FormLaw env outcome names [] w → HasOneView see w
           → (cs : Cells) → Alike see (whole_value w cs)
-      by_whole (product wide named q fields) l u = reads_one l.0.named u
+      by_whole (product wide named q fields) l u = λ cs v w a b. u b.cut_into v w
+          (rw (← one_cut l.by.0.named (read_cut a) (read_cut b)) a.read) b.read
       by_whole (before_commands value) l u = u
       by_whole _ l u = λ cs v w a b. absurd a
 
-  -- Where the record has a value, each answer looks like it, or is want of memory; with the value
+  -- Where a program has a value, each answer looks like it, or is want of memory; with the value
   -- itself for a view, it is that value.
-  pub runs_to_one : (outcome : Outcome T) (names : List Names) (words : List (List ℕ))
-      (s : ProgramForm T) → is_record s ≡ true → (context : Context)
+  pub runs_to_one : {outcome : Outcome T} {names : List Names} {words : List (List ℕ)}
+      {s : ProgramForm T} → is_program s ≡ true → (context : Context)
       → FormLaw context.env outcome names words s → HasOneView see s
       → RunsToOne see outcome s context
-  runs_to_one outcome names words s h context l u a v ran r =
-      let law = record_law context.env T outcome names words s h l in
-      let one = record_view context.env outcome names words s l u in
-      like_this law (reads_one law.named (product_view (whole_program s) one) (line_cells context))
-      a v (runs_exactly T outcome names words s h context l a ran) r
+  runs_to_one {s} h context l u a v ran value =
+      by_answer a ((runs_as_program {s = s} h context l a ran).1 v value)
+    where
+      by_answer : (a : RunAnswer T) → IsAcceptedOrWant (program_value s (line_cells context)) a
+          → IsAcceptedOrWant (λ w. see w ≡ see v) a
+      by_answer (Accepted w) g = values_look_one l u (line_cells context) w v g value
+      by_answer NoMemory g = tt
+      by_answer Refusal g = absurd g
 
 -- a closure that accepts both or refuses both of what looks alike
 module _ {A B X : Type 0} {see : A → X} {f : Closure A B}

@@ -1,5 +1,4 @@
--- From places to cells: the first place that is wanted, its piece, and what is left when it is
--- taken; and how many items are present.
+-- From places to cells: the first wanted place, its piece, what is left; and how many are present.
 use Rattle.std.proofs.Common.{Bool, List, None, Option, Some, [], add-one, ap, arith, if◌then◌else◌}
 use Rattle.std.proofs.Common.{ap₂, false, length, not, option_and_then, refl, suc, true, zero, ◌&&◌}
 use Rattle.std.proofs.Common.{sym, ℕ, ◌+◌, ◌<◌, ◌||◌, ◌∙◌, ◌∷◌, ◌≡◌, ◌≢◌, ◌≤◌}

@@ -67,8 +67,7 @@ others_all : (q : Roles) {o : LinePiece} {os : List LinePiece} → is_own q o �
     → others q os ≡ os → others q (o ∷ os) ≡ o ∷ os
 others_all q {o} {os} h e = others_foreign q os h ∙ ap (λ z. o ∷ z) e
 
--- where a field has no piece, a cut by some keys is one by others that differ in its own alone, and
--- its pieces are all of others
+-- where a field has no piece a cut is one by keys that differ in its own, all pieces of others
 recut : {q r : Roles} (p : Roles) {cs : Cells} {os : List LinePiece} → IsNamed q
     → ((k : Arg) → q k ≡ Foreign → p k ≡ r k) → pieces q cs ≡ [] → Cut r cs os
     → Cut p cs os × (others q os ≡ os)
@@ -405,8 +404,8 @@ module _ {p q r : Roles} (u : Union p q r) where
   takes_some_left (takes_more t more) = takes_more (takes_left u t) (takes_some_left more)
 
 -- A named field before other named fields.
-module _ {env : Variables} (A B : Type 0) (first : Outcome A) (rest : Outcome B) (q r : Roles)
-    (fv : List LinePiece → A → Type 0) (read : FieldsReading B)
+module _ {env : Variables} {A B : Type 0} {first : Outcome A} {rest : Outcome B} {q r : Roles}
+    {fv : List LinePiece → A → Type 0} (read : FieldsReading B)
     (lf : FieldLaw env A first ByName q fv)
     (lr : FieldLaw env B rest ByName r read.value) (apart : Apart q r) where
   -- the values of both

@@ -1,5 +1,4 @@
--- A command over a program, and a named field before others, the last of which are commands, keep
--- to the laws.
+-- A command over a program, and a named field before what ends in commands, keep to the laws.
 use Rattle.std.proofs.Common.{Err, List, None, Ok, Option, Some, [], arith, bytes_eq, false, ap}
 use Rattle.std.proofs.Common.{if◌then◌else◌, inl, inr, length, not, refl, subst, suc, sym, true}
 use Rattle.std.proofs.Common.{true≢false, zero, ⊎_elim, ◌&&◌, ◌<◌, ◌∙◌, ◌∷◌, ◌≡◌, ◌≤◌, ℕ}
@@ -209,7 +208,7 @@ opens_none {words} s none ds o =
     }))
 
 -- A command keeps to the laws, where its program does.
-module _ {env : Variables} (T : Type 0) (inner : Outcome T) (r : Roles) (value : CellsValue T)
+module _ {env : Variables} {T : Type 0} {inner : Outcome T} {r : Roles} {value : CellsValue T}
     (l : ProgramLaw env T inner r value) (called : Called)
     (plain : are_plain (opening_words called) ≡ true) where
   -- its words

@@ -1,5 +1,4 @@
--- Repeats of a field that keeps to the laws of one evaluation, and what `some` and `last` make of
--- one.
+-- Repeats of a field that keeps to the laws of one evaluation; what `some` and `last` make of one.
 use Rattle.std.proofs.Common.{Bool, Err, List, None, Ok, arith, false, inl, inr, refl, [], ap}
 use Rattle.std.proofs.Common.{subst, sym, true, true≢false, ⊎_elim, ◌<◌, ◌∙◌, ◌∷◌, ◌≡◌, ◌≤◌, ◌++◌}
 use Rattle.std.proofs.Common.{◌⊎◌}

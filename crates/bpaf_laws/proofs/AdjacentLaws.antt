@@ -62,8 +62,7 @@ module _ (called : Called) (s : Situation) (p : ℕ) (at : IsOpenedAt (opening_w
         let behind = newly_stretch m (p + 1) end present t read.keeps read.closed none q in
         grind (arith, nat_tests, joins.all q, word q)
 
-    -- what is read over a stretch of present places behind the word is a reading, with the scope
-    -- from the word on
+    -- what is read over a stretch of places behind the word is read, with the scope from the word
     pub adjacent_read : Reads T (StretchReads T (CommandReads T (opening_words called) reads)) s v
         (with_scope t p s.end)
     adjacent_read =

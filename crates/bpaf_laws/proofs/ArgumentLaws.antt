@@ -363,8 +363,7 @@ module _ (argument : KeyWithValue) where
 
 module _ {T : Type 0} (means : List ℕ → T → Type 0) (argument : KeyWithValue)
     (s t : Situation) where
-  -- a text that was got is that of the key that counts where one is there, and else that of the
-  -- environment
+  -- a text that was got is that of the key that counts, or where none is that of the environment
   by_key : (text : List ℕ) → GetsText argument s text t → (A B : Type 0)
       → (TakesOwnText argument.last argument s text t → A) → (ReadsVariable argument s text t → B)
       → ((p : ℕ) → is_match (is_key_with_value argument) s p ≡ true → A) × (HasNoKey argument s → B)

@@ -1,5 +1,4 @@
--- Choices keep to the laws where their branches do, catch no want of memory, and the leftmost
--- wins.
+-- Choices keep to the laws where their branches do, catch no want of memory; the leftmost wins.
 use Rattle.std.proofs.Common.{◌≡◌, ℕ, Bool, true, false, Result, Ok, Err, Option, Some, None, arith}
 use Rattle.std.proofs.Common.{sym, inl, inr, List, [], ◌∷◌, not, refl, ap, ◌∙◌, ◌⊎◌, ⊎_elim, ◌++◌}
 use Rattle.std.proofs.Common.{subst, ◌≤◌, ◌&&◌, IsOk, true≢false}
@@ -47,8 +46,7 @@ module _ {T : Type 0} (s : Situation) (Holds : Result T Error → Situation → 
   of_winner x y sa sb (false, Some place) r t won one other =
       rw won.0 (noted y sb sa place t won.1 other)
 
-  -- what holds of two answers, also where an error goes back and where two are combined, holds of
-  -- the table's at equal depths
+  -- what holds of two answers, also of an error put back and of two combined, holds at equal depths
   of_equal : (a : Result T Error) (sa : Situation) (b : Result T Error) (sb : Situation)
       (r : Result T Error) (t : Situation) → EqualDepths s a sa b sb r t → Holds a sa → Holds b sb
       → Holds r t
@@ -146,8 +144,7 @@ choice_wants : {T : Type 0} (first second : Outcome T) (s : Situation) (r : Resu
     (t : Situation) → IsWant s r t → ChoiceOutcome first second s r t
 choice_wants first second s r t want = grind arith
 
--- where two branches that didn't want memory ran, the choice of two gives the answer chosen by
--- theirs, or want of memory
+-- where both branches ran and wanted no memory, the choice gives the chosen answer, or wants some
 pub ran_outcome : {T : Type 0} (first second : Outcome T) (s : Situation) (a : Result T Error)
     (sa : Situation) (b : Result T Error) (sb : Situation) (r : Result T Error) (t : Situation)
     → first s a sa → second s b sb → is_want a ≡ false → is_want b ≡ false
@@ -275,8 +272,7 @@ choices_spared outcome (p ∷ ps) s t r o spared =
 one_leftmost : (s other : Situation) (p q : ℕ) → IsLeftmost s other p → IsLeftmost s other q → q ≡ p
 one_leftmost s other p q a b = grind (arith, a.first, b.first)
 
--- the chosen one of two answers took the leftmost place taken by only one of them; without one the
--- first is chosen
+-- the chosen of two answers took the leftmost place that only one took; without one it's the first
 abbrev IsLeftmostChosen : {T : Type 0} → Result T Error → Situation → Result T Error → Situation
     → T → Situation → Type 0
 IsLeftmostChosen a sa b sb v t =

@@ -1,5 +1,4 @@
--- Flags, items that a look matches, the program's name and leaves that look at no item keep to the
--- laws.
+-- Flags, items that a look matches, the program's name and leaves without items keep to the laws.
 use Rattle.std.proofs.Common.{◌≡◌, Bool, true, false, Option, sym, subst, inl, inr, arith, ℕ, ◌+◌}
 use Rattle.std.proofs.Common.{List, [], ◌∷◌, refl, ◌⊎◌, Some, option_map, if◌then◌else◌, String}
 use Rattle.std.proofs.Common.{⊎_elim}

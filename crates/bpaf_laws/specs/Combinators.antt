@@ -299,8 +299,7 @@ abbrev pub LaterTake : {T : Type 0} → Outcome T → Situation → List T → S
 LaterTake inner s [] t = s ≡ t
 LaterTake inner s (v ∷ vs) t = (m : Situation) × inner s (Ok v) m × EachTakes inner m vs t
 
--- at most one value more than the items present at the start, and each value but the first took an
--- item
+-- at most one value more than items present at the start, and each value but the first took an item
 abbrev pub IsBounded : {T : Type 0} → Outcome T → Situation → List T → Type 0
 IsBounded inner s values =
     (length values ≤ open_count s + 1) × ((m : Situation) × LaterTake inner s values m)

@@ -33,8 +33,7 @@ abbrev pub IsLiteral : List ℕ → Looks (Unit {0})
 IsLiteral literal text (Some v) = text ≡ literal
 IsLiteral literal text None = text ≢ literal
 
--- the items that are looked at: under `anywhere` all present ones in scope, in order, else the
--- first of these alone
+-- the items that are looked at: under `anywhere` all present in scope, in order, else the first
 abbrev pub looked_at : Bool → Situation → List (ℕ × Arg)
 looked_at true s = open_items s
 looked_at false s = take 1 (open_items s)
@@ -127,8 +126,7 @@ abbrev pub behind : Share → Share
 behind keys zero = false
 behind keys (suc p) = keys p
 
--- keys of the argument, one or more, and the places behind them; that behind the greatest of them
--- has this text
+-- keys of the argument, one at least, and the places behind; the greatest has this text behind it
 pub record AreKeysWithText (argument : KeyWithValue) (context : Context) (share : Share)
     (text : List ℕ) : Type 0 where
   pub keys : Share
@@ -178,14 +176,12 @@ abbrev pub TakesOwnText : Bool → KeyWithValue → Situation → List ℕ → S
 TakesOwnText false = TakesKeyWithText
 TakesOwnText true = TakesLastText
 
--- what was taken when no text was found: nothing; where the last one counts, any keys with their
--- texts
+-- what was taken when no text was found: nothing; where the last counts any keys with their texts
 abbrev pub TakesBefore : Bool → KeyWithValue → Situation → Situation → Type 0
 TakesBefore false argument s t = t ≡ s
 TakesBefore true argument s t = (texts : List (List ℕ)) × TakesKeysWithTexts argument s texts t
 
--- no key is there, and this is the text of the first environment name that is set; no place is
--- current then
+-- no key is there, and this is the text of the first name that is set; no place is current then
 pub record ReadsVariable (argument : KeyWithValue) (s : Situation) (text : List ℕ) (t : Situation)
     : Type 0 where
   pub no_key : HasNoKey argument s
@@ -236,8 +232,7 @@ abbrev pub TakesText : KeyWithValue → Situation → Result (List ℕ) Error �
 TakesText argument s (Ok text) t = GetsText argument s text t
 TakesText argument s (Err e) t = RefusesText argument s e.0 t
 
--- a refusal: no text; or a text that means no value, its places taken; or want of memory for its
--- value
+-- a refusal: no text; or one that means no value, its places taken; or want of memory for its value
 abbrev pub ArgumentFails : {T : Type 0} → (List ℕ → T → Type 0) → KeyWithValue → Situation → Message
     → Situation → Type 0
 ArgumentFails means argument s (ParseFailed place fault) t =
@@ -257,8 +252,7 @@ ArgumentOutcome means argument s (Err e) t = ArgumentFails means argument s e.0 
 abbrev pub argument_shape : KeyWithValue → Shape
 argument_shape argument = option_map_or Shown (argument_part argument) Skip
 
--- what stands for no key, by the text of its variable: the present value where that is set, else
--- the absent one
+-- what stands for no key: where its variable is set the present value, else the absent one
 abbrev pub value_without_key : {T : Type 0} → T → Option T → Option (List ℕ) → Option T
 value_without_key present absent (Some text) = Some present
 value_without_key present absent None = absent
@@ -306,8 +300,7 @@ abbrev pub optional_if : {T : Type 0} → Option T → Shape → Shape
 optional_if None shape = shape
 optional_if (Some kept) shape = Optional shape
 
--- what a flag shows: its item, which may be left out where it has an absent value; without a name
--- nothing
+-- what a flag shows: its item, which it may lack with an absent value; without a name nothing
 abbrev pub flag_shape : {T : Type 0} → Named → Option T → Shape
 flag_shape named absent =
     option_map_or (λ part. optional_if absent (Shown part)) (flag_part named) Skip

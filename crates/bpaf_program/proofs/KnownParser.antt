@@ -25,7 +25,7 @@ use Rattle.bpaf_program.specs.KnownParser.{known_command, shown_shorts, known_co
 use Rattle.bpaf_program.specs.KnownParser.{IsValueBy, known_default, known_many, known_optional}
 use Rattle.bpaf_program.specs.KnownParser.{known_switch, IsKept}
 use Rattle.bpaf_program.specs.Fields.{IsPlainCommand}
-use Rattle.bpaf_record.proofs.Programs.{answers_as_program}
+use Rattle.bpaf_record.proofs.Running.{answers_as_program}
 use Rattle.bpaf_record.specs.Grammar.{Grammar, alone, choice, command_words, keys_of, program_form}
 use Rattle.bpaf_record.specs.Grammar.{both, argument, word}
 use Rattle.bpaf_record.specs.Commands.{plain_command_law, positional_law}

@@ -370,8 +370,7 @@ module _ {known : Known} {words : List (List ℕ)} {os : List LinePiece}
   pub of_line : {key : Names} → OwnOf words key (keyed (key ∷ []) os)
   of_line {key} = line.own key
 
-  -- what follows where one of the words before the first `--` spells the key, whatever names are
-  -- known
+  -- what follows where a word before the first `--` spells the key, whatever names are known
   abbrev IfKeySpelled : Names → Type 0 → Type 0
   IfKeySpelled key A =
       (names : Names) → key ≡ names → All IsUtf8 words → IsSpelledByAny known.numbers names words
@@ -413,54 +412,40 @@ module _ {known : Known} {words : List (List ℕ)} {os : List LinePiece}
 -- What an answer of a program says by the words: whose keys were spelled of the fields in front of
 -- commands, and which command's word was.
 
--- what is left of cells: at each place what was there, or nothing
-pub data IsLeft : Cells → Cells → Type 0 where
-  none_left : IsLeft [] []
-  still_there : {c : Option Arg} {left cs : Cells} → IsLeft left cs → IsLeft (c ∷ left) (c ∷ cs)
-  gone : {c : Option Arg} {left cs : Cells} → IsLeft left cs → IsLeft (None ∷ left) (c ∷ cs)
+-- what is present of the left cells is present of these
+abbrev IsLeft : Cells → Cells → Type 0
+IsLeft left cs = (k : Arg) → Contains (present left) k → Contains (present cs) k
 
--- all of them
-all_left : (cs : Cells) → IsLeft cs cs
-all_left [] = none_left
-all_left (c ∷ cs) = still_there (all_left cs)
+-- so it is where a cell is there still,
+still_there : {left cs : Cells} (c : Option Arg) → IsLeft left cs → IsLeft (c ∷ left) (c ∷ cs)
+still_there {left} {cs} c l k there = ⊎_elim
+    (λ here. Contains-append_left (option_to_list c) (present cs) k here)
+    (λ behind. Contains-append_right (option_to_list c) (present cs) k (l k behind))
+    (Contains-append_cases (option_to_list c) (present left) k there)
 
--- what is left of what is left
-left_again : {a b c : Cells} → IsLeft a b → IsLeft b c → IsLeft a c
-left_again none_left none_left = none_left
-left_again (still_there l) (still_there m) = still_there (left_again l m)
-left_again (still_there l) (gone m) = gone (left_again l m)
-left_again (gone l) (still_there m) = gone (left_again l m)
-left_again (gone l) (gone m) = gone (left_again l m)
+-- and where it is gone
+gone : {left cs : Cells} (c : Option Arg) → IsLeft left cs → IsLeft (None ∷ left) (c ∷ cs)
+gone {cs = cs} c l k there = Contains-append_right (option_to_list c) (present cs) k (l k there)
 
 -- the pieces of a field taken away
 taken_left : {q : Roles} {cs left : Cells} {os : List LinePiece} → Takes q cs os left
     → IsLeft left cs
-taken_left no_cells = none_left
-taken_left (empty_stays t) = still_there (taken_left t)
-taken_left (other_stays e t) = still_there (taken_left t)
-taken_left (takes_flag e t) = gone (taken_left t)
-taken_left (takes_argument e v t) = gone (gone (taken_left t))
+taken_left no_cells k there = there
+taken_left (empty_stays t) k there = taken_left t k there
+taken_left (other_stays {k = j} e t) k there = still_there (Some j) (taken_left t) k there
+taken_left (takes_flag {k = j} e t) k there = gone (Some j) (taken_left t) k there
+taken_left (takes_argument {k = j} {w = w} {cs = cs} e v t) k there =
+    gone {cs = Some w ∷ cs} (Some j) (gone (Some w) (taken_left t)) k there
 
 -- what stands behind a command's word
 opens_left : {words : List (List ℕ)} {cs ds : Cells} → Opens words cs ds → IsLeft ds cs
-opens_left (opens_here {cs = cs} is) = gone (all_left cs)
-opens_left (opens_later o) = still_there (opens_left o)
-
--- an item that is left is present where it is left of
-item_there : {left cs : Cells} → IsLeft left cs → (k : Arg) → Contains (present left) k
-    → Contains (present cs) k
-item_there none_left k there = there
-item_there (still_there {c = c} {left = left} {cs = cs} l) k there = ⊎_elim
-    (λ here. Contains-append_left (option_to_list c) (present cs) k here)
-    (λ behind. Contains-append_right (option_to_list c) (present cs) k (item_there l k behind))
-    (Contains-append_cases (option_to_list c) (present left) k there)
-item_there (gone {c = c} {cs = cs} l) k there =
-    Contains-append_right (option_to_list c) (present cs) k (item_there l k there)
+opens_left (opens_here {k = j} is) k there = gone (Some j) (λ k there. there) k there
+opens_left (opens_later o) k there = opens_left o k there
 
 -- so is one that passes a test
 kept_on : (test : Arg → Bool) {left cs : Cells} → IsLeft left cs → HasPassing test (present left)
     → HasPassing test (present cs)
-kept_on test l (k, among, passes) = (k, item_there l k among, passes)
+kept_on test l (k, among, passes) = (k, l k among, passes)
 
 -- the word of a command stands where it opens
 opens_on : (words : List (List ℕ)) {cs ds : Cells} → Opens words cs ds
@@ -508,7 +493,7 @@ told_line told words are = record {
   are = are;
   context = told.is_value.context;
   on_line = told.is_value.on_line;
-  left = all_left (line_cells told.is_value.context);
+  left = λ k there. there;
 }
 
 module _ {known : Known} {given : Given} {words : List (List ℕ)} {cs : Cells}
@@ -520,7 +505,7 @@ module _ {known : Known} {given : Given} {words : List (List ℕ)} {cs : Cells}
     are = line.are;
     context = line.context;
     on_line = line.on_line;
-    left = left_again (taken_left taken) line.left;
+    left = λ k there. line.left k (taken_left taken k there);
   }
 
   -- The pieces of a named field are its key's own there.

@@ -16,9 +16,8 @@ returns-clause-by_fields g c agrees r o =
     let parser = c.args.self.now.inner in
     let grammar = g.P.ProgramField.grammar parser in
     let given = given_of c.args.args in
-    let form = program_form grammar given.env in
-    answers_by_fields g.row.T.Denot (g.P.Parser.outcome parser) (g.P.Parser.describes parser)
-    c.args.self.now.info (known_names c.args.self.now.info (g.P.Parser.shorts parser))
-    (keys_of grammar true) (command_words grammar) form given
+    answers_by_fields (g.P.Parser.describes parser) c.args.self.now.info
+    (known_names c.args.self.now.info (g.P.Parser.shorts parser)) given
     (g.met.P.ProgramField.law parser agrees given.env)
-    (is_flat_form form (keys_of grammar false) c.args.self.now.info c.requires.record) r o
+    (is_flat_form (program_form grammar given.env) (keys_of grammar false)
+    c.args.self.now.info c.requires.record) r o
