@@ -413,39 +413,46 @@ module _ {known : Known} {words : List (List ℕ)} {os : List LinePiece}
 -- commands, and which command's word was.
 
 -- what is present of the left cells is present of these
-abbrev IsLeft : Cells → Cells → Type 0
-IsLeft left cs = (k : Arg) → Contains (present left) k → Contains (present cs) k
+pub record IsLeft (left cs : Cells) : Type 0 where
+  pub each : (k : Arg) → Contains (present left) k → Contains (present cs) k
+
+-- all of them
+all_left : {cs : Cells} → IsLeft cs cs
+all_left = record { each = λ k there. there }
 
 -- so it is where a cell is there still,
 still_there : {left cs : Cells} (c : Option Arg) → IsLeft left cs → IsLeft (c ∷ left) (c ∷ cs)
-still_there {left} {cs} c l k there = ⊎_elim
-    (λ here. Contains-append_left (option_to_list c) (present cs) k here)
-    (λ behind. Contains-append_right (option_to_list c) (present cs) k (l k behind))
-    (Contains-append_cases (option_to_list c) (present left) k there)
+still_there {left} {cs} c l = record {
+  each = λ k there. ⊎_elim
+      (λ here. Contains-append_left (option_to_list c) (present cs) k here)
+      (λ behind. Contains-append_right (option_to_list c) (present cs) k (l.each k behind))
+      (Contains-append_cases (option_to_list c) (present left) k there);
+}
 
 -- and where it is gone
 gone : {left cs : Cells} (c : Option Arg) → IsLeft left cs → IsLeft (None ∷ left) (c ∷ cs)
-gone {cs = cs} c l k there = Contains-append_right (option_to_list c) (present cs) k (l k there)
+gone {cs = cs} c l = record {
+  each = λ k there. Contains-append_right (option_to_list c) (present cs) k (l.each k there);
+}
 
 -- the pieces of a field taken away
 taken_left : {q : Roles} {cs left : Cells} {os : List LinePiece} → Takes q cs os left
     → IsLeft left cs
-taken_left no_cells k there = there
-taken_left (empty_stays t) k there = taken_left t k there
-taken_left (other_stays {k = j} e t) k there = still_there (Some j) (taken_left t) k there
-taken_left (takes_flag {k = j} e t) k there = gone (Some j) (taken_left t) k there
-taken_left (takes_argument {k = j} {w = w} {cs = cs} e v t) k there =
-    gone {cs = Some w ∷ cs} (Some j) (gone (Some w) (taken_left t)) k there
+taken_left no_cells = all_left
+taken_left (empty_stays t) = still_there None (taken_left t)
+taken_left (other_stays {k = k} e t) = still_there (Some k) (taken_left t)
+taken_left (takes_flag {k = k} e t) = gone (Some k) (taken_left t)
+taken_left (takes_argument {k = k} {w = w} e v t) = gone (Some k) (gone (Some w) (taken_left t))
 
 -- what stands behind a command's word
 opens_left : {words : List (List ℕ)} {cs ds : Cells} → Opens words cs ds → IsLeft ds cs
-opens_left (opens_here {k = j} is) k there = gone (Some j) (λ k there. there) k there
-opens_left (opens_later o) k there = opens_left o k there
+opens_left (opens_here {k = k} is) = gone (Some k) all_left
+opens_left (opens_later o) = still_there None (opens_left o)
 
 -- so is one that passes a test
 kept_on : (test : Arg → Bool) {left cs : Cells} → IsLeft left cs → HasPassing test (present left)
     → HasPassing test (present cs)
-kept_on test l (k, among, passes) = (k, l k among, passes)
+kept_on test l (k, among, passes) = (k, l.each k among, passes)
 
 -- the word of a command stands where it opens
 opens_on : (words : List (List ℕ)) {cs ds : Cells} → Opens words cs ds
@@ -493,7 +500,7 @@ told_line told words are = record {
   are = are;
   context = told.is_value.context;
   on_line = told.is_value.on_line;
-  left = λ k there. there;
+  left = all_left;
 }
 
 module _ {known : Known} {given : Given} {words : List (List ℕ)} {cs : Cells}
@@ -505,7 +512,7 @@ module _ {known : Known} {given : Given} {words : List (List ℕ)} {cs : Cells}
     are = line.are;
     context = line.context;
     on_line = line.on_line;
-    left = λ k there. line.left k (taken_left taken k there);
+    left = record { each = λ k there. line.left.each k ((taken_left taken).each k there) };
   }
 
   -- The pieces of a named field are its key's own there.

@@ -261,10 +261,10 @@ module _ {T : Type 0} {outcome : Outcome T} (describes : Shape → Type 0) (info
             (same_context given texts known there.context context there.on_line is) there.read));
       }
   answers_as_program program (Err f)
-      (none_there word number context told none line name renders) = record {
+      (none_there at_word number context told none line name renders) = record {
         sound = tt;
         answered = λ texts v there. absurd (never_without known given texts there.context
-            there.on_line word number none);
+            there.on_line at_word number none);
       }
   answers_as_program program (Err f) wanted =
       record { sound = tt; answered = λ texts v there. refl }
