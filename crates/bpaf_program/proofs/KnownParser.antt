@@ -67,9 +67,7 @@ command_known {T} called known describes {command = command} same plain {outcome
       ap (λ c. c.adjacent) same ∙ plain.adjacent,
       ap (λ c. c.info) same ∙ plain.info,
     ) (record {
-      law = λ env. plain_command_law env T outcome describes plain_info
-          (named_only called) _ _ (keys_of known true) (command_words known)
-          (program_form known env) (is.law env);
+      law = λ env. plain_command_law describes plain_info (named_only called) _ _ (is.law env);
       shown = is.shown;
     })
 
@@ -77,10 +75,8 @@ command_known {T} called known describes {command = command} same plain {outcome
 pub choice_known : {T : Type 0} (first second : Grammar T) {one two : Outcome T}
     {own others : ShortNames} → IsKnownParser first one own → IsKnownParser second two others
     → IsKnownParser (choice first second) (ChoiceOutcome one two) (joined_shorts own others)
-choice_known {T} first second {one} {two} these those = record {
-  law = λ env. program_choice_law env T one two (keys_of first true) (keys_of second true)
-      (command_words first) (command_words second) (program_form first env)
-      (program_form second env) (these.law env) (those.law env);
+choice_known first second these those = record {
+  law = λ env. program_choice_law (these.law env) (those.law env);
   shown = ap₂ joined_shorts these.shown those.shown;
 }
 
@@ -89,20 +85,17 @@ pub map_known : {A B : Type 0} (make : A → B) (known : Grammar A) {outcome : O
     {shorts : ShortNames} → IsKnownParser known outcome shorts
     → {answers : A → B → Type 0} → ((x : A) (v : B) → answers x v → v ≡ make x)
     → IsKnownParser (known_map make known) (MapOutcome outcome answers) shorts
-map_known {A} {B} make known {outcome} inner {answers} only = record {
-  law = λ env. narrower_form env B _ _ (map_within outcome only) (keys_of known true)
-      (command_words known) _ (map_law env A B outcome (λ x v. v ≡ make x)
-      (keys_of known true) (command_words known) (program_form known env) (inner.law env));
+map_known make known {outcome} inner only = record {
+  law = λ env. narrower_form (map_within outcome only)
+      (map_law (inner.law env) (λ x v. v ≡ make x));
   shown = inner.shown;
 }
 
 -- commands as the last field
 pub last_known : {T : Type 0} (known : Grammar T) {outcome : Outcome T} {shorts : ShortNames}
     → IsKnownParser known outcome shorts → AreKnownFields (alone known) outcome shorts
-last_known {T} known {outcome} inner = record {
-  law = λ env. program_alone_law env T outcome (keys_of known true) (command_words known)
-      (program_field (program_form known env)) (program_field_law env T outcome
-      (keys_of known true) (command_words known) (program_form known env) (inner.law env));
+last_known known inner = record {
+  law = λ env. program_alone_law (program_field_law (inner.law env));
   shown = inner.shown;
 }
 
@@ -111,11 +104,8 @@ pub both_known : {A B : Type 0} (first : Grammar A) (rest : Grammar B) {one : Ou
     {outcome : Outcome B} {own others : ShortNames} → IsKnownParser first one own
     → AreKnownFields rest outcome others
     → AreKnownFields (both first rest) (BothOutcome one outcome) (joined_shorts own others)
-both_known {A} {B} first rest {one} {outcome} is more = record {
-  law = λ env. program_both_law env A B one outcome (keys_of first true) (keys_of rest true)
-      (command_words first) (program_field (program_form first env)) (program_form rest env)
-      (program_field_law env A one (keys_of first true) (command_words first)
-      (program_form first env) (is.law env)) (more.law env);
+both_known first rest is more = record {
+  law = λ env. program_both_law (program_field_law (is.law env)) (more.law env);
   shown = ap₂ joined_shorts is.shown more.shown;
 }
 
@@ -124,10 +114,9 @@ pub con_known : {A B : Type 0} (make : A → B) (known : Grammar A) {outcome : O
     {shorts : ShortNames} → AreKnownFields known outcome shorts
     → {answers : A → B → Type 0} → ((x : A) (v : B) → answers x v → v ≡ make x)
     → IsKnownParser (known_con make known) (ProductOutcome outcome answers) shorts
-con_known {A} {B} make known {outcome} fields {answers} only = record {
-  law = λ env. narrower_form env B _ _ (con_within outcome only) (keys_of known true) []
-      _ (program_con_law env A B outcome (λ x v. v ≡ make x) (keys_of known true)
-      (program_form known env) (fields.law env));
+con_known make known {outcome} fields only = record {
+  law = λ env. narrower_form (con_within outcome only)
+      (program_con_law (λ x v. v ≡ make x) (fields.law env));
   shown = fields.shown;
 }
 
@@ -151,9 +140,8 @@ pub program_exactly : {T : Type 0} (known : Grammar T) (own : Given)
     → IsKnownParser known outcome shorts
     → info ≡ plain_info → given ≡ own → All IsUtf8 own.words → IsExactFor (IsValueBy known own) r
 program_exactly {T} known own program {outcome} {describes} {r = r} runs is info_is given_is =
-    exact_for known (answers_as_program T outcome describes plain_info (program_names known)
-    (keys_of known true) (command_words known) (program_form known own.env) own (is.law own.env)
-    program r (rw (info_is, given_is, is.shown) at runs)) refl refl
+    exact_for known (answers_as_program describes plain_info (program_names known) own
+    (is.law own.env) program r (rw (info_is, given_is, is.shown) at runs)) refl refl
 
 -- The fields of a program are known where what they are made of is.
 
@@ -197,8 +185,7 @@ module _ {T : Type 0} {known : Grammar T} {outcome : Outcome T} {shorts : ShortN
       → IsKnownParser (known_many known) (ManyOutcome outcome catch) shorts
   many_known none =
       rw none (record {
-        law = λ env. many_law env T outcome false (keys_of known true) (command_words known)
-            (program_form known env) (is.law env);
+        law = λ env. many_law (is.law env) false;
         shown = is.shown;
       })
 
@@ -207,8 +194,7 @@ module _ {T : Type 0} {known : Grammar T} {outcome : Outcome T} {shorts : ShortN
       → IsKnownParser (known_optional known) (TurnOutcome outcome catch true) shorts
   optional_known none =
       rw none (record {
-        law = λ env. optional_law env T outcome false (keys_of known true)
-            (command_words known) (program_form known env) (is.law env);
+        law = λ env. optional_law (is.law env) false;
         shown = is.shown;
       })
 
@@ -219,9 +205,8 @@ module _ {T : Type 0} {known : Grammar T} {outcome : Outcome T} {shorts : ShortN
       (FallbackOutcome outcome (GivesClone clones kept)) shorts
   default_known {clones} equal value is_kept =
       rw is_kept (record {
-        law = λ env. narrower_form env T _ _
+        law = λ env. narrower_form
             (no_more (λ s t r o. fallback_kept equal outcome value s r t o))
-            (keys_of known true) [] _ (fallback_law env T outcome IsKept value
-            (keys_of known true) (command_words known) (program_form known env) (is.law env));
+            (fallback_law (is.law env) IsKept value);
         shown = is.shown;
       })

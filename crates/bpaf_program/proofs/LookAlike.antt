@@ -96,16 +96,16 @@ module _ {T X : Type 0} {outcome : Outcome T} {see : T → X} {names : List Name
   pub many_seen : IsSeen (ManyOutcome outcome false) (λ values. map see values.items) names
       (program_closed (list_closure T) (completed repeated (OwnList T) form))
   many_seen = record {
-    law = λ env. many_law env T outcome false names [] form (is.law env);
-    view = many_view [] T X see outcome names [] form (is.law []) is.view;
+    law = λ env. many_law (is.law env) false;
+    view = many_view see (is.law []) is.view;
   }
 
   -- what may be left out
   pub optional_seen : IsSeen (TurnOutcome outcome false true) (option_map see) names
       (program_optional form)
   optional_seen = record {
-    law = λ env. optional_law env T outcome false names [] form (is.law env);
-    view = optional_field_view [] T X see outcome names [] form (is.law []) is.view;
+    law = λ env. optional_law (is.law env) false;
+    view = optional_field_view see (is.law []) is.view;
   }
 
   -- what has a default
@@ -114,9 +114,8 @@ module _ {T X : Type 0} {outcome : Outcome T} {see : T → X} {names : List Name
       (completed (λ k. k) (λ group gap. FallbackValue T group gap
       (map_closure (λ u. clones kept))) form)
   fallback_seen clones kept one = record {
-    law = λ env. fallback_law env T outcome clones kept names [] form (is.law env);
-    view = fallback_view [] T X see outcome (map_closure (λ u. clones kept)) one names [] form
-        (is.law []) is.view;
+    law = λ env. fallback_law (is.law env) clones kept;
+    view = fallback_view see (map_closure (λ u. clones kept)) one (is.law []) is.view;
   }
 
   -- what is this value where it is left out
@@ -129,15 +128,15 @@ module _ {T X : Type 0} {outcome : Outcome T} {see : T → X} {names : List Name
   -- a field
   pub field_seen : IsSeen outcome see names (program_field form)
   field_seen = record {
-    law = λ env. program_field_law env T outcome names [] form (is.law env);
-    view = field_view [] T X see outcome names [] form (is.law []) is.view;
+    law = λ env. program_field_law (is.law env);
+    view = field_view see (is.law []) is.view;
   }
 
   -- a last field
   pub alone_seen : IsSeen outcome see names (program_alone form)
   alone_seen = record {
-    law = λ env. program_alone_law env T outcome names [] form (is.law env);
-    view = alone_view T X see form is.view;
+    law = λ env. program_alone_law (is.law env);
+    view = alone_view see form is.view;
   }
 
   -- what a constructor makes of values that look alike
@@ -146,7 +145,7 @@ module _ {T X : Type 0} {outcome : Outcome T} {see : T → X} {names : List Name
       → IsSeen (ProductOutcome outcome (λ x v. v ≡ make x)) look names
       (program_con (map_closure (λ x v. v ≡ make x)) form)
   con_seen {V} {Y} make look same = record {
-    law = λ env. program_con_law env T V outcome (λ x v. v ≡ make x) names form (is.law env);
+    law = λ env. program_con_law (λ x v. v ≡ make x) (is.law env);
     view = con_view T V X Y see look (map_closure (λ x v. v ≡ make x))
         (record {
           same = λ x y v w e f g. ap look f ∙ (same x y e ∙ sym (ap look g));
@@ -161,12 +160,10 @@ pub both_seen : {A B X Y : Type 0} {see : A → X} {look : B → Y} {own others 
     → IsSeen outcome see own first → IsSeen outcomes look others rest
     → IsSeen (BothOutcome outcome outcomes) (pair_view see look) (own ++ others)
     (program_both own others first rest)
-both_seen {A} {B} {X} {Y} {see} {look} {own} {others} {first} {rest} {outcome} {outcomes} one more =
-    record {
-      law = λ env. program_both_law env A B outcome outcomes own others [] first rest (one.law env)
-          (more.law env);
-      view = both_view A B X Y see look own others first rest one.view more.view;
-    }
+both_seen {A} {B} {X} {Y} {see} {look} {own} {others} {first} {rest} one more = record {
+  law = λ env. program_both_law (one.law env) (more.law env);
+  view = both_view A B X Y see look own others first rest one.view more.view;
+}
 
 -- Programs all of whose values on the same words look alike.
 
@@ -183,8 +180,7 @@ pub record AreSeen {T X : Type 0} (see : T → X) (words : List (List ℕ)) (val
 -- a program whose values look alike
 pub values_look : {T X : Type 0} {outcome : Outcome T} {see : T → X} {names : List Names}
     {form : ProgramForm T} → IsSeen outcome see names form → LooksOne see (program_value form)
-values_look {T} {X} {outcome} {see} {names} {form} is =
-    values_look_one T X see [] outcome names [] form (is.law []) is.view
+values_look {see} is = values_look_one see (is.law []) is.view
 
 module _ {T X : Type 0} {see : T → X} where
   -- a command over what looks alike
