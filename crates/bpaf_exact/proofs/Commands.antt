@@ -1,29 +1,28 @@
 -- Closures round commands, choices of them, and commands that may be left out keep to the laws.
-use Rattle.std.proofs.Common.{Err, List, None, Ok, Option, Result, Some, [], arith, false, ap, inl}
-use Rattle.std.proofs.Common.{inr, length, refl, sym, true, true≢false, ⊎_elim, ◌++◌, ◌||◌, ◌∙◌}
-use Rattle.std.proofs.Common.{◌≡◌, ◌≤◌, ℕ}
-use Rattle.std.proofs.lemmas.Bool.{and_parts, or_right}
+use Rattle.std.proofs.Common.{true≢false, Option, Result, length, ⊎_elim, arith, false, List, None}
+use Rattle.std.proofs.Common.{Some, refl, true, ◌++◌, ◌||◌, Err, inl, inr, sym, ◌∙◌, ◌≡◌, ◌≤◌, Ok}
+use Rattle.std.proofs.{lemmas.Bool.and_parts, lemmas.Bool.or_right, Common.[], Common.ap, Common.ℕ}
 use Rattle.std.proofs.lemmas.List.Folds.{list_any-append}
 use Rattle.bpaf_base.specs.Items.{is_command_word}
-use Rattle.bpaf_line.specs.{Messages.is_memory, Messages.is_wrong_input, Situation.Situation}
-use Rattle.bpaf_line.specs.{declared.error.Error.Error, declared.error.Message.TheVariants.Missing}
-use Rattle.bpaf_line.specs.{Taking.ConflictsSaved, declared.error.Message.Message}
+use Rattle.bpaf_line.specs.{Messages.is_wrong_input, Messages.is_memory, declared.error.Error.Error}
+use Rattle.bpaf_line.specs.{declared.error.Message.TheVariants.Missing, Taking.ConflictsSaved}
+use Rattle.bpaf_line.specs.{declared.error.Message.Message, Situation.Situation}
 use Rattle.bpaf_laws.proofs.ChoiceLaws.{chosen_at_equal, of_chosen}
 use Rattle.bpaf_laws.specs.{Choice.ChoiceOutcome, Choice.Chosen, Choice.depth, Command.is_one_of}
-use Rattle.bpaf_laws.specs.{Laws.IsNotMemory, Combinators.is_untouched, Reading.Outcome}
+use Rattle.bpaf_laws.specs.{Combinators.is_untouched, Laws.IsNotMemory, Reading.Outcome}
 use Rattle.bpaf_exact.proofs.Classes.{combined_missing, is_missing_of, memory_class, not_memory}
 use Rattle.bpaf_exact.proofs.Choice.{saved_steady, cells_same, same_scope}
-use Rattle.bpaf_exact.proofs.Programs.{apart_first, apart_second}
-use Rattle.bpaf_exact.proofs.{Places.open_present, Wrappers.closed_keeps}
-use Rattle.bpaf_exact.specs.Flat.{ErrorClass, IsWholeIn, NonePresent, OfMemory, OfMissing}
-use Rattle.bpaf_exact.specs.Flat.{Variables, cells, class, is_missing, no_place, none_here, Stops}
-use Rattle.bpaf_exact.specs.Flat.{caught, nothing_found, present_count, AgreesOn, ClosedEval}
-use Rattle.bpaf_exact.specs.Flat.{ClosedValue, OptionalEval, optional_err, optional_memory}
-use Rattle.bpaf_exact.specs.Flat.{optional_none, optional_some, Closure}
-use Rattle.bpaf_exact.specs.Pieces.{Cells, Roles, either, pieces}
-use Rattle.bpaf_exact.specs.ProgramForm.{CellsValue, ChoiceValue, CommandsLaw, FindsNoCommand}
-use Rattle.bpaf_exact.specs.ProgramForm.{Opens, OpensNone, ProgramLaw, ProgramTook}
-use Rattle.bpaf_exact.specs.ProgramForm.{OptionalCommands, WordsApart, opens_later, opens_here}
+use Rattle.bpaf_exact.proofs.{Programs.apart_second, Programs.apart_first, Wrappers.closed_keeps}
+use Rattle.bpaf_exact.proofs.Places.{open_present}
+use Rattle.bpaf_exact.specs.Flat.{optional_some, OptionalEval, optional_err, NonePresent, IsWholeIn}
+use Rattle.bpaf_exact.specs.Flat.{ClosedValue, ErrorClass, is_missing, ClosedEval, OfMissing, cells}
+use Rattle.bpaf_exact.specs.Flat.{optional_memory, nothing_found, present_count, optional_none}
+use Rattle.bpaf_exact.specs.Flat.{Variables, none_here, OfMemory, no_place, AgreesOn, Closure}
+use Rattle.bpaf_exact.specs.ProgramForm.{OptionalCommands, FindsNoCommand, ChoiceValue, CommandsLaw}
+use Rattle.bpaf_exact.specs.ProgramForm.{ProgramTook, opens_later, CellsValue, ProgramLaw, Opens}
+use Rattle.bpaf_exact.specs.ProgramForm.{WordsApart, opens_here, OpensNone}
+use Rattle.bpaf_exact.specs.Pieces.{either, pieces, Cells, Roles}
+use Rattle.bpaf_exact.specs.Flat.{caught, class, Stops}
 
 -- Closures.
 module _ {A B : Type 0} {inner : Outcome A} {r : Roles} {value : CellsValue A} {f : Closure A B}

@@ -1,24 +1,22 @@
 -- What taking pieces does to the other pieces and to the cut; that at most one cut exists, and a
 -- value is read off one; cuts of words alone; the first piece, of two fields together too; and that
 -- a cut line holds together.
-use Rattle.std.proofs.Common.{Bool, List, None, Option, Some, arith, false, if◌then◌else◌, inl, inr}
-use Rattle.std.proofs.Common.{[], length, not, refl, sym, true, ℕ, ⊎_elim, ◌++◌, ◌<◌, ◌∙◌, ◌∷◌, ◌≡◌}
-use Rattle.std.proofs.Common.{◌⊎◌, ap}
+use Rattle.std.proofs.Common.{if◌then◌else◌, Option, length, ⊎_elim, arith, false, List, None, Some}
+use Rattle.std.proofs.Common.{refl, true, ◌++◌, inl, inr, not, sym, ◌<◌, ◌∙◌, ◌∷◌, ◌≡◌, ◌⊎◌, [], ap}
 use Rattle.std.proofs.lemmas.List.Elements.{filter-append, All-cons, All-nil}
-use Rattle.std.proofs.{lemmas.Bool.false_from_ne_true, lemmas.List.append_assoc}
+use Rattle.std.proofs.{lemmas.Bool.false_from_ne_true, lemmas.List.append_assoc, Common.ℕ}
 use Rattle.std.specs.List.{AllPass}
-use Rattle.bpaf_base.specs.declared.arg.Arg.TheVariants.{ArgWord, Long, Short, Word}
-use Rattle.bpaf_base.specs.{Items.is_positional, declared.arg.Arg.Arg}
-use Rattle.bpaf_exact.specs.Flat.{IsWords, NonePresent, ReadOff, no_place, none_here, first_later}
-use Rattle.bpaf_exact.specs.Flat.{first_one, TakesFirst, first_two}
-use Rattle.bpaf_exact.specs.Pieces.{Alone, Apart, Cells, Cut, Foreign, LinePiece, One, Roles, Takes}
-use Rattle.bpaf_exact.specs.Pieces.{IsNamed, Role, TakesPiece, TakesPieces, Two, WithNext, argument}
-use Rattle.bpaf_exact.specs.Pieces.{at_end, begin_piece, either, either_role, empty_stays, is_value}
-use Rattle.bpaf_exact.specs.Pieces.{flag, is_key, is_own, is_own_role, mine, others, passed, pieces}
-use Rattle.bpaf_exact.specs.Pieces.{other_stays, takes_argument, takes_flag, takes_more, takes_none}
-use Rattle.bpaf_exact.specs.Pieces.{takes_later, takes_one, takes_two, with_next, word, word_roles}
-use Rattle.bpaf_exact.specs.Pieces.{no_cells}
-use Rattle.bpaf_exact.specs.ProgramForm.{HoldsTogether, is_word_alone, EndsInKey, HasItsValue}
+use Rattle.bpaf_base.specs.declared.arg.Arg.TheVariants.{ArgWord, Short, Long, Word}
+use Rattle.bpaf_base.specs.{declared.arg.Arg.Arg, Items.is_positional}
+use Rattle.bpaf_exact.specs.Flat.{NonePresent, first_later, TakesFirst, none_here, first_one}
+use Rattle.bpaf_exact.specs.Pieces.{takes_argument, TakesPieces, begin_piece, either_role, WithNext}
+use Rattle.bpaf_exact.specs.Pieces.{takes_flag, takes_more, takes_none, LinePiece, takes_one, Alone}
+use Rattle.bpaf_exact.specs.Pieces.{IsNamed, at_end, either, is_key, is_own, others, passed, pieces}
+use Rattle.bpaf_exact.specs.Pieces.{empty_stays, is_own_role, other_stays, takes_later, TakesPiece}
+use Rattle.bpaf_exact.specs.Pieces.{Apart, Cells, Roles, Takes, Role, flag, mine, word, Cut, One}
+use Rattle.bpaf_exact.specs.Pieces.{takes_two, with_next, argument, is_value, no_cells, Foreign}
+use Rattle.bpaf_exact.specs.ProgramForm.{HoldsTogether, is_word_alone, HasItsValue, EndsInKey}
+use Rattle.bpaf_exact.specs.{Flat.first_two, Flat.no_place, Flat.IsWords, Pieces.Two}
 
 -- a value is no key
 pub value_not_key : (w : Arg) → is_value w ≡ true → is_key w ≡ false
@@ -272,76 +270,20 @@ one_take (takes_flag e t) (takes_argument f y u) = absurd cc
 one_take (takes_argument e v t) (other_stays f u) = absurd cc
 one_take (takes_argument e v t) (takes_flag f u) = absurd cc
 
--- where nothing is left, the pieces taken are those of a cut
-cut_of : {r : Roles} {cs ds : Cells} {os : List LinePiece} → Takes (either r word_roles) cs os ds
-    → NonePresent ds → Cut r cs os
-cut_of no_cells no_place = at_end
-cut_of (empty_stays t) (none_here n) = passed (cut_of t n)
-cut_of (other_stays e t) none = elim none [ ]
-cut_of {r} (takes_flag {k} {cs} {os} e t) (none_here n) =
-    by_role (r k) (is_positional k) refl refl e (cut_of t n)
-  where
-    by_role : (x : Role) (b : Bool) → r k ≡ x → is_positional k ≡ b
-        → (if is_own_role x then x else if b then Alone else Foreign) ≡ Alone → Cut r cs os
-        → Cut r (Some k ∷ cs) (One k ∷ os)
-    by_role Foreign true f h e c = word h c
-    by_role Alone b f h e c = flag f c
-    by_role _ _ f h e c = absurd cc
-cut_of {r} (takes_argument {k} e v t) (none_here (none_here n)) =
-    argument (by_role (r k) (is_positional k) e) v (cut_of t n)
-  where
-    by_role : (x : Role) (b : Bool)
-        → (if is_own_role x then x else if b then Alone else Foreign) ≡ WithNext → x ≡ WithNext
-    by_role Foreign true e = absurd cc
-    by_role Foreign false e = absurd cc
-    by_role Alone b e = absurd cc
-    by_role WithNext b e = refl
-
--- a value is read off a cut
-pub read_cut : {V : Type 0} {r : Roles} {value : List LinePiece → V → Type 0} {cs : Cells} {v : V}
-    → (h : ReadOff V r value cs v) → Cut r cs h.cut_into
-read_cut h = cut_of h.cut h.none_left
-
--- the pieces of a cut are taken, and nothing is left
-taken_of : {r : Roles} → IsNamed r → {cs : Cells} {os : List LinePiece} → Cut r cs os
-    → (ds : Cells) × Takes (either r word_roles) cs os ds × NonePresent ds
-taken_of n at_end = ([], no_cells, no_place)
-taken_of n (passed c) = let i = taken_of n c in (None ∷ i.0, empty_stays i.1, none_here i.2)
-taken_of n (flag {k} e c) =
-    let i = taken_of n c in (
-      None ∷ i.0,
-      takes_flag (ap (λ x. if is_own_role x then x else word_roles k) e) i.1,
-      none_here i.2,
-    )
-taken_of n (argument {k} e v c) =
-    let i = taken_of n c in (
-      None ∷ (None ∷ i.0),
-      takes_argument (ap (λ x. if is_own_role x then x else word_roles k) e) v i.1,
-      none_here (none_here i.2),
-    )
-taken_of n (word {w} h c) =
-    let i = taken_of n c in (
-      None ∷ i.0,
-      takes_flag (ap (λ x. if is_own_role x then x else word_roles w) (word_foreign n h)
-          ∙ ap (λ b. if b then Alone else Foreign) h) i.1,
-      none_here i.2,
-    )
-
 -- two cuts of the same cells are one
 pub one_cut : {r : Roles} {cs : Cells} {os ps : List LinePiece} → IsNamed r → Cut r cs os
     → Cut r cs ps → os ≡ ps
-one_cut n c d = (one_take (taken_of n c).1 (taken_of n d).1).0
-
--- what is meant by the pieces of a cut is read off
-pub read_off : {V : Type 0} {r : Roles} (value : List LinePiece → V → Type 0) {cs : Cells}
-    {os : List LinePiece} {v : V} → IsNamed r → Cut r cs os → value os v → ReadOff V r value cs v
-read_off value {os} n c read = let i = taken_of n c in record {
-  cut_into = os;
-  left_cells = i.0;
-  cut = i.1;
-  none_left = i.2;
-  read = read;
-}
+one_cut n at_end at_end = refl
+one_cut n (passed c) (passed d) = one_cut n c d
+one_cut n (flag {k} e c) (flag f d) = ap (λ z. One k ∷ z) (one_cut n c d)
+one_cut n (flag {k} e c) (word h d) = ap (λ z. One k ∷ z) (one_cut n c d)
+one_cut n (word {w} h c) (flag e d) = ap (λ z. One w ∷ z) (one_cut n c d)
+one_cut n (word {w} h c) (word i d) = ap (λ z. One w ∷ z) (one_cut n c d)
+one_cut n (argument {k} {w} e v c) (argument f u d) = ap (λ z. Two k w ∷ z) (one_cut n c d)
+one_cut n (flag e c) (argument f u d) = absurd cc
+one_cut n (argument e v c) (flag f d) = absurd cc
+one_cut n (argument e v c) (word h d) = let f = word_foreign n h in absurd cc
+one_cut n (word h c) (argument e v d) = let f = word_foreign n h in absurd cc
 
 -- no item is a key
 abbrev pub NoKeys : Roles → Type 0

@@ -1,52 +1,49 @@
 -- Flags, arguments, positional words and kept values keep to the laws.
-use Rattle.std.proofs.Common.{Bool, Err, List, None, Ok, Option, Result, [], add-one, if◌then◌else◌}
-use Rattle.std.proofs.Common.{Some, ap, false, inl, inr, map, not, option_and_then, refl, sym, take}
-use Rattle.std.proofs.Common.{subst, true, true≢false, ⊎_elim, ◌&&◌, ◌++◌, ◌||◌, ◌∙◌, ◌∷◌, ◌≡◌, ◌⊎◌}
-use Rattle.std.proofs.Common.{ℕ}
-use Rattle.std.proofs.lemmas.Bool.{and_parts}
-use Rattle.std.specs.Option.{IsSomeRelated, is_none, is_some, option_map_or}
-use Rattle.bpaf_doc.specs.{Names.Names, Shape.Part}
+use Rattle.std.proofs.Common.{⊎_elim, false, subst, Bool, List, None, Some, refl, take, true, ◌&&◌}
+use Rattle.std.proofs.Common.{◌++◌, ◌||◌, Err, inl, inr, map, not, sym, ◌∙◌, ◌∷◌, ◌≡◌, ◌⊎◌, Ok, []}
+use Rattle.std.proofs.Common.{option_and_then, if◌then◌else◌, true≢false, add-one, Option, Result}
+use Rattle.std.proofs.{lemmas.Bool.and_parts, Common.ap, Common.ℕ}
+use Rattle.std.specs.Option.{IsSomeRelated, option_map_or, is_none, is_some}
 use Rattle.bpaf_base.specs.declared.arg.Arg.TheVariants.{PosWord, Word}
-use Rattle.bpaf_base.specs.Items.{is_key_of, is_positional, item_text, word_text}
+use Rattle.bpaf_base.specs.Items.{is_positional, is_key_of, item_text, word_text}
 use Rattle.bpaf_base.specs.declared.arg.Arg.{Arg}
+use Rattle.bpaf_doc.specs.{Names.Names, Shape.Part}
+use Rattle.bpaf_text.specs.Named.{argument_part, KeyWithValue, Named as Key, flag_part}
+use Rattle.bpaf_line.specs.declared.error.Message.TheVariants.{ParseFailed, NoArgument, Missing}
+use Rattle.bpaf_line.specs.declared.error.Message.TheVariants.{Memory, NoEnv}
 use Rattle.bpaf_line.proofs.Places.{open_item_there}
-use Rattle.bpaf_line.specs.declared.error.Message.TheVariants.{Memory, Missing, NoEnv, ParseFailed}
-use Rattle.bpaf_line.specs.declared.error.Message.TheVariants.{NoArgument}
-use Rattle.bpaf_line.specs.Situation.{with_current, Situation}
-use Rattle.bpaf_line.specs.Taking.{HasNone, TakesFlag, TakesText}
-use Rattle.bpaf_line.specs.{declared.error.Error.Error, declared.error.Message.Message}
-use Rattle.bpaf_text.specs.Named.{KeyWithValue, Named as Key, argument_part, flag_part}
-use Rattle.bpaf_laws.specs.Leaves.{ArgumentFails, ArgumentOutcome, HasNoKey, IsNowhere, LacksText}
-use Rattle.bpaf_laws.specs.Leaves.{TakesKeysWithTexts, is_key_with_value, FlagFails, ReadsVariable}
-use Rattle.bpaf_laws.specs.Leaves.{TakesBefore, TakesKeyWithText, TakesOwnText, value_without_key}
-use Rattle.bpaf_laws.specs.Leaves.{FlagOutcome}
-use Rattle.bpaf_laws.specs.Reading.{IsAbsence, MissesItem, first_set, is_set, Outcome}
-use Rattle.bpaf_laws.specs.Combinators.{GivesClone, PureOutcome, is_nil}
-use Rattle.bpaf_exact.proofs.Fronts.{back_more, each_front, front_more, of_front_more, of_front_one}
+use Rattle.bpaf_line.specs.Taking.{TakesFlag, TakesText, HasNone}
+use Rattle.bpaf_line.specs.{Situation.with_current, Situation.Situation, declared.error.Error.Error}
+use Rattle.bpaf_line.specs.declared.error.Message.{Message}
+use Rattle.bpaf_laws.specs.Leaves.{TakesKeyWithText, ArgumentOutcome, ArgumentFails, ReadsVariable}
+use Rattle.bpaf_laws.specs.Leaves.{TakesOwnText, TakesBefore, FlagOutcome, IsNowhere, LacksText}
+use Rattle.bpaf_laws.specs.Leaves.{TakesKeysWithTexts, is_key_with_value, value_without_key}
+use Rattle.bpaf_laws.specs.Reading.{MissesItem, IsAbsence, first_set, Outcome, is_set}
+use Rattle.bpaf_laws.specs.Combinators.{PureOutcome, GivesClone, is_nil}
+use Rattle.bpaf_laws.specs.Leaves.{FlagFails, HasNoKey}
+use Rattle.bpaf_exact.proofs.Fronts.{of_front_more, of_front_one, each_front, front_more, back_more}
+use Rattle.bpaf_exact.proofs.Places.{take_steady, bare_taken, test_named, behind_of, no_pieces}
+use Rattle.bpaf_exact.proofs.Places.{one_taken, test_owns, two_taken, match_of, by_test}
+use Rattle.bpaf_exact.proofs.Product.{none_of_nobody, current_cells, steady_trans, same_steady}
+use Rattle.bpaf_exact.proofs.Cuts.{first_pieces, first_takes, some_trans, never_two, begin_at}
 use Rattle.bpaf_exact.proofs.Fronts.{front_nil, front_one, never_nil, back_one}
-use Rattle.bpaf_exact.proofs.Places.{bare_taken, behind_of, by_test, match_of, no_pieces, one_taken}
-use Rattle.bpaf_exact.proofs.Places.{take_steady, test_named, test_owns, two_taken}
-use Rattle.bpaf_exact.proofs.Product.{current_cells, none_of_nobody, same_steady, steady_refl}
-use Rattle.bpaf_exact.proofs.Product.{steady_trans}
-use Rattle.bpaf_exact.proofs.Cuts.{begin_at, first_pieces, first_takes, some_trans, never_two}
-use Rattle.bpaf_exact.proofs.{Classes.memory_class, Wrappers.gap_empty, Wrappers.took_front}
-use Rattle.bpaf_exact.specs.Flat.{AlternativeOk, TakesFirst, alternative_memory, first_later}
-use Rattle.bpaf_exact.specs.Flat.{AlternativeErr, alternative_missing, first_one, first_two, ByName}
-use Rattle.bpaf_exact.specs.Flat.{Caught, EachWord, FieldKind, OfMemory, OfMissing, OneWord, Steady}
-use Rattle.bpaf_exact.specs.Flat.{Variables, back, cells, class, class_of, front, is_behind}
-use Rattle.bpaf_exact.specs.Flat.{FrontOf, Gap, Groups, SingleErr, SingleOk, TakesAny, WordByWord}
-use Rattle.bpaf_exact.specs.Flat.{SingleLaw, catch_other, gap_of, of_absent, of_missing, of_piece}
-use Rattle.bpaf_exact.specs.Flat.{catch_missing, gave_absent, of_memory, took, alternative_refused}
-use Rattle.bpaf_exact.specs.Flat.{Refused}
-use Rattle.bpaf_exact.specs.ProgramForm.{FlagValue, LastGroup, WordValue, argument_field}
-use Rattle.bpaf_exact.specs.ProgramForm.{argument_group, ArgumentValue, WordEval, argument_roles}
-use Rattle.bpaf_exact.specs.ProgramForm.{flag_field, flag_roles, pure_field, word_fault}
-use Rattle.bpaf_exact.specs.ProgramForm.{word_memory, word_missing, word_passed, key_field, FormLaw}
-use Rattle.bpaf_exact.specs.ProgramForm.{word_by, word_read, CellsValue}
-use Rattle.bpaf_exact.specs.Pieces.{Alone, Cells, IsNamed, One, Roles, Two, WithNext, stands_behind}
-use Rattle.bpaf_exact.specs.Pieces.{TakesPiece, TakesPieces, takes_more, takes_none, word_roles}
-use Rattle.bpaf_exact.specs.Pieces.{Owns, LinePiece, pieces}
-use Rattle.bpaf_exact.specs.Says.{Says, of_kind}
+use Rattle.bpaf_exact.proofs.{Wrappers.took_front, Wrappers.gap_empty, Classes.memory_class}
+use Rattle.bpaf_exact.proofs.Product.{steady_refl}
+use Rattle.bpaf_exact.specs.Flat.{alternative_missing, alternative_refused, alternative_memory, Gap}
+use Rattle.bpaf_exact.specs.Flat.{AlternativeErr, AlternativeOk, catch_missing, first_later, ByName}
+use Rattle.bpaf_exact.specs.Flat.{class_of, SingleOk, TakesAny, of_piece, OneWord, FrontOf, Refused}
+use Rattle.bpaf_exact.specs.Flat.{first_one, first_two, FieldKind, OfMissing, Variables, is_behind}
+use Rattle.bpaf_exact.specs.Flat.{Caught, Steady, Groups, gap_of, cells, class, front, back, took}
+use Rattle.bpaf_exact.specs.Flat.{SingleErr, SingleLaw, of_absent, of_memory, EachWord, OfMemory}
+use Rattle.bpaf_exact.specs.Flat.{catch_other, gave_absent, TakesFirst, WordByWord, of_missing}
+use Rattle.bpaf_exact.specs.ProgramForm.{argument_field, argument_group, argument_roles, flag_field}
+use Rattle.bpaf_exact.specs.ProgramForm.{flag_roles, pure_field, word_fault, CellsValue, FlagValue}
+use Rattle.bpaf_exact.specs.ProgramForm.{ArgumentValue, word_missing, word_memory, word_passed}
+use Rattle.bpaf_exact.specs.ProgramForm.{LastGroup, WordValue, key_field, word_read, WordEval}
+use Rattle.bpaf_exact.specs.Pieces.{stands_behind, TakesPieces, TakesPiece, takes_more, takes_none}
+use Rattle.bpaf_exact.specs.Pieces.{word_roles, LinePiece, WithNext, IsNamed, pieces, Alone, Cells}
+use Rattle.bpaf_exact.specs.Pieces.{Roles, Owns, One, Two}
+use Rattle.bpaf_exact.specs.{ProgramForm.FormLaw, ProgramForm.word_by, Says.of_kind, Says.Says}
 
 -- a refusal that names a missing item says that items are missing
 misses : (s : Situation) (part : Option Part) (m : Message) → MissesItem s part m

@@ -1,22 +1,21 @@
 -- Fields with keys apart have no item in common; pieces shared out by roles are so by names.
-use Rattle.std.proofs.Common.{Bool, List, [], append-nil, ap₂, bytes_eq, false, if◌then◌else◌, refl}
-use Rattle.std.proofs.Common.{ap, not, sym, true, true≢false, ◌&&◌, ◌++◌, ◌==◌, ◌||◌, ◌∙◌, ◌∷◌, ◌≡◌}
-use Rattle.std.proofs.Common.{⊎_elim}
-use Rattle.std.proofs.lemmas.Bool.{and_from, and_parts, both_ways, eqb-true, false_from_ne_true}
-use Rattle.std.proofs.lemmas.Bool.{not-true, or_cases, or_left, or_right}
-use Rattle.std.proofs.lemmas.Slice.Eq.{bytes_eq-Decides}
+use Rattle.std.proofs.Common.{List, refl, true, ◌&&◌, ◌++◌, ◌==◌, ◌||◌, ap₂, not, sym, ◌∙◌, ◌∷◌, []}
+use Rattle.std.proofs.Common.{if◌then◌else◌, append-nil, true≢false, bytes_eq, ⊎_elim, false, Bool}
+use Rattle.std.proofs.lemmas.Bool.{false_from_ne_true, and_parts, both_ways, and_from, eqb-true}
+use Rattle.std.proofs.lemmas.Bool.{not-true, or_cases, or_right, or_left}
 use Rattle.std.proofs.{lemmas.List.Elements.filter-append, lemmas.List.Folds.list_any-append}
+use Rattle.std.proofs.{lemmas.Slice.Eq.bytes_eq-Decides, Common.◌≡◌, Common.ap}
 use Rattle.std.specs.{List.list_all, List.list_any, Prelude.filter}
-use Rattle.bpaf_doc.specs.Names.{Names}
-use Rattle.bpaf_base.specs.declared.arg.Arg.TheVariants.{Long, PosWord, Short, Word}
-use Rattle.bpaf_base.specs.Items.{is_positional, is_text_among, is_among, is_key_of}
+use Rattle.bpaf_base.specs.declared.arg.Arg.TheVariants.{PosWord, Short, Long, Word}
+use Rattle.bpaf_base.specs.Items.{is_positional, is_text_among, is_key_of, is_among}
 use Rattle.bpaf_base.specs.declared.arg.Arg.{Arg}
-use Rattle.bpaf_exact.specs.Pieces.{Apart, Cells, Cut, LinePiece, One, Role, Roles, Takes, argument}
-use Rattle.bpaf_exact.specs.Pieces.{Foreign, at_end, either, either_role, empty_stays, flag, is_key}
-use Rattle.bpaf_exact.specs.Pieces.{Two, is_own, is_own_role, no_cells, other_stays, others, passed}
-use Rattle.bpaf_exact.specs.Pieces.{are_all_apart, takes_argument, are_apart, is_key_of_any}
-use Rattle.bpaf_exact.specs.Pieces.{takes_flag, mine, word, Owns}
-use Rattle.bpaf_exact.specs.Says.{EachOwn, first_item, unkeyed, Fits, keyed}
+use Rattle.bpaf_doc.specs.Names.{Names}
+use Rattle.bpaf_exact.specs.Pieces.{takes_argument, are_all_apart, is_key_of_any, either_role, Role}
+use Rattle.bpaf_exact.specs.Pieces.{are_apart, argument, no_cells, Foreign, at_end, either, is_key}
+use Rattle.bpaf_exact.specs.Pieces.{is_own, others, passed, Apart, Cells, Roles, Takes, flag, mine}
+use Rattle.bpaf_exact.specs.Pieces.{empty_stays, is_own_role, other_stays, takes_flag, LinePiece}
+use Rattle.bpaf_exact.specs.Pieces.{word, Owns, Cut, One, Two}
+use Rattle.bpaf_exact.specs.Says.{first_item, EachOwn, unkeyed, keyed, Fits}
 use Rattle.bpaf_exact.specs.{ProgramForm.may_follow, Flat.OneWord}
 
 -- where a test holds of each element of a list, and another of one, both hold of one

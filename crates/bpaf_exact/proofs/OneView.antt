@@ -1,34 +1,30 @@
 -- Where closures can't tell apart what looks alike they agree, and a line's values look alike.
-use Rattle.std.proofs.Common.{Bool, List, None, Some, [], false, map, true, ℕ, ◌&&◌, ◌||◌, ◌∷◌, ◌≡◌}
-use Rattle.std.proofs.Common.{Option, ap, inl, inr, not, refl, subst, sym, ◌∙◌}
-use Rattle.std.specs.{Global.Vec, Option.IsSomeRelated, Option.is_none, Prelude.option_map}
-use Rattle.bpaf_doc.specs.Names.{Names}
+use Rattle.std.proofs.Common.{Option, false, subst, Bool, List, None, Some, true, ◌&&◌, ◌||◌, refl}
+use Rattle.std.proofs.Common.{map, ◌∷◌, ◌≡◌, inl, inr, not, sym, ◌∙◌, [], ap, ℕ}
+use Rattle.std.specs.{Option.IsSomeRelated, Option.is_none, Prelude.option_map, Global.Vec}
 use Rattle.bpaf_base.specs.Items.{item_text}
-use Rattle.bpaf_line.specs.Situation.{Context}
+use Rattle.bpaf_doc.specs.Names.{Names}
 use Rattle.bpaf_text.specs.{Named.KeyWithValue, Named.Named as Key, Meaning.SpellsUnsigned}
+use Rattle.bpaf_line.specs.Situation.{Context}
 use Rattle.bpaf_laws.specs.{Reading.first_set, Reading.Outcome, Combinators.is_nil}
-use Rattle.bpaf_exact.proofs.Cuts.{one_take, one_cut, read_cut}
-use Rattle.bpaf_exact.proofs.ProgramForm.{runs_as_program, whole_law}
-use Rattle.bpaf_exact.proofs.Wrappers.{alternative_single}
-use Rattle.bpaf_exact.proofs.{Commands.none_opens, Leaves.last_same, Repeat.own_nil}
-use Rattle.bpaf_exact.specs.ProgramForm.{ArgumentValue, FlagValue, WordValue, argument_field}
-use Rattle.bpaf_exact.specs.ProgramForm.{flag_field, argument_group, argument_roles, flag_roles}
-use Rattle.bpaf_exact.specs.ProgramForm.{key_field, word_by, ProgramForm, alternative}
-use Rattle.bpaf_exact.specs.ProgramForm.{before_commands, product, single, FormLaw, commands}
-use Rattle.bpaf_exact.specs.ProgramForm.{complete, program_closed, program_field, completed}
-use Rattle.bpaf_exact.specs.ProgramForm.{is_program, may_follow, program_both, program_if}
-use Rattle.bpaf_exact.specs.ProgramForm.{program_alone, program_con, whole_program}
-use Rattle.bpaf_exact.specs.ProgramForm.{program_optional, program_value, whole_value, Accepted}
-use Rattle.bpaf_exact.specs.ProgramForm.{NoMemory, Refusal, RunAnswer, line_cells}
-use Rattle.bpaf_exact.specs.ProgramForm.{IsAcceptedOrWant, OptionalCommands, Agrees}
-use Rattle.bpaf_exact.specs.Says.{Alike, HasOneView, OneGroup, RunsToOne, pair_view}
-use Rattle.bpaf_exact.specs.Says.{Respects}
-use Rattle.bpaf_exact.specs.Pieces.{Cells, IsNamed, LinePiece, One, Roles, Two, are_all_apart}
-use Rattle.bpaf_exact.specs.Flat.{FrontOf, Gap, Groups, OwnList, SingleLaw, SingleValue, own_none}
-use Rattle.bpaf_exact.specs.Flat.{Own, listed, listed_and_absent, only_absent, own_more, repeated}
-use Rattle.bpaf_exact.specs.Flat.{ClosedValue, Closure, FallbackValue, OptionalValue, FieldKind}
-use Rattle.bpaf_exact.specs.Flat.{ByName, ReadOff, Variables}
-use Rattle.bpaf_exact.specs.Flat.{list_closure, AgreesOn, Decides}
+use Rattle.bpaf_exact.proofs.{ProgramForm.runs_as_program, ProgramForm.whole_law, Leaves.last_same}
+use Rattle.bpaf_exact.proofs.{Cuts.one_take, Cuts.one_cut, Wrappers.alternative_single}
+use Rattle.bpaf_exact.proofs.{Commands.none_opens, Repeat.own_nil}
+use Rattle.bpaf_exact.specs.ProgramForm.{before_commands, argument_field, argument_group, FlagValue}
+use Rattle.bpaf_exact.specs.ProgramForm.{argument_roles, program_closed, ArgumentValue, ProgramForm}
+use Rattle.bpaf_exact.specs.ProgramForm.{program_field, program_alone, whole_program, program_value}
+use Rattle.bpaf_exact.specs.ProgramForm.{flag_field, flag_roles, is_program, may_follow, program_if}
+use Rattle.bpaf_exact.specs.ProgramForm.{commands, complete, Accepted, NoMemory, word_by, product}
+use Rattle.bpaf_exact.specs.ProgramForm.{line_cells, WordValue, key_field, completed, RunAnswer}
+use Rattle.bpaf_exact.specs.ProgramForm.{program_optional, IsAcceptedOrWant, OptionalCommands}
+use Rattle.bpaf_exact.specs.ProgramForm.{program_both, alternative, program_con, whole_value}
+use Rattle.bpaf_exact.specs.ProgramForm.{FormLaw, Refusal, single, Agrees}
+use Rattle.bpaf_exact.specs.Says.{HasOneView, RunsToOne, pair_view, OneGroup, Respects, Alike}
+use Rattle.bpaf_exact.specs.Pieces.{are_all_apart, LinePiece, Cells, Roles, One, Two}
+use Rattle.bpaf_exact.specs.Flat.{SingleValue, only_absent, ClosedValue, SingleLaw, FieldKind, Gap}
+use Rattle.bpaf_exact.specs.Flat.{Variables, own_none, own_more, repeated, AgreesOn, FrontOf, Own}
+use Rattle.bpaf_exact.specs.Flat.{listed_and_absent, FallbackValue, OptionalValue, list_closure}
+use Rattle.bpaf_exact.specs.Flat.{OwnList, Closure, Decides, Groups, listed, ByName}
 
 -- Closures.
 
@@ -306,7 +302,7 @@ module _ {T X : Type 0} (see : T → X) where
       by_whole : (w : ProgramForm T) → FormLaw env outcome names [] w → HasOneView see w
           → (cs : Cells) → Alike see (whole_value w cs)
       by_whole (product wide named q fields) l u = λ cs v w a b. u b.cut_into v w
-          (rw (← one_cut l.by.0.named (read_cut a) (read_cut b)) a.read) b.read
+          (rw (← one_cut l.by.0.named a.cut b.cut) a.read) b.read
       by_whole (before_commands value) l u = u
       by_whole _ l u = λ cs v w a b. absurd a
 

@@ -10,7 +10,7 @@ use Rattle.bpaf_laws.specs.Product.{BothOutcome, ProductOutcome, joined}
 use Rattle.bpaf_laws.specs.{Laws.IsNotMemory, Reading.Outcome}
 use Rattle.bpaf_exact.proofs.Cuts.{begin_at, either_right, nil_rest, others_foreign, take_some_from}
 use Rattle.bpaf_exact.proofs.Cuts.{cut_empty, named_cuts, nil_foreign, pieces_of_cut, put_back_some}
-use Rattle.bpaf_exact.proofs.Cuts.{keeps_other_some, read_cut, read_off, word_foreign, words_of_cut}
+use Rattle.bpaf_exact.proofs.Cuts.{keeps_other_some, word_foreign, words_of_cut}
 use Rattle.bpaf_exact.proofs.Cuts.{Belongs, belongs, both_nil, either_union, swap_union, takes_left}
 use Rattle.bpaf_exact.proofs.Cuts.{Union, own_next, to_first, to_second, union_named, value_foreign}
 use Rattle.bpaf_exact.proofs.Cuts.{some_trans, empty_cut, to_none, words_cut}
@@ -224,11 +224,14 @@ module _ {env : Variables} {A B : Type 0} {first : Outcome A} {rest : Outcome B}
             steady = steady_trans i.steady j.steady;
             read = λ e.
                 let after = j.read e in
-                let p = step_back k fv lf.own b i (read_cut after) in
-                read_off reading.value (both_named k q lf.own lr.named) p.cut (
-                  rw (← p.own) (i.read (none_left k q lf.own b (read_cut after))),
-                  rw p.leaves after.read,
-                );
+                let p = step_back k fv lf.own b i after.cut in record {
+                  cut_into = p.before;
+                  cut = p.cut;
+                  read = (
+                    rw (← p.own) (i.read (none_left k q lf.own b after.cut)),
+                    rw p.leaves after.read,
+                  );
+                };
             all = λ os c g. j.all (left k q os) (rest_cut i c g.0) g.1;
           };
       err = λ s t e w o os c h. refused_both first rest
@@ -283,10 +286,11 @@ module _ {env : Variables} {T : Type 0} {outcome : Outcome T} {k : FieldKind} {q
             read = λ n.
                 let c = empty_cut n in
                 let p = step_back k value l.own before_none i c in
-                read_off (last_reading k q value).value keys_named p.cut (
-                  rw (← p.own) (i.read (none_left k q l.own before_none c)),
-                  p.leaves,
-                );
+                record {
+                  cut_into = p.before;
+                  cut = p.cut;
+                  read = (rw (← p.own) (i.read (none_left k q l.own before_none c)), p.leaves);
+                };
             all = λ os c h. cut_empty (step_on k l.own before_none i.takes
                 (i.rest (i.all h.0.0 (last_value s c h.0))) c) h.1;
           };
@@ -334,9 +338,7 @@ con_law makes l = record {
     steady = same_steady i.steady;
     read = λ n. let a = i.read n in record {
       cut_into = a.cut_into;
-      left_cells = a.left_cells;
       cut = a.cut;
-      none_left = a.none_left;
       read = record { from = x; read = a.read; made = y };
     };
     all = i.all;

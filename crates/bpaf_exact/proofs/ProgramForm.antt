@@ -1,62 +1,57 @@
 -- Each parser keeps to the laws of its form to a program, where its inner parsers do, by its table
 -- too; so does an outcome that allows no more; and the theorem of exactness.
-use Rattle.std.proofs.Common.{Bool, List, None, Ok, Option, Result, Some, [], ap, append-nil, arith}
-use Rattle.std.proofs.Common.{Err, bytes_eq, false, if◌then◌else◌, inl, inr, length, not, slice_get}
-use Rattle.std.proofs.Common.{refl, subst, sym, true, true≢false, zero, ℕ, ⊎_elim, ◌&&◌, ◌++◌, ◌||◌}
-use Rattle.std.proofs.Common.{◌<◌, ◌∙◌, ◌∷◌, ◌≡◌, ◌⊎◌}
+use Rattle.std.proofs.Common.{if◌then◌else◌, append-nil, true≢false, slice_get, bytes_eq, Option, ℕ}
+use Rattle.std.proofs.Common.{refl, true, zero, ◌&&◌, ◌++◌, ◌||◌, Err, inl, inr, not, sym, ◌<◌, ◌∙◌}
+use Rattle.std.proofs.Common.{Result, length, ⊎_elim, arith, false, subst, Bool, List, None, Some}
+use Rattle.std.proofs.Common.{◌∷◌, ◌≡◌, ◌⊎◌, Ok, [], ap}
 use Rattle.std.proofs.lemmas.Bool.{false_from_ne_true, and_parts, le-leb, lt-ltb}
 use Rattle.std.proofs.lemmas.Slice.Eq.{bytes_eq-Decides}
-use Rattle.std.specs.{Global.Vec, List.list_all, Option.option_map_or}
+use Rattle.std.specs.{Option.option_map_or, List.list_all, Global.Vec}
+use Rattle.bpaf_base.specs.{Items.is_command_word, Items.command_word, declared.arg.Arg.Arg}
 use Rattle.bpaf_doc.specs.Names.{Names}
-use Rattle.bpaf_base.specs.{Items.command_word, Items.is_command_word, declared.arg.Arg.Arg}
-use Rattle.bpaf_line.specs.Situation.{Context, Situation, beginning, is_marker, item_in}
-use Rattle.bpaf_line.specs.{declared.error.Error.Error, declared.error.Message.TheVariants.Missing}
-use Rattle.bpaf_line.specs.{Taking.open_item, declared.error.Message.Message}
-use Rattle.bpaf_laws.specs.Combinators.{FallbackOutcome, Gives, GivesAnswer, GivesClone}
-use Rattle.bpaf_laws.specs.Combinators.{CollectOutcome, CountOutcome, LastOutcome, ManyOutcome}
-use Rattle.bpaf_laws.specs.Combinators.{is_nil, SomeOutcome, GuardOutcome, ParseOutcome, MapOutcome}
-use Rattle.bpaf_laws.specs.Combinators.{hidden, HideOutcome, TurnOutcome}
+use Rattle.bpaf_line.specs.Situation.{Situation, beginning, is_marker, Context, item_in}
+use Rattle.bpaf_line.specs.{declared.error.Message.TheVariants.Missing, declared.error.Error.Error}
+use Rattle.bpaf_line.specs.{declared.error.Message.Message, Taking.open_item}
+use Rattle.bpaf_laws.specs.Combinators.{FallbackOutcome, CollectOutcome, CountOutcome, GuardOutcome}
+use Rattle.bpaf_laws.specs.Combinators.{ParseOutcome, GivesAnswer, LastOutcome, ManyOutcome, is_nil}
+use Rattle.bpaf_laws.specs.Combinators.{SomeOutcome, HideOutcome, TurnOutcome, GivesClone, hidden}
 use Rattle.bpaf_laws.specs.Command.{opening_words, is_one_of, Called}
-use Rattle.bpaf_laws.specs.Product.{ProductOutcome, BothOutcome}
-use Rattle.bpaf_laws.specs.{Choice.ChoiceOutcome, Reading.Outcome}
-use Rattle.bpaf_exact.proofs.Classes.{caught_class, goes_on, kept_class, memory_class, stops_at}
-use Rattle.bpaf_exact.proofs.Programs.{before_law, command_law, con_program, record_program}
-use Rattle.bpaf_exact.proofs.Commands.{choice_commands, closed_commands, closed_program}
-use Rattle.bpaf_exact.proofs.Commands.{optional_commands}
-use Rattle.bpaf_exact.proofs.Product.{both_law, count_none, last_law, named_both_law, named_con_law}
-use Rattle.bpaf_exact.proofs.Product.{named_last_law, none_counted, con_law}
-use Rattle.bpaf_exact.proofs.Wrappers.{alternative_single, closed_law, fallback_field, left_out_law}
-use Rattle.bpaf_exact.proofs.Wrappers.{closed_alternative, closed_single, single_law}
-use Rattle.bpaf_exact.proofs.Repeat.{last_of_law, repeat_law, some_agrees_on}
-use Rattle.bpaf_exact.proofs.Names.{apart_of_names, either_owns, both_hold, foreign_of}
-use Rattle.bpaf_exact.proofs.Places.{open_present, same_cells}
-use Rattle.bpaf_exact.proofs.{Choice.choice_law, Cuts.one_cut, Cuts.read_cut}
-use Rattle.bpaf_exact.specs.Flat.{Before, ErrorClass, FieldKind, FieldLaw, FieldsLaw, FieldsReading}
-use Rattle.bpaf_exact.specs.Flat.{ByName, Caught, IsWholeIn, KeepsTo, NonePresent, ReadOff, Refused}
-use Rattle.bpaf_exact.specs.Flat.{OfMemory, Variables, both_reading, cells, class, class_of, keys}
-use Rattle.bpaf_exact.specs.Flat.{Gap, Groups, OwnList, RepeatOutcome, SingleLaw, repeated}
-use Rattle.bpaf_exact.specs.Flat.{OptionalValue, SingleValue}
-use Rattle.bpaf_exact.specs.ProgramForm.{LawOf}
-use Rattle.bpaf_exact.specs.Flat.{ClosedEval, ClosedValue, Closure, FallbackEval, FallbackValue}
-use Rattle.bpaf_exact.specs.Flat.{Decides, answer_closure, closed_err, closed_memory, closed_no}
-use Rattle.bpaf_exact.specs.Flat.{fallback_given, fallback_memory, fallback_no, optional_memory}
-use Rattle.bpaf_exact.specs.Flat.{guard_closure, optional_none, optional_some, parse_closure}
-use Rattle.bpaf_exact.specs.Flat.{OptionalEval, fallback_err, fallback_ok, optional_err}
-use Rattle.bpaf_exact.specs.Flat.{map_closure, closed_yes, list_closure, some_closure, LastOf}
-use Rattle.bpaf_exact.specs.ProgramForm.{Agrees, FormLaw, ProgramForm, alternative, are_words_apart}
-use Rattle.bpaf_exact.specs.ProgramForm.{NamedLaw, before_commands, choice_only, commands, complete}
-use Rattle.bpaf_exact.specs.ProgramForm.{EndLaw, completed, is_program, may_follow, product_reading}
-use Rattle.bpaf_exact.specs.ProgramForm.{is_named, is_record, product, product_roles, program_alone}
-use Rattle.bpaf_exact.specs.ProgramForm.{program_both, program_choice, program_command, program_con}
-use Rattle.bpaf_exact.specs.ProgramForm.{no_program, program_closed, program_dressed, program_field}
-use Rattle.bpaf_exact.specs.ProgramForm.{program_if, program_optional, program_value, whole_program}
-use Rattle.bpaf_exact.specs.ProgramForm.{whole_value, single, CellsValue, CommandEval}
-use Rattle.bpaf_exact.specs.ProgramForm.{IsSpelledLine, ProgramLaw, are_plain, WordsApart}
-use Rattle.bpaf_exact.specs.ProgramForm.{IsAcceptedOrWant, IsExact, IsNoValue, RecordValue}
-use Rattle.bpaf_exact.specs.ProgramForm.{last_reading, Accepted, RunAnswer, RunRan, line_cells}
-use Rattle.bpaf_exact.specs.ProgramForm.{run_refusal, run_value, run_leftover, run_memory}
-use Rattle.bpaf_exact.specs.ProgramForm.{RunsExactly}
-use Rattle.bpaf_exact.specs.Pieces.{LinePiece, either, Cut, Roles, no_roles, are_all_apart, Owns}
+use Rattle.bpaf_laws.specs.{Product.ProductOutcome, Product.BothOutcome, Choice.ChoiceOutcome}
+use Rattle.bpaf_laws.specs.{Combinators.MapOutcome, Combinators.Gives, Reading.Outcome}
+use Rattle.bpaf_exact.proofs.Classes.{caught_class, memory_class, kept_class, stops_at, goes_on}
+use Rattle.bpaf_exact.proofs.Programs.{record_program, command_law, con_program, before_law}
+use Rattle.bpaf_exact.proofs.Commands.{optional_commands, choice_commands, closed_commands}
+use Rattle.bpaf_exact.proofs.Product.{named_both_law, named_last_law, named_con_law, none_counted}
+use Rattle.bpaf_exact.proofs.Product.{count_none, both_law, last_law, con_law}
+use Rattle.bpaf_exact.proofs.Wrappers.{alternative_single, closed_alternative, fallback_field}
+use Rattle.bpaf_exact.proofs.Wrappers.{closed_single, left_out_law, closed_law, single_law}
+use Rattle.bpaf_exact.proofs.Names.{apart_of_names, either_owns, foreign_of, both_hold}
+use Rattle.bpaf_exact.proofs.Repeat.{some_agrees_on, last_of_law, repeat_law}
+use Rattle.bpaf_exact.proofs.{Places.open_present, Places.same_cells, Commands.closed_program}
+use Rattle.bpaf_exact.proofs.{Choice.choice_law, Cuts.one_cut}
+use Rattle.bpaf_exact.specs.Flat.{FieldsReading, RepeatOutcome, OptionalValue, FallbackValue, cells}
+use Rattle.bpaf_exact.specs.Flat.{closed_memory, guard_closure, optional_none, optional_some, class}
+use Rattle.bpaf_exact.specs.Flat.{parse_closure, both_reading, FallbackEval, OptionalEval, FieldLaw}
+use Rattle.bpaf_exact.specs.Flat.{fallback_err, optional_err, list_closure, some_closure, FieldKind}
+use Rattle.bpaf_exact.specs.Flat.{map_closure, ErrorClass, ClosedEval, closed_err, closed_yes, keys}
+use Rattle.bpaf_exact.specs.Flat.{fallback_memory, optional_memory, answer_closure, fallback_given}
+use Rattle.bpaf_exact.specs.Flat.{NonePresent, SingleValue, ClosedValue, fallback_no, fallback_ok}
+use Rattle.bpaf_exact.specs.Flat.{FieldsLaw, IsWholeIn, Variables, SingleLaw, closed_no, OfMemory}
+use Rattle.bpaf_exact.specs.Flat.{class_of, repeated, KeepsTo, ReadOff, Refused, OwnList, Closure}
+use Rattle.bpaf_exact.specs.Flat.{Decides, Before, ByName, Caught, Groups, LastOf, Gap}
+use Rattle.bpaf_exact.specs.ProgramForm.{before_commands, product_reading, program_command, FormLaw}
+use Rattle.bpaf_exact.specs.ProgramForm.{program_dressed, program_choice, program_closed, completed}
+use Rattle.bpaf_exact.specs.ProgramForm.{product_roles, program_alone, program_field, program_value}
+use Rattle.bpaf_exact.specs.ProgramForm.{program_con, whole_value, CommandEval, RecordValue, Agrees}
+use Rattle.bpaf_exact.specs.ProgramForm.{run_refusal, RunsExactly, is_program, may_follow, NamedLaw}
+use Rattle.bpaf_exact.specs.ProgramForm.{no_program, program_if, CellsValue, ProgramLaw, WordsApart}
+use Rattle.bpaf_exact.specs.ProgramForm.{RunAnswer, run_value, commands, complete, is_named, EndLaw}
+use Rattle.bpaf_exact.specs.ProgramForm.{whole_program, IsSpelledLine, program_both, last_reading}
+use Rattle.bpaf_exact.specs.ProgramForm.{line_cells, run_memory, is_record, are_plain, IsNoValue}
+use Rattle.bpaf_exact.specs.ProgramForm.{program_optional, IsAcceptedOrWant, are_words_apart}
+use Rattle.bpaf_exact.specs.ProgramForm.{run_leftover, ProgramForm, alternative, choice_only}
+use Rattle.bpaf_exact.specs.ProgramForm.{Accepted, product, IsExact, single, RunRan}
+use Rattle.bpaf_exact.specs.Pieces.{are_all_apart, LinePiece, no_roles, either, Roles, Owns, Cut}
 
 -- what b allows a allows too, of a refusal one of the same class
 pub record AllowsNoMore (T : Type 0) (a b : Outcome T) : Type 0 where
@@ -156,7 +151,7 @@ module _ {V : Type 0} {outcome : Outcome V} {r : Roles} {reading : FieldsReading
         let n = i.all os here h in (i.read n, n))
         (λ t e o. l.keeps.err (beginning context) t e all_whole o os here h) ran;
     refused = λ os c none v h. let i = sound ran v h in
-        none (rw (← one_cut l.named (read_cut i) c) (l.has_each i.cut_into v i.read));
+        none (rw (← one_cut l.named i.cut c) (l.has_each i.cut_into v i.read));
   }
 
 -- where a test holds

@@ -1,39 +1,37 @@
 -- Of each combinator: its values say what is told of them, where those of its inner parsers do.
-use Rattle.std.proofs.Common.{Bool, List, [], append-nil, arith, false, if◌then◌else◌, inl, inr, not}
-use Rattle.std.proofs.Common.{ap, refl, subst, suc, sym, true, zero, ℕ, ◌&&◌, ◌++◌, ◌||◌, ◌∙◌, ◌∷◌}
-use Rattle.std.proofs.Common.{None, Option, Some, ◌≡◌}
-use Rattle.std.specs.{List.Contains, Prelude.MatchBool}
+use Rattle.std.proofs.Common.{append-nil, arith, false, subst, Bool, List, refl, true, zero, ◌&&◌}
+use Rattle.std.proofs.Common.{◌++◌, None, Some, inl, inr, not, suc, sym, ◌∙◌, ◌∷◌, ◌≡◌, [], ap, ℕ}
+use Rattle.std.specs.{Prelude.MatchBool, List.Contains}
 use Rattle.bpaf_doc.specs.Names.{Names}
-use Rattle.bpaf_laws.specs.Command.{opening_words, Called}
-use Rattle.bpaf_laws.specs.{Product.BothOutcome, Reading.Outcome}
-use Rattle.bpaf_exact.proofs.ProgramForm.{program_alone_law, program_both_law, program_field_law}
-use Rattle.bpaf_exact.proofs.ProgramForm.{whole_law}
-use Rattle.bpaf_exact.proofs.Says.{front_says, list_says, fallback_by, optional_by, whole_says}
-use Rattle.bpaf_exact.proofs.Names.{apart_none, apart_of_names, first_within, mine_keyed, mine_none}
-use Rattle.bpaf_exact.proofs.Names.{all_mine, mine_of_others, mine_within, none_behind, others_both}
-use Rattle.bpaf_exact.proofs.Names.{each_own, mine_rest, others_fit, others_none, rest_fit, own_fit}
-use Rattle.bpaf_exact.proofs.Names.{others_unkeyed, second_within, others_rest, both_fits, no_fits}
-use Rattle.bpaf_exact.proofs.{Names.cut_fit, Names.taken_own, Cuts.read_cut, Fronts.all_front}
-use Rattle.bpaf_exact.specs.Flat.{ByName, FieldKind, FieldsReading, Variables, back, front, keys}
-use Rattle.bpaf_exact.specs.Flat.{both_reading, Gap, Groups, OwnList, SingleValue, gap_of, repeated}
-use Rattle.bpaf_exact.specs.Flat.{ClosedValue, Closure, FallbackValue, LastOf, OptionalValue}
-use Rattle.bpaf_exact.specs.Flat.{either_value}
-use Rattle.bpaf_exact.specs.Pieces.{LinePiece, Owns, Roles, are_all_apart, either, is_own, mine}
-use Rattle.bpaf_exact.specs.Pieces.{no_roles, others}
-use Rattle.bpaf_exact.specs.ProgramForm.{ProgramForm, alternative, are_words_apart, before_commands}
-use Rattle.bpaf_exact.specs.ProgramForm.{choice_only, commands, complete, completed, last_reading}
-use Rattle.bpaf_exact.specs.ProgramForm.{CellsValue, ChoiceValue, CommandValue, OptionalCommands}
-use Rattle.bpaf_exact.specs.ProgramForm.{FormLaw, are_plain, is_named, is_program, may_follow}
-use Rattle.bpaf_exact.specs.ProgramForm.{no_program, product, product_roles, program_alone, single}
-use Rattle.bpaf_exact.specs.ProgramForm.{program_both, program_choice, program_closed, program_con}
-use Rattle.bpaf_exact.specs.ProgramForm.{program_command, program_dressed, program_field, program_if}
-use Rattle.bpaf_exact.specs.ProgramForm.{program_optional, program_value, whole_program, whole_value}
-use Rattle.bpaf_exact.specs.Says.{AllOwn, AloneSays, BothSay, CutSays, FallbackSays, FieldThenSays}
-use Rattle.bpaf_exact.specs.Says.{FieldsKeep, FieldsSaid, FieldsSay, Fits, FormSays, FrontSays}
-use Rattle.bpaf_exact.specs.Says.{IsSaid, LastSays, MadeSays, OptionalSays, ProgramSaid, RecordSays}
-use Rattle.bpaf_exact.specs.Says.{ProgramSays, RepeatSays, Said, SaidKind, Says, cells_said, keyed}
-use Rattle.bpaf_exact.specs.Says.{form_kind, its_pieces, of_kind, repeated_kind, words_after}
-use Rattle.bpaf_exact.specs.Says.{EitherSays, says_this, says_that}
+use Rattle.bpaf_laws.specs.{Command.opening_words, Command.Called, Product.BothOutcome}
+use Rattle.bpaf_laws.specs.Reading.{Outcome}
+use Rattle.bpaf_exact.proofs.ProgramForm.{program_alone_law, program_field_law, program_both_law}
+use Rattle.bpaf_exact.proofs.Says.{fallback_by, optional_by, front_says, whole_says, list_says}
+use Rattle.bpaf_exact.proofs.Names.{first_within, mine_within, none_behind, others_both, apart_none}
+use Rattle.bpaf_exact.proofs.Names.{apart_of_names, mine_of_others, others_unkeyed, second_within}
+use Rattle.bpaf_exact.proofs.Names.{mine_rest, both_fits, taken_own, all_mine, each_own, rest_fit}
+use Rattle.bpaf_exact.proofs.Names.{others_none, others_rest, mine_keyed, others_fit, mine_none}
+use Rattle.bpaf_exact.proofs.{Names.own_fit, Names.no_fits, Names.cut_fit, ProgramForm.whole_law}
+use Rattle.bpaf_exact.proofs.Fronts.{all_front}
+use Rattle.bpaf_exact.specs.Flat.{FieldsReading, FallbackValue, OptionalValue, both_reading, ByName}
+use Rattle.bpaf_exact.specs.Flat.{SingleValue, ClosedValue, FieldKind, Variables, repeated, OwnList}
+use Rattle.bpaf_exact.specs.Flat.{Closure, Groups, gap_of, LastOf, front, back, keys, Gap}
+use Rattle.bpaf_exact.specs.Pieces.{are_all_apart, LinePiece, no_roles, either, is_own, others}
+use Rattle.bpaf_exact.specs.ProgramForm.{before_commands, program_command, program_dressed, FormLaw}
+use Rattle.bpaf_exact.specs.ProgramForm.{program_choice, program_closed, product_roles, ProgramForm}
+use Rattle.bpaf_exact.specs.ProgramForm.{program_alone, program_field, program_value, whole_program}
+use Rattle.bpaf_exact.specs.ProgramForm.{choice_only, ChoiceValue, program_con, whole_value, single}
+use Rattle.bpaf_exact.specs.ProgramForm.{CellsValue, is_program, may_follow, no_program, program_if}
+use Rattle.bpaf_exact.specs.ProgramForm.{last_reading, CommandValue, program_both, alternative}
+use Rattle.bpaf_exact.specs.ProgramForm.{OptionalCommands, program_optional, are_words_apart}
+use Rattle.bpaf_exact.specs.ProgramForm.{completed, are_plain, commands, complete, product}
+use Rattle.bpaf_exact.specs.Says.{FieldThenSays, repeated_kind, FallbackSays, OptionalSays, BothSay}
+use Rattle.bpaf_exact.specs.Says.{RepeatSays, cells_said, its_pieces, EitherSays, AloneSays, AllOwn}
+use Rattle.bpaf_exact.specs.Says.{FieldsSay, FrontSays, form_kind, says_this, says_that, FormSays}
+use Rattle.bpaf_exact.specs.Says.{LastSays, MadeSays, SaidKind, CutSays, of_kind, IsSaid, keyed}
+use Rattle.bpaf_exact.specs.Says.{ProgramSaid, ProgramSays, FieldsKeep, FieldsSaid, RecordSays}
+use Rattle.bpaf_exact.specs.Pieces.{Roles, Owns, mine}
+use Rattle.bpaf_exact.specs.Says.{Fits, Said, Says}
 
 -- where a test holds
 if_says : {T : Type 0} (b : Bool) {s : ProgramForm T} {kind : SaidKind} {names : List Names}
@@ -249,8 +247,8 @@ program_says {env} {P} {T} {outcome} {s} {names} said p law h =
         [ true ↦ said.cells p | false ↦ CutSays (product_roles w) (said.pieces p) ])
     by_whole (product wide named q fields) law c says = rw says.0 (λ cs v read. record {
       cut_into = read.cut_into;
-      cut = read_cut read;
-      told = says.1 read.cut_into v (cut_fit q names law.by.1 (read_cut read)) read.read;
+      cut = read.cut;
+      told = says.1 read.cut_into v (cut_fit q names law.by.1 read.cut) read.read;
     })
     by_whole (before_commands value) law c says = rw says.0 says.1
     by_whole _ law c says = λ cs v m. absurd m

@@ -1,43 +1,40 @@
 -- A command over a program, and a named field before what ends in commands, keep to the laws.
-use Rattle.std.proofs.Common.{Err, List, None, Ok, Option, Some, [], arith, bytes_eq, false, ap}
-use Rattle.std.proofs.Common.{if◌then◌else◌, inl, inr, length, not, refl, subst, suc, sym, true}
-use Rattle.std.proofs.Common.{true≢false, zero, ⊎_elim, ◌&&◌, ◌<◌, ◌∙◌, ◌∷◌, ◌≡◌, ◌≤◌, ℕ}
-use Rattle.std.proofs.lemmas.Bool.{cases_Bool, cases_lt, false_from_ne_true}
-use Rattle.std.proofs.lemmas.Slice.Eq.{bytes_eq-Decides}
-use Rattle.std.proofs.{lemmas.Bool.Decides.nat_tests, lemmas.List.length_push}
-use Rattle.std.specs.{List.list_any, Option.option_map_or}
-use Rattle.bpaf_base.specs.declared.arg.Arg.TheVariants.{Long, Short}
-use Rattle.bpaf_base.specs.{Items.any_item, declared.arg.Arg.Arg}
-use Rattle.bpaf_line.proofs.Places.{match_is_open, open_item_there, open_in_scope, taken_here}
-use Rattle.bpaf_line.proofs.Places.{taken_other, taken_stays}
+use Rattle.std.proofs.Common.{if◌then◌else◌, true≢false, bytes_eq, Option, length, ⊎_elim, arith, ℕ}
+use Rattle.std.proofs.Common.{false, subst, List, None, Some, refl, true, zero, ◌&&◌, Err, inl, inr}
+use Rattle.std.proofs.Common.{not, suc, sym, ◌<◌, ◌∙◌, ◌∷◌, ◌≡◌, ◌≤◌, Ok, [], ap}
+use Rattle.std.proofs.lemmas.Bool.{false_from_ne_true, cases_Bool, cases_lt}
+use Rattle.std.proofs.{lemmas.Slice.Eq.bytes_eq-Decides, lemmas.Bool.Decides.nat_tests}
+use Rattle.std.proofs.lemmas.List.{length_push}
+use Rattle.std.specs.{Option.option_map_or, List.list_any}
+use Rattle.bpaf_base.specs.declared.arg.Arg.TheVariants.{Short, Long}
+use Rattle.bpaf_base.specs.{declared.arg.Arg.Arg, Items.any_item}
+use Rattle.bpaf_line.proofs.Places.{open_item_there, match_is_open, open_in_scope, taken_other}
 use Rattle.bpaf_line.specs.Situation.{Situation, in_scope, is_taken, item_at}
+use Rattle.bpaf_line.proofs.Places.{taken_stays, taken_here}
 use Rattle.bpaf_line.specs.{declared.error.Error.Error, Taking.open_item}
 use Rattle.bpaf_laws.specs.Command.{opening_words, IsNotOpened, IsOpenedAt, is_one_of, Called}
-use Rattle.bpaf_laws.specs.Command.{inside}
 use Rattle.bpaf_laws.specs.{Product.ProductOutcome, Product.BothOutcome, Reading.Outcome}
-use Rattle.bpaf_exact.proofs.Product.{count_none, no_own_in_cut, none_outside_after, values_of_both}
-use Rattle.bpaf_exact.proofs.Product.{refused_both, con_keeps}
-use Rattle.bpaf_exact.proofs.{Cuts.begin_at, Cuts.nil_foreign, Cuts.nil_rest, Cuts.one_take}
-use Rattle.bpaf_exact.proofs.{Cuts.value_foreign, Cuts.read_cut, Places.TakenOne}
-use Rattle.bpaf_exact.proofs.{Places.closed_item, Places.match_of, Places.open_present}
-use Rattle.bpaf_exact.proofs.{Places.same_item, Places.take_one, Names.first_within}
-use Rattle.bpaf_exact.proofs.{Names.second_within, Names.both_hold, Choice.has_item}
-use Rattle.bpaf_exact.specs.Flat.{ByName, FieldLaw, FieldTook, FieldsLaw, FieldsReading, IsWholeIn}
-use Rattle.bpaf_exact.specs.Flat.{OfMemory, ReadOff, first_cells, Variables, cells, class}
-use Rattle.bpaf_exact.specs.Flat.{ClosedValue, map_closure, TakesFirst, first_later, first_one}
-use Rattle.bpaf_exact.specs.Flat.{NotOwn}
-use Rattle.bpaf_exact.specs.Pieces.{Alone, Apart, Cells, Foreign, LinePiece, One, Roles, TakesPiece}
-use Rattle.bpaf_exact.specs.Pieces.{Role, Takes, TakesPieces, Two, either, either_role, empty_stays}
-use Rattle.bpaf_exact.specs.Pieces.{IsNamed, is_key, is_own_role, no_cells, other_stays, takes_flag}
-use Rattle.bpaf_exact.specs.Pieces.{takes_argument, takes_later, takes_more, takes_none, takes_one}
-use Rattle.bpaf_exact.specs.Pieces.{pieces, takes_two}
-use Rattle.bpaf_exact.specs.ProgramForm.{AllSpelled, CellsValue, CommandEval, CommandsLaw}
-use Rattle.bpaf_exact.specs.ProgramForm.{CommandValue, FieldThen, FindsNoCommand, IsSpelledLine}
-use Rattle.bpaf_exact.specs.ProgramForm.{Opens, OpensNone, ProgramLaw, ProgramTook, are_plain}
-use Rattle.bpaf_exact.specs.ProgramForm.{command_memory, command_leftover, command_value}
-use Rattle.bpaf_exact.specs.ProgramForm.{command_missing, empty_cell, is_spelled, no_cell}
-use Rattle.bpaf_exact.specs.ProgramForm.{opens_later, command_refused, is_dashed, opens_here}
-use Rattle.bpaf_exact.specs.ProgramForm.{spelled_cell}
+use Rattle.bpaf_laws.specs.Command.{inside}
+use Rattle.bpaf_exact.proofs.Product.{none_outside_after, values_of_both, no_own_in_cut, count_none}
+use Rattle.bpaf_exact.proofs.Cuts.{value_foreign, nil_foreign, begin_at, nil_rest, one_take}
+use Rattle.bpaf_exact.proofs.Places.{open_present, closed_item, same_item, TakenOne, match_of}
+use Rattle.bpaf_exact.proofs.Names.{second_within, first_within, both_hold}
+use Rattle.bpaf_exact.proofs.{Product.refused_both, Product.con_keeps, Places.take_one}
+use Rattle.bpaf_exact.proofs.Choice.{has_item}
+use Rattle.bpaf_exact.specs.Flat.{FieldsReading, first_cells, ClosedValue, map_closure, first_later}
+use Rattle.bpaf_exact.specs.Flat.{TakesFirst, FieldTook, FieldsLaw, IsWholeIn, Variables, first_one}
+use Rattle.bpaf_exact.specs.Flat.{FieldLaw, OfMemory, ReadOff, ByName, NotOwn, cells, class}
+use Rattle.bpaf_exact.specs.Pieces.{takes_argument, TakesPieces, either_role, empty_stays, no_cells}
+use Rattle.bpaf_exact.specs.Pieces.{takes_more, takes_none, LinePiece, takes_one, takes_two, either}
+use Rattle.bpaf_exact.specs.Pieces.{is_own_role, other_stays, takes_later, TakesPiece, takes_flag}
+use Rattle.bpaf_exact.specs.Pieces.{Foreign, IsNamed, is_key, pieces, Alone, Apart, Cells, Roles}
+use Rattle.bpaf_exact.specs.ProgramForm.{FindsNoCommand, command_memory, IsSpelledLine, CommandEval}
+use Rattle.bpaf_exact.specs.ProgramForm.{command_leftover, command_missing, command_refused, Opens}
+use Rattle.bpaf_exact.specs.ProgramForm.{ProgramTook, opens_later, AllSpelled, CellsValue, no_cell}
+use Rattle.bpaf_exact.specs.ProgramForm.{ProgramLaw, empty_cell, is_spelled, opens_here, FieldThen}
+use Rattle.bpaf_exact.specs.ProgramForm.{command_value, CommandValue, spelled_cell, CommandsLaw}
+use Rattle.bpaf_exact.specs.ProgramForm.{OpensNone, are_plain, is_dashed}
+use Rattle.bpaf_exact.specs.Pieces.{Takes, Role, One, Two}
 
 -- A command's word on cells.
 
@@ -287,7 +284,7 @@ module _ {env : Variables} {V : Type 0} {outcome : Outcome V} {r : Roles}
   -- the laws
   pub record_program : ProgramLaw env V outcome r (ReadOff V r reading.value)
   record_program = record {
-    others = λ q n a cs v s h. no_own_in_cut n a (read_cut h);
+    others = λ q n a cs v s h. no_own_in_cut n a h.cut;
     keeps = record {
       ok = λ s t v w o.
           let i = l.keeps.ok s t v w o in
@@ -295,11 +292,11 @@ module _ {env : Variables} {V : Type 0} {outcome : Outcome V} {r : Roles}
             deep = let e = ap length i.steady.path in omega arith;
             read = λ spelled. i.read;
             all = λ u h.
-                let n = i.all h.cut_into (read_cut h) (l.has_each h.cut_into u h.read) in
+                let n = i.all h.cut_into h.cut (l.has_each h.cut_into u h.read) in
                 (i.read n, n);
           };
       err = λ s t e w o u h.
-          l.keeps.err s t e w o h.cut_into (read_cut h) (l.has_each h.cut_into u h.read);
+          l.keeps.err s t e w o h.cut_into h.cut (l.has_each h.cut_into u h.read);
     };
   }
 

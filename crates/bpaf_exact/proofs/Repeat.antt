@@ -1,26 +1,23 @@
 -- Repeats of a field that keeps to the laws of one evaluation; what `some` and `last` make of one.
-use Rattle.std.proofs.Common.{Bool, Err, List, None, Ok, arith, false, inl, inr, refl, [], ap}
-use Rattle.std.proofs.Common.{subst, sym, true, true≢false, ⊎_elim, ◌<◌, ◌∙◌, ◌∷◌, ◌≡◌, ◌≤◌, ◌++◌}
-use Rattle.std.proofs.Common.{◌⊎◌}
-use Rattle.bpaf_line.specs.{Situation.Situation, Situation.open_count, declared.error.Error.Error}
-use Rattle.bpaf_laws.specs.Combinators.{LastOutcome, UntilRest, Turns, is_nil, rests, stops}
-use Rattle.bpaf_laws.specs.Combinators.{TurnOutcome}
-use Rattle.bpaf_laws.specs.Reading.{Outcome}
-use Rattle.bpaf_exact.proofs.Classes.{stops_at, memory_class, goes_on}
-use Rattle.bpaf_exact.proofs.Places.{takes_some_fewer, open_present, takes_fewer}
-use Rattle.bpaf_exact.proofs.Product.{none_outside_after, steady_trans, steady_refl}
+use Rattle.std.proofs.Common.{true≢false, ⊎_elim, arith, false, subst, Bool, List, None, refl, true}
+use Rattle.std.proofs.Common.{◌++◌, Err, inl, inr, sym, ◌<◌, ◌∙◌, ◌∷◌, ◌≡◌, ◌≤◌, ◌⊎◌, Ok, [], ap}
+use Rattle.bpaf_line.specs.{Situation.open_count, Situation.Situation, declared.error.Error.Error}
+use Rattle.bpaf_laws.specs.Combinators.{LastOutcome, TurnOutcome, UntilRest, is_nil, Turns, rests}
+use Rattle.bpaf_laws.specs.{Combinators.stops, Reading.Outcome}
 use Rattle.bpaf_exact.proofs.Fronts.{no_keys_left, never_nil, back_all, each_nil, nil_each}
+use Rattle.bpaf_exact.proofs.Product.{none_outside_after, steady_trans, steady_refl}
+use Rattle.bpaf_exact.proofs.Places.{takes_some_fewer, open_present, takes_fewer}
+use Rattle.bpaf_exact.proofs.Classes.{memory_class, stops_at, goes_on}
 use Rattle.bpaf_exact.proofs.Cuts.{some_trans}
-use Rattle.bpaf_exact.specs.Flat.{EachWord, ErrorClass, FieldKind, FieldTook, IsWholeIn, ByName}
-use Rattle.bpaf_exact.specs.Flat.{FieldLaw, OfMemory, OfMissing, OneWord, OwnItems, Steady}
-use Rattle.bpaf_exact.specs.Flat.{Variables, back, cells, class, front, CanCatch, Gap, Own, OwnList}
-use Rattle.bpaf_exact.specs.Flat.{ReadsWords, RepeatOutcome, Readable, SingleErr, SingleLaw}
-use Rattle.bpaf_exact.specs.Flat.{SingleOk, TakesAny, Groups, catch_missing, catch_other, caught}
-use Rattle.bpaf_exact.specs.Flat.{gave_absent, TookGroup, listed, listed_and_absent, nothing_found}
-use Rattle.bpaf_exact.specs.Flat.{of_missing, of_absent, of_memory, of_piece, only_absent, own_more}
-use Rattle.bpaf_exact.specs.Flat.{own_none, present_count, Stops, repeated, took, AgreesOn}
-use Rattle.bpaf_exact.specs.Flat.{some_closure, LastOf}
-use Rattle.bpaf_exact.specs.Pieces.{Cells, LinePiece, TakesPieces, pieces, takes_more, takes_none}
+use Rattle.bpaf_exact.specs.Flat.{present_count, some_closure, catch_other, gave_absent, ErrorClass}
+use Rattle.bpaf_exact.specs.Flat.{only_absent, ReadsWords, of_missing, FieldKind, FieldTook, ByName}
+use Rattle.bpaf_exact.specs.Flat.{of_absent, of_memory, EachWord, FieldLaw, OfMemory, OwnItems, Gap}
+use Rattle.bpaf_exact.specs.Flat.{CanCatch, Readable, SingleOk, TakesAny, of_piece, own_more, cells}
+use Rattle.bpaf_exact.specs.Flat.{IsWholeIn, OfMissing, Variables, SingleErr, SingleLaw, TookGroup}
+use Rattle.bpaf_exact.specs.Flat.{listed_and_absent, RepeatOutcome, catch_missing, nothing_found}
+use Rattle.bpaf_exact.specs.Flat.{own_none, repeated, AgreesOn, OneWord, OwnList, Steady, Groups}
+use Rattle.bpaf_exact.specs.Flat.{caught, listed, LastOf, class, front, Stops, back, took, Own}
+use Rattle.bpaf_exact.specs.Pieces.{TakesPieces, takes_more, takes_none, LinePiece, pieces, Cells}
 use Rattle.bpaf_exact.specs.Pieces.{Roles}
 
 -- where the cells are the same none was taken

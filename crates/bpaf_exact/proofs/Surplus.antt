@@ -1,16 +1,15 @@
 -- A surplus occurrence, a surplus word and an occurrence without a value leave a field no value.
-use Rattle.std.proofs.Common.{Bool, List, Option, Some, [], false, inl, inr, not, true, ℕ, ◌∷◌, ◌≡◌}
-use Rattle.std.proofs.Common.{None}
+use Rattle.std.proofs.Common.{Option, false, Bool, List, Some, true, None, inl, inr, not, ◌∷◌, ◌≡◌}
+use Rattle.std.proofs.Common.{[], ℕ}
 use Rattle.bpaf_exact.proofs.Wrappers.{own_bad}
-use Rattle.bpaf_exact.specs.Flat.{FieldKind, FieldsReading, HasValue, both_reading, left, portion}
-use Rattle.bpaf_exact.specs.Flat.{FrontOf, Groups, OwnList, listed_and_absent, own_more, own_none}
-use Rattle.bpaf_exact.specs.Flat.{Gap, SingleValue, gap_of, listed, only_absent, FallbackValue}
-use Rattle.bpaf_exact.specs.Flat.{OptionalValue, HasBad, LastOf, Closure}
-use Rattle.bpaf_exact.specs.ProgramForm.{ProgramForm, alternative, complete, program_closed, single}
-use Rattle.bpaf_exact.specs.ProgramForm.{completed, product, program_field, program_if}
-use Rattle.bpaf_exact.specs.ProgramForm.{HasNoSurplus, AtMostOne, last_reading, IsPartOf, OneByOne}
-use Rattle.bpaf_exact.specs.ProgramForm.{key_field, word_by}
-use Rattle.bpaf_exact.specs.Pieces.{LinePiece, Roles}
+use Rattle.bpaf_exact.specs.Flat.{both_reading, SingleValue, only_absent, FieldKind, HasValue, left}
+use Rattle.bpaf_exact.specs.Flat.{listed_and_absent, FieldsReading, FallbackValue, OptionalValue}
+use Rattle.bpaf_exact.specs.Flat.{own_more, own_none, portion, FrontOf, OwnList, Closure, Groups}
+use Rattle.bpaf_exact.specs.Flat.{gap_of, listed, HasBad, LastOf, Gap}
+use Rattle.bpaf_exact.specs.ProgramForm.{ProgramForm, alternative, program_if, completed, AtMostOne}
+use Rattle.bpaf_exact.specs.ProgramForm.{program_closed, program_field, HasNoSurplus, last_reading}
+use Rattle.bpaf_exact.specs.ProgramForm.{key_field, complete, IsPartOf, OneByOne, product, word_by}
+use Rattle.bpaf_exact.specs.{Pieces.LinePiece, Pieces.Roles, ProgramForm.single}
 
 -- A surplus occurrence.
 

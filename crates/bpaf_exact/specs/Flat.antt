@@ -1,19 +1,19 @@
 -- What a flat field keeps to when it is evaluated: its answer and what it takes depend on its own
 -- pieces alone; and what closures, defaults and repeats make of it.
-use Rattle.std.specs.Prelude.{Bool, List, Option, [], false, length, suc, true, zero, ◌<◌, ◌∷◌, ◌≡◌}
-use Rattle.std.specs.Prelude.{None, filter, if◌then◌else◌, Err, Ok, drop, not, take, ℕ, Some}
-use Rattle.std.specs.Prelude.{is_some, ◌⊎◌, Result, ◌++◌, MatchBool}
-use Rattle.std.specs.{List.before_first, Option.IsSomeRelated, Global.Vec}
-use Rattle.bpaf_base.specs.{Items.is_positional, declared.arg.Arg.Arg}
-use Rattle.bpaf_line.specs.Messages.{is_memory, can_catch}
-use Rattle.bpaf_line.specs.Situation.{Situation, is_taken, open_count}
-use Rattle.bpaf_line.specs.{declared.error.Error.Error, declared.error.Message.TheVariants.Missing}
-use Rattle.bpaf_line.specs.{declared.error.Message.Message, Taking.open_item}
-use Rattle.bpaf_laws.specs.Reading.{Outcome}
+use Rattle.std.specs.Prelude.{if◌then◌else◌, MatchBool, is_some, Option, length, filter, Result, []}
+use Rattle.std.specs.Prelude.{false, Bool, List, true, zero, None, drop, take, Some, ◌++◌, suc, ◌<◌}
+use Rattle.std.specs.Prelude.{◌∷◌, ◌≡◌, Err, not, ◌⊎◌, Ok, ℕ}
+use Rattle.std.specs.{Option.IsSomeRelated, List.before_first, Global.Vec}
+use Rattle.bpaf_base.specs.declared.arg.Arg.{Arg}
+use Rattle.bpaf_line.specs.Situation.{open_count, Situation, is_taken}
+use Rattle.bpaf_line.specs.{declared.error.Message.TheVariants.Missing, declared.error.Error.Error}
+use Rattle.bpaf_line.specs.{Messages.is_memory, Messages.can_catch, declared.error.Message.Message}
+use Rattle.bpaf_line.specs.Taking.{open_item}
 use Rattle.bpaf_laws.specs.Combinators.{ListOutcome, UntilFault, UntilRest}
-use Rattle.bpaf_exact.specs.Pieces.{Cells, Foreign, LinePiece, One, is_own, no_roles, stands_behind}
-use Rattle.bpaf_exact.specs.Pieces.{Apart, Cut, IsNamed, Roles, Takes, TakesPieces, Two, word_roles}
-use Rattle.bpaf_exact.specs.Pieces.{Alone, either, pieces, roles_of, TakesPiece, WithNext, is_value}
+use Rattle.bpaf_laws.specs.Reading.{Outcome}
+use Rattle.bpaf_exact.specs.Pieces.{no_roles, WithNext, is_value, Foreign, IsNamed, is_own, pieces}
+use Rattle.bpaf_exact.specs.Pieces.{stands_behind, TakesPieces, word_roles, TakesPiece, LinePiece}
+use Rattle.bpaf_exact.specs.Pieces.{Cells, Apart, Roles, Alone, One, Cut, Two}
 
 -- the classes of refusals
 pub data ErrorClass : Type 0 where
@@ -156,9 +156,7 @@ pub record FieldLaw (variables : Variables) (T : Type 0) (outcome : Outcome T) (
 pub record ReadOff (V : Type 0) (r : Roles) (value : List LinePiece → V → Type 0) (cs : Cells)
     (v : V) : Type 0 where
   pub cut_into : List LinePiece
-  pub left_cells : Cells
-  pub cut : Takes (either r (roles_of is_positional Alone)) cs cut_into left_cells
-  pub none_left : NonePresent left_cells
+  pub cut : Cut r cs cut_into
   pub read : value cut_into v
 
 -- a field has a value on its pieces

@@ -1,20 +1,19 @@
 -- What values of a field, a record and a program say of a line's pieces; values that look alike.
-use Rattle.std.specs.Prelude.{◌≡◌, ℕ, Bool, true, false, List, [], ◌∷◌, ◌++◌, Option, Some, None}
-use Rattle.std.specs.Prelude.{filter, map, not}
-use Rattle.std.specs.List.{Contains}
+use Rattle.std.specs.Prelude.{Option, filter, false, Bool, true, List, ◌++◌, Some, None, ◌≡◌, ◌∷◌}
+use Rattle.std.specs.{Prelude.map, Prelude.not, Prelude.[], Prelude.ℕ, List.Contains}
+use Rattle.bpaf_base.specs.{declared.arg.Arg.Arg, Items.item_text}
 use Rattle.bpaf_doc.specs.Names.{Names}
-use Rattle.bpaf_base.specs.{Items.item_text, declared.arg.Arg.Arg}
-use Rattle.bpaf_exact.specs.Pieces.{LinePiece, One, Roles, Two, is_own, mine, others, stands_behind}
-use Rattle.bpaf_exact.specs.Pieces.{is_key_of_any, Owns, Cells, Cut}
-use Rattle.bpaf_exact.specs.Flat.{FieldKind, ByName, front, back, Own, repeated, Closure, IsLast}
-use Rattle.bpaf_exact.specs.Flat.{ClosedValue, Variables, Groups}
-use Rattle.bpaf_exact.specs.ProgramForm.{ProgramForm, no_program, alternative, single, complete}
-use Rattle.bpaf_exact.specs.ProgramForm.{product, before_commands, product_roles, whole_program}
-use Rattle.bpaf_exact.specs.ProgramForm.{CellsValue, ChoiceValue, CommandValue, OptionalCommands}
-use Rattle.bpaf_exact.specs.ProgramForm.{commands, FormLaw, FieldThen, IsAcceptedOrWant, RunAnswer}
-use Rattle.bpaf_exact.specs.ProgramForm.{RunRan, line_cells, program_value}
-use Rattle.bpaf_laws.specs.{Command.Called, Command.opening_words, Reading.Outcome}
-use Rattle.bpaf_line.specs.Situation.{Context, beginning}
+use Rattle.bpaf_line.specs.Situation.{beginning, Context}
+use Rattle.bpaf_laws.specs.{Command.opening_words, Command.Called, Reading.Outcome}
+use Rattle.bpaf_exact.specs.Pieces.{stands_behind, is_key_of_any, LinePiece, is_own, others, Roles}
+use Rattle.bpaf_exact.specs.Pieces.{Cells, mine, Owns, One, Two, Cut}
+use Rattle.bpaf_exact.specs.Flat.{ClosedValue, FieldKind, Variables, repeated, Closure, ByName, Own}
+use Rattle.bpaf_exact.specs.ProgramForm.{ProgramForm, alternative, ChoiceValue, no_program, product}
+use Rattle.bpaf_exact.specs.ProgramForm.{product_roles, whole_program, program_value, CommandValue}
+use Rattle.bpaf_exact.specs.ProgramForm.{CellsValue, line_cells, FieldThen, RunAnswer, complete}
+use Rattle.bpaf_exact.specs.ProgramForm.{OptionalCommands, IsAcceptedOrWant, before_commands}
+use Rattle.bpaf_exact.specs.ProgramForm.{commands, FormLaw, single, RunRan}
+use Rattle.bpaf_exact.specs.Flat.{IsLast, Groups, front, back}
 
 -- The pieces of a field's own.
 

@@ -37,7 +37,7 @@ use Rattle.bpaf_record.specs.Record.{is_flat_record, answer_of, AnswersByFields,
 use Rattle.bpaf_record.specs.Record.{IsValueOrWant, HasWholeLine, PiecesOf, is_whole_program}
 use Rattle.bpaf_record.specs.Commands.{run_ran}
 use Rattle.bpaf_exact.proofs.{Classes.memory_class, Classes.not_memory, Cuts.cut_holds_together}
-use Rattle.bpaf_exact.proofs.{Cuts.read_cut, ProgramForm.record_law, ProgramForm.runs_exactly}
+use Rattle.bpaf_exact.proofs.{ProgramForm.record_law, ProgramForm.runs_exactly}
 use Rattle.bpaf_exact.proofs.{ProgramForm.runs_as_program, ProgramSays.program_says}
 use Rattle.bpaf_exact.specs.Says.{ProgramSaid, ProgramSays, cells_said, SaidKind}
 use Rattle.bpaf_exact.specs.Flat.{Variables}
@@ -223,7 +223,7 @@ module _ {T : Type 0} {outcome : Outcome T} (describes : Shape → Type 0) (info
           is_value = record { context = context; on_line = is; read = read };
           together = cut_holds_together roles
               (record_law flat law).named (line_cells context)
-              read.cut_into (read_cut read);
+              read.cut_into read.cut;
         });
         complete = λ texts line each.
             want_on (λ v read. record { context = context; on_line = is; read = read }) r

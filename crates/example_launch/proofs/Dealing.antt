@@ -21,7 +21,7 @@ use Rattle.example_launch.specs.declared.options.Launch.{Launch}
 use Rattle.std.specs.List.{Contains}
 use Rattle.bpaf_line.specs.declared.failure.ParseFailure.{ParseFailure}
 use Rattle.bpaf_record.proofs.Answered.{flag_leaves, line_behind, name_before, strict_words}
-use Rattle.bpaf_exact.proofs.{Says.list_says, Says.front_says, Says.word_says, Cuts.read_cut}
+use Rattle.bpaf_exact.proofs.{Says.list_says, Says.front_says, Says.word_says}
 
 -- of a launch the lines are seen
 pub same_lines : (words : List (List ℕ)) → All IsUtf8 words → Alike lines (IsLaunchValue words)
@@ -62,7 +62,7 @@ launch_passes own v value =
     ∙ (texts_are _ words.1.0.from (strict_words told)
     ∙ (name_before left (name_says _ _ words.0)
     ∙ (flag_leaves dry_run_names (others (flag_roles verbose_names) cut)
-    ∙ (flag_leaves verbose_names cut ∙ line_behind value.on_line (read_cut value.read))))))
+    ∙ (flag_leaves verbose_names cut ∙ line_behind value.on_line value.read.cut)))))
 
 -- so the words ask for the launch that is dealt out of them
 pub launch_asked : (own : List (List ℕ)) (r : Result Launch ParseFailure)
