@@ -1,32 +1,31 @@
 -- Arguments keep to the laws: what taking keys with the texts behind them takes, and that a key
 -- comes before the environment.
-use Rattle.std.proofs.Common.{ℕ, List, Result, arith, ◌≡◌, ◌+◌, Bool, true, false, [], ◌∷◌, ◌++◌}
-use Rattle.std.proofs.Common.{sym, subst, ◌∙◌, ⊎_elim, ap, Ok, Err, inl, inr, Some, true≢false}
-use Rattle.std.proofs.lemmas.Bool.{eqb-true, or_cases, or_left, or_right, cases_Bool}
+use Rattle.std.proofs.Common.{true≢false, Result, ⊎_elim, arith, false, subst, List, Bool, true, []}
+use Rattle.std.proofs.Common.{◌++◌, Some, ◌≡◌, ◌+◌, ◌∷◌, sym, ◌∙◌, Err, inl, inr, ap, Ok, ℕ}
+use Rattle.std.proofs.lemmas.Bool.{cases_Bool, eqb-true, or_cases, or_right, or_left}
 use Rattle.std.proofs.lemmas.Bool.Decides.{nat_tests}
-use Rattle.bpaf_text.specs.Named.{KeyWithValue, argument_part}
-use Rattle.bpaf_line.specs.Situation.{Situation, is_open, take_place, open_count}
-use Rattle.bpaf_line.specs.Taking.{is_match, open_item, value_after}
-use Rattle.bpaf_line.specs.declared.error.Message.TheVariants.{Memory, ParseFailed, ParseFailure}
-use Rattle.bpaf_line.specs.declared.error.Message.TheVariants.{NoArgument}
-use Rattle.bpaf_line.specs.{declared.error.Message.Message, declared.error.Error.Error}
-use Rattle.bpaf_laws.specs.Reading.{ReadsValue, FaultsText, Share, IsPair, Readings}
-use Rattle.bpaf_laws.specs.Leaves.{ArgumentOutcome, ArgumentFails, GetsText, is_key_with_value}
-use Rattle.bpaf_laws.specs.Leaves.{TakesKeyWithText, TakesKeysWithTexts, behind, IsKeyBefore}
-use Rattle.bpaf_laws.specs.Leaves.{AreKeysWithText, ArgumentReads, IsOwnText, TakesBefore}
-use Rattle.bpaf_laws.specs.Leaves.{TakesOwnText, RefusesText, ReadsVariable, LacksText, HasNoKey}
-use Rattle.bpaf_laws.specs.Leaves.{Counts, IsFirstBare, LacksOwnText, FailsKeyFirst}
-use Rattle.bpaf_laws.specs.Leaves.{KeyBeforeEnvironment}
-use Rattle.bpaf_laws.specs.Laws.{Keeps, Reads, newly, Lawful, NamesAnswer}
-use Rattle.std.specs.Prelude.{◌⊎◌, ◌<◌, ◌≤◌, ◌==◌, ◌||◌, Option, None, refl, option_and_then}
+use Rattle.std.specs.Prelude.{option_and_then, Option, ◌==◌, ◌||◌, None, refl, ◌⊎◌, ◌<◌, ◌≤◌}
 use Rattle.std.specs.Option.{option_map_or, IsSomeRelated}
 use Rattle.bpaf_base.specs.{declared.arg.Arg.Arg, Items.value_text}
-use Rattle.bpaf_line.proofs.Places.{taken_here, taken_other, taken_stays, match_is_open}
-use Rattle.bpaf_line.proofs.Places.{match_has_item, value_is_open}
-use Rattle.bpaf_laws.proofs.Keeping.{keeps_same, keeps_trans, keeps_take, reads_as, reads_both}
-use Rattle.bpaf_laws.proofs.Keeping.{newly_take_both, closes_take_both, same_took_none}
-use Rattle.bpaf_laws.proofs.Keeping.{AnswersLawfully, lawful_by, keeps_unset, newly_none}
-use Rattle.bpaf_laws.proofs.Keeping.{reads_unset, names_absence}
+use Rattle.bpaf_text.specs.Named.{argument_part, KeyWithValue}
+use Rattle.bpaf_line.specs.Situation.{take_place, open_count, Situation, is_open}
+use Rattle.bpaf_line.specs.declared.error.Message.TheVariants.{ParseFailure, ParseFailed, Memory}
+use Rattle.bpaf_line.proofs.Places.{match_has_item, match_is_open, value_is_open, taken_other}
+use Rattle.bpaf_line.specs.Taking.{value_after, open_item, is_match}
+use Rattle.bpaf_line.specs.declared.error.Message.TheVariants.{NoArgument}
+use Rattle.bpaf_line.specs.{declared.error.Message.Message, declared.error.Error.Error}
+use Rattle.bpaf_line.proofs.Places.{taken_stays, taken_here}
+use Rattle.bpaf_laws.specs.Reading.{ReadsValue, FaultsText, Readings, IsPair, Share}
+use Rattle.bpaf_laws.specs.Leaves.{TakesKeyWithText, ArgumentOutcome, AreKeysWithText, TakesOwnText}
+use Rattle.bpaf_laws.specs.Leaves.{LacksOwnText, IsKeyBefore, TakesBefore, RefusesText, IsFirstBare}
+use Rattle.bpaf_laws.specs.Leaves.{KeyBeforeEnvironment, TakesKeysWithTexts, is_key_with_value}
+use Rattle.bpaf_laws.specs.Leaves.{ArgumentFails, ArgumentReads, ReadsVariable, FailsKeyFirst}
+use Rattle.bpaf_laws.specs.Leaves.{IsOwnText, LacksText, GetsText, HasNoKey, behind, Counts}
+use Rattle.bpaf_laws.specs.Laws.{NamesAnswer, Lawful, Keeps, Reads, newly}
+use Rattle.bpaf_laws.proofs.Keeping.{closes_take_both, newly_take_both, AnswersLawfully, keeps_same}
+use Rattle.bpaf_laws.proofs.Keeping.{reads_unset, keeps_take, reads_both, newly_none, lawful_by}
+use Rattle.bpaf_laws.proofs.Keeping.{same_took_none, names_absence, keeps_trans, keeps_unset}
+use Rattle.bpaf_laws.proofs.Keeping.{reads_as}
 
 module _ {T : Type 0} (means : List ℕ → T → Type 0) (argument : KeyWithValue) (s t : Situation)
     (text : List ℕ) where

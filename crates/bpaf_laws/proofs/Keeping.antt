@@ -1,35 +1,33 @@
 -- How what evaluations keep is put together. No combinator builds a `Keeps` of its own: it goes
 -- through these lemmas and one for each call of a state, so that a clause can be added to the laws
 -- here.
-use Rattle.std.proofs.Common.{◌≡◌, ℕ, ◌+◌, true, ◌&&◌, ◌||◌, List, [], ◌∷◌, ◌++◌, Result, Option}
-use Rattle.std.proofs.Common.{refl, sym, ◌∙◌, ap, subst, append_assoc, append-nil, arith}
-use Rattle.std.proofs.Common.{true≢false, Bool, false, ⊎_elim, zero, suc, ◌<◌, ◌≤◌, if◌then◌else◌}
-use Rattle.std.proofs.Common.{length, map}
+use Rattle.std.proofs.Common.{⊎_elim, length, subst, arith, false, true, ◌&&◌, ◌||◌, List, ◌++◌, []}
+use Rattle.std.proofs.Common.{refl, Bool, zero, ◌≡◌, ◌+◌, ◌∷◌, sym, ◌∙◌, suc, ◌<◌, ◌≤◌, map, ap, ℕ}
+use Rattle.std.proofs.Common.{if◌then◌else◌, append_assoc, append-nil, true≢false, Result, Option}
 use Rattle.std.proofs.{lemmas.Bool.Decides.nat_tests, lemmas.Bool.cases_cond}
-use Rattle.std.proofs.{lemmas.List.map-append}
-use Rattle.std.specs.Prelude.{◌==◌, not, Ok, Err, None, Some}
-use Rattle.bpaf_line.specs.Situation.{Situation, Context, is_taken, is_open, in_scope, take_place}
-use Rattle.bpaf_line.specs.Situation.{with_scope, with_path, with_current, count_below, open_count}
-use Rattle.bpaf_line.specs.declared.error.Message.TheVariants.{Memory, Missing, ParseFailure}
-use Rattle.bpaf_line.specs.Messages.{Combines, CombinesSpared, can_catch, is_answer, is_memory}
+use Rattle.std.proofs.lemmas.List.{map-append}
+use Rattle.std.specs.Prelude.{◌==◌, None, Some, not, Err, Ok}
+use Rattle.bpaf_doc.specs.{Shape.shape_of, Shape.Shape, Shape.Part, declared.doc.Piece.Piece}
+use Rattle.bpaf_doc.specs.declared.meta.Meta.{Meta}
+use Rattle.bpaf_text.specs.{declared.fault.TextFault.TextFault, Meaning.ReadsText, Named.Named}
+use Rattle.bpaf_line.specs.Situation.{with_current, count_below, take_place, with_scope, open_count}
+use Rattle.bpaf_line.specs.Situation.{Situation, with_path, is_taken, in_scope, Context, is_open}
+use Rattle.bpaf_line.specs.declared.error.Message.TheVariants.{ParseFailure, Missing, Memory}
+use Rattle.bpaf_line.specs.Messages.{CombinesSpared, can_catch, is_answer, is_memory, Combines}
+use Rattle.bpaf_line.proofs.Marks.{keeps_marks_current, keeps_marks_trans, keeps_marks_scope}
+use Rattle.bpaf_line.proofs.Places.{open_not_taken, open_in_line, taken_other, taken_stays}
 use Rattle.bpaf_line.specs.declared.failure.ParseFailure.{ParseFailure as Failure}
-use Rattle.bpaf_line.specs.{Taking.ConflictsSaved, declared.error.Error.Error}
-use Rattle.bpaf_line.specs.{declared.error.Message.Message, Rendering.Renders}
-use Rattle.bpaf_line.proofs.Marks.{keeps_marks_refl, keeps_marks_trans, keeps_marks_take}
-use Rattle.bpaf_line.proofs.Marks.{keeps_marks_scope, keeps_marks_path, keeps_marks_current}
-use Rattle.bpaf_line.proofs.Places.{taken_here, taken_other, taken_stays, open_not_taken}
-use Rattle.bpaf_line.proofs.Places.{open_in_line}
-use Rattle.bpaf_laws.specs.Reading.{Share, Readings, Outcome, Joins, IsEmptyShare, IsPlace, IsPair}
-use Rattle.bpaf_laws.specs.Reading.{IsAbsence, HasPlace, IsKept, ReadsValue, TellsReading}
-use Rattle.bpaf_laws.specs.Laws.{Keeps, Closes, Extends, Reads, Lawful, newly, NamesAnswer}
-use Rattle.bpaf_laws.specs.Laws.{HasSomeName, Refusal, refusal_of, told, no_memory, wanting}
-use Rattle.bpaf_laws.specs.Laws.{taken_count, CountFalls}
-use Rattle.bpaf_laws.specs.Product.{BothReads, AppendsShapes, LastDescribes}
-use Rattle.bpaf_laws.specs.Combinators.{TellsFault, FallbackOutcome, GivesClone}
-use Rattle.bpaf_laws.specs.Leaves.{FlagOutcome}
-use Rattle.bpaf_doc.specs.Shape.{Part, Shape, shape_of}
-use Rattle.bpaf_doc.specs.{declared.doc.Piece.Piece, declared.meta.Meta.Meta}
-use Rattle.bpaf_text.specs.{Named.Named, Meaning.ReadsText, declared.fault.TextFault.TextFault}
+use Rattle.bpaf_line.specs.{declared.error.Message.Message, declared.error.Error.Error}
+use Rattle.bpaf_line.specs.{Taking.ConflictsSaved, Rendering.Renders}
+use Rattle.bpaf_line.proofs.Marks.{keeps_marks_refl, keeps_marks_take, keeps_marks_path}
+use Rattle.bpaf_line.proofs.Places.{taken_here}
+use Rattle.bpaf_laws.specs.Reading.{IsEmptyShare, TellsReading, ReadsValue, IsAbsence, Readings}
+use Rattle.bpaf_laws.specs.Reading.{HasPlace, Outcome, IsPlace, IsPair, IsKept, Share, Joins}
+use Rattle.bpaf_laws.specs.Laws.{no_memory, Extends, Refusal, wanting, Closes, Lawful, Keeps, Reads}
+use Rattle.bpaf_laws.specs.Laws.{NamesAnswer, HasSomeName, taken_count, refusal_of, CountFalls}
+use Rattle.bpaf_laws.specs.Combinators.{FallbackOutcome, TellsFault, GivesClone}
+use Rattle.bpaf_laws.specs.Product.{AppendsShapes, LastDescribes, BothReads}
+use Rattle.bpaf_laws.specs.{Laws.newly, Laws.told, Leaves.FlagOutcome}
 use Rattle.bpaf_line.specs.declared.failure.ParseFailure.TheVariants as failure
 
 -- what an evaluation keeps, whatever it answers

@@ -1,22 +1,21 @@
 -- Flags, arguments, items by their text, and the name of the program.
-use Rattle.std.specs.Prelude.{◌≡◌, ◌≢◌, ◌⊎◌, ℕ, ◌+◌, Bool, true, false, List, ◌∷◌, ◌++◌, take, All}
-use Rattle.std.specs.Prelude.{if◌then◌else◌, Ok, Err, Option, Some, None, [], IfSome, codes}
-use Rattle.std.specs.Prelude.{slice_get, string_bytes, String, zero, suc, ◌≤◌, ◌||◌, Result}
-use Rattle.std.specs.Prelude.{option_and_then, ◌<◌, ⊤}
-use Rattle.std.specs.{declared.alloc.Global.Global, Option.option_map_or, Option.IsSomeRelated}
-use Rattle.bpaf_doc.specs.Shape.{Part, Shape, Shown, Skip, Optional}
+use Rattle.std.specs.Prelude.{option_and_then, if◌then◌else◌, string_bytes, slice_get, Option, Bool}
+use Rattle.std.specs.Prelude.{IfSome, String, Result, false, codes, true, List, ◌++◌, take, Some, ℕ}
+use Rattle.std.specs.Prelude.{None, zero, ◌||◌, ◌≡◌, ◌≢◌, ◌⊎◌, ◌+◌, ◌∷◌, All, Err, suc, ◌≤◌, ◌<◌, ⊤}
+use Rattle.std.specs.{Option.option_map_or, Option.IsSomeRelated, declared.alloc.Global.Global}
+use Rattle.std.specs.Prelude.{Ok, []}
+use Rattle.bpaf_base.specs.Items.{is_argument_key, is_attached, value_text, item_text, is_key_of}
 use Rattle.bpaf_base.specs.declared.arg.Arg.{Arg}
-use Rattle.bpaf_base.specs.Items.{item_text, is_attached, is_argument_key, value_text, is_key_of}
-use Rattle.bpaf_line.specs.Situation.{Situation, Context, item_in, is_open, take_place}
-use Rattle.bpaf_line.specs.Situation.{with_current}
-use Rattle.bpaf_line.specs.declared.error.Message.TheVariants.{Memory, Missing, ParseFailed}
-use Rattle.bpaf_line.specs.declared.error.Message.TheVariants.{NoArgument}
-use Rattle.bpaf_line.specs.Taking.{IsMissingIn, open_items, TakesValue, RefusesArgument, HasNone}
-use Rattle.bpaf_line.specs.Taking.{TakesFlag, is_match, value_after, IsFirst}
-use Rattle.bpaf_line.specs.{declared.error.Message.Message, declared.error.Error.Error}
-use Rattle.bpaf_laws.specs.Reading.{Share, Outcome, IsPlace, IsPair, Readings, IsEmptyShare}
-use Rattle.bpaf_laws.specs.Reading.{HasItem, first_set, IsAbsence, FaultsText, is_set}
-use Rattle.bpaf_text.specs.Named.{KeyWithValue, argument_part, Named, flag_part}
+use Rattle.bpaf_doc.specs.Shape.{Optional, Shape, Shown, Part, Skip}
+use Rattle.bpaf_text.specs.Named.{argument_part, KeyWithValue, flag_part, Named}
+use Rattle.bpaf_line.specs.Situation.{with_current, take_place, Situation, Context, item_in}
+use Rattle.bpaf_line.specs.declared.error.Message.TheVariants.{ParseFailed, NoArgument, Missing}
+use Rattle.bpaf_line.specs.Taking.{RefusesArgument, IsMissingIn, value_after, open_items, TakesFlag}
+use Rattle.bpaf_line.specs.Taking.{TakesValue, is_match, HasNone, IsFirst}
+use Rattle.bpaf_line.specs.{declared.error.Message.TheVariants.Memory, declared.error.Error.Error}
+use Rattle.bpaf_line.specs.{declared.error.Message.Message, Situation.is_open}
+use Rattle.bpaf_laws.specs.Reading.{IsEmptyShare, FaultsText, first_set, IsAbsence, Readings, Share}
+use Rattle.bpaf_laws.specs.Reading.{Outcome, IsPlace, HasItem, IsPair, is_set}
 
 -- what a look at a text may answer: Some of a value where it matches, None where it doesn't
 abbrev pub Looks : Type 0 → Type 1

@@ -1,38 +1,34 @@
 -- The parsers of a program, and their fields, are known where what they are made of is.
-use Rattle.std.proofs.Common.{All, Err, IsUtf8, List, Ok, Result, [], ap, ap₂, refl, true, ◌∙◌, ◌≡◌}
-use Rattle.std.proofs.Common.{ℕ, Bool, Option, Some, false}
-use Rattle.bpaf_doc.specs.{Shape.Shape, Names.Names, declared.doc.Piece.Piece}
-use Rattle.bpaf_line.specs.declared.failure.ParseFailure.{ParseFailure}
-use Rattle.bpaf_line.specs.{declared.error.Error.Error, Situation.Situation}
-use Rattle.bpaf_laws.specs.Laws.{joined_shorts, no_shorts, of_arguments, of_flags}
-use Rattle.bpaf_laws.specs.Combinators.{MapOutcome, FallbackOutcome, GivesClone, ManyOutcome}
-use Rattle.bpaf_laws.specs.Combinators.{TurnOutcome}
-use Rattle.bpaf_laws.specs.Leaves.{ArgumentOutcome, FlagOutcome}
-use Rattle.bpaf_laws.specs.{Choice.ChoiceOutcome, Product.ProductOutcome, Product.BothOutcome}
+use Rattle.std.proofs.Common.{IsUtf8, Result, Option, false, List, refl, true, Bool, Some, All, Err}
+use Rattle.std.proofs.Common.{ap₂, ◌∙◌, ◌≡◌, Ok, ap, ℕ}
+use Rattle.bpaf_doc.specs.{declared.doc.Piece.Piece, Shape.Shape, Names.Names}
+use Rattle.bpaf_words.specs.{Arguments.Given, Line.ShortNames}
+use Rattle.bpaf_text.specs.Named.{KeyWithValue, key_named, Named}
+use Rattle.bpaf_line.specs.{declared.failure.ParseFailure.ParseFailure, declared.error.Error.Error}
+use Rattle.bpaf_line.specs.Situation.{Situation}
+use Rattle.bpaf_laws.specs.Combinators.{FallbackOutcome, ManyOutcome, TurnOutcome, MapOutcome}
+use Rattle.bpaf_laws.specs.Laws.{joined_shorts, of_arguments, no_shorts, of_flags}
+use Rattle.bpaf_laws.specs.{Product.ProductOutcome, Product.BothOutcome, Combinators.GivesClone}
+use Rattle.bpaf_laws.specs.{Leaves.ArgumentOutcome, Leaves.FlagOutcome, Choice.ChoiceOutcome}
 use Rattle.bpaf_laws.specs.{Command.CommandPart, Command.named_only, Reading.Outcome}
-use Rattle.bpaf_exact.proofs.ProgramForm.{narrower_form, no_more, program_both_law, program_con_law}
-use Rattle.bpaf_exact.proofs.ProgramForm.{program_alone_law, program_choice_law, program_field_law}
-use Rattle.bpaf_exact.proofs.ProgramForm.{AllowsNoMore, map_law, fallback_law, many_law}
-use Rattle.bpaf_exact.proofs.ProgramForm.{optional_law}
-use Rattle.bpaf_exact.proofs.Leaves.{argument_field_law, flag_field_law}
-use Rattle.bpaf_exact.specs.ProgramForm.{is_program, program_field}
-use Rattle.bpaf.specs.Run.{known_names, RunsWords}
-use Rattle.bpaf.specs.{Command.EitherCommandOutcome, Info.plain_info, Info.RunInfo, Ending.EndsRun}
-use Rattle.bpaf.specs.{Positional.PositionalOutcome, declared.leaves.positional.Position.Position}
+use Rattle.bpaf_laws.proofs.Keeping.{fallback_kept}
 use Rattle.bpaf_core.specs.declared.commands.ParseCommand.{ParseCommand}
-use Rattle.bpaf_program.specs.KnownParser.{AreKnownFields, IsExactFor, IsKnownParser, program_names}
-use Rattle.bpaf_program.specs.KnownParser.{known_command, shown_shorts, known_con, known_map}
-use Rattle.bpaf_program.specs.KnownParser.{IsValueBy, known_default, known_many, known_optional}
-use Rattle.bpaf_program.specs.KnownParser.{known_switch, IsKept}
-use Rattle.bpaf_program.specs.Fields.{IsPlainCommand}
+use Rattle.bpaf.specs.{declared.leaves.positional.Position.Position, Run.known_names, Run.RunsWords}
+use Rattle.bpaf.specs.{Info.plain_info, Info.RunInfo, Command.EitherCommandOutcome, Ending.EndsRun}
+use Rattle.bpaf.specs.Positional.{PositionalOutcome}
+use Rattle.bpaf_exact.proofs.ProgramForm.{program_both_law, program_con_law, narrower_form, no_more}
+use Rattle.bpaf_exact.proofs.ProgramForm.{program_choice_law, program_alone_law, program_field_law}
+use Rattle.bpaf_exact.proofs.ProgramForm.{AllowsNoMore, fallback_law, optional_law, many_law}
+use Rattle.bpaf_exact.proofs.{Leaves.argument_field_law, Leaves.flag_field_law, ProgramForm.map_law}
+use Rattle.bpaf_exact.specs.ProgramForm.{is_program}
+use Rattle.bpaf_record.specs.Grammar.{program_form, argument, Grammar, choice, alone, both, word}
 use Rattle.bpaf_record.proofs.Running.{answers_as_program}
-use Rattle.bpaf_record.specs.Grammar.{Grammar, alone, choice, command_words, keys_of, program_form}
-use Rattle.bpaf_record.specs.Grammar.{both, argument, word}
 use Rattle.bpaf_record.specs.Commands.{plain_command_law, positional_law}
 use Rattle.bpaf_record.specs.Record.{AnswersAsProgram}
-use Rattle.bpaf_words.specs.{Arguments.Given, Line.ShortNames}
-use Rattle.bpaf_text.specs.Named.{KeyWithValue, Named, key_named}
-use Rattle.bpaf_laws.proofs.Keeping.{fallback_kept}
+use Rattle.bpaf_program.specs.KnownParser.{AreKnownFields, known_optional, IsKnownParser, known_con}
+use Rattle.bpaf_program.specs.KnownParser.{program_names, known_command, known_default, IsExactFor}
+use Rattle.bpaf_program.specs.KnownParser.{shown_shorts, known_switch, known_many, known_map}
+use Rattle.bpaf_program.specs.{KnownParser.IsValueBy, KnownParser.IsKept, Fields.IsPlainCommand}
 
 module _ {A B : Type 0} (inner : Outcome A) {answers wanted : A → B → Type 0}
     (only : (x : A) (v : B) → answers x v → wanted x v) where

@@ -1,49 +1,47 @@
 -- What an answer says by the words: of one field, of those in front of commands, of a command, and
 -- of the words behind `--`.
-use Rattle.std.proofs.Common.{◌≡◌, ◌≢◌, ℕ, zero, suc, Bool, true, false, List, [], ◌∷◌, ◌+◌, length}
-use Rattle.std.proofs.Common.{codes, map, refl, sym, ap, ◌∙◌, subst, cond, if◌then◌else◌, ◌||◌}
-use Rattle.std.proofs.Common.{arith, All, IsUtf8, slice_index_or, true≢false, ◌==◌, not, ◌++◌}
-use Rattle.std.proofs.Common.{slice_index, ◌<◌, None, Some, Option, IsSome, Result, Ok, Err, IfOk}
-use Rattle.std.proofs.Common.{⊎_elim, ◌⊎◌, inl, inr}
-use Rattle.std.proofs.lemmas.List.Elements.{All-contains, All-contains_itself, All-filter, All-take}
-use Rattle.std.proofs.lemmas.List.Elements.{Contains-append_left, Contains-append_right}
-use Rattle.std.proofs.lemmas.List.Elements.{Contains-get_or, filter_passes, Contains-append_cases}
-use Rattle.std.proofs.lemmas.List.Elements.{recursion_from_All}
-use Rattle.std.proofs.lemmas.List.Sums.{count_by_more_yes, length-filter, sum_by-take-le}
-use Rattle.std.proofs.lemmas.List.Sums.{AllPass-from_list_all}
-use Rattle.std.proofs.{lemmas.Str.encode_ascii, lemmas.Bool.or_cases, lemmas.Bool.not-true}
-use Rattle.std.specs.List.{AllZip, Contains, filter, position_or_len, list_all, AllByRecursion}
-use Rattle.std.specs.{Prelude.flat_map, Char.IsAsciiDigit, Option.option_to_list}
-use Rattle.bpaf_doc.specs.Names.{Names}
-use Rattle.bpaf_base.specs.declared.arg.Arg.TheVariants.{Short, Long, PosWord}
-use Rattle.bpaf_base.specs.Items.{is_key_of, is_among, is_text_among, item_text}
+use Rattle.std.proofs.Common.{slice_index_or, if◌then◌else◌, slice_index, true≢false, length, false}
+use Rattle.std.proofs.Common.{IsUtf8, Option, IsSome, Result, ⊎_elim, codes, subst, arith, zero, []}
+use Rattle.std.proofs.Common.{Bool, true, List, refl, cond, ◌||◌, ◌==◌, ◌++◌, None, Some, IfOk, ◌≡◌}
+use Rattle.std.proofs.Common.{◌≢◌, suc, ◌∷◌, ◌+◌, map, sym, ◌∙◌, All, not, ◌<◌, Err, ◌⊎◌, inl, inr}
+use Rattle.std.proofs.lemmas.List.Elements.{Contains-append_left, All-contains_itself, All-contains}
+use Rattle.std.proofs.lemmas.List.Elements.{Contains-append_right, Contains-append_cases, All-take}
+use Rattle.std.proofs.lemmas.List.Elements.{recursion_from_All, Contains-get_or, filter_passes}
+use Rattle.std.proofs.lemmas.List.Sums.{AllPass-from_list_all, count_by_more_yes, sum_by-take-le}
+use Rattle.std.proofs.{lemmas.Bool.or_cases, lemmas.Bool.not-true, lemmas.List.Elements.All-filter}
+use Rattle.std.proofs.{Common.ap, Common.Ok, Common.ℕ, lemmas.List.Sums.length-filter}
+use Rattle.std.proofs.lemmas.Str.{encode_ascii}
+use Rattle.std.specs.List.{position_or_len, AllByRecursion, Contains, list_all, AllZip, filter}
+use Rattle.std.specs.{Option.option_to_list, Char.IsAsciiDigit, Prelude.flat_map}
+use Rattle.bpaf_base.specs.declared.arg.Arg.TheVariants.{PosWord, Short, Long}
+use Rattle.bpaf_base.specs.Items.{is_text_among, is_key_of, item_text, is_among}
 use Rattle.bpaf_base.specs.declared.arg.Arg.{Arg}
-use Rattle.bpaf_words.specs.Line.{Known, Items, Spells, HasNoMarker, SpellAll, HasNoEquals}
-use Rattle.bpaf_words.specs.Line.{IsNumberWord, by_dash, dash_char, long, short}
+use Rattle.bpaf_doc.specs.Names.{Names}
+use Rattle.bpaf_words.specs.Line.{IsNumberWord, HasNoMarker, HasNoEquals, dash_char, SpellAll, long}
+use Rattle.bpaf_words.specs.Line.{by_dash, Spells, Known, Items, short}
 use Rattle.bpaf_words.specs.Arguments.{Given}
 use Rattle.bpaf_words.proofs.OneSpelling.{one_spelling}
-use Rattle.bpaf_line.specs.declared.failure.ParseFailure.{ParseFailure}
-use Rattle.bpaf_line.specs.{Taking.IsContext, Situation.Context}
-use Rattle.bpaf.specs.Marker.{is_marker_word, words_before, words_behind}
-use Rattle.bpaf.specs.declared.leaves.positional.Position.TheVariants.{NonStrict, Strict}
-use Rattle.bpaf.specs.Positional.{accepts}
-use Rattle.bpaf_exact.specs.Pieces.{Roles, LinePiece, Cut, is_value, Cells, Takes, no_cells}
-use Rattle.bpaf_exact.specs.Pieces.{empty_stays, other_stays, takes_argument, takes_flag}
-use Rattle.bpaf_exact.specs.Pieces.{is_own_role, Owns, Alone, IsNamed, One, is_own, stands_behind}
-use Rattle.bpaf_exact.specs.Pieces.{Two, others}
-use Rattle.bpaf_exact.specs.ProgramForm.{line_cells, ProgramForm, CellsValue, Opens, opens_here}
-use Rattle.bpaf_exact.specs.ProgramForm.{opens_later, flag_roles, WordValue}
-use Rattle.bpaf_exact.specs.Says.{first_item, keyed, Said, FlagSays, says_present, says_variable}
-use Rattle.bpaf_exact.specs.Says.{says_absent, ArgumentSays, OptionalSays, says_some, says_none}
-use Rattle.bpaf_exact.specs.Says.{FallbackSays, says_own, says_kept, RepeatSays, CutSays, WordSays}
-use Rattle.bpaf_exact.specs.Flat.{front, OneWord, back}
-use Rattle.bpaf_record.specs.Record.{IsSpelledByAny, IsSpelledItem, WasSpelled, TellsOfWords}
-use Rattle.bpaf_record.specs.Record.{WasCalled}
-use Rattle.bpaf_record.proofs.Running.{cut_kept, each_present, on_line, present}
-use Rattle.bpaf_exact.proofs.Says.{NeedsPiece, argument_needs, no_values, repeat_needs, word_values}
-use Rattle.bpaf_exact.proofs.{Fronts.of_front_one, Places.test_named}
+use Rattle.bpaf_line.specs.{declared.failure.ParseFailure.ParseFailure, Situation.Context}
+use Rattle.bpaf_line.specs.Taking.{IsContext}
 use Rattle.bpaf_laws.specs.Command.{is_one_of}
+use Rattle.bpaf.specs.declared.leaves.positional.Position.TheVariants.{NonStrict, Strict}
+use Rattle.bpaf.specs.Marker.{is_marker_word, words_before, words_behind}
+use Rattle.bpaf.specs.Positional.{accepts}
 use Rattle.bpaf.proofs.Sides.{all_spelled, of_words}
+use Rattle.bpaf_exact.proofs.Says.{argument_needs, repeat_needs, word_values, NeedsPiece, no_values}
+use Rattle.bpaf_exact.proofs.{Fronts.of_front_one, Places.test_named}
+use Rattle.bpaf_exact.specs.Pieces.{takes_argument, stands_behind, empty_stays, other_stays, is_own}
+use Rattle.bpaf_exact.specs.Pieces.{is_own_role, takes_flag, LinePiece, is_value, no_cells, IsNamed}
+use Rattle.bpaf_exact.specs.Pieces.{others, Roles, Cells, Takes, Alone, Owns, Cut, One, Two}
+use Rattle.bpaf_exact.specs.ProgramForm.{ProgramForm, opens_later, line_cells, CellsValue, Opens}
+use Rattle.bpaf_exact.specs.Says.{says_variable, says_present, ArgumentSays, OptionalSays, FlagSays}
+use Rattle.bpaf_exact.specs.Says.{says_none, says_kept, says_own, WordSays, CutSays, keyed, Said}
+use Rattle.bpaf_exact.specs.Says.{FallbackSays, says_absent, first_item, RepeatSays, says_some}
+use Rattle.bpaf_exact.specs.ProgramForm.{opens_here, flag_roles, WordValue}
+use Rattle.bpaf_exact.specs.Flat.{OneWord, front, back}
+use Rattle.bpaf_record.specs.Record.{IsSpelledByAny, IsSpelledItem, TellsOfWords, WasSpelled}
+use Rattle.bpaf_record.proofs.Running.{each_present, cut_kept, on_line, present}
+use Rattle.bpaf_record.specs.Record.{WasCalled}
 
 module _ (known : Known) where
   -- one of these words spells a part, whose items are among those of all

@@ -1,27 +1,26 @@
 -- What the combinators make of a part of a program, a choice of any number of parsers among them.
-use Rattle.std.proofs.Common.{◌≡◌, ℕ, Bool, true, false, not, ◌&&◌, ◌||◌, List, [], ◌∷◌, ◌++◌, refl}
-use Rattle.std.proofs.Common.{sym, ap, ◌∙◌, if◌then◌else◌, zero, suc, ◌+◌, ◌<◌, ◌≤◌, length, take}
-use Rattle.std.proofs.Common.{flat_map, slice_index_or, arith, append-nil, append_assoc}
+use Rattle.std.proofs.Common.{slice_index_or, if◌then◌else◌, append_assoc, append-nil, flat_map, []}
+use Rattle.std.proofs.Common.{length, false, arith, Bool, true, ◌&&◌, ◌||◌, List, ◌++◌, refl, zero}
+use Rattle.std.proofs.Common.{take, ◌≡◌, not, ◌∷◌, sym, ◌∙◌, suc, ◌+◌, ◌<◌, ◌≤◌, ap, ℕ}
 use Rattle.std.proofs.{lemmas.List.Folds.list_all-append, lemmas.List.take_more}
 use Rattle.std.specs.List.{list_all}
 use Rattle.bpaf_doc.specs.Names.{Names}
-use Rattle.bpaf_laws.specs.{Command.Called, Command.opening_words, Choice.Nested}
-use Rattle.bpaf_exact.specs.Flat.{FieldKind, ByName, OneWord, EachWord, Gap, Groups, OwnList}
-use Rattle.bpaf_exact.specs.Flat.{repeated, Closure, FallbackValue, LastOf}
-use Rattle.bpaf_exact.specs.ProgramForm.{ProgramForm, no_program, alternative, single, complete}
-use Rattle.bpaf_exact.specs.ProgramForm.{product, commands, before_commands, program_if}
-use Rattle.bpaf_exact.specs.ProgramForm.{program_closed, program_dressed, completed}
-use Rattle.bpaf_exact.specs.ProgramForm.{program_optional, are_words_apart, program_choice}
-use Rattle.bpaf_exact.specs.ProgramForm.{choice_only, is_named, is_program, is_record, may_follow}
-use Rattle.bpaf_exact.specs.ProgramForm.{program_alone, program_both, program_command, program_con}
-use Rattle.bpaf_exact.specs.ProgramForm.{program_field, are_plain}
+use Rattle.bpaf_laws.specs.{Command.opening_words, Command.Called, Choice.Nested}
+use Rattle.bpaf_exact.specs.Flat.{FallbackValue, FieldKind, EachWord, repeated, OneWord, OwnList}
+use Rattle.bpaf_exact.specs.Flat.{Closure, ByName, Groups, LastOf, Gap}
+use Rattle.bpaf_exact.specs.ProgramForm.{program_optional, before_commands, program_dressed, single}
+use Rattle.bpaf_exact.specs.ProgramForm.{are_words_apart, program_command, program_closed, complete}
+use Rattle.bpaf_exact.specs.ProgramForm.{program_choice, program_alone, program_field, program_both}
+use Rattle.bpaf_exact.specs.ProgramForm.{no_program, program_if, is_program, may_follow, completed}
+use Rattle.bpaf_exact.specs.ProgramForm.{ProgramForm, alternative, choice_only, program_con}
+use Rattle.bpaf_exact.specs.ProgramForm.{is_record, are_plain, commands, is_named, product}
 use Rattle.bpaf_exact.specs.Pieces.{are_all_apart, LinePiece}
-use Rattle.bpaf_record.specs.declared.part.ProgramPart.TheVariants.{Complete, Product, Commands}
-use Rattle.bpaf_record.specs.Part.{kind_of, part_of, part_if, closed_part, completed_part}
-use Rattle.bpaf_record.specs.Part.{dressed_part, optional_part, chosen_part, only_part}
-use Rattle.bpaf_record.specs.Part.{is_program_part, is_record_part, command_part, field_part}
-use Rattle.bpaf_record.specs.Part.{last_part, before_part, is_named_kind, made_part, may_stand}
-use Rattle.bpaf_record.specs.Grammar.{Grammar, choice, choices_of, command_words, keys_of}
+use Rattle.bpaf_record.specs.declared.part.ProgramPart.TheVariants.{Complete, Commands, Product}
+use Rattle.bpaf_record.specs.Part.{is_named_kind, dressed_part, command_part, closed_part, kind_of}
+use Rattle.bpaf_record.specs.Part.{is_program_part, completed_part, is_record_part, optional_part}
+use Rattle.bpaf_record.specs.Part.{chosen_part, before_part, field_part, only_part, last_part}
+use Rattle.bpaf_record.specs.Grammar.{command_words, choices_of, Grammar, keys_of, choice}
+use Rattle.bpaf_record.specs.Part.{made_part, may_stand, part_of, part_if}
 
 -- where a test holds
 if_is : {T : Type 0} (b : Bool) (s : ProgramForm T)

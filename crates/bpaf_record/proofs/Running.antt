@@ -1,47 +1,38 @@
 -- Each answer that the table of a run allows to a program is exact, and to a flat record keeps to its
 -- fields: what is present on the line of the words, and what it is read as.
-use Rattle.std.proofs.Common.{◌≡◌, ◌<◌, ℕ, zero, suc, Bool, true, false, List, [], ◌∷◌, ◌++◌, ◌==◌}
-use Rattle.std.proofs.Common.{Option, Some, None, length, map, refl, sym, ap, ◌∙◌, arith, All}
-use Rattle.std.proofs.Common.{subst, codes, slice_get, if◌then◌else◌, append-nil, cond, drop}
-use Rattle.std.proofs.Common.{IsUtf8, Result, Ok, Err, IfOk, not}
-use Rattle.std.proofs.lemmas.List.Elements.{All-append, All-contains, All-map}
-use Rattle.std.proofs.lemmas.List.Elements.{Contains-append_right}
-use Rattle.std.proofs.{lemmas.List.get_or_at, lemmas.Option.slice_get_within, lemmas.Bool.and_parts}
+use Rattle.std.proofs.Common.{if◌then◌else◌, append-nil, slice_get, Option, length, IsUtf8, Result}
+use Rattle.std.proofs.Common.{false, arith, subst, codes, zero, Bool, true, List, ◌++◌, ◌==◌, Some}
+use Rattle.std.proofs.Common.{None, refl, cond, drop, IfOk, ◌≡◌, ◌<◌, suc, ◌∷◌, map, sym, ◌∙◌, All}
+use Rattle.std.proofs.Common.{Err, not, [], ap, Ok, ℕ}
+use Rattle.std.proofs.lemmas.List.Elements.{Contains-append_right, All-contains, All-append}
+use Rattle.std.proofs.{lemmas.Option.slice_get_within, lemmas.List.Elements.All-map}
+use Rattle.std.proofs.{lemmas.List.get_or_at, lemmas.Bool.and_parts}
 use Rattle.std.specs.{Prelude.flat_map, Prelude.get_or, List.Contains, List.filter}
-use Rattle.std.specs.{Option.option_to_list}
-use Rattle.bpaf_base.specs.{declared.arg.Arg.Arg, declared.arg.Arg.TheVariants.PosWord}
-use Rattle.bpaf_words.specs.{Line.HasNoMarker, Line.IsLine, Line.SpellAll, Line.with_marker}
-use Rattle.bpaf_words.specs.{Line.without_marker, Line.Known, Line.HasNoLine, Arguments.Given}
-use Rattle.bpaf_line.specs.Situation.{Context, is_marker, item_in, Situation, beginning}
-use Rattle.bpaf_line.specs.declared.failure.ParseFailure.{ParseFailure}
-use Rattle.bpaf_line.specs.{Taking.IsContext, declared.error.Error.Error}
-use Rattle.bpaf.specs.Run.{Runs, RunsWords, value, leftover, refused, ran, no_line as none_there}
-use Rattle.bpaf.specs.Run.{no_memory as wanted}
-use Rattle.bpaf.specs.{Marker.is_marker_word, Marker.words_before, Marker.words_behind}
-use Rattle.bpaf.specs.{Info.RunInfo, Ending.EndsRun, Ending.memory, Ending.usage, Ending.passed_on}
-use Rattle.bpaf.specs.{Ending.refused as told_refusal, Ending.leftover as told_leftover}
-use Rattle.bpaf.proofs.Sides.{EachOf, all_spelled, of_words, two_sides}
-use Rattle.bpaf_exact.specs.Pieces.{Cells, Cut, LinePiece, Roles, argument, at_end, flag, is_value}
-use Rattle.bpaf_exact.specs.Pieces.{passed, word}
-use Rattle.bpaf_exact.specs.ProgramForm.{IsSpelledLine, is_dashed, is_spelled, line_cells, RunRan}
-use Rattle.bpaf_exact.specs.ProgramForm.{run_value, run_leftover, run_memory, run_refusal}
-use Rattle.bpaf_exact.specs.ProgramForm.{IsNoValue, IsAcceptedOrWant, IsExact, RecordValue}
-use Rattle.bpaf_exact.specs.ProgramForm.{ProgramForm, alternative, single, complete, product}
-use Rattle.bpaf_exact.specs.ProgramForm.{FormLaw, is_record, product_roles, product_reading}
-use Rattle.bpaf_exact.specs.ProgramForm.{whole_program, is_program, program_value, Accepted}
-use Rattle.bpaf_exact.specs.{Flat.first_cells, Flat.FieldsLaw, Flat.FieldsReading, Says.first_item}
-use Rattle.bpaf_words.proofs.OneLine.{one_lines}
+use Rattle.std.specs.Option.{option_to_list}
+use Rattle.bpaf_base.specs.{declared.arg.Arg.TheVariants.PosWord, declared.arg.Arg.Arg}
 use Rattle.bpaf_doc.specs.{Names.Names, Shape.Shape}
+use Rattle.bpaf_words.specs.Line.{without_marker, HasNoMarker, with_marker, HasNoLine, SpellAll}
+use Rattle.bpaf_words.specs.{Line.IsLine, Line.Known, Arguments.Given}
+use Rattle.bpaf_words.proofs.OneLine.{one_lines}
+use Rattle.bpaf_line.specs.Situation.{is_marker, beginning, Context, item_in}
+use Rattle.bpaf_line.specs.{declared.failure.ParseFailure.ParseFailure, Taking.IsContext}
 use Rattle.bpaf_laws.specs.Reading.{Outcome}
-use Rattle.bpaf_record.specs.Record.{is_flat_record, answer_of, AnswersByFields, IsValueOf}
-use Rattle.bpaf_record.specs.Record.{IsValueOrWant, HasWholeLine, PiecesOf, is_whole_program}
+use Rattle.bpaf.specs.Run.{no_line as none_there, no_memory as wanted, RunsWords, refused, ran}
+use Rattle.bpaf.specs.Marker.{is_marker_word, words_before, words_behind}
+use Rattle.bpaf.specs.Info.{RunInfo}
+use Rattle.bpaf.proofs.Sides.{all_spelled, two_sides, of_words, EachOf}
+use Rattle.bpaf_exact.proofs.ProgramForm.{runs_as_program, runs_exactly, record_law}
+use Rattle.bpaf_exact.proofs.{ProgramSays.program_says, Cuts.cut_holds_together}
+use Rattle.bpaf_exact.specs.Pieces.{LinePiece, argument, is_value, at_end, passed, Cells, Roles}
+use Rattle.bpaf_exact.specs.ProgramForm.{IsAcceptedOrWant, IsSpelledLine, product_roles, is_spelled}
+use Rattle.bpaf_exact.specs.ProgramForm.{whole_program, program_value, ProgramForm, alternative}
+use Rattle.bpaf_exact.specs.ProgramForm.{line_cells, is_program, is_dashed, is_record, complete}
+use Rattle.bpaf_exact.specs.ProgramForm.{Accepted, product, FormLaw, single}
+use Rattle.bpaf_exact.specs.Says.{ProgramSaid, ProgramSays, first_item, cells_said, SaidKind}
+use Rattle.bpaf_exact.specs.{Pieces.flag, Pieces.word, Pieces.Cut, Flat.first_cells, Flat.Variables}
+use Rattle.bpaf_record.specs.Record.{is_whole_program, AnswersAsProgram, AnswersByFields, answer_of}
+use Rattle.bpaf_record.specs.Record.{is_flat_record, IsValueOrWant, TellsOfWords, PiecesOf}
 use Rattle.bpaf_record.specs.Commands.{run_ran}
-use Rattle.bpaf_exact.proofs.{Classes.memory_class, Classes.not_memory, Cuts.cut_holds_together}
-use Rattle.bpaf_exact.proofs.{ProgramForm.record_law, ProgramForm.runs_exactly}
-use Rattle.bpaf_exact.proofs.{ProgramForm.runs_as_program, ProgramSays.program_says}
-use Rattle.bpaf_exact.specs.Says.{ProgramSaid, ProgramSays, cells_said, SaidKind}
-use Rattle.bpaf_exact.specs.Flat.{Variables}
-use Rattle.bpaf_record.specs.Record.{AnswersAsProgram, TellsOfWords}
 use Prim.Native.Nat.compare
 use Rattle.bpaf_line.specs.declared.failure.ParseFailure.TheVariants as failure
 

@@ -1,37 +1,35 @@
 -- Plain commands and positional words keep to the laws of their forms.
-use Rattle.std.proofs.Common.{◌≡◌, ℕ, Bool, true, false, List, Some, None, Result, Ok, Err, ap, inl}
-use Rattle.std.proofs.Common.{inr, [], refl, sym, ◌∙◌, not, subst, true≢false}
-use Rattle.bpaf_doc.specs.{Names.Names, Shape.Part, Shape.Shape}
-use Rattle.bpaf_line.specs.declared.failure.ParseFailure.{ParseFailure}
-use Rattle.bpaf_line.specs.Situation.{Situation, open_count, with_current}
-use Rattle.bpaf_line.specs.declared.error.Message.TheVariants.{Memory, Missing, ParseFailed}
-use Rattle.bpaf_line.specs.declared.error.Message.TheVariants.{StrictPos, NonStrictPos}
-use Rattle.bpaf_line.specs.{declared.error.Error.Error, declared.error.Message.Message}
-use Rattle.bpaf_laws.specs.Command.{Called, IsNotOpened, IsOpenedAt, inside, opening_words}
+use Rattle.std.proofs.Common.{true≢false, Result, false, subst, Bool, true, List, Some, refl, ◌≡◌}
+use Rattle.std.proofs.Common.{Err, inl, inr, sym, ◌∙◌, not, Ok, ap, [], ℕ}
+use Rattle.bpaf_base.specs.{declared.arg.Arg.Arg, Items.word_text}
+use Rattle.bpaf_doc.specs.{Shape.Shape, Shape.Part, Names.Names}
+use Rattle.bpaf_line.specs.declared.error.Message.TheVariants.{NonStrictPos, ParseFailed, StrictPos}
+use Rattle.bpaf_line.specs.declared.error.Message.TheVariants.{Missing, Memory}
+use Rattle.bpaf_line.specs.{declared.failure.ParseFailure.ParseFailure, declared.error.Error.Error}
+use Rattle.bpaf_line.specs.Situation.{open_count, Situation}
+use Rattle.bpaf_line.specs.declared.error.Message.{Message}
+use Rattle.bpaf_laws.specs.Command.{opening_words, IsOpenedAt, Called, inside}
 use Rattle.bpaf_laws.specs.Reading.{Outcome}
-use Rattle.bpaf_core.specs.Command.{EitherCommandOutcome, CommandOutcome, value, ended, missing}
-use Rattle.bpaf_core.specs.Command.{no_memory, IsMissingPart}
 use Rattle.bpaf_parts.specs.Failures.{end_message}
-use Rattle.bpaf.specs.Leftover.{IsLeftover, conflict, only_once, not_expected}
-use Rattle.bpaf.specs.Ending.{EndsRun, memory, usage, passed_on, refused as told_refusal}
-use Rattle.bpaf.specs.Ending.{leftover as told_leftover}
-use Rattle.bpaf.specs.Run.{Runs, value as ran_value, leftover, refused}
+use Rattle.bpaf_core.specs.Command.{EitherCommandOutcome, CommandOutcome, no_memory, missing, value}
+use Rattle.bpaf_core.specs.Command.{ended}
+use Rattle.bpaf.specs.Leftover.{not_expected, IsLeftover, only_once, conflict}
+use Rattle.bpaf.specs.Ending.{leftover as told_leftover, refused as told_refusal, passed_on, memory}
 use Rattle.bpaf.specs.Positional.{PositionalOutcome, PositionalFails, accepts}
-use Rattle.bpaf.specs.{Info.RunInfo, declared.leaves.positional.Position.Position}
-use Rattle.bpaf_exact.specs.ProgramForm.{CommandEval, command_value, command_leftover}
-use Rattle.bpaf_exact.specs.ProgramForm.{command_refused, command_missing, command_memory}
-use Rattle.bpaf_exact.specs.ProgramForm.{ProgramForm, FormLaw, program_command, WordValue, WordEval}
-use Rattle.bpaf_exact.specs.ProgramForm.{word_by, word_fault, word_memory, word_missing}
-use Rattle.bpaf_exact.specs.ProgramForm.{word_passed, word_read}
-use Rattle.bpaf_exact.specs.{Flat.class_of, Flat.Variables, Flat.class, Pieces.One}
+use Rattle.bpaf.specs.{Run.value as ran_value, Run.leftover, Run.refused, Run.Runs, Info.RunInfo}
+use Rattle.bpaf.specs.{declared.leaves.positional.Position.Position, Ending.EndsRun, Ending.usage}
 use Rattle.bpaf_exact.proofs.ProgramForm.{program_command_law, narrower_form, no_more}
 use Rattle.bpaf_exact.proofs.Leaves.{stands_before, word_by_law, word_is}
-use Rattle.bpaf_exact.specs.ProgramForm.{IsNoValue, RunRan, run_leftover, run_memory, run_refusal}
-use Rattle.bpaf_exact.specs.ProgramForm.{run_value}
 use Rattle.bpaf_exact.proofs.{Classes.memory_class, Classes.not_memory, Places.open_counted}
+use Rattle.bpaf_exact.specs.ProgramForm.{command_leftover, command_refused, command_missing, RunRan}
+use Rattle.bpaf_exact.specs.ProgramForm.{program_command, command_memory, command_value, word_fault}
+use Rattle.bpaf_exact.specs.ProgramForm.{word_memory, word_passed, run_refusal, run_memory, FormLaw}
+use Rattle.bpaf_exact.specs.ProgramForm.{word_missing, run_leftover, CommandEval, ProgramForm}
+use Rattle.bpaf_exact.specs.ProgramForm.{WordValue, word_read, IsNoValue, run_value, WordEval}
+use Rattle.bpaf_exact.specs.{Flat.Variables, Flat.class_of, Flat.class, ProgramForm.word_by}
+use Rattle.bpaf_exact.specs.Pieces.{One}
 use Rattle.bpaf_record.specs.Record.{answer_of}
 use Rattle.bpaf_line.specs.declared.failure.ParseFailure.TheVariants as failure
-use Rattle.bpaf_base.specs.{declared.arg.Arg.Arg, Items.word_text}
 
 -- where something is told of what is left something is
 pub left_over : (s : Situation) (m : Message) → IsLeftover s m → open_count s ≡ 0 → ⊥

@@ -1,25 +1,24 @@
 -- The grammar of programs: of which parsers they are made, and by which steps.
-use Rattle.std.specs.Prelude.{ℕ, Bool, not, true, false, List, [], ◌∷◌, ◌++◌, Option, if◌then◌else◌}
+use Rattle.std.specs.Prelude.{if◌then◌else◌, Option, false, Bool, true, List, ◌++◌, not, ◌∷◌, [], ℕ}
 use Rattle.std.specs.List.{Contains}
 use Rattle.bpaf_doc.specs.Names.{Names}
-use Rattle.bpaf_laws.specs.Choice.{Nested, ChoicesOutcome, ChoiceOutcome}
-use Rattle.bpaf_laws.specs.{Command.Called, Command.opening_words, Reading.Outcome}
-use Rattle.bpaf.specs.declared.leaves.positional.Position.{Position}
-use Rattle.bpaf.specs.{Info.RunInfo, Positional.accepts}
-use Rattle.bpaf_exact.specs.Flat.{ByName, OneWord, Variables, LastOf, OwnList, repeated, Closure}
-use Rattle.bpaf_exact.specs.Flat.{FallbackValue}
-use Rattle.bpaf_exact.specs.ProgramForm.{argument_field, flag_field, pure_field, word_by}
-use Rattle.bpaf_exact.specs.ProgramForm.{ProgramForm, choice_only, completed, no_program}
-use Rattle.bpaf_exact.specs.ProgramForm.{program_alone, program_both, program_choice}
-use Rattle.bpaf_exact.specs.ProgramForm.{program_closed, program_command, program_con}
-use Rattle.bpaf_exact.specs.ProgramForm.{program_dressed, program_field, program_if}
-use Rattle.bpaf_exact.specs.ProgramForm.{program_optional, EachAgrees, FormLaw}
-use Rattle.bpaf_exact.specs.Says.{SaidKind, form_kind, of_kind, repeated_kind, Says, OneOfCells}
-use Rattle.bpaf_exact.specs.Says.{ProgramSaid, ProgramSays, OneOfSays}
-use Rattle.bpaf_record.specs.Record.{are_unusual}
 use Rattle.bpaf_text.specs.Named.{Named as Key, KeyWithValue}
-use Rattle.bpaf_exact.proofs.ProgramForm.{choice_only_law, program_choice_law}
-use Rattle.bpaf_exact.proofs.ProgramSays.{Into, at_first, first_says, in_rest, more_says}
+use Rattle.bpaf_laws.specs.Choice.{ChoicesOutcome, ChoiceOutcome, Nested}
+use Rattle.bpaf_laws.specs.{Command.opening_words, Command.Called, Reading.Outcome}
+use Rattle.bpaf.specs.{declared.leaves.positional.Position.Position, Positional.accepts}
+use Rattle.bpaf.specs.Info.{RunInfo}
+use Rattle.bpaf_exact.proofs.ProgramSays.{first_says, more_says, at_first, in_rest, Into}
+use Rattle.bpaf_exact.proofs.ProgramForm.{program_choice_law, choice_only_law}
+use Rattle.bpaf_exact.specs.Flat.{FallbackValue, Variables, repeated, OneWord, OwnList, Closure}
+use Rattle.bpaf_exact.specs.ProgramForm.{argument_field, program_choice, program_closed, flag_field}
+use Rattle.bpaf_exact.specs.ProgramForm.{choice_only, program_con, pure_field, no_program, word_by}
+use Rattle.bpaf_exact.specs.ProgramForm.{program_alone, program_field, program_both, ProgramForm}
+use Rattle.bpaf_exact.specs.ProgramForm.{program_optional, program_command, program_dressed}
+use Rattle.bpaf_exact.specs.ProgramForm.{program_if, EachAgrees, completed, FormLaw}
+use Rattle.bpaf_exact.specs.Says.{repeated_kind, ProgramSaid, ProgramSays, OneOfCells, form_kind}
+use Rattle.bpaf_exact.specs.Says.{OneOfSays, SaidKind, of_kind, Says}
+use Rattle.bpaf_exact.specs.Flat.{ByName, LastOf}
+use Rattle.bpaf_record.specs.Record.{are_unusual}
 
 -- what a parser is made of: what it is by itself, or a step and the parsers inside
 pub data Grammar : Type 0 → Type 1 where
