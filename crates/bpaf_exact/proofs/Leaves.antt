@@ -21,12 +21,12 @@ use Rattle.bpaf_laws.specs.Leaves.{TakesKeysWithTexts, is_key_with_value, value_
 use Rattle.bpaf_laws.specs.Reading.{MissesItem, IsAbsence, first_set, Outcome, is_set}
 use Rattle.bpaf_laws.specs.Combinators.{PureOutcome, GivesClone, is_nil}
 use Rattle.bpaf_laws.specs.Leaves.{FlagFails, HasNoKey}
-use Rattle.bpaf_exact.proofs.Fronts.{of_front_more, of_front_one, each_front, front_more, back_more}
+use Rattle.bpaf_exact.proofs.Names.{of_front_more, of_front_one, each_front, front_more, back_more}
 use Rattle.bpaf_exact.proofs.Places.{take_steady, bare_taken, test_named, behind_of, no_pieces}
 use Rattle.bpaf_exact.proofs.Places.{one_taken, test_owns, two_taken, match_of, by_test}
 use Rattle.bpaf_exact.proofs.Product.{none_of_nobody, current_cells, steady_trans, same_steady}
 use Rattle.bpaf_exact.proofs.Cuts.{first_pieces, first_takes, some_trans, never_two, begin_at}
-use Rattle.bpaf_exact.proofs.Fronts.{front_nil, front_one, never_nil, back_one}
+use Rattle.bpaf_exact.proofs.Names.{front_nil, front_one, never_nil, back_one}
 use Rattle.bpaf_exact.proofs.{Wrappers.took_front, Wrappers.gap_empty, Classes.memory_class}
 use Rattle.bpaf_exact.proofs.Product.{steady_refl}
 use Rattle.bpaf_exact.specs.Flat.{alternative_missing, alternative_refused, alternative_memory, Gap}

@@ -28,7 +28,7 @@ use Rattle.bpaf_exact.proofs.Wrappers.{closed_single, left_out_law, closed_law, 
 use Rattle.bpaf_exact.proofs.Names.{apart_of_names, either_owns, foreign_of, both_hold}
 use Rattle.bpaf_exact.proofs.Repeat.{some_agrees_on, last_of_law, repeat_law}
 use Rattle.bpaf_exact.proofs.{Places.open_present, Places.same_cells, Commands.closed_program}
-use Rattle.bpaf_exact.proofs.{Choice.choice_law, Cuts.one_cut}
+use Rattle.bpaf_exact.proofs.{Commands.choice_law, Cuts.one_cut}
 use Rattle.bpaf_exact.specs.Flat.{FieldsReading, RepeatOutcome, OptionalValue, FallbackValue, cells}
 use Rattle.bpaf_exact.specs.Flat.{closed_memory, guard_closure, optional_none, optional_some, class}
 use Rattle.bpaf_exact.specs.Flat.{parse_closure, both_reading, FallbackEval, OptionalEval, FieldLaw}

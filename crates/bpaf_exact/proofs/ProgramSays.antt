@@ -12,7 +12,7 @@ use Rattle.bpaf_exact.proofs.Names.{apart_of_names, mine_of_others, others_unkey
 use Rattle.bpaf_exact.proofs.Names.{mine_rest, both_fits, taken_own, all_mine, each_own, rest_fit}
 use Rattle.bpaf_exact.proofs.Names.{others_none, others_rest, mine_keyed, others_fit, mine_none}
 use Rattle.bpaf_exact.proofs.{Names.own_fit, Names.no_fits, Names.cut_fit, ProgramForm.whole_law}
-use Rattle.bpaf_exact.proofs.Fronts.{all_front}
+use Rattle.bpaf_exact.proofs.Names.{all_front}
 use Rattle.bpaf_exact.specs.Flat.{FieldsReading, FallbackValue, OptionalValue, both_reading, ByName}
 use Rattle.bpaf_exact.specs.Flat.{SingleValue, ClosedValue, FieldKind, Variables, repeated, OwnList}
 use Rattle.bpaf_exact.specs.Flat.{Closure, Groups, gap_of, LastOf, front, back, keys, Gap}

@@ -18,23 +18,22 @@ use Rattle.bpaf_laws.specs.Command.{inside}
 use Rattle.bpaf_exact.proofs.Product.{none_outside_after, values_of_both, no_own_in_cut, count_none}
 use Rattle.bpaf_exact.proofs.Cuts.{value_foreign, nil_foreign, begin_at, nil_rest, one_take}
 use Rattle.bpaf_exact.proofs.Places.{open_present, closed_item, same_item, TakenOne, match_of}
-use Rattle.bpaf_exact.proofs.Names.{second_within, first_within, both_hold}
-use Rattle.bpaf_exact.proofs.{Product.refused_both, Product.con_keeps, Places.take_one}
-use Rattle.bpaf_exact.proofs.Choice.{has_item}
+use Rattle.bpaf_exact.proofs.{Product.refused_both, Product.con_keeps, Commands.has_item}
+use Rattle.bpaf_exact.proofs.Names.{apart_first, apart_second, both_hold}
+use Rattle.bpaf_exact.proofs.{Places.take_one}
 use Rattle.bpaf_exact.specs.Flat.{FieldsReading, first_cells, ClosedValue, map_closure, first_later}
 use Rattle.bpaf_exact.specs.Flat.{TakesFirst, FieldTook, FieldsLaw, IsWholeIn, Variables, first_one}
 use Rattle.bpaf_exact.specs.Flat.{FieldLaw, OfMemory, ReadOff, ByName, NotOwn, cells, class}
-use Rattle.bpaf_exact.specs.Pieces.{takes_argument, TakesPieces, either_role, empty_stays, no_cells}
-use Rattle.bpaf_exact.specs.Pieces.{takes_more, takes_none, LinePiece, takes_one, takes_two, either}
-use Rattle.bpaf_exact.specs.Pieces.{is_own_role, other_stays, takes_later, TakesPiece, takes_flag}
-use Rattle.bpaf_exact.specs.Pieces.{Foreign, IsNamed, is_key, pieces, Alone, Apart, Cells, Roles}
+use Rattle.bpaf_exact.specs.Pieces.{takes_argument, TakesPieces, empty_stays, is_own_role, no_cells}
+use Rattle.bpaf_exact.specs.Pieces.{other_stays, takes_later, takes_more, takes_none, TakesPiece}
+use Rattle.bpaf_exact.specs.Pieces.{takes_flag, LinePiece, takes_one, takes_two, IsNamed, either}
+use Rattle.bpaf_exact.specs.Pieces.{is_key, pieces, Alone, Apart, Cells, Roles, Takes, One, Two}
 use Rattle.bpaf_exact.specs.ProgramForm.{FindsNoCommand, command_memory, IsSpelledLine, CommandEval}
 use Rattle.bpaf_exact.specs.ProgramForm.{command_leftover, command_missing, command_refused, Opens}
-use Rattle.bpaf_exact.specs.ProgramForm.{ProgramTook, opens_later, AllSpelled, CellsValue, no_cell}
+use Rattle.bpaf_exact.specs.ProgramForm.{opens_later, CommandsLaw, AllSpelled, CellsValue, no_cell}
 use Rattle.bpaf_exact.specs.ProgramForm.{ProgramLaw, empty_cell, is_spelled, opens_here, FieldThen}
-use Rattle.bpaf_exact.specs.ProgramForm.{command_value, CommandValue, spelled_cell, CommandsLaw}
+use Rattle.bpaf_exact.specs.ProgramForm.{command_value, CommandValue, spelled_cell, ProgramTook}
 use Rattle.bpaf_exact.specs.ProgramForm.{OpensNone, are_plain, is_dashed}
-use Rattle.bpaf_exact.specs.Pieces.{Takes, Role, One, Two}
 
 -- A command's word on cells.
 
@@ -366,25 +365,6 @@ left_spelled (other_stays e t) (spelled_cell s a) = spelled_cell s (left_spelled
 left_spelled (takes_flag e t) (spelled_cell s a) = empty_cell (left_spelled t a)
 left_spelled (takes_argument e v t) (spelled_cell s (spelled_cell r a)) =
     empty_cell (empty_cell (left_spelled t a))
-
--- what has no role to two has none to each
-none_of_both : (x : Role) {y : Role} → either_role x y ≡ Foreign → (x ≡ Foreign) × (y ≡ Foreign)
-none_of_both Foreign e = (refl, e)
-none_of_both _ e = absurd cc
-
--- what is apart from two is apart from each
-pub apart_first : {p q : Roles} (r : Roles) → Apart p (either q r) → Apart p q
-apart_first {q} r a = record {
-  left = λ k own. (none_of_both (q k) (a.left k own)).0;
-  right = λ k own. a.right k (first_within q r k own);
-}
-
--- and from the other
-pub apart_second : {p : Roles} (q : Roles) {r : Roles} → Apart p (either q r) → Apart p r
-apart_second q {r} a = record {
-  left = λ k own. (none_of_both (q k) (a.left k own)).1;
-  right = λ k own. a.right k (second_within q r k own);
-}
 
 module _ {env : Variables} {A B : Type 0} {first : Outcome A} {rest : Outcome B} {q r : Roles}
     {fv : List LinePiece → A → Type 0} {rv : CellsValue B} (lf : FieldLaw env A first ByName q fv)

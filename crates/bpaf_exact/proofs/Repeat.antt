@@ -4,7 +4,7 @@ use Rattle.std.proofs.Common.{◌++◌, Err, inl, inr, sym, ◌<◌, ◌∙◌, 
 use Rattle.bpaf_line.specs.{Situation.open_count, Situation.Situation, declared.error.Error.Error}
 use Rattle.bpaf_laws.specs.Combinators.{LastOutcome, TurnOutcome, UntilRest, is_nil, Turns, rests}
 use Rattle.bpaf_laws.specs.{Combinators.stops, Reading.Outcome}
-use Rattle.bpaf_exact.proofs.Fronts.{no_keys_left, never_nil, back_all, each_nil, nil_each}
+use Rattle.bpaf_exact.proofs.Names.{no_keys_left, never_nil, back_all, each_nil, nil_each}
 use Rattle.bpaf_exact.proofs.Product.{none_outside_after, steady_trans, steady_refl}
 use Rattle.bpaf_exact.proofs.Places.{takes_some_fewer, open_present, takes_fewer}
 use Rattle.bpaf_exact.proofs.Classes.{memory_class, stops_at, goes_on}

@@ -6,7 +6,7 @@ use Rattle.std.specs.{Option.IsSomeRelated, Option.is_none, List.AllZip}
 use Rattle.bpaf_doc.specs.Names.{Names}
 use Rattle.bpaf_text.specs.Named.{KeyWithValue, Named as Key}
 use Rattle.bpaf_laws.specs.{Reading.first_set, Leaves.value_without_key, Combinators.is_nil}
-use Rattle.bpaf_exact.proofs.Fronts.{never_nil}
+use Rattle.bpaf_exact.proofs.Names.{never_nil}
 use Rattle.bpaf_exact.specs.Flat.{ByName, OneWord, Variables, FrontOf, Gap, Groups, Own, OwnList}
 use Rattle.bpaf_exact.specs.Flat.{SingleValue, listed, listed_and_absent, only_absent, own_more}
 use Rattle.bpaf_exact.specs.Flat.{own_none, Closure, FallbackValue, OptionalValue}

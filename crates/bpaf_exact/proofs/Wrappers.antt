@@ -7,7 +7,7 @@ use Rattle.bpaf_line.specs.{Situation.Situation, declared.error.Error.Error}
 use Rattle.bpaf_laws.specs.Reading.{Outcome}
 use Rattle.bpaf_exact.proofs.Cuts.{takes_nonempty, first_pieces, first_takes, head_stays}
 use Rattle.bpaf_exact.proofs.Repeat.{same_takes, stops_by, stopped_by, catch_none, none_given}
-use Rattle.bpaf_exact.proofs.{Fronts.no_keys_left, Fronts.back_all, Product.steady_refl}
+use Rattle.bpaf_exact.proofs.{Names.no_keys_left, Names.back_all, Product.steady_refl}
 use Rattle.bpaf_exact.specs.Flat.{AlternativeErr, AlternativeLaw, AlternativeOk, FirstUnread}
 use Rattle.bpaf_exact.specs.Flat.{HasBad, alternative_missing, alternative_refused, bad_here}
 use Rattle.bpaf_exact.specs.Flat.{TakesFirst, alternative_memory, bad_later, EachWord, ErrorClass}

@@ -29,7 +29,7 @@ use Rattle.bpaf.specs.Marker.{is_marker_word, words_before, words_behind}
 use Rattle.bpaf.specs.Positional.{accepts}
 use Rattle.bpaf.proofs.Sides.{all_spelled, of_words}
 use Rattle.bpaf_exact.proofs.Says.{argument_needs, repeat_needs, word_values, NeedsPiece, no_values}
-use Rattle.bpaf_exact.proofs.{Fronts.of_front_one, Places.test_named}
+use Rattle.bpaf_exact.proofs.{Names.of_front_one, Places.test_named}
 use Rattle.bpaf_exact.specs.Pieces.{takes_argument, stands_behind, empty_stays, other_stays, is_own}
 use Rattle.bpaf_exact.specs.Pieces.{is_own_role, takes_flag, LinePiece, is_value, no_cells, IsNamed}
 use Rattle.bpaf_exact.specs.Pieces.{others, Roles, Cells, Takes, Alone, Owns, Cut, One, Two}
