@@ -1,29 +1,29 @@
 -- Products: a field before other fields, the last field, and the constructor; and that a product of
 -- named fields keeps to the laws of a named field, so it may stand in another product.
-use Rattle.std.proofs.Common.{Bool, Err, List, None, Ok, Result, Some, [], ap, arith, false, filter}
-use Rattle.std.proofs.Common.{ap₂, if◌then◌else◌, inl, inr, length, not, refl, subst, sym, ◌∙◌, ◌∷◌}
-use Rattle.std.proofs.Common.{true, ◌≡◌}
+use Rattle.std.proofs.Common.{if◌then◌else◌, Result, filter, length, arith, false, subst, Bool, Err}
+use Rattle.std.proofs.Common.{List, None, Some, refl, true, ap₂, inl, inr, not, sym, ◌∙◌, ◌∷◌, ◌≡◌}
+use Rattle.std.proofs.Common.{Ok, [], ap}
 use Rattle.bpaf_base.specs.declared.arg.Arg.{Arg}
-use Rattle.bpaf_line.specs.Situation.{Situation, with_current}
-use Rattle.bpaf_line.specs.{declared.error.Error.Error, Messages.is_memory}
-use Rattle.bpaf_laws.specs.Product.{BothOutcome, ProductOutcome, joined}
-use Rattle.bpaf_laws.specs.{Laws.IsNotMemory, Reading.Outcome}
-use Rattle.bpaf_exact.proofs.Cuts.{begin_at, either_right, nil_rest, others_foreign, take_some_from}
-use Rattle.bpaf_exact.proofs.Cuts.{cut_empty, named_cuts, nil_foreign, pieces_of_cut, put_back_some}
-use Rattle.bpaf_exact.proofs.Cuts.{keeps_other_some, word_foreign, words_of_cut}
-use Rattle.bpaf_exact.proofs.Cuts.{Belongs, belongs, both_nil, either_union, swap_union, takes_left}
-use Rattle.bpaf_exact.proofs.Cuts.{Union, own_next, to_first, to_second, union_named, value_foreign}
-use Rattle.bpaf_exact.proofs.Cuts.{some_trans, empty_cut, to_none, words_cut}
-use Rattle.bpaf_exact.proofs.Classes.{memory_class, not_memory}
-use Rattle.bpaf_exact.specs.Flat.{Before, ErrorClass, FieldKind, FieldLaw, FieldTook, FieldsReading}
-use Rattle.bpaf_exact.specs.Flat.{FieldsLaw, HasValue, IsWholeIn, NoKeysLeft, NonePresent, OfMemory}
-use Rattle.bpaf_exact.specs.Flat.{ByName, KeepsTo, OwnItems, Steady, Variables, both_reading, cells}
-use Rattle.bpaf_exact.specs.Flat.{present_count, ClosedValue, map_closure, portion, no_place}
-use Rattle.bpaf_exact.specs.Flat.{none_here, back, class, front, keys, left}
-use Rattle.bpaf_exact.specs.Pieces.{Alone, Apart, Cells, Cut, Foreign, LinePiece, Role, TakesPieces}
-use Rattle.bpaf_exact.specs.Pieces.{IsNamed, Roles, WithNext, argument, at_end, begin_piece, either}
-use Rattle.bpaf_exact.specs.Pieces.{flag, is_own, is_own_role, no_roles, others, passed, takes_more}
-use Rattle.bpaf_exact.specs.Pieces.{takes_none, with_next, mine, pieces, word, One}
+use Rattle.bpaf_line.specs.{Situation.with_current, Situation.Situation, declared.error.Error.Error}
+use Rattle.bpaf_line.specs.Messages.{is_memory}
+use Rattle.bpaf_laws.specs.Product.{ProductOutcome, BothOutcome, joined}
+use Rattle.bpaf_laws.specs.Reading.{Outcome}
+use Rattle.bpaf_exact.proofs.Cuts.{words_of_cut, either_union, nil_foreign, union_named, named_cuts}
+use Rattle.bpaf_exact.proofs.Cuts.{keeps_other_some, others_foreign, take_some_from, pieces_of_cut}
+use Rattle.bpaf_exact.proofs.Cuts.{put_back_some, value_foreign, either_right, word_foreign, Union}
+use Rattle.bpaf_exact.proofs.Cuts.{empty_cut, words_cut, begin_at, nil_rest, both_nil, own_next}
+use Rattle.bpaf_exact.proofs.Cuts.{swap_union, takes_left, some_trans, cut_empty, to_second}
+use Rattle.bpaf_exact.proofs.Cuts.{to_first, Belongs, belongs, to_none}
+use Rattle.bpaf_exact.proofs.Classes.{memory_class}
+use Rattle.bpaf_exact.specs.Flat.{FieldsReading, present_count, both_reading, NonePresent, FieldLaw}
+use Rattle.bpaf_exact.specs.Flat.{ClosedValue, map_closure, ErrorClass, NoKeysLeft, FieldKind, back}
+use Rattle.bpaf_exact.specs.Flat.{FieldTook, FieldsLaw, IsWholeIn, Variables, none_here, HasValue}
+use Rattle.bpaf_exact.specs.Flat.{OfMemory, OwnItems, no_place, KeepsTo, portion, Before, ByName}
+use Rattle.bpaf_exact.specs.Flat.{Steady, cells, class, front, keys, left}
+use Rattle.bpaf_exact.specs.Pieces.{IsNamed, at_end, either, is_own, others, passed, pieces, Alone}
+use Rattle.bpaf_exact.specs.Pieces.{TakesPieces, begin_piece, is_own_role, takes_more, takes_none}
+use Rattle.bpaf_exact.specs.Pieces.{LinePiece, with_next, WithNext, argument, no_roles, Foreign}
+use Rattle.bpaf_exact.specs.Pieces.{Apart, Cells, Roles, Role, flag, mine, word, Cut, One}
 use Rattle.bpaf_exact.specs.ProgramForm.{last_reading}
 
 -- what isn't taken stays in the scope
@@ -148,48 +148,52 @@ both_named ByName q n m =
     record { only_keys = λ a h. either_right (q a) (n.only_keys a h) ∙ m.only_keys a h }
 both_named _ q n m = m
 
--- two values of fields that were all evaluated
-pub record ValuesOfBoth (A B : Type 0) (first : Outcome A) (rest : Outcome B) (s : Situation)
-    (v : A × B) (t : Situation) : Type 0 where
-  pub middle : Situation
-  pub first_ran : first s (Ok v.0) middle
-  pub rest_ran : rest middle (Ok v.1) t
+-- what follows of an answer
+abbrev follows : {T : Type 0} → (Situation → T → Situation → Type 0)
+    → (Situation → ErrorClass → Type 0) → Situation → Result T Error → Situation → Type 0
+follows gave refused s (Ok v) t = gave s v t
+follows gave refused s (Err e) t = refused s (class e)
 
-module _ {A B : Type 0} (first : Outcome A) (rest : Outcome B) where
-  -- joined answers are a value where both are
-  joined_values : {s m t : Situation} (a : Result A Error) (b : Result B Error) {v : A × B}
-      → first s a m → rest m b t → Ok v ≡ joined a b → ValuesOfBoth A B first rest s v t
-  joined_values {m} (Ok a) (Ok b) {v} f g e =
-      let d : v ≡ (a, b) = cc in
-      record { middle = m; first_ran = rw d f; rest_ran = rw d g }
-  joined_values (Ok a) (Err f) h g e = absurd cc
-  joined_values (Err e) (Ok b) h g i = absurd cc
-  joined_values {s} {t} (Err e) (Err f) {v} h g i = by_test (is_memory f.0) i
+-- A field and what is evaluated after it keep to what follows of an answer of each; and so does a
+-- refusal, which is want of memory, or that of the first.
+module _ {env : Variables} {A B : Type 0} {first : Outcome A} {rest : Outcome B} {k : FieldKind}
+    {q : Roles} {fv : List LinePiece → A → Type 0} {gives : Situation → B → Situation → Type 0}
+    {refuses : Situation → ErrorClass → Situation → Type 0} (lf : FieldLaw env A first k q fv)
+    (lr : KeepsTo env B rest gives refuses) (gave : Situation → A × B → Situation → Type 0)
+    (refused : Situation → ErrorClass → Type 0)
+    (of_both : (s m t : Situation) (x : A) (y : B) → FieldTook A k q fv s x m → gives m y t
+    → gave s (x, y) t)
+    (of_first : (s : Situation) (c : ErrorClass)
+    → ((w : A) → fv (front k (pieces q (cells s))) w → c ≡ OfMemory) → refused s c)
+    (of_rest : (s m t : Situation) (x : A) (c : ErrorClass) → FieldTook A k q fv s x m
+    → refuses m c t → refused s c) where
+  -- by the answers of both
+  of_joined : {s m t : Situation} (a : Result A Error) (b : Result B Error) → IsWholeIn env s
+      → first s a m → rest m b t → follows gave refused s (joined a b) t
+  of_joined {s} {m} {t} (Ok x) (Ok y) w f g =
+      let i = lf.keeps.ok s m x w f in
+      of_both s m t x y i (lr.ok m t y (none_outside_after w i.steady) g)
+  of_joined {s} {m} {t} (Ok x) (Err e) w f g =
+      let i = lf.keeps.ok s m x w f in
+      of_rest s m t x (class e) i (lr.err m t e (none_outside_after w i.steady) g)
+  of_joined {s} {m} (Err d) (Ok y) w f g = of_first s (class d) (lf.keeps.err s m d w f)
+  of_joined {s} {m} {t} (Err d) (Err e) w f g = by_test (is_memory e.0) refl
     where
-      by_test : (x : Bool) → Ok v ≡ (if x then Err f else Err e) → ValuesOfBoth A B first rest s v t
-      by_test true j = absurd cc
-      by_test false j = absurd cc
+      by_test : (b : Bool) → is_memory e.0 ≡ b → follows gave refused s (if b then Err e else Err d) t
+      by_test true h = of_first s (class e) (λ v i. memory_class e.0 h)
+      by_test false h = of_first s (class d) (lf.keeps.err s m d w f)
 
-  -- the values of a product are those of its fields
-  pub values_of_both : {s t : Situation} {v : A × B} → BothOutcome first rest s (Ok v) t
-      → ValuesOfBoth A B first rest s v t
-  values_of_both o = joined_values o.a o.b o.first_ran o.rest_ran o.answer
-
-  -- a refusal is want of memory where each of the first is, and each of the others after its value
-  pub refused_both : {s t : Situation} {e : Error}
-      → ((d : Error) (m : Situation) → first s (Err d) m → class d ≡ OfMemory)
-      → ((v : A) (m : Situation) → first s (Ok v) m → rest m (Err e) t → class e ≡ OfMemory)
-      → BothOutcome first rest s (Err e) t → class e ≡ OfMemory
-  refused_both {e} of_first of_rest (inr o) = memory_class e.0 o.1
-  refused_both {s} {t} {e} of_first of_rest (inl o) =
-      by_answers o.a o.b o.first_ran o.rest_ran o.spared o.answer
-    where
-      by_answers : (a : Result A Error) (b : Result B Error) → first s a o.middle
-          → rest o.middle b t → IsNotMemory a → Err e ≡ joined a b → class e ≡ OfMemory
-      by_answers (Ok a) (Ok b) f g spared i = absurd cc
-      by_answers (Ok a) (Err b) f g spared i =
-          let d : b ≡ e = cc in of_rest a o.middle f (rw (← d) g)
-      by_answers (Err a) b f g spared i = absurd (not_memory a.0 spared (of_first a o.middle f))
+  -- the laws
+  pub both_keeps : KeepsTo env (A × B) (BothOutcome first rest) gave (λ s c t. refused s c)
+  both_keeps = record {
+    ok = λ s t v w o. subst (λ r. follows gave refused s r t) (sym o.answer)
+        (of_joined o.a o.b w o.first_ran o.rest_ran);
+    err = λ s t e w. elim [
+      | inl o ↦ subst (λ r. follows gave refused s r t) (sym o.answer)
+          (of_joined o.a o.b w o.first_ran o.rest_ran)
+      | inr o ↦ of_first s (class e) (λ v i. memory_class e.0 o.1)
+    ];
+  }
 
 module _ {env : Variables} {A B : Type 0} {first : Outcome A} {rest : Outcome B} {k : FieldKind}
     {q r : Roles} {fv : List LinePiece → A → Type 0} {others_read : FieldsReading B}
@@ -215,31 +219,21 @@ module _ {env : Variables} {A B : Type 0} {first : Outcome A} {rest : Outcome B}
   both_law = record {
     named = both_named k q lf.own lr.named;
     has_each = λ os v h. ((v.0, h.0), lr.has_each (left k q os) v.1 h.1);
-    keeps = record {
-      ok = λ s t v w o.
-          let h = values_of_both first rest o in
-          let i = lf.keeps.ok s h.middle v.0 w h.first_ran in
-          let j = lr.keeps.ok h.middle t v.1 (none_outside_after w i.steady) h.rest_ran in
-          record {
-            steady = steady_trans i.steady j.steady;
-            read = λ e.
-                let after = j.read e in
-                let p = step_back k fv lf.own b i after.cut in record {
-                  cut_into = p.before;
-                  cut = p.cut;
-                  read = (
-                    rw (← p.own) (i.read (none_left k q lf.own b after.cut)),
-                    rw p.leaves after.read,
-                  );
-                };
-            all = λ os c g. j.all (left k q os) (rest_cut i c g.0) g.1;
+    keeps = both_keeps lf lr.keeps _ _ (λ s m t x y i j. record {
+      steady = steady_trans i.steady j.steady;
+      read = λ e.
+          let after = j.read e in
+          let p = step_back k fv lf.own b i after.cut in record {
+            cut_into = p.before;
+            cut = p.cut;
+            read = (
+              rw (← p.own) (i.read (none_left k q lf.own b after.cut)),
+              rw p.leaves after.read,
+            );
           };
-      err = λ s t e w o os c h. refused_both first rest
-          (λ d m f. lf.keeps.err s m d w f h.0.0 (own_value s c h.0))
-          (λ v m f g. let i = lf.keeps.ok s m v w f in
-          lr.keeps.err m t e (none_outside_after w i.steady) g (left k q os) (rest_cut i c h.0) h.1)
-          o;
-    };
+      all = λ os c g. j.all (left k q os) (rest_cut i c g.0) g.1;
+    }) (λ s c no os d h. no h.0.0 (own_value s d h.0))
+        (λ s m t x c i no os d h. no (left k q os) (rest_cut i d h.0) h.1);
   }
 
 -- Nothing is present where the count is nought.
@@ -441,33 +435,24 @@ module _ {env : Variables} {A B : Type 0} {first : Outcome A} {rest : Outcome B}
   pub named_both_law : FieldLaw env (A × B) (BothOutcome first rest) ByName both value
   named_both_law = record {
     own = union_named together;
-    keeps = record {
-      ok = λ s t v w o.
-          let h = values_of_both first rest o in
-          let i = lf.keeps.ok s h.middle v.0 w h.first_ran in
-          let j = lr.keeps.ok h.middle t v.1 (none_outside_after w i.steady) h.rest_ran in
-          record {
-            steady = steady_trans i.steady j.steady;
-            takes = some_trans (takes_some_left together i.takes)
-                (takes_some_left (swap_union together) j.takes);
-            read = λ none. (
-              rw (mine_of_both together (cells s))
-                  (i.read (sym (first_kept j.takes) ∙ (sym (mine_of_both together (cells t)) ∙ ap
-                  (mine q) none))),
-              rw (others_of_both together (cells s))
-                  (rw (← keeps_other_some lf.own lr.own apart i.takes)
-                  (j.read (sym (others_of_both together (cells t)) ∙ ap (others q) none))),
-            );
-            rest = λ none. none;
-            all = λ u h. both_nil (cells t) together
-                (first_kept j.takes ∙ i.all u.0 (each_value (cells s) h).0)
-                (j.all u.1 (rest_value i h));
-          };
-      err = λ s t e w o u h. refused_both first rest
-          (λ d m f. lf.keeps.err s m d w f u.0 (each_value (cells s) h).0)
-          (λ v m f g. let i = lf.keeps.ok s m v w f in
-          lr.keeps.err m t e (none_outside_after w i.steady) g u.1 (rest_value i h)) o;
-    };
+    keeps = both_keeps lf lr.keeps _ _ (λ s m t x y i j. record {
+      steady = steady_trans i.steady j.steady;
+      takes = some_trans (takes_some_left together i.takes)
+          (takes_some_left (swap_union together) j.takes);
+      read = λ none. (
+        rw (mine_of_both together (cells s))
+            (i.read (sym (first_kept j.takes) ∙ (sym (mine_of_both together (cells t)) ∙ ap
+            (mine q) none))),
+        rw (others_of_both together (cells s))
+            (rw (← keeps_other_some lf.own lr.own apart i.takes)
+            (j.read (sym (others_of_both together (cells t)) ∙ ap (others q) none))),
+      );
+      rest = λ none. none;
+      all = λ u h. both_nil (cells t) together
+          (first_kept j.takes ∙ i.all u.0 (each_value (cells s) h).0)
+          (j.all u.1 (rest_value i h));
+    }) (λ s c no u h. no u.0 (each_value (cells s) h).0)
+        (λ s m t x c i no u h. no u.1 (rest_value i h));
   }
 
 -- no item is nobody's own

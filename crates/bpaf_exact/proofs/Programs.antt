@@ -15,12 +15,11 @@ use Rattle.bpaf_line.specs.{declared.error.Error.Error, Taking.open_item}
 use Rattle.bpaf_laws.specs.Command.{opening_words, IsNotOpened, IsOpenedAt, is_one_of, Called}
 use Rattle.bpaf_laws.specs.{Product.ProductOutcome, Product.BothOutcome, Reading.Outcome}
 use Rattle.bpaf_laws.specs.Command.{inside}
-use Rattle.bpaf_exact.proofs.Product.{none_outside_after, values_of_both, no_own_in_cut, count_none}
+use Rattle.bpaf_exact.proofs.Product.{no_own_in_cut, count_none, both_keeps, con_keeps}
 use Rattle.bpaf_exact.proofs.Cuts.{value_foreign, nil_foreign, begin_at, nil_rest, one_take}
 use Rattle.bpaf_exact.proofs.Places.{open_present, closed_item, same_item, TakenOne, match_of}
-use Rattle.bpaf_exact.proofs.{Product.refused_both, Product.con_keeps, Commands.has_item}
-use Rattle.bpaf_exact.proofs.Names.{apart_first, apart_second, both_hold}
-use Rattle.bpaf_exact.proofs.{Places.take_one}
+use Rattle.bpaf_exact.proofs.Names.{apart_second, apart_first, both_hold}
+use Rattle.bpaf_exact.proofs.{Commands.has_item, Places.take_one}
 use Rattle.bpaf_exact.specs.Flat.{FieldsReading, first_cells, ClosedValue, map_closure, first_later}
 use Rattle.bpaf_exact.specs.Flat.{TakesFirst, FieldTook, FieldsLaw, IsWholeIn, Variables, first_one}
 use Rattle.bpaf_exact.specs.Flat.{FieldLaw, OfMemory, ReadOff, ByName, NotOwn, cells, class}
@@ -30,9 +29,9 @@ use Rattle.bpaf_exact.specs.Pieces.{takes_flag, LinePiece, takes_one, takes_two,
 use Rattle.bpaf_exact.specs.Pieces.{is_key, pieces, Alone, Apart, Cells, Roles, Takes, One, Two}
 use Rattle.bpaf_exact.specs.ProgramForm.{FindsNoCommand, command_memory, IsSpelledLine, CommandEval}
 use Rattle.bpaf_exact.specs.ProgramForm.{command_leftover, command_missing, command_refused, Opens}
-use Rattle.bpaf_exact.specs.ProgramForm.{opens_later, CommandsLaw, AllSpelled, CellsValue, no_cell}
+use Rattle.bpaf_exact.specs.ProgramForm.{CommandsLaw, ProgramTook, AllSpelled, CellsValue, no_cell}
 use Rattle.bpaf_exact.specs.ProgramForm.{ProgramLaw, empty_cell, is_spelled, opens_here, FieldThen}
-use Rattle.bpaf_exact.specs.ProgramForm.{command_value, CommandValue, spelled_cell, ProgramTook}
+use Rattle.bpaf_exact.specs.ProgramForm.{command_value, CommandValue, spelled_cell, opens_later}
 use Rattle.bpaf_exact.specs.ProgramForm.{OpensNone, are_plain, is_dashed}
 
 -- A command's word on cells.
@@ -392,45 +391,34 @@ module _ {env : Variables} {A B : Type 0} {first : Outcome A} {rest : Outcome B}
     others = λ p n a cs v s h.
         foreign_before n (apart_first r a) h.taken (lr.others p n (apart_second q a) h.left_cells
         v.1 (left_spelled h.taken s) h.left);
-    keeps = record {
-      ok = λ s t v w o.
-          let h = values_of_both first rest o in
-          let i = lf.keeps.ok s h.middle v.0 w h.first_ran in
-          let j = lr.keeps.ok h.middle t v.1 (none_outside_after w i.steady) h.rest_ran in
+    keeps = both_keeps lf lr.keeps _ _ (λ s m t x y i j. record {
+      deep = let e = ap length i.steady.path in let l = j.deep in omega arith;
+      read = λ spelled e.
+          let still : IsSpelledLine m.context = rw i.steady.context spelled in
+          let after = j.read still e in
+          let none = lr.others q lf.own apart (cells m) y (cells_spelled m still) after in
+          let all = all_taken i.takes none in
           record {
-            deep = let e = ap length i.steady.path in let l = j.deep in omega arith;
-            read = λ spelled e.
-                let still : IsSpelledLine h.middle.context = rw i.steady.context spelled in
-                let after = j.read still e in
-                let none = lr.others q lf.own apart (cells h.middle) v.1
-                (cells_spelled h.middle still) after in
-                let all = all_taken i.takes none in
-                record {
-                  own_pieces = all.0;
-                  left_cells = cells h.middle;
-                  taken = all.1;
-                  own = rw (taken_pieces lf.own all.1) (i.read none);
-                  left = after;
-                };
-            all = λ u g.
-                let first_one = first_gives i g in
-                let others = j.all u.1 (rw first_one.1 g.left) in (
-                  record {
-                    own_pieces = g.own_pieces;
-                    left_cells = g.left_cells;
-                    taken = g.taken;
-                    own = first_one.0;
-                    left = rw (← first_one.1) others.0;
-                  },
-                  others.1,
-                );
+            own_pieces = all.0;
+            left_cells = cells m;
+            taken = all.1;
+            own = rw (taken_pieces lf.own all.1) (i.read none);
+            left = after;
           };
-      err = λ s t e w o u h. refused_both first rest
-          (λ d m f. lf.keeps.err s m d w f u.0 (own_value h))
-          (λ v m f g. let i = lf.keeps.ok s m v w f in
-          lr.keeps.err m t e (none_outside_after w i.steady) g u.1
-          (rw (first_gives i h).1 h.left)) o;
-    };
+      all = λ u g.
+          let first_one = first_gives i g in
+          let others = j.all u.1 (rw first_one.1 g.left) in (
+            record {
+              own_pieces = g.own_pieces;
+              left_cells = g.left_cells;
+              taken = g.taken;
+              own = first_one.0;
+              left = rw (← first_one.1) others.0;
+            },
+            others.1,
+          );
+    }) (λ s c no u h. no u.0 (own_value h))
+        (λ s m t x c i no u h. no u.1 (rw (first_gives i h).1 h.left));
   }
 
 -- with its constructor a product keeps to the laws of a program
