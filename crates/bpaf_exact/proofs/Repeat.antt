@@ -254,39 +254,29 @@ module _ {env : Variables} {T : Type 0} {inner : Outcome T} {k : FieldKind} {q :
 
   -- Where the pieces can be read a refusal comes for want of memory alone.
 
-  -- an own list is empty, or has a first value
-  data OwnView (os : List LinePiece) (vs : List T) : Type 0 where
-    view_none : os ≡ [] → vs ≡ [] → OwnView os vs
-    view_more : (w : T) (rest : List LinePiece) (ws : List T) → vs ≡ w ∷ ws → group os w rest
-        → Own T group rest ws → OwnView os vs
-
-  -- by its constructors
-  own_view : {os : List LinePiece} {vs : List T} → Own T group os vs → OwnView os vs
-  own_view own_none = view_none refl refl
-  own_view (own_more {rest} {v} {vs = us} g o) = view_more v rest us refl g o
-
   -- what is left after a turn can be read
   on_step : {s m : Situation} {v : T} {ws : List T} → Own T group (own s) ws
       → SingleOk T k q group gap s v m → Steady s m × (us : List T) × Own T group (own m) us
   on_step {s} {m} {ws} o (gave_absent h p ab same st) = (st, ws, rw (same_own s m same) o)
-  on_step {s} {m} o (took h) = let more = by_view (own_view o) in (h.steady, more.0, more.1)
+  on_step {s} {m} o (took h) = let more = by_own refl o in (h.steady, more.0, more.1)
     where
-      by_view : {ws : List T} → OwnView (own s) ws → (us : List T) × Own T group (own m) us
-      by_view (view_none p e) = absurd (h.found (nil_each k _ p))
-      by_view (view_more w rest us e g o) =
-          let f = of_group g in
+      by_own : {os : List LinePiece} {ws : List T} → own s ≡ os → Own T group os ws
+          → (us : List T) × Own T group (own m) us
+      by_own p own_none = absurd (h.found (nil_each k _ p))
+      by_own p (own_more {rest} {v = w} {vs = us} g o) =
+          let f = of_group {os = pieces q (cells s)} {rest = rest} (rw p g) in
           (us, rw (← f.2 ∙ sym (ap (front (repeated k)) (h.readable w f.0 f.1).1)) o)
 
   -- where the pieces can be read a refusal is want of memory
-  failed_gives : {s t : Situation} {e : Error} {ws : List T} → IsWholeIn env s
-      → (gap.has ≡ true → (a : T) × gap.absent a) → OwnView (own s) ws → (Stops e s t → ⊥)
-      → SingleErr T k q group gap s (class e) t → class e ≡ OfMemory
-  failed_gives w ab o n (of_memory c) = c
-  failed_gives w ab o n (of_missing c g p same) = absurd (n (stops_by c same))
-  failed_gives w ab o n (of_absent c g p none) = let a = ab g in absurd (none a.0 a.1)
-  failed_gives w ab (view_none p x) n (of_piece c ne none) = absurd (ne (nil_each k _ p))
-  failed_gives w ab (view_more v rest us x g o) n (of_piece c ne none) =
-      let f = of_group g in absurd (none v f.0 f.1)
+  failed_gives : {s t : Situation} {e : Error} {os : List LinePiece} {ws : List T} → IsWholeIn env s
+      → (gap.has ≡ true → (a : T) × gap.absent a) → own s ≡ os → Own T group os ws
+      → (Stops e s t → ⊥) → SingleErr T k q group gap s (class e) t → class e ≡ OfMemory
+  failed_gives w ab p o n (of_memory c) = c
+  failed_gives w ab p o n (of_missing c g none same) = absurd (n (stops_by c same))
+  failed_gives w ab p o n (of_absent c g nil none) = let a = ab g in absurd (none a.0 a.1)
+  failed_gives w ab p own_none n (of_piece c ne none) = absurd (ne (nil_each k _ p))
+  failed_gives {s} w ab p (own_more {rest} {v} g o) n (of_piece c ne none) =
+      let f = of_group {os = pieces q (cells s)} {rest = rest} (rw p g) in absurd (none v f.0 f.1)
 
   -- where the pieces can be read, turns fail for want of memory alone
   turns_fail : (first last : Bool) (vs : List T) {s m t : Situation} {e : Error} {ws : List T}
@@ -294,7 +284,7 @@ module _ {env : Variables} {T : Type 0} {inner : Outcome T} {k : FieldKind} {q :
       → Turns inner false first s vs m → TurnOutcome inner false last m (Err e) t
       → class e ≡ OfMemory
   turns_fail first last [] {s} {t = t} {e} w ab o turns fails =
-      ⊎_elim (λ f. failed_gives w ab (own_view o) (goes_on e f.1) (l.keeps.err s t e w f.0))
+      ⊎_elim (λ f. failed_gives w ab refl o (goes_on e f.1) (l.keeps.err s t e w f.0))
       (λ f. memory_class e.0 f.0)
       (subst (λ z. TurnOutcome inner false last z (Err e) t) (sym turns) fails)
   turns_fail first last (v ∷ vs) {s} w ab o turns fails =
