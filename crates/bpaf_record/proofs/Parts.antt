@@ -221,28 +221,26 @@ module _ {P T : Type 0} (of : P → Grammar T) where
   first_is [] d some = absurd (omega arith)
   first_is (p ∷ ps) d some = refl
 
-  -- its keys are those of all
+  -- what is listed of it, as its keys are or its words, is that of all
+  pub choices_listed : {X : Type 0} (list : Grammar T → List X) → list (choices_of of []) ≡ []
+      → ((g h : Grammar T) → list (choice g h) ≡ list g ++ list h) → (ps : List P)
+      → list (choices_of of ps) ≡ flat_map (λ p. list (of p)) ps
+  choices_listed list none two [] = none
+  choices_listed {X} list none two (p ∷ ps) = nested (of p) ps
+    where
+      nested : (g : Grammar T) (ps : List P)
+          → list (Nested choice of g ps) ≡ list g ++ flat_map (λ p. list (of p)) ps
+      nested g [] = sym (append-nil (list g))
+      nested g (p ∷ ps) = nested (choice g (of p)) ps
+          ∙ (ap (λ z. z ++ flat_map (λ p. list (of p)) ps) (two g (of p))
+          ∙ append_assoc (list g) (list (of p)) (flat_map (λ p. list (of p)) ps))
+
+  -- so are its keys
   pub choices_keys : (ps : List P) (deep : Bool)
       → keys_of (choices_of of ps) deep ≡ flat_map (λ p. keys_of (of p) deep) ps
-  choices_keys [] deep = refl
-  choices_keys (p ∷ ps) deep = nested (of p) ps
-    where
-      nested : (g : Grammar T) (ps : List P) → keys_of (Nested choice of g ps) deep
-          ≡ keys_of g deep ++ flat_map (λ p. keys_of (of p) deep) ps
-      nested g [] = sym (append-nil (keys_of g deep))
-      nested g (p ∷ ps) = nested (choice g (of p)) ps
-          ∙ append_assoc (keys_of g deep) (keys_of (of p) deep)
-          (flat_map (λ p. keys_of (of p) deep) ps)
+  choices_keys ps deep = choices_listed (λ g. keys_of g deep) refl (λ g h. refl) ps
 
-  -- and so are its words
+  -- and its words
   pub choices_words : (ps : List P)
       → command_words (choices_of of ps) ≡ flat_map (λ p. command_words (of p)) ps
-  choices_words [] = refl
-  choices_words (p ∷ ps) = nested (of p) ps
-    where
-      nested : (g : Grammar T) (ps : List P) → command_words (Nested choice of g ps)
-          ≡ command_words g ++ flat_map (λ p. command_words (of p)) ps
-      nested g [] = sym (append-nil (command_words g))
-      nested g (p ∷ ps) = nested (choice g (of p)) ps
-          ∙ append_assoc (command_words g) (command_words (of p))
-          (flat_map (λ p. command_words (of p)) ps)
+  choices_words ps = choices_listed command_words refl (λ g h. refl) ps

@@ -148,10 +148,12 @@ impl<T: Drop, P: ProgramField<T> + Drop> ProgramField<T> for ParseChoice<P> {
         join_all(self.parsers.as_slice()).only()
     }
 
+    #[tactic(auto, using(crate::proofs::Parts::choices_keys))]
     fn all_keys<N: KeyTest>(&self, test: &N) -> bool {
         all_keys_of::<T, P, N>(self.parsers.as_slice(), test)
     }
 
+    #[tactic(auto, using(crate::proofs::Parts::choices_words))]
     fn all_words<W: WordTest>(&self, test: &W) -> bool {
         all_words_of::<T, P, W>(self.parsers.as_slice(), test)
     }
