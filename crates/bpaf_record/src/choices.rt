@@ -125,6 +125,7 @@ fn join_rest<T, P: ProgramField<T>>(parsers: &[P], first: ProgramPart) -> Progra
 }
 
 /// The choice of these parsers; of none it is nothing.
+#[tactic(auto, using(crate::proofs::Parts::first_is))]
 fn join_all<T, P: ProgramField<T>>(parsers: &[P]) -> ProgramPart
     ensures { (variables : Variables) →
         result ≡ part_of (program_form (choices_of P.grammar parsers.now) variables) }
@@ -144,6 +145,7 @@ impl<T: Drop, P: ProgramField<T> + Drop> ProgramField<T> for ParseChoice<P> {
 
     ghost agrees = { λ p. EachAgrees P.agrees p.parsers.items };
 
+    #[tactic(auto, using(crate::proofs::Parts::only_part_is))]
     fn part(&self) -> ProgramPart {
         join_all(self.parsers.as_slice()).only()
     }
