@@ -6,9 +6,6 @@ use Rattle.bpaf_record.specs.Part.{chosen_part, part_of}
 use Rattle.bpaf_record.proofs.Parts.{choices_keys, choices_words, one_more, choice_part_is}
 use Rattle.bpaf_record.proofs.choices.join_rest.Goals as goal
 
-pub loop-index-init : goal.loop-index-init
-loop-index-init g c = (omega arith, c.requires.first)
-
 pub loop-index-preserved : goal.loop-index-preserved
 loop-index-preserved g c = (
   omega arith,
