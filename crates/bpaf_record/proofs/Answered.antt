@@ -147,9 +147,7 @@ module _ (test : Arg → Bool) where
 module _ (names : Names) where
   -- the value of a key is none
   value_is_no_key : (w : Arg) → is_value w ≡ true → is_key_of names w ≡ false
-  value_is_no_key (Short c attached text) value = absurd cc
-  value_is_no_key (Long name attached text) value = absurd cc
-  value_is_no_key w value = refl
+  value_is_no_key w value = grind arith
 
   -- the keys that begin pieces are the first items of those that begin with one
   keys_first : (os : List LinePiece)
@@ -201,8 +199,7 @@ is_long_name (b ∷ bs) = list_all (λ byte. not (byte == 61)) (b ∷ bs)
 
 -- it is not empty
 is_some_name : (name : List ℕ) → is_long_name name ≡ true → name ≢ []
-is_some_name [] is none = cc
-is_some_name (b ∷ bs) is none = cc
+is_some_name name is none = grind arith
 
 -- no byte of it is `=`
 has_no_equals : (name : List ℕ) → is_long_name name ≡ true → HasNoEquals name
@@ -557,8 +554,7 @@ pieces_behind os = map item_text (items_behind os)
 
 -- the value of a key doesn't stand behind `--`
 value_before : (w : Arg) → is_value w ≡ true → stands_behind w ≡ false
-value_before (PosWord text) h = absurd cc
-value_before w h = refl
+value_before w h = grind arith
 
 -- an item that doesn't stand there
 abbrev IsBefore : Arg → Type 0
