@@ -1,15 +1,15 @@
 -- The classes of refusals, and of what two refusals together are.
-use Rattle.std.proofs.Common.{Bool, false, if◌then◌else◌, inl, not, refl, sym, true, ◌&&◌, ◌∙◌, ◌≡◌}
-use Rattle.std.proofs.Common.{true≢false, ⊎_elim, ap, inr, ◌⊎◌}
-use Rattle.std.proofs.lemmas.Bool.{eq-eqb, eqb-true}
-use Rattle.bpaf_line.specs.declared.error.Message.TheVariants.{Memory, Missing, ParseFailure}
-use Rattle.bpaf_line.specs.Messages.{CombinesSpared, Combines, can_catch, is_memory}
-use Rattle.bpaf_line.specs.Situation.{Situation, open_count}
-use Rattle.bpaf_line.specs.{declared.error.Error.Error, declared.error.Message.Message}
+use Rattle.std.proofs.Common.{if◌then◌else◌, true≢false, ⊎_elim, arith, false, Bool, refl, true, ap}
+use Rattle.std.proofs.Common.{◌&&◌, inl, not, sym, ◌∙◌, ◌≡◌, inr, ◌⊎◌}
+use Rattle.std.proofs.lemmas.Bool.{eqb-true, eq-eqb}
+use Rattle.bpaf_line.specs.declared.error.Message.TheVariants.{ParseFailure, Missing}
+use Rattle.bpaf_line.specs.Messages.{CombinesSpared, can_catch, is_memory, Combines}
+use Rattle.bpaf_line.specs.{Situation.open_count, Situation.Situation, declared.error.Error.Error}
+use Rattle.bpaf_line.specs.declared.error.Message.{Message}
 use Rattle.bpaf_laws.specs.Combinators.{is_untouched, stops_spared, stops_step}
-use Rattle.bpaf_exact.specs.Flat.{Caught, ErrorClass, OfMemory, Refused, class_of_tests, is_missing}
-use Rattle.bpaf_exact.specs.Flat.{CanCatch, catch_missing, catch_other, caught, nothing_found}
-use Rattle.bpaf_exact.specs.Flat.{OfMissing, class, class_of, Stops}
+use Rattle.bpaf_exact.specs.Flat.{class_of_tests, catch_missing, nothing_found, catch_other, Caught}
+use Rattle.bpaf_exact.specs.Flat.{ErrorClass, is_missing, OfMissing, OfMemory, CanCatch, class_of}
+use Rattle.bpaf_exact.specs.Flat.{Refused, caught, class, Stops}
 
 -- want of memory is of its class
 pub memory_class : (m : Message) → is_memory m ≡ true → class_of m ≡ OfMemory
@@ -23,9 +23,7 @@ missing_caught other e = absurd cc
 
 -- want of memory can't be caught
 memory_kept : (m : Message) → is_memory m ≡ true → can_catch m ≡ false
-memory_kept Memory e = refl
-memory_kept (ParseFailure f) e = refl
-memory_kept other e = absurd cc
+memory_kept other e = grind arith
 
 -- what the three tests of a class answer: want of memory, a missing item, whether it can be caught
 abbrev tests_of : ErrorClass → Bool × Bool × Bool
@@ -75,8 +73,7 @@ kept_class m e (catch_other c) = true≢false (sym (tests_are m c).2 ∙ e)
 -- which refusals stop a turn that doesn't catch
 stop_test : (m : Message) (untouched : Bool)
     → stops_spared false m untouched ≡ (if is_missing m then untouched else can_catch m)
-stop_test (Missing items) untouched = refl
-stop_test other untouched = refl
+stop_test other untouched = grind arith
 
 -- a turn stops at a missing item where nothing was taken, and at what can be caught otherwise
 abbrev stop_by : ErrorClass → Bool → Bool
@@ -92,10 +89,7 @@ stop_is m untouched e =
   where
     by_tests : (a b c : Bool) → (not a && (if b then untouched else c))
         ≡ stop_by (class_of_tests a b c) untouched
-    by_tests true b c = refl
-    by_tests false true c = refl
-    by_tests false false true = refl
-    by_tests false false false = refl
+    by_tests b c d = grind arith
 
 -- an error at which a turn stops
 pub stops_at : {e : Error} {s m : Situation} → stops_step false e.0 (is_untouched s m) ≡ true

@@ -12,8 +12,7 @@ use Rattle.bpaf_line.specs.Situation.{open_count, Situation, is_taken, item_in}
 use Rattle.bpaf_line.proofs.Places.{present_in_line, open_has_item}
 use Rattle.bpaf_line.specs.Messages.{is_wrong_input, is_memory, Combines}
 use Rattle.bpaf_line.specs.Taking.{ConflictsSaved, open_item, IsWinner}
-use Rattle.bpaf_line.specs.{declared.error.Message.TheVariants.Missing, declared.error.Error.Error}
-use Rattle.bpaf_line.specs.declared.error.Message.{Message}
+use Rattle.bpaf_line.specs.{declared.error.Message.Message, declared.error.Error.Error}
 use Rattle.bpaf_laws.proofs.ChoiceLaws.{chosen_at_equal, not_winner, of_chosen}
 use Rattle.bpaf_laws.specs.Choice.{ChoiceOutcome, BranchesEval, EqualDepths, branch_of, Winner}
 use Rattle.bpaf_laws.specs.{Choice.Chosen, Choice.depth, Choice.OneOk, Combinators.is_untouched}
@@ -26,19 +25,19 @@ use Rattle.bpaf_exact.proofs.Classes.{combined_missing, combined_refused, is_mis
 use Rattle.bpaf_exact.proofs.Cuts.{both_nil, not_left, Union, owner}
 use Rattle.bpaf_exact.proofs.{Names.apart_second, Names.apart_first, Places.match_of, Places.Match}
 use Rattle.bpaf_exact.proofs.{Wrappers.closed_keeps, Classes.memory_class}
-use Rattle.bpaf_exact.specs.Flat.{nothing_found, present_count, optional_none, AlternativeOk, cells}
+use Rattle.bpaf_exact.specs.Flat.{present_count, optional_none, AlternativeOk, optional_some, cells}
 use Rattle.bpaf_exact.specs.Flat.{either_value, OptionalEval, optional_err, FirstUnread, TakesFirst}
-use Rattle.bpaf_exact.specs.Flat.{is_missing, IsWholeIn, Variables, OfMissing, none_here, OfMemory}
-use Rattle.bpaf_exact.specs.Flat.{optional_memory, AlternativeErr, AlternativeLaw, optional_some}
-use Rattle.bpaf_exact.specs.Flat.{first_cells, NonePresent, ClosedValue, ClosedEval, ErrorClass}
+use Rattle.bpaf_exact.specs.Flat.{ErrorClass, IsWholeIn, Variables, OfMissing, none_here, OfMemory}
+use Rattle.bpaf_exact.specs.Flat.{optional_memory, AlternativeErr, AlternativeLaw, nothing_found}
+use Rattle.bpaf_exact.specs.Flat.{first_cells, NonePresent, ClosedValue, is_missing, ClosedEval}
 use Rattle.bpaf_exact.specs.Flat.{alternative_missing, alternative_refused, alternative_memory}
-use Rattle.bpaf_exact.specs.Flat.{no_place, AgreesOn, Refused, Closure, Steady, caught, class}
+use Rattle.bpaf_exact.specs.Flat.{no_place, AgreesOn, Refused, Closure, Steady, class, Stops}
 use Rattle.bpaf_exact.specs.Pieces.{is_own_role, takes_later, TakesPiece, LinePiece, takes_one, One}
 use Rattle.bpaf_exact.specs.Pieces.{takes_two, either, is_own, pieces, Cells, Apart, Roles, mine}
 use Rattle.bpaf_exact.specs.ProgramForm.{OptionalCommands, FindsNoCommand, ChoiceValue, CommandsLaw}
 use Rattle.bpaf_exact.specs.ProgramForm.{ProgramTook, opens_later, CellsValue, ProgramLaw, Opens}
 use Rattle.bpaf_exact.specs.ProgramForm.{WordsApart, opens_here, OpensNone}
-use Rattle.bpaf_exact.specs.{Flat.Stops, Pieces.Two}
+use Rattle.bpaf_exact.specs.Pieces.{Two}
 
 -- the same scope of the same line
 pub record SameScope (m n : Situation) : Type 0 where
@@ -446,8 +445,7 @@ module _ {env : Variables} {T : Type 0} {inner : Outcome T} {r : Roles} {words :
 
   -- want of memory stops nothing
   memory_goes_on : {e : Error} {s m : Situation} → class e ≡ OfMemory → Stops e s m → ⊥
-  memory_goes_on h (nothing_found g same) = cc
-  memory_goes_on h (caught g) = cc
+  memory_goes_on h x = grind arith
 
   -- where there is a value, that of a command is one
   some_all : {s t : Situation} {x : T} → ProgramTook T value s x t
@@ -524,8 +522,7 @@ opens_apart words others a (opens_later o) (opens_later p) = opens_apart words o
 
 -- a missing item is no wrong input
 missing_input : (m : Message) → is_missing m ≡ true → is_wrong_input m ≡ false
-missing_input (Missing items) e = refl
-missing_input _ e = cc
+missing_input x e = grind arith
 
 -- two situations with the same cells, equally deep
 record Alike (m t : Situation) : Type 0 where

@@ -6,29 +6,25 @@ use Rattle.std.proofs.Common.{refl, true, ◌++◌, inl, inr, not, sym, ◌<◌,
 use Rattle.std.proofs.lemmas.List.Elements.{filter-append, All-cons, All-nil}
 use Rattle.std.proofs.{lemmas.Bool.false_from_ne_true, lemmas.List.append_assoc, Common.ℕ}
 use Rattle.std.specs.List.{AllPass}
-use Rattle.bpaf_base.specs.declared.arg.Arg.TheVariants.{ArgWord, Short, Long, Word}
+use Rattle.bpaf_base.specs.declared.arg.Arg.TheVariants.{ArgWord, Word}
 use Rattle.bpaf_base.specs.{declared.arg.Arg.Arg, Items.is_positional}
 use Rattle.bpaf_exact.specs.Flat.{NonePresent, first_later, TakesFirst, none_here, first_one}
 use Rattle.bpaf_exact.specs.Pieces.{takes_argument, TakesPieces, begin_piece, either_role, WithNext}
-use Rattle.bpaf_exact.specs.Pieces.{takes_flag, takes_more, takes_none, LinePiece, takes_one, Alone}
-use Rattle.bpaf_exact.specs.Pieces.{IsNamed, at_end, either, is_key, is_own, others, passed, pieces}
-use Rattle.bpaf_exact.specs.Pieces.{empty_stays, is_own_role, other_stays, takes_later, TakesPiece}
+use Rattle.bpaf_exact.specs.Pieces.{takes_more, takes_none, TakesPiece, LinePiece, takes_one, Alone}
+use Rattle.bpaf_exact.specs.Pieces.{Foreign, at_end, either, is_key, is_own, others, passed, pieces}
+use Rattle.bpaf_exact.specs.Pieces.{empty_stays, is_own_role, other_stays, takes_later, takes_flag}
 use Rattle.bpaf_exact.specs.Pieces.{Apart, Cells, Roles, Takes, Role, flag, mine, word, Cut, One}
-use Rattle.bpaf_exact.specs.Pieces.{takes_two, with_next, argument, is_value, no_cells, Foreign}
+use Rattle.bpaf_exact.specs.Pieces.{takes_two, with_next, argument, is_value, no_cells, IsNamed}
 use Rattle.bpaf_exact.specs.ProgramForm.{HoldsTogether, is_word_alone, HasItsValue, EndsInKey}
 use Rattle.bpaf_exact.specs.{Flat.first_two, Flat.no_place, Flat.IsWords, Pieces.Two}
 
 -- a value is no key
 pub value_not_key : (w : Arg) → is_value w ≡ true → is_key w ≡ false
-value_not_key (Short c a t) h = cc
-value_not_key (Long c a t) h = cc
-value_not_key _ h = refl
+value_not_key x h = grind arith
 
 -- a word is no key
 pub word_not_key : (w : Arg) → is_positional w ≡ true → is_key w ≡ false
-word_not_key (Short c a t) h = cc
-word_not_key (Long c a t) h = cc
-word_not_key _ h = refl
+word_not_key x h = grind arith
 
 -- an item of a named field is no value
 pub own_not_value : {q : Roles} (k : Arg) → IsNamed q → is_own_role (q k) ≡ true
@@ -68,8 +64,7 @@ nil_rest _ k cs e = cc
 -- and the item isn't the field's own
 pub nil_foreign : (x : Role) (k : Arg) (cs : Cells) (os : List LinePiece)
     → begin_piece x k cs os ≡ [] → x ≡ Foreign
-nil_foreign Foreign k cs os e = refl
-nil_foreign _ k cs os e = cc
+nil_foreign x k cs os e = grind arith
 
 -- taking a piece leaves what a key before it has next to it
 pub same_next : {q : Roles} (k : Arg) {cs ds : Cells} {o : LinePiece} → IsNamed q
@@ -103,8 +98,7 @@ keeps_other_some nq nr a (takes_more t more) = keeps_other_some nq nr a more ∙
 
 -- an item that isn't the one's has the role that it has to the other
 pub either_right : (x : Role) {y : Role} → x ≡ Foreign → either_role x y ≡ y
-either_right Foreign e = refl
-either_right _ e = absurd cc
+either_right x e = grind arith
 
 -- an item of the one is of the same role to both
 pub either_own : (x y z : Role) → x ≡ z → is_own_role z ≡ true → either_role x y ≡ z

@@ -1,8 +1,8 @@
 -- Flags, arguments, positional words and kept values keep to the laws.
-use Rattle.std.proofs.Common.{⊎_elim, false, subst, Bool, List, None, Some, refl, take, true, ◌&&◌}
-use Rattle.std.proofs.Common.{◌++◌, ◌||◌, Err, inl, inr, map, not, sym, ◌∙◌, ◌∷◌, ◌≡◌, ◌⊎◌, Ok, []}
-use Rattle.std.proofs.Common.{option_and_then, if◌then◌else◌, true≢false, add-one, Option, Result}
-use Rattle.std.proofs.{lemmas.Bool.and_parts, Common.ap, Common.ℕ}
+use Rattle.std.proofs.Common.{Result, arith, false, subst, Bool, List, None, Some, refl, take, true}
+use Rattle.std.proofs.Common.{◌&&◌, ◌++◌, ◌||◌, Err, inl, inr, map, not, sym, ◌∙◌, ◌∷◌, ◌≡◌, ◌⊎◌, ℕ}
+use Rattle.std.proofs.Common.{option_and_then, if◌then◌else◌, true≢false, add-one, ⊎_elim, Option}
+use Rattle.std.proofs.{Common.Ok, Common.[], Common.ap, lemmas.Bool.and_parts}
 use Rattle.std.specs.Option.{IsSomeRelated, option_map_or, is_none, is_some}
 use Rattle.bpaf_base.specs.declared.arg.Arg.TheVariants.{PosWord, Word}
 use Rattle.bpaf_base.specs.Items.{is_positional, is_key_of, item_text, word_text}
@@ -31,10 +31,10 @@ use Rattle.bpaf_exact.proofs.{Wrappers.took_front, Wrappers.gap_empty, Classes.m
 use Rattle.bpaf_exact.proofs.Product.{steady_refl}
 use Rattle.bpaf_exact.specs.Flat.{alternative_missing, alternative_refused, alternative_memory, Gap}
 use Rattle.bpaf_exact.specs.Flat.{AlternativeErr, AlternativeOk, catch_missing, first_later, ByName}
-use Rattle.bpaf_exact.specs.Flat.{class_of, SingleOk, TakesAny, of_piece, OneWord, FrontOf, Refused}
+use Rattle.bpaf_exact.specs.Flat.{TakesAny, of_piece, EachWord, OfMemory, OneWord, FrontOf, Refused}
 use Rattle.bpaf_exact.specs.Flat.{first_one, first_two, FieldKind, OfMissing, Variables, is_behind}
 use Rattle.bpaf_exact.specs.Flat.{Caught, Steady, Groups, gap_of, cells, class, front, back, took}
-use Rattle.bpaf_exact.specs.Flat.{SingleErr, SingleLaw, of_absent, of_memory, EachWord, OfMemory}
+use Rattle.bpaf_exact.specs.Flat.{SingleErr, SingleLaw, of_absent, of_memory, class_of, SingleOk}
 use Rattle.bpaf_exact.specs.Flat.{catch_other, gave_absent, TakesFirst, WordByWord, of_missing}
 use Rattle.bpaf_exact.specs.ProgramForm.{argument_field, argument_group, argument_roles, flag_field}
 use Rattle.bpaf_exact.specs.ProgramForm.{flag_roles, pure_field, word_fault, CellsValue, FlagValue}
@@ -185,8 +185,7 @@ key_field_law other wide false named owns empty must reads = record {
 
 -- no variable's name is among none
 pub none_named : (envs : List (List ℕ)) → is_nil envs ≡ true → envs ≡ []
-none_named [] e = refl
-none_named (env ∷ envs) e = absurd cc
+none_named xs e = grind arith
 
 -- Flags.
 
@@ -214,8 +213,7 @@ module _ {T : Type 0} (clones : T → T → Type 0) (present : T) where
   -- without either none does
   gap_none : (absent : Option T) (set : Option (List ℕ)) → is_some set ≡ false → absent ≡ None
       → is_some (value_without_key present absent set) ≡ false
-  gap_none None None e f = refl
-  gap_none _ _ e f = absurd cc
+  gap_none x y e f = grind arith
 
 -- a flag, where the environment has these variables
 module _ {T : Type 0} (clones : T → T → Type 0) (key : Key) (present : T) (absent : Option T)
@@ -276,8 +274,7 @@ module _ {T : Type 0} (clones : T → T → Type 0) (key : Key) (present : T) (a
 
 -- no value is none
 none_is : {T : Type 0} (absent : Option T) → is_none absent ≡ true → absent ≡ None
-none_is None e = refl
-none_is (Some kept) e = absurd cc
+none_is x e = grind arith
 
 -- a flag keeps to the laws of its form
 pub flag_field_law : (variables : Variables) (T : Type 0) (clones : T → T → Type 0) (key : Key)

@@ -1,8 +1,8 @@
 -- Fields with keys apart have no item in common, pieces shared out by roles are so by names; and what
 -- a field takes of pieces, and leaves.
 use Rattle.std.proofs.Common.{if◌then◌else◌, append-nil, true≢false, bytes_eq, ⊎_elim, length, List}
-use Rattle.std.proofs.Common.{false, refl, true, ◌&&◌, ◌++◌, ◌==◌, ◌||◌, Bool, take, drop, ap₂, not}
-use Rattle.std.proofs.Common.{sym, ◌∙◌, ◌∷◌, ◌≡◌, [], ap}
+use Rattle.std.proofs.Common.{arith, false, refl, true, ◌&&◌, ◌++◌, ◌==◌, ◌||◌, Bool, take, drop}
+use Rattle.std.proofs.Common.{ap₂, not, sym, ◌∙◌, ◌∷◌, ◌≡◌, [], ap}
 use Rattle.std.proofs.lemmas.Bool.{false_from_ne_true, and_parts, both_ways, and_from, eqb-true}
 use Rattle.std.proofs.lemmas.Bool.{not-true, or_cases, or_right, or_left}
 use Rattle.std.proofs.lemmas.List.{take-append-drop, append_assoc}
@@ -15,9 +15,9 @@ use Rattle.bpaf_base.specs.Items.{is_positional, is_text_among, is_key_of, is_am
 use Rattle.bpaf_base.specs.declared.arg.Arg.{Arg}
 use Rattle.bpaf_doc.specs.Names.{Names}
 use Rattle.bpaf_exact.specs.Pieces.{takes_argument, are_all_apart, is_key_of_any, either_role, Role}
-use Rattle.bpaf_exact.specs.Pieces.{is_own, others, passed, pieces, Apart, Cells, Roles, Takes, Cut}
-use Rattle.bpaf_exact.specs.Pieces.{LinePiece, argument, no_cells, Foreign, at_end, either, is_key}
-use Rattle.bpaf_exact.specs.Pieces.{empty_stays, is_own_role, other_stays, takes_flag, are_apart}
+use Rattle.bpaf_exact.specs.Pieces.{pieces, at_end, either, is_key, Apart, Cells, Roles, Takes, Cut}
+use Rattle.bpaf_exact.specs.Pieces.{are_apart, argument, no_cells, Foreign, is_own, others, passed}
+use Rattle.bpaf_exact.specs.Pieces.{empty_stays, is_own_role, other_stays, takes_flag, LinePiece}
 use Rattle.bpaf_exact.specs.Pieces.{flag, mine, word, Owns, One, Two}
 use Rattle.bpaf_exact.specs.Says.{first_item, EachOwn, unkeyed, keyed, Fits}
 use Rattle.bpaf_exact.specs.Flat.{NoKeysLeft, FieldKind, is_behind, repeated, EachWord, OneWord}
@@ -57,8 +57,7 @@ one_list keys others k apart e f =
 
 -- what isn't the field's own
 pub foreign_of : (x : Role) → is_own_role x ≡ false → x ≡ Foreign
-foreign_of Foreign e = refl
-foreign_of _ e = cc
+foreign_of x e = grind arith
 
 -- keys that are apart keep the fields apart
 pub apart_of_names : {q r : Roles} {keys others : List Names} → Owns q keys → Owns r others
@@ -72,8 +71,7 @@ apart_of_names {q} {r} {keys} {others} a b h = record {
 
 -- an item of both is one of either
 either_own : (x y : Role) → is_own_role (either_role x y) ≡ (is_own_role x || is_own_role y)
-either_own Foreign y = refl
-either_own _ y = refl
+either_own x y = grind arith
 
 -- the keys of two fields together
 pub either_owns : {q r : Roles} {keys others : List Names} → Owns q keys → Owns r others
@@ -87,9 +85,7 @@ either_owns {q} {r} {keys} {others} a b = record {
 
 -- only keys have names
 pub named_key : (names : Names) (k : Arg) → is_key_of names k ≡ true → is_key k ≡ true
-named_key names (Short c attached whole) h = refl
-named_key names (Long name attached whole) h = refl
-named_key names _ h = absurd cc
+named_key names x h = grind arith
 
 -- two tests that hold of the same are one
 same_truth : (a b : Bool) → (a ≡ true → b ≡ true) → (b ≡ true → a ≡ true) → a ≡ b
@@ -151,8 +147,7 @@ no_key names _ h = absurd cc
 
 -- a piece is one's own by its first item
 own_first : (r : Roles) (o : LinePiece) → is_own r o ≡ is_own_role (r (first_item o))
-own_first r (One k) = refl
-own_first r (Two k w) = refl
+own_first r x = grind arith
 
 module _ (r : Roles) (names : List Names) where
   -- where own pieces are those that begin with a key of one's names, a test keeps the same of both
@@ -303,8 +298,7 @@ others_both q r = kept_twice (λ o. not (is_own r o)) (λ o. not (is_own q o))
   where
     by_roles : (x y : Role)
         → not (is_own_role (either_role x y)) ≡ (not (is_own_role x) && not (is_own_role y))
-    by_roles Foreign y = refl
-    by_roles _ y = refl
+    by_roles x y = grind arith
 
     by_piece : (o : LinePiece)
         → not (is_own (either q r) o) ≡ (not (is_own q o) && not (is_own r o))
@@ -401,11 +395,7 @@ front_back (OneWord b) {os} =
 
 -- of nothing it takes nothing
 pub front_nil : (k : FieldKind) → front k [] ≡ []
-front_nil ByName = refl
-front_nil (OneWord false) = refl
-front_nil (OneWord true) = refl
-front_nil (EachWord false) = refl
-front_nil (EachWord true) = refl
+front_nil x = grind arith
 
 -- where a field takes none it leaves all
 pub back_all : (k : FieldKind) {os : List LinePiece} → front k os ≡ [] → back k os ≡ os
@@ -422,8 +412,7 @@ pub each_nil : (k : FieldKind) (os : List LinePiece) → front k os ≡ [] → f
 each_nil (OneWord b) os none = no_first (front (EachWord b) os) none
   where
     no_first : (words : List LinePiece) → take 1 words ≡ [] → words ≡ []
-    no_first [] none = refl
-    no_first (o ∷ words) none = absurd cc
+    no_first xs none = grind arith
 each_nil _ os none = none
 
 -- and the other way

@@ -1,8 +1,8 @@
 -- Each parser keeps to the laws of its form to a program, where its inner parsers do, by its table
 -- too; so does an outcome that allows no more; and the theorem of exactness.
 use Rattle.std.proofs.Common.{if◌then◌else◌, append-nil, true≢false, slice_get, bytes_eq, Option, ℕ}
-use Rattle.std.proofs.Common.{refl, true, zero, ◌&&◌, ◌++◌, ◌||◌, Err, inl, inr, not, sym, ◌<◌, ◌∙◌}
-use Rattle.std.proofs.Common.{Result, length, ⊎_elim, arith, false, subst, Bool, List, None, Some}
+use Rattle.std.proofs.Common.{◌++◌, ◌||◌, Bool, List, None, Some, Err, inl, inr, not, sym, ◌<◌, ◌∙◌}
+use Rattle.std.proofs.Common.{Result, length, ⊎_elim, arith, false, subst, refl, true, zero, ◌&&◌}
 use Rattle.std.proofs.Common.{◌∷◌, ◌≡◌, ◌⊎◌, Ok, [], ap}
 use Rattle.std.proofs.lemmas.Bool.{false_from_ne_true, and_parts, le-leb, lt-ltb}
 use Rattle.std.proofs.lemmas.Slice.Eq.{bytes_eq-Decides}
@@ -10,8 +10,8 @@ use Rattle.std.specs.{Option.option_map_or, List.list_all, Global.Vec}
 use Rattle.bpaf_base.specs.{Items.is_command_word, Items.command_word, declared.arg.Arg.Arg}
 use Rattle.bpaf_doc.specs.Names.{Names}
 use Rattle.bpaf_line.specs.Situation.{Situation, beginning, is_marker, Context, item_in}
-use Rattle.bpaf_line.specs.{declared.error.Message.TheVariants.Missing, declared.error.Error.Error}
-use Rattle.bpaf_line.specs.{declared.error.Message.Message, Taking.open_item}
+use Rattle.bpaf_line.specs.{declared.error.Message.Message, declared.error.Error.Error}
+use Rattle.bpaf_line.specs.Taking.{open_item}
 use Rattle.bpaf_laws.specs.Combinators.{FallbackOutcome, CollectOutcome, CountOutcome, GuardOutcome}
 use Rattle.bpaf_laws.specs.Combinators.{ParseOutcome, GivesAnswer, LastOutcome, ManyOutcome, is_nil}
 use Rattle.bpaf_laws.specs.Combinators.{SomeOutcome, HideOutcome, TurnOutcome, GivesClone, hidden}
@@ -27,29 +27,29 @@ use Rattle.bpaf_exact.proofs.Wrappers.{alternative_single, closed_alternative, f
 use Rattle.bpaf_exact.proofs.Wrappers.{closed_single, left_out_law, closed_law, single_law}
 use Rattle.bpaf_exact.proofs.Names.{apart_of_names, either_owns, foreign_of, both_hold}
 use Rattle.bpaf_exact.proofs.Repeat.{some_agrees_on, last_of_law, repeat_law}
-use Rattle.bpaf_exact.proofs.{Places.open_present, Places.same_cells, Commands.closed_program}
-use Rattle.bpaf_exact.proofs.{Commands.choice_law, Cuts.one_cut}
+use Rattle.bpaf_exact.proofs.{Commands.closed_program, Commands.choice_law, Cuts.one_cut}
+use Rattle.bpaf_exact.proofs.Places.{open_present, same_cells}
 use Rattle.bpaf_exact.specs.Flat.{FieldsReading, RepeatOutcome, OptionalValue, FallbackValue, cells}
 use Rattle.bpaf_exact.specs.Flat.{closed_memory, guard_closure, optional_none, optional_some, class}
 use Rattle.bpaf_exact.specs.Flat.{parse_closure, both_reading, FallbackEval, OptionalEval, FieldLaw}
 use Rattle.bpaf_exact.specs.Flat.{fallback_err, optional_err, list_closure, some_closure, FieldKind}
-use Rattle.bpaf_exact.specs.Flat.{map_closure, ErrorClass, ClosedEval, closed_err, closed_yes, keys}
+use Rattle.bpaf_exact.specs.Flat.{fallback_ok, ErrorClass, ClosedEval, closed_err, closed_yes, keys}
 use Rattle.bpaf_exact.specs.Flat.{fallback_memory, optional_memory, answer_closure, fallback_given}
-use Rattle.bpaf_exact.specs.Flat.{NonePresent, SingleValue, ClosedValue, fallback_no, fallback_ok}
+use Rattle.bpaf_exact.specs.Flat.{map_closure, NonePresent, SingleValue, ClosedValue, fallback_no}
 use Rattle.bpaf_exact.specs.Flat.{FieldsLaw, IsWholeIn, Variables, SingleLaw, closed_no, OfMemory}
 use Rattle.bpaf_exact.specs.Flat.{class_of, repeated, KeepsTo, ReadOff, Refused, OwnList, Closure}
 use Rattle.bpaf_exact.specs.Flat.{Decides, Before, ByName, Caught, Groups, LastOf, Gap}
-use Rattle.bpaf_exact.specs.ProgramForm.{before_commands, product_reading, program_command, FormLaw}
-use Rattle.bpaf_exact.specs.ProgramForm.{program_dressed, program_choice, program_closed, completed}
+use Rattle.bpaf_exact.specs.ProgramForm.{product_reading, program_command, program_dressed, FormLaw}
+use Rattle.bpaf_exact.specs.ProgramForm.{are_words_apart, program_choice, program_closed, completed}
 use Rattle.bpaf_exact.specs.ProgramForm.{product_roles, program_alone, program_field, program_value}
-use Rattle.bpaf_exact.specs.ProgramForm.{program_con, whole_value, CommandEval, RecordValue, Agrees}
-use Rattle.bpaf_exact.specs.ProgramForm.{run_refusal, RunsExactly, is_program, may_follow, NamedLaw}
+use Rattle.bpaf_exact.specs.ProgramForm.{RecordValue, run_refusal, RunsExactly, ProgramForm, Agrees}
+use Rattle.bpaf_exact.specs.ProgramForm.{alternative, choice_only, is_program, may_follow, NamedLaw}
 use Rattle.bpaf_exact.specs.ProgramForm.{no_program, program_if, CellsValue, ProgramLaw, WordsApart}
-use Rattle.bpaf_exact.specs.ProgramForm.{RunAnswer, run_value, commands, complete, is_named, EndLaw}
+use Rattle.bpaf_exact.specs.ProgramForm.{are_plain, IsNoValue, commands, complete, is_named, EndLaw}
 use Rattle.bpaf_exact.specs.ProgramForm.{whole_program, IsSpelledLine, program_both, last_reading}
-use Rattle.bpaf_exact.specs.ProgramForm.{line_cells, run_memory, is_record, are_plain, IsNoValue}
-use Rattle.bpaf_exact.specs.ProgramForm.{program_optional, IsAcceptedOrWant, are_words_apart}
-use Rattle.bpaf_exact.specs.ProgramForm.{run_leftover, ProgramForm, alternative, choice_only}
+use Rattle.bpaf_exact.specs.ProgramForm.{line_cells, run_memory, RunAnswer, run_value, is_record}
+use Rattle.bpaf_exact.specs.ProgramForm.{program_optional, IsAcceptedOrWant, before_commands}
+use Rattle.bpaf_exact.specs.ProgramForm.{run_leftover, program_con, whole_value, CommandEval}
 use Rattle.bpaf_exact.specs.ProgramForm.{Accepted, product, IsExact, single, RunRan}
 use Rattle.bpaf_exact.specs.Pieces.{are_all_apart, LinePiece, no_roles, either, Roles, Owns, Cut}
 
@@ -86,8 +86,7 @@ open_at_first context p l =
   where
     by_marker : (m : Bool) (at : Option Arg)
         → (if not (m || false) then (if m then None else at) else None) ≡ (if m then None else at)
-    by_marker true at = refl
-    by_marker false at = refl
+    by_marker b at = grind arith
 
 -- the cells with which parsing begins are those of the line
 pub first_cells_are : (context : Context) → cells (beginning context) ≡ line_cells context
@@ -568,8 +567,7 @@ fallback_form {T} f = completed (λ k. k) (λ group gap. FallbackValue T group g
 
 -- a hidden refusal is one of the same class
 hidden_class : (m : Message) → class_of m ≡ class_of (hidden m)
-hidden_class (Missing items) = refl
-hidden_class m = refl
+hidden_class m = grind arith
 
 module _ {env : Variables} {A : Type 0} {inner : Outcome A} {names : List Names}
     {words : List (List ℕ)} {s : ProgramForm A} (l : FormLaw env inner names words s) where

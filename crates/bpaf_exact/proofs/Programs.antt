@@ -135,8 +135,7 @@ cells_spelled s all =
 
 -- where not any item is open none is
 not_any : (c : Option Arg) → option_map_or any_item c false ≡ false → c ≡ None
-not_any None e = refl
-not_any (Some k) e = cc
+not_any x e = grind arith
 
 module _ (called : Called) (s : Situation) (p : ℕ)
     (at : IsOpenedAt (opening_words called) s p) where

@@ -341,8 +341,7 @@ module _ {env : Variables} {T : Type 0} {inner : Outcome T} {k : FieldKind} {q :
 
   -- an empty own list has no pieces
   own_empty : {os : List LinePiece} {vs : List T} → vs ≡ [] → Own T group os vs → os ≡ []
-  own_empty e own_none = refl
-  own_empty e (own_more g o) = absurd cc
+  own_empty e x = grind arith
 
   -- an empty list under a repeat comes of no piece
   empty_list : {os : List LinePiece} {vs : List T} → vs ≡ [] → OwnList T group gap os vs

@@ -1,24 +1,24 @@
 -- What the value of each leaf says of its pieces, and those of a repeat; and which need a piece.
-use Rattle.std.proofs.Common.{Bool, List, None, Option, Some, [], ap, append-nil, false, inl, inr}
-use Rattle.std.proofs.Common.{not, refl, sym, true, ℕ, ◌&&◌, ◌++◌, ◌||◌, ◌∙◌, ◌∷◌, ◌≡◌, true≢false}
-use Rattle.std.proofs.Common.{◌≢◌}
+use Rattle.std.proofs.Common.{append-nil, true≢false, Option, arith, false, Bool, List, None, Some}
+use Rattle.std.proofs.Common.{refl, true, ◌&&◌, ◌++◌, ◌||◌, inl, inr, not, sym, ◌∙◌, ◌∷◌, ◌≡◌, ◌≢◌}
+use Rattle.std.proofs.Common.{[], ap, ℕ}
 use Rattle.std.specs.{Option.IsSomeRelated, Option.is_none, List.AllZip}
 use Rattle.bpaf_doc.specs.Names.{Names}
 use Rattle.bpaf_text.specs.Named.{KeyWithValue, Named as Key}
-use Rattle.bpaf_laws.specs.{Reading.first_set, Leaves.value_without_key, Combinators.is_nil}
+use Rattle.bpaf_laws.specs.{Leaves.value_without_key, Combinators.is_nil, Reading.first_set}
 use Rattle.bpaf_exact.proofs.Names.{never_nil}
-use Rattle.bpaf_exact.specs.Flat.{ByName, OneWord, Variables, FrontOf, Gap, Groups, Own, OwnList}
-use Rattle.bpaf_exact.specs.Flat.{SingleValue, listed, listed_and_absent, only_absent, own_more}
-use Rattle.bpaf_exact.specs.Flat.{own_none, Closure, FallbackValue, OptionalValue}
-use Rattle.bpaf_exact.specs.ProgramForm.{ArgumentValue, FlagValue, WordValue, argument_field}
-use Rattle.bpaf_exact.specs.ProgramForm.{flag_field, argument_group, argument_roles, flag_roles}
-use Rattle.bpaf_exact.specs.ProgramForm.{key_field, word_by, CellsValue}
-use Rattle.bpaf_exact.specs.Pieces.{LinePiece, One, Roles, Two}
-use Rattle.bpaf_exact.specs.Says.{ArgumentSays, FallbackSays, FlagSays, FrontSays, MadeSays}
-use Rattle.bpaf_exact.specs.Says.{OptionalSays, RepeatSays, WordSays, Said, LastSays, Says, of_kind}
-use Rattle.bpaf_exact.specs.Says.{says_alone, says_absent, says_in_turn, says_last_text, says_own}
-use Rattle.bpaf_exact.specs.Says.{says_kept, says_none, says_some, says_text, says_variable}
-use Rattle.bpaf_exact.specs.Says.{says_variable_text, says_present}
+use Rattle.bpaf_exact.specs.Flat.{listed_and_absent, FallbackValue, OptionalValue, SingleValue, Gap}
+use Rattle.bpaf_exact.specs.Flat.{only_absent, Variables, own_more, own_none, OneWord, FrontOf, Own}
+use Rattle.bpaf_exact.specs.Flat.{OwnList, Closure, ByName, Groups, listed}
+use Rattle.bpaf_exact.specs.ProgramForm.{argument_field, argument_group, argument_roles, flag_field}
+use Rattle.bpaf_exact.specs.ProgramForm.{ArgumentValue, flag_roles, CellsValue, FlagValue, word_by}
+use Rattle.bpaf_exact.specs.Says.{FallbackSays, OptionalSays, says_in_turn, says_present, FrontSays}
+use Rattle.bpaf_exact.specs.Says.{says_variable_text, says_last_text, says_variable, ArgumentSays}
+use Rattle.bpaf_exact.specs.Says.{says_absent, RepeatSays, says_alone, says_kept, says_none, Said}
+use Rattle.bpaf_exact.specs.Says.{says_some, says_text, FlagSays, MadeSays, WordSays, LastSays}
+use Rattle.bpaf_exact.specs.Pieces.{LinePiece, Roles, One, Two}
+use Rattle.bpaf_exact.specs.ProgramForm.{WordValue, key_field}
+use Rattle.bpaf_exact.specs.Says.{says_own, of_kind, Says}
 
 -- Leaves.
 
@@ -240,9 +240,7 @@ pub flag_needs : {T : Type 0} {clones : T → T → Type 0} {present : T} {absen
 flag_needs {T} {clones} {present} {absent} {set} required unset = record { some = by_case }
   where
     by_case : (v : T) → ¬ (FlagSays clones present absent set [] v)
-    by_case v (says_present k e m) = cc
-    by_case v (says_variable text none is m) = cc
-    by_case v (says_absent a none is kept m) = cc
+    by_case v x = grind arith
 
 -- with a closure round it one that does inside,
 pub made_needs : {A B : Type 0} {said : Said A} {f : Closure A B} → NeedsPiece said

@@ -6,18 +6,17 @@ use Rattle.std.proofs.{lemmas.List.Folds.list_all-append, lemmas.List.take_more}
 use Rattle.std.specs.List.{list_all}
 use Rattle.bpaf_doc.specs.Names.{Names}
 use Rattle.bpaf_laws.specs.{Command.opening_words, Command.Called, Choice.Nested}
-use Rattle.bpaf_exact.specs.Flat.{FallbackValue, FieldKind, EachWord, repeated, OneWord, OwnList}
-use Rattle.bpaf_exact.specs.Flat.{Closure, ByName, Groups, LastOf, Gap}
+use Rattle.bpaf_exact.specs.Flat.{FallbackValue, FieldKind, repeated, OwnList, Closure, ByName, Gap}
 use Rattle.bpaf_exact.specs.ProgramForm.{program_optional, before_commands, program_dressed, single}
 use Rattle.bpaf_exact.specs.ProgramForm.{are_words_apart, program_command, program_closed, complete}
 use Rattle.bpaf_exact.specs.ProgramForm.{program_choice, program_alone, program_field, program_both}
-use Rattle.bpaf_exact.specs.ProgramForm.{no_program, program_if, is_program, may_follow, completed}
+use Rattle.bpaf_exact.specs.ProgramForm.{program_if, is_program, may_follow, completed, is_record}
 use Rattle.bpaf_exact.specs.ProgramForm.{ProgramForm, alternative, choice_only, program_con}
-use Rattle.bpaf_exact.specs.ProgramForm.{is_record, are_plain, commands, is_named, product}
-use Rattle.bpaf_exact.specs.Pieces.{are_all_apart, LinePiece}
+use Rattle.bpaf_exact.specs.ProgramForm.{are_plain, commands, is_named, product}
+use Rattle.bpaf_exact.specs.{Pieces.are_all_apart, Pieces.LinePiece, Flat.Groups, Flat.LastOf}
 use Rattle.bpaf_record.specs.declared.part.ProgramPart.TheVariants.{Complete, Commands, Product}
-use Rattle.bpaf_record.specs.Part.{is_named_kind, dressed_part, command_part, closed_part, kind_of}
-use Rattle.bpaf_record.specs.Part.{is_program_part, completed_part, is_record_part, optional_part}
+use Rattle.bpaf_record.specs.Part.{optional_part, dressed_part, command_part, closed_part, kind_of}
+use Rattle.bpaf_record.specs.Part.{is_program_part, completed_part, is_record_part, is_named_kind}
 use Rattle.bpaf_record.specs.Part.{chosen_part, before_part, field_part, only_part, last_part}
 use Rattle.bpaf_record.specs.Grammar.{command_words, choices_of, Grammar, keys_of, choice}
 use Rattle.bpaf_record.specs.Part.{made_part, may_stand, part_of, part_if}
@@ -25,25 +24,21 @@ use Rattle.bpaf_record.specs.Part.{made_part, may_stand, part_of, part_if}
 -- where a test holds
 if_is : {T : Type 0} (b : Bool) (s : ProgramForm T)
     → part_if b (part_of s) ≡ part_of (program_if b s)
-if_is true s = refl
-if_is false s = refl
+if_is b s = grind arith
 
 -- a closure
 pub closed_part_is : {A B : Type 0} (f : Closure A B) (s : ProgramForm A)
     → closed_part (part_of s) ≡ part_of (program_closed f s)
-closed_part_is f no_program = refl
-closed_part_is f _ = refl
+closed_part_is f s = grind arith
 
 -- another look
 pub dressed_part_is : {T : Type 0} (s : ProgramForm T)
     → dressed_part (part_of s) ≡ part_of (program_dressed s)
-dressed_part_is no_program = refl
-dressed_part_is _ = refl
+dressed_part_is s = grind arith
 
 -- a repeated word is a word
 repeated_is : (k : FieldKind) → kind_of k ≡ kind_of (repeated k)
-repeated_is ByName = refl
-repeated_is _ = refl
+repeated_is s = grind arith
 
 -- a repeat or a default of a kind
 completed_is : {T B : Type 0} (kind : FieldKind → FieldKind)
@@ -85,8 +80,7 @@ pub optional_part_is : {T : Type 0} (catch : Bool) (s : ProgramForm T)
 optional_part_is {T} catch s = ap (part_if (not catch)) (optional_is s) ∙ if_is (not catch) _
   where
     optional_is : (s : ProgramForm T) → optional_part (part_of s) ≡ part_of (program_optional s)
-    optional_is (commands false value) = refl
-    optional_is _ = refl
+    optional_is s = grind arith
 
 -- a choice of two
 pub choice_part_is : {T : Type 0} (own others : List Names) (words more : List (List ℕ))
@@ -102,18 +96,15 @@ choice_part_is own others words more _ _ = refl
 -- one parser of a choice
 pub only_part_is : {T : Type 0} (s : ProgramForm T)
     → only_part (part_of s) ≡ part_of (choice_only s)
-only_part_is (commands false value) = refl
-only_part_is _ = refl
+only_part_is s = grind arith
 
 -- a flat record
 pub record_part_is : {T : Type 0} (s : ProgramForm T) → is_record_part (part_of s) ≡ is_record s
-record_part_is no_program = refl
-record_part_is _ = refl
+record_part_is s = grind arith
 
 -- a program
 pub program_part_is : {T : Type 0} (s : ProgramForm T) → is_program_part (part_of s) ≡ is_program s
-program_part_is no_program = refl
-program_part_is _ = refl
+program_part_is s = grind arith
 
 -- a command
 pub command_part_is : {T : Type 0} (adjacent apart : Bool) (called : Called) (s : ProgramForm T)
@@ -126,8 +117,7 @@ command_part_is adjacent apart called s =
 
 -- one test alone
 pub and_true : (b : Bool) → b ≡ (b && true)
-and_true true = refl
-and_true false = refl
+and_true b = grind arith
 
 -- a test of the keys of two
 pub all_joined : {X : Type 0} (test : X → Bool) (xs ys : List X)
@@ -143,13 +133,11 @@ keys_entered test false names b e = refl
 
 -- a field of a product
 field_part_is : {T : Type 0} (s : ProgramForm T) → field_part (part_of s) ≡ part_of (program_field s)
-field_part_is (product wide true q fields) = refl
-field_part_is _ = refl
+field_part_is s = grind arith
 
 -- a named one
 named_is : (k : FieldKind) → is_named_kind (kind_of k) ≡ is_named k
-named_is ByName = refl
-named_is _ = refl
+named_is s = grind arith
 
 -- the last field
 pub alone_part_is : {T : Type 0} (s : ProgramForm T)
@@ -165,10 +153,7 @@ alone_part_is {T} s = ap last_part (field_part_is s) ∙ by_field (program_field
 stands : (k : FieldKind) (own others : List Names)
     → may_stand (kind_of k) (are_all_apart own others) (list_all (λ names. false) others)
     ≡ may_follow k own others
-stands ByName own others = refl
-stands (OneWord stops) own (names ∷ others) = refl
-stands (EachWord stops) own (names ∷ others) = refl
-stands _ own [] = refl
+stands s own others = grind arith
 
 -- a field before others
 pub both_part_is : {A B : Type 0} (own others : List Names) (s : ProgramForm A) (t : ProgramForm B)
@@ -195,8 +180,7 @@ both_part_is {A} {B} own others s t =
 -- a constructor
 pub con_part_is : {A B : Type 0} (f : Closure A B) (s : ProgramForm A)
     → made_part (part_of s) ≡ part_of (program_con f s)
-con_part_is f no_program = refl
-con_part_is f _ = refl
+con_part_is f s = grind arith
 
 module _ {P T : Type 0} (of : P → Grammar T) where
   -- one parser more is chosen last
@@ -218,8 +202,7 @@ module _ {P T : Type 0} (of : P → Grammar T) where
   -- and of the first alone it is that one
   pub first_is : (ps : List P) (d : P) → 1 ≤ length ps
       → choices_of of (take 1 ps) ≡ of (slice_index_or ps 0 d)
-  first_is [] d some = absurd (omega arith)
-  first_is (p ∷ ps) d some = refl
+  first_is xs d some = grind arith
 
   -- what is listed of it, as its keys are or its words, is that of all
   pub choices_listed : {X : Type 0} (list : Grammar T → List X) → list (choices_of of []) ≡ []
