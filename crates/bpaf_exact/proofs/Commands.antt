@@ -8,11 +8,11 @@ use Rattle.std.proofs.lemmas.Bool.{and_parts, not-false, cases_lt, eqb-true, not
 use Rattle.std.proofs.{lemmas.Bool.le-leb, lemmas.Bool.lt-ltb, lemmas.List.Folds.list_any-append}
 use Rattle.std.specs.Prelude.{MatchBool}
 use Rattle.bpaf_base.specs.{Items.is_command_word, Items.any_item, declared.arg.Arg.Arg}
-use Rattle.bpaf_line.specs.Situation.{open_count, Situation, is_taken, item_in}
-use Rattle.bpaf_line.proofs.Places.{present_in_line, open_has_item}
 use Rattle.bpaf_line.specs.Messages.{is_wrong_input, is_memory, Combines}
+use Rattle.bpaf_line.specs.Situation.{Situation, is_taken, item_in}
 use Rattle.bpaf_line.specs.Taking.{ConflictsSaved, open_item, IsWinner}
 use Rattle.bpaf_line.specs.{declared.error.Message.Message, declared.error.Error.Error}
+use Rattle.bpaf_line.proofs.Places.{present_in_line, open_has_item}
 use Rattle.bpaf_laws.proofs.ChoiceLaws.{chosen_at_equal, not_winner, of_chosen}
 use Rattle.bpaf_laws.specs.Choice.{ChoiceOutcome, BranchesEval, EqualDepths, branch_of, Winner}
 use Rattle.bpaf_laws.specs.{Choice.Chosen, Choice.depth, Choice.OneOk, Combinators.is_untouched}
@@ -25,19 +25,17 @@ use Rattle.bpaf_exact.proofs.Classes.{combined_missing, combined_refused, is_mis
 use Rattle.bpaf_exact.proofs.Cuts.{both_nil, not_left, Union, owner}
 use Rattle.bpaf_exact.proofs.{Names.apart_second, Names.apart_first, Places.match_of, Places.Match}
 use Rattle.bpaf_exact.proofs.{Wrappers.closed_keeps, Classes.memory_class}
-use Rattle.bpaf_exact.specs.Flat.{present_count, optional_none, AlternativeOk, optional_some, cells}
-use Rattle.bpaf_exact.specs.Flat.{either_value, OptionalEval, optional_err, FirstUnread, TakesFirst}
-use Rattle.bpaf_exact.specs.Flat.{ErrorClass, IsWholeIn, Variables, OfMissing, none_here, OfMemory}
-use Rattle.bpaf_exact.specs.Flat.{optional_memory, AlternativeErr, AlternativeLaw, nothing_found}
-use Rattle.bpaf_exact.specs.Flat.{first_cells, NonePresent, ClosedValue, is_missing, ClosedEval}
+use Rattle.bpaf_exact.specs.Flat.{optional_some, either_value, OptionalEval, FirstUnread, IsWholeIn}
+use Rattle.bpaf_exact.specs.Flat.{is_missing, ClosedEval, Variables, OfMissing, none_here, OfMemory}
+use Rattle.bpaf_exact.specs.Flat.{no_place, AgreesOn, Refused, Closure, Steady, cells, class, Stops}
+use Rattle.bpaf_exact.specs.Flat.{first_cells, NonePresent, ClosedValue, TakesFirst, ErrorClass}
 use Rattle.bpaf_exact.specs.Flat.{alternative_missing, alternative_refused, alternative_memory}
-use Rattle.bpaf_exact.specs.Flat.{no_place, AgreesOn, Refused, Closure, Steady, class, Stops}
-use Rattle.bpaf_exact.specs.Pieces.{is_own_role, takes_later, TakesPiece, LinePiece, takes_one, One}
-use Rattle.bpaf_exact.specs.Pieces.{takes_two, either, is_own, pieces, Cells, Apart, Roles, mine}
+use Rattle.bpaf_exact.specs.Flat.{AlternativeErr, AlternativeLaw, optional_none, AlternativeOk}
+use Rattle.bpaf_exact.specs.Pieces.{is_own_role, takes_later, TakesPiece, LinePiece, takes_one}
+use Rattle.bpaf_exact.specs.Pieces.{takes_two, either, is_own, pieces, Cells, Apart, Roles}
 use Rattle.bpaf_exact.specs.ProgramForm.{OptionalCommands, FindsNoCommand, ChoiceValue, CommandsLaw}
 use Rattle.bpaf_exact.specs.ProgramForm.{ProgramTook, opens_later, CellsValue, ProgramLaw, Opens}
 use Rattle.bpaf_exact.specs.ProgramForm.{WordsApart, opens_here, OpensNone}
-use Rattle.bpaf_exact.specs.Pieces.{Two}
 
 -- the same scope of the same line
 pub record SameScope (m n : Situation) : Type 0 where
@@ -136,10 +134,7 @@ data Other (T : Type 0) (qb : Roles) (vb : LinePiece → T → Type 0) (cs cm : 
 -- where one has a piece so have both
 some_both : {p q r : Roles} {T : Type 0} {v : LinePiece → T → Type 0} → Union p q r → (cs : Cells)
     → FirstUnread T p v cs → pieces r cs ≡ [] → ⊥
-some_both {p} u cs z e =
-    let none : pieces p cs ≡ [] = sym (mine_of_both u cs) ∙ ap (mine p) e in
-    let some = z.2 in
-    cc
+some_both u cs z e = grind (arith, mine_of_both)
 
 -- the first of some pieces
 some_head : (os : List LinePiece) → (os ≡ [] → ⊥)
@@ -202,8 +197,7 @@ module _ {env : Variables} {T : Type 0} {a b : Outcome T} {qa qb : Roles}
 
   -- a piece of the second isn't the first's
   own_role : (o : LinePiece) → is_own qb o ≡ true → is_own qa o ≡ false
-  own_role (One k) h = ap is_own_role (apart.right k h)
-  own_role (Two k w) h = ap is_own_role (apart.right k h)
+  own_role x h = grind arith
 
   -- a piece of the first means what it means to the first
   same_first : (o : LinePiece) (v : T) → is_own qa o ≡ true → vr o v ≡ va o v
@@ -240,16 +234,13 @@ module _ {env : Variables} {T : Type 0} {a b : Outcome T} {qa qb : Roles}
   -- both branches leave the path as it was
   err_path : {q : Roles} {v : LinePiece → T → Type 0} {s n : Situation} (e : Error)
       → is_memory e.0 ≡ false → AlternativeErr T q v s (class e) n → n.path ≡ s.path
-  err_path e h (alternative_memory c) = absurd (not_memory e.0 h c)
-  err_path e h (alternative_missing c p same st) = st.path
-  err_path e h (alternative_refused c p z) = p
+  err_path e h x = grind (arith, not_memory)
 
   -- an alternative leaves the path as it was
   law_path : {z : Outcome T} {q : Roles} {v : LinePiece → T → Type 0} → AlternativeLaw env T z q v
       → (s : Situation) {n : Situation} (r : Result T Error) → IsWholeIn env s → z s r n
       → IsNotMemory r → n.path ≡ s.path
-  law_path l s {n} (Ok x) w o h = (l.keeps.ok s n x w o).steady.path
-  law_path l s {n} (Err e) w o h = err_path e h (l.keeps.err s n e w o)
+  law_path l s x w o h = grind (arith, err_path)
 
   -- and both are equally deep
   equally_deep : {s t : Situation} {r : Result T Error} → IsWholeIn env s
@@ -262,12 +253,7 @@ module _ {env : Variables} {T : Type 0} {a b : Outcome T} {qa qb : Roles}
   -- an alternative that answered took something
   never_untouched : {q : Roles} {v : LinePiece → T → Type 0} {s m : Situation} {x : T}
       → AlternativeOk T q v s x m → is_untouched s m ≡ true → ⊥
-  never_untouched {s} {m} o e =
-      let same : open_count m ≡ open_count s = eqb-true (open_count m) (open_count s) e in
-      let fewer = takes_fewer o.takes in
-      let before = open_present s in
-      let after = open_present m in
-      absurd (omega arith)
+  never_untouched o e = grind (arith, eqb-true, open_present, takes_fewer)
 
   -- the winner's value, where both answered
   winner_ok : {s sa sb t : Situation} {x y : T} (v : T) (winner : Bool × Option ℕ) → IsWholeIn env s
@@ -477,12 +463,7 @@ module _ {env : Variables} {T : Type 0} {inner : Outcome T} {r : Roles} {words :
   optional_refuses : (s t : Situation) (e : Error) → IsWholeIn env s
       → OptionalEval T inner s (Err e) t → (u : Option T) → optional (cells s) u
       → class e ≡ OfMemory
-  optional_refuses s t e w (optional_err i goes) (Some x) h = l.program.keeps.err s t e w i x h
-  optional_refuses s t e w (optional_err i goes) None n =
-      ⊎_elim (λ memory. memory) (λ found. absurd (goes (nothing_found found.0
-      (open_present t ∙ ap present_count found.1 ∙ sym (open_present s)))))
-      (l.none.err s t e w i (none_opens n))
-  optional_refuses s t e w (optional_memory m) u h = m
+  optional_refuses s t e w x u h = grind (arith, none_opens, open_present)
 
   -- the laws
   pub optional_commands : ProgramLaw env (Option T) (OptionalEval T inner) r optional
@@ -493,8 +474,7 @@ module _ {env : Variables} {T : Type 0} {inner : Outcome T} {r : Roles} {words :
     where
       by_value : (q : Roles) {cs : Cells} (v : Option T)
           → ((x : T) → value cs x → pieces q cs ≡ []) → optional cs v → pieces q cs ≡ []
-      by_value q (Some x) f h = f x h
-      by_value q None f n = none_own q n
+      by_value q x f h = grind (arith, none_own)
 
 -- A choice of commands.
 
@@ -628,12 +608,7 @@ module _ {env : Variables} {T : Type 0} {a b : Outcome T} {ra rb : Roles} {wa wb
   -- it is no wrong input beside a value, nor is its path longer, so no refusal is chosen
   never_refused : {s m n t : Situation} {x : T} {e g : Error} → depth s ≤ depth m → Passed s e n
       → Chosen s (Ok x) m (Err e) n (Err g) t → ⊥
-  never_refused less k (inl deeper) = let given = deeper.1 in cc
-  never_refused less k (inr (inl deeper)) =
-      let same = ap length k.2 in let more = deeper.0 in absurd (omega arith)
-  never_refused {s} {m} {e} less k (inr (inr equal)) = ⊎_elim
-      (λ o. true≢false (sym (and_parts (is_untouched s m) (is_wrong_input e.0) o.0).1
-      ∙ missing_input e.0 (is_missing_of e.0 k.0))) (λ o. let h = o.1.0 in cc) equal.1
+  never_refused less k x = grind (arith, and_parts, is_missing_of, missing_input)
 
   -- where the first has a value none is
   first_fails : (s : Situation) {sa sb t : Situation} (x y : Result T Error) {g : Error} {u : T}

@@ -6,15 +6,15 @@ use Rattle.std.proofs.Common.{refl, true, ◌++◌, inl, inr, not, sym, ◌<◌,
 use Rattle.std.proofs.lemmas.List.Elements.{filter-append, All-cons, All-nil}
 use Rattle.std.proofs.{lemmas.Bool.false_from_ne_true, lemmas.List.append_assoc, Common.ℕ}
 use Rattle.std.specs.List.{AllPass}
-use Rattle.bpaf_base.specs.declared.arg.Arg.TheVariants.{ArgWord, Word}
-use Rattle.bpaf_base.specs.{declared.arg.Arg.Arg, Items.is_positional}
+use Rattle.bpaf_base.specs.{declared.arg.Arg.TheVariants.ArgWord, declared.arg.Arg.Arg}
+use Rattle.bpaf_base.specs.Items.{is_positional}
 use Rattle.bpaf_exact.specs.Flat.{NonePresent, first_later, TakesFirst, none_here, first_one}
 use Rattle.bpaf_exact.specs.Pieces.{takes_argument, TakesPieces, begin_piece, either_role, WithNext}
-use Rattle.bpaf_exact.specs.Pieces.{takes_more, takes_none, TakesPiece, LinePiece, takes_one, Alone}
-use Rattle.bpaf_exact.specs.Pieces.{Foreign, at_end, either, is_key, is_own, others, passed, pieces}
-use Rattle.bpaf_exact.specs.Pieces.{empty_stays, is_own_role, other_stays, takes_later, takes_flag}
+use Rattle.bpaf_exact.specs.Pieces.{takes_none, TakesPiece, takes_flag, LinePiece, takes_one, Alone}
+use Rattle.bpaf_exact.specs.Pieces.{IsNamed, at_end, either, is_key, is_own, others, passed, pieces}
+use Rattle.bpaf_exact.specs.Pieces.{empty_stays, is_own_role, other_stays, takes_later, takes_more}
 use Rattle.bpaf_exact.specs.Pieces.{Apart, Cells, Roles, Takes, Role, flag, mine, word, Cut, One}
-use Rattle.bpaf_exact.specs.Pieces.{takes_two, with_next, argument, is_value, no_cells, IsNamed}
+use Rattle.bpaf_exact.specs.Pieces.{takes_two, with_next, argument, is_value, no_cells, Foreign}
 use Rattle.bpaf_exact.specs.ProgramForm.{HoldsTogether, is_word_alone, HasItsValue, EndsInKey}
 use Rattle.bpaf_exact.specs.{Flat.first_two, Flat.no_place, Flat.IsWords, Pieces.Two}
 
@@ -29,11 +29,7 @@ word_not_key x h = grind arith
 -- an item of a named field is no value
 pub own_not_value : {q : Roles} (k : Arg) → IsNamed q → is_own_role (q k) ≡ true
     → is_value k ≡ false
-own_not_value {q} (ArgWord t) n h = let e : is_own_role (q (ArgWord t))
-    ≡ false = ap is_own_role (n.only_keys (ArgWord t) refl) in cc
-own_not_value {q} (Word t) n h =
-    let e : is_own_role (q (Word t)) ≡ false = ap is_own_role (n.only_keys (Word t) refl) in cc
-own_not_value _ n h = refl
+own_not_value x n h = grind arith
 
 -- a value belongs to no named field
 pub value_foreign : {q : Roles} {w : Arg} → IsNamed q → is_value w ≡ true → q w ≡ Foreign
@@ -46,9 +42,7 @@ word_foreign {w} n h = n.only_keys w (word_not_key w h)
 -- alike pieces behind an item, and alike items next to it, make alike pieces
 begin_cong : (x : Role) (k : Arg) (cs ds : Cells) {os ps : List LinePiece}
     → with_next k ds ≡ with_next k cs → ps ≡ os → begin_piece x k ds ps ≡ begin_piece x k cs os
-begin_cong Foreign k cs ds h e = e
-begin_cong Alone k cs ds h e = ap (λ z. One k ∷ z) e
-begin_cong WithNext k cs ds h e = cc
+begin_cong x k cs ds h e = grind arith
 
 -- an item begins a piece by its role
 pub begin_at : {x y : Role} (k : Arg) (cs : Cells) (os : List LinePiece) → x ≡ y
@@ -58,8 +52,7 @@ begin_at k cs os e = ap (λ z. begin_piece z k cs os) e
 -- where no piece begins there is none behind
 pub nil_rest : (x : Role) (k : Arg) (cs : Cells) {os : List LinePiece} → begin_piece x k cs os ≡ []
     → os ≡ []
-nil_rest Foreign k cs e = e
-nil_rest _ k cs e = cc
+nil_rest x k cs e = grind arith
 
 -- and the item isn't the field's own
 pub nil_foreign : (x : Role) (k : Arg) (cs : Cells) (os : List LinePiece)
@@ -69,12 +62,7 @@ nil_foreign x k cs os e = grind arith
 -- taking a piece leaves what a key before it has next to it
 pub same_next : {q : Roles} (k : Arg) {cs ds : Cells} {o : LinePiece} → IsNamed q
     → TakesPiece q cs o ds → with_next k ds ≡ with_next k cs
-same_next k n (takes_one {k = j} e) =
-    sym (ap (λ b. if b then Two k j else One k) (own_not_value j n (ap is_own_role e)))
-same_next k n (takes_two {k = j} e v) =
-    sym (ap (λ b. if b then Two k j else One k) (own_not_value j n (ap is_own_role e)))
-same_next k n (takes_later {c = None} t) = refl
-same_next k n (takes_later {c = Some j} t) = refl
+same_next k n x = grind (arith, own_not_value)
 
 -- What one takes of its own leaves the pieces of another as they are.
 pub keeps_other : {q r : Roles} {cs ds : Cells} {o : LinePiece} → IsNamed q → IsNamed r → Apart q r
@@ -102,17 +90,13 @@ either_right x e = grind arith
 
 -- an item of the one is of the same role to both
 pub either_own : (x y z : Role) → x ≡ z → is_own_role z ≡ true → either_role x y ≡ z
-either_own Foreign y Foreign e h = cc
-either_own Foreign y _ e h = cc
-either_own _ y z e h = e
+either_own x y z e h = grind arith
 
 -- an item begins a piece where it is the field's own
 own_begin : (x : Role) (k : Arg) (cs : Cells) (o : LinePiece) {os ps : List LinePiece}
     → (is_own_role x ≡ true → begin_piece x k cs os ≡ o ∷ os) → os ≡ ps
     → begin_piece x k cs os ≡ (if is_own_role x then (o ∷ ps) else ps)
-own_begin Foreign k cs o f h = h
-own_begin Alone k cs o f h = f refl ∙ ap (λ z. o ∷ z) h
-own_begin WithNext k cs o f h = f refl ∙ ap (λ z. o ∷ z) h
+own_begin x k cs o f h = grind arith
 
 -- the pieces of a field's own are those of the cut that begin with its keys
 pub pieces_of_cut : {q : Roles} (r : Roles) {cs : Cells} {os : List LinePiece} → IsNamed q
@@ -285,15 +269,11 @@ NoKeys r = (k : Arg) → r k ≡ Foreign
 
 -- an item of a positional field is a word
 word_of : {q : Roles} (k : Arg) → IsWords q → q k ≡ Alone → is_positional k ≡ true
-word_of k n e =
-    elim (is_positional k) as (λ b. (if b then Alone else Foreign) ≡ Alone → b ≡ true)
-    [ true ↦ λ h. refl | false ↦ λ h. cc ] (sym (n.words k) ∙ e)
+word_of k n e = grind arith
 
 -- and a piece by itself
 pub never_two : {q : Roles} {k : Arg} → IsWords q → q k ≡ WithNext → ⊥
-never_two {k} n e =
-    elim (is_positional k) as (λ b. (if b then Alone else Foreign) ≡ WithNext → ⊥)
-    [ true ↦ λ h. cc | false ↦ λ h. cc ] (sym (n.words k) ∙ e)
+never_two n e = grind arith
 
 -- its pieces are ones of a cut by no keys
 pub words_cut : {q r : Roles} → IsWords q → NoKeys r → CutsOff q r
@@ -336,11 +316,7 @@ first_takes (first_later n t) = takes_later (first_takes t)
 -- a key and its value are one piece
 pub pair_pieces : {q : Roles} {k w : Arg} (cs : Cells) → IsNamed q → q k ≡ WithNext
     → is_value w ≡ true → pieces q (Some k ∷ (Some w ∷ cs)) ≡ Two k w ∷ pieces q cs
-pair_pieces {q} {k} {w} cs n e v =
-    let a = begin_at k (Some w ∷ cs) (pieces q (Some w ∷ cs)) e in
-    let b = begin_at w cs (pieces q cs) (value_foreign n v) in
-    let c = ap (λ b. if b then Two k w else One k) v in
-    cc
+pair_pieces cs n e v = grind (arith, begin_at, value_foreign)
 
 -- The first piece heads the list.
 pub first_pieces : (q : Roles) {cs ds : Cells} {o : LinePiece} → IsNamed q → TakesFirst q cs o ds
@@ -442,19 +418,13 @@ takes_left u (takes_later t) = takes_later (takes_left u t)
 
 -- a piece is its key's
 pub own_next : (q : Roles) (k : Arg) (cs : Cells) → is_own q (with_next k cs) ≡ is_own_role (q k)
-own_next q k (Some w ∷ cs) =
-    elim (is_value w) as (λ b. is_own q (if b then Two k w else One k) ≡ is_own_role (q k))
-    [ true ↦ refl | false ↦ refl ]
-own_next q k _ = refl
+own_next q k xs = grind arith
 
 -- the key of the piece that an item begins
 head_key : (q : Roles) (x : Role) (k : Arg) (cs : Cells) (os : List LinePiece) (o : LinePiece)
     {ps : List LinePiece} → is_own_role x ≡ true → begin_piece x k cs os ≡ o ∷ ps
     → is_own q o ≡ is_own_role (q k)
-head_key q Foreign k cs os o h e = absurd cc
-head_key q Alone k cs os o h e = let d : One k ≡ o = cc in ap (is_own q) (sym d)
-head_key q WithNext k cs os o h e =
-    let d : with_next k cs ≡ o = cc in ap (is_own q) (sym d) ∙ own_next q k cs
+head_key q x k cs os o h e = grind (arith, own_next)
 
 -- what an item is to each of two fields
 pub data Belongs (qa qb r : Roles) (k : Arg) : Type 0 where
@@ -672,10 +642,7 @@ module _ (r : Roles) (n : IsNamed r) where
   -- a key is one of the record's
   own_key : {before after : Cells} {os : List LinePiece} {k : Arg} → Item before k after os
       → is_key k ≡ true → is_own_role (r k) ≡ true
-  own_key (flag_key e) h = ap is_own_role e
-  own_key (argument_key e i) h = ap is_own_role e
-  own_key {k} (value_of_key v i) h = let f = value_not_key k v in cc
-  own_key {k} (positional p) h = let f = word_not_key k p in cc
+  own_key x h = grind (arith, value_not_key, word_not_key)
 
   -- an argument's key has its value
   own_value : {before after : Cells} {os : List LinePiece} {k : Arg} → Item before k after os

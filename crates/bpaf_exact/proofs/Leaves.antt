@@ -1,20 +1,20 @@
 -- Flags, arguments, positional words and kept values keep to the laws.
-use Rattle.std.proofs.Common.{Result, arith, false, subst, Bool, List, None, Some, refl, take, true}
-use Rattle.std.proofs.Common.{◌&&◌, ◌++◌, ◌||◌, Err, inl, inr, map, not, sym, ◌∙◌, ◌∷◌, ◌≡◌, ◌⊎◌, ℕ}
-use Rattle.std.proofs.Common.{option_and_then, if◌then◌else◌, true≢false, add-one, ⊎_elim, Option}
-use Rattle.std.proofs.{Common.Ok, Common.[], Common.ap, lemmas.Bool.and_parts}
+use Rattle.std.proofs.Common.{option_and_then, add-one, Result, ⊎_elim, Option, arith, false, subst}
+use Rattle.std.proofs.Common.{Bool, List, None, Some, refl, true, ◌&&◌, ◌++◌, ◌||◌, Err, inl, inr}
+use Rattle.std.proofs.Common.{map, not, sym, ◌∙◌, ◌∷◌, ◌≡◌, ◌⊎◌, Ok, [], ap, ℕ}
+use Rattle.std.proofs.lemmas.Bool.{and_parts}
 use Rattle.std.specs.Option.{IsSomeRelated, option_map_or, is_none, is_some}
 use Rattle.bpaf_base.specs.declared.arg.Arg.TheVariants.{PosWord, Word}
 use Rattle.bpaf_base.specs.Items.{is_positional, is_key_of, item_text, word_text}
 use Rattle.bpaf_base.specs.declared.arg.Arg.{Arg}
 use Rattle.bpaf_doc.specs.{Names.Names, Shape.Part}
 use Rattle.bpaf_text.specs.Named.{argument_part, KeyWithValue, Named as Key, flag_part}
-use Rattle.bpaf_line.specs.declared.error.Message.TheVariants.{ParseFailed, NoArgument, Missing}
-use Rattle.bpaf_line.specs.declared.error.Message.TheVariants.{Memory, NoEnv}
-use Rattle.bpaf_line.proofs.Places.{open_item_there}
+use Rattle.bpaf_line.specs.declared.error.Message.TheVariants.{ParseFailed, NoArgument, Memory}
 use Rattle.bpaf_line.specs.Taking.{TakesFlag, TakesText, HasNone}
 use Rattle.bpaf_line.specs.{Situation.with_current, Situation.Situation, declared.error.Error.Error}
+use Rattle.bpaf_line.specs.declared.error.Message.TheVariants.{NoEnv}
 use Rattle.bpaf_line.specs.declared.error.Message.{Message}
+use Rattle.bpaf_line.proofs.Places.{open_item_there}
 use Rattle.bpaf_laws.specs.Leaves.{TakesKeyWithText, ArgumentOutcome, ArgumentFails, ReadsVariable}
 use Rattle.bpaf_laws.specs.Leaves.{TakesOwnText, TakesBefore, FlagOutcome, IsNowhere, LacksText}
 use Rattle.bpaf_laws.specs.Leaves.{TakesKeysWithTexts, is_key_with_value, value_without_key}
@@ -31,10 +31,10 @@ use Rattle.bpaf_exact.proofs.{Wrappers.took_front, Wrappers.gap_empty, Classes.m
 use Rattle.bpaf_exact.proofs.Product.{steady_refl}
 use Rattle.bpaf_exact.specs.Flat.{alternative_missing, alternative_refused, alternative_memory, Gap}
 use Rattle.bpaf_exact.specs.Flat.{AlternativeErr, AlternativeOk, catch_missing, first_later, ByName}
-use Rattle.bpaf_exact.specs.Flat.{TakesAny, of_piece, EachWord, OfMemory, OneWord, FrontOf, Refused}
+use Rattle.bpaf_exact.specs.Flat.{EachWord, OfMemory, class_of, SingleOk, OneWord, FrontOf, Refused}
 use Rattle.bpaf_exact.specs.Flat.{first_one, first_two, FieldKind, OfMissing, Variables, is_behind}
 use Rattle.bpaf_exact.specs.Flat.{Caught, Steady, Groups, gap_of, cells, class, front, back, took}
-use Rattle.bpaf_exact.specs.Flat.{SingleErr, SingleLaw, of_absent, of_memory, class_of, SingleOk}
+use Rattle.bpaf_exact.specs.Flat.{SingleErr, SingleLaw, of_absent, of_memory, TakesAny, of_piece}
 use Rattle.bpaf_exact.specs.Flat.{catch_other, gave_absent, TakesFirst, WordByWord, of_missing}
 use Rattle.bpaf_exact.specs.ProgramForm.{argument_field, argument_group, argument_roles, flag_field}
 use Rattle.bpaf_exact.specs.ProgramForm.{flag_roles, pure_field, word_fault, CellsValue, FlagValue}
@@ -48,8 +48,7 @@ use Rattle.bpaf_exact.specs.{ProgramForm.FormLaw, ProgramForm.word_by, Says.of_k
 -- a refusal that names a missing item says that items are missing
 misses : (s : Situation) (part : Option Part) (m : Message) → MissesItem s part m
     → class_of m ≡ OfMissing
-misses s part (Missing items) o = refl
-misses s part other o = absurd o
+misses s part other o = grind arith
 
 -- so does that of a key, or without a place on the line that no name in the environment is set
 pub absence_class : (s : Situation) (part : Option Part) (envs : List (List ℕ)) (m : Message)
@@ -611,10 +610,7 @@ word_is _ strict text e = absurd cc
 -- a field that stops takes none behind `--`
 passed_by : (b : Bool) → b ≡ true → (o : LinePiece) (os : List LinePiece) → is_behind o ≡ true
     → front (OneWord b) (o ∷ os) ≡ []
-passed_by true h o os behind =
-    ap (take 1) (each_front true o os
-    ∙ ap (λ z. if not z then (o ∷ front (EachWord true) os) else []) behind)
-passed_by false h o os behind = absurd cc
+passed_by b h o os behind = grind (arith, each_front)
 
 -- a positional
 module _ {T : Type 0} {b : Bool} {value : LinePiece → T → Type 0}
@@ -718,8 +714,7 @@ module _ {T : Type 0} {b : Bool} {value : LinePiece → T → Type 0}
 -- where no word behind `--` is accepted, one that is stands before it
 pub stands_before : (accepts : Bool → Bool) → not (accepts true) ≡ true → (behind : Bool)
     → accepts behind ≡ true → behind ≡ false
-stands_before accepts stops true on = absurd (true≢false (sym stops ∙ ap not on))
-stands_before accepts stops false on = refl
+stands_before accepts stops b on = grind arith
 
 -- a positional keeps to the laws of its form
 pub word_by_law : (env : Variables) (T : Type 0) (accepts : Bool → Bool)

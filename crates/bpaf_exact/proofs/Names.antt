@@ -89,19 +89,12 @@ named_key names x h = grind arith
 
 -- two tests that hold of the same are one
 same_truth : (a b : Bool) → (a ≡ true → b ≡ true) → (b ≡ true → a ≡ true) → a ≡ b
-same_truth true b f g = sym (f refl)
-same_truth false true f g = g refl
-same_truth false false f g = refl
+same_truth b c f g = grind arith
 
 -- of two tests of which each holds where one of two others does, that don't both hold, each is that
 shared : (a b x y : Bool) → (a || b) ≡ (x || y) → (a ≡ true → x ≡ true) → (b ≡ true → y ≡ true)
     → (x ≡ true → y ≡ true → ⊥) → (a ≡ x) × (b ≡ y)
-shared true b x y e f g never =
-    let h = f refl in (sym h, same_truth b y g (λ t. absurd (never h t)))
-shared false true x y e f g never =
-    let h = g refl in (same_truth false x f (λ t. absurd (never t h)), sym h)
-shared false false true y e f g never = absurd cc
-shared false false false y e f g never = (refl, e)
+shared b c x y e f g never = grind (arith, same_truth)
 
 -- Filters.
 
@@ -194,8 +187,7 @@ module _ {q r : Roles} {own behind : List Names} (owned : Owns q own) (owned_beh
     (apart : are_all_apart own behind ≡ true) where
   -- one of both is one of either
   either_is : (o : LinePiece) → is_own (either q r) o ≡ (is_own q o || is_own r o)
-  either_is (One k) = either_own (q k) (r k)
-  either_is (Two k w) = either_own (q k) (r k)
+  either_is x = grind (arith, either_own)
 
   -- each has its own
   pub both_fits : (os : List LinePiece) → Fits (own ++ behind) (either q r) os
@@ -228,27 +220,21 @@ taken_own (takes_argument e v t) = (ap is_own_role e, taken_own t)
 -- where each own item of the one is one of the other, its pieces are among the other's
 pub mine_within : (q r : Roles) → ((k : Arg) → is_own_role (q k) ≡ true → is_own_role (r k) ≡ true)
     → (os : List LinePiece) → mine q (mine r os) ≡ mine q os
-mine_within q r part =
-    kept_within (λ o e. own_first r o ∙ part (first_item o) (sym (own_first q o) ∙ e))
+mine_within q r part = grind (arith, kept_within, own_first)
 
 -- an own item of the first is one of either, and so is one of the second
 pub first_within : (q r : Roles) (k : Arg) → is_own_role (q k) ≡ true
     → is_own_role (either q r k) ≡ true
-first_within q r k =
-    elim (q k) as (λ x. is_own_role x ≡ true → is_own_role (either_role x (r k)) ≡ true)
-    [ Foreign ↦ λ e. absurd cc | _ ↦ λ e. refl ]
+first_within q r k = grind arith
 
 -- the second
 pub second_within : (q r : Roles) (k : Arg) → is_own_role (r k) ≡ true
     → is_own_role (either q r k) ≡ true
-second_within q r k =
-    elim (q k) as (λ x. is_own_role (r k) ≡ true → is_own_role (either_role x (r k)) ≡ true)
-    [ Foreign ↦ λ e. e | _ ↦ λ e. refl ]
+second_within q r k = grind arith
 
 -- what has no role to two has none to each
 none_of_both : (x : Role) {y : Role} → either_role x y ≡ Foreign → (x ≡ Foreign) × (y ≡ Foreign)
-none_of_both Foreign e = (refl, e)
-none_of_both _ e = absurd cc
+none_of_both x e = grind arith
 
 -- what is apart from two is apart from each
 pub apart_first : {p q : Roles} (r : Roles) → Apart p (either q r) → Apart p q
@@ -267,8 +253,7 @@ apart_second q {r} a = record {
 -- what is another's own isn't among one's own
 pub mine_of_others : (p q : Roles) → ((k : Arg) → is_own_role (q k) ≡ true → p k ≡ Foreign)
     → (os : List LinePiece) → mine q (others p os) ≡ mine q os
-mine_of_others p q apart = kept_within (λ o e. ap not (own_first p o ∙ ap is_own_role
-    (apart (first_item o) (sym (own_first q o) ∙ e))))
+mine_of_others p q apart = grind (arith, kept_within, own_first)
 
 module _ (q : Roles) (none : (k : Arg) → is_own_role (q k) ≡ false) where
   -- where no item is one's own, no piece is,
@@ -308,9 +293,7 @@ others_both q r = kept_twice (λ o. not (is_own r o)) (λ o. not (is_own q o))
 -- behind a positional field no item is another field's own
 pub none_behind : {r : Roles} (own behind : List Names) → Owns r behind
     → may_follow (OneWord false) own behind ≡ true → (k : Arg) → is_own_role (r k) ≡ false
-none_behind {r} own [] owned e k =
-    false_from_ne_true (is_own_role (r k)) (λ own. let none = owned.own k own in cc)
-none_behind own (names ∷ behind) owned e k = absurd cc
+none_behind own xs owned e k = grind (arith, false_from_ne_true)
 
 -- behind a positional field nothing begins with another's key
 pub no_fits : (r : Roles) (own behind : List Names) → may_follow (OneWord false) own behind ≡ true
@@ -399,8 +382,7 @@ front_nil x = grind arith
 
 -- where a field takes none it leaves all
 pub back_all : (k : FieldKind) {os : List LinePiece} → front k os ≡ [] → back k os ≡ os
-back_all ByName none = sym none
-back_all _ {os} none = ap (λ z. drop (length z) os) none
+back_all x none = grind arith
 
 -- where a field leaves none it takes all
 pub all_front : (k : FieldKind) {os : List LinePiece} → back k os ≡ [] → front k os ≡ os
@@ -417,8 +399,7 @@ each_nil _ os none = none
 
 -- and the other way
 pub nil_each : (k : FieldKind) (os : List LinePiece) → front (repeated k) os ≡ [] → front k os ≡ []
-nil_each (OneWord b) os none = ap (take 1) none
-nil_each _ os none = none
+nil_each x os none = grind arith
 
 -- where nothing but what a field leaves is left, none of a named field's keys is
 pub no_keys_left : (k : FieldKind) (q : Roles) (cs : Cells) (os : List LinePiece)
@@ -429,21 +410,14 @@ no_keys_left _ q cs os e = tt
 -- what a repeat takes, by whether it stops at the first piece
 pub each_front : (b : Bool) (o : LinePiece) (os : List LinePiece) → front (EachWord b) (o ∷ os)
     ≡ (if not (b && is_behind o) then (o ∷ front (EachWord b) os) else [])
-each_front false o os = refl
-each_front true o os = take_while-cons (λ o. not (is_behind o)) o os
+each_front b o os = grind (arith, take_while-cons)
 
 -- A first piece that a field may take: any, where it doesn't stop before one behind `--`.
 
 -- a repeat takes it, and what it takes of the others
 pub front_more : {b : Bool} {o : LinePiece} (os : List LinePiece) → (b ≡ true → is_behind o ≡ false)
     → front (EachWord b) (o ∷ os) ≡ o ∷ front (EachWord b) os
-front_more {b} {o} os clear =
-    each_front b o os
-    ∙ ap (λ z. if not z then (o ∷ front (EachWord b) os) else []) (goes_on b clear)
-  where
-    goes_on : (b : Bool) → (b ≡ true → is_behind o ≡ false) → b && is_behind o ≡ false
-    goes_on true clear = clear refl
-    goes_on false clear = refl
+front_more os clear = grind (arith, each_front)
 
 -- and leaves what it leaves of those
 pub back_more : {b : Bool} (o : LinePiece) (os : List LinePiece) → (b ≡ true → is_behind o ≡ false)
@@ -469,9 +443,4 @@ of_front_one b os o e = sym (front_back (OneWord b)) ∙ ap (λ z. z ++ back (On
 pub of_front_more : (b : Bool) (os : List LinePiece) (o : LinePiece) {rest : List LinePiece}
     → front (EachWord b) os ≡ o ∷ rest
     → (more : List LinePiece) × (os ≡ o ∷ more) × (rest ≡ front (EachWord b) more)
-of_front_more b [] o {rest} e =
-    let none : [] ≡ o ∷ rest = sym (front_nil (EachWord b)) ∙ e in absurd cc
-of_front_more b (x ∷ os) o {rest} e =
-    elim (b && is_behind x) as (λ z. (if not z then (x ∷ front (EachWord b) os) else []) ≡ o ∷ rest
-    → (more : List LinePiece) × (x ∷ os ≡ o ∷ more) × (rest ≡ front (EachWord b) more))
-    [ true ↦ λ e. absurd cc | false ↦ λ e. (os, cc, cc) ] (sym (each_front b x os) ∙ e)
+of_front_more b xs o e = grind (arith, each_front, front_nil)

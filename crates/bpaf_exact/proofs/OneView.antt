@@ -1,6 +1,6 @@
 -- Where closures can't tell apart what looks alike they agree, and a line's values look alike.
-use Rattle.std.proofs.Common.{Option, false, subst, Bool, List, None, Some, true, ◌&&◌, ◌||◌, refl}
-use Rattle.std.proofs.Common.{map, ◌∷◌, ◌≡◌, inl, inr, not, sym, ◌∙◌, [], ap, ℕ}
+use Rattle.std.proofs.Common.{Option, arith, false, subst, Bool, List, None, Some, true, ◌&&◌, ◌||◌}
+use Rattle.std.proofs.Common.{refl, map, ◌∷◌, ◌≡◌, inl, inr, not, sym, ◌∙◌, [], ap, ℕ}
 use Rattle.std.specs.{Option.IsSomeRelated, Option.is_none, Prelude.option_map, Global.Vec}
 use Rattle.bpaf_base.specs.Items.{item_text}
 use Rattle.bpaf_doc.specs.Names.{Names}
@@ -180,8 +180,7 @@ module _ {env : Variables} {T X : Type 0} {see : T → X} {inner : Outcome T} (k
   -- where there is no piece there is none
   none_single : {os : List LinePiece} {v : T} → os ≡ [] → gap.has ≡ false
       → SingleValue T group gap os v → ⊥
-  none_single {v} e h (inl g) = l.starts v [] (subst (λ z. group z v []) e g)
-  none_single {v} e h (inr f) = l.no_absent v h f.1
+  none_single e h x = grind arith
 
   -- what may be left out
   pub optional_value_view : (os : List LinePiece)

@@ -1,25 +1,24 @@
 -- From places to cells: the first wanted place, its piece, what is left; and how many are present.
-use Rattle.std.proofs.Common.{Bool, List, None, Option, Some, [], add-one, ap, arith, if◌then◌else◌}
-use Rattle.std.proofs.Common.{ap₂, false, length, not, option_and_then, refl, suc, true, zero, ◌&&◌}
-use Rattle.std.proofs.Common.{sym, ℕ, ◌+◌, ◌<◌, ◌||◌, ◌∙◌, ◌∷◌, ◌≡◌, ◌≢◌, ◌≤◌}
-use Rattle.std.proofs.lemmas.Bool.{and_right, both_ways, false_from_ne_true, true_from_ne_false}
-use Rattle.std.specs.Option.{is_some, option_map_or}
-use Rattle.bpaf_doc.specs.Names.{Names}
-use Rattle.bpaf_base.specs.declared.arg.Arg.TheVariants.{ArgWord, Word}
-use Rattle.bpaf_base.specs.Items.{any_item, is_key_of, value_text, item_text}
+use Rattle.std.proofs.Common.{option_and_then, if◌then◌else◌, add-one, Option, length, arith, false}
+use Rattle.std.proofs.Common.{Bool, List, None, Some, refl, true, zero, ◌||◌, ap₂, suc, sym, ◌+◌, ℕ}
+use Rattle.std.proofs.Common.{◌<◌, ◌∙◌, ◌∷◌, ◌≡◌, ◌≢◌, ◌≤◌, [], ap}
+use Rattle.std.proofs.lemmas.Bool.{false_from_ne_true, true_from_ne_false, and_right, both_ways}
+use Rattle.std.specs.Option.{option_map_or, is_some}
+use Rattle.bpaf_base.specs.Items.{value_text, is_key_of, item_text, any_item}
 use Rattle.bpaf_base.specs.declared.arg.Arg.{Arg}
+use Rattle.bpaf_doc.specs.Names.{Names}
 use Rattle.bpaf_index.proofs.BitSets.{count_below-same, count_below-some}
-use Rattle.bpaf_line.proofs.Places.{open_has_item, open_item_there, open_in_line, taken_here}
-use Rattle.bpaf_line.proofs.Places.{taken_other, taken_stays}
-use Rattle.bpaf_line.specs.Situation.{count_below, in_scope, is_open, is_taken, item_at, open_count}
-use Rattle.bpaf_line.specs.Situation.{Situation, take_place}
-use Rattle.bpaf_line.specs.Taking.{value_after, HasNone, IsFirst, is_match, open_item}
-use Rattle.bpaf_exact.proofs.{Cuts.begin_at, Names.named_key}
-use Rattle.bpaf_exact.specs.Pieces.{Alone, Cells, Foreign, LinePiece, One, Role, Roles, TakesPieces}
-use Rattle.bpaf_exact.specs.Pieces.{IsNamed, TakesPiece, Two, WithNext, is_key, is_own_role, pieces}
-use Rattle.bpaf_exact.specs.Pieces.{is_value, takes_later, takes_more, takes_none, with_next, Owns}
-use Rattle.bpaf_exact.specs.Flat.{TakesFirst, first_later, first_one, NotOwn, first_two}
-use Rattle.bpaf_exact.specs.Flat.{present_count, Steady, cells, first_cells}
+use Rattle.bpaf_line.proofs.Places.{open_item_there, open_has_item, open_in_line, taken_other}
+use Rattle.bpaf_line.specs.Situation.{count_below, open_count, take_place, Situation, in_scope}
+use Rattle.bpaf_line.specs.Taking.{value_after, open_item, is_match, HasNone, IsFirst}
+use Rattle.bpaf_line.proofs.Places.{taken_stays, taken_here}
+use Rattle.bpaf_line.specs.Situation.{is_taken, is_open, item_at}
+use Rattle.bpaf_exact.proofs.{Names.named_key, Cuts.begin_at}
+use Rattle.bpaf_exact.specs.Pieces.{TakesPieces, is_own_role, takes_later, TakesPiece, takes_more}
+use Rattle.bpaf_exact.specs.Pieces.{takes_none, LinePiece, with_next, WithNext, is_value, Foreign}
+use Rattle.bpaf_exact.specs.Pieces.{IsNamed, is_key, pieces, Alone, Cells, Roles, Role, Owns, One}
+use Rattle.bpaf_exact.specs.Flat.{present_count, first_later, first_cells, TakesFirst, first_one}
+use Rattle.bpaf_exact.specs.{Flat.first_two, Flat.NotOwn, Flat.Steady, Flat.cells, Pieces.Two}
 
 -- taking a place changes what is taken and the current place alone
 pub take_steady : {s : Situation} {p : ℕ} → Steady s (take_place s p)
@@ -116,8 +115,7 @@ take_two (suc n) (suc p) l e f h v none taken =
 -- an item that isn't the field's own heads no piece
 pub pass_head : (r : Roles) (c : Option Arg) (cs : Cells) → NotOwn r c
     → pieces r (c ∷ cs) ≡ pieces r cs
-pass_head r None cs n = refl
-pass_head r (Some x) cs n = begin_at x cs (pieces r cs) n
+pass_head r x cs n = grind (arith, begin_at)
 
 -- nothing of the field's own is present
 pub none_present : (r : Roles) (at : ℕ → Option Arg) (n : ℕ) → ((q : ℕ) → NotOwn r (at q))
@@ -135,14 +133,7 @@ pub record BareHead (r : Roles) (cs : Cells) (k : Arg) : Type 0 where
 bare_next : {k : Arg} (at : ℕ → Option Arg) (n : ℕ)
     → ((w : Arg) → at zero ≡ Some w → is_value w ≡ true → ⊥)
     → with_next k (first_cells at n) ≡ One k
-bare_next at zero none = refl
-bare_next {k} at (suc n) none = by_cell (at zero) none
-  where
-    by_cell : (c : Option Arg) → ((w : Arg) → c ≡ Some w → is_value w ≡ true → ⊥)
-        → with_next k (c ∷ first_cells (λ q. at (suc q)) n) ≡ One k
-    by_cell None f = refl
-    by_cell (Some w) f = ap (λ b. if b then Two k w else One k)
-        (false_from_ne_true (is_value w) (f w refl))
+bare_next at n none = grind (arith, false_from_ne_true)
 
 -- a key at the front
 bare_key : (r : Roles) {c : Option Arg} (k : Arg) (cs : Cells) → c ≡ Some k → r k ≡ WithNext
@@ -168,15 +159,12 @@ bare_first {r} {at} (suc n) (suc p) l e h none bare =
 
 -- nothing is open at a place that is taken
 pub closed_item : (s : Situation) (p : ℕ) → is_taken s p ≡ true → open_item s p ≡ None
-closed_item s p e = ap (λ b. if b then item_at s p else None)
-    (and_right (in_scope s p) (not (is_taken s p)) (ap not e))
+closed_item s p e = grind (arith, and_right)
 
 -- a place where as much is taken as before has the item that it had
 pub same_item : (s t : Situation) (p : ℕ) → in_scope t p ≡ in_scope s p → item_at t p ≡ item_at s p
     → is_taken t p ≡ is_taken s p → open_item t p ≡ open_item s p
-same_item s t p e f g =
-    ap₂ (λ a b. if (a && not b) then item_at t p else None) e g
-    ∙ ap (λ z. if is_open s p then z else None) f
+same_item s t p e f g = grind arith
 
 -- one place taken
 pub open_one : (s : Situation) (p : ℕ) → TakenOne (open_item s) (open_item (take_place s p)) p
@@ -283,9 +271,7 @@ pub record Behind (s : Situation) (p : ℕ) (text : List ℕ) : Type 0 where
 -- the text of a value is that of its item
 value_is : (w : Arg) {text : List ℕ} → value_text w ≡ Some text
     → (is_some (value_text w) ≡ true) × (item_text w ≡ text)
-value_is (ArgWord own) e = (refl, cc)
-value_is (Word own) e = (refl, cc)
-value_is _ e = absurd cc
+value_is x e = grind arith
 
 -- a text behind a key is that of an item there
 pub behind_of : (s : Situation) {p : ℕ} {text : List ℕ} → value_after s p ≡ Some text
@@ -310,11 +296,7 @@ behind_of s {p} {text} e =
 -- where no text is behind a key, no value is there
 none_behind : (s : Situation) (p : ℕ) → value_after s p ≡ None → (w : Arg)
     → open_item s (suc p) ≡ Some w → is_value w ≡ true → ⊥
-none_behind s p e w f v =
-    let g : value_text w ≡ None = sym (ap (option_and_then value_text) f)
-    ∙ (ap (λ q. option_and_then value_text (open_item s q)) (sym (add-one p)) ∙ e) in
-    let h : is_some (value_text w) ≡ false = ap is_some g in
-    cc
+none_behind s p e w f v = grind arith
 
 -- the first match, taken with the value behind it
 pub two_taken : {test : Arg → Bool} {r : Roles} (s : Situation) {p : ℕ} {text : List ℕ}

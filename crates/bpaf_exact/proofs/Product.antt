@@ -8,11 +8,11 @@ use Rattle.bpaf_line.specs.{Situation.with_current, Situation.Situation, declare
 use Rattle.bpaf_line.specs.Messages.{is_memory}
 use Rattle.bpaf_laws.specs.Product.{ProductOutcome, BothOutcome, joined}
 use Rattle.bpaf_laws.specs.Reading.{Outcome}
-use Rattle.bpaf_exact.proofs.Cuts.{words_of_cut, either_union, nil_foreign, union_named, named_cuts}
+use Rattle.bpaf_exact.proofs.Cuts.{either_right, word_foreign, nil_foreign, union_named, named_cuts}
 use Rattle.bpaf_exact.proofs.Cuts.{keeps_other_some, others_foreign, take_some_from, pieces_of_cut}
-use Rattle.bpaf_exact.proofs.Cuts.{put_back_some, value_foreign, either_right, word_foreign, Union}
-use Rattle.bpaf_exact.proofs.Cuts.{empty_cut, words_cut, begin_at, nil_rest, both_nil, own_next}
-use Rattle.bpaf_exact.proofs.Cuts.{swap_union, takes_left, some_trans, cut_empty, to_second}
+use Rattle.bpaf_exact.proofs.Cuts.{put_back_some, value_foreign, words_of_cut, either_union, Union}
+use Rattle.bpaf_exact.proofs.Cuts.{cut_empty, to_second, begin_at, nil_rest, both_nil, own_next}
+use Rattle.bpaf_exact.proofs.Cuts.{swap_union, takes_left, some_trans, empty_cut, words_cut}
 use Rattle.bpaf_exact.proofs.Cuts.{to_first, Belongs, belongs, to_none}
 use Rattle.bpaf_exact.proofs.Classes.{memory_class}
 use Rattle.bpaf_exact.specs.Flat.{FieldsReading, present_count, both_reading, NonePresent, FieldLaw}
@@ -20,11 +20,10 @@ use Rattle.bpaf_exact.specs.Flat.{ClosedValue, map_closure, ErrorClass, NoKeysLe
 use Rattle.bpaf_exact.specs.Flat.{FieldTook, FieldsLaw, IsWholeIn, Variables, none_here, HasValue}
 use Rattle.bpaf_exact.specs.Flat.{OfMemory, OwnItems, no_place, KeepsTo, portion, Before, ByName}
 use Rattle.bpaf_exact.specs.Flat.{Steady, cells, class, front, keys, left}
-use Rattle.bpaf_exact.specs.Pieces.{IsNamed, at_end, either, is_own, others, passed, pieces, Alone}
+use Rattle.bpaf_exact.specs.Pieces.{LinePiece, argument, no_roles, IsNamed, Foreign, at_end, either}
+use Rattle.bpaf_exact.specs.Pieces.{is_own, others, passed, pieces, Apart, Cells, Roles, Role, flag}
 use Rattle.bpaf_exact.specs.Pieces.{TakesPieces, begin_piece, is_own_role, takes_more, takes_none}
-use Rattle.bpaf_exact.specs.Pieces.{LinePiece, with_next, WithNext, argument, no_roles, Foreign}
-use Rattle.bpaf_exact.specs.Pieces.{Apart, Cells, Roles, Role, flag, mine, word, Cut, One}
-use Rattle.bpaf_exact.specs.ProgramForm.{last_reading}
+use Rattle.bpaf_exact.specs.{Pieces.mine, Pieces.word, Pieces.Cut, ProgramForm.last_reading}
 
 -- what isn't taken stays in the scope
 pub none_outside_after : {env : Variables} {s t : Situation} → IsWholeIn env s → Steady s t
@@ -124,8 +123,7 @@ none_left _ q n b c = tt
 -- a field's own pieces are its portion of the cut
 pub own_portion : (k : FieldKind) (q r : Roles) {cs : Cells} {os : List LinePiece} → OwnItems k q
     → Before k q r → Cut (either (keys k q) r) cs os → front k (pieces q cs) ≡ portion k q os
-own_portion ByName q r n b c = pieces_of_cut r n c
-own_portion k q r n b c = ap (front k) (words_of_cut n b c)
+own_portion k q r n b c = grind (arith, pieces_of_cut, words_of_cut)
 
 -- the cut after a field was evaluated
 pub step_on : (k : FieldKind) {q r : Roles} {cs ds : Cells} {os : List LinePiece} → OwnItems k q
@@ -354,13 +352,7 @@ module _ (p q r : Roles) (test : LinePiece → Bool) where
       → ((o : LinePiece) → is_own p o ≡ is_own_role (p k) → test o ≡ b)
       → filter test (begin_piece x k cs os)
       ≡ (if b then begin_piece x k cs (filter test os) else filter test os)
-  kept_begin Foreign k cs os true h = refl
-  kept_begin Foreign k cs os false h = refl
-  kept_begin Alone k cs os b h =
-      ap (λ c. if c then (One k ∷ filter test os) else filter test os) (h (One k) refl)
-  kept_begin WithNext k cs os b h =
-      ap (λ c. if c then (with_next k cs ∷ filter test os) else filter test os)
-      (h (with_next k cs) (own_next p k cs))
+  kept_begin x k cs os b h = grind (arith, own_next)
 
   -- and all
   kept_pieces : ((k : Arg) → Kept k) → (cs : Cells) → filter test (pieces r cs) ≡ pieces q cs

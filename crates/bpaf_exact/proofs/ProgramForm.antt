@@ -1,13 +1,13 @@
 -- Each parser keeps to the laws of its form to a program, where its inner parsers do, by its table
 -- too; so does an outcome that allows no more; and the theorem of exactness.
 use Rattle.std.proofs.Common.{if◌then◌else◌, append-nil, true≢false, slice_get, bytes_eq, Option, ℕ}
-use Rattle.std.proofs.Common.{◌++◌, ◌||◌, Bool, List, None, Some, Err, inl, inr, not, sym, ◌<◌, ◌∙◌}
-use Rattle.std.proofs.Common.{Result, length, ⊎_elim, arith, false, subst, refl, true, zero, ◌&&◌}
+use Rattle.std.proofs.Common.{None, Some, refl, true, zero, ◌&&◌, Err, inl, inr, not, sym, ◌<◌, ◌∙◌}
+use Rattle.std.proofs.Common.{Result, length, ⊎_elim, arith, false, subst, ◌++◌, ◌||◌, Bool, List}
 use Rattle.std.proofs.Common.{◌∷◌, ◌≡◌, ◌⊎◌, Ok, [], ap}
 use Rattle.std.proofs.lemmas.Bool.{false_from_ne_true, and_parts, le-leb, lt-ltb}
 use Rattle.std.proofs.lemmas.Slice.Eq.{bytes_eq-Decides}
-use Rattle.std.specs.{Option.option_map_or, List.list_all, Global.Vec}
-use Rattle.bpaf_base.specs.{Items.is_command_word, Items.command_word, declared.arg.Arg.Arg}
+use Rattle.std.specs.{List.list_all, Global.Vec}
+use Rattle.bpaf_base.specs.{Items.is_command_word, declared.arg.Arg.Arg}
 use Rattle.bpaf_doc.specs.Names.{Names}
 use Rattle.bpaf_line.specs.Situation.{Situation, beginning, is_marker, Context, item_in}
 use Rattle.bpaf_line.specs.{declared.error.Message.Message, declared.error.Error.Error}
@@ -33,23 +33,23 @@ use Rattle.bpaf_exact.specs.Flat.{FieldsReading, RepeatOutcome, OptionalValue, F
 use Rattle.bpaf_exact.specs.Flat.{closed_memory, guard_closure, optional_none, optional_some, class}
 use Rattle.bpaf_exact.specs.Flat.{parse_closure, both_reading, FallbackEval, OptionalEval, FieldLaw}
 use Rattle.bpaf_exact.specs.Flat.{fallback_err, optional_err, list_closure, some_closure, FieldKind}
-use Rattle.bpaf_exact.specs.Flat.{fallback_ok, ErrorClass, ClosedEval, closed_err, closed_yes, keys}
+use Rattle.bpaf_exact.specs.Flat.{fallback_no, ErrorClass, ClosedEval, closed_err, closed_yes, keys}
 use Rattle.bpaf_exact.specs.Flat.{fallback_memory, optional_memory, answer_closure, fallback_given}
-use Rattle.bpaf_exact.specs.Flat.{map_closure, NonePresent, SingleValue, ClosedValue, fallback_no}
+use Rattle.bpaf_exact.specs.Flat.{fallback_ok, map_closure, NonePresent, SingleValue, ClosedValue}
 use Rattle.bpaf_exact.specs.Flat.{FieldsLaw, IsWholeIn, Variables, SingleLaw, closed_no, OfMemory}
 use Rattle.bpaf_exact.specs.Flat.{class_of, repeated, KeepsTo, ReadOff, Refused, OwnList, Closure}
 use Rattle.bpaf_exact.specs.Flat.{Decides, Before, ByName, Caught, Groups, LastOf, Gap}
-use Rattle.bpaf_exact.specs.ProgramForm.{product_reading, program_command, program_dressed, FormLaw}
-use Rattle.bpaf_exact.specs.ProgramForm.{are_words_apart, program_choice, program_closed, completed}
+use Rattle.bpaf_exact.specs.ProgramForm.{program_command, program_dressed, are_words_apart, FormLaw}
+use Rattle.bpaf_exact.specs.ProgramForm.{before_commands, program_choice, program_closed, completed}
 use Rattle.bpaf_exact.specs.ProgramForm.{product_roles, program_alone, program_field, program_value}
-use Rattle.bpaf_exact.specs.ProgramForm.{RecordValue, run_refusal, RunsExactly, ProgramForm, Agrees}
-use Rattle.bpaf_exact.specs.ProgramForm.{alternative, choice_only, is_program, may_follow, NamedLaw}
+use Rattle.bpaf_exact.specs.ProgramForm.{ProgramForm, alternative, choice_only, program_con, Agrees}
+use Rattle.bpaf_exact.specs.ProgramForm.{whole_value, CommandEval, is_program, may_follow, NamedLaw}
 use Rattle.bpaf_exact.specs.ProgramForm.{no_program, program_if, CellsValue, ProgramLaw, WordsApart}
-use Rattle.bpaf_exact.specs.ProgramForm.{are_plain, IsNoValue, commands, complete, is_named, EndLaw}
+use Rattle.bpaf_exact.specs.ProgramForm.{run_value, is_record, commands, complete, is_named, EndLaw}
 use Rattle.bpaf_exact.specs.ProgramForm.{whole_program, IsSpelledLine, program_both, last_reading}
-use Rattle.bpaf_exact.specs.ProgramForm.{line_cells, run_memory, RunAnswer, run_value, is_record}
-use Rattle.bpaf_exact.specs.ProgramForm.{program_optional, IsAcceptedOrWant, before_commands}
-use Rattle.bpaf_exact.specs.ProgramForm.{run_leftover, program_con, whole_value, CommandEval}
+use Rattle.bpaf_exact.specs.ProgramForm.{line_cells, run_memory, are_plain, IsNoValue, RunAnswer}
+use Rattle.bpaf_exact.specs.ProgramForm.{program_optional, IsAcceptedOrWant, product_reading}
+use Rattle.bpaf_exact.specs.ProgramForm.{run_leftover, RecordValue, run_refusal, RunsExactly}
 use Rattle.bpaf_exact.specs.ProgramForm.{Accepted, product, IsExact, single, RunRan}
 use Rattle.bpaf_exact.specs.Pieces.{are_all_apart, LinePiece, no_roles, either, Roles, Owns, Cut}
 
@@ -99,8 +99,7 @@ all_whole = record { end = refl; front = λ p l. absurd (omega arith); environme
 
 -- no value is none
 pub no_value : {V : Type 0} (a : RunAnswer V) {v : V} → IsNoValue a → a ≡ Accepted v → ⊥
-no_value (Accepted x) n h = n
-no_value _ n h = cc
+no_value x n h = grind arith
 
 -- A run, by what the outcome answers at the beginning.
 module _ {V : Type 0} {outcome : Outcome V} {context : Context} (value : CellsValue V) where
@@ -255,13 +254,7 @@ program_optional_law {T} l =
 -- an item is one word
 same_word : (word other : List ℕ) (k : Arg) → is_command_word word k ≡ true
     → is_command_word other k ≡ true → word ≡ other
-same_word word other k = by_word (command_word k)
-  where
-    by_word : (c : Option (List ℕ)) → option_map_or (λ own. bytes_eq own word) c false ≡ true
-        → option_map_or (λ own. bytes_eq own other) c false ≡ true → word ≡ other
-    by_word None e f = absurd cc
-    by_word (Some own) e f =
-        sym ((bytes_eq-Decides own word).0 e) ∙ (bytes_eq-Decides own other).0 f
+same_word word other k = grind (arith, bytes_eq-Decides)
 
 -- so it is a word of at most one of two lists of which none is among the other
 pub words_apart : (words others : List (List ℕ)) → are_words_apart words others ≡ true

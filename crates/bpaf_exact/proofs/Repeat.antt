@@ -9,14 +9,13 @@ use Rattle.bpaf_exact.proofs.Product.{none_outside_after, steady_trans, steady_r
 use Rattle.bpaf_exact.proofs.Places.{takes_some_fewer, open_present, takes_fewer}
 use Rattle.bpaf_exact.proofs.Classes.{memory_class, stops_at, goes_on}
 use Rattle.bpaf_exact.proofs.Cuts.{some_trans}
-use Rattle.bpaf_exact.specs.Flat.{present_count, some_closure, catch_other, gave_absent, ErrorClass}
-use Rattle.bpaf_exact.specs.Flat.{only_absent, ReadsWords, of_missing, FieldKind, FieldTook, ByName}
-use Rattle.bpaf_exact.specs.Flat.{of_absent, of_memory, EachWord, FieldLaw, OfMemory, OwnItems, Gap}
-use Rattle.bpaf_exact.specs.Flat.{CanCatch, Readable, SingleOk, TakesAny, of_piece, own_more, cells}
-use Rattle.bpaf_exact.specs.Flat.{IsWholeIn, OfMissing, Variables, SingleErr, SingleLaw, TookGroup}
-use Rattle.bpaf_exact.specs.Flat.{listed_and_absent, RepeatOutcome, catch_missing, nothing_found}
-use Rattle.bpaf_exact.specs.Flat.{own_none, repeated, AgreesOn, OneWord, OwnList, Steady, Groups}
-use Rattle.bpaf_exact.specs.Flat.{caught, listed, LastOf, class, front, Stops, back, took, Own}
+use Rattle.bpaf_exact.specs.Flat.{nothing_found, some_closure, catch_other, gave_absent, ErrorClass}
+use Rattle.bpaf_exact.specs.Flat.{only_absent, FieldKind, FieldTook, IsWholeIn, OfMissing, FieldLaw}
+use Rattle.bpaf_exact.specs.Flat.{CanCatch, Readable, SingleOk, TakesAny, own_more, own_none, cells}
+use Rattle.bpaf_exact.specs.Flat.{repeated, AgreesOn, OwnList, ByName, Steady, Groups, caught, back}
+use Rattle.bpaf_exact.specs.Flat.{listed_and_absent, present_count, RepeatOutcome, catch_missing}
+use Rattle.bpaf_exact.specs.Flat.{Variables, SingleErr, SingleLaw, TookGroup, OfMemory, OwnItems}
+use Rattle.bpaf_exact.specs.Flat.{listed, LastOf, class, front, Stops, took, Gap, Own}
 use Rattle.bpaf_exact.specs.Pieces.{TakesPieces, takes_more, takes_none, LinePiece, pieces, Cells}
 use Rattle.bpaf_exact.specs.Pieces.{Roles}
 
@@ -49,20 +48,13 @@ stopped_by (caught c) = catch_other c
 pub catch_none : {T : Type 0} {k : FieldKind} {q : Roles} {group : Groups T} {gap : Gap T}
     {s m : Situation} {c : ErrorClass} → CanCatch c → SingleErr T k q group gap s c m
     → (gap.has ≡ false) × (front k (pieces q (cells s)) ≡ [])
-catch_none h (of_missing c g p same) = (g, p)
-catch_none (catch_missing h) (of_memory c) = absurd cc
-catch_none (catch_other h) (of_memory c) = absurd cc
-catch_none (catch_missing h) (of_absent c g p n) = absurd cc
-catch_none (catch_other h) (of_absent c g p n) = absurd cc
-catch_none (catch_missing h) (of_piece c p n) = absurd cc
-catch_none (catch_other h) (of_piece c p n) = absurd cc
+catch_none h x = grind arith
 
 -- where nothing is there, and nothing stands for that, there is no value
 pub none_given : {T : Type 0} {k : FieldKind} {q : Roles} {group : Groups T} {gap : Gap T}
     {s t : Situation} {v : T} → (front k (pieces q (cells s)) ≡ []) × (gap.has ≡ false)
     → SingleOk T k q group gap s v t → ⊥
-none_given none (gave_absent h p ab same st) = let b = none.1 in cc
-none_given none (took h) = h.found none.0
+none_given none x = grind arith
 
 module _ {env : Variables} {T : Type 0} {inner : Outcome T} {k : FieldKind} {q : Roles}
     {group : Groups T} {gap : Gap T} (l : SingleLaw env T inner k q group gap) where
@@ -82,25 +74,13 @@ module _ {env : Variables} {T : Type 0} {inner : Outcome T} {k : FieldKind} {q :
   by_group : {os : List LinePiece} {v : T} {rest : List LinePiece} → group os v rest
       → group (front (repeated k) os) v (front (repeated k) rest)
       × (back (repeated k) rest ≡ back (repeated k) os)
-  by_group {os} {v} {rest} g =
-      elim k as (λ z. ReadsWords z group → group (front (repeated z) os) v (front (repeated z) rest)
-      × (back (repeated z) rest ≡ back (repeated z) os)) [
-        | ByName ↦ λ u. (g, refl)
-        | OneWord b ↦ λ u. u.by_each os v rest g
-        | EachWord b ↦ λ u. absurd u
-      ] l.words
+  by_group g = grind arith
 
   -- and the other way
   of_group : {os : List LinePiece} {v : T} {rest : List LinePiece}
       → group (front (repeated k) os) v rest
       → (more : List LinePiece) × group os v more × (rest ≡ front (repeated k) more)
-  of_group {os} {v} {rest} = by_kind k l.words
-    where
-      by_kind : (z : FieldKind) → ReadsWords z group → group (front (repeated z) os) v rest
-          → (more : List LinePiece) × group os v more × (rest ≡ front (repeated z) more)
-      by_kind ByName u g = (rest, g, refl)
-      by_kind (OneWord b) u g = u.of_each os v rest g
-      by_kind (EachWord b) u g = absurd u
+  of_group = grind arith
 
   -- what a repeat took: all its pieces, of which this is said
   record Took (told : List LinePiece → Type 0) (s t : Situation) : Type 0 where
@@ -183,8 +163,7 @@ module _ {env : Variables} {T : Type 0} {inner : Outcome T} {k : FieldKind} {q :
 
   -- no piece has no own list but the empty one
   pub own_nil : {os : List LinePiece} {vs : List T} → os ≡ [] → Own T group os vs → vs ≡ []
-  own_nil e own_none = refl
-  own_nil e (own_more {rest} {v} g o) = absurd (l.starts v rest (rw (← e) g))
+  own_nil e x = grind arith
 
   -- an own list, with the absent value where there is one
   with_absent : (has : Bool) → gap.has ≡ has → {os : List LinePiece} {v : T} {vs : List T}
@@ -271,12 +250,7 @@ module _ {env : Variables} {T : Type 0} {inner : Outcome T} {k : FieldKind} {q :
   failed_gives : {s t : Situation} {e : Error} {os : List LinePiece} {ws : List T} → IsWholeIn env s
       → (gap.has ≡ true → (a : T) × gap.absent a) → own s ≡ os → Own T group os ws
       → (Stops e s t → ⊥) → SingleErr T k q group gap s (class e) t → class e ≡ OfMemory
-  failed_gives w ab p o n (of_memory c) = c
-  failed_gives w ab p o n (of_missing c g none same) = absurd (n (stops_by c same))
-  failed_gives w ab p o n (of_absent c g nil none) = let a = ab g in absurd (none a.0 a.1)
-  failed_gives w ab p own_none n (of_piece c ne none) = absurd (ne (nil_each k _ p))
-  failed_gives {s} w ab p (own_more {rest} {v} g o) n (of_piece c ne none) =
-      let f = of_group {os = pieces q (cells s)} {rest = rest} (rw p g) in absurd (none v f.0 f.1)
+  failed_gives w ab p o n x = grind (arith, nil_each, of_group, stops_by)
 
   -- where the pieces can be read, turns fail for want of memory alone
   turns_fail : (first last : Bool) (vs : List T) {s m t : Situation} {e : Error} {ws : List T}
@@ -302,12 +276,7 @@ module _ {env : Variables} {T : Type 0} {inner : Outcome T} {k : FieldKind} {q :
   repeat_fails : (idle : Bool) {s : Situation} (t : Situation) (e : Error) {ws : List T}
       → IsWholeIn env s → RepeatOutcome inner idle s (Err e) t → OwnList T group gap (own s) ws
       → class e ≡ OfMemory
-  repeat_fails false t e w o own_list =
-      let read = all_read own_list in
-      turns_fail true (is_nil o.values) o.values w read.0 read.2 o.steps o.fails
-  repeat_fails true t e w o own_list =
-      let read = all_read own_list in
-      turns_fail false (is_nil o.values) o.values w read.0 read.2 o.steps o.fails
+  repeat_fails b t e w o x = grind (arith, all_read, turns_fail)
 
   -- the items of a repeat are those of the field
   own_repeated : OwnItems (repeated k) q
@@ -352,9 +321,7 @@ module _ {env : Variables} {T : Type 0} {inner : Outcome T} {k : FieldKind} {q :
   -- and no piece gives an empty list
   empty_nothing : {os : List LinePiece} {vs : List T} → Nothing os → OwnList T group gap os vs
       → vs ≡ []
-  empty_nothing (nothing g e) (listed h o) = own_nil e o
-  empty_nothing (nothing g e) (listed_and_absent h a o) = absurd cc
-  empty_nothing (nothing g e) (only_absent h a) = absurd cc
+  empty_nothing x y = grind (arith, own_nil)
 
   -- Of the own lists of the same pieces all are empty or none is.
   pub some_agrees_on : (os : List LinePiece) → AgreesOn (OwnList T group gap os) (some_closure T)

@@ -1,15 +1,14 @@
 -- A surplus occurrence, a surplus word and an occurrence without a value leave a field no value.
-use Rattle.std.proofs.Common.{Option, false, Bool, List, Some, true, None, refl, inl, inr, not, ◌∷◌}
-use Rattle.std.proofs.Common.{◌≡◌, ◌≢◌, [], ℕ}
+use Rattle.std.proofs.Common.{Option, arith, false, Bool, List, true, None, not, ◌∷◌, ◌≡◌, ◌≢◌, []}
+use Rattle.std.proofs.Common.{ℕ}
 use Rattle.bpaf_exact.proofs.Wrappers.{own_bad}
-use Rattle.bpaf_exact.specs.Flat.{both_reading, SingleValue, only_absent, FieldKind, HasValue, left}
-use Rattle.bpaf_exact.specs.Flat.{listed_and_absent, FieldsReading, FallbackValue, OptionalValue}
-use Rattle.bpaf_exact.specs.Flat.{own_more, own_none, portion, FrontOf, OwnList, Closure, Groups}
+use Rattle.bpaf_exact.specs.Flat.{FieldsReading, FallbackValue, OptionalValue, both_reading, Groups}
+use Rattle.bpaf_exact.specs.Flat.{SingleValue, FieldKind, HasValue, own_more, own_none, portion}
+use Rattle.bpaf_exact.specs.Flat.{FrontOf, OwnList, Closure, gap_of, HasBad, left, Gap}
 use Rattle.bpaf_exact.specs.ProgramForm.{ProgramForm, alternative, program_if, completed, AtMostOne}
 use Rattle.bpaf_exact.specs.ProgramForm.{program_closed, program_field, HasNoSurplus, last_reading}
 use Rattle.bpaf_exact.specs.ProgramForm.{key_field, complete, IsPartOf, OneByOne, product, word_by}
-use Rattle.bpaf_exact.specs.{Flat.gap_of, Flat.listed, Flat.HasBad, Flat.Gap, ProgramForm.single}
-use Rattle.bpaf_exact.specs.Pieces.{LinePiece, Roles}
+use Rattle.bpaf_exact.specs.{Pieces.LinePiece, Pieces.Roles, ProgramForm.single}
 
 -- A surplus occurrence.
 
@@ -21,18 +20,15 @@ module _ {T : Type 0} (group : Groups T) (gap : Gap T) {os : List LinePiece} (so
     (unread : (v : T) → group os v [] → ⊥) where
   -- pieces that one evaluation doesn't read have no value where there is no repeat or default,
   pub single_none : (v : T) → SingleValue T group gap os v → ⊥
-  single_none v (inl g) = unread v g
-  single_none v (inr e) = some e.0
+  single_none v x = grind arith
 
   -- nor where they may be left out,
   pub optional_none : (v : Option T) → OptionalValue T group gap os v → ⊥
-  optional_none (Some v) h = single_none v h
-  optional_none None e = some e.0
+  optional_none x h = grind (arith, single_none)
 
   -- nor where a value stands for them
   pub fallback_none : (f : Closure (Unit {0}) T) (v : T) → FallbackValue T group gap f os v → ⊥
-  fallback_none f v (inl h) = single_none v h
-  fallback_none f v (inr e) = some e.0
+  fallback_none f v x = grind (arith, single_none)
 
 -- where one evaluation reads one piece, two have no value
 group_once : {T : Type 0} {group : Groups T} → OneByOne group → (o p : LinePiece)
@@ -107,9 +103,7 @@ module _ {T : Type 0} (value : LinePiece → T → Type 0) where
   -- nor has a repeat a value then
   pub repeat_bad : {gap : Gap T} {os : List LinePiece} {vs : List T} → HasBad T value os
       → OwnList T (FrontOf T value) gap os vs → ⊥
-  repeat_bad b (listed h o) = own_bad value b o
-  repeat_bad b (listed_and_absent h a o) = own_bad value b o
-  repeat_bad b (only_absent h a) = elim b [ ]
+  repeat_bad b x = grind (arith, own_bad)
 
 -- Which parts a record has: each of its fields, and that no piece is left.
 module _ {A B : Type 0} (k : FieldKind) (q : Roles) (first : List LinePiece → A → Type 0)

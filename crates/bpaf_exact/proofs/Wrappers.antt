@@ -1,28 +1,28 @@
 -- Closures, optional and fallback keep to the laws; alternatives are fields, and closures round
 -- them and round single fields are such.
-use Rattle.std.proofs.Common.{Err, List, None, Ok, Option, Some, false, inl, inr, refl, [], ap}
-use Rattle.std.proofs.Common.{subst, sym, ⊎_elim, ◌∙◌, ◌∷◌, ◌≡◌, ◌⊎◌}
+use Rattle.std.proofs.Common.{Option, ⊎_elim, arith, false, subst, List, None, Some, refl, Err, inl}
+use Rattle.std.proofs.Common.{inr, sym, ◌∙◌, ◌∷◌, ◌≡◌, ◌⊎◌, Ok, [], ap}
 use Rattle.std.specs.Option.{IsSomeRelated, is_some}
-use Rattle.bpaf_line.specs.{Situation.Situation, declared.error.Error.Error}
+use Rattle.bpaf_line.specs.{declared.error.Error.Error, Situation.Situation}
 use Rattle.bpaf_laws.specs.Reading.{Outcome}
 use Rattle.bpaf_exact.proofs.Cuts.{takes_nonempty, first_pieces, first_takes, head_stays}
-use Rattle.bpaf_exact.proofs.Repeat.{same_takes, stops_by, stopped_by, catch_none, none_given}
+use Rattle.bpaf_exact.proofs.Repeat.{same_takes, stopped_by, catch_none, none_given, stops_by}
 use Rattle.bpaf_exact.proofs.{Names.no_keys_left, Names.back_all, Product.steady_refl}
-use Rattle.bpaf_exact.specs.Flat.{AlternativeErr, AlternativeLaw, AlternativeOk, FirstUnread}
-use Rattle.bpaf_exact.specs.Flat.{HasBad, alternative_missing, alternative_refused, bad_here}
-use Rattle.bpaf_exact.specs.Flat.{TakesFirst, alternative_memory, bad_later, EachWord, ErrorClass}
-use Rattle.bpaf_exact.specs.Flat.{FieldKind, FieldTook, IsWholeIn, NoKeysLeft, ByName, FieldLaw}
-use Rattle.bpaf_exact.specs.Flat.{OfMemory, OfMissing, OneWord, Refused, KeepsTo, Steady, Variables}
-use Rattle.bpaf_exact.specs.Flat.{back, cells, class, front, CanCatch, FrontOf, Gap, Own}
-use Rattle.bpaf_exact.specs.Flat.{ReadsWords, Readable, SingleErr, SingleLaw, SingleOk, SingleValue}
-use Rattle.bpaf_exact.specs.Flat.{Groups, catch_missing, gap_of, gave_absent, TookGroup, of_missing}
-use Rattle.bpaf_exact.specs.Flat.{of_absent, of_memory, of_piece, own_more, own_none, took}
-use Rattle.bpaf_exact.specs.Flat.{ClosedEval, ClosedValue, Closure, FallbackEval, FallbackValue}
-use Rattle.bpaf_exact.specs.Flat.{AgreesOn, OptionalEval, OptionalValue, closed_err, closed_gap}
-use Rattle.bpaf_exact.specs.Flat.{Decides, closed_memory, closed_no, closed_yes, fallback_given}
-use Rattle.bpaf_exact.specs.Flat.{fallback_err, fallback_memory, optional_memory, optional_none}
-use Rattle.bpaf_exact.specs.Flat.{fallback_no, fallback_ok, optional_err, optional_some}
-use Rattle.bpaf_exact.specs.Pieces.{Cells, LinePiece, pieces, takes_more, takes_none, Roles}
+use Rattle.bpaf_exact.specs.Flat.{alternative_missing, alternative_refused, alternative_memory, Gap}
+use Rattle.bpaf_exact.specs.Flat.{fallback_given, AlternativeOk, catch_missing, FallbackValue, back}
+use Rattle.bpaf_exact.specs.Flat.{OptionalValue, closed_memory, optional_none, optional_some, cells}
+use Rattle.bpaf_exact.specs.Flat.{FallbackEval, OptionalEval, fallback_err, optional_err, bad_later}
+use Rattle.bpaf_exact.specs.Flat.{fallback_ok, TakesFirst, ErrorClass, NoKeysLeft, ReadsWords, took}
+use Rattle.bpaf_exact.specs.Flat.{of_missing, ClosedEval, closed_err, closed_gap, closed_yes, class}
+use Rattle.bpaf_exact.specs.Flat.{EachWord, FieldLaw, OfMemory, CanCatch, Readable, SingleOk, front}
+use Rattle.bpaf_exact.specs.Flat.{of_piece, own_more, own_none, AgreesOn, OneWord, Refused, KeepsTo}
+use Rattle.bpaf_exact.specs.Flat.{FrontOf, Closure, Decides, HasBad, ByName, Steady, Groups, gap_of}
+use Rattle.bpaf_exact.specs.Flat.{fallback_memory, optional_memory, AlternativeErr, AlternativeLaw}
+use Rattle.bpaf_exact.specs.Flat.{FieldKind, FieldTook, IsWholeIn, OfMissing, Variables, SingleErr}
+use Rattle.bpaf_exact.specs.Flat.{FirstUnread, SingleValue, gave_absent, ClosedValue, fallback_no}
+use Rattle.bpaf_exact.specs.Flat.{SingleLaw, TookGroup, of_absent, of_memory, closed_no, bad_here}
+use Rattle.bpaf_exact.specs.Pieces.{takes_more, takes_none, LinePiece, pieces, Cells, Roles}
+use Rattle.bpaf_exact.specs.Flat.{Own}
 
 -- what a closure makes of an outcome keeps to what follows of each answer inside
 pub closed_keeps : {env : Variables} {A B : Type 0} {inner : Outcome A} {f : Closure A B}
@@ -100,8 +100,7 @@ module _ {env : Variables} {T : Type 0} {inner : Outcome T} {k : FieldKind} {q :
   took_takes : {s t : Situation} {v w : T} → TookGroup T k q group s v t
       → SingleValue T group gap (front k (pieces q (cells s))) w
       → pieces q (cells t) ≡ back k (pieces q (cells s))
-  took_takes {w} h (inl g) = (h.readable w _ (of_front k l.words g)).1
-  took_takes h (inr e) = absurd (h.found e.0)
+  took_takes h x = grind (arith, of_front)
 
   -- one evaluation, as that of a field
   single_took : {s t : Situation} {v : T} → SingleOk T k q group gap s v t
@@ -124,13 +123,7 @@ module _ {env : Variables} {T : Type 0} {inner : Outcome T} {k : FieldKind} {q :
   -- and a refusal is want of memory
   err_gives : {s t : Situation} {c : ErrorClass} {w : T} → SingleErr T k q group gap s c t
       → SingleValue T group gap (front k (pieces q (cells s))) w → c ≡ OfMemory
-  err_gives (of_memory c) v = c
-  err_gives (of_missing c h p same) (inl g) = absurd (not_empty _ p g)
-  err_gives {w} (of_missing c h p same) (inr x) = absurd (l.no_absent w h x.1)
-  err_gives (of_absent c h p n) (inl g) = absurd (not_empty _ p g)
-  err_gives {w} (of_absent c h p n) (inr x) = absurd (n w x.1)
-  err_gives {w} (of_piece c ne n) (inl g) = absurd (n w _ (of_front k l.words g))
-  err_gives (of_piece c ne n) (inr x) = absurd (ne x.0)
+  err_gives x v = grind (arith, not_empty, of_front)
 
   -- a field without a repeat or default keeps to the laws of a field
   pub single_law : FieldLaw env T inner k q (SingleValue T group gap)
@@ -193,10 +186,7 @@ module _ {env : Variables} {T : Type 0} {inner : Outcome T} {k : FieldKind} {q :
       → (CanCatch c → (c ≡ OfMissing → cells t ≡ cells s) → ⊥)
       → front k (pieces q (cells s)) ≡ [] → gap.has ≡ false → SingleErr T k q group gap s c t
       → c ≡ OfMemory
-  none_fails n p b (of_memory c) = c
-  none_fails n p b (of_missing c g p' same) = absurd (n c same)
-  none_fails n p b (of_absent c g p' x) = absurd cc
-  none_fails n p b (of_piece c ne x) = absurd (ne p)
+  none_fails n p b x = grind arith
 
   -- where the portion has a value, a refusal is want of memory
   optional_refuses : (s t : Situation) (e : Error) → IsWholeIn env s
@@ -254,10 +244,7 @@ own_bad {T} value h (own_more {rest} {v} g o) = by_bad (λ b. own_bad value b o)
 pub front_alone : {T : Type 0} (value : LinePiece → T → Type 0) {o : LinePiece} {v : T}
     {os left rest : List LinePiece} {w : T} → os ≡ o ∷ left → value o v → FrontOf T value os w rest
     → FrontOf T value os v rest × (left ≡ rest)
-front_alone value {o} {left} {rest} e means g =
-    let d : o ∷ left ≡ g.0 ∷ rest = sym e ∙ g.1 in
-    let r : left ≡ rest = cc in
-    ((o, e ∙ ap (λ z. o ∷ z) r, means), r)
+front_alone value e means g = grind arith
 
 -- where the first piece was taken and has the value, it is the first group
 pub took_front : {T : Type 0} (value : LinePiece → T → Type 0) {k : FieldKind} {q : Roles}
@@ -276,8 +263,7 @@ took_front value {k} {t} {o} st f e means some =
 -- without something there is nothing that it means
 pub gap_empty : {X T : Type 0} (means : X → T → Type 0) (kept : Option X) (v : T)
     → is_some kept ≡ false → IsSomeRelated means kept v → ⊥
-gap_empty means None v h a = a
-gap_empty means (Some x) v h a = cc
+gap_empty means x v h a = grind arith
 
 -- An alternative is a field without a repeat or default.
 module _ {env : Variables} {T : Type 0} {outcome : Outcome T} {q : Roles}
@@ -297,11 +283,7 @@ module _ {env : Variables} {T : Type 0} {outcome : Outcome T} {q : Roles}
       → TakesFirst q (cells s) a.piece (cells t) ⊎ FirstUnread T q value (cells s) → (w : T)
       (rest : List LinePiece) → FrontOf T value (pieces q (cells s)) w rest
       → FrontOf T value (pieces q (cells s)) v rest × (pieces q (cells t) ≡ rest)
-  alternative_readable a (inl f) w rest g = front_alone value (first_pieces q l.named f) a.means g
-  alternative_readable a (inr z) w rest g =
-      let d : z.0 ∷ z.1 ≡ g.0 ∷ rest = sym z.2 ∙ g.1 in
-      let e : g.0 ≡ z.0 = cc in
-      absurd (z.3 w (rw (← e) g.2))
+  alternative_readable a x w rest g = grind (arith, first_pieces, front_alone)
 
   -- its refusal, as that of one evaluation
   alternative_err : {s t : Situation} {c : ErrorClass} → AlternativeErr T q value s c t

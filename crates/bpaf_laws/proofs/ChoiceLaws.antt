@@ -26,9 +26,7 @@ no_value v e same = cc
 -- the branch that won has a value
 pub not_winner : {T : Type 0} (first second : AnsweredBranch T) (winner : Bool × Option ℕ)
     (e : Error) (t : Situation) → Winner first second winner (Err e) t → ⊥
-not_winner first second (wins, None) e t won = no_value first.value e (sym won.0)
-not_winner first second (true, Some place) e t won = no_value first.value e (sym won.0)
-not_winner first second (false, Some place) e t won = no_value second.value e (sym won.0)
+not_winner first second x e t won = grind (arith, no_value)
 
 module _ {T : Type 0} (s : Situation) (Holds : Result T Error → Situation → Type 0)
     (noted : (v : T) (m loser : Situation) (place : ℕ) (t : Situation)

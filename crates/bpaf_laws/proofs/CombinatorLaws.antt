@@ -1,32 +1,30 @@
 -- Combinators over one inner parser keep to the laws where it does; repeats are bounded.
-use Rattle.std.proofs.Common.{ℕ, Bool, true, List, Result, Ok, Err, Option, Some, ⊎_elim, inl, inr}
-use Rattle.std.proofs.Common.{true≢false, arith, ◌≡◌, refl, ◌⊎◌, Box, ap, ◌∙◌, ◌+◌, ◌<◌, ◌≤◌, false}
-use Rattle.std.proofs.Common.{if◌then◌else◌, [], ◌∷◌, ◌++◌, length, sym, subst, IfOk, ◌≢◌, ◌==◌}
-use Rattle.std.proofs.Common.{not, IsErrAnd, is_some}
-use Rattle.std.proofs.lemmas.Bool.Decides.{nat_tests}
-use Rattle.std.specs.Prelude.{None, ◌&&◌, vec_len}
-use Rattle.std.specs.{declared.alloc.Global.Global, Global.Vec}
-use Rattle.bpaf_line.specs.declared.error.Message.TheVariants.{PureFailed, Memory, GuardFailed}
-use Rattle.bpaf_line.specs.declared.error.Message.TheVariants.{ParseFailed, ParseSome}
-use Rattle.bpaf_line.specs.{Situation.Situation, Situation.open_count, declared.error.Error.Error}
+use Rattle.std.proofs.Common.{length, arith, false, subst, Bool, true, List, Some, refl, ◌++◌, IfOk}
+use Rattle.std.proofs.Common.{◌==◌, Err, inl, inr, ◌≡◌, ◌⊎◌, Box, ◌+◌, ◌<◌, ◌≤◌, ◌∷◌, sym, ◌≢◌, not}
+use Rattle.std.proofs.Common.{if◌then◌else◌, true≢false, IsErrAnd, is_some, Result, Option, ⊎_elim}
+use Rattle.std.proofs.{Common.Ok, Common.ap, Common.[], Common.ℕ, lemmas.Bool.Decides.nat_tests}
+use Rattle.std.specs.{Prelude.vec_len, Prelude.None, Prelude.◌&&◌, declared.alloc.Global.Global}
+use Rattle.std.specs.Global.{Vec}
+use Rattle.bpaf_doc.specs.Shape.{shape_layer, Subsection, part_layer, shape_of, Shape, Part}
+use Rattle.bpaf_doc.specs.{declared.item.Item.TheFolds.fold-roll-Meta, declared.doc.Piece.Piece}
+use Rattle.bpaf_doc.specs.{declared.item.Item.TheOpen.Meta-F, declared.meta.MetaInfo.MetaInfo}
+use Rattle.bpaf_doc.specs.declared.meta.Meta.{Meta}
+use Rattle.bpaf_line.specs.declared.error.Message.TheVariants.{ParseFailed, PureFailed, Memory}
+use Rattle.bpaf_line.specs.{Situation.open_count, Situation.Situation, declared.error.Error.Error}
 use Rattle.bpaf_line.specs.{declared.error.Message.Message, Messages.is_memory}
-use Rattle.bpaf_laws.specs.Laws.{Keeps, Lawful, NamesAnswer, Reads}
-use Rattle.bpaf_laws.specs.Combinators.{Gives, NamesGiven, OptionalReads, FallbackOutcome}
-use Rattle.bpaf_laws.specs.Combinators.{GivesAnswer, TurnOutcome, PureReads, MapReads, MapOutcome}
-use Rattle.bpaf_laws.specs.Combinators.{ParseOutcome, GuardOutcome, HideOutcome, hidden, is_nil}
-use Rattle.bpaf_laws.specs.Combinators.{Turns, UntilRest, UntilFault, stops, rests, ListOutcome}
-use Rattle.bpaf_laws.specs.Combinators.{EachReads, ListReads, ManyOutcome, SomeOutcome}
-use Rattle.bpaf_laws.specs.Combinators.{CollectOutcome, CountOutcome, LastOutcome, EachTakes}
-use Rattle.bpaf_laws.specs.Combinators.{LaterTake, IsBounded, CollectIsBounded, EndsIn}
-use Rattle.bpaf_laws.specs.{Reading.Readings, Reading.Outcome, Reading.HasPlace, Choice.ChoiceReads}
-use Rattle.bpaf_laws.proofs.Keeping.{AnswersLawfully, lawful_answer, lawful_by, keeps_same}
-use Rattle.bpaf_laws.proofs.Keeping.{reads_as, newly_none, reads_same, names_fault, names_want}
-use Rattle.bpaf_laws.proofs.Keeping.{names_same, keeps_refl, keeps_trans, reads_both}
-use Rattle.bpaf_laws.proofs.Keeping.{open_count-falls, fewer_took, same_took_none}
-use Rattle.bpaf_doc.specs.declared.item.Item.TheFolds.{fold-roll-Meta}
-use Rattle.bpaf_doc.specs.Shape.{Shape, Part, Subsection, shape_of, part_layer, shape_layer}
-use Rattle.bpaf_doc.specs.{declared.doc.Piece.Piece, declared.item.Item.TheOpen.Meta-F}
-use Rattle.bpaf_doc.specs.{declared.meta.Meta.Meta, declared.meta.MetaInfo.MetaInfo}
+use Rattle.bpaf_laws.specs.Combinators.{CollectIsBounded, FallbackOutcome, CollectOutcome, MapReads}
+use Rattle.bpaf_laws.specs.Combinators.{GivesAnswer, TurnOutcome, HideOutcome, ListOutcome, hidden}
+use Rattle.bpaf_laws.specs.Combinators.{ManyOutcome, SomeOutcome, LastOutcome, NamesGiven, is_nil}
+use Rattle.bpaf_laws.specs.Combinators.{ListReads, EachTakes, LaterTake, IsBounded, EndsIn, Gives}
+use Rattle.bpaf_laws.specs.Combinators.{OptionalReads, ParseOutcome, GuardOutcome, CountOutcome}
+use Rattle.bpaf_laws.specs.Combinators.{MapOutcome, UntilFault, PureReads, UntilRest, EachReads}
+use Rattle.bpaf_laws.proofs.Keeping.{open_count-falls, AnswersLawfully, same_took_none, names_fault}
+use Rattle.bpaf_laws.proofs.Keeping.{lawful_answer, keeps_trans, keeps_same, newly_none, reads_same}
+use Rattle.bpaf_laws.proofs.Keeping.{names_want, names_same, keeps_refl, reads_both, fewer_took}
+use Rattle.bpaf_laws.specs.Combinators.{Turns, stops, rests}
+use Rattle.bpaf_laws.specs.Laws.{NamesAnswer, Lawful, Keeps, Reads}
+use Rattle.bpaf_laws.specs.{Reading.Readings, Reading.HasPlace, Reading.Outcome, Choice.ChoiceReads}
+use Rattle.bpaf_laws.proofs.Keeping.{lawful_by, reads_as}
 use Rattle.bpaf_doc.specs.declared.meta.Meta as meta
 
 -- a refusal by a closure is the answer of no run inside
@@ -105,14 +103,7 @@ module _ {T : Type 0} {inner : Outcome T} {reads : Readings T} (law : Lawful T i
   pub guard_lawful : (checks : T → Bool → Type 0) (message : List ℕ)
       → Lawful T (GuardOutcome inner checks message)
       (MapReads T T reads (λ x v. (v ≡ x) × checks x true))
-  guard_lawful checks message = made_lawful (λ x v. (v ≡ x) × checks x true)
-      (λ s t v o. (v, o.0, (refl, o.1)))
-      (λ s t e o. ⊎_elim inl (λ failed. inr (
-        failed.0,
-        failed.1,
-        ⊎_elim (names_same e.0 (GuardFailed t.current message) tt)
-            (names_same e.0 Memory tt) failed.3,
-      )) o)
+  guard_lawful checks message = grind (arith, made_lawful, names_same)
 
 -- a refusal that names no missing item names its answer where it did
 names_hidden : (m : Message) → NamesAnswer m → NamesAnswer (hidden m)
@@ -138,8 +129,7 @@ section_shape inner title =
 pub titled_shape : (info : MetaInfo) (inner : Box Meta Global) (title : List Piece)
     → inner.value ≡ info.0.now
     → shape_of (meta.Subsection inner title) ≡ Subsection (shape_of info.0.now) title
-titled_shape info inner title lent =
-    section_shape inner title ∙ ap (λ m. Subsection (shape_of m) title) lent
+titled_shape info inner title lent = grind (arith, section_shape)
 
 -- Repeats keep to the laws where the inner parser does, and are bounded.
 
@@ -233,21 +223,13 @@ module _ {T : Type 0} {inner : Outcome T} {reads : Readings T} (law : Lawful T i
   -- many keeps to the laws
   pub many_lawful : Lawful (Vec T) (ManyOutcome inner catches)
       (MapReads (List T) (Vec T) (ListReads reads) (λ values v. v.items ≡ values))
-  many_lawful = made_lawful list_lawful (λ values v. v.items ≡ values)
-      (λ s t v o. (v.items, o, refl)) (λ s t e o. inl o)
+  many_lawful = grind (arith, list_lawful, made_lawful)
 
   -- some keeps to the laws
   pub some_lawful : (message : List ℕ)
       → Lawful (Vec T) (SomeOutcome inner catches message) (MapReads (List T) (Vec T)
       (ListReads reads) (λ values v. (v.items ≡ values) × (is_nil values ≡ false)))
-  some_lawful message = made_lawful list_lawful
-      (λ values v. (v.items ≡ values) × (is_nil values ≡ false))
-      (λ s t v o. (v.items, o.0, (refl, o.1)))
-      (λ s t e o. ⊎_elim inl (λ none. inr (
-        [],
-        none.0,
-        ⊎_elim (names_same e.0 (ParseSome message) tt) (names_same e.0 Memory tt) none.1,
-      )) o)
+  some_lawful message = grind (arith, list_lawful, made_lawful, names_same)
 
   -- collect keeps to the laws
   pub collect_lawful : {C : Type 0} (fills : List T → C → Type 0)
@@ -336,8 +318,7 @@ module _ {T : Type 0} {inner : Outcome T} {reads : Readings T} (law : Lawful T i
   -- count keeps to the laws
   pub count_lawful : Lawful ℕ (CountOutcome inner)
       (MapReads (List T) ℕ (ListReads reads) (λ values n. n ≡ length values))
-  count_lawful = made_lawful rest_lawful (λ values n. n ≡ length values) (λ s t n o. o)
-      (λ s t e o. inl o)
+  count_lawful = grind (arith, made_lawful, rest_lawful)
 
   -- last keeps to the laws
   pub last_lawful : Lawful T (LastOutcome inner) (MapReads (List T) T (ListReads reads)

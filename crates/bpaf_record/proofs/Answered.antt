@@ -32,11 +32,11 @@ use Rattle.bpaf_exact.proofs.Says.{argument_needs, repeat_needs, word_values, Ne
 use Rattle.bpaf_exact.proofs.{Names.of_front_one, Places.test_named}
 use Rattle.bpaf_exact.specs.Pieces.{takes_argument, stands_behind, empty_stays, other_stays, is_own}
 use Rattle.bpaf_exact.specs.Pieces.{is_own_role, takes_flag, LinePiece, is_value, no_cells, IsNamed}
-use Rattle.bpaf_exact.specs.Pieces.{others, Roles, Cells, Takes, Alone, Owns, Cut, One, Two}
+use Rattle.bpaf_exact.specs.Pieces.{others, Roles, Cells, Takes, Owns, Cut, One, Two}
 use Rattle.bpaf_exact.specs.ProgramForm.{ProgramForm, opens_later, line_cells, CellsValue, Opens}
 use Rattle.bpaf_exact.specs.Says.{says_variable, says_present, ArgumentSays, OptionalSays, FlagSays}
-use Rattle.bpaf_exact.specs.Says.{says_none, says_kept, says_own, WordSays, CutSays, keyed, Said}
-use Rattle.bpaf_exact.specs.Says.{FallbackSays, says_absent, first_item, RepeatSays, says_some}
+use Rattle.bpaf_exact.specs.Says.{says_kept, says_some, says_own, WordSays, CutSays, keyed, Said}
+use Rattle.bpaf_exact.specs.Says.{FallbackSays, says_absent, first_item, RepeatSays, says_none}
 use Rattle.bpaf_exact.specs.ProgramForm.{opens_here, flag_roles, WordValue}
 use Rattle.bpaf_exact.specs.Flat.{OneWord, front, back}
 use Rattle.bpaf_record.specs.Record.{IsSpelledByAny, IsSpelledItem, TellsOfWords, WasSpelled}
@@ -587,14 +587,11 @@ line_behind {known} {given} {context} is cut =
 module _ (q : Roles) (named : IsNamed q) where
   -- no item of a named field stands there
   own_before : (k : Arg) → is_own_role (q k) ≡ true → stands_behind k ≡ false
-  own_before (PosWord text) h =
-      absurd (true≢false (sym h ∙ ap is_own_role (named.only_keys (PosWord text) refl)))
-  own_before k h = refl
+  own_before k h = grind arith
 
   -- nor does one that begins a piece of its own
   piece_before : (o : LinePiece) → is_own q o ≡ true → stands_behind (first_item o) ≡ false
-  piece_before (One k) h = own_before k h
-  piece_before (Two k w) h = own_before k h
+  piece_before x h = grind (arith, own_before)
 
   -- so it leaves all items that do,
   others_are : (os : List LinePiece) → items_behind (others q os) ≡ items_behind os
@@ -615,18 +612,13 @@ module _ (q : Roles) (named : IsNamed q) where
 -- as a flag
 pub flag_leaves : (names : Names) (os : List LinePiece)
     → pieces_behind (others (flag_roles names) os) ≡ pieces_behind os
-flag_leaves names os =
-    others_behind (flag_roles names) (test_named (is_key_of names) names Alone (λ k e. e)) os
+flag_leaves names os = grind (arith, others_behind, test_named)
 
 -- A word that has to stand before `--` leaves all of it,
 pub name_before : {T : Type 0} {means : List ℕ → T → Type 0} (ws : List LinePiece) {v : T}
     → WordSays (accepts NonStrict) means (front (OneWord true) ws) v
     → pieces_behind (back (OneWord true) ws) ≡ pieces_behind ws
-name_before ws so =
-    let left = items_behind (back (OneWord true) ws) in
-    sym (ap pieces_behind (of_front_one true ws (One so.word) so.is)
-    ∙ ap (λ b. map item_text (cond b (so.word ∷ left) left))
-    (not-true (stands_behind so.word) so.side))
+name_before ws so = grind (arith, not-true, of_front_one)
 
 -- and a repeat of words that have to stand behind it reads it, in order.
 pub strict_words : {T : Type 0} {means : List ℕ → T → Type 0} {ws : List LinePiece} {vs : List T}

@@ -7,19 +7,19 @@ use Rattle.std.specs.List.{list_all}
 use Rattle.bpaf_doc.specs.Names.{Names}
 use Rattle.bpaf_laws.specs.{Command.opening_words, Command.Called, Choice.Nested}
 use Rattle.bpaf_exact.specs.Flat.{FallbackValue, FieldKind, repeated, OwnList, Closure, ByName, Gap}
-use Rattle.bpaf_exact.specs.ProgramForm.{program_optional, before_commands, program_dressed, single}
 use Rattle.bpaf_exact.specs.ProgramForm.{are_words_apart, program_command, program_closed, complete}
 use Rattle.bpaf_exact.specs.ProgramForm.{program_choice, program_alone, program_field, program_both}
-use Rattle.bpaf_exact.specs.ProgramForm.{program_if, is_program, may_follow, completed, is_record}
-use Rattle.bpaf_exact.specs.ProgramForm.{ProgramForm, alternative, choice_only, program_con}
-use Rattle.bpaf_exact.specs.ProgramForm.{are_plain, commands, is_named, product}
+use Rattle.bpaf_exact.specs.ProgramForm.{ProgramForm, choice_only, program_con, program_if, product}
+use Rattle.bpaf_exact.specs.ProgramForm.{is_program, may_follow, completed, is_record, are_plain}
+use Rattle.bpaf_exact.specs.ProgramForm.{program_optional, before_commands, program_dressed}
 use Rattle.bpaf_exact.specs.{Pieces.are_all_apart, Pieces.LinePiece, Flat.Groups, Flat.LastOf}
-use Rattle.bpaf_record.specs.declared.part.ProgramPart.TheVariants.{Complete, Commands, Product}
-use Rattle.bpaf_record.specs.Part.{optional_part, dressed_part, command_part, closed_part, kind_of}
-use Rattle.bpaf_record.specs.Part.{is_program_part, completed_part, is_record_part, is_named_kind}
+use Rattle.bpaf_exact.specs.ProgramForm.{is_named}
+use Rattle.bpaf_record.specs.Part.{is_named_kind, dressed_part, command_part, closed_part, kind_of}
+use Rattle.bpaf_record.specs.Part.{is_program_part, completed_part, is_record_part, optional_part}
 use Rattle.bpaf_record.specs.Part.{chosen_part, before_part, field_part, only_part, last_part}
 use Rattle.bpaf_record.specs.Grammar.{command_words, choices_of, Grammar, keys_of, choice}
 use Rattle.bpaf_record.specs.Part.{made_part, may_stand, part_of, part_if}
+use Rattle.bpaf_record.specs.declared.part.ProgramPart.TheVariants.{Product}
 
 -- where a test holds
 if_is : {T : Type 0} (b : Bool) (s : ProgramForm T)
@@ -45,15 +45,12 @@ completed_is : {T B : Type 0} (kind : FieldKind → FieldKind)
     (value : Groups T → Gap T → List LinePiece → B → Type 0)
     → ((k : FieldKind) → kind_of k ≡ kind_of (kind k)) → (s : ProgramForm T)
     → completed_part (part_of s) ≡ part_of (completed kind value s)
-completed_is kind value same (alternative wide q each) = ap (Complete wide) (same ByName)
-completed_is kind value same (single wide k q group gap) = ap (Complete wide) (same k)
-completed_is kind value same _ = refl
+completed_is kind value same s = grind arith
 
 -- what is made of a repeat
 pub listed_part_is : {T B : Type 0} (f : Closure (List T) B) (s : ProgramForm T)
     → completed_part (part_of s) ≡ part_of (program_closed f (completed repeated (OwnList T) s))
-listed_part_is f (single wide k q group gap) = ap (Complete wide) (repeated_is k)
-listed_part_is f _ = refl
+listed_part_is f s = grind (arith, repeated_is)
 
 -- and of one that may catch
 pub repeat_part_is : {T B : Type 0} (catch : Bool) (f : Closure (List T) B) (s : ProgramForm T)
@@ -70,8 +67,7 @@ last_part_is {T} s = completed_is repeated (LastOf T) repeated_is s
 pub fallback_part_is : {T : Type 0} (f : Closure (Unit {0}) T) (s : ProgramForm T)
     → completed_part (part_of s)
     ≡ part_of (completed (λ k. k) (λ group gap. FallbackValue T group gap f) s)
-fallback_part_is {T} f s =
-    completed_is (λ k. k) (λ group gap. FallbackValue T group gap f) (λ k. refl) s
+fallback_part_is f s = grind (arith, completed_is)
 
 -- what may be left out, and may catch
 pub optional_part_is : {T : Type 0} (catch : Bool) (s : ProgramForm T)
@@ -87,11 +83,7 @@ pub choice_part_is : {T : Type 0} (own others : List Names) (words more : List (
     (s t : ProgramForm T)
     → chosen_part (are_all_apart own others) (are_words_apart words more) (part_of s) (part_of t)
     ≡ part_of (program_choice own others words more s t)
-choice_part_is own others words more (alternative wide q a) (alternative other r b) =
-    if_is (are_all_apart own others) _
-choice_part_is own others words more (commands false a) (commands false b) =
-    if_is (are_words_apart words more) _
-choice_part_is own others words more _ _ = refl
+choice_part_is own others words more s t = grind (arith, if_is)
 
 -- one parser of a choice
 pub only_part_is : {T : Type 0} (s : ProgramForm T)
@@ -110,10 +102,7 @@ program_part_is s = grind arith
 pub command_part_is : {T : Type 0} (adjacent apart : Bool) (called : Called) (s : ProgramForm T)
     → command_part ((not adjacent && apart) && are_plain (opening_words called)) (part_of s)
     ≡ part_of (program_command adjacent apart called s)
-command_part_is adjacent apart called s =
-    ap (λ b. part_if (((not adjacent && apart) && are_plain (opening_words called)) && b)
-    (Commands false)) (program_part_is s)
-    ∙ if_is (((not adjacent && apart) && are_plain (opening_words called)) && is_program s) _
+command_part_is adjacent apart called s = grind (arith, if_is, program_part_is)
 
 -- one test alone
 pub and_true : (b : Bool) → b ≡ (b && true)
@@ -128,8 +117,7 @@ all_joined test xs ys = sym (list_all-append test xs ys)
 pub keys_entered : (test : Names → Bool) (deep : Bool) (names : List Names) (b : Bool)
     → b ≡ list_all test names
     → (if deep then b else true) ≡ list_all test (if deep then names else [])
-keys_entered test true names b e = e
-keys_entered test false names b e = refl
+keys_entered test b names s e = grind arith
 
 -- a field of a product
 field_part_is : {T : Type 0} (s : ProgramForm T) → field_part (part_of s) ≡ part_of (program_field s)
@@ -142,12 +130,7 @@ named_is s = grind arith
 -- the last field
 pub alone_part_is : {T : Type 0} (s : ProgramForm T)
     → last_part (field_part (part_of s)) ≡ part_of (program_alone (program_field s))
-alone_part_is {T} s = ap last_part (field_part_is s) ∙ by_field (program_field s)
-  where
-    by_field : (s : ProgramForm T) → last_part (part_of s) ≡ part_of (program_alone s)
-    by_field (complete wide k q value) = ap (Product wide) (named_is k)
-    by_field (product wide true q fields) = refl
-    by_field _ = refl
+alone_part_is s = grind (arith, field_part_is, named_is)
 
 -- keys may stand after a field
 stands : (k : FieldKind) (own others : List Names)

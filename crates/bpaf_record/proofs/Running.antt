@@ -3,7 +3,7 @@
 use Rattle.std.proofs.Common.{if◌then◌else◌, append-nil, slice_get, Option, length, IsUtf8, Result}
 use Rattle.std.proofs.Common.{false, arith, subst, codes, zero, Bool, true, List, ◌++◌, ◌==◌, Some}
 use Rattle.std.proofs.Common.{None, refl, cond, drop, IfOk, ◌≡◌, ◌<◌, suc, ◌∷◌, map, sym, ◌∙◌, All}
-use Rattle.std.proofs.Common.{Err, not, [], ap, Ok, ℕ}
+use Rattle.std.proofs.Common.{Err, [], ap, Ok, ℕ}
 use Rattle.std.proofs.lemmas.List.Elements.{Contains-append_right, All-contains, All-append}
 use Rattle.std.proofs.{lemmas.Option.slice_get_within, lemmas.List.Elements.All-map}
 use Rattle.std.proofs.{lemmas.List.get_or_at, lemmas.Bool.and_parts}
@@ -25,11 +25,11 @@ use Rattle.bpaf_exact.proofs.ProgramForm.{runs_as_program, runs_exactly, record_
 use Rattle.bpaf_exact.proofs.{ProgramSays.program_says, Cuts.cut_holds_together}
 use Rattle.bpaf_exact.specs.Pieces.{LinePiece, argument, is_value, at_end, passed, Cells, Roles}
 use Rattle.bpaf_exact.specs.ProgramForm.{IsAcceptedOrWant, IsSpelledLine, product_roles, is_spelled}
-use Rattle.bpaf_exact.specs.ProgramForm.{whole_program, program_value, ProgramForm, alternative}
-use Rattle.bpaf_exact.specs.ProgramForm.{line_cells, is_program, is_dashed, is_record, complete}
-use Rattle.bpaf_exact.specs.ProgramForm.{Accepted, product, FormLaw, single}
+use Rattle.bpaf_exact.specs.ProgramForm.{whole_program, program_value, ProgramForm, line_cells}
+use Rattle.bpaf_exact.specs.ProgramForm.{is_program, is_dashed, is_record, complete, Accepted}
 use Rattle.bpaf_exact.specs.Says.{ProgramSaid, ProgramSays, first_item, cells_said, SaidKind}
 use Rattle.bpaf_exact.specs.{Pieces.flag, Pieces.word, Pieces.Cut, Flat.first_cells, Flat.Variables}
+use Rattle.bpaf_exact.specs.ProgramForm.{FormLaw}
 use Rattle.bpaf_record.specs.Record.{is_whole_program, AnswersAsProgram, AnswersByFields, answer_of}
 use Rattle.bpaf_record.specs.Record.{is_flat_record, IsValueOrWant, TellsOfWords, PiecesOf}
 use Rattle.bpaf_record.specs.Commands.{run_ran}
@@ -268,11 +268,7 @@ is_flat_form form names info e = (and_parts (is_record form) _ e).0
 -- and are a program
 pub flat_is_whole : {T : Type 0} (form : ProgramForm T) (names : List Names) (info : RunInfo)
     → is_flat_record form names info ≡ true → is_whole_program form names info ≡ true
-flat_is_whole (alternative wide q each) names info e = (and_parts (not wide) _ e).1
-flat_is_whole (single wide k q group gap) names info e = (and_parts (not wide) _ e).1
-flat_is_whole (complete wide k q each) names info e = (and_parts (not wide) _ e).1
-flat_is_whole (product wide named q fields) names info e = (and_parts (not wide) _ e).1
-flat_is_whole _ names info e = absurd cc
+flat_is_whole x names info e = grind (arith, and_parts)
 
 -- options that are a program have a parser that is one
 pub is_program_form : {T : Type 0} (form : ProgramForm T) (names : List Names) (info : RunInfo)
