@@ -4,12 +4,11 @@ use Rattle.std.proofs.Common.{not, sym, ◌∙◌, ◌≡◌, inr, ◌⊎◌, ap
 use Rattle.std.proofs.lemmas.Bool.{eqb-true, eq-eqb}
 use Rattle.bpaf_line.specs.declared.error.Message.TheVariants.{ParseFailure, Missing}
 use Rattle.bpaf_line.specs.Messages.{CombinesSpared, can_catch, is_memory, Combines}
-use Rattle.bpaf_line.specs.{Situation.open_count, Situation.Situation, declared.error.Error.Error}
-use Rattle.bpaf_line.specs.declared.error.Message.{Message}
+use Rattle.bpaf_line.specs.{declared.error.Message.Message, declared.error.Error.Error}
+use Rattle.bpaf_line.specs.Situation.{Situation}
 use Rattle.bpaf_laws.specs.Combinators.{is_untouched, stops_spared, stops_step}
-use Rattle.bpaf_exact.specs.Flat.{class_of_tests, catch_missing, nothing_found, catch_other, Caught}
-use Rattle.bpaf_exact.specs.Flat.{ErrorClass, is_missing, OfMissing, OfMemory, CanCatch, class_of}
-use Rattle.bpaf_exact.specs.Flat.{Refused, caught, class, Stops}
+use Rattle.bpaf_exact.specs.Flat.{class_of_tests, ErrorClass, is_missing, OfMissing, OfMemory}
+use Rattle.bpaf_exact.specs.Flat.{CanCatch, class_of, Refused, Caught, Stops}
 
 -- want of memory is of its class
 pub memory_class : (m : Message) → is_memory m ≡ true → class_of m ≡ OfMemory
@@ -42,12 +41,7 @@ not_memory m e c = true≢false (sym (tests_are m c).0 ∙ e)
 
 -- what can be caught is of a class that can
 pub caught_class : (m : Message) → can_catch m ≡ true → CanCatch (class_of m)
-caught_class m e = by_class (class_of m) (sym (tests_are m refl).2 ∙ e)
-  where
-    by_class : (c : ErrorClass) → (tests_of c).2 ≡ true → CanCatch c
-    by_class OfMissing e = catch_missing refl
-    by_class Caught e = catch_other refl
-    by_class _ e = absurd cc
+caught_class m e = grind (arith, tests_are)
 
 -- what can't is of none such
 pub kept_class : (m : Message) → can_catch m ≡ false → CanCatch (class_of m) → ⊥
@@ -77,12 +71,7 @@ stop_is m untouched e =
 -- an error at which a turn stops
 pub stops_at : {e : Error} {s m : Situation} → stops_step false e.0 (is_untouched s m) ≡ true
     → Stops e s m
-stops_at {e} {s} {m} h = by_class (class e) refl (sym (stop_is e.0 (is_untouched s m) refl) ∙ h)
-  where
-    by_class : (c : ErrorClass) → class e ≡ c → stop_by c (is_untouched s m) ≡ true → Stops e s m
-    by_class OfMissing is same = nothing_found is (eqb-true (open_count m) (open_count s) same)
-    by_class Caught is same = caught is
-    by_class _ is same = absurd cc
+stops_at h = grind (arith, eqb-true, stop_is)
 
 -- an error at which it doesn't
 pub goes_on : (e : Error) {s m : Situation} → stops_step false e.0 (is_untouched s m) ≡ false

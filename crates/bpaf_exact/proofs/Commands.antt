@@ -222,9 +222,7 @@ module _ {env : Variables} {T : Type 0} {a b : Outcome T} {qa qb : Roles}
   -- the other branch refused
   err_other : {q : Roles} {v : LinePiece → T → Type 0} {s n : Situation} {cm : Cells} (e : Error)
       → is_memory e.0 ≡ false → AlternativeErr T q v s (class e) n → Other T q v (cells s) cm
-  err_other e h (alternative_memory c) = absurd (not_memory e.0 h c)
-  err_other e h (alternative_missing c p same st) = other_missing p
-  err_other e h (alternative_refused c p z) = other_unread z
+  err_other e h x = grind (arith, not_memory, other_missing, other_unread)
 
   -- or took something further right
   ok_other : {q : Roles} {v : LinePiece → T → Type 0} {s n : Situation} {x : T} {cm : Cells}
@@ -245,10 +243,7 @@ module _ {env : Variables} {T : Type 0} {a b : Outcome T} {qa qb : Roles}
   -- and both are equally deep
   equally_deep : {s t : Situation} {r : Result T Error} → IsWholeIn env s
       → (o : BranchesEval a b s r t) → EqualDepths s o.a o.sa o.b o.sb r t
-  equally_deep {s} w o =
-      let pa = law_path la s o.a w o.first_ran o.first_spared in
-      let pb = law_path lb s o.b w o.second_ran o.second_spared in
-      chosen_at_equal s o.a o.sa o.b o.sb _ _ (ap length (pa ∙ sym pb)) o.chosen
+  equally_deep w o = grind (arith, chosen_at_equal, law_path)
 
   -- an alternative that answered took something
   never_untouched : {q : Roles} {v : LinePiece → T → Type 0} {s m : Situation} {x : T}
@@ -279,11 +274,7 @@ module _ {env : Variables} {T : Type 0} {a b : Outcome T} {qa qb : Roles}
   -- the value of one, where the other refused
   alone_ok : {s m t : Situation} {x v : T} {e : Error} → AlternativeOk T (either qa qb) vr s x m
       → OneOk s (branch_of x m) e (Ok v) t → AlternativeOk T (either qa qb) vr s v t
-  alone_ok i (inl o) = let h = o.1 in absurd cc
-  alone_ok {x} {v} i (inr o) =
-      let given = o.1.0 in
-      let d : x ≡ v = cc in
-      rw (o.1.1, ← d) i
+  alone_ok i x = grind arith
 
   -- the value where both paths are equally deep
   equal_ok : (s sa sb : Situation) {t : Situation} {v : T} (x y : Result T Error) → IsWholeIn env s
@@ -437,15 +428,13 @@ module _ {env : Variables} {T : Type 0} {inner : Outcome T} {r : Roles} {words :
   some_all : {s t : Situation} {x : T} → ProgramTook T value s x t
       → (OpensNone words (cells s) → ⊥) → (u : Option T) → optional (cells s) u
       → value (cells s) x × NonePresent (cells t)
-  some_all i never (Some y) h = i.all y h
-  some_all i never None n = absurd (never (none_opens n))
+  some_all i never x h = grind (arith, none_opens)
 
   -- and None is
   none_all : {s m : Situation} {e : Error} → Stops e s m
       → ((w : T) → value (cells s) w → class e ≡ OfMemory) → (u : Option T) → optional (cells s) u
       → NonePresent (cells s) × NonePresent (cells s)
-  none_all stops want (Some y) h = absurd (memory_goes_on (want y h) stops)
-  none_all stops want None n = (n, n)
+  none_all stops want x h = grind (arith, memory_goes_on)
 
   -- a value is that of a command, or None, where nothing is present
   optional_took : (s t : Situation) (v : Option T) → IsWholeIn env s
@@ -602,8 +591,7 @@ module _ {env : Variables} {T : Type 0} {a b : Outcome T} {ra rb : Roles} {wa wb
   -- nothing else can be of it
   passed : (s m : Situation) (e : Error) → is_memory e.0 ≡ false
       → FindsNoCommand s (class e) m → Passed s e m
-  passed s m e h (inl memory) = absurd (not_memory e.0 h memory)
-  passed s m e h (inr found) = found
+  passed s m e h x = grind (arith, not_memory)
 
   -- it is no wrong input beside a value, nor is its path longer, so no refusal is chosen
   never_refused : {s m n t : Situation} {x : T} {e g : Error} → depth s ≤ depth m → Passed s e n
@@ -614,25 +602,15 @@ module _ {env : Variables} {T : Type 0} {a b : Outcome T} {ra rb : Roles} {wa wb
   first_fails : (s : Situation) {sa sb t : Situation} (x y : Result T Error) {g : Error} {u : T}
       → IsWholeIn env s → a s x sa → b s y sb → IsNotMemory x → IsNotMemory y
       → Chosen s x sa y sb (Err g) t → va (cells s) u → ⊥
-  first_fails s {sa} (Err d) y {u} w i j hx hy chosen h =
-      not_memory d.0 hx (la.program.keeps.err s sa d w i u h)
-  first_fails s {sb} (Ok x) (Ok y) w i j hx hy chosen h = lb.none.ok s sb y w j (second_closed h)
-  first_fails s {sa} {sb} (Ok x) (Err e) w i j hx hy chosen h =
-      never_refused (la.program.keeps.ok s sa x w i).deep
-      (passed s sb e hy (lb.none.err s sb e w j (second_closed h))) chosen
+  first_fails s x y w i j hx hy chosen h =
+      grind (arith, never_refused, not_memory, passed, second_closed)
 
   -- nor where the second has
   second_fails : (s : Situation) {sa sb t : Situation} (x y : Result T Error) {g : Error} {u : T}
       → IsWholeIn env s → a s x sa → b s y sb → IsNotMemory x → IsNotMemory y
       → Chosen s x sa y sb (Err g) t → vb (cells s) u → ⊥
-  second_fails s {sb} x (Err d) {u} w i j hx hy chosen h =
-      not_memory d.0 hy (lb.program.keeps.err s sb d w j u h)
-  second_fails s {sa} (Ok x) (Ok y) w i j hx hy chosen h = la.none.ok s sa x w i (first_closed h)
-  second_fails s {sa} {sb} (Err e) (Ok y) w i j hx hy chosen h =
-      never_refused (lb.program.keeps.ok s sb y w j).deep
-      (passed s sa e hx (la.none.err s sa e w i (first_closed h)))
-      (⊎_elim (λ deeper. inr (inl deeper)) (λ other. ⊎_elim (λ deeper. inl deeper)
-      (λ equal. inr (inr (sym equal.0, equal.1))) other) chosen)
+  second_fails s x y w i j hx hy chosen h =
+      grind (arith, first_closed, never_refused, not_memory, passed)
 
   -- so a refusal is want of memory there
   choice_refuses : (s t : Situation) (e : Error) → IsWholeIn env s
@@ -650,17 +628,8 @@ module _ {env : Variables} {T : Type 0} {a b : Outcome T} {ra rb : Roles} {wa wb
       → IsWholeIn env s → a s x sa → b s y sb → IsNotMemory x → IsNotMemory y
       → OpensNone wa (cells s) → OpensNone wb (cells s) → Chosen s x sa y sb (Err g) t
       → FindsNoCommand s (class g) t
-  none_chosen s {sa} (Ok x) y w i j hx hy na nb chosen = absurd (la.none.ok s sa x w i na)
-  none_chosen s {sb} (Err d) (Ok y) w i j hx hy na nb chosen = absurd (lb.none.ok s sb y w j nb)
-  none_chosen s {sa} {sb} {t} (Err d) (Err e) {g} w i j hx hy na nb chosen =
-      let k = passed s sa d hx (la.none.err s sa d w i na) in
-      let l = passed s sb e hy (lb.none.err s sb e w j nb) in
-      let o = chosen_at_equal {T = T} s (Err d) sa (Err e) sb (Err g) t (ap length (k.2 ∙ sym l.2))
-      chosen in
-      let given = o.0.2 in
-      let same : o.0.0 ≡ g = cc in
-      ⊎_elim (λ missing. inr (ap class (sym same) ∙ missing, ap cells o.1, ap (λ z. z.path) o.1))
-      (λ memory. inl (ap class (sym same) ∙ memory)) (combined_missing d.0 e.0 k.0 l.0 o.0.1)
+  none_chosen s x y w i j hx hy na nb chosen =
+      grind (arith, chosen_at_equal, combined_missing, passed)
 
   -- where no word opens anything no branch has a value
   none_branch : {s t : Situation} {v : T} → IsWholeIn env s → OpensNone (wa ++ wb) (cells s)

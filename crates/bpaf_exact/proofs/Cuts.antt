@@ -479,15 +479,7 @@ owner {qa} {qb} {r} (Some k ∷ cs) {o} u e =
 not_either : {qa qb r : Roles} {k : Arg} (cs : Cells) {o : LinePiece} {os : List LinePiece}
     → Union qa qb r → qa k ≡ Foreign → is_own qa o ≡ true → pieces r (Some k ∷ cs) ≡ o ∷ os
     → (r k ≡ Foreign) × (pieces r cs ≡ o ∷ os)
-not_either {qa} {qb} {r} {k} cs {o} {os} u f h e = by_owner (belongs u)
-  where
-    by_owner : Belongs qa qb r k → (r k ≡ Foreign) × (pieces r cs ≡ o ∷ os)
-    by_owner (to_first g x y) = let z = ap is_own_role f in absurd cc
-    by_owner (to_second g x y) =
-        let d = head_key qa (r k) k cs (pieces r cs) o (ap is_own_role x ∙ g) e in
-        let z = ap is_own_role f in
-        absurd cc
-    by_owner (to_none x y z) = (z, sym (begin_at k cs (pieces r cs) z) ∙ e)
+not_either cs u f h e = grind (arith, begin_at, belongs, head_key, to_first, to_none, to_second)
 
 -- Where the first piece of both is the first field's, the first field's first is the first of both.
 pub first_mine : {qa qb r : Roles} {cs ds : Cells} {oa o : LinePiece} {os : List LinePiece}
@@ -545,8 +537,7 @@ not_left {qa} {qb} {r} u e h (takes_two {k} {w = j} {cs} x w) (first_later n s) 
 -- Two fields never leave the same items.
 begin_length : (x : Role) (k : Arg) (cs ds : Cells) (os ps : List LinePiece) → length os < length ps
     → length (begin_piece x k cs os) < length (begin_piece x k ds ps)
-begin_length Foreign k cs ds os ps h = h
-begin_length _ k cs ds os ps h = omega arith
+begin_length x k cs ds os ps h = grind arith
 
 -- taking a piece leaves fewer
 takes_shorter : {q : Roles} {cs ds : Cells} {o : LinePiece} → IsNamed q → TakesPiece q cs o ds
@@ -647,18 +638,12 @@ module _ (r : Roles) (n : IsNamed r) where
   -- an argument's key has its value
   own_value : {before after : Cells} {os : List LinePiece} {k : Arg} → Item before k after os
       → r k ≡ WithNext → HasItsValue r before k after os
-  own_value (flag_key e) h = cc
-  own_value (argument_key e i) h = i
-  own_value (value_of_key v i) h = let f = value_foreign n v in cc
-  own_value (positional p) h = let f = word_foreign n p in cc
+  own_value x h = grind (arith, value_foreign, word_foreign)
 
   -- an attached value stands behind such a key
   behind_key : {before after : Cells} {os : List LinePiece} {text : List ℕ}
       → Item before (ArgWord text) after os → EndsInKey r before
-  behind_key {text} (flag_key e) = let f = n.only_keys (ArgWord text) refl in cc
-  behind_key {text} (argument_key e i) = let f = n.only_keys (ArgWord text) refl in cc
-  behind_key (value_of_key v i) = i
-  behind_key (positional p) = cc
+  behind_key x = grind arith
 
   -- what begins with none of the keys are words
   words_alone : {cs : Cells} {os : List LinePiece} → Cut r cs os

@@ -8,11 +8,10 @@ use Rattle.bpaf_base.specs.declared.arg.Arg.TheVariants.{PosWord, Word}
 use Rattle.bpaf_base.specs.Items.{is_positional, is_key_of, item_text, word_text}
 use Rattle.bpaf_base.specs.declared.arg.Arg.{Arg}
 use Rattle.bpaf_doc.specs.{Names.Names, Shape.Part}
-use Rattle.bpaf_text.specs.Named.{argument_part, KeyWithValue, Named as Key, flag_part}
+use Rattle.bpaf_text.specs.Named.{KeyWithValue, Named as Key, flag_part}
 use Rattle.bpaf_line.specs.declared.error.Message.TheVariants.{ParseFailed, NoArgument, Memory}
 use Rattle.bpaf_line.specs.Taking.{TakesFlag, TakesText, HasNone}
 use Rattle.bpaf_line.specs.{Situation.with_current, Situation.Situation, declared.error.Error.Error}
-use Rattle.bpaf_line.specs.declared.error.Message.TheVariants.{NoEnv}
 use Rattle.bpaf_line.specs.declared.error.Message.{Message}
 use Rattle.bpaf_line.proofs.Places.{open_item_there}
 use Rattle.bpaf_laws.specs.Leaves.{TakesKeyWithText, ArgumentOutcome, ArgumentFails, ReadsVariable}
@@ -29,20 +28,18 @@ use Rattle.bpaf_exact.proofs.Cuts.{first_pieces, first_takes, some_trans, never_
 use Rattle.bpaf_exact.proofs.Names.{front_nil, front_one, never_nil, back_one}
 use Rattle.bpaf_exact.proofs.{Wrappers.took_front, Wrappers.gap_empty, Classes.memory_class}
 use Rattle.bpaf_exact.proofs.Product.{steady_refl}
-use Rattle.bpaf_exact.specs.Flat.{alternative_missing, alternative_refused, alternative_memory, Gap}
-use Rattle.bpaf_exact.specs.Flat.{AlternativeErr, AlternativeOk, catch_missing, first_later, ByName}
-use Rattle.bpaf_exact.specs.Flat.{EachWord, OfMemory, class_of, SingleOk, OneWord, FrontOf, Refused}
-use Rattle.bpaf_exact.specs.Flat.{first_one, first_two, FieldKind, OfMissing, Variables, is_behind}
-use Rattle.bpaf_exact.specs.Flat.{Caught, Steady, Groups, gap_of, cells, class, front, back, took}
-use Rattle.bpaf_exact.specs.Flat.{SingleErr, SingleLaw, of_absent, of_memory, TakesAny, of_piece}
-use Rattle.bpaf_exact.specs.Flat.{catch_other, gave_absent, TakesFirst, WordByWord, of_missing}
+use Rattle.bpaf_exact.specs.Flat.{AlternativeErr, AlternativeOk, first_later, gave_absent, EachWord}
+use Rattle.bpaf_exact.specs.Flat.{TakesFirst, WordByWord, first_one, first_two, FieldKind, OfMemory}
+use Rattle.bpaf_exact.specs.Flat.{class_of, SingleOk, TakesAny, of_piece, OneWord, FrontOf, Refused}
+use Rattle.bpaf_exact.specs.Flat.{ByName, Caught, Steady, Groups, gap_of, cells, class, front, back}
+use Rattle.bpaf_exact.specs.Flat.{OfMissing, Variables, is_behind, SingleErr, SingleLaw, of_memory}
 use Rattle.bpaf_exact.specs.ProgramForm.{argument_field, argument_group, argument_roles, flag_field}
 use Rattle.bpaf_exact.specs.ProgramForm.{flag_roles, pure_field, word_fault, CellsValue, FlagValue}
 use Rattle.bpaf_exact.specs.ProgramForm.{ArgumentValue, word_missing, word_memory, word_passed}
 use Rattle.bpaf_exact.specs.ProgramForm.{LastGroup, WordValue, key_field, word_read, WordEval}
 use Rattle.bpaf_exact.specs.Pieces.{stands_behind, TakesPieces, TakesPiece, takes_more, takes_none}
 use Rattle.bpaf_exact.specs.Pieces.{word_roles, LinePiece, WithNext, IsNamed, pieces, Alone, Cells}
-use Rattle.bpaf_exact.specs.Pieces.{Roles, Owns, One, Two}
+use Rattle.bpaf_exact.specs.{Pieces.Roles, Pieces.Owns, Pieces.One, Pieces.Two, Flat.took, Flat.Gap}
 use Rattle.bpaf_exact.specs.{ProgramForm.FormLaw, ProgramForm.word_by, Says.of_kind, Says.Says}
 
 -- a refusal that names a missing item says that items are missing
@@ -54,10 +51,7 @@ misses s part other o = grind arith
 pub absence_class : (s : Situation) (part : Option Part) (envs : List (List ℕ)) (m : Message)
     → IsAbsence s part envs m
     → (class_of m ≡ OfMissing) ⊎ ((class_of m ≡ Caught) × (envs ≡ [] → ⊥))
-absence_class s (Some part) envs m o = inl (misses s (Some part) m o)
-absence_class s None [] m o = inl (misses s None m o)
-absence_class s None (env ∷ envs) (NoEnv name) o = inr (refl, λ e. cc)
-absence_class s None (env ∷ envs) m o = absurd o
+absence_class s x envs m o = grind (arith, misses)
 
 -- What a parser answers where no piece of its own is there: what stands for that; or it is refused;
 -- or an item is missing, where nothing was taken, or something else.
@@ -97,10 +91,7 @@ module _ {T : Type 0} {k : FieldKind} {q : Roles} {gap : Gap T} {other : Type 0}
   -- and so is a refusal
   pub none_err : {group : Groups T} {e : Error} → front k (pieces q (cells s)) ≡ []
       → NoneRead T gap other s (Err e) t → SingleErr T k q group gap s (class e) t
-  none_err p (none_refused c has none) = of_absent c has p none
-  none_err p (none_missing c has same) = of_missing
-      (⊎_elim (λ missing. catch_missing missing) (λ caught. catch_other caught.0) c) has p
-      (λ missing. ap cells (same missing))
+  none_err p x = grind arith
 
   -- the value of a first piece is one of a single evaluation,
   pub first_ok : {value : LinePiece → T → Type 0} {v : T}
@@ -136,13 +127,7 @@ module _ {T : Type 0} {q : Roles} {value : LinePiece → T → Type 0} {gap : Ga
   -- and so is a refusal, where without a piece an item is missing
   alternative_err : {e : Error} → (other → ⊥) → FirstRead T ByName q value gap other s (Err e) t
       → AlternativeErr T q value s (class e) t
-  alternative_err never (read_fault {o} {os} c path is some none) =
-      alternative_refused c path (o, os, is, none)
-  alternative_err never (read_none p (none_refused c h none)) = absurd cc
-  alternative_err never (read_none p (none_missing (inl c) h same)) =
-      rw (same c) (alternative_missing c p refl steady_refl)
-  alternative_err never (read_none p (none_missing (inr c) h same)) = absurd (never c.1)
-  alternative_err never (read_memory c) = alternative_memory c
+  alternative_err never x = grind (arith, steady_refl)
 
 -- a key whose evaluation reads its first piece alone keeps to the laws of its form
 pub key_field_law : {env : Variables} {T : Type 0} {outcome : Outcome T} {q : Roles}
@@ -199,15 +184,12 @@ module _ {T : Type 0} (clones : T → T → Type 0) (present : T) where
   -- where its variable is set, the present one
   gap_set : (absent : Option T) (set : Option (List ℕ)) {v : T} → is_some set ≡ true
       → clones present v → StandsForNone absent set v
-  gap_set absent None e y = absurd cc
-  gap_set absent (Some text) e y = (refl, y)
+  gap_set absent x e y = grind arith
 
   -- else the absent one
   gap_unset : (absent : Option T) (set : Option (List ℕ)) (v : T) → is_some set ≡ false
       → IsSomeRelated clones absent v → StandsForNone absent set v
-  gap_unset None None v e y = absurd y
-  gap_unset (Some kept) None v e y = (refl, y)
-  gap_unset absent (Some text) v e y = absurd cc
+  gap_unset absent x v e y = grind arith
 
   -- without either none does
   gap_none : (absent : Option T) (set : Option (List ℕ)) → is_some set ≡ false → absent ≡ None
@@ -380,29 +362,19 @@ module _ (argument : KeyWithValue) where
     -- the text of a variable stands for no piece
     pub variable_read : {s t : Situation} {text : List ℕ} {v : T} → s.context.env ≡ variables
         → ReadsVariable argument s text t → means text v → Unread s (Ok v) t
-    variable_read {s} {text} {v} same read m =
-        let here = subst (λ z. first_set z argument.named.envs ≡ Some text) same read.set in
-        subst (Unread s (Ok v)) (sym read.left) (subst (λ gap. NoneRead T gap
-        (argument.named.envs ≡ [] → ⊥) s (Ok v) (with_current s None))
-        (ap (gap_of means) (sym here))
-        (none_absent refl m (current_cells s) (same_steady steady_refl)))
+    variable_read same read m =
+        grind (arith, current_cells, named, none_absent, same_steady, steady_refl)
 
     -- one that means no value is refused
     pub variable_fault : {s t : Situation} {e : Error} {text : List ℕ} → s.context.env ≡ variables
         → ReadsVariable argument s text t → class e ≡ Refused → ((v : T) → means text v → ⊥)
         → Unread s (Err e) t
-    variable_fault {s} {t} {e} {text} same read c none =
-        let here = subst (λ z. first_set z argument.named.envs ≡ Some text) same read.set in
-        subst (λ gap. NoneRead T gap (argument.named.envs ≡ [] → ⊥) s (Err e) t)
-        (ap (gap_of means) (sym here)) (none_refused c refl none)
+    variable_fault same read c none = grind (arith, named, none_refused)
 
     -- without one there is no value
     pub nowhere : {s t : Situation} {e : Error} (m : Message) → class e ≡ class_of m
         → s.context.env ≡ variables → IsNowhere argument s m → t ≡ s → Unread s (Err e) t
-    nowhere {s} m c same unset left =
-        let here = subst (λ z. first_set z argument.named.envs ≡ None) same unset.0 in
-        none_missing (rw c (absence_class s (argument_part argument) argument.named.envs m unset.1))
-        (ap (λ z. (gap_of means z).has) here) (λ missing. left)
+    nowhere m c same unset left = grind (arith, absence_class, named, none_missing)
 
   module _ {T : Type 0} (means : List ℕ → T → Type 0)
       (all : argument.last ≡ true) (variables : Variables) where

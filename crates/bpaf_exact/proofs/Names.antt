@@ -112,8 +112,7 @@ kept_twice p q both same (o ∷ os) = by_test (q o) (same o) (kept_twice p q bot
 -- what both keep is what one does that never holds without the other
 kept_within : {p q : LinePiece → Bool} → ((o : LinePiece) → p o ≡ true → q o ≡ true)
     → (os : List LinePiece) → filter p (filter q os) ≡ filter p os
-kept_within {p} {q} part = kept_twice p q p (λ o. same_truth (p o) (q o && p o)
-    (λ e. and_from (q o) (p o) (part o e) e) (λ e. (and_parts (q o) (p o) e).1))
+kept_within part = grind (arith, and_from, and_parts, kept_twice, same_truth)
 
 -- where a test never holds nothing is kept
 kept_none : {p : LinePiece → Bool} → ((o : LinePiece) → p o ≡ false) → (os : List LinePiece)
@@ -404,8 +403,7 @@ nil_each x os none = grind arith
 -- where nothing but what a field leaves is left, none of a named field's keys is
 pub no_keys_left : (k : FieldKind) (q : Roles) (cs : Cells) (os : List LinePiece)
     → pieces q cs ≡ back k os → NoKeysLeft k q cs
-no_keys_left ByName q cs os e = e
-no_keys_left _ q cs os e = tt
+no_keys_left x q cs os e = grind arith
 
 -- what a repeat takes, by whether it stops at the first piece
 pub each_front : (b : Bool) (o : LinePiece) (os : List LinePiece) → front (EachWord b) (o ∷ os)

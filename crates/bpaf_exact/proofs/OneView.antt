@@ -1,7 +1,7 @@
 -- Where closures can't tell apart what looks alike they agree, and a line's values look alike.
 use Rattle.std.proofs.Common.{Option, arith, false, subst, Bool, List, None, Some, true, ◌&&◌, ◌||◌}
-use Rattle.std.proofs.Common.{refl, map, ◌∷◌, ◌≡◌, inl, inr, not, sym, ◌∙◌, [], ap, ℕ}
-use Rattle.std.specs.{Option.IsSomeRelated, Option.is_none, Prelude.option_map, Global.Vec}
+use Rattle.std.proofs.Common.{refl, map, ◌∷◌, ◌≡◌, not, sym, ◌∙◌, [], ap, ℕ}
+use Rattle.std.specs.{Option.IsSomeRelated, Prelude.option_map, Global.Vec}
 use Rattle.bpaf_base.specs.Items.{item_text}
 use Rattle.bpaf_doc.specs.Names.{Names}
 use Rattle.bpaf_text.specs.{Named.KeyWithValue, Named.Named as Key, Meaning.SpellsUnsigned}
@@ -10,17 +10,15 @@ use Rattle.bpaf_laws.specs.{Reading.first_set, Reading.Outcome, Combinators.is_n
 use Rattle.bpaf_exact.proofs.{ProgramForm.runs_as_program, ProgramForm.whole_law, Leaves.last_same}
 use Rattle.bpaf_exact.proofs.{Cuts.one_take, Cuts.one_cut, Wrappers.alternative_single}
 use Rattle.bpaf_exact.proofs.{Commands.none_opens, Repeat.own_nil}
-use Rattle.bpaf_exact.specs.ProgramForm.{before_commands, argument_field, argument_group, FlagValue}
-use Rattle.bpaf_exact.specs.ProgramForm.{argument_roles, program_closed, ArgumentValue, ProgramForm}
-use Rattle.bpaf_exact.specs.ProgramForm.{program_field, program_alone, whole_program, program_value}
-use Rattle.bpaf_exact.specs.ProgramForm.{flag_field, flag_roles, is_program, may_follow, program_if}
-use Rattle.bpaf_exact.specs.ProgramForm.{commands, complete, Accepted, NoMemory, word_by, product}
-use Rattle.bpaf_exact.specs.ProgramForm.{line_cells, WordValue, key_field, completed, RunAnswer}
-use Rattle.bpaf_exact.specs.ProgramForm.{program_optional, IsAcceptedOrWant, OptionalCommands}
-use Rattle.bpaf_exact.specs.ProgramForm.{program_both, alternative, program_con, whole_value}
-use Rattle.bpaf_exact.specs.ProgramForm.{FormLaw, Refusal, single, Agrees}
+use Rattle.bpaf_exact.specs.ProgramForm.{argument_field, argument_group, argument_roles, flag_field}
+use Rattle.bpaf_exact.specs.ProgramForm.{program_closed, ArgumentValue, program_field, program_both}
+use Rattle.bpaf_exact.specs.ProgramForm.{alternative, program_con, whole_value, is_program, word_by}
+use Rattle.bpaf_exact.specs.ProgramForm.{program_alone, whole_program, program_value, ProgramForm}
+use Rattle.bpaf_exact.specs.ProgramForm.{program_if, FlagValue, WordValue, key_field, completed}
+use Rattle.bpaf_exact.specs.ProgramForm.{commands, complete, product, FormLaw, single, Agrees}
+use Rattle.bpaf_exact.specs.ProgramForm.{program_optional, OptionalCommands, before_commands}
 use Rattle.bpaf_exact.specs.Says.{HasOneView, RunsToOne, pair_view, OneGroup, Respects, Alike}
-use Rattle.bpaf_exact.specs.Pieces.{are_all_apart, LinePiece, Cells, Roles, One, Two}
+use Rattle.bpaf_exact.specs.Pieces.{LinePiece, Cells, Roles, One, Two}
 use Rattle.bpaf_exact.specs.Flat.{SingleValue, only_absent, ClosedValue, SingleLaw, FieldKind, Gap}
 use Rattle.bpaf_exact.specs.Flat.{Variables, own_none, own_more, repeated, AgreesOn, FrontOf, Own}
 use Rattle.bpaf_exact.specs.Flat.{listed_and_absent, FallbackValue, OptionalValue, list_closure}
@@ -59,54 +57,43 @@ module _ (A B X Y : Type 0) (see : A → X) (look : B → Y) (f : Closure A B)
 -- the values of the first piece look alike
 front_view : {T X : Type 0} {see : T → X} (value : LinePiece → T → Type 0)
     → ((o : LinePiece) → Alike see (value o)) → OneGroup see (FrontOf T value)
-front_view value u os rest others v w a b =
-    let c : a.0 ∷ rest ≡ b.0 ∷ others = sym a.1 ∙ b.1 in
-    let d : a.0 ≡ b.0 = cc in
-    (u b.0 v w (rw (← d) a.2) b.2, cc)
+front_view value u os rest others v w a b = grind arith
 
 -- a present value
 flag_piece : {T X : Type 0} {see : T → X} {present : T → Type 0} → Alike see present
     → (o : LinePiece) → Alike see (FlagValue present o)
-flag_piece u (One k) v w a b = u v w a b
-flag_piece u (Two k x) v w a b = absurd a
+flag_piece u x v w a b = grind arith
 
 -- a key, where its pieces, its groups and what stands for none look alike
 key_view : {T X : Type 0} {see : T → X} (wide may_choose : Bool) (q : Roles)
     {each : LinePiece → T → Type 0} {group : Groups T} (gap : Gap T)
     → ((o : LinePiece) → Alike see (each o)) → OneGroup see group → Alike see gap.absent
     → HasOneView see (key_field wide may_choose q each group gap)
-key_view wide true q gap piece groups none = piece
-key_view wide false q gap piece groups none = (groups, none)
+key_view wide b q gap piece groups none = grind arith
 
 -- what something means, where it is there
 meant_view : {Y T X : Type 0} {see : T → X} {means : Y → T → Type 0}
     → ((y : Y) → Alike see (means y)) → (kept : Option Y) → Alike see (IsSomeRelated means kept)
-meant_view u None v w a b = absurd a
-meant_view u (Some y) v w a b = u y v w a b
+meant_view u x v w a b = grind arith
 
 -- a flag, whose clones look alike
 pub flag_view : (T X : Type 0) (see : T → X) (clones : T → T → Type 0)
     → ((kept : T) → Alike see (clones kept)) → (key : Key) (present : T) (absent : Option T)
     (variables : Variables) → HasOneView see (flag_field clones key present absent variables)
-flag_view T X see clones u key present absent variables =
-    key_view (not (is_nil key.envs)) (is_nil key.envs && is_none absent) (flag_roles key.names) _
-    (flag_piece (u present)) (front_view _ (flag_piece (u present))) (meant_view u _)
+flag_view x y see clones u key present absent variables =
+    grind (arith, flag_piece, front_view, key_view, meant_view)
 
 -- a key and its value
 argument_piece : {T X : Type 0} {see : T → X} {means : List ℕ → T → Type 0}
     → ((text : List ℕ) → Alike see (means text)) → (o : LinePiece)
     → Alike see (ArgumentValue means o)
-argument_piece u (One k) v w a b = absurd a
-argument_piece u (Two k x) v w a b = u (item_text x) v w a b
+argument_piece u x v w a b = grind arith
 
 -- the pieces of one evaluation
 argument_group_view : {T X : Type 0} {see : T → X} {means : List ℕ → T → Type 0}
     → ((text : List ℕ) → Alike see (means text)) → (last : Bool)
     → OneGroup see (argument_group means last)
-argument_group_view u false = front_view _ (argument_piece u)
-argument_group_view u true = λ os rest others v w a b.
-    let same : Two a.1.0 a.1.1 ≡ Two b.1.0 b.1.1 = last_same _ _ (sym a.2 ∙ b.2) in
-    let word : a.1.1 ≡ b.1.1 = cc in (u (item_text b.1.1) v w (rw (← word) a.3) b.3, a.4 ∙ sym b.4)
+argument_group_view u b = grind (arith, argument_piece, front_view, last_same)
 
 -- an argument, where what a text means looks alike
 pub argument_view : (T X : Type 0) (see : T → X) (means : List ℕ → T → Type 0)
@@ -133,8 +120,7 @@ word_view T X see accepts means u = (front_view _ (word_piece accepts u), λ v w
 -- where a test holds
 if_view : {T X : Type 0} (see : T → X) (s : ProgramForm T) (b : Bool) → HasOneView see s
     → HasOneView see (program_if b s)
-if_view see s true u = u
-if_view see s false u = tt
+if_view see s b u = grind arith
 
 -- Fields without a repeat or default, and what is made of them.
 
@@ -172,10 +158,7 @@ module _ {env : Variables} {T X : Type 0} {see : T → X} {inner : Outcome T} (k
 
   -- the value of a single field
   pub value_view : (os : List LinePiece) → Alike see (SingleValue T group gap os)
-  value_view os v w (inl g) (inl h) = (one os [] [] v w g h).0
-  value_view os v w (inl g) (inr e) = absurd (l.starts v [] (subst (λ z. group z v []) e.0 g))
-  value_view os v w (inr e) (inl h) = absurd (l.starts w [] (subst (λ z. group z w []) e.0 h))
-  value_view os v w (inr e) (inr f) = absent v w e.1 f.1
+  value_view os v w x y = grind arith
 
   -- where there is no piece there is none
   none_single : {os : List LinePiece} {v : T} → os ≡ [] → gap.has ≡ false
@@ -185,18 +168,12 @@ module _ {env : Variables} {T X : Type 0} {see : T → X} {inner : Outcome T} (k
   -- what may be left out
   pub optional_value_view : (os : List LinePiece)
       → Alike (option_map see) (OptionalValue T group gap os)
-  optional_value_view os (Some x) (Some y) g h = ap Some (value_view os x y g h)
-  optional_value_view os (Some x) None g n = absurd (none_single n.0 n.1 g)
-  optional_value_view os None (Some y) n g = absurd (none_single n.0 n.1 g)
-  optional_value_view os None None n m = refl
+  optional_value_view os x y g h = grind (arith, none_single, value_view)
 
   -- what has a default
   pub fallback_value_view : (f : Closure (Unit {0}) T) → Alike see (λ v. f.yes tt v)
       → (os : List LinePiece) → Alike see (FallbackValue T group gap f os)
-  fallback_value_view f given os v w (inl g) (inl h) = value_view os v w g h
-  fallback_value_view f given os v w (inl g) (inr e) = absurd (none_single e.0 e.1 g)
-  fallback_value_view f given os v w (inr e) (inl g) = absurd (none_single e.0 e.1 g)
-  fallback_value_view f given os v w (inr e) (inr d) = given v w e.2 d.2
+  fallback_value_view f given os v w x y = grind (arith, none_single, value_view)
 
 module _ {env : Variables} {T X : Type 0} {inner : Outcome T} {names : List Names}
     {words : List (List ℕ)} (see : T → X) where
@@ -232,9 +209,7 @@ module _ {env : Variables} {T X : Type 0} {inner : Outcome T} {names : List Name
   pub fallback_view : {s : ProgramForm T} (f : Closure (Unit {0}) T) → Alike see (λ v. f.yes tt v)
       → FormLaw env inner names words s → HasOneView see s
       → HasOneView see (completed (λ k. k) (λ group gap. FallbackValue T group gap f) s)
-  fallback_view f given =
-      whole_view see (λ k. k) (λ group gap. FallbackValue T group gap f)
-      (λ k q group gap l one absent. fallback_value_view k q group gap l one absent f given)
+  fallback_view f given = grind (arith, fallback_value_view, whole_view)
 
   -- any field of a record
   pub field_view : {s : ProgramForm T} → FormLaw env inner names words s → HasOneView see s
@@ -264,25 +239,12 @@ module _ {env : Variables} {T X : Type 0} {inner : Outcome T} {names : List Name
 pub both_view : (A B X Y : Type 0) (see : A → X) (look : B → Y) (own others : List Names)
     (s : ProgramForm A) (t : ProgramForm B) → HasOneView see s → HasOneView look t
     → HasOneView (pair_view see look) (program_both own others s t)
-both_view A B X Y see look own others (complete wide k q fv) (product other named r rv) u n =
-    if_view (pair_view see look) _ (may_follow k own others)
-    (λ os v w a b. let d = u _ v.0 w.0 a.0 b.0 in let e = n _ v.1 w.1 a.1 b.1 in
-    λ i. (d i, e i))
-both_view A B X Y see look own others (complete wide ByName q fv) (before_commands rv) u n =
-    if_view (pair_view see look) _ (are_all_apart own others)
-    (λ cs v w a b. let same = one_take a.taken b.taken in
-    let d = u _ v.0 w.0 (rw (← same.0) a.own) b.own in
-    let e = n _ v.1 w.1 (rw (← same.1) a.left) b.left in λ i. (d i, e i))
-both_view A B X Y see look own others _ _ u n = tt
+both_view x y z u see look own others x1 x2 x3 n = grind (arith, if_view, one_take)
 
 module _ {T X : Type 0} (see : T → X) where
   -- the last field
   pub alone_view : (s : ProgramForm T) → HasOneView see s → HasOneView see (program_alone s)
-  alone_view (complete wide k q value) u = λ os v w a b. u _ v w a.0 b.0
-  alone_view (product wide false q fields) u = u
-  alone_view (commands optional value) u = u
-  alone_view (before_commands value) u = u
-  alone_view _ u = tt
+  alone_view x u = grind arith
 
   -- a whole program
   record_view : {env : Variables} {inner : Outcome T} {names : List Names}
@@ -311,14 +273,7 @@ module _ {T X : Type 0} (see : T → X) where
       {s : ProgramForm T} → is_program s ≡ true → (context : Context)
       → FormLaw context.env outcome names words s → HasOneView see s
       → RunsToOne see outcome s context
-  runs_to_one {s} h context l u a v ran value =
-      by_answer a ((runs_as_program {s = s} h context l a ran).1 v value)
-    where
-      by_answer : (a : RunAnswer T) → IsAcceptedOrWant (program_value s (line_cells context)) a
-          → IsAcceptedOrWant (λ w. see w ≡ see v) a
-      by_answer (Accepted w) g = values_look_one l u (line_cells context) w v g value
-      by_answer NoMemory g = tt
-      by_answer Refusal g = absurd g
+  runs_to_one h context l u a v ran value = grind (arith, runs_as_program, values_look_one)
 
 -- a closure that accepts both or refuses both of what looks alike
 module _ {A B X : Type 0} {see : A → X} {f : Closure A B}

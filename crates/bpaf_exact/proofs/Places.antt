@@ -22,8 +22,7 @@ use Rattle.bpaf_exact.specs.{Flat.first_two, Flat.NotOwn, Flat.Steady, Flat.cell
 
 -- taking a place changes what is taken and the current place alone
 pub take_steady : {s : Situation} {p : ℕ} → Steady s (take_place s p)
-take_steady {s} {p} =
-    record { context = refl; start = refl; end = refl; path = refl; keeps = taken_stays s p }
+take_steady = grind (arith, taken_stays)
 
 -- what is at the first places decides their cells
 pub same_cells : {at : ℕ → Option Arg} (other : ℕ → Option Arg) (n : ℕ)
@@ -235,9 +234,7 @@ test_named test names own asks = record {
 -- where a place has no match, nothing of the field's own is there
 not_own : {test : Arg → Bool} {r : Roles} {own : Role} (s : Situation) (p : ℕ) → ByTest test r own
     → is_match test s p ≡ false → NotOwn r (open_item s p)
-not_own {test} {r} s p t e =
-    elim (open_item s p) as (λ c. option_map_or test c false ≡ false → NotOwn r c)
-    [ None ↦ λ h. tt | Some k ↦ λ h. t.no k h ] e
+not_own s p t e = grind (arith, no)
 
 -- nothing of the field's own stands before the first match
 none_before : {test : Arg → Bool} {r : Roles} {own : Role} {s : Situation} {p : ℕ}

@@ -5,14 +5,13 @@ use Rattle.std.proofs.Common.{List, None, Some, refl, true, ap₂, inl, inr, not
 use Rattle.std.proofs.Common.{Ok, [], ap}
 use Rattle.bpaf_base.specs.declared.arg.Arg.{Arg}
 use Rattle.bpaf_line.specs.{Situation.with_current, Situation.Situation, declared.error.Error.Error}
-use Rattle.bpaf_line.specs.Messages.{is_memory}
 use Rattle.bpaf_laws.specs.Product.{ProductOutcome, BothOutcome, joined}
 use Rattle.bpaf_laws.specs.Reading.{Outcome}
-use Rattle.bpaf_exact.proofs.Cuts.{either_right, word_foreign, nil_foreign, union_named, named_cuts}
+use Rattle.bpaf_exact.proofs.Cuts.{words_of_cut, either_union, nil_foreign, union_named, named_cuts}
 use Rattle.bpaf_exact.proofs.Cuts.{keeps_other_some, others_foreign, take_some_from, pieces_of_cut}
-use Rattle.bpaf_exact.proofs.Cuts.{put_back_some, value_foreign, words_of_cut, either_union, Union}
-use Rattle.bpaf_exact.proofs.Cuts.{cut_empty, to_second, begin_at, nil_rest, both_nil, own_next}
-use Rattle.bpaf_exact.proofs.Cuts.{swap_union, takes_left, some_trans, empty_cut, words_cut}
+use Rattle.bpaf_exact.proofs.Cuts.{put_back_some, value_foreign, either_right, word_foreign, Union}
+use Rattle.bpaf_exact.proofs.Cuts.{empty_cut, words_cut, begin_at, nil_rest, both_nil, own_next}
+use Rattle.bpaf_exact.proofs.Cuts.{swap_union, takes_left, some_trans, cut_empty, to_second}
 use Rattle.bpaf_exact.proofs.Cuts.{to_first, Belongs, belongs, to_none}
 use Rattle.bpaf_exact.proofs.Classes.{memory_class}
 use Rattle.bpaf_exact.specs.Flat.{FieldsReading, present_count, both_reading, NonePresent, FieldLaw}
@@ -115,8 +114,7 @@ step_back k value n b f c =
 -- a field that left nothing of its own
 pub none_left : (k : FieldKind) (q : Roles) {r : Roles} {cs : Cells} {os : List LinePiece}
     → OwnItems k q → Before k q r → Cut r cs os → NoKeysLeft k q cs
-none_left ByName q n b c = no_own_in_cut n b c
-none_left _ q n b c = tt
+none_left x q n b c = grind (arith, no_own_in_cut)
 
 -- The cut after a field was evaluated.
 
@@ -142,9 +140,7 @@ step_on k {r} n b t e c =
 -- the keys of all are keys
 pub both_named : (k : FieldKind) (q : Roles) {r : Roles} → OwnItems k q → IsNamed r
     → IsNamed (either (keys k q) r)
-both_named ByName q n m =
-    record { only_keys = λ a h. either_right (q a) (n.only_keys a h) ∙ m.only_keys a h }
-both_named _ q n m = m
+both_named x q n m = grind (arith, either_right)
 
 -- what follows of an answer
 abbrev follows : {T : Type 0} → (Situation → T → Situation → Type 0)
@@ -168,18 +164,7 @@ module _ {env : Variables} {A B : Type 0} {first : Outcome A} {rest : Outcome B}
   -- by the answers of both
   of_joined : {s m t : Situation} (a : Result A Error) (b : Result B Error) → IsWholeIn env s
       → first s a m → rest m b t → follows gave refused s (joined a b) t
-  of_joined {s} {m} {t} (Ok x) (Ok y) w f g =
-      let i = lf.keeps.ok s m x w f in
-      of_both s m t x y i (lr.ok m t y (none_outside_after w i.steady) g)
-  of_joined {s} {m} {t} (Ok x) (Err e) w f g =
-      let i = lf.keeps.ok s m x w f in
-      of_rest s m t x (class e) i (lr.err m t e (none_outside_after w i.steady) g)
-  of_joined {s} {m} (Err d) (Ok y) w f g = of_first s (class d) (lf.keeps.err s m d w f)
-  of_joined {s} {m} {t} (Err d) (Err e) w f g = by_test (is_memory e.0) refl
-    where
-      by_test : (b : Bool) → is_memory e.0 ≡ b → follows gave refused s (if b then Err e else Err d) t
-      by_test true h = of_first s (class e) (λ v i. memory_class e.0 h)
-      by_test false h = of_first s (class d) (lf.keeps.err s m d w f)
+  of_joined x y w f g = grind (arith, memory_class, none_outside_after)
 
   -- the laws
   pub both_keeps : KeepsTo env (A × B) (BothOutcome first rest) gave (λ s c t. refused s c)
@@ -250,11 +235,7 @@ module _ {env : Variables} {T : Type 0} {outcome : Outcome T} {k : FieldKind} {q
     {value : List LinePiece → T → Type 0} (l : FieldLaw env T outcome k q value) where
   -- a field may stand before none
   pub before_none : Before k q no_roles
-  before_none = by_kind k
-    where
-      by_kind : (z : FieldKind) → Before z q no_roles
-      by_kind ByName = record { left = λ a h. refl; right = λ a h. absurd cc }
-      by_kind _ = λ a. refl
+  before_none = grind arith
 
   -- its keys are keys
   keys_named : IsNamed (either (keys k q) no_roles)
@@ -299,8 +280,7 @@ current_cells s = refl
 
 -- a step that takes the same is as steady, whichever place is current
 pub same_steady : {s t : Situation} → Steady s t → Steady s (with_current t None)
-same_steady a =
-    record { context = a.context; start = a.start; end = a.end; path = a.path; keeps = a.keeps }
+same_steady a = grind arith
 
 -- what a constructor makes of the values of fields keeps to what follows of each answer of theirs
 pub con_keeps : {env : Variables} {A B : Type 0} {fields : Outcome A} {makes : A → B → Type 0}
@@ -370,12 +350,7 @@ module _ (p q r : Roles) (test : LinePiece → Bool) where
 module _ {p q r : Roles} (u : Union p q r) where
   -- of the pieces of both the first one's are its own,
   pub mine_of_both : (cs : Cells) → mine p (pieces r cs) ≡ pieces p cs
-  mine_of_both = kept_pieces p p r (is_own p) (λ k. by_owner (belongs u))
-    where
-      by_owner : {k : Arg} → Belongs p q r k → Kept p p r (is_own p) k
-      by_owner (to_first h g f) = kept g (λ o e. e ∙ h)
-      by_owner (to_second h g f) = passed_by f (λ o e. e ∙ ap is_own_role f)
-      by_owner (to_none f g h) = passed_by f (λ o e. e ∙ ap is_own_role f)
+  mine_of_both = grind (arith, Belongs, belongs, kept_pieces, to_first, to_none, to_second)
 
   -- and the others the second one's
   pub others_of_both : (cs : Cells) → others p (pieces r cs) ≡ pieces q cs

@@ -122,11 +122,7 @@ module _ {V : Type 0} {outcome : Outcome V} {context : Context} (value : CellsVa
       → ((t : Situation) (e : Error) → outcome (beginning context) (Err e) t → class e ≡ OfMemory)
       → {a : RunAnswer V} → RunRan V outcome (beginning context) a
       → IsAcceptedOrWant (value (line_cells context)) a
-  run_complete all want (run_value {v = x} {t} o e) = rw (← first_cells_are context) (all t x o).0
-  run_complete all want (run_leftover {v = x} {t} o e n) =
-      absurd (e (open_present t ∙ count_none (all t x o).1))
-  run_complete all want (run_memory o e) = tt
-  run_complete all want (run_refusal {e = x} {t} o e n) = absurd (e (want t x o))
+  run_complete all want x = grind (arith, count_none, first_cells_are, open_present)
 
 module _ {V : Type 0} {outcome : Outcome V} {r : Roles} {reading : FieldsReading V}
     {context : Context} (l : FieldsLaw context.env V outcome r reading) where
@@ -157,8 +153,7 @@ if_law : {env : Variables} {T : Type 0} {outcome : Outcome T} {names : List Name
     {words : List (List ℕ)} {s : ProgramForm T} (b : Bool)
     → (b ≡ true → FormLaw env outcome names words s)
     → FormLaw env outcome names words (program_if b s)
-if_law true f = f refl
-if_law false f = record { by = tt }
+if_law b f = grind arith
 
 -- a closure
 pub program_closed_law : {env : Variables} {A B : Type 0} {inner : Outcome A} {names : List Names}
@@ -190,17 +185,12 @@ program_closed_law f g l = record { by = tt }
 -- A closure that never refuses agrees with every form: map, count, collect, a constructor.
 pub never_refuses : {A B : Type 0} (f : Closure A B) → ((x : A) → f.no x → ⊥) → (s : ProgramForm A)
     → Agrees f s
-never_refuses f n (single wide k q group gap) =
-    (λ os rest x y v a b g h. n y h, λ x y v a b g h. n y h)
-never_refuses f n no_program = tt
-never_refuses f n (before_commands value) = tt
-never_refuses f n _ = λ os x y v a b g h. n y h
+never_refuses f n x = grind arith
 
 -- a repeat has the keys of the field
 repeated_keys : (k : FieldKind) (q : Roles) {names : List Names} → Owns (keys k q) names
     → Owns (keys (repeated k) q) names
-repeated_keys ByName q o = o
-repeated_keys _ q o = o
+repeated_keys x q o = grind arith
 
 -- a repeat or default round a field
 completed_law : {env : Variables} {T B : Type 0} {inner : Outcome T} {outer : Outcome B}
@@ -347,8 +337,7 @@ module _ {env : Variables} {T : Type 0} {outcome : Outcome T} {names : List Name
       by_name : (j : FieldKind) → FieldLaw env T outcome j q value
           → NamedLaw env (is_named j) outcome (either (keys j q) no_roles)
           (last_reading j q value).value
-      by_name ByName l = named_last_law l
-      by_name _ l = tt
+      by_name x l = grind (arith, named_last_law)
   program_alone_law {s = product wide false q fields} l = record { by = l.by }
   program_alone_law {s = commands false value} l = record {
     by = record { roles = l.by.roles; program = l.by.commands.program; owns = l.by.owns };
@@ -526,8 +515,7 @@ narrower_form {env} {a} {b} {s = product wide named q fields} n l = record {
 }
   where
     by_name : (all : Bool) → NamedLaw env all a q fields.value → NamedLaw env all b q fields.value
-    by_name true l = record { own = l.own; keeps = narrower n l.keeps }
-    by_name false l = tt
+    by_name b l = grind (arith, narrower)
 narrower_form {s = commands false value} n l = record {
   by = record {
     roles = l.by.roles;

@@ -378,11 +378,7 @@ module _ {env : Variables} {A B : Type 0} {first : Outcome A} {rest : Outcome B}
   -- its answer is one on them, and what it left are the cells that the others' value is on
   first_gives : {s m : Situation} {x : A} {u : A × B} → FieldTook A ByName q fv s x m
       → (h : value (cells s) u) → fv h.own_pieces x × (cells m ≡ h.left_cells)
-  first_gives {u} i h =
-      let none = i.all u.0 (own_value h) in (
-        rw (taken_pieces lf.own h.taken) (i.read none),
-        (one_take (all_taken i.takes none).1 h.taken).1,
-      )
+  first_gives i h = grind (arith, all_taken, one_take, own_value, taken_pieces)
 
   -- the laws
   pub before_law : ProgramLaw env (A × B) (BothOutcome first rest) (either q r) value

@@ -9,13 +9,12 @@ use Rattle.bpaf_exact.proofs.Product.{none_outside_after, steady_trans, steady_r
 use Rattle.bpaf_exact.proofs.Places.{takes_some_fewer, open_present, takes_fewer}
 use Rattle.bpaf_exact.proofs.Classes.{memory_class, stops_at, goes_on}
 use Rattle.bpaf_exact.proofs.Cuts.{some_trans}
-use Rattle.bpaf_exact.specs.Flat.{nothing_found, some_closure, catch_other, gave_absent, ErrorClass}
-use Rattle.bpaf_exact.specs.Flat.{only_absent, FieldKind, FieldTook, IsWholeIn, OfMissing, FieldLaw}
-use Rattle.bpaf_exact.specs.Flat.{CanCatch, Readable, SingleOk, TakesAny, own_more, own_none, cells}
-use Rattle.bpaf_exact.specs.Flat.{repeated, AgreesOn, OwnList, ByName, Steady, Groups, caught, back}
-use Rattle.bpaf_exact.specs.Flat.{listed_and_absent, present_count, RepeatOutcome, catch_missing}
-use Rattle.bpaf_exact.specs.Flat.{Variables, SingleErr, SingleLaw, TookGroup, OfMemory, OwnItems}
-use Rattle.bpaf_exact.specs.Flat.{listed, LastOf, class, front, Stops, took, Gap, Own}
+use Rattle.bpaf_exact.specs.Flat.{gave_absent, only_absent, ErrorClass, FieldKind, FieldTook, cells}
+use Rattle.bpaf_exact.specs.Flat.{FieldLaw, CanCatch, Readable, SingleOk, TakesAny, own_more, class}
+use Rattle.bpaf_exact.specs.Flat.{own_none, repeated, AgreesOn, OfMemory, OwnItems, OwnList, Steady}
+use Rattle.bpaf_exact.specs.Flat.{IsWholeIn, OfMissing, Variables, SingleErr, SingleLaw, TookGroup}
+use Rattle.bpaf_exact.specs.Flat.{listed_and_absent, present_count, RepeatOutcome, some_closure}
+use Rattle.bpaf_exact.specs.Flat.{Groups, listed, LastOf, front, Stops, back, took, Gap, Own}
 use Rattle.bpaf_exact.specs.Pieces.{TakesPieces, takes_more, takes_none, LinePiece, pieces, Cells}
 use Rattle.bpaf_exact.specs.Pieces.{Roles}
 
@@ -26,8 +25,7 @@ same_takes e = rw e takes_none
 -- what has an own list can be read
 readable : {T : Type 0} (k : FieldKind) {group : Groups T} (os : List LinePiece) {vs : List T}
     → Own T group (front (repeated k) os) vs → Readable k group os
-readable ByName os {vs} o = (vs, o)
-readable _ os o = tt
+readable x os o = grind arith
 
 -- where the cells are the same as many items are present
 pub same_count : (s m : Situation) → cells m ≡ cells s → open_count m ≡ open_count s
@@ -36,13 +34,11 @@ same_count s m e = open_present m ∙ (ap present_count e ∙ sym (open_present 
 -- a turn that took nothing stops at what can be caught
 pub stops_by : {s m : Situation} {e : Error} → CanCatch (class e)
     → (class e ≡ OfMissing → cells m ≡ cells s) → Stops e s m
-stops_by {s} {m} (catch_missing c) same = nothing_found c (same_count s m (same c))
-stops_by (catch_other c) same = caught c
+stops_by x same = grind (arith, same_count)
 
 -- a turn stops at what can be caught
 pub stopped_by : {s m : Situation} {e : Error} → Stops e s m → CanCatch (class e)
-stopped_by (nothing_found c same) = catch_missing c
-stopped_by (caught c) = catch_other c
+stopped_by x = grind arith
 
 -- where it can be caught there is no piece, and no absent value
 pub catch_none : {T : Type 0} {k : FieldKind} {q : Roles} {group : Groups T} {gap : Gap T}
@@ -99,12 +95,7 @@ module _ {env : Variables} {T : Type 0} {inner : Outcome T} {k : FieldKind} {q :
 
   -- where a piece was taken fewer items are present
   fewer_count : (s m : Situation) → TakesAny q (cells s) (cells m) → open_count m < open_count s
-  fewer_count s m t =
-      let a = takes_fewer t.one in
-      let d = takes_some_fewer t.more in
-      let b = open_present m in
-      let c = open_present s in
-      omega arith
+  fewer_count s m t = grind (arith, open_present, takes_fewer, takes_some_fewer)
 
   -- a repeat that ends where there is no piece
   ended : (told : List LinePiece → Type 0) {s t : Situation} → Steady s t
@@ -280,8 +271,7 @@ module _ {env : Variables} {T : Type 0} {inner : Outcome T} {k : FieldKind} {q :
 
   -- the items of a repeat are those of the field
   own_repeated : OwnItems (repeated k) q
-  own_repeated =
-      elim k as (λ z. OwnItems z q → OwnItems (repeated z) q) [ ByName ↦ λ o. o | _ ↦ λ o. o ] l.own
+  own_repeated = grind arith
 
   -- many, and what is built on it: the values of the own list
   pub repeat_law : (idle : Bool) → FieldLaw env (List T) (RepeatOutcome inner idle) (repeated k) q
@@ -315,8 +305,7 @@ module _ {env : Variables} {T : Type 0} {inner : Outcome T} {k : FieldKind} {q :
   -- an empty list under a repeat comes of no piece
   empty_list : {os : List LinePiece} {vs : List T} → vs ≡ [] → OwnList T group gap os vs
       → Nothing os
-  empty_list e (listed h o) = nothing h (own_empty e o)
-  empty_list e _ = absurd cc
+  empty_list e x = grind (arith, own_empty)
 
   -- and no piece gives an empty list
   empty_nothing : {os : List LinePiece} {vs : List T} → Nothing os → OwnList T group gap os vs
@@ -330,16 +319,8 @@ module _ {env : Variables} {T : Type 0} {inner : Outcome T} {k : FieldKind} {q :
   -- so the evaluation after an empty list answers no value
   again_ok : (s : Situation) {m : Situation} (t : Situation) (v : T) → IsWholeIn env s
       → UntilRest inner s [] m → inner m (Ok v) t → ⊥
-  again_ok s {m} t v w f g =
-      let i = repeat_took true w f in
-      by_empty (empty_list refl i.list) i.none (l.keeps.ok m t v (none_outside_after w i.steady) g)
-    where
-      by_empty : Nothing (front (repeated k) (pieces q (cells s)))
-          → pieces q (cells m) ≡ back (repeated k) (pieces q (cells s))
-          → SingleOk T k q group gap m v t → ⊥
-      by_empty (nothing h e) p o =
-          let same : pieces q (cells m) ≡ pieces q (cells s) = p ∙ back_all (repeated k) e in
-          none_given (nil_each k _ (ap (front (repeated k)) same ∙ e), h) o
+  again_ok s t v w f g =
+      grind (arith, back_all, empty_list, nil_each, none_given, none_outside_after, repeat_took)
 
   -- a last value is that of the own list
   last_took : (s t : Situation) (v : T) → IsWholeIn env s → LastOutcome inner s (Ok v) t

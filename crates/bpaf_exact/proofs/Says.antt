@@ -36,8 +36,7 @@ key_says : {T : Type 0} {said : Said T} {names : List Names} {cells : CellsValue
     → ((os rest : List LinePiece) (v : T) → group os v rest → FrontSays said os v rest)
     → ((v : T) → gap.absent v → said [] v)
     → Says names (key_field wide may_choose q each group gap) (of_kind ByName) false said cells
-key_says wide true q gap piece groups none = record { by = (refl, refl, piece) }
-key_says wide false q gap piece groups none = record { by = (refl, refl, groups, none) }
+key_says wide b q gap piece groups none = grind arith
 
 -- a flag
 module _ {T : Type 0} (clones : T → T → Type 0) (present : T) where
@@ -175,8 +174,7 @@ module _ {T : Type 0} (said : Said T) (one : LinePiece → T → Type 0)
       rw (front.is ∙ ap (λ part. part ++ rest) first.is) (first.said, in_turn rest vs more)
 
   one_by_one : {os : List LinePiece} {vs : List T} → RepeatSays said os vs → AllZip one os vs
-  one_by_one {os} {vs} (says_in_turn turns) = in_turn os vs turns
-  one_by_one (says_alone a none is told) = let first = of_one [] a told in absurd cc
+  one_by_one x = grind (arith, in_turn)
 
 -- Of a repeated argument with no variable set: what the texts behind its keys mean, in line order.
 pub argument_values : {T : Type 0} {means : List ℕ → T → Type 0} {last : Bool}

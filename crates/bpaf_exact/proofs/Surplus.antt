@@ -1,14 +1,13 @@
 -- A surplus occurrence, a surplus word and an occurrence without a value leave a field no value.
-use Rattle.std.proofs.Common.{Option, arith, false, Bool, List, true, None, not, ◌∷◌, ◌≡◌, ◌≢◌, []}
-use Rattle.std.proofs.Common.{ℕ}
+use Rattle.std.proofs.Common.{Option, arith, Bool, List, not, ◌∷◌, ◌≡◌, ◌≢◌, [], ℕ}
 use Rattle.bpaf_exact.proofs.Wrappers.{own_bad}
 use Rattle.bpaf_exact.specs.Flat.{FieldsReading, FallbackValue, OptionalValue, both_reading, Groups}
 use Rattle.bpaf_exact.specs.Flat.{SingleValue, FieldKind, HasValue, own_more, own_none, portion}
-use Rattle.bpaf_exact.specs.Flat.{FrontOf, OwnList, Closure, gap_of, HasBad, left, Gap}
-use Rattle.bpaf_exact.specs.ProgramForm.{ProgramForm, alternative, program_if, completed, AtMostOne}
+use Rattle.bpaf_exact.specs.Flat.{FrontOf, OwnList, Closure, HasBad, left, Gap}
 use Rattle.bpaf_exact.specs.ProgramForm.{program_closed, program_field, HasNoSurplus, last_reading}
-use Rattle.bpaf_exact.specs.ProgramForm.{key_field, complete, IsPartOf, OneByOne, product, word_by}
-use Rattle.bpaf_exact.specs.{Pieces.LinePiece, Pieces.Roles, ProgramForm.single}
+use Rattle.bpaf_exact.specs.ProgramForm.{ProgramForm, program_if, completed, AtMostOne, key_field}
+use Rattle.bpaf_exact.specs.ProgramForm.{IsPartOf, OneByOne, word_by}
+use Rattle.bpaf_exact.specs.Pieces.{LinePiece, Roles}
 
 -- A surplus occurrence.
 
@@ -38,51 +37,40 @@ group_once one o p os v g = let i = one (o ∷ p ∷ os) [] v g in let e = i.1 i
 -- a closure round a field keeps that
 pub closed_no_surplus : {A B : Type 0} (f : Closure A B) (s : ProgramForm A) → HasNoSurplus s
     → HasNoSurplus (program_closed f s)
-closed_no_surplus f (single wide k q group gap) h = λ os rest v g. h os rest g.from g.read
-closed_no_surplus f (complete wide k q value) h = λ o p os v i. h o p os i.from i.read
-closed_no_surplus f _ h = tt
+closed_no_surplus f x h = grind arith
 
 -- what a repeat or default makes of a field, where it leaves two without a value, has no surplus
 completed_once : {T B : Type 0} (value : Groups T → Gap T → List LinePiece → B → Type 0)
     → ((group : Groups T) (gap : Gap T) → OneByOne group → AtMostOne (value group gap))
     → (s : ProgramForm T) → HasNoSurplus s → HasNoSurplus (completed (λ k. k) value s)
-completed_once value once (alternative wide q each) h = once _ (gap_of each None) (front_one each)
-completed_once value once (single wide k q group gap) h = once group gap h
-completed_once value once _ h = tt
+completed_once value once x h = grind (arith, front_one)
 
 -- a field without a repeat or default has no surplus
 pub field_no_surplus : {T : Type 0} (s : ProgramForm T) → HasNoSurplus s
     → HasNoSurplus (program_field s)
-field_no_surplus (product wide named q fields) h = absurd h
-field_no_surplus (complete wide k q value) h = h
-field_no_surplus {T} s h = completed_once (SingleValue T)
-    (λ group gap one o p os. single_none group gap (λ e. cc) (group_once one o p os)) s h
+field_no_surplus s h = grind (arith, completed_once, group_once, single_none)
 
 -- nor has what may be left out
 pub optional_no_surplus : {T : Type 0} (s : ProgramForm T) → HasNoSurplus s
     → HasNoSurplus (completed (λ k. k) (OptionalValue T) s)
-optional_no_surplus {T} = completed_once (OptionalValue T)
-    (λ group gap one o p os. optional_none group gap (λ e. cc) (group_once one o p os))
+optional_no_surplus = grind (arith, completed_once, group_once, optional_none)
 
 -- nor what has a value that stands for it
 pub fallback_no_surplus : {T : Type 0} (f : Closure (Unit {0}) T) (s : ProgramForm T)
     → HasNoSurplus s
     → HasNoSurplus (completed (λ k. k) (λ group gap. FallbackValue T group gap f) s)
-fallback_no_surplus {T} f = completed_once (λ group gap. FallbackValue T group gap f)
-    (λ group gap one o p os. fallback_none group gap (λ e. cc) (group_once one o p os) f)
+fallback_no_surplus f = grind (arith, completed_once, fallback_none, group_once)
 
 -- whether `catch` is set changes nothing there
 pub unless_no_surplus : {T : Type 0} (catch : Bool) (s : ProgramForm T) → HasNoSurplus s
     → HasNoSurplus (program_if (not catch) s)
-unless_no_surplus true s h = tt
-unless_no_surplus false s h = h
+unless_no_surplus b s h = grind arith
 
 -- a flag has none, nor an argument, but for one that takes all its keys at once
 pub key_no_surplus : {T : Type 0} (wide may_choose : Bool) (q : Roles)
     (each : LinePiece → T → Type 0) (gap : Gap T)
     → HasNoSurplus (key_field wide may_choose q each (FrontOf T each) gap)
-key_no_surplus wide true q each gap = tt
-key_no_surplus wide false q each gap = front_one each
+key_no_surplus wide b q each gap = grind (arith, front_one)
 
 -- nor a word
 pub word_no_surplus : {T : Type 0} (accepts : Bool → Bool) (means : List ℕ → T → Type 0)
@@ -138,8 +126,7 @@ module _ (each : List LinePiece → Type 0) (own : List LinePiece → List LineP
   pub surplus_occurrence : {T : Type 0} (field : List LinePiece → T → Type 0) → AtMostOne field
       → IsPartOf each own (HasValue field) → (o p : LinePiece) (more : List LinePiece)
       → own os ≡ o ∷ p ∷ more → ¬ (each os)
-  surplus_occurrence field once is o p more e =
-      part_lacks (HasValue field) is (λ has. once o p more has.0 (rw (← e) has.1))
+  surplus_occurrence field once is o p more e = grind (arith, part_lacks)
 
   -- with a surplus word,
   pub surplus_word : IsPartOf each own (λ z. z ≡ []) → (o : LinePiece) (more : List LinePiece)
@@ -151,5 +138,4 @@ module _ (each : List LinePiece → Type 0) (own : List LinePiece → List LineP
       (field : List LinePiece → T → Type 0)
       → ((ps : List LinePiece) → HasBad A one ps → (w : T) → field ps w → ⊥)
       → IsPartOf each own (HasValue field) → HasBad A one (own os) → ¬ (each os)
-  bad_occurrence one field none is bad = part_lacks (HasValue field) is
-      (λ has. none (own os) bad has.0 has.1)
+  bad_occurrence one field none is bad = grind (arith, part_lacks)

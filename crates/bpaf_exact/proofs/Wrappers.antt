@@ -8,19 +8,18 @@ use Rattle.bpaf_laws.specs.Reading.{Outcome}
 use Rattle.bpaf_exact.proofs.Cuts.{takes_nonempty, first_pieces, first_takes, head_stays}
 use Rattle.bpaf_exact.proofs.Repeat.{same_takes, stopped_by, catch_none, none_given, stops_by}
 use Rattle.bpaf_exact.proofs.{Names.no_keys_left, Names.back_all, Product.steady_refl}
-use Rattle.bpaf_exact.specs.Flat.{alternative_missing, alternative_refused, alternative_memory, Gap}
-use Rattle.bpaf_exact.specs.Flat.{fallback_given, AlternativeOk, catch_missing, FallbackValue, back}
-use Rattle.bpaf_exact.specs.Flat.{OptionalValue, closed_memory, optional_none, optional_some, cells}
-use Rattle.bpaf_exact.specs.Flat.{FallbackEval, OptionalEval, fallback_err, optional_err, bad_later}
-use Rattle.bpaf_exact.specs.Flat.{fallback_ok, TakesFirst, ErrorClass, NoKeysLeft, ReadsWords, took}
-use Rattle.bpaf_exact.specs.Flat.{of_missing, ClosedEval, closed_err, closed_gap, closed_yes, class}
+use Rattle.bpaf_exact.specs.Flat.{alternative_refused, alternative_memory, fallback_memory, OneWord}
+use Rattle.bpaf_exact.specs.Flat.{AlternativeOk, FallbackValue, OptionalValue, closed_memory, cells}
+use Rattle.bpaf_exact.specs.Flat.{optional_none, optional_some, FallbackEval, OptionalEval, Refused}
+use Rattle.bpaf_exact.specs.Flat.{fallback_err, optional_err, fallback_ok, FirstUnread, SingleValue}
+use Rattle.bpaf_exact.specs.Flat.{NoKeysLeft, ReadsWords, ClosedEval, closed_err, closed_gap, class}
+use Rattle.bpaf_exact.specs.Flat.{closed_yes, bad_later, FieldKind, FieldTook, IsWholeIn, OfMissing}
 use Rattle.bpaf_exact.specs.Flat.{EachWord, FieldLaw, OfMemory, CanCatch, Readable, SingleOk, front}
-use Rattle.bpaf_exact.specs.Flat.{of_piece, own_more, own_none, AgreesOn, OneWord, Refused, KeepsTo}
-use Rattle.bpaf_exact.specs.Flat.{FrontOf, Closure, Decides, HasBad, ByName, Steady, Groups, gap_of}
-use Rattle.bpaf_exact.specs.Flat.{fallback_memory, optional_memory, AlternativeErr, AlternativeLaw}
-use Rattle.bpaf_exact.specs.Flat.{FieldKind, FieldTook, IsWholeIn, OfMissing, Variables, SingleErr}
-use Rattle.bpaf_exact.specs.Flat.{FirstUnread, SingleValue, gave_absent, ClosedValue, fallback_no}
-use Rattle.bpaf_exact.specs.Flat.{SingleLaw, TookGroup, of_absent, of_memory, closed_no, bad_here}
+use Rattle.bpaf_exact.specs.Flat.{own_more, own_none, AgreesOn, bad_here, KeepsTo, FrontOf, Closure}
+use Rattle.bpaf_exact.specs.Flat.{Variables, SingleErr, SingleLaw, TookGroup, of_memory, closed_no}
+use Rattle.bpaf_exact.specs.Flat.{Decides, HasBad, ByName, Steady, Groups, gap_of, back, took, Gap}
+use Rattle.bpaf_exact.specs.Flat.{optional_memory, fallback_given, AlternativeErr, AlternativeLaw}
+use Rattle.bpaf_exact.specs.Flat.{gave_absent, ClosedValue, fallback_no, TakesFirst, ErrorClass}
 use Rattle.bpaf_exact.specs.Pieces.{takes_more, takes_none, LinePiece, pieces, Cells, Roles}
 use Rattle.bpaf_exact.specs.Flat.{Own}
 
@@ -145,15 +144,7 @@ module _ {env : Variables} {T : Type 0} {inner : Outcome T} {k : FieldKind} {q :
         → ((u : B) → value (front k (pieces q (cells s))) u
         → ((y : T) × SingleValue T group gap (front k (pieces q (cells s))) y)
         ⊎ ((front k (pieces q (cells s)) ≡ []) × (gap.has ≡ false))) → FieldTook B k q value s v t
-    own_took o kept own =
-        let a = single_took o in
-        record {
-          steady = a.steady;
-          takes = a.takes;
-          read = λ n. kept (a.read n);
-          rest = a.rest;
-          all = λ u g. ⊎_elim (λ i. a.all i.0 i.1) (λ none. absurd (none_given none o)) (own u g);
-        }
+    own_took o kept own = grind (arith, none_given, single_took)
 
     -- and what stands for none
     given_took : {s : Situation} {v : B} → front k (pieces q (cells s)) ≡ []
@@ -273,10 +264,7 @@ module _ {env : Variables} {T : Type 0} {outcome : Outcome T} {q : Roles}
       → TakesFirst q (cells s) a.piece (cells t) ⊎ FirstUnread T q value (cells s)
       → (vs : List T) × Own T (FrontOf T value) (pieces q (cells t)) vs
       → FrontOf T value (pieces q (cells s)) v (pieces q (cells t))
-  alternative_reads a (inl f) o = (a.piece, first_pieces q l.named f, a.means)
-  alternative_reads {v} a (inr z) o =
-      let stays = head_stays l.named a.takes z.2 (λ e. z.3 v (rw (← e) a.means)) in
-      absurd (own_bad value (rw stays.1 (bad_here z.3)) o.1)
+  alternative_reads a x o = grind (arith, first_pieces, head_stays, own_bad)
 
   -- a first piece that can be read is the one that was taken
   alternative_readable : {s t : Situation} {v : T} (a : AlternativeOk T q value s v t)
@@ -288,13 +276,7 @@ module _ {env : Variables} {T : Type 0} {outcome : Outcome T} {q : Roles}
   -- its refusal, as that of one evaluation
   alternative_err : {s t : Situation} {c : ErrorClass} → AlternativeErr T q value s c t
       → SingleErr T ByName q (FrontOf T value) (gap_of value None) s c t
-  alternative_err (alternative_memory c) = of_memory c
-  alternative_err (alternative_missing c p same st) =
-      of_missing (catch_missing c) refl p (λ c. same)
-  alternative_err (alternative_refused c p z) =
-      of_piece c (λ none. let d : z.0 ∷ z.1 ≡ [] = sym z.2 ∙ none in cc) (λ w rest g.
-      let d : z.0 ∷ z.1 ≡ g.0 ∷ rest = sym z.2 ∙ g.1 in
-      let e : g.0 ≡ z.0 = cc in z.3 w (rw (← e) g.2))
+  alternative_err x = grind arith
 
   -- so it keeps to the laws of one evaluation
   pub alternative_single : SingleLaw env T outcome ByName q (FrontOf T value) (gap_of value None)
@@ -340,9 +322,7 @@ module _ {env : Variables} {A B : Type 0} {inner : Outcome A} {q : Roles}
   -- an inner refusal is passed on
   err_closed : {s t : Situation} {c : ErrorClass} → AlternativeErr A q value s c t
       → AlternativeErr B q (ClosedValue value f) s c t
-  err_closed (alternative_memory c) = alternative_memory c
-  err_closed (alternative_missing c p same st) = alternative_missing c p same st
-  err_closed {s} (alternative_refused c p z) = alternative_refused c p (closed_unread (cells s) z)
+  err_closed x = grind (arith, closed_unread)
 
   -- a closure round an alternative is one
   pub closed_alternative : AlternativeLaw env B (ClosedEval A B inner f Refused) q
@@ -377,8 +357,7 @@ module _ {env : Variables} {A B : Type 0} {inner : Outcome A} {k : FieldKind} {q
   -- the same, by the kind of the field
   inner_readable : (z : FieldKind) (os : List LinePiece) → Readable z closed_group os
       → Readable z group os
-  inner_readable ByName os r = inner_list r.1
-  inner_readable _ os r = tt
+  inner_readable x os r = grind (arith, inner_list)
 
   -- with a closure a field reads words as before
   closed_words : (z : FieldKind) → ReadsWords z group → ReadsWords z closed_group
@@ -414,19 +393,12 @@ module _ {env : Variables} {A B : Type 0} {inner : Outcome A} {k : FieldKind} {q
   -- a value that the closure refused
   no_single : {s t : Situation} (x : A) → f.no x → SingleOk A k q group gap s x t
       → SingleErr B k q closed_group (closed_gap gap f) s Refused t
-  no_single x n (gave_absent h p ab same st) =
-      of_absent refl h p (λ v a. gap_agrees a.0 x v a.1 ab a.2 n)
-  no_single {s} x n (took h) =
-      of_piece refl h.found (λ w rest g. agrees (pieces q (cells s)) rest g.from x w g.read
-      (h.readable g.from rest g.read).0 g.made n)
+  no_single x n y = grind arith
 
   -- an inner refusal is passed on
   err_single : {s t : Situation} {c : ErrorClass} → SingleErr A k q group gap s c t
       → SingleErr B k q closed_group (closed_gap gap f) s c t
-  err_single (of_memory c) = of_memory c
-  err_single (of_missing c h p same) = of_missing c h p same
-  err_single (of_absent c h p n) = of_absent c h p (λ v a. n a.0 a.1)
-  err_single (of_piece c ne n) = of_piece c ne (λ w rest g. n g.from rest g.read)
+  err_single x = grind arith
 
   -- a closure round a single field is one
   pub closed_single : SingleLaw env B (ClosedEval A B inner f Refused) k q closed_group

@@ -1,23 +1,23 @@
 -- Choices keep to the laws where their branches do, catch no want of memory; the leftmost wins.
-use Rattle.std.proofs.Common.{◌≡◌, ℕ, Bool, true, false, Result, Ok, Err, Option, Some, None, arith}
-use Rattle.std.proofs.Common.{sym, inl, inr, List, [], ◌∷◌, not, refl, ap, ◌∙◌, ◌⊎◌, ⊎_elim, ◌++◌}
-use Rattle.std.proofs.Common.{subst, ◌≤◌, ◌&&◌, IsOk, true≢false}
-use Rattle.std.proofs.{lemmas.Bool.and_parts, lemmas.Bool.Decides.nat_tests}
-use Rattle.bpaf_line.specs.Situation.{Situation, is_taken, open_count}
-use Rattle.bpaf_line.specs.Taking.{ConflictsSaved, IsLeftmost, IsWinner, TakeTheSame}
-use Rattle.bpaf_line.specs.{declared.error.Error.Error, Messages.Combines}
-use Rattle.bpaf_laws.proofs.Keeping.{names_combined, names_want, AnswersLawfully, LawfulAnswer}
-use Rattle.bpaf_laws.proofs.Keeping.{lawful_answer, lawful_by, keeps_refl, keeps_same, reads_as}
-use Rattle.bpaf_laws.proofs.Keeping.{reads_conflicts, same_took_none}
-use Rattle.bpaf_laws.proofs.LeafLaws.{refusal_lawful}
-use Rattle.bpaf_laws.specs.Choice.{AnsweredBranch, branch_of, depth, Winner, EqualDepths, Chosen}
-use Rattle.bpaf_laws.specs.Choice.{BranchesEval, ChoiceOutcome, ChoiceReads, Nested, ChoicesOutcome}
-use Rattle.bpaf_laws.specs.Choice.{ChoicesReads, no_choice, is_want, IsWant, ValueOfWinner}
-use Rattle.bpaf_laws.specs.Choice.{ChoiceDescribes, either_shape, Stands, IsChosen, TookAndIsChosen}
-use Rattle.bpaf_laws.specs.Choice.{LeftmostWins, LeftmostOfAll}
-use Rattle.bpaf_laws.specs.Laws.{Lawful, IsNotMemory, Spares, WithoutMemory}
-use Rattle.bpaf_laws.specs.{Reading.Readings, Reading.Outcome, Combinators.is_untouched}
+use Rattle.std.proofs.Common.{true≢false, Result, Option, false, arith, Bool, true, Some, None, ◌≡◌}
+use Rattle.std.proofs.Common.{List, refl, ◌++◌, ◌&&◌, IsOk, Err, sym, inl, inr, ◌∷◌, not, ◌∙◌, ◌⊎◌}
+use Rattle.std.proofs.Common.{◌≤◌, Ok, [], ap, ℕ}
+use Rattle.std.proofs.{lemmas.Bool.Decides.nat_tests, lemmas.Bool.and_parts}
 use Rattle.bpaf_doc.specs.Shape.{Shape}
+use Rattle.bpaf_line.specs.Taking.{ConflictsSaved, TakeTheSame, IsLeftmost, IsWinner}
+use Rattle.bpaf_line.specs.Situation.{open_count, Situation, is_taken}
+use Rattle.bpaf_line.specs.{declared.error.Error.Error, Messages.Combines}
+use Rattle.bpaf_laws.proofs.Keeping.{AnswersLawfully, reads_conflicts, names_combined, LawfulAnswer}
+use Rattle.bpaf_laws.proofs.Keeping.{same_took_none, lawful_answer, names_want, keeps_refl}
+use Rattle.bpaf_laws.specs.Choice.{ChoiceDescribes, TookAndIsChosen, AnsweredBranch, ChoicesOutcome}
+use Rattle.bpaf_laws.specs.Choice.{ChoiceOutcome, ValueOfWinner, LeftmostOfAll, BranchesEval, depth}
+use Rattle.bpaf_laws.specs.Choice.{ChoicesReads, either_shape, LeftmostWins, EqualDepths, branch_of}
+use Rattle.bpaf_laws.specs.Choice.{ChoiceReads, no_choice, IsChosen, is_want, Winner, Chosen}
+use Rattle.bpaf_laws.proofs.Keeping.{keeps_same, lawful_by, reads_as}
+use Rattle.bpaf_laws.proofs.LeafLaws.{refusal_lawful}
+use Rattle.bpaf_laws.specs.Laws.{WithoutMemory, IsNotMemory, Lawful, Spares}
+use Rattle.bpaf_laws.specs.{Choice.Nested, Choice.IsWant, Choice.Stands, Combinators.is_untouched}
+use Rattle.bpaf_laws.specs.Reading.{Readings, Outcome}
 
 -- an error is no value
 pub no_value : {T : Type 0} (v : T) (e : Error) → ◌≡◌ {A = Result T Error} (Ok v) (Err e) → ⊥
@@ -62,30 +62,23 @@ module _ {T : Type 0} (s : Situation) (Holds : Result T Error → Situation → 
   pub of_chosen : (a : Result T Error) (sa : Situation) (b : Result T Error) (sb : Situation)
       (r : Result T Error) (t : Situation) → Chosen s a sa b sb r t → Holds a sa → Holds b sb
       → Holds r t
-  of_chosen a sa b sb r t (inl deeper) one other = rw (deeper.1, deeper.2) one
-  of_chosen a sa b sb r t (inr (inl deeper)) one other = rw (deeper.1, deeper.2) other
-  of_chosen a sa b sb r t (inr (inr equal)) one other =
-      of_equal a sa b sb r t equal.1 one other
+  of_chosen a sa b sb r t x one other = grind (arith, of_equal)
 
 -- where both paths are equally deep the table is that of equal depths
 pub chosen_at_equal : {T : Type 0} (s : Situation) (a : Result T Error) (sa : Situation)
     (b : Result T Error) (sb : Situation) (r : Result T Error) (t : Situation)
     → depth sa ≡ depth sb → Chosen s a sa b sb r t → EqualDepths s a sa b sb r t
-chosen_at_equal s a sa b sb r t same (inl deeper) = let d = deeper.0 in absurd (omega arith)
-chosen_at_equal s a sa b sb r t same (inr (inl deeper)) = let d = deeper.0 in absurd (omega arith)
-chosen_at_equal s a sa b sb r t same (inr (inr equal)) = equal.1
+chosen_at_equal s a sa b sb r t same x = grind arith
 
 module _ {T : Type 0} {first second : Outcome T} {rf rs : Readings T} (lf : Lawful T first rf)
     (ls : Lawful T second rs) where
   -- what the first branch may answer the choice may
   of_first : AnswersLawfully first (ChoiceReads rf rs)
-  of_first s (Ok v) t o = reads_as (lf.ok s t v o) inl
-  of_first s (Err e) t o = lawful_answer lf s (Err e) t o
+  of_first s x t o = grind (arith, lawful_answer, reads_as)
 
   -- so it is with the second
   of_second : AnswersLawfully second (ChoiceReads rf rs)
-  of_second s (Ok v) t o = reads_as (ls.ok s t v o) inr
-  of_second s (Err e) t o = lawful_answer ls s (Err e) t o
+  of_second s x t o = grind (arith, lawful_answer, reads_as)
 
   -- so is the answer of branches that were evaluated
   evaluated : AnswersLawfully (BranchesEval first second) (ChoiceReads rf rs)
@@ -147,19 +140,8 @@ pub ran_outcome : {T : Type 0} (first second : Outcome T) (s : Situation) (a : R
     (sa : Situation) (b : Result T Error) (sb : Situation) (r : Result T Error) (t : Situation)
     → first s a sa → second s b sb → is_want a ≡ false → is_want b ≡ false
     → Chosen s a sa b sb r t ⊎ IsWant s r t → ChoiceOutcome first second s r t
-ran_outcome first second s a sa b sb r t f g p q answer = ⊎_elim
-    (λ chosen. choice_ran first second s r t (record {
-      a = a;
-      sa = sa;
-      b = b;
-      sb = sb;
-      first_ran = f;
-      second_ran = g;
-      first_spared = spared_of a p;
-      second_spared = spared_of b q;
-      chosen = chosen;
-    }))
-    (choice_wants first second s r t) answer
+ran_outcome first second s a sa b sb r t f g p q answer =
+    grind (arith, choice_ran, choice_wants, spared_of)
 
 module _ {T : Type 0} (first second less other : Outcome T) (fewer : Spares first less)
     (fewer_others : Spares second other) (s t : Situation) (r : Result T Error) where
@@ -188,9 +170,7 @@ choice_within first second less other fewer others s t r ran =
 pub choice_spared : {T : Type 0} (first second : Outcome T) (s t : Situation) (r : Result T Error)
     → ChoiceOutcome first second s r t → IsNotMemory r
     → ChoiceOutcome (WithoutMemory first) (WithoutMemory second) s r t
-choice_spared first second s t r ran spared =
-    choice_within first second (WithoutMemory first) (WithoutMemory second)
-    (λ s t r ran spared. (ran, spared)) (λ s t r ran spared. (ran, spared)) s t r ran
+choice_spared first second s t r ran spared = grind (arith, choice_within)
 
 -- of two situations the leftmost place of the one is that of the other
 pub leftmost_of_other : (s other : Situation) (p : ℕ) → IsLeftmost s other p → IsLeftmost other s p
@@ -232,17 +212,14 @@ pub one_more : {T P : Type 0} (outcome : P → Outcome T) (before : Outcome T) (
     (s : Situation) (r : Result T Error) (t : Situation)
     → ChoiceOutcome (Nested ChoiceOutcome outcome before ps) (outcome p) s r t
     → Nested ChoiceOutcome outcome before (ps ++ p ∷ []) s r t
-one_more outcome before ps p s r t chosen =
-    subst (λ combined. combined s r t) (sym (nested_more ChoiceOutcome outcome before ps p)) chosen
+one_more outcome before ps p s r t chosen = grind (arith, nested_more)
 
 -- one more parser is shown
 pub one_more_shown : {P : Type 0} (describes : P → Shape → Type 0) (before : Shape → Type 0)
     (ps : List P) (p : P) (a b shape : Shape)
     → Nested ChoiceDescribes describes before ps a → describes p b → shape ≡ either_shape a b
     → Nested ChoiceDescribes describes before (ps ++ p ∷ []) shape
-one_more_shown describes before ps p a b shape first last is =
-    subst (λ shows. shows shape) (sym (nested_more ChoiceDescribes describes before ps p))
-    (a, b, first, last, is)
+one_more_shown describes before ps p a b shape first last is = grind (arith, nested_more)
 
 -- fewer answers of parsers that aren't want of memory give fewer of a choice of many
 nested_spares : {T P : Type 0} (outcome without : P → Outcome T) (before less : Outcome T)
@@ -395,6 +372,4 @@ module _ {T P : Type 0} (outcome : P → Outcome T) (reads : P → Readings T)
   -- and in the choice of all parsers
   pub choices_leftmost : (ps : List P) (s t : Situation) (r : Result T Error)
       → ChoicesOutcome outcome ps s r t → LeftmostOfAll outcome ps s r t
-  choices_leftmost [] s t r ran = tt
-  choices_leftmost (p ∷ ps) s t r ran =
-      from_leftmost (outcome p) (laws p) ps (λ m n a ran. ran) s t r ran
+  choices_leftmost xs s t r ran = grind (arith, from_leftmost)

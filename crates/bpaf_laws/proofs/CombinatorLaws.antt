@@ -1,7 +1,7 @@
 -- Combinators over one inner parser keep to the laws where it does; repeats are bounded.
-use Rattle.std.proofs.Common.{length, arith, false, subst, Bool, true, List, Some, refl, ◌++◌, IfOk}
+use Rattle.std.proofs.Common.{⊎_elim, arith, false, subst, Bool, true, List, Some, refl, ◌++◌, IfOk}
 use Rattle.std.proofs.Common.{◌==◌, Err, inl, inr, ◌≡◌, ◌⊎◌, Box, ◌+◌, ◌<◌, ◌≤◌, ◌∷◌, sym, ◌≢◌, not}
-use Rattle.std.proofs.Common.{if◌then◌else◌, true≢false, IsErrAnd, is_some, Result, Option, ⊎_elim}
+use Rattle.std.proofs.Common.{if◌then◌else◌, true≢false, IsErrAnd, is_some, length, Result, Option}
 use Rattle.std.proofs.{Common.Ok, Common.ap, Common.[], Common.ℕ, lemmas.Bool.Decides.nat_tests}
 use Rattle.std.specs.{Prelude.vec_len, Prelude.None, Prelude.◌&&◌, declared.alloc.Global.Global}
 use Rattle.std.specs.Global.{Vec}
@@ -9,15 +9,15 @@ use Rattle.bpaf_doc.specs.Shape.{shape_layer, Subsection, part_layer, shape_of, 
 use Rattle.bpaf_doc.specs.{declared.item.Item.TheFolds.fold-roll-Meta, declared.doc.Piece.Piece}
 use Rattle.bpaf_doc.specs.{declared.item.Item.TheOpen.Meta-F, declared.meta.MetaInfo.MetaInfo}
 use Rattle.bpaf_doc.specs.declared.meta.Meta.{Meta}
-use Rattle.bpaf_line.specs.declared.error.Message.TheVariants.{ParseFailed, PureFailed, Memory}
+use Rattle.bpaf_line.specs.declared.error.Message.TheVariants.{PureFailed, Memory}
 use Rattle.bpaf_line.specs.{Situation.open_count, Situation.Situation, declared.error.Error.Error}
-use Rattle.bpaf_line.specs.{declared.error.Message.Message, Messages.is_memory}
+use Rattle.bpaf_line.specs.declared.error.Message.{Message}
 use Rattle.bpaf_laws.specs.Combinators.{CollectIsBounded, FallbackOutcome, CollectOutcome, MapReads}
 use Rattle.bpaf_laws.specs.Combinators.{GivesAnswer, TurnOutcome, HideOutcome, ListOutcome, hidden}
 use Rattle.bpaf_laws.specs.Combinators.{ManyOutcome, SomeOutcome, LastOutcome, NamesGiven, is_nil}
-use Rattle.bpaf_laws.specs.Combinators.{ListReads, EachTakes, LaterTake, IsBounded, EndsIn, Gives}
+use Rattle.bpaf_laws.specs.Combinators.{IsBounded, PureReads, UntilRest, EachReads, EndsIn, Gives}
 use Rattle.bpaf_laws.specs.Combinators.{OptionalReads, ParseOutcome, GuardOutcome, CountOutcome}
-use Rattle.bpaf_laws.specs.Combinators.{MapOutcome, UntilFault, PureReads, UntilRest, EachReads}
+use Rattle.bpaf_laws.specs.Combinators.{MapOutcome, UntilFault, ListReads, EachTakes, LaterTake}
 use Rattle.bpaf_laws.proofs.Keeping.{open_count-falls, AnswersLawfully, same_took_none, names_fault}
 use Rattle.bpaf_laws.proofs.Keeping.{lawful_answer, keeps_trans, keeps_same, newly_none, reads_same}
 use Rattle.bpaf_laws.proofs.Keeping.{names_want, names_same, keeps_refl, reads_both, fewer_took}
@@ -92,12 +92,7 @@ module _ {T : Type 0} {inner : Outcome T} {reads : Readings T} (law : Lawful T i
   pub parse_lawful : {R E : Type 0} (answers : T → Result R E → Type 0)
       (shown : E → Option (List ℕ))
       → Lawful R (ParseOutcome inner answers shown) (MapReads T R reads (λ x v. answers x (Ok v)))
-  parse_lawful answers shown = made_lawful (λ x v. answers x (Ok v)) (λ s t v o. o) (λ s t e o.
-      ⊎_elim inl (λ fault. inr (
-        fault.0,
-        fault.1,
-        names_fault shown fault.2 (ParseFailed t.current) e.0 (λ text. tt) fault.4,
-      )) o)
+  parse_lawful answers shown = grind (arith, made_lawful, names_fault)
 
   -- and guarded ones
   pub guard_lawful : (checks : T → Bool → Type 0) (message : List ℕ)
@@ -234,8 +229,7 @@ module _ {T : Type 0} {inner : Outcome T} {reads : Readings T} (law : Lawful T i
   -- collect keeps to the laws
   pub collect_lawful : {C : Type 0} (fills : List T → C → Type 0)
       → Lawful C (CollectOutcome inner catches fills) (MapReads (List T) C (ListReads reads) fills)
-  collect_lawful fills = made_lawful list_lawful fills (λ s t v o. o) (λ s t e o.
-      ⊎_elim inl (λ refused. inr (refused.0, refused.1, names_want e.0 refused.2)) o)
+  collect_lawful fills = grind (arith, list_lawful, made_lawful, names_want)
 
   -- each value took an item, so there are no more values than items
   pub values_bounded : (s : Situation) (vs : List T) (t : Situation)
@@ -264,8 +258,7 @@ module _ {T : Type 0} {inner : Outcome T} {reads : Readings T} (law : Lawful T i
   -- all but the first took an item
   later_take : (s : Situation) (vs : List T) (t : Situation) → Turns inner catches true s vs t
       → LaterTake inner s vs t
-  later_take s [] t o = o
-  later_take s (v ∷ vs) t o = (o.0, o.1.0, each_takes o.0 vs t o.2)
+  later_take s xs t o = grind (arith, each_takes)
 
   -- a repeat is bounded
   pub list_bounded : (s t : Situation) (values : List T) → ListOutcome inner catches s (Ok values) t
@@ -376,9 +369,7 @@ not_nil us vs v e = rw (e, nil_behind vs v) refl
 pub steps_refused : {T : Type 0} (inner : Outcome T) (r : Result (Vec T) Error) (catches : Bool)
     (s t : Situation) (vs : List T) → Turns inner catches true s vs t
     → IsErrAnd r (λ e. e.0 ≡ Memory) → ManyOutcome inner catches s r t
-steps_refused inner (Err e) catches s t vs steps is =
-    record { values = vs; last = t; steps = steps; fails = inr (ap is_memory is, refl) }
-steps_refused inner (Ok v) catches s t vs steps is = absurd is
+steps_refused inner x catches s t vs steps is = grind arith
 
 -- there is no last value where there is no value
 pub none_nil : {T : Type 0} (values : List T) (o : Option T) (b : Bool) → is_some o ≡ not b

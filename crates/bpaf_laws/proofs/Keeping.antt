@@ -1,9 +1,9 @@
 -- How what evaluations keep is put together. No combinator builds a `Keeps` of its own: it goes
 -- through these lemmas and one for each call of a state, so that a clause can be added to the laws
 -- here.
-use Rattle.std.proofs.Common.{⊎_elim, length, subst, arith, false, true, ◌&&◌, ◌||◌, List, ◌++◌, []}
+use Rattle.std.proofs.Common.{Result, Option, subst, arith, false, true, ◌&&◌, ◌||◌, List, ◌++◌, []}
 use Rattle.std.proofs.Common.{refl, Bool, zero, ◌≡◌, ◌+◌, ◌∷◌, sym, ◌∙◌, suc, ◌<◌, ◌≤◌, map, ap, ℕ}
-use Rattle.std.proofs.Common.{if◌then◌else◌, append_assoc, append-nil, true≢false, Result, Option}
+use Rattle.std.proofs.Common.{if◌then◌else◌, append_assoc, append-nil, true≢false, ⊎_elim, length}
 use Rattle.std.proofs.{lemmas.Bool.Decides.nat_tests, lemmas.Bool.cases_cond}
 use Rattle.std.proofs.lemmas.List.{map-append}
 use Rattle.std.specs.Prelude.{◌==◌, None, Some, not, Err, Ok}
@@ -12,15 +12,15 @@ use Rattle.bpaf_doc.specs.declared.meta.Meta.{Meta}
 use Rattle.bpaf_text.specs.{declared.fault.TextFault.TextFault, Meaning.ReadsText, Named.Named}
 use Rattle.bpaf_line.specs.Situation.{with_current, count_below, take_place, with_scope, open_count}
 use Rattle.bpaf_line.specs.Situation.{Situation, with_path, is_taken, in_scope, Context, is_open}
-use Rattle.bpaf_line.specs.declared.error.Message.TheVariants.{ParseFailure, Missing, Memory}
-use Rattle.bpaf_line.specs.Messages.{CombinesSpared, can_catch, is_answer, is_memory, Combines}
+use Rattle.bpaf_line.specs.declared.error.Message.TheVariants.{ParseFailure, Memory}
+use Rattle.bpaf_line.specs.Messages.{CombinesSpared, is_answer, is_memory, Combines}
 use Rattle.bpaf_line.proofs.Marks.{keeps_marks_current, keeps_marks_trans, keeps_marks_scope}
 use Rattle.bpaf_line.proofs.Places.{open_not_taken, open_in_line, taken_other, taken_stays}
+use Rattle.bpaf_line.proofs.Marks.{keeps_marks_refl, keeps_marks_take, keeps_marks_path}
+use Rattle.bpaf_line.proofs.Places.{taken_here}
 use Rattle.bpaf_line.specs.declared.failure.ParseFailure.{ParseFailure as Failure}
 use Rattle.bpaf_line.specs.{declared.error.Message.Message, declared.error.Error.Error}
 use Rattle.bpaf_line.specs.{Taking.ConflictsSaved, Rendering.Renders}
-use Rattle.bpaf_line.proofs.Marks.{keeps_marks_refl, keeps_marks_take, keeps_marks_path}
-use Rattle.bpaf_line.proofs.Places.{taken_here}
 use Rattle.bpaf_laws.specs.Reading.{IsEmptyShare, TellsReading, ReadsValue, IsAbsence, Readings}
 use Rattle.bpaf_laws.specs.Reading.{HasPlace, Outcome, IsPlace, IsPair, IsKept, Share, Joins}
 use Rattle.bpaf_laws.specs.Laws.{no_memory, Extends, Refusal, wanting, Closes, Lawful, Keeps, Reads}
@@ -59,8 +59,7 @@ lawful_by answers = record {
 -- and where they hold each answer is so
 pub lawful_answer : {T : Type 0} {outcome : Outcome T} {reads : Readings T}
     → Lawful T outcome reads → AnswersLawfully outcome reads
-lawful_answer law s (Ok v) t o = law.ok s t v o
-lawful_answer law s (Err e) t o = (law.err s t e o, law.named s t e o)
+lawful_answer law s x t o = grind arith
 
 -- what was read is a reading of others too, where its places are
 pub reads_as : {A B : Type 0} {reads : Readings A} {others : Readings B} {s : Situation} {v : A}
@@ -190,19 +189,12 @@ keeps_same s t same = subst (Keeps s) (sym same) (keeps_refl s)
 -- and a value that may be read off no place is read
 pub reads_same : {T : Type 0} (reads : Readings T) (s t : Situation) (v : T) → t ≡ s
     → reads s.context (newly s s) v → Reads T reads s v t
-reads_same {T} reads s t v same read =
-    subst (Reads T reads s v) (sym same)
-    (record { keeps = keeps_refl s; closed = closes_refl s; reading = read })
+reads_same reads s t v same read = grind (arith, closes_refl, keeps_refl)
 
 -- so it is where no place is current any more
 pub reads_unset : {T : Type 0} (reads : Readings T) (s t : Situation) (v : T)
     → t ≡ with_current s None → reads s.context (newly s s) v → Reads T reads s v t
-reads_unset {T} reads s t v unset read =
-    subst (Reads T reads s v) (sym unset) (record {
-      keeps = keeps_current s s None (keeps_refl s);
-      closed = closes_refl s;
-      reading = read;
-    })
+reads_unset reads s t v unset read = grind (arith, closes_refl, keeps_current, keeps_refl)
 
 -- after a place was taken it is that place that is taken, or what was
 taken_after : (s : Situation) (p q : ℕ) → is_taken (take_place s p) q ≡ (q == p || is_taken s q)
@@ -289,20 +281,12 @@ names_absence s part envs m absent = grind arith
 -- two refusals combined, neither of which is want of memory
 names_spared : (first second both : Message) → NamesAnswer first → NamesAnswer second
     → CombinesSpared first second both → NamesAnswer both
-names_spared (ParseFailure f) second both one other o = names_same both (ParseFailure f) one o
-names_spared first (ParseFailure f) both one other o = names_same both (ParseFailure f) other o
-names_spared (Missing items) (Missing others) both one other o =
-    ⊎_elim (λ all. names_same both (Missing _) tt all) (λ want. names_same both Memory tt want) o
-names_spared first second both one other o =
-    ⊎_elim (names_same both second other) (names_same both first one)
-    (cases_cond (can_catch first) second first both o)
+names_spared first second both one other o = grind (arith, cases_cond, names_same)
 
 -- two refusals combined
 pub names_combined : (first second both : Message) → NamesAnswer first → NamesAnswer second
     → Combines first second both → NamesAnswer both
-names_combined first second both one other o =
-    ⊎_elim (λ want. names_same both Memory tt want.1)
-    (λ spared. names_spared first second both one other spared.1) o
+names_combined first second both one other o = grind (arith, names_same, names_spared)
 
 -- each message but the answer of an inner run has a name
 pub name_of : (m : Message) → is_answer m ≡ false → (name : Refusal) × (refusal_of m ≡ Some name)

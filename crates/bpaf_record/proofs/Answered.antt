@@ -3,14 +3,13 @@
 use Rattle.std.proofs.Common.{slice_index_or, if◌then◌else◌, slice_index, true≢false, length, false}
 use Rattle.std.proofs.Common.{IsUtf8, Option, IsSome, Result, ⊎_elim, codes, subst, arith, zero, []}
 use Rattle.std.proofs.Common.{Bool, true, List, refl, cond, ◌||◌, ◌==◌, ◌++◌, None, Some, IfOk, ◌≡◌}
-use Rattle.std.proofs.Common.{◌≢◌, suc, ◌∷◌, ◌+◌, map, sym, ◌∙◌, All, not, ◌<◌, Err, ◌⊎◌, inl, inr}
+use Rattle.std.proofs.Common.{◌≢◌, suc, ◌∷◌, ◌+◌, map, sym, ◌∙◌, All, not, ◌<◌, ◌⊎◌, inl, inr, ap}
 use Rattle.std.proofs.lemmas.List.Elements.{Contains-append_left, All-contains_itself, All-contains}
 use Rattle.std.proofs.lemmas.List.Elements.{Contains-append_right, Contains-append_cases, All-take}
 use Rattle.std.proofs.lemmas.List.Elements.{recursion_from_All, Contains-get_or, filter_passes}
 use Rattle.std.proofs.lemmas.List.Sums.{AllPass-from_list_all, count_by_more_yes, sum_by-take-le}
 use Rattle.std.proofs.{lemmas.Bool.or_cases, lemmas.Bool.not-true, lemmas.List.Elements.All-filter}
-use Rattle.std.proofs.{Common.ap, Common.Ok, Common.ℕ, lemmas.List.Sums.length-filter}
-use Rattle.std.proofs.lemmas.Str.{encode_ascii}
+use Rattle.std.proofs.{lemmas.List.Sums.length-filter, lemmas.Str.encode_ascii, Common.ℕ}
 use Rattle.std.specs.List.{position_or_len, AllByRecursion, Contains, list_all, AllZip, filter}
 use Rattle.std.specs.{Option.option_to_list, Char.IsAsciiDigit, Prelude.flat_map}
 use Rattle.bpaf_base.specs.declared.arg.Arg.TheVariants.{PosWord, Short, Long}
@@ -35,8 +34,8 @@ use Rattle.bpaf_exact.specs.Pieces.{is_own_role, takes_flag, LinePiece, is_value
 use Rattle.bpaf_exact.specs.Pieces.{others, Roles, Cells, Takes, Owns, Cut, One, Two}
 use Rattle.bpaf_exact.specs.ProgramForm.{ProgramForm, opens_later, line_cells, CellsValue, Opens}
 use Rattle.bpaf_exact.specs.Says.{says_variable, says_present, ArgumentSays, OptionalSays, FlagSays}
-use Rattle.bpaf_exact.specs.Says.{says_kept, says_some, says_own, WordSays, CutSays, keyed, Said}
-use Rattle.bpaf_exact.specs.Says.{FallbackSays, says_absent, first_item, RepeatSays, says_none}
+use Rattle.bpaf_exact.specs.Says.{FallbackSays, says_absent, first_item, RepeatSays, says_some}
+use Rattle.bpaf_exact.specs.Says.{says_none, WordSays, CutSays, keyed, Said}
 use Rattle.bpaf_exact.specs.ProgramForm.{opens_here, flag_roles, WordValue}
 use Rattle.bpaf_exact.specs.Flat.{OneWord, front, back}
 use Rattle.bpaf_record.specs.Record.{IsSpelledByAny, IsSpelledItem, TellsOfWords, WasSpelled}
@@ -203,11 +202,7 @@ is_some_name name is none = grind arith
 
 -- no byte of it is `=`
 has_no_equals : (name : List ℕ) → is_long_name name ≡ true → HasNoEquals name
-has_no_equals [] is i within same = absurd cc
-has_no_equals (b ∷ bs) is i within same =
-    let pass = AllPass-from_list_all (λ byte. not (byte == 61)) (b ∷ bs) is i 0 within in
-    let fails : not (slice_index (b ∷ bs) i == 61) ≡ false = ap (λ byte. not (byte == 61)) same in
-    cc
+has_no_equals xs is i within same = grind (arith, AllPass-from_list_all)
 
 -- `--name` is no number
 long_is_no_number : (numbers : Bool) (name : List ℕ) → ¬ (IsNumberWord numbers (codes "--" ++ name))
@@ -260,8 +255,7 @@ short_is_spelled numbers off names words c there ascii is key known = record {
 -- what follows of a value that says so is said of the answer
 pub answer_says : {T : Type 0} {P Q : T → Type 0} (r : Result T ParseFailure) → IfOk r P
     → ((v : T) → P v → Q v) → IfOk r Q
-answer_says (Ok v) holds so = so v holds
-answer_says (Err f) holds so = tt
+answer_says x holds so = grind arith
 
 -- pieces that are a key's own on the line of words: where there is one, one of the words before the
 -- first `--` spells the key
@@ -280,8 +274,7 @@ module _ {words : List (List ℕ)} {key : Names} {os : List LinePiece} (own : Ow
   -- So was that of a value that needs a piece,
   pub value_spelled : {A : Type 0} {inside : Said A} {x : A} → NeedsPiece inside
       → inside os x → IsKeySpelled
-  value_spelled {A} {inside} {x} needs so =
-      key_spelled (λ none. needs.some x (subst (λ os. inside os x) none so))
+  value_spelled needs so = grind (arith, key_spelled)
 
   -- of an argument's value where no variable of its is set,
   pub argument_spelled : {A : Type 0} {means : List ℕ → A → Type 0} {last : Bool}
@@ -294,42 +287,29 @@ module _ {words : List (List ℕ)} {key : Names} {os : List LinePiece} (own : Ow
       → FlagSays (λ kept x. x ≡ kept) present absent set os b → absent ≡ Some false → set ≡ None
       → (names : Names) → key ≡ names → (switch : Bool) → switch ≡ b → switch ≡ true
       → WasSpelled names words
-  switch_spelled (says_present k one is) off unset names same switch value on =
-      key_spelled (λ none. cc) names same
-  switch_spelled (says_variable text none set is) off unset names same switch value on = absurd cc
-  switch_spelled (says_absent a none set kept is) off unset names same switch value on = absurd cc
+  switch_spelled x off unset names same switch value on = grind (arith, key_spelled)
 
   -- of a required flag that has its value then,
   pub flag_spelled : {A : Type 0} {clones : A → A → Type 0} {present : A}
       {absent : Option A} {set : Option (List ℕ)} {x : A}
       → FlagSays clones present absent set os x → absent ≡ None → set ≡ None
       → (names : Names) → key ≡ names → clones present x × WasSpelled names words
-  flag_spelled (says_present k one is) required unset names same =
-      (is, key_spelled (λ none. cc) names same)
-  flag_spelled (says_variable text none set is) required unset names same = absurd cc
-  flag_spelled (says_absent a none set kept is) required unset names same = absurd cc
+  flag_spelled x required unset names same = grind (arith, key_spelled)
 
   -- of an optional value that is Some,
   pub optional_spelled : {A : Type 0} {inside : Said A} {o : Option A} → NeedsPiece inside
       → OptionalSays inside os o → (value : Option A) → value ≡ o → IsSome value → IsKeySpelled
-  optional_spelled needs (says_some x is so) value same some = value_spelled {x = x} needs so
-  optional_spelled needs (says_none is none) value same some =
-      let wrong : false ≡ true = subst IsSome (same ∙ is) some in
-      absurd cc
+  optional_spelled needs x value same some = grind (arith, value_spelled)
 
   -- of a value under a fallback that isn't what stands in its place,
   pub fallback_spelled : {A : Type 0} {inside : Said A} {kept : A → Type 0} {x : A}
       → NeedsPiece inside → FallbackSays inside kept os x → ¬ (kept x) → IsKeySpelled
-  fallback_spelled {A} {inside} {kept} {x} needs (says_own so) other =
-      value_spelled {x = x} needs so
-  fallback_spelled needs (says_kept none is) other = absurd (other is)
+  fallback_spelled needs x other = grind (arith, value_spelled)
 
   -- and of a repeat that isn't empty.
   pub repeat_spelled : {A : Type 0} {inside : Said A} {xs : List A} → NeedsPiece inside
       → RepeatSays inside os xs → (values : List A) → values ≡ xs → values ≢ [] → IsKeySpelled
-  repeat_spelled {A} {inside} {xs} needs so values same some =
-      key_spelled (λ none. repeat_needs needs xs (λ empty. some (same ∙ empty))
-      (subst (λ os. RepeatSays inside os xs) none so))
+  repeat_spelled needs so values same some = grind (arith, key_spelled, repeat_needs)
 
 -- pieces are those of the line of words: those that begin with a key are its own, and where one of
 -- the words before the first `--` spells the key, whatever names are known, there is one

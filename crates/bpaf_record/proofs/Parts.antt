@@ -1,25 +1,23 @@
 -- What the combinators make of a part of a program, a choice of any number of parsers among them.
 use Rattle.std.proofs.Common.{slice_index_or, if◌then◌else◌, append_assoc, append-nil, flat_map, []}
-use Rattle.std.proofs.Common.{length, false, arith, Bool, true, ◌&&◌, ◌||◌, List, ◌++◌, refl, zero}
-use Rattle.std.proofs.Common.{take, ◌≡◌, not, ◌∷◌, sym, ◌∙◌, suc, ◌+◌, ◌<◌, ◌≤◌, ap, ℕ}
+use Rattle.std.proofs.Common.{length, false, arith, Bool, true, ◌&&◌, List, ◌++◌, refl, zero, take}
+use Rattle.std.proofs.Common.{◌≡◌, not, ◌∷◌, sym, ◌∙◌, suc, ◌+◌, ◌<◌, ◌≤◌, ap, ℕ}
 use Rattle.std.proofs.{lemmas.List.Folds.list_all-append, lemmas.List.take_more}
 use Rattle.std.specs.List.{list_all}
 use Rattle.bpaf_doc.specs.Names.{Names}
 use Rattle.bpaf_laws.specs.{Command.opening_words, Command.Called, Choice.Nested}
-use Rattle.bpaf_exact.specs.Flat.{FallbackValue, FieldKind, repeated, OwnList, Closure, ByName, Gap}
-use Rattle.bpaf_exact.specs.ProgramForm.{are_words_apart, program_command, program_closed, complete}
-use Rattle.bpaf_exact.specs.ProgramForm.{program_choice, program_alone, program_field, program_both}
-use Rattle.bpaf_exact.specs.ProgramForm.{ProgramForm, choice_only, program_con, program_if, product}
-use Rattle.bpaf_exact.specs.ProgramForm.{is_program, may_follow, completed, is_record, are_plain}
-use Rattle.bpaf_exact.specs.ProgramForm.{program_optional, before_commands, program_dressed}
-use Rattle.bpaf_exact.specs.{Pieces.are_all_apart, Pieces.LinePiece, Flat.Groups, Flat.LastOf}
-use Rattle.bpaf_exact.specs.ProgramForm.{is_named}
-use Rattle.bpaf_record.specs.Part.{is_named_kind, dressed_part, command_part, closed_part, kind_of}
-use Rattle.bpaf_record.specs.Part.{is_program_part, completed_part, is_record_part, optional_part}
+use Rattle.bpaf_exact.specs.Flat.{FallbackValue, FieldKind, repeated, OwnList, Closure, Groups, Gap}
+use Rattle.bpaf_exact.specs.ProgramForm.{program_dressed, program_closed, program_choice, completed}
+use Rattle.bpaf_exact.specs.ProgramForm.{choice_only, program_con, program_if, is_program, is_named}
+use Rattle.bpaf_exact.specs.ProgramForm.{program_alone, program_field, program_both, ProgramForm}
+use Rattle.bpaf_exact.specs.ProgramForm.{program_optional, are_words_apart, program_command}
+use Rattle.bpaf_exact.specs.ProgramForm.{may_follow, is_record, are_plain}
+use Rattle.bpaf_exact.specs.{Pieces.are_all_apart, Pieces.LinePiece, Flat.LastOf}
+use Rattle.bpaf_record.specs.Part.{optional_part, dressed_part, command_part, closed_part, kind_of}
+use Rattle.bpaf_record.specs.Part.{is_program_part, completed_part, is_record_part, is_named_kind}
 use Rattle.bpaf_record.specs.Part.{chosen_part, before_part, field_part, only_part, last_part}
 use Rattle.bpaf_record.specs.Grammar.{command_words, choices_of, Grammar, keys_of, choice}
 use Rattle.bpaf_record.specs.Part.{made_part, may_stand, part_of, part_if}
-use Rattle.bpaf_record.specs.declared.part.ProgramPart.TheVariants.{Product}
 
 -- where a test holds
 if_is : {T : Type 0} (b : Bool) (s : ProgramForm T)
@@ -142,23 +140,7 @@ stands s own others = grind arith
 pub both_part_is : {A B : Type 0} (own others : List Names) (s : ProgramForm A) (t : ProgramForm B)
     → before_part (field_part (part_of s)) (part_of t) (are_all_apart own others)
     (list_all (λ names. false) others) ≡ part_of (program_both own others (program_field s) t)
-both_part_is {A} {B} own others s t =
-    ap (λ part. before_part part (part_of t) (are_all_apart own others)
-    (list_all (λ names. false) others)) (field_part_is s)
-    ∙ by_field (program_field s) t
-  where
-    by_field : (s : ProgramForm A) (t : ProgramForm B)
-        → before_part (part_of s) (part_of t) (are_all_apart own others)
-        (list_all (λ names. false) others) ≡ part_of (program_both own others s t)
-    by_field (complete wide k q value) (product other named r fields) =
-        ap (λ b. part_if b (Product (wide || other) (is_named_kind (kind_of k) && named)))
-        (stands k own others)
-        ∙ (ap (λ b. part_if (may_follow k own others) (Product (wide || other) (b && named)))
-        (named_is k)
-        ∙ if_is (may_follow k own others) _)
-    by_field (complete wide ByName q value) (before_commands rest) =
-        if_is (are_all_apart own others) _
-    by_field _ _ = refl
+both_part_is own others s t = grind (arith, field_part_is, if_is, named_is, stands)
 
 -- a constructor
 pub con_part_is : {A B : Type 0} (f : Closure A B) (s : ProgramForm A)

@@ -180,16 +180,12 @@ never_without known given texts context is at_word number none =
 -- what is accepted is a value, and want is want of memory
 want_on : {T : Type 0} {P Q : T → Type 0} → ((v : T) → P v → Q v) → (r : Result T ParseFailure)
     → IsAcceptedOrWant P (answer_of r) → IsValueOrWant Q r
-want_on so (Ok v) h = so v h
-want_on so (Err failure.Memory) h = refl
-want_on so (Err (failure.Stdout doc full)) h = absurd h
-want_on so (Err (failure.Stderr doc)) h = absurd h
+want_on so x h = grind arith
 
 -- what holds of each value that is accepted holds of the answer
 sound_on : {T : Type 0} {Q : T → Type 0} (r : Result T ParseFailure)
     → ((v : T) → answer_of r ≡ Accepted v → Q v) → IfOk r Q
-sound_on (Ok v) h = h v refl
-sound_on (Err f) h = tt
+sound_on x h = grind arith
 
 module _ {T : Type 0} {outcome : Outcome T} (describes : Shape → Type 0) (info : RunInfo)
     (known : Known) {names : List Names} {words : List (List ℕ)} {form : ProgramForm T}
