@@ -5,7 +5,7 @@ use Rattle.std.proofs.{lemmas.Bool.Decides.nat_tests, lemmas.Bool.both_ways}
 use Rattle.std.specs.Prelude.{Result, Option, false, IfOk, List, Some, None, Err, Ok}
 use Rattle.bpaf_doc.specs.Shape.{Part}
 use Rattle.bpaf_line.specs.Situation.{open_count, with_scope, Situation, is_open}
-use Rattle.bpaf_line.specs.{declared.error.Error.Error, Messages.is_memory}
+use Rattle.bpaf_line.specs.declared.error.Error.{Error}
 use Rattle.bpaf_line.proofs.Places.{open_in_scope}
 use Rattle.bpaf_laws.specs.Laws.{NamesAnswer, IsNotMemory, Closes, Lawful, Spares, Keeps, newly}
 use Rattle.bpaf_laws.specs.Command.{opening_words, CommandReads, IsOpenedAt, Called, inside}
@@ -13,8 +13,8 @@ use Rattle.bpaf_laws.specs.Adjacent.{StretchReads, GroupOutcome, TriedInVain, no
 use Rattle.bpaf_laws.specs.Adjacent.{all_failed, none_gave, IsStretch, Narrowed, answered, Searches}
 use Rattle.bpaf_laws.specs.Adjacent.{EndsWith, Failure, longest, refused, longer, wanted, Probe}
 use Rattle.bpaf_laws.proofs.CommandLaws.{leaves_nothing, keeps_inside, word_is_open, word_read}
-use Rattle.bpaf_laws.proofs.Keeping.{newly_joins, keeps_refl, newly_take, reads_both, keeps_same}
-use Rattle.bpaf_laws.proofs.Keeping.{AnswersLawfully, LawfulAnswer, keeps_scope, keeps_trans}
+use Rattle.bpaf_laws.proofs.Keeping.{keeps_trans, keeps_refl, newly_take, reads_both, keeps_same}
+use Rattle.bpaf_laws.proofs.Keeping.{AnswersLawfully, LawfulAnswer, newly_joins, keeps_scope}
 use Rattle.bpaf_laws.proofs.Keeping.{names_same, names_want, lawful_by, reads_as, keeps_of}
 use Rattle.bpaf_laws.specs.Adjacent.{whole, again, Tries, gave}
 use Rattle.bpaf_laws.specs.{Reading.Readings, Reading.Outcome, Reading.Share, Laws.Reads}
@@ -23,8 +23,7 @@ module _ (s : Situation) (from end : ℕ)
     (present : (p : ℕ) → from ≤ p → p < end → is_open s p ≡ true) where
   -- the stretch as the scope keeps all
   pub keeps_stretch : Keeps s (with_scope s from end)
-  keeps_stretch = keeps_scope s s from end (keeps_refl s)
-      (λ p inside. grind (arith, nat_tests, present p))
+  keeps_stretch = grind (arith, keeps_refl, keeps_scope, nat_tests)
 
   -- where nothing of the stretch is left, what is newly taken is the stretch
   pub newly_stretch : (t : Situation) → Keeps (with_scope s from end) t
@@ -80,9 +79,7 @@ pub narrowed_open : {T : Type 0} (inner : Outcome T) (s : Situation) (a b : ℕ)
     → Narrowed T inner s a b → (a ≤ b) × ((p : ℕ) → a ≤ p → p < b → is_open s p ≡ true)
 narrowed_open inner s a b (whole stop stretch) = (stretch.ordered, stretch.present)
 narrowed_open inner s a b (again stop left v t before ran next) =
-    let opened = narrowed_open inner s a stop before in
-    let inside = open_in_scope (with_scope t a stop) left next.present in
-    (inside.0, λ p low high. opened.1 p low (omega (arith, inside.1)))
+    grind (arith, open_in_scope, narrowed_open inner s a stop before)
 
 module _ {T : Type 0} {inner : Outcome T} {reads : Readings T} (law : Lawful T inner reads)
     (s : Situation) where
@@ -97,10 +94,8 @@ module _ {T : Type 0} {inner : Outcome T} {reads : Readings T} (law : Lawful T i
   -- so do the attempts from a place on
   pub tries_keep : (a : ℕ) (r : Result T Error) (t : Situation) → Tries T inner s a r t → Keeps s t
   tries_keep a r t (answered stop v left narrowed ran none) =
-      keeps_scope s left s.start s.end (attempt_keeps a stop (Ok v) left narrowed ran)
-      (λ p within. within)
-  tries_keep a r t (refused stop e left narrowed ran) =
-      attempt_keeps a stop (Err e) left narrowed ran
+      grind (arith, attempt_keeps, keeps_scope)
+  tries_keep a r t (refused stop e left narrowed ran) = grind (arith, attempt_keeps)
 
   -- a value of theirs is read off one stretch, and an error names its answer
   tries_answer : (a : ℕ) (r : Result T Error) (t : Situation) → Tries T inner s a r t
@@ -141,8 +136,7 @@ module _ {T : Type 0} {inner : Outcome T} {reads : Readings T} (law : Lawful T i
   vain_keeps none_tried = tt
   vain_keeps (not_taken from a failures before start probe) = vain_keeps before
   vain_keeps (all_failed from a failures e t before start probe tries spared) =
-      longer_keeps (longest s failures) (record { error = e; left = t }) (vain_keeps before)
-      (tries_answer a (Err e) t tries)
+      grind (arith, longer_keeps, tries_answer, vain_keeps before)
 
   -- and the end of a search without a value
   end_keeps : (first : Part) (best : Option Failure) (e : Error) (t : Situation) → BestKeeps best
@@ -216,5 +210,4 @@ module _ {T : Type 0} (inner without : Outcome T) (spares : Spares inner without
       (tries_spared tt tries)
   spared_group first r t (none_gave from failures e left before none ends) spared =
       none_gave from failures e left (vain_spared before) none ends
-  spared_group first r t (wanted e memory) spared =
-      absurd (both_ways (is_memory e.0) spared memory)
+  spared_group first r t (wanted e memory) spared = grind (arith, both_ways)

@@ -1,12 +1,12 @@
 -- Choices keep to the laws where their branches do, catch no want of memory; the leftmost wins.
 use Rattle.std.proofs.Common.{true≢false, Result, Option, false, arith, Bool, true, Some, None, ◌≡◌}
 use Rattle.std.proofs.Common.{List, refl, ◌++◌, ◌&&◌, IsOk, Err, sym, inl, inr, ◌∷◌, not, ◌∙◌, ◌⊎◌}
-use Rattle.std.proofs.Common.{◌≤◌, Ok, [], ap, ℕ}
-use Rattle.std.proofs.{lemmas.Bool.Decides.nat_tests, lemmas.Bool.and_parts}
+use Rattle.std.proofs.{Common.Ok, Common.[], Common.ap, Common.ℕ, lemmas.Bool.Decides.nat_tests}
+use Rattle.std.proofs.lemmas.Bool.{and_parts}
 use Rattle.bpaf_doc.specs.Shape.{Shape}
 use Rattle.bpaf_line.specs.Taking.{ConflictsSaved, TakeTheSame, IsLeftmost, IsWinner}
-use Rattle.bpaf_line.specs.Situation.{open_count, Situation, is_taken}
-use Rattle.bpaf_line.specs.{declared.error.Error.Error, Messages.Combines}
+use Rattle.bpaf_line.specs.{Situation.Situation, Situation.is_taken, declared.error.Error.Error}
+use Rattle.bpaf_line.specs.Messages.{Combines}
 use Rattle.bpaf_laws.proofs.Keeping.{AnswersLawfully, reads_conflicts, names_combined, LawfulAnswer}
 use Rattle.bpaf_laws.proofs.Keeping.{same_took_none, lawful_answer, names_want, keeps_refl}
 use Rattle.bpaf_laws.specs.Choice.{ChoiceDescribes, TookAndIsChosen, AnsweredBranch, ChoicesOutcome}
@@ -49,14 +49,12 @@ module _ {T : Type 0} (s : Situation) (Holds : Result T Error → Situation → 
       (r : Result T Error) (t : Situation) → EqualDepths s a sa b sb r t → Holds a sa → Holds b sb
       → Holds r t
   of_equal (Ok x) sa (Ok y) sb r t (inl o) one other = rw (o.1.0, o.1.1) one
-  of_equal (Ok x) sa (Ok y) sb r t (inr o) one other =
-      of_winner x y sa sb o.1.0 r t o.1.2 one other
+  of_equal (Ok x) sa (Ok y) sb r t (inr o) one other = grind (arith, of_winner)
   of_equal (Ok x) sa (Err f) sb r t (inl o) one other = rw (o.1, o.2) (back f sb other)
   of_equal (Ok x) sa (Err f) sb r t (inr o) one other = rw (o.1.0, o.1.1) one
   of_equal (Err e) sa (Ok y) sb r t (inl o) one other = rw (o.1, o.2) (back e sa one)
   of_equal (Err e) sa (Ok y) sb r t (inr o) one other = rw (o.1.0, o.1.1) other
-  of_equal (Err e) sa (Err f) sb r t o one other =
-      rw (o.0.2, o.1) (both e f o.0.0 sa sb o.0.1 one other)
+  of_equal (Err e) sa (Err f) sb r t o one other = grind arith
 
   -- and at any
   pub of_chosen : (a : Result T Error) (sa : Situation) (b : Result T Error) (sb : Situation)
@@ -116,8 +114,7 @@ pub choices_lawful : {T P : Type 0} (outcome : P → Outcome T) (reads : P → R
     → ((p : P) → Lawful T (outcome p) (reads p))
     → Lawful T (ChoicesOutcome outcome ps) (ChoicesReads reads ps)
 choices_lawful outcome reads [] each = refusal_lawful no_choice
-choices_lawful outcome reads (p ∷ ps) each =
-    from_lawful outcome reads (outcome p) (reads p) ps each (each p)
+choices_lawful outcome reads (p ∷ ps) each = grind (arith, from_lawful)
 
 -- A choice of two: what its evaluation shows, and that it catches no want of memory.
 
@@ -237,9 +234,7 @@ pub choices_spared : {T P : Type 0} (outcome : P → Outcome T) (ps : List P) (s
     (r : Result T Error) → ChoicesOutcome outcome ps s r t → IsNotMemory r
     → ChoicesOutcome (λ p. WithoutMemory (outcome p)) ps s r t
 choices_spared outcome [] s t r o spared = o
-choices_spared outcome (p ∷ ps) s t r o spared =
-    nested_spares outcome (λ q. WithoutMemory (outcome q)) (outcome p) (WithoutMemory (outcome p)) ps
-    (λ s t r ran spared. (ran, spared)) (λ q s t r ran spared. (ran, spared)) s t r o spared
+choices_spared outcome (p ∷ ps) s t r o spared = grind (arith, nested_spares)
 
 -- The leftmost place that only one of two branches took belongs to the chosen one.
 
@@ -289,10 +284,7 @@ module _ {T : Type 0} (v : T) (t : Situation) where
 -- what answered a value and left as many items took nothing
 pub took_nothing : {T : Type 0} {outcome : Outcome T} {reads : Readings T} → Lawful T outcome reads
     → (s t : Situation) (v : T) → outcome s (Ok v) t → is_untouched s t ≡ true → TakeTheSame t s
-took_nothing law s t v ran untouched p =
-    let read = law.ok s t v ran in
-    let same : open_count s ≤ open_count t = grind (arith, nat_tests) in
-    grind (arith, read.keeps.stays p, same_took_none s t read.keeps read.closed same p)
+took_nothing law s t v ran untouched p = grind (arith, nat_tests, same_took_none)
 
 module _ {T : Type 0} {first second : Outcome T} {first_reads second_reads : Readings T}
     (first_law : Lawful T first first_reads) (second_law : Lawful T second second_reads) where
@@ -316,8 +308,7 @@ module _ {T : Type 0} {first second : Outcome T} {first_reads second_reads : Rea
   )
   equal_chosen s v t (Ok x) sa (Ok y) sb first_ran second_ran (inr won) one other =
       winner_chosen v t (branch_of x sa) (branch_of y sb) won.1.0 won.1.1 won.1.2
-  equal_chosen s v t (Ok x) sa (Err e) sb first_ran second_ran chosen one other =
-      absurd (true≢false (sym other))
+  equal_chosen s v t (Ok x) sa (Err e) sb first_ran second_ran chosen one other = grind arith
   equal_chosen s v t (Err e) sa b sb first_ran second_ran chosen one other =
       absurd (true≢false (sym one))
 

@@ -144,8 +144,7 @@ pub steps_more : {T : Type 0} (inner : Outcome T) (catches first : Bool) (s m : 
     (vs : List T) (v : T) (t : Situation) → Turns inner catches first s vs m
     → TurnOutcome inner catches (first && is_nil vs) m (Ok (Some v)) t
     → Turns inner catches first s (vs ++ v ∷ []) t
-steps_more inner catches first s m [] v t o step =
-    (t, (subst (λ w. inner w (Ok v) t) (sym o) step.0, grind arith), refl)
+steps_more inner catches first s m [] v t o step = grind arith
 steps_more inner catches first s m (x ∷ vs) v t o step =
     (o.0, o.1, steps_more inner catches false o.0 m vs v t o.2 (step.0, grind arith))
 
@@ -161,13 +160,7 @@ module _ {T : Type 0} {inner : Outcome T} {reads : Readings T} (law : Lawful T i
   -- a stop reads no value
   stop_reads : (first : Bool) (s t : Situation) → TurnOutcome inner catches first s (Ok None) t
       → Reads (List T) (EachReads reads) s [] t
-  stop_reads first s t (inl dropped) =
-      let read = law.ok s t dropped.0 dropped.1 in
-      record {
-        keeps = read.keeps;
-        closed = read.closed;
-        reading = same_took_none s t read.keeps read.closed dropped.3;
-      }
+  stop_reads first s t (inl dropped) = grind (arith, same_took_none)
   stop_reads first s t (inr stopped) =
       reads_same (EachReads reads) s t [] stopped.1 (newly_none s)
 
@@ -235,8 +228,7 @@ module _ {T : Type 0} {inner : Outcome T} {reads : Readings T} (law : Lawful T i
   pub values_bounded : (s : Situation) (vs : List T) (t : Situation)
       → Turns inner catches false s vs t → length vs + open_count t ≤ open_count s
   values_bounded s [] t o = let same = ap open_count o in omega arith
-  values_bounded s (v ∷ vs) t o =
-      omega (arith, took_item inner catches s o.0 v o.1, values_bounded o.0 vs t o.2)
+  values_bounded s (v ∷ vs) t o = grind (arith, took_item, values_bounded o.0 vs t o.2)
 
   -- the first value may have taken none
   steps_bounded : (s : Situation) (vs : List T) (t : Situation) → Turns inner catches true s vs t
@@ -252,8 +244,7 @@ module _ {T : Type 0} {inner : Outcome T} {reads : Readings T} (law : Lawful T i
   each_takes : (s : Situation) (vs : List T) (t : Situation) → Turns inner catches false s vs t
       → EachTakes inner s vs t
   each_takes s [] t o = o
-  each_takes s (v ∷ vs) t o =
-      (o.0, o.1.0, took_item inner catches s o.0 v o.1, each_takes o.0 vs t o.2)
+  each_takes s (v ∷ vs) t o = grind (arith, took_item, each_takes o.0 vs t o.2)
 
   -- all but the first took an item
   later_take : (s : Situation) (vs : List T) (t : Situation) → Turns inner catches true s vs t
@@ -299,8 +290,7 @@ module _ {T : Type 0} {inner : Outcome T} {reads : Readings T} (law : Lawful T i
         steps = any_first inner false s vs run.last run.steps;
         stop = run.stop;
       })
-      answers s (Ok vs) t (rests v is o same) =
-          subst (λ values. Reads (List T) (ListReads reads) s values t) (sym is) (one_read s t v o)
+      answers s (Ok vs) t (rests v is o same) = grind (arith, one_read)
       answers s (Err e) t run = lawful_answer (list_lawful law false) s (Err e) t (record {
         values = run.values;
         last = run.last;

@@ -1,9 +1,9 @@
 -- How what evaluations keep is put together. No combinator builds a `Keeps` of its own: it goes
 -- through these lemmas and one for each call of a state, so that a clause can be added to the laws
 -- here.
-use Rattle.std.proofs.Common.{Result, Option, subst, arith, false, true, ◌&&◌, ◌||◌, List, ◌++◌, []}
-use Rattle.std.proofs.Common.{refl, Bool, zero, ◌≡◌, ◌+◌, ◌∷◌, sym, ◌∙◌, suc, ◌<◌, ◌≤◌, map, ap, ℕ}
-use Rattle.std.proofs.Common.{if◌then◌else◌, append_assoc, append-nil, true≢false, ⊎_elim, length}
+use Rattle.std.proofs.Common.{arith, false, true, ◌&&◌, ◌||◌, List, ◌++◌, refl, Bool, zero, ◌≡◌, []}
+use Rattle.std.proofs.Common.{append_assoc, append-nil, true≢false, Result, Option, length, subst}
+use Rattle.std.proofs.Common.{◌+◌, ◌∷◌, sym, ◌∙◌, suc, ◌<◌, ◌≤◌, map, ap, ℕ}
 use Rattle.std.proofs.{lemmas.Bool.Decides.nat_tests, lemmas.Bool.cases_cond}
 use Rattle.std.proofs.lemmas.List.{map-append}
 use Rattle.std.specs.Prelude.{◌==◌, None, Some, not, Err, Ok}
@@ -134,11 +134,7 @@ closes_trans s m t k a b p inside outside = grind (arith, k.stays, a, b)
 -- what two evaluations take, one after the other, is what both take together
 pub newly_joins : (s m t : Situation) → Keeps s m → Keeps m t
     → Joins (newly s m) (newly m t) (newly s t)
-newly_joins s m t a b =
-    record {
-      all = λ p. grind (arith, a.stays p, b.stays p);
-      apart = λ p. grind (arith, a.stays p, b.stays p);
-    }
+newly_joins s m t a b = grind arith
 
 -- what is read by one evaluation after another is read by both
 pub reads_both : {A B : Type 0} {first : Readings A} {rest : Readings B} {s m t : Situation} {x : A}
@@ -202,8 +198,7 @@ taken_after s p q = grind (arith, nat_tests, taken_here, taken_other)
 
 -- a present place of the scope is taken: that place is newly taken, and no other
 pub newly_take : (s : Situation) (p : ℕ) → is_open s p ≡ true → IsPlace p (newly s (take_place s p))
-newly_take s p there q =
-    let free = open_not_taken s p there in grind (arith, nat_tests, taken_after s p q)
+newly_take s p there q = grind (arith, nat_tests, open_not_taken, taken_after)
 
 -- and all else is kept
 pub keeps_take : (s : Situation) (p : ℕ) → is_open s p ≡ true → Keeps s (take_place s p)
@@ -269,9 +264,7 @@ names_want m want = tt
 pub names_fault : {E : Type 0} (shown : E → Option (List ℕ)) (fault : E)
     (refusal : List ℕ → Message) (m : Message) → ((text : List ℕ) → NamesAnswer (refusal text))
     → TellsFault shown fault refusal m → NamesAnswer m
-names_fault shown fault refusal m names tells =
-    ⊎_elim (λ want. names_same m Memory tt want)
-    (λ told. names_same m (refusal told.0) (names told.0) told.1) tells
+names_fault shown fault refusal m names tells = grind (arith, names_same)
 
 -- the refusal of a key that is nowhere
 pub names_absence : (s : Situation) (part : Option Part) (envs : List (List ℕ)) (m : Message)
@@ -302,8 +295,7 @@ shows_nothing m s doc full other tells = grind arith
 pub told_has_name : (m : Message) (s : Situation) (f : Failure) → is_answer m ≡ false
     → Renders m s f → HasSomeName f
 told_has_name m s failure.Memory plain tells = (no_memory, wanting)
-told_has_name m s (failure.Stdout doc full) plain tells =
-    absurd (shows_nothing m s doc full plain tells)
+told_has_name m s (failure.Stdout doc full) plain tells = grind (arith, shows_nothing)
 told_has_name m s (failure.Stderr doc) plain tells =
     let named : (name : Refusal) × (refusal_of m ≡ Some name) = name_of m plain in
     (named.0, told named.0 m s doc named.1 tells)
@@ -315,10 +307,7 @@ pub count_below-joined : (whole f g : ℕ → Bool) (n : ℕ) → ((p : ℕ) →
     → ((p : ℕ) → (f p && g p) ≡ false) → count_below whole n ≡ count_below f n + count_below g n
 count_below-joined whole f g zero all apart = refl
 count_below-joined whole f g (suc n) all apart =
-    let here = all n in
-    let not_both = apart n in
-    let before = count_below-joined whole f g n all apart in
-    grind arith
+    grind (arith, count_below-joined whole f g n all apart)
 
 -- what is present at first is present still, or newly taken
 pub open_joins : (s t : Situation) → Keeps s t → Closes s t → Joins (is_open t) (newly s t) (is_open s)
@@ -340,8 +329,7 @@ open_count-falls s t k c =
 -- so it does for every parser that keeps to the laws
 pub lawful_falls : {T : Type 0} {outcome : Outcome T} {reads : Readings T} → Lawful T outcome reads
     → CountFalls outcome
-lawful_falls law s t v answered =
-    let read = law.ok s t v answered in open_count-falls s t read.keeps read.closed
+lawful_falls law s t v answered = grind (arith, open_count-falls)
 
 -- a set without numbers below n lacks each of them
 pub none_below : (set : ℕ → Bool) (n : ℕ) → count_below set n ≡ 0 → (p : ℕ) → p < n → set p ≡ false
@@ -351,12 +339,7 @@ none_below set (suc n) e p within = grind (arith, none_below set n)
 -- a set with some numbers below n has one
 some_below : (set : ℕ → Bool) (n : ℕ) → 0 < count_below set n → HasPlace set
 some_below set zero some = absurd (omega arith)
-some_below set (suc n) some = at (set n) refl some (some_below set n)
-  where
-    at : (b : Bool) → set n ≡ b → 0 < (if b then (count_below set n + 1) else (count_below set n))
-        → (0 < count_below set n → HasPlace set) → HasPlace set
-    at true here more below = (n, here)
-    at false lacking more below = below more
+some_below set (suc n) some = grind (arith, some_below set n)
 
 -- an evaluation that left fewer present places took one
 pub fewer_took : (s t : Situation) → Keeps s t → Closes s t → open_count t < open_count s

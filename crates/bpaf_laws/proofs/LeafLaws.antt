@@ -98,8 +98,7 @@ placed_more s p items at is all = grind (arith, All-cons (IsPlaced s))
 all_placed : (s : Situation) (places : List ℕ)
     → All (IsPlaced s) (filter_map (placed_item s) places)
 all_placed s [] = All-nil (IsPlaced s)
-all_placed s (p ∷ places) =
-    placed_more s p (filter_map (placed_item s) places) (open_item s p) refl (all_placed s places)
+all_placed s (p ∷ places) = grind (arith, placed_more, all_placed s places)
 
 -- so are those that are looked at
 looked_placed : (s : Situation) (anywhere : Bool) → All (IsPlaced s) (looked_at anywhere s)

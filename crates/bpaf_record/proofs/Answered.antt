@@ -1,15 +1,15 @@
 -- What an answer says by the words: of one field, of those in front of commands, of a command, and
 -- of the words behind `--`.
-use Rattle.std.proofs.Common.{slice_index_or, if◌then◌else◌, slice_index, true≢false, length, false}
-use Rattle.std.proofs.Common.{IsUtf8, Option, IsSome, Result, ⊎_elim, codes, subst, arith, zero, []}
-use Rattle.std.proofs.Common.{Bool, true, List, refl, cond, ◌||◌, ◌==◌, ◌++◌, None, Some, IfOk, ◌≡◌}
-use Rattle.std.proofs.Common.{◌≢◌, suc, ◌∷◌, ◌+◌, map, sym, ◌∙◌, All, not, ◌<◌, ◌⊎◌, inl, inr, ap}
+use Rattle.std.proofs.Common.{slice_index_or, slice_index, true≢false, length, IsUtf8, Option, zero}
+use Rattle.std.proofs.Common.{refl, cond, ◌==◌, ◌++◌, None, Some, IfOk, ◌≡◌, ◌≢◌, suc, ◌∷◌, ◌+◌, []}
+use Rattle.std.proofs.Common.{IsSome, Result, ⊎_elim, false, codes, subst, arith, Bool, true, List}
+use Rattle.std.proofs.Common.{map, sym, ◌∙◌, All, not, ◌<◌, ◌⊎◌, inl, inr, ap, ℕ}
 use Rattle.std.proofs.lemmas.List.Elements.{Contains-append_left, All-contains_itself, All-contains}
 use Rattle.std.proofs.lemmas.List.Elements.{Contains-append_right, Contains-append_cases, All-take}
 use Rattle.std.proofs.lemmas.List.Elements.{recursion_from_All, Contains-get_or, filter_passes}
 use Rattle.std.proofs.lemmas.List.Sums.{AllPass-from_list_all, count_by_more_yes, sum_by-take-le}
 use Rattle.std.proofs.{lemmas.Bool.or_cases, lemmas.Bool.not-true, lemmas.List.Elements.All-filter}
-use Rattle.std.proofs.{lemmas.List.Sums.length-filter, lemmas.Str.encode_ascii, Common.ℕ}
+use Rattle.std.proofs.{lemmas.List.Sums.length-filter, lemmas.Str.encode_ascii}
 use Rattle.std.specs.List.{position_or_len, AllByRecursion, Contains, list_all, AllZip, filter}
 use Rattle.std.specs.{Option.option_to_list, Char.IsAsciiDigit, Prelude.flat_map}
 use Rattle.bpaf_base.specs.declared.arg.Arg.TheVariants.{PosWord, Short, Long}
@@ -56,12 +56,7 @@ module _ (known : Known) where
     Contains-append_left items (flat_map (λ items. items) parts),
   )
   part_of (first ∷ words) (items ∷ parts) word spelled (suc k, within, is) =
-      let part = part_of words parts word spelled.1 (k, omega arith, is) in (
-        part.0,
-        part.1,
-        λ item there. Contains-append_right items (flat_map (λ items. items) parts) item
-            (part.2 item there),
-      )
+      grind (arith, Contains-append_right, part_of words parts word spelled.1 (k, omega arith, is))
 
   -- so the items that one spells are
   among_all : (words : List (List ℕ)) (items own : List Arg) (word : List ℕ) (item : Arg)
@@ -152,14 +147,7 @@ module _ (names : Names) where
   keys_first : (os : List LinePiece)
       → filter (is_key_of names) (map first_item os) ≡ map first_item (keyed (names ∷ []) os)
   keys_first [] = refl
-  keys_first (o ∷ os) =
-      by_test (is_key_of names (first_item o)) (keyed (names ∷ []) os) (keys_first os)
-    where
-      by_test : (b : Bool) {ks : List Arg} (ps : List LinePiece) → ks ≡ map first_item ps
-          → (if b then (first_item o ∷ ks) else ks)
-          ≡ map first_item (if b || false then (o ∷ ps) else ps)
-      by_test true ps e = ap (λ ks. first_item o ∷ ks) e
-      by_test false ps e = e
+  keys_first (o ∷ os) = grind (arith, keys_first os)
 
   module _ (known : Known) (given : Given) (context : Context) (on : IsContext known given context)
       (r : Roles) (os : List LinePiece) (cut : Cut r (line_cells context) os) where
@@ -371,8 +359,7 @@ module _ {known : Known} {words : List (List ℕ)} {os : List LinePiece}
   pub spelled_optional : {key : Names} {A : Type 0} {inside : Said A} {o : Option A}
       → OptionalSays inside (keyed (key ∷ []) os) o → (value : Option A) → value ≡ o
       → IfKeySpelled key (IsSome value)
-  spelled_optional (says_some x is so) value e names same texts spelled =
-      subst IsSome (sym (e ∙ is)) refl
+  spelled_optional (says_some x is so) value e names same texts spelled = grind arith
   spelled_optional (says_none is none) value e names same texts spelled =
       absurd (spelled_key names same texts spelled none)
 
@@ -545,9 +532,7 @@ behind_is : (items : List Arg) (texts : List (List ℕ)) → AllByRecursion IsBe
     → map item_text (filter stands_behind (items ++ map PosWord texts)) ≡ texts
 behind_is [] [] before = refl
 behind_is [] (text ∷ texts) before = ap (λ rest. text ∷ rest) (behind_is [] texts tt)
-behind_is (k ∷ items) texts before =
-    let kept = filter stands_behind (items ++ map PosWord texts) in
-    ap (λ b. map item_text (cond b (k ∷ kept) kept)) before.0 ∙ behind_is items texts before.1
+behind_is (k ∷ items) texts before = grind (arith, behind_is items texts before.1)
 
 -- Of a context's line, cut for a record, what stands behind `--` are the words there.
 pub line_behind : {known : Known} {given : Given} {context : Context}
@@ -576,14 +561,7 @@ module _ (q : Roles) (named : IsNamed q) where
   -- so it leaves all items that do,
   others_are : (os : List LinePiece) → items_behind (others q os) ≡ items_behind os
   others_are [] = refl
-  others_are (o ∷ os) = by_own (is_own q o) refl (others_are os)
-    where
-      by_own : (b : Bool) → is_own q o ≡ b → items_behind (others q os) ≡ items_behind os
-          → items_behind (if not b then (o ∷ others q os) else others q os) ≡ items_behind (o ∷ os)
-      by_own true e h =
-          h ∙ sym (ap (λ b. cond b (first_item o ∷ items_behind os) (items_behind os))
-          (piece_before o e))
-      by_own false e h = ap (λ ks. cond (stands_behind (first_item o)) (first_item o ∷ ks) ks) h
+  others_are (o ∷ os) = grind (arith, piece_before, others_are os)
 
   -- and all texts,
   pub others_behind : (os : List LinePiece) → pieces_behind (others q os) ≡ pieces_behind os
@@ -610,7 +588,5 @@ strict_words {T} {means} {ws} {vs} so = each ws vs (word_values so)
     each [] [] all = tt
     each [] (v ∷ vs) all = absurd all
     each (o ∷ ws) [] all = absurd all
-    each (One k ∷ ws) (v ∷ vs) all =
-        subst (λ b. AllZip means (map item_text (cond b (k ∷ items_behind ws) (items_behind ws)))
-        (v ∷ vs)) (sym all.0.0) (all.0.1, each ws vs all.1)
+    each (One k ∷ ws) (v ∷ vs) all = grind (arith, each ws vs all.1)
     each (Two k w ∷ ws) (v ∷ vs) all = absurd all.0

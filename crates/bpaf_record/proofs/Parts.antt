@@ -71,10 +71,7 @@ fallback_part_is f s = grind (arith, completed_is)
 pub optional_part_is : {T : Type 0} (catch : Bool) (s : ProgramForm T)
     → part_if (not catch) (optional_part (part_of s))
     ≡ part_of (program_if (not catch) (program_optional s))
-optional_part_is {T} catch s = ap (part_if (not catch)) (optional_is s) ∙ if_is (not catch) _
-  where
-    optional_is : (s : ProgramForm T) → optional_part (part_of s) ≡ part_of (program_optional s)
-    optional_is s = grind arith
+optional_part_is {T} catch s = grind (arith, if_is)
 
 -- a choice of two
 pub choice_part_is : {T : Type 0} (own others : List Names) (words more : List (List ℕ))

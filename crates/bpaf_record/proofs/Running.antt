@@ -51,8 +51,7 @@ others_present : (items : List Arg) (marker : Arg) (rest : List Arg)
     slice_get (items ++ marker ∷ rest) p) (length (items ++ marker ∷ rest)))
     ≡ items ++ rest
 others_present [] marker rest = simp (compare.suc-zero) (all_present rest)
-others_present (k ∷ items) marker rest =
-    simp (compare.suc-suc, compare.zero-suc) (ap (λ ks. k ∷ ks) (others_present items marker rest))
+others_present (k ∷ items) marker rest = grind (arith, others_present items marker rest)
 
 -- what is present are the items of the words before the first `--`, and then the words behind it
 pub record ArePresent (known : Known) (words : List (List ℕ)) (here : List Arg) : Type 0 where
@@ -96,9 +95,7 @@ on_line known words line marker (with_marker before after items cut none spells)
 at_place : (at : ℕ → Option Arg) (n p : ℕ) (item : Arg) → p < n → at p ≡ Some item
     → Contains (present (first_cells at n)) item
 at_place at zero p item within is = absurd (omega arith)
-at_place at (suc n) zero item within is =
-    subst (λ c. Contains (present (c ∷ first_cells (λ q. at (suc q)) n)) item) (sym is)
-    (0, omega arith, refl)
+at_place at (suc n) zero item within is = grind arith
 at_place at (suc n) (suc p) item within is =
     Contains-append_right (option_to_list (at zero)) (present (first_cells (λ q. at (suc q)) n))
     item (at_place (λ q. at (suc q)) n p item (omega arith) is)
@@ -253,8 +250,7 @@ module _ {T : Type 0} {outcome : Outcome T} (describes : Shape → Type 0) (info
         answered = λ texts v there. absurd (never_without known given texts there.context
             there.on_line at_word number none);
       }
-  answers_as_program program (Err f) wanted =
-      record { sound = tt; answered = λ texts v there. refl }
+  answers_as_program program (Err f) wanted = grind arith
 
 -- options that are a flat record have a parser that is one
 pub is_flat_form : {T : Type 0} (form : ProgramForm T) (names : List Names) (info : RunInfo)

@@ -34,8 +34,4 @@ loop-index-preserved g c = (
 )
 
 pub returns : goal.returns
-returns g c variables =
-    let ps = c.args.parsers.now in
-    c.loop-index.invariant.1 variables
-    ∙ ap (λ qs. part_of (program_form (choices_of g.P.ProgramField.grammar qs) variables))
-    (take_all c.loop-index.index ps (let done = c.loop-index-test.false in omega arith))
+returns g c variables = grind (arith, take_all)

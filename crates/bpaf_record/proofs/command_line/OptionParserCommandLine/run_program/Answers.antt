@@ -1,8 +1,8 @@
-use Rattle.std.proofs.Common.{true, false}
+use Rattle.std.proofs.Common.{arith, false}
 use Rattle.bpaf_words.specs.Arguments.{given_of}
-use Rattle.bpaf_record.specs.Grammar.{command_words, keys_of, program_form}
 use Rattle.bpaf.specs.Run.{known_names}
 use Rattle.bpaf_record.proofs.Running.{answers_as_program, is_program_form, tells_of_words}
+use Rattle.bpaf_record.specs.Grammar.{program_form, keys_of}
 use Rattle.bpaf_record.proofs.command_line.OptionParserCommandLine.run_program.Goals as goal
 
 pub returns-clause-each_exact : goal.returns-clause-each_exact
@@ -20,9 +20,4 @@ pub returns-clause-exact : goal.returns-clause-exact
 returns-clause-exact g c agrees = returns-clause-each_exact g c agrees _ c.run_inner.ensures.outcome
 
 pub returns-clause-fields : goal.returns-clause-fields
-returns-clause-fields g c agrees =
-    let parser = c.args.self.now.inner in
-    let given = given_of c.args.args in
-    tells_of_words (g.P.ProgramField.says given.env) parser
-    (g.met.P.ProgramField.law parser agrees given.env)
-    (g.met.P.ProgramField.said parser agrees given.env) _ (returns-clause-exact g c agrees)
+returns-clause-fields g c agrees = grind (arith, returns-clause-exact, tells_of_words)
