@@ -1,6 +1,6 @@
 -- The classes of refusals, and of what two refusals together are.
-use Rattle.std.proofs.Common.{if◌then◌else◌, true≢false, arith, false, Bool, refl, true, ◌&&◌, inl}
-use Rattle.std.proofs.Common.{not, sym, ◌∙◌, ◌≡◌, inr, ◌⊎◌, ap}
+use Rattle.std.proofs.Common.{if◌then◌else◌, true≢false, arith, false, Bool, refl, true, inl, sym}
+use Rattle.std.proofs.Common.{◌∙◌, ◌≡◌, inr, ◌⊎◌, ap}
 use Rattle.std.proofs.lemmas.Bool.{eqb-true, eq-eqb}
 use Rattle.bpaf_line.specs.declared.error.Message.TheVariants.{ParseFailure, Missing}
 use Rattle.bpaf_line.specs.Messages.{CombinesSpared, can_catch, is_memory, Combines}
@@ -60,13 +60,7 @@ stop_by c untouched = (tests_of c).2
 -- that is told by the class
 stop_is : (m : Message) (untouched : Bool) {c : ErrorClass} → class_of m ≡ c
     → stops_step false m untouched ≡ stop_by c untouched
-stop_is m untouched e =
-    ap (λ b. not (is_memory m) && b) (stop_test m untouched)
-    ∙ by_tests (is_memory m) (is_missing m) (can_catch m) ∙ ap (λ z. stop_by z untouched) e
-  where
-    by_tests : (a b c : Bool) → (not a && (if b then untouched else c))
-        ≡ stop_by (class_of_tests a b c) untouched
-    by_tests b c d = grind arith
+stop_is m untouched e = grind (arith, stop_test)
 
 -- an error at which a turn stops
 pub stops_at : {e : Error} {s m : Situation} → stops_step false e.0 (is_untouched s m) ≡ true
@@ -94,12 +88,7 @@ stands : (m n : Message) {g : Message} → (is_missing m ≡ true → is_missing
 stands (ParseFailure failure) n none c = inl (refl, c)
 stands (Missing items) (Missing others) none c = absurd (none refl refl)
 stands m (ParseFailure failure) none c = inr (c, inl refl)
-stands m n {g} none c = by_catch (can_catch m) c
-  where
-    by_catch : (b : Bool) → g ≡ (if b then n else m)
-        → ((b ≡ false) × (g ≡ m)) ⊎ ((g ≡ n) × ((can_catch n ≡ false) ⊎ (b ≡ true)))
-    by_catch true c = inr (c, inr refl)
-    by_catch false c = inl (refl, c)
+stands m n {g} none c = grind arith
 
 -- where one of two can't be caught and the other is such or a missing item, both together are such
 pub combined_refused : (m n : Message) {g : Message}

@@ -1,17 +1,16 @@
 -- A choice of two alternatives is one; and closures round commands, choices of them, and commands that
 -- may be left out keep to the laws.
-use Rattle.std.proofs.Common.{true≢false, length, Option, Result, nat_le, nat_lt, ⊎_elim, false, []}
-use Rattle.std.proofs.Common.{arith, subst, Bool, true, zero, ◌&&◌, List, None, Some, refl, ◌++◌, ℕ}
-use Rattle.std.proofs.Common.{◌||◌, Err, suc, ◌<◌, ◌∷◌, ◌≡◌, ap₂, sym, ◌∙◌, inl, inr, ◌≤◌, ◌⊎◌, Ok}
-use Rattle.std.proofs.Common.{ap}
+use Rattle.std.proofs.Common.{true≢false, length, Option, Result, ⊎_elim, false, arith, subst, Bool}
+use Rattle.std.proofs.Common.{true, zero, List, None, Some, refl, ◌++◌, ◌||◌, Err, suc, ◌<◌, ◌∷◌, ℕ}
+use Rattle.std.proofs.Common.{◌≡◌, sym, ◌∙◌, inl, inr, ◌≤◌, ◌⊎◌, [], Ok, ap}
 use Rattle.std.proofs.lemmas.Bool.{and_parts, not-false, cases_lt, eqb-true, not-true, or_right}
 use Rattle.std.proofs.{lemmas.Bool.le-leb, lemmas.Bool.lt-ltb, lemmas.List.Folds.list_any-append}
 use Rattle.std.specs.Prelude.{MatchBool}
 use Rattle.bpaf_base.specs.{Items.is_command_word, Items.any_item, declared.arg.Arg.Arg}
 use Rattle.bpaf_line.specs.Messages.{is_wrong_input, is_memory, Combines}
-use Rattle.bpaf_line.specs.Situation.{Situation, is_taken, item_in}
 use Rattle.bpaf_line.specs.Taking.{ConflictsSaved, open_item, IsWinner}
-use Rattle.bpaf_line.specs.{declared.error.Message.Message, declared.error.Error.Error}
+use Rattle.bpaf_line.specs.{Situation.Situation, Situation.is_taken, declared.error.Message.Message}
+use Rattle.bpaf_line.specs.declared.error.Error.{Error}
 use Rattle.bpaf_line.proofs.Places.{present_in_line, open_has_item}
 use Rattle.bpaf_laws.proofs.ChoiceLaws.{chosen_at_equal, not_winner, of_chosen}
 use Rattle.bpaf_laws.specs.Choice.{ChoiceOutcome, BranchesEval, EqualDepths, branch_of, Winner}
@@ -25,12 +24,12 @@ use Rattle.bpaf_exact.proofs.Classes.{combined_missing, combined_refused, is_mis
 use Rattle.bpaf_exact.proofs.Cuts.{both_nil, not_left, Union, owner}
 use Rattle.bpaf_exact.proofs.{Names.apart_second, Names.apart_first, Places.match_of, Places.Match}
 use Rattle.bpaf_exact.proofs.{Wrappers.closed_keeps, Classes.memory_class}
-use Rattle.bpaf_exact.specs.Flat.{optional_some, either_value, OptionalEval, FirstUnread, IsWholeIn}
-use Rattle.bpaf_exact.specs.Flat.{is_missing, ClosedEval, Variables, OfMissing, none_here, OfMemory}
+use Rattle.bpaf_exact.specs.Flat.{AlternativeOk, either_value, OptionalEval, FirstUnread, IsWholeIn}
+use Rattle.bpaf_exact.specs.Flat.{TakesFirst, ErrorClass, Variables, OfMissing, none_here, OfMemory}
 use Rattle.bpaf_exact.specs.Flat.{no_place, AgreesOn, Refused, Closure, Steady, cells, class, Stops}
-use Rattle.bpaf_exact.specs.Flat.{first_cells, NonePresent, ClosedValue, TakesFirst, ErrorClass}
+use Rattle.bpaf_exact.specs.Flat.{first_cells, NonePresent, ClosedValue, is_missing, ClosedEval}
 use Rattle.bpaf_exact.specs.Flat.{alternative_missing, alternative_refused, alternative_memory}
-use Rattle.bpaf_exact.specs.Flat.{AlternativeErr, AlternativeLaw, optional_none, AlternativeOk}
+use Rattle.bpaf_exact.specs.Flat.{AlternativeErr, AlternativeLaw, optional_some, optional_none}
 use Rattle.bpaf_exact.specs.Pieces.{is_own_role, takes_later, TakesPiece, LinePiece, takes_one}
 use Rattle.bpaf_exact.specs.Pieces.{takes_two, either, is_own, pieces, Cells, Apart, Roles}
 use Rattle.bpaf_exact.specs.ProgramForm.{OptionalCommands, FindsNoCommand, ChoiceValue, CommandsLaw}
@@ -58,17 +57,13 @@ steady_both a b = record {
 -- a place where as much is taken has the item that it had
 steady_item : {m n : Situation} → SameScope m n → (p : ℕ) → is_taken n p ≡ is_taken m p
     → open_item n p ≡ open_item m p
-steady_item {m} {n} st p e =
-    same_item m n p (ap₂ (λ a b. nat_le a p && nat_lt p b) st.start st.end)
-    (ap (λ c. item_in c p) st.context) e
+steady_item {m} {n} st p e = grind (arith, same_item)
 
 -- where as much is taken the cells are the same
 pub cells_same : {m n : Situation} → SameScope m n → ((p : ℕ) → is_taken n p ≡ is_taken m p)
     → cells n ≡ cells m
 unfolding cells
-cells_same {m} {n} st f =
-    ap (λ c. first_cells (open_item n) (length c.line)) st.context
-    ∙ same_cells (open_item m) (length m.context.line) (λ p l. steady_item st p (f p))
+cells_same {m} {n} st f = grind (arith, same_cells, steady_item)
 
 -- the leftmost place at which two differ
 left_cells : {at : ℕ → Option Arg} (other : ℕ → Option Arg) (n p : ℕ) {x : Arg} → p < n
@@ -84,14 +79,7 @@ left_cells other (suc n) (suc p) l e f same =
 pub has_item : {env : Variables} {s : Situation} {p : ℕ} → IsWholeIn env s → is_taken s p ≡ false
     → Match any_item s p
 has_item {s} {p} w free =
-    let l = present_in_line s p free in
-    let a : s.start ≤ p = ⊎_elim
-    (λ (ahead : p < s.start). absurd (true≢false (sym (w.front p ahead) ∙ free)))
-    (λ (within : s.start ≤ p). within) (cases_lt p s.start) in
-    let b = w.end in
-    let c = le-leb s.start p (omega arith) in
-    let d = lt-ltb p s.end (omega arith) in
-    match_of any_item s p (open_has_item s p (rw (c, d, free) refl))
+    grind (arith, cases_lt, le-leb, lt-ltb, match_of, open_has_item, present_in_line)
 
 -- the one that took the leftmost place that only one took, by their cells
 left_of : {env : Variables} {s m n : Situation} {p : ℕ} → IsWholeIn env s → Steady s m → Steady s n
@@ -146,10 +134,7 @@ some_head (o ∷ os) some = (o, os, refl)
 head_unread : {T : Type 0} (q : Roles) {v vr : LinePiece → T → Type 0} (cs : Cells) {o : LinePiece}
     → ((o : LinePiece) (w : T) → is_own q o ≡ true → vr o w ≡ v o w) → HeadOf q cs o
     → FirstUnread T q v cs → (w : T) → vr o w → ⊥
-head_unread q cs {o} same h z w y =
-    let d : o ∷ h.0 ≡ z.0 ∷ z.1 = sym h.1 ∙ z.2 in
-    let e : o ≡ z.0 = cc in
-    z.3 w (rw (← e, ← same o w h.2) y)
+head_unread q cs {o} same h z w y = grind arith
 
 module _ (T : Type 0) {qa qb r : Roles} (u : Union qa qb r) (va : LinePiece → T → Type 0)
     {vb : LinePiece → T → Type 0} (vr : LinePiece → T → Type 0)
@@ -164,8 +149,7 @@ module _ (T : Type 0) {qa qb r : Roles} (u : Union qa qb r) (va : LinePiece → 
     where
       by_owner : HeadOf qa cs o ⊎ HeadOf qb cs o → Other T qb vb cs cm
           → TakesFirst r cs oa cm ⊎ FirstUnread T r vr cs
-      by_owner (inl h) x = ⊎_elim (λ f. inl (first_mine u e h.2 f))
-          (λ z. inr (o, os, e, head_unread qa cs same_a h z)) first
+      by_owner (inl h) x = grind (arith, first_mine, head_unread, u)
       by_owner (inr h) (other_first f l) = absurd (not_left u e h.2 t f l)
       by_owner (inr h) (other_missing none) = let i = h.1 in absurd cc
       by_owner (inr h) (other_unread z) = inr (o, os, e, head_unread qb cs same_b h z)
@@ -280,17 +264,12 @@ module _ {env : Variables} {T : Type 0} {a b : Outcome T} {qa qb : Roles}
   equal_ok : (s sa sb : Situation) {t : Situation} {v : T} (x y : Result T Error) → IsWholeIn env s
       → a s x sa → b s y sb → IsNotMemory x → IsNotMemory y → EqualDepths s x sa y sb (Ok v) t
       → AlternativeOk T (either qa qb) vr s v t
-  equal_ok s sa sb (Ok x) (Ok y) w f g hf hg (inl o) =
-      absurd (never_untouched (la.keeps.ok s sa x w f)
-      (and_parts (is_untouched s sa) (is_untouched s sb) o.0).0)
-  equal_ok s sa sb {t} {v} (Ok x) (Ok y) w f g hf hg (inr o) =
-      winner_ok v o.1.0 w (la.keeps.ok s sa x w f) (lb.keeps.ok s sb y w g) o.1.1 o.1.2
+  equal_ok s sa sb (Ok x) (Ok y) w f g hf hg (inl o) = grind (arith, and_parts, never_untouched)
+  equal_ok s sa sb {t} {v} (Ok x) (Ok y) w f g hf hg (inr o) = grind (arith, winner_ok)
   equal_ok s sa sb (Ok x) (Err e) w f g hf hg o =
-      let other = err_other e hg (lb.keeps.err s sb e w g) in
-      alone_ok (first_won (la.keeps.ok s sa x w f) other steady_refl refl) o
+      grind (arith, alone_ok, err_other, first_won, steady_refl)
   equal_ok s sa sb (Err e) (Ok y) w f g hf hg o =
-      let other = err_other e hf (la.keeps.err s sa e w f) in
-      alone_ok (second_won (lb.keeps.ok s sb y w g) other steady_refl refl) o
+      grind (arith, alone_ok, err_other, second_won, steady_refl)
   equal_ok s sa sb (Err e) (Err d) w f g hf hg o = let i = o.0.2 in absurd cc
 
   -- where neither can read its first piece, if it has one, that of both can't be read
@@ -302,10 +281,8 @@ module _ {env : Variables} {T : Type 0} {a b : Outcome T} {qa qb : Roles}
       (head.0, head.1, head.2, by_owner (owner cs u head.2))
     where
       by_owner : {o : LinePiece} → HeadOf qa cs o ⊎ HeadOf qb cs o → (w : T) → vr o w → ⊥
-      by_owner (inl h) =
-          ⊎_elim (λ none. let i = h.1 in absurd cc) (head_unread qa cs same_first h) f
-      by_owner (inr h) =
-          ⊎_elim (λ none. let i = h.1 in absurd cc) (head_unread qb cs same_second h) g
+      by_owner (inl h) = grind (arith, head_unread, same_first)
+      by_owner (inr h) = grind (arith, head_unread, same_second)
 
   -- with a refusal of either class
   by_class : {s : Situation} {c : ErrorClass} → (c ≡ OfMemory) ⊎ (c ≡ Refused)
@@ -320,9 +297,7 @@ module _ {env : Variables} {T : Type 0} {a b : Outcome T} {qa qb : Roles}
   both_failed s e f x y c (alternative_memory p) j = absurd (not_memory e.0 x p)
   both_failed s e f x y c i (alternative_memory q) = absurd (not_memory f.0 y q)
   both_failed s e f x y c (alternative_missing p i same st) (alternative_missing q j alike steady) =
-      let none = both_nil (cells s) u i j in
-      ⊎_elim (λ missing. alternative_missing missing none refl steady_refl)
-      (λ memory. alternative_memory memory) (combined_missing e.0 f.0 p q c)
+      grind (arith, both_nil, combined_missing, steady_refl, u)
   both_failed s e f x y c (alternative_missing p i same st) (alternative_refused q path z) =
       by_class (combined_refused e.0 f.0 (inr q) (inl p) (inr q) c)
       (both_unread (cells s) (some_both (swap_union u) (cells s) z) (inl i) (inr z))
@@ -345,17 +320,10 @@ module _ {env : Variables} {T : Type 0} {a b : Outcome T} {qa qb : Roles}
       → IsWholeIn env s → a s x sa → b s y sb → IsNotMemory x → IsNotMemory y
       → EqualDepths s x sa y sb (Err g) t → AlternativeErr T (either qa qb) vr s (class g) t
   equal_err s g (Ok x) (Ok y) w f h hf hg (inl o) = let i = o.1.0 in absurd cc
-  equal_err s {sa} {sb} {t} g (Ok x) (Ok y) w f h hf hg (inr o) =
-      absurd (not_winner (branch_of x sa) (branch_of y sb) o.1.0 g t o.1.2)
-  equal_err s {sa} g (Ok x) (Err e) w i j hx hy o =
-      absurd (one_no_refusal (la.keeps.ok s sa x w i) o)
-  equal_err s {sb} g (Err e) (Ok y) w i j hx hy o =
-      absurd (one_no_refusal (lb.keeps.ok s sb y w j) o)
-  equal_err s {sa} {sb} g (Err e) (Err d) w f h hf hg o =
-      let given = o.0.2 in
-      let same : o.0.0 ≡ g = cc in
-      rw (o.1, ← same)
-      (both_failed s e d hf hg o.0.1 (la.keeps.err s sa e w f) (lb.keeps.err s sb d w h))
+  equal_err s {sa} {sb} {t} g (Ok x) (Ok y) w f h hf hg (inr o) = grind (arith, not_winner)
+  equal_err s {sa} g (Ok x) (Err e) w i j hx hy o = grind (arith, one_no_refusal)
+  equal_err s {sb} g (Err e) (Ok y) w i j hx hy o = grind (arith, one_no_refusal)
+  equal_err s {sa} {sb} g (Err e) (Err d) w f h hf hg o = grind (arith, both_failed)
 
   -- a choice of two alternatives whose keys are apart is an alternative
   pub choice_law : AlternativeLaw env T (ChoiceOutcome a b) (either qa qb) (either_value qa va vb)
@@ -567,22 +535,8 @@ module _ {env : Variables} {T : Type 0} {a b : Outcome T} {ra rb : Roles} {wa wb
   -- a value of the choice is one of the branch that was opened
   choice_took : {s t : Situation} {v : T} → IsWholeIn env s → BranchOk s v t
       → ProgramTook T values s v t
-  choice_took {s} {v} w (of_first {m} i e) =
-      let x = la.program.keeps.ok s m v w i in
-      record {
-        deep = rw e.depth_alike x.deep;
-        read = λ spelled n. inl (x.read spelled (rw (← e.cells_alike) n));
-        all = λ u h. ⊎_elim (λ p. let g = x.all u p in (inl g.0, rw e.cells_alike g.1))
-            (λ q. absurd (la.none.ok s m v w i (first_closed q))) h;
-      }
-  choice_took {s} {v} w (of_second {m} i e) =
-      let x = lb.program.keeps.ok s m v w i in
-      record {
-        deep = rw e.depth_alike x.deep;
-        read = λ spelled n. inr (x.read spelled (rw (← e.cells_alike) n));
-        all = λ u h. ⊎_elim (λ p. absurd (lb.none.ok s m v w i (second_closed p)))
-            (λ q. let g = x.all u q in (inr g.0, rw e.cells_alike g.1)) h;
-      }
+  choice_took {s} {v} w (of_first {m} i e) = grind (arith, first_closed, u)
+  choice_took {s} {v} w (of_second {m} i e) = grind (arith, second_closed, u)
 
   -- a branch that found no command, of whose answer something else than want of memory is known
   abbrev Passed : Situation → Error → Situation → Type 0

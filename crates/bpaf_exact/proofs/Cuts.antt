@@ -67,11 +67,8 @@ same_next k n x = grind (arith, own_not_value)
 -- What one takes of its own leaves the pieces of another as they are.
 pub keeps_other : {q r : Roles} {cs ds : Cells} {o : LinePiece} → IsNamed q → IsNamed r → Apart q r
     → TakesPiece q cs o ds → pieces r ds ≡ pieces r cs
-keeps_other {r} nq nr a (takes_one {k} {cs} e) =
-    sym (begin_at k cs (pieces r cs) (a.left k (ap is_own_role e)))
-keeps_other {r} nq nr a (takes_two {k} {w} {cs} e v) =
-    sym (begin_at k (Some w ∷ cs) (pieces r (Some w ∷ cs)) (a.left k (ap is_own_role e))
-    ∙ begin_at w cs (pieces r cs) (value_foreign nr v))
+keeps_other {r} nq nr a (takes_one {k} {cs} e) = grind (arith, begin_at)
+keeps_other {r} nq nr a (takes_two {k} {w} {cs} e v) = grind (arith, begin_at, value_foreign)
 keeps_other nq nr a (takes_later {c = None} t) = keeps_other nq nr a t
 keeps_other {r} nq nr a (takes_later {c = Some k} {cs} {ds} t) =
     begin_cong (r k) k cs ds (same_next k nq t) (keeps_other nq nr a t)
@@ -103,14 +100,10 @@ pub pieces_of_cut : {q : Roles} (r : Roles) {cs : Cells} {os : List LinePiece} �
     → Cut (either q r) cs os → pieces q cs ≡ mine q os
 pieces_of_cut r n at_end = refl
 pieces_of_cut r n (passed c) = pieces_of_cut r n c
-pieces_of_cut {q} r n (flag {k} {cs} e c) = own_begin (q k) k cs (One k)
-    (λ own. begin_at k cs (pieces q cs) (sym (either_own (q k) (r k) (q k) refl own) ∙ e))
-    (pieces_of_cut r n c)
-pieces_of_cut {q} r n (argument {k} {w} {cs} e v c) = own_begin (q k) k (Some w ∷ cs) (Two k w)
-    (λ own. begin_at k (Some w ∷ cs) (pieces q (Some w ∷ cs))
-    (sym (either_own (q k) (r k) (q k) refl own) ∙ e)
-    ∙ ap (λ b. (if b then Two k w else One k) ∷ pieces q (Some w ∷ cs)) v)
-    (begin_at w cs (pieces q cs) (value_foreign n v) ∙ pieces_of_cut r n c)
+pieces_of_cut {q} r n (flag {k} {cs} e c) =
+    grind (arith, begin_at, either_own, own_begin, pieces_of_cut r n c)
+pieces_of_cut {q} r n (argument {k} {w} {cs} e v c) =
+    grind (arith, begin_at, either_own, own_begin, value_foreign, pieces_of_cut r n c)
 pieces_of_cut {q} r n (word {w} {cs} h c) = own_begin (q w) w cs (One w)
     (λ own. let f = ap is_own_role (word_foreign n h) in absurd cc) (pieces_of_cut r n c)
 
@@ -235,12 +228,9 @@ pub one_take : {q : Roles} {cs ds es : Cells} {os ps : List LinePiece} → Takes
     → Takes q cs ps es → (os ≡ ps) × (ds ≡ es)
 one_take no_cells no_cells = (refl, refl)
 one_take (empty_stays t) (empty_stays u) = let i = one_take t u in (i.0, ap (λ z. None ∷ z) i.1)
-one_take (other_stays {k} e t) (other_stays f u) =
-    let i = one_take t u in (i.0, ap (λ z. Some k ∷ z) i.1)
-one_take (takes_flag {k} e t) (takes_flag f u) =
-    let i = one_take t u in (ap (λ z. One k ∷ z) i.0, ap (λ z. None ∷ z) i.1)
-one_take (takes_argument {k} {w} e v t) (takes_argument f y u) =
-    let i = one_take t u in (ap (λ z. Two k w ∷ z) i.0, ap (λ z. None ∷ (None ∷ z)) i.1)
+one_take (other_stays {k} e t) (other_stays f u) = grind (arith, one_take t u)
+one_take (takes_flag {k} e t) (takes_flag f u) = grind (arith, one_take t u)
+one_take (takes_argument {k} {w} e v t) (takes_argument f y u) = grind (arith, one_take t u)
 one_take (other_stays e t) (takes_flag f u) = absurd cc
 one_take (other_stays e t) (takes_argument f y u) = absurd cc
 one_take (takes_flag e t) (other_stays f u) = absurd cc
@@ -290,9 +280,7 @@ words_of_cut n f at_end = refl
 words_of_cut n f (passed c) = words_of_cut n f c
 words_of_cut n f (flag {k} e c) = let g = f k in cc
 words_of_cut n f (argument {k} e v c) = let g = f k in cc
-words_of_cut {q} n f (word {w} {cs} h c) =
-    begin_at w cs (pieces q cs) (n.words w ∙ ap (λ b. if b then Alone else Foreign) h) ∙ ap
-    (λ z. One w ∷ z) (words_of_cut n f c)
+words_of_cut {q} n f (word {w} {cs} h c) = grind (arith, begin_at, words_of_cut n f c)
 
 -- Where nothing is present the cut is empty, and only there.
 pub empty_cut : {r : Roles} {cs : Cells} → NonePresent cs → Cut r cs []
@@ -353,9 +341,7 @@ head_stays {q} {o} {os} n (takes_later {c = Some k} {cs} {ds} t) h other =
     by_role : (x : Role) → q k ≡ x
         → (pieces q cs ≡ o ∷ os → (ps : List LinePiece) × (pieces q ds ≡ o ∷ ps))
         → (ps : List LinePiece) × (pieces q (Some k ∷ ds) ≡ o ∷ ps)
-    by_role Foreign e on =
-        let i = on (sym (begin_at k cs (pieces q cs) e) ∙ h) in
-        (i.0, begin_at k ds (pieces q ds) e ∙ i.1)
+    by_role Foreign e on = grind (arith, begin_at)
     by_role Alone e on =
         let a = begin_at k cs (pieces q cs) e in
         let b = begin_at k ds (pieces q ds) e in
@@ -434,12 +420,7 @@ pub data Belongs (qa qb r : Roles) (k : Arg) : Type 0 where
 
 -- an item belongs to one of both, or to neither
 pub belongs : {qa qb r : Roles} {k : Arg} → Union qa qb r → Belongs qa qb r k
-belongs {qa} {qb} {r} {k} u = by_role (qa k) (qb k) refl refl
-  where
-    by_role : (x y : Role) → qa k ≡ x → qb k ≡ y → Belongs qa qb r k
-    by_role Foreign Foreign e f = to_none e f (u.none k e f)
-    by_role Foreign _ e f = let h = ap is_own_role f in to_second h (u.right k h) e
-    by_role _ y e f = let h = ap is_own_role e in to_first h (u.left k h) (u.apart.left k h)
+belongs {qa} {qb} {r} {k} u = grind (arith, to_first, to_none, to_second)
 
 -- the first piece of both is the first piece of its owner
 abbrev pub HeadOf : Roles → Cells → LinePiece → Type 0
@@ -471,9 +452,7 @@ owner {qa} {qb} {r} (Some k ∷ cs) {o} u e =
         → HeadOf qa (Some k ∷ cs) o ⊎ HeadOf qb (Some k ∷ cs) o
     by_owner (to_first h g f) i = inl (own_head qa (qa k) refl g h)
     by_owner (to_second h g f) i = inr (own_head qb (qb k) refl g h)
-    by_owner (to_none f g h) i =
-        ⊎_elim (λ a. inl ((a.0, begin_at k cs (pieces qa cs) f ∙ a.1, a.2)))
-        (λ b. inr ((b.0, begin_at k cs (pieces qb cs) g ∙ b.1, b.2))) (i h)
+    by_owner (to_none f g h) i = grind (arith, begin_at)
 
 -- An item that isn't the first field's own, before the first piece, isn't the other's either.
 not_either : {qa qb r : Roles} {k : Arg} (cs : Cells) {o : LinePiece} {os : List LinePiece}
@@ -498,9 +477,14 @@ pub both_nil : {qa qb r : Roles} (cs : Cells) → Union qa qb r → pieces qa cs
 both_nil [] u e f = refl
 both_nil (None ∷ cs) u e f = both_nil cs u e f
 both_nil {qa} {qb} {r} (Some k ∷ cs) u e f =
-    begin_at k cs (pieces r cs)
-    (u.none k (nil_foreign (qa k) k cs (pieces qa cs) e) (nil_foreign (qb k) k cs (pieces qb cs) f))
-    ∙ both_nil cs u (nil_rest (qa k) k cs e) (nil_rest (qb k) k cs f)
+    grind (
+      arith,
+      begin_at,
+      nil_foreign,
+      nil_rest,
+      both_nil cs u (nil_rest (qa k) k cs e) (nil_rest
+          (qb k) k cs f),
+    )
 
 -- the left one took the leftmost place that only one of the two took
 pub data TookLeft : Cells → Cells → Type 0 where
@@ -542,8 +526,7 @@ begin_length x k cs ds os ps h = grind arith
 -- taking a piece leaves fewer
 takes_shorter : {q : Roles} {cs ds : Cells} {o : LinePiece} → IsNamed q → TakesPiece q cs o ds
     → length (pieces q ds) < length (pieces q cs)
-takes_shorter {q} n (takes_one {k} {cs} e) =
-    let d = ap length (begin_at k cs (pieces q cs) e) in omega arith
+takes_shorter {q} n (takes_one {k} {cs} e) = grind (arith, begin_at)
 takes_shorter n (takes_two {cs} e v) = let d = ap length (pair_pieces cs n e v) in omega arith
 takes_shorter n (takes_later {c = None} t) = takes_shorter n t
 takes_shorter {q} n (takes_later {c = Some k} {cs} {ds} t) =
@@ -593,10 +576,7 @@ module _ (r : Roles) (n : IsNamed r) where
       → {before : Cells} {k : Arg} {after : Cells} {os : List LinePiece} → Item before k after os
       → Item (front ++ before) k after (ps ++ os)
   further front ps c (flag_key e) = flag_key e
-  further front ps c {before} {k} (argument_key e h) =
-      argument_key e (has_its_value h.value e h.may_be_one
-      h.next (c before h.earlier h.cut_before) h.cut_behind
-      (ap (λ z. ps ++ z) h.one_piece ∙ sym (append_assoc ps h.earlier (Two k h.value ∷ h.later))))
+  further front ps c {before} {k} (argument_key e h) = grind (arith, append_assoc, has_its_value)
   further front ps c (value_of_key v i) =
       value_of_key v (record {
         before = front ++ i.before;
@@ -651,11 +631,9 @@ module _ (r : Roles) (n : IsNamed r) where
   words_alone at_end = All-nil (λ o. is_word_alone o ≡ true)
   words_alone (passed c) = words_alone c
   words_alone (flag {k} {os} e c) = rw (others_own r (One k) os (ap is_own_role e)) (words_alone c)
-  words_alone (argument {k} {w} {os} e v c) =
-      rw (others_own r (Two k w) os (ap is_own_role e)) (words_alone c)
+  words_alone (argument {k} {w} {os} e v c) = grind (arith, others_own, words_alone c)
   words_alone (word {w} {os} h c) =
-      rw (others_foreign r os (ap is_own_role (word_foreign n h)))
-      (All-cons (λ o. is_word_alone o ≡ true) (One w) (others r os) h (words_alone c))
+      grind (arith, All-cons, others_foreign, word_foreign, words_alone c)
 
   -- a cut line holds together
   pub cut_holds_together : (cs : Cells) (os : List LinePiece) → Cut r cs os → HoldsTogether r cs os

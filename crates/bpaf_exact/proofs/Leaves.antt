@@ -103,10 +103,7 @@ module _ {T : Type 0} {k : FieldKind} {q : Roles} {gap : Gap T} {other : Type 0}
   pub first_err : {value : LinePiece → T → Type 0} {e : Error}
       → FirstRead T k q value gap other s (Err e) t
       → SingleErr T k q (FrontOf T value) gap s (class e) t
-  first_err (read_fault {o} {os} c path is some none) =
-      of_piece c (λ e. some (sym (ap (front k) is) ∙ e)) (λ w rest g.
-      let d : o ∷ os ≡ g.0 ∷ rest = sym is ∙ g.1 in
-      let j : g.0 ≡ o = cc in none w (rw (← j) g.2))
+  first_err (read_fault {o} {os} c path is some none) = grind arith
   first_err (read_none p n) = none_err p n
   first_err (read_memory c) = of_memory c
 
@@ -322,8 +319,7 @@ module _ (argument : KeyWithValue) where
 
   -- they are keys
   pub named : IsNamed q
-  named = test_named (is_key_with_value argument) argument.named.names WithNext
-      (λ k e. (and_parts (is_key_of argument.named.names k) _ e).0)
+  named = grind (arith, and_parts, test_named)
 
   -- with its names
   pub owns : Owns q (argument.named.names ∷ [])
@@ -433,8 +429,7 @@ module _ (argument : KeyWithValue) where
     -- the pieces, up to the last one
     whole : {s t : Situation} {text : List ℕ} (a : TookAll s t text)
         → pieces q (cells s) ≡ pairs a.1.before ++ Two a.2.key a.2.word ∷ []
-    whole a = a.1.is ∙ ap (λ z. pairs a.1.before ++ z)
-        (first_pieces q named a.2.takes ∙ ap (λ z. Two a.2.key a.2.word ∷ z) a.3)
+    whole a = grind (arith, first_pieces, named)
 
     -- there are some
     some_there : {s t : Situation} {text : List ℕ} → TookAll s t text → pieces q (cells s) ≡ [] → ⊥
@@ -484,8 +479,7 @@ module _ (argument : KeyWithValue) where
         some.is ∙ ap (λ z. first ++ z) bare.is in
         of_piece c (λ none. never_nil first (One m.item) bare.tail (sym there ∙ none))
         (λ v rest g. bare_spoils first bare.tail g.0 m.item g.1.0 g.1.1 (sym there ∙ g.2))
-    last_err {s} e other c same o =
-        none_err (no_key s o.0) (nowhere means variables other c same o.1 o.2)
+    last_err {s} e other c same o = grind (arith, no_key, none_err)
 
     -- such an argument keeps to the laws of a field
     pub last_argument_law : SingleLaw variables T (ArgumentOutcome means argument)

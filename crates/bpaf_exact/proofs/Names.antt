@@ -1,8 +1,8 @@
 -- Fields with keys apart have no item in common, pieces shared out by roles are so by names; and what
 -- a field takes of pieces, and leaves.
-use Rattle.std.proofs.Common.{if◌then◌else◌, append-nil, true≢false, bytes_eq, ⊎_elim, length, List}
-use Rattle.std.proofs.Common.{arith, false, refl, true, ◌&&◌, ◌++◌, ◌==◌, ◌||◌, Bool, take, drop}
-use Rattle.std.proofs.Common.{ap₂, not, sym, ◌∙◌, ◌∷◌, ◌≡◌, [], ap}
+use Rattle.std.proofs.Common.{if◌then◌else◌, append-nil, bytes_eq, ⊎_elim, length, arith, false, []}
+use Rattle.std.proofs.Common.{List, refl, true, ◌&&◌, ◌++◌, ◌==◌, ◌||◌, Bool, take, drop, ap₂, not}
+use Rattle.std.proofs.Common.{sym, ◌∙◌, ◌∷◌, ◌≡◌, ap}
 use Rattle.std.proofs.lemmas.Bool.{false_from_ne_true, and_parts, both_ways, and_from, eqb-true}
 use Rattle.std.proofs.lemmas.Bool.{not-true, or_cases, or_right, or_left}
 use Rattle.std.proofs.lemmas.List.{take-append-drop, append_assoc}
@@ -15,12 +15,12 @@ use Rattle.bpaf_base.specs.Items.{is_positional, is_text_among, is_key_of, is_am
 use Rattle.bpaf_base.specs.declared.arg.Arg.{Arg}
 use Rattle.bpaf_doc.specs.Names.{Names}
 use Rattle.bpaf_exact.specs.Pieces.{takes_argument, are_all_apart, is_key_of_any, either_role, Role}
-use Rattle.bpaf_exact.specs.Pieces.{pieces, at_end, either, is_key, Apart, Cells, Roles, Takes, Cut}
-use Rattle.bpaf_exact.specs.Pieces.{are_apart, argument, no_cells, Foreign, is_own, others, passed}
-use Rattle.bpaf_exact.specs.Pieces.{empty_stays, is_own_role, other_stays, takes_flag, LinePiece}
-use Rattle.bpaf_exact.specs.Pieces.{flag, mine, word, Owns, One, Two}
+use Rattle.bpaf_exact.specs.Pieces.{is_key, is_own, others, passed, Apart, Cells, Roles, Takes, Cut}
+use Rattle.bpaf_exact.specs.Pieces.{LinePiece, argument, no_cells, Foreign, pieces, at_end, either}
+use Rattle.bpaf_exact.specs.Pieces.{empty_stays, is_own_role, other_stays, takes_flag, are_apart}
 use Rattle.bpaf_exact.specs.Says.{first_item, EachOwn, unkeyed, keyed, Fits}
 use Rattle.bpaf_exact.specs.Flat.{NoKeysLeft, FieldKind, is_behind, repeated, EachWord, OneWord}
+use Rattle.bpaf_exact.specs.Pieces.{flag, mine, word, Owns}
 use Rattle.bpaf_exact.specs.{Flat.ByName, Flat.front, Flat.back, ProgramForm.may_follow}
 
 -- where a test holds of each element of a list, and another of one, both hold of one
@@ -102,12 +102,7 @@ shared b c x y e f g never = grind (arith, same_truth)
 kept_twice : (p q both : LinePiece → Bool) → ((o : LinePiece) → both o ≡ (q o && p o))
     → (os : List LinePiece) → filter p (filter q os) ≡ filter both os
 kept_twice p q both same [] = refl
-kept_twice p q both same (o ∷ os) = by_test (q o) (same o) (kept_twice p q both same os)
-  where
-    by_test : (b : Bool) → both o ≡ (b && p o) → filter p (filter q os) ≡ filter both os
-        → filter p (if b then (o ∷ filter q os) else filter q os) ≡ filter both (o ∷ os)
-    by_test true e h = ap₂ (λ c z. if c then (o ∷ z) else z) (sym e) h
-    by_test false e h = h ∙ sym (ap (λ c. if c then (o ∷ filter both os) else filter both os) e)
+kept_twice p q both same (o ∷ os) = grind (arith, kept_twice p q both same os)
 
 -- what both keep is what one does that never holds without the other
 kept_within : {p q : LinePiece → Bool} → ((o : LinePiece) → p o ≡ true → q o ≡ true)
@@ -118,8 +113,7 @@ kept_within part = grind (arith, and_from, and_parts, kept_twice, same_truth)
 kept_none : {p : LinePiece → Bool} → ((o : LinePiece) → p o ≡ false) → (os : List LinePiece)
     → filter p os ≡ []
 kept_none none [] = refl
-kept_none {p} none (o ∷ os) =
-    ap (λ c. if c then (o ∷ filter p os) else filter p os) (none o) ∙ kept_none none os
+kept_none {p} none (o ∷ os) = grind (arith, kept_none none os)
 
 -- so it is where it never holds of what another kept
 kept_neither : {p q : LinePiece → Bool} → ((o : LinePiece) → q o ≡ true → p o ≡ false)
@@ -146,8 +140,7 @@ module _ (r : Roles) (names : List Names) where
   fits_kept : (f : Bool → Bool) (os : List LinePiece) → Fits names r os
       → filter (λ o. f (is_own r o)) os ≡ filter (λ o. f (is_key_of_any names (first_item o))) os
   fits_kept f [] fits = refl
-  fits_kept f (o ∷ os) fits =
-      ap₂ (λ b z. if b then (o ∷ z) else z) (ap f fits.0) (fits_kept f os fits.1)
+  fits_kept f (o ∷ os) fits = grind (arith, fits_kept f os fits.1)
 
   -- so they are those,
   pub mine_keyed : (os : List LinePiece) → Fits names r os → mine r os ≡ keyed names os
@@ -172,14 +165,8 @@ module _ (r : Roles) (names : List Names) where
     cut_fit at_end = tt
     cut_fit (passed c) = cut_fit c
     cut_fit (flag {k} e c) = let own = ap is_own_role e in (own ∙ sym (owned.own k own), cut_fit c)
-    cut_fit (argument {k} e v c) =
-        let own = ap is_own_role e in (own ∙ sym (owned.own k own), cut_fit c)
-    cut_fit (word {w} h c) =
-        let none = no_key names w h in (
-          false_from_ne_true (is_own_role (r w)) (λ e. true≢false (sym (owned.own w e) ∙ none))
-              ∙ sym none,
-          cut_fit c,
-        )
+    cut_fit (argument {k} e v c) = grind (arith, cut_fit c)
+    cut_fit (word {w} h c) = grind (arith, false_from_ne_true, no_key, cut_fit c)
 
 -- of two whose names are apart, each has the pieces that begin with its own
 module _ {q r : Roles} {own behind : List Names} (owned : Owns q own) (owned_behind : Owns r behind)
@@ -193,20 +180,12 @@ module _ {q r : Roles} {own behind : List Names} (owned : Owns q own) (owned_beh
       → Fits own q os × Fits behind r os
   both_fits [] fits = (tt, tt)
   both_fits (o ∷ os) fits =
-      let rest = both_fits os fits.1 in
-      let k = first_item o in
-      let here = shared (is_own q o) (is_own r o) (is_key_of_any own k) (is_key_of_any behind k)
-      (sym (either_is o) ∙ fits.0 ∙ list_any-append (λ names. is_key_of names k) own behind)
-      (own_keyed q own owned o) (own_keyed r behind owned_behind o) (one_list own behind k apart) in
-      ((here.0, rest.0), (here.1, rest.1))
+      grind (arith, either_is, list_any-append, one_list, shared, both_fits os fits.1)
 
 -- the own ones of pieces are all one's own
 pub each_own : (q : Roles) (os : List LinePiece) → EachOwn q (mine q os)
 each_own q [] = tt
-each_own q (o ∷ os) =
-    elim (is_own q o) as (λ b. is_own q o ≡ b → EachOwn q (mine q os)
-    → EachOwn q (if b then (o ∷ mine q os) else mine q os))
-    [ true ↦ λ e all. (e, all) | false ↦ λ e all. all ] refl (each_own q os)
+each_own q (o ∷ os) = grind (arith, each_own q os)
 
 -- so are those taken from cells
 pub taken_own : {q : Roles} {cs ds : Cells} {os : List LinePiece} → Takes q cs os ds → EachOwn q os
@@ -262,32 +241,17 @@ module _ (q : Roles) (none : (k : Arg) → is_own_role (q k) ≡ false) where
   -- and each is another's
   pub others_none : (os : List LinePiece) → others q os ≡ os
   others_none [] = refl
-  others_none (o ∷ os) =
-      ap (λ c. if not c then (o ∷ others q os) else others q os)
-      (own_first q o ∙ none (first_item o)) ∙ ap (λ z. o ∷ z) (others_none os)
+  others_none (o ∷ os) = grind (arith, own_first, others_none os)
 
 -- where no piece is another's, each is one's own
 pub all_mine : (q : Roles) (os : List LinePiece) → others q os ≡ [] → mine q os ≡ os
 all_mine q [] e = refl
-all_mine q (o ∷ os) e =
-    elim (is_own q o) as (λ b. (if not b then (o ∷ others q os) else others q os) ≡ []
-    → (others q os ≡ [] → mine q os ≡ os) → (if b then (o ∷ mine q os) else mine q os) ≡ o ∷ os)
-    [ true ↦ λ f h. ap (λ z. o ∷ z) (h f) | false ↦ λ f h. cc ] e (all_mine q os)
+all_mine q (o ∷ os) e = grind (arith, all_mine q os)
 
 -- what is neither's is no piece of both
 pub others_both : (q r : Roles) (os : List LinePiece)
     → others r (others q os) ≡ others (either q r) os
-others_both q r = kept_twice (λ o. not (is_own r o)) (λ o. not (is_own q o))
-    (λ o. not (is_own (either q r) o)) by_piece
-  where
-    by_roles : (x y : Role)
-        → not (is_own_role (either_role x y)) ≡ (not (is_own_role x) && not (is_own_role y))
-    by_roles x y = grind arith
-
-    by_piece : (o : LinePiece)
-        → not (is_own (either q r) o) ≡ (not (is_own q o) && not (is_own r o))
-    by_piece (One k) = by_roles (q k) (r k)
-    by_piece (Two k w) = by_roles (q k) (r k)
+others_both q r = grind (arith, kept_twice)
 
 -- behind a positional field no item is another field's own
 pub none_behind : {r : Roles} (own behind : List Names) → Owns r behind
@@ -298,8 +262,7 @@ none_behind own xs owned e k = grind (arith, false_from_ne_true)
 pub no_fits : (r : Roles) (own behind : List Names) → may_follow (OneWord false) own behind ≡ true
     → ((k : Arg) → is_own_role (r k) ≡ false) → (os : List LinePiece) → Fits behind r os
 no_fits r own [] may none [] = tt
-no_fits r own [] may none (o ∷ os) =
-    (own_first r o ∙ none (first_item o), no_fits r own [] may none os)
+no_fits r own [] may none (o ∷ os) = grind (arith, own_first, no_fits r own [] may none os)
 no_fits r own (names ∷ behind) may none os = absurd cc
 
 -- all names are apart from none
@@ -322,11 +285,7 @@ pub rest_fit : (r : Roles) (names : List Names) (whole os : List LinePiece) → 
     → Fits names r os → Fits names r (keyed names whole ++ others r os)
 rest_fit r names [] os fits fit = others_fit r r names os fit
 rest_fit r names (o ∷ whole) os fits fit =
-    elim (is_key_of_any names (first_item o)) as (λ b. Fits names r
-    ((if b then (o ∷ keyed names whole) else keyed names whole) ++ others r os)) [
-      | true ↦ (fits.0, rest_fit r names whole os fits.1 fit)
-      | false ↦ rest_fit r names whole os fits.1 fit
-    ]
+    grind (arith, rest_fit r names whole os fits.1 fit, rest_fit r names whole os fits.1 fit)
 
 -- its own are those of the whole line
 pub mine_rest : (r : Roles) (names : List Names) (whole os : List LinePiece) → Fits names r whole
@@ -340,9 +299,7 @@ mine_rest r names whole os fits =
 pub others_rest : (r : Roles) (names : List Names) (whole os : List LinePiece) → Fits names r whole
     → others r (keyed names whole ++ others r os) ≡ others r os
 others_rest r names whole os fits =
-    filter-append (λ o. not (is_own r o)) (keyed names whole) (others r os)
-    ∙ ap₂ ◌++◌ (ap (others r) (sym (mine_keyed r names whole fits))
-    ∙ kept_neither (λ o. ap not) whole) (kept_within (λ o e. e) os)
+    grind (arith, filter-append, kept_neither, kept_within, mine_keyed)
 
 -- What a field takes of pieces, and what it leaves.
 
@@ -390,10 +347,7 @@ all_front k {os} none =
 
 -- where a field takes none, nor does a repeat of it
 pub each_nil : (k : FieldKind) (os : List LinePiece) → front k os ≡ [] → front (repeated k) os ≡ []
-each_nil (OneWord b) os none = no_first (front (EachWord b) os) none
-  where
-    no_first : (words : List LinePiece) → take 1 words ≡ [] → words ≡ []
-    no_first xs none = grind arith
+each_nil (OneWord b) os none = grind arith
 each_nil _ os none = none
 
 -- and the other way

@@ -198,12 +198,9 @@ module _ {env : Variables} {T X : Type 0} {inner : Outcome T} {names : List Name
       by_value : (cs : Cells) → Alike (option_map see) (OptionalCommands T value cs)
       by_value cs (Some x) (Some y) a b = ap Some (u cs x y a b)
       by_value cs None None a b = refl
-      by_value cs (Some x) None a none =
-          absurd (none_opens none _ (l.by.commands.opened cs x a).1)
-      by_value cs None (Some y) none b =
-          absurd (none_opens none _ (l.by.commands.opened cs y b).1)
-  optional_field_view l u =
-      whole_view (option_map see) (λ k. k) (OptionalValue T) optional_value_view l u
+      by_value cs (Some x) None a none = grind (arith, none_opens)
+      by_value cs None (Some y) none b = grind (arith, none_opens)
+  optional_field_view l u = grind (arith, optional_value_view, whole_view)
 
   -- a field with a default
   pub fallback_view : {s : ProgramForm T} (f : Closure (Unit {0}) T) → Alike see (λ v. f.yes tt v)
@@ -262,8 +259,7 @@ module _ {T X : Type 0} (see : T → X) where
     where
       by_whole : (w : ProgramForm T) → FormLaw env outcome names [] w → HasOneView see w
           → (cs : Cells) → Alike see (whole_value w cs)
-      by_whole (product wide named q fields) l u = λ cs v w a b. u b.cut_into v w
-          (rw (← one_cut l.by.0.named a.cut b.cut) a.read) b.read
+      by_whole (product wide named q fields) l u = grind (arith, one_cut)
       by_whole (before_commands value) l u = u
       by_whole _ l u = λ cs v w a b. absurd a
 

@@ -66,8 +66,7 @@ tail_two : {at left : ℕ → Option Arg} {p : ℕ} → TakenTwo at left (suc p)
 tail_two taken = record {
   gone = taken.gone;
   next_gone = taken.next_gone;
-  others = λ q other next. taken.others (suc q) (λ e. other (omega arith))
-      (λ e. next (omega arith));
+  others = grind arith;
 }
 
 -- a later one is
@@ -139,8 +138,7 @@ bare_key : (r : Roles) {c : Option Arg} (k : Arg) (cs : Cells) → c ≡ Some k 
     → with_next k cs ≡ One k → BareHead r (c ∷ cs) k
 bare_key r k cs e h n = record {
   tail = pieces r cs;
-  is = ap (λ z. pieces r (z ∷ cs)) e
-      ∙ (begin_at k cs (pieces r cs) h ∙ ap (λ z. z ∷ pieces r cs) n);
+  is = grind (arith, begin_at);
 }
 
 -- the first key that is wanted, without a value behind it
@@ -148,11 +146,9 @@ pub bare_first : {r : Roles} {at : ℕ → Option Arg} (n p : ℕ) {k : Arg} →
     → r k ≡ WithNext → NoneBefore r at p → ((w : Arg) → at (suc p) ≡ Some w → is_value w ≡ true → ⊥)
     → BareHead r (first_cells at n) k
 bare_first zero p l e h none bare = absurd (omega arith)
-bare_first {r} {at} (suc n) zero {k} l e h none bare =
-    bare_key r k _ e h (bare_next (λ q. at (suc q)) n bare)
+bare_first {r} {at} (suc n) zero {k} l e h none bare = grind (arith, bare_key, bare_next)
 bare_first {r} {at} (suc n) (suc p) l e h none bare =
-    let i = bare_first n p (omega arith) e h (tail_before none) bare in
-    record { tail = i.tail; is = pass_head r (at zero) _ (none.before zero (omega arith)) ∙ i.is }
+    grind (arith, pass_head, tail_before, bare_first n p (omega arith) e h (tail_before none) bare)
 
 -- What is open after a place is taken.
 
@@ -245,8 +241,7 @@ none_before {s} t f = record { before = λ q l. not_own s q t (f.first q l) }
 pub no_pieces : {test : Arg → Bool} {r : Roles} {own : Role} (s : Situation) → ByTest test r own
     → HasNone test s → pieces r (cells s) ≡ []
 unfolding cells
-no_pieces {r} s t none =
-    none_present r (open_item s) (length s.context.line) (λ p. not_own s p t (none p))
+no_pieces {r} s t none = grind (arith, none_present, not_own)
 
 -- the first match, taken by itself
 pub one_taken : {test : Arg → Bool} {r : Roles} {s : Situation} {p : ℕ} → ByTest test r Alone
@@ -332,24 +327,14 @@ takes_fewer _ = omega arith
 pub takes_some_fewer : {q : Roles} {cs ds : Cells} → TakesPieces q cs ds
     → present_count ds ≤ present_count cs
 takes_some_fewer takes_none = omega arith
-takes_some_fewer (takes_more t more) =
-    let i = takes_fewer t in let j = takes_some_fewer more in omega arith
+takes_some_fewer (takes_more t more) = grind (arith, takes_fewer, takes_some_fewer more)
 
 -- the count of a set of places, with the first place set apart
 count_first : (set : ℕ → Bool) (n : ℕ) → count_below set (suc n)
     ≡ (if set zero then (count_below (λ p. set (suc p)) n + 1) else count_below
     (λ p. set (suc p)) n)
 count_first set zero = refl
-count_first set (suc n) =
-    by_test (set (suc n)) (set zero) (count_below (λ p. set (suc p)) n) (count_first set n)
-  where
-    by_test : (last first : Bool) {a : ℕ} (b : ℕ) → a ≡ (if first then (b + 1) else b)
-        → (if last then (a + 1) else a) ≡ (if first then ((if last then (b + 1) else b) + 1) else
-        (if last then (b + 1) else b))
-    by_test true true b e = omega arith
-    by_test true false b e = omega arith
-    by_test false true b e = e
-    by_test false false b e = e
+count_first set (suc n) = grind (arith, count_first set n)
 
 -- the places at which something stands are as many as the items there
 count_cells : (at : ℕ → Option Arg) (n : ℕ)

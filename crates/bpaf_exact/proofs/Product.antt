@@ -1,17 +1,17 @@
 -- Products: a field before other fields, the last field, and the constructor; and that a product of
 -- named fields keeps to the laws of a named field, so it may stand in another product.
 use Rattle.std.proofs.Common.{if◌then◌else◌, Result, filter, length, arith, false, subst, Bool, Err}
-use Rattle.std.proofs.Common.{List, None, Some, refl, true, ap₂, inl, inr, not, sym, ◌∙◌, ◌∷◌, ◌≡◌}
-use Rattle.std.proofs.Common.{Ok, [], ap}
+use Rattle.std.proofs.Common.{List, None, Some, refl, true, inl, inr, not, sym, ◌∙◌, ◌∷◌, ◌≡◌, Ok}
+use Rattle.std.proofs.Common.{[], ap}
 use Rattle.bpaf_base.specs.declared.arg.Arg.{Arg}
 use Rattle.bpaf_line.specs.{Situation.with_current, Situation.Situation, declared.error.Error.Error}
 use Rattle.bpaf_laws.specs.Product.{ProductOutcome, BothOutcome, joined}
 use Rattle.bpaf_laws.specs.Reading.{Outcome}
-use Rattle.bpaf_exact.proofs.Cuts.{words_of_cut, either_union, nil_foreign, union_named, named_cuts}
+use Rattle.bpaf_exact.proofs.Cuts.{either_right, word_foreign, nil_foreign, union_named, named_cuts}
 use Rattle.bpaf_exact.proofs.Cuts.{keeps_other_some, others_foreign, take_some_from, pieces_of_cut}
-use Rattle.bpaf_exact.proofs.Cuts.{put_back_some, value_foreign, either_right, word_foreign, Union}
-use Rattle.bpaf_exact.proofs.Cuts.{empty_cut, words_cut, begin_at, nil_rest, both_nil, own_next}
-use Rattle.bpaf_exact.proofs.Cuts.{swap_union, takes_left, some_trans, cut_empty, to_second}
+use Rattle.bpaf_exact.proofs.Cuts.{put_back_some, value_foreign, words_of_cut, either_union, Union}
+use Rattle.bpaf_exact.proofs.Cuts.{cut_empty, to_second, begin_at, nil_rest, both_nil, own_next}
+use Rattle.bpaf_exact.proofs.Cuts.{swap_union, takes_left, some_trans, empty_cut, words_cut}
 use Rattle.bpaf_exact.proofs.Cuts.{to_first, Belongs, belongs, to_none}
 use Rattle.bpaf_exact.proofs.Classes.{memory_class}
 use Rattle.bpaf_exact.specs.Flat.{FieldsReading, present_count, both_reading, NonePresent, FieldLaw}
@@ -52,11 +52,9 @@ pub no_own_in_cut : {q r : Roles} {cs : Cells} {os : List LinePiece} → IsNamed
     → Cut r cs os → pieces q cs ≡ []
 no_own_in_cut n a at_end = refl
 no_own_in_cut n a (passed c) = no_own_in_cut n a c
-no_own_in_cut {q} n a (flag {k} {cs} e c) =
-    begin_at k cs (pieces q cs) (a.right k (ap is_own_role e)) ∙ no_own_in_cut n a c
+no_own_in_cut {q} n a (flag {k} {cs} e c) = grind (arith, begin_at, no_own_in_cut n a c)
 no_own_in_cut {q} n a (argument {k} {w} {cs} e v c) =
-    begin_at k (Some w ∷ cs) (pieces q (Some w ∷ cs)) (a.right k (ap is_own_role e))
-    ∙ (begin_at w cs (pieces q cs) (value_foreign n v) ∙ no_own_in_cut n a c)
+    grind (arith, begin_at, value_foreign, no_own_in_cut n a c)
 no_own_in_cut {q} n a (word {w} {cs} h c) =
     begin_at w cs (pieces q cs) (word_foreign n h) ∙ no_own_in_cut n a c
 
@@ -338,14 +336,7 @@ module _ (p q r : Roles) (test : LinePiece → Bool) where
   kept_pieces : ((k : Arg) → Kept k) → (cs : Cells) → filter test (pieces r cs) ≡ pieces q cs
   kept_pieces each [] = refl
   kept_pieces each (None ∷ cs) = kept_pieces each cs
-  kept_pieces each (Some k ∷ cs) = by_item (each k) (kept_pieces each cs)
-    where
-      by_item : Kept k → filter test (pieces r cs) ≡ pieces q cs
-          → filter test (pieces r (Some k ∷ cs)) ≡ pieces q (Some k ∷ cs)
-      by_item (kept e h) behind = kept_begin (r k) k cs (pieces r cs) true h
-          ∙ ap₂ (λ x os. begin_piece x k cs os) e behind
-      by_item (passed_by e h) behind = kept_begin (r k) k cs (pieces r cs) false h
-          ∙ (behind ∙ sym (begin_at k cs (pieces q cs) e))
+  kept_pieces each (Some k ∷ cs) = grind (arith, begin_at, kept_begin, kept_pieces each cs)
 
 module _ {p q r : Roles} (u : Union p q r) where
   -- of the pieces of both the first one's are its own,
@@ -389,8 +380,7 @@ module _ {env : Variables} {A B : Type 0} {first : Outcome A} {rest : Outcome B}
 
   -- and what they take leaves its own
   first_kept : {cs ds : Cells} → TakesPieces r cs ds → pieces q ds ≡ pieces q cs
-  first_kept t =
-      keeps_other_some lr.own lf.own (record { left = apart.right; right = apart.left }) t
+  first_kept t = grind (arith, keeps_other_some)
 
   -- where both have a value, so have the others after the first
   rest_value : {s m : Situation} {x : A} {u : A × B} → FieldTook A ByName q fv s x m

@@ -1,15 +1,14 @@
 -- Each parser keeps to the laws of its form to a program, where its inner parsers do, by its table
 -- too; so does an outcome that allows no more; and the theorem of exactness.
-use Rattle.std.proofs.Common.{if◌then◌else◌, append-nil, true≢false, slice_get, bytes_eq, Option, ℕ}
-use Rattle.std.proofs.Common.{None, Some, refl, true, zero, ◌&&◌, Err, inl, inr, not, sym, ◌<◌, ◌∙◌}
-use Rattle.std.proofs.Common.{Result, length, ⊎_elim, arith, false, subst, ◌++◌, ◌||◌, Bool, List}
-use Rattle.std.proofs.Common.{◌∷◌, ◌≡◌, ◌⊎◌, Ok, [], ap}
+use Rattle.std.proofs.Common.{append-nil, true≢false, bytes_eq, Option, Result, length, ⊎_elim, Err}
+use Rattle.std.proofs.Common.{arith, false, subst, None, Some, refl, true, ◌&&◌, ◌++◌, Bool, List}
+use Rattle.std.proofs.Common.{inl, inr, not, sym, ◌<◌, ◌∙◌, ◌∷◌, ◌≡◌, ◌⊎◌, Ok, [], ap, ℕ}
 use Rattle.std.proofs.lemmas.Bool.{false_from_ne_true, and_parts, le-leb, lt-ltb}
 use Rattle.std.proofs.lemmas.Slice.Eq.{bytes_eq-Decides}
 use Rattle.std.specs.{List.list_all, Global.Vec}
 use Rattle.bpaf_base.specs.{Items.is_command_word, declared.arg.Arg.Arg}
 use Rattle.bpaf_doc.specs.Names.{Names}
-use Rattle.bpaf_line.specs.Situation.{Situation, beginning, is_marker, Context, item_in}
+use Rattle.bpaf_line.specs.Situation.{Situation, beginning, Context, item_in}
 use Rattle.bpaf_line.specs.{declared.error.Message.Message, declared.error.Error.Error}
 use Rattle.bpaf_line.specs.Taking.{open_item}
 use Rattle.bpaf_laws.specs.Combinators.{FallbackOutcome, CollectOutcome, CountOutcome, GuardOutcome}
@@ -33,23 +32,23 @@ use Rattle.bpaf_exact.specs.Flat.{FieldsReading, RepeatOutcome, OptionalValue, F
 use Rattle.bpaf_exact.specs.Flat.{closed_memory, guard_closure, optional_none, optional_some, class}
 use Rattle.bpaf_exact.specs.Flat.{parse_closure, both_reading, FallbackEval, OptionalEval, FieldLaw}
 use Rattle.bpaf_exact.specs.Flat.{fallback_err, optional_err, list_closure, some_closure, FieldKind}
-use Rattle.bpaf_exact.specs.Flat.{fallback_no, ErrorClass, ClosedEval, closed_err, closed_yes, keys}
+use Rattle.bpaf_exact.specs.Flat.{ClosedValue, ErrorClass, ClosedEval, closed_err, closed_yes, keys}
 use Rattle.bpaf_exact.specs.Flat.{fallback_memory, optional_memory, answer_closure, fallback_given}
-use Rattle.bpaf_exact.specs.Flat.{fallback_ok, map_closure, NonePresent, SingleValue, ClosedValue}
+use Rattle.bpaf_exact.specs.Flat.{fallback_no, fallback_ok, map_closure, NonePresent, SingleValue}
 use Rattle.bpaf_exact.specs.Flat.{FieldsLaw, IsWholeIn, Variables, SingleLaw, closed_no, OfMemory}
 use Rattle.bpaf_exact.specs.Flat.{class_of, repeated, KeepsTo, ReadOff, Refused, OwnList, Closure}
 use Rattle.bpaf_exact.specs.Flat.{Decides, Before, ByName, Caught, Groups, LastOf, Gap}
-use Rattle.bpaf_exact.specs.ProgramForm.{program_command, program_dressed, are_words_apart, FormLaw}
-use Rattle.bpaf_exact.specs.ProgramForm.{before_commands, program_choice, program_closed, completed}
+use Rattle.bpaf_exact.specs.ProgramForm.{program_dressed, are_words_apart, before_commands, FormLaw}
+use Rattle.bpaf_exact.specs.ProgramForm.{product_reading, program_choice, program_closed, completed}
 use Rattle.bpaf_exact.specs.ProgramForm.{product_roles, program_alone, program_field, program_value}
-use Rattle.bpaf_exact.specs.ProgramForm.{ProgramForm, alternative, choice_only, program_con, Agrees}
-use Rattle.bpaf_exact.specs.ProgramForm.{whole_value, CommandEval, is_program, may_follow, NamedLaw}
+use Rattle.bpaf_exact.specs.ProgramForm.{program_con, whole_value, CommandEval, RecordValue, Agrees}
+use Rattle.bpaf_exact.specs.ProgramForm.{run_refusal, RunsExactly, is_program, may_follow, NamedLaw}
 use Rattle.bpaf_exact.specs.ProgramForm.{no_program, program_if, CellsValue, ProgramLaw, WordsApart}
-use Rattle.bpaf_exact.specs.ProgramForm.{run_value, is_record, commands, complete, is_named, EndLaw}
+use Rattle.bpaf_exact.specs.ProgramForm.{IsNoValue, RunAnswer, commands, complete, is_named, EndLaw}
 use Rattle.bpaf_exact.specs.ProgramForm.{whole_program, IsSpelledLine, program_both, last_reading}
-use Rattle.bpaf_exact.specs.ProgramForm.{line_cells, run_memory, are_plain, IsNoValue, RunAnswer}
-use Rattle.bpaf_exact.specs.ProgramForm.{program_optional, IsAcceptedOrWant, product_reading}
-use Rattle.bpaf_exact.specs.ProgramForm.{run_leftover, RecordValue, run_refusal, RunsExactly}
+use Rattle.bpaf_exact.specs.ProgramForm.{line_cells, run_memory, run_value, is_record, are_plain}
+use Rattle.bpaf_exact.specs.ProgramForm.{program_optional, IsAcceptedOrWant, program_command}
+use Rattle.bpaf_exact.specs.ProgramForm.{run_leftover, ProgramForm, alternative, choice_only}
 use Rattle.bpaf_exact.specs.ProgramForm.{Accepted, product, IsExact, single, RunRan}
 use Rattle.bpaf_exact.specs.Pieces.{are_all_apart, LinePiece, no_roles, either, Roles, Owns, Cut}
 
@@ -79,14 +78,7 @@ narrower {refuses} n l = record {
 -- at the beginning each item is present, but for the marker
 open_at_first : (context : Context) (p : ℕ) → p < length context.line
     → open_item (beginning context) p ≡ item_in context p
-open_at_first context p l =
-    let a = le-leb zero p (omega arith) in
-    let b = lt-ltb p (length context.line) l in
-    rw (a, b) (by_marker (is_marker context.marker p) (slice_get context.line p))
-  where
-    by_marker : (m : Bool) (at : Option Arg)
-        → (if not (m || false) then (if m then None else at) else None) ≡ (if m then None else at)
-    by_marker b at = grind arith
+open_at_first context p l = grind (arith, le-leb, lt-ltb)
 
 -- the cells with which parsing begins are those of the line
 pub first_cells_are : (context : Context) → cells (beginning context) ≡ line_cells context

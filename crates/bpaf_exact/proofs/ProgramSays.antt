@@ -227,8 +227,7 @@ record_says {T} s {kind} {names} {c} {said} {cells} h = by_form s h.by
       λ os v fits m. all_own k q _ (λ os v all. whole_says said group gap h.2 h.3 os v) m,
     )
     by_form (complete wide k q value) h = (h.0, λ os v fits m. all_own k q value h.2 m)
-    by_form (product wide named q fields) h =
-        (h.0, λ os v fits m. h.2 os os v fits fits m refl refl)
+    by_form (product wide named q fields) h = grind arith
     by_form (commands optional value) h = h
     by_form (before_commands value) h = h
     by_form no_program h = tt
@@ -332,10 +331,8 @@ more_says {T} {s} {c} {said} {cells} names own others words more before into h g
         → Says names (choice_only before) (of_kind ByName) c said cells
         → Says names (choice_only (program_choice own others words more before s))
         (of_kind ByName) c said cells
-    by_form (alternative wide q value) h =
-        first_says names all (choice_into names own others words more all into h g)
-    by_form (commands false value) h =
-        first_says names all (choice_into names own others words more all into h g)
+    by_form (alternative wide q value) h = grind (arith, choice_into, first_says)
+    by_form (commands false value) h = grind (arith, choice_into, first_says)
     by_form _ h = record { by = tt }
 
 -- of two
@@ -385,8 +382,7 @@ alone_says {T} {names} {s = complete wide k q value} {said} own_keys h = record 
         whole (subst (λ own. Fits own (either q no_roles) whole) (sym (append-nil names))
         fits)).0)))
         (each (mine q os) v (each_own q os) m.0)
-    own k q value owned each whole os v fits m same =
-        rw (others_none (either no_roles no_roles) (λ k. refl) os) (each (front k os) v tt m.0)
+    own k q value owned each whole os v fits m same = grind (arith, others_none)
 alone_says {s = commands optional value} own_keys h = record { by = h.by }
 alone_says {s = before_commands value} own_keys h = record { by = h.by }
 alone_says own_keys h = record { by = tt }

@@ -23,15 +23,15 @@ use Rattle.bpaf_exact.proofs.{Commands.has_item, Places.take_one}
 use Rattle.bpaf_exact.specs.Flat.{FieldsReading, first_cells, ClosedValue, map_closure, first_later}
 use Rattle.bpaf_exact.specs.Flat.{TakesFirst, FieldTook, FieldsLaw, IsWholeIn, Variables, first_one}
 use Rattle.bpaf_exact.specs.Flat.{FieldLaw, OfMemory, ReadOff, ByName, NotOwn, cells, class}
-use Rattle.bpaf_exact.specs.Pieces.{takes_argument, TakesPieces, empty_stays, is_own_role, no_cells}
-use Rattle.bpaf_exact.specs.Pieces.{other_stays, takes_later, takes_more, takes_none, TakesPiece}
-use Rattle.bpaf_exact.specs.Pieces.{takes_flag, LinePiece, takes_one, takes_two, IsNamed, either}
-use Rattle.bpaf_exact.specs.Pieces.{is_key, pieces, Alone, Apart, Cells, Roles, Takes, One, Two}
+use Rattle.bpaf_exact.specs.Pieces.{takes_argument, TakesPieces, empty_stays, other_stays, no_cells}
+use Rattle.bpaf_exact.specs.Pieces.{LinePiece, takes_one, takes_two, IsNamed, either, is_key, Alone}
+use Rattle.bpaf_exact.specs.Pieces.{takes_later, takes_more, takes_none, TakesPiece, takes_flag}
+use Rattle.bpaf_exact.specs.Pieces.{pieces, Apart, Cells, Roles, Takes, One, Two}
 use Rattle.bpaf_exact.specs.ProgramForm.{FindsNoCommand, command_memory, IsSpelledLine, CommandEval}
 use Rattle.bpaf_exact.specs.ProgramForm.{command_leftover, command_missing, command_refused, Opens}
-use Rattle.bpaf_exact.specs.ProgramForm.{CommandsLaw, ProgramTook, AllSpelled, CellsValue, no_cell}
+use Rattle.bpaf_exact.specs.ProgramForm.{ProgramTook, opens_later, AllSpelled, CellsValue, no_cell}
 use Rattle.bpaf_exact.specs.ProgramForm.{ProgramLaw, empty_cell, is_spelled, opens_here, FieldThen}
-use Rattle.bpaf_exact.specs.ProgramForm.{command_value, CommandValue, spelled_cell, opens_later}
+use Rattle.bpaf_exact.specs.ProgramForm.{command_value, CommandValue, spelled_cell, CommandsLaw}
 use Rattle.bpaf_exact.specs.ProgramForm.{OpensNone, are_plain, is_dashed}
 
 -- A command's word on cells.
@@ -128,8 +128,7 @@ first_spelled {at} (suc n) all = by_cell (at zero) (all zero) (first_spelled n (
 -- all that is present on a line is
 pub cells_spelled : (s : Situation) → IsSpelledLine s.context → AllSpelled (cells s)
 unfolding cells
-cells_spelled s all =
-    first_spelled (length s.context.line) (λ p k e. all p k (open_item_there s p k e).1)
+cells_spelled s all = grind (arith, first_spelled, open_item_there)
 
 -- A command's word in a situation.
 
@@ -162,9 +161,7 @@ module _ (called : Called) (s : Situation) (p : ℕ)
       outside before = grind (arith, nat_tests)
 
       same_scope : {q : ℕ} → p ≤ q → in_scope behind q ≡ in_scope s q
-      same_scope after =
-          let within = open_in_scope s p (match_is_open any_item s p at.first.matches) in
-          grind (arith, nat_tests)
+      same_scope after = grind (arith, match_is_open, nat_tests, open_in_scope)
 
   -- it opens the cells, and leaves those behind it
   pub opens_cells : Opens (opening_words called) (cells s) (cells behind)
@@ -192,14 +189,7 @@ module _ (called : Called) (s : Situation) (p : ℕ)
 pub opens_none : {words : List (List ℕ)} (s : Situation) → IsNotOpened words s
     → OpensNone words (cells s)
 unfolding cells
-opens_none {words} s none ds o =
-    let w = word_of (length s.context.line) o in
-    let there = open_item_there s w.0 w.1 w.3 in
-    true≢false (sym (ap (λ z. option_map_or (is_one_of words) z false) there.1 ∙ w.4)
-    ∙ none w.0 (record {
-      matches = ap (λ z. option_map_or any_item z false) w.3;
-      first = λ q l. ap (λ z. option_map_or any_item z false) (w.5 q l);
-    }))
+opens_none {words} s none ds o = grind (arith, open_item_there, word_of)
 
 -- A command keeps to the laws, where its program does.
 module _ {env : Variables} {T : Type 0} {inner : Outcome T} {r : Roles} {value : CellsValue T}
@@ -304,15 +294,10 @@ taken_pieces : {q : Roles} {cs ds : Cells} {os : List LinePiece} → IsNamed q �
     → os ≡ pieces q cs
 taken_pieces n no_cells = refl
 taken_pieces n (empty_stays t) = taken_pieces n t
-taken_pieces {q} n (other_stays {k} {cs} e t) =
-    taken_pieces n t ∙ sym (begin_at k cs (pieces q cs) e)
-taken_pieces {q} n (takes_flag {k} {cs} e t) =
-    ap (λ z. One k ∷ z) (taken_pieces n t) ∙ sym (begin_at k cs (pieces q cs) e)
+taken_pieces {q} n (other_stays {k} {cs} e t) = grind (arith, begin_at, taken_pieces n t)
+taken_pieces {q} n (takes_flag {k} {cs} e t) = grind (arith, begin_at, taken_pieces n t)
 taken_pieces {q} n (takes_argument {k} {w} {cs} e v t) =
-    ap (λ z. Two k w ∷ z) (taken_pieces n t)
-    ∙ sym (begin_at k (Some w ∷ cs) (pieces q (Some w ∷ cs)) e
-    ∙ ap (λ b. (if b then Two k w else One k) ∷ pieces q (Some w ∷ cs)) v
-    ∙ ap (λ z. Two k w ∷ z) (begin_at w cs (pieces q cs) (value_foreign n v)))
+    grind (arith, begin_at, value_foreign, taken_pieces n t)
 
 -- where there is no own piece none is taken
 take_none : {q : Roles} (cs : Cells) → pieces q cs ≡ [] → Takes q cs [] cs
@@ -346,13 +331,10 @@ foreign_before : {p q : Roles} {cs ds : Cells} {os : List LinePiece} → IsNamed
 foreign_before n a no_cells e = e
 foreign_before n a (empty_stays t) e = foreign_before n a t e
 foreign_before {p} n a (other_stays {k} {cs} {ds} f t) e =
-    begin_at k cs (pieces p cs) (nil_foreign (p k) k ds (pieces p ds) e)
-    ∙ foreign_before n a t (nil_rest (p k) k ds e)
-foreign_before {p} n a (takes_flag {k} {cs} f t) e =
-    begin_at k cs (pieces p cs) (a.right k (ap is_own_role f)) ∙ foreign_before n a t e
+    grind (arith, begin_at, nil_foreign, nil_rest, foreign_before n a t (nil_rest (p k) k ds e))
+foreign_before {p} n a (takes_flag {k} {cs} f t) e = grind (arith, begin_at, foreign_before n a t e)
 foreign_before {p} n a (takes_argument {k} {w} {cs} f v t) e =
-    begin_at k (Some w ∷ cs) (pieces p (Some w ∷ cs)) (a.right k (ap is_own_role f))
-    ∙ begin_at w cs (pieces p cs) (value_foreign n v) ∙ foreign_before n a t e
+    grind (arith, begin_at, value_foreign, foreign_before n a t e)
 
 -- what is left is spelled
 left_spelled : {q : Roles} {cs ds : Cells} {os : List LinePiece} → Takes q cs os ds

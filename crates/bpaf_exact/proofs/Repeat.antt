@@ -124,8 +124,7 @@ module _ {env : Variables} {T : Type 0} {inner : Outcome T} {k : FieldKind} {q :
       → (false ≡ true) ⊎ (open_count m < open_count s) → SingleOk T k q group gap s v m
       → (Steady s m → Took (Later vs) m t) → Took (Later (v ∷ vs)) s t
   step_took (inl e) o i = absurd cc
-  step_took {s} {m} (inr fewer) (gave_absent h p ab same st) i =
-      let h = same_count s m same in absurd (omega arith)
+  step_took {s} {m} (inr fewer) (gave_absent h p ab same st) i = grind (arith, same_count)
   step_took (inr fewer) (took h) i = took_more h (i h.steady)
 
   -- a value that took nothing ends it
@@ -339,8 +338,7 @@ module _ {env : Variables} {T : Type 0} {inner : Outcome T} {k : FieldKind} {q :
   -- where the list has a last value it isn't empty
   never_empty : {s m : Situation} {v : T} → IsWholeIn env s → UntilRest inner s [] m
       → LastOf T group gap (front (repeated k) (pieces q (cells s))) v → ⊥
-  never_empty {v} w f h =
-      never_nil h.0 v [] (empty_nothing (empty_list refl (repeat_took true w f).list) h.1)
+  never_empty {v} w f h = grind (arith, empty_list, empty_nothing, never_nil, repeat_took)
 
   -- so a refusal is want of memory
   last_refuses : (s t : Situation) (e : Error) → IsWholeIn env s → LastOutcome inner s (Err e) t

@@ -169,9 +169,7 @@ module _ {T : Type 0} (said : Said T) (one : LinePiece → T → Type 0)
   in_turn : (os : List LinePiece) (vs : List T) → Own T (FrontSays said) os vs → AllZip one os vs
   in_turn [] [] own_none = tt
   in_turn (o ∷ os) [] h = elim h [ ]
-  in_turn os (v ∷ vs) (own_more {rest} front more) =
-      let first = of_one front.part v front.told in
-      rw (front.is ∙ ap (λ part. part ++ rest) first.is) (first.said, in_turn rest vs more)
+  in_turn os (v ∷ vs) (own_more {rest} front more) = grind (arith, in_turn rest vs more)
 
   one_by_one : {os : List LinePiece} {vs : List T} → RepeatSays said os vs → AllZip one os vs
   one_by_one x = grind (arith, in_turn)
@@ -254,14 +252,12 @@ repeat_needs {T} {said} needs vs some (says_in_turn turns) = in_turn vs refl som
     in_turn : {os : List LinePiece} (xs : List T) → os ≡ [] → xs ≢ []
         → ¬ (Own T (FrontSays said) os xs)
     in_turn [] none some turns = some refl
-    in_turn (x ∷ xs) none some (own_more {rest} front more) =
-        front.some (no_part front.part rest (sym none ∙ front.is))
+    in_turn (x ∷ xs) none some (own_more {rest} front more) = grind (arith, no_part)
 
 -- and a last value then.
 pub last_needs : {T : Type 0} {said : Said T} → NeedsPiece said → NeedsPiece (LastSays said)
 last_needs needs = record {
-  some = λ v last. repeat_needs needs last.values
-      (λ none. never_nil last.is.before v [] (sym last.is.is ∙ none)) last.told;
+  some = grind (arith, never_nil, repeat_needs);
 }
 
 -- And a repeat without values has no piece.

@@ -43,8 +43,7 @@ closed_keeps {env} {A} {B} {inner} {f} c {gave} {refused} l accepts declines wan
 
     by_err : (s t : Situation) (e : Error) → IsWholeIn env s
         → ClosedEval A B inner f c s (Err e) t → refused s (class e) t
-    by_err s t e w (closed_no {x} i n g) =
-        subst (λ z. refused s z t) (sym g) (declines s t x (l.ok s t x w i) n)
+    by_err s t e w (closed_no {x} i n g) = grind arith
     by_err s t e w (closed_memory i m) = subst (λ z. refused s z t) (sym m) (wants s t)
     by_err s t e w (closed_err i) = fails s t (class e) (l.err s t e w i)
 
@@ -80,8 +79,7 @@ module _ {env : Variables} {T : Type 0} {inner : Outcome T} {k : FieldKind} {q :
       → group (front z (pieces q (cells s))) v []
       × (pieces q (cells t) ≡ back z (pieces q (cells s)))
   took_read ByName s t u n up = (rw (← n) (up ([], rw n own_none)), n)
-  took_read (OneWord b) s t {v} u n up =
-      u.by_front (pieces q (cells s)) v (pieces q (cells t)) (up tt)
+  took_read (OneWord b) s t {v} u n up = grind arith
   took_read (EachWord b) s t u n up = absurd u
 
   -- what the front means the pieces mean
@@ -209,13 +207,11 @@ module _ {env : Variables} {T : Type 0} {inner : Outcome T} {k : FieldKind} {q :
         → FallbackEval T inner f s (Err g) t → (v : T)
         → FallbackValue T group gap f (front k (pieces q (cells s))) v → class g ≡ OfMemory
     fallback_refuses s t g w (fallback_no {e} {m} i h n c) v (inl o) =
-        let a = catch_none h (l.keeps.err s m e w i) in
-        absurd (⊎_elim (not_empty _ a.1) (λ z. l.no_absent v a.0 z.1) o)
+        grind (arith, catch_none, not_empty)
     fallback_refuses s t g w (fallback_no i h n c) v (inr p) = absurd (decides tt v p.2 n)
     fallback_refuses s t g w (fallback_memory c) v view = c
     fallback_refuses s t g w (fallback_err {m} i n) v (inl o) = err_gives (l.keeps.err s m g w i) o
-    fallback_refuses s t g w (fallback_err {m} i n) v (inr p) =
-        none_fails (λ c same. n c) p.0 p.1 (l.keeps.err s m g w i)
+    fallback_refuses s t g w (fallback_err {m} i n) v (inr p) = grind (arith, none_fails)
 
     pub fallback_field : FieldLaw env T (FallbackEval T inner f) k q (FallbackValue T group gap f)
     fallback_field =

@@ -48,13 +48,7 @@ module _ {T : Type 0} (s : Situation) (Holds : Result T Error → Situation → 
   of_equal : (a : Result T Error) (sa : Situation) (b : Result T Error) (sb : Situation)
       (r : Result T Error) (t : Situation) → EqualDepths s a sa b sb r t → Holds a sa → Holds b sb
       → Holds r t
-  of_equal (Ok x) sa (Ok y) sb r t (inl o) one other = rw (o.1.0, o.1.1) one
-  of_equal (Ok x) sa (Ok y) sb r t (inr o) one other = grind (arith, of_winner)
-  of_equal (Ok x) sa (Err f) sb r t (inl o) one other = rw (o.1, o.2) (back f sb other)
-  of_equal (Ok x) sa (Err f) sb r t (inr o) one other = rw (o.1.0, o.1.1) one
-  of_equal (Err e) sa (Ok y) sb r t (inl o) one other = rw (o.1, o.2) (back e sa one)
-  of_equal (Err e) sa (Ok y) sb r t (inr o) one other = rw (o.1.0, o.1.1) other
-  of_equal (Err e) sa (Err f) sb r t o one other = grind arith
+  of_equal x sa y sb r t o one other = grind (arith, of_winner)
 
   -- and at any
   pub of_chosen : (a : Result T Error) (sa : Situation) (b : Result T Error) (sb : Situation)

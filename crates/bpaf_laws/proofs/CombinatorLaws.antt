@@ -151,9 +151,7 @@ steps_more inner catches first s m (x ∷ vs) v t o step =
 -- a run without a value leaves all as it was
 pub no_values : {T : Type 0} (inner : Outcome T) (s : Situation) (vs : List T) (t : Situation)
     → vs ≡ [] → UntilRest inner s vs t → t ≡ s
-no_values inner s [] t e (stops run) = let stop = run.stop in let same = run.steps in grind arith
-no_values inner s (v ∷ vs) t e run = cc
-no_values inner s [] t e (rests v is o same) = cc
+no_values inner s xs t e run = grind arith
 
 module _ {T : Type 0} {inner : Outcome T} {reads : Readings T} (law : Lawful T inner reads)
     (catches : Bool) where
