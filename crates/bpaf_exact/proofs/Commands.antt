@@ -1,40 +1,352 @@
--- Closures round commands, choices of them, and commands that may be left out keep to the laws.
-use Rattle.std.proofs.Common.{Err, List, None, Ok, Option, Result, Some, [], arith, false, ap, inl}
-use Rattle.std.proofs.Common.{inr, length, refl, sym, true, true≢false, ⊎_elim, ◌++◌, ◌||◌, ◌∙◌}
-use Rattle.std.proofs.Common.{◌≡◌, ◌≤◌, ℕ}
-use Rattle.std.proofs.lemmas.Bool.{and_parts, or_right}
-use Rattle.std.proofs.lemmas.List.Folds.{list_any-append}
-use Rattle.bpaf_base.specs.Items.{is_command_word}
-use Rattle.bpaf_line.specs.{Messages.is_memory, Messages.is_wrong_input, Situation.Situation}
-use Rattle.bpaf_line.specs.{declared.error.Error.Error, declared.error.Message.TheVariants.Missing}
-use Rattle.bpaf_line.specs.{Taking.ConflictsSaved, declared.error.Message.Message}
-use Rattle.bpaf_laws.proofs.ChoiceLaws.{chosen_at_equal, of_chosen}
-use Rattle.bpaf_laws.specs.{Choice.ChoiceOutcome, Choice.Chosen, Choice.depth, Command.is_one_of}
-use Rattle.bpaf_laws.specs.{Laws.IsNotMemory, Combinators.is_untouched, Reading.Outcome}
-use Rattle.bpaf_exact.proofs.Classes.{combined_missing, is_missing_of, memory_class, not_memory}
-use Rattle.bpaf_exact.proofs.Choice.{saved_steady, cells_same, same_scope}
-use Rattle.bpaf_exact.proofs.Programs.{apart_first, apart_second}
-use Rattle.bpaf_exact.proofs.{Places.open_present, Wrappers.closed_keeps}
-use Rattle.bpaf_exact.specs.Flat.{ErrorClass, IsWholeIn, NonePresent, OfMemory, OfMissing}
-use Rattle.bpaf_exact.specs.Flat.{Variables, cells, class, is_missing, no_place, none_here, Stops}
-use Rattle.bpaf_exact.specs.Flat.{caught, nothing_found, present_count, AgreesOn, ClosedEval}
-use Rattle.bpaf_exact.specs.Flat.{ClosedValue, OptionalEval, optional_err, optional_memory}
-use Rattle.bpaf_exact.specs.Flat.{optional_none, optional_some, Closure}
-use Rattle.bpaf_exact.specs.Pieces.{Cells, Roles, either, pieces}
-use Rattle.bpaf_exact.specs.ProgramForm.{CellsValue, ChoiceValue, CommandsLaw, FindsNoCommand}
-use Rattle.bpaf_exact.specs.ProgramForm.{Opens, OpensNone, ProgramLaw, ProgramTook}
-use Rattle.bpaf_exact.specs.ProgramForm.{OptionalCommands, WordsApart, opens_later, opens_here}
+-- A choice of two alternatives is one; and closures round commands, choices of them, and commands that
+-- may be left out keep to the laws.
+use Rattle.std.proofs.Common.{true≢false, length, Option, Result, ⊎_elim, false, arith, subst, Bool}
+use Rattle.std.proofs.Common.{true, zero, List, None, Some, refl, ◌++◌, ◌||◌, Err, suc, ◌<◌, ◌∷◌, ℕ}
+use Rattle.std.proofs.Common.{◌≡◌, sym, ◌∙◌, inl, inr, ◌≤◌, ◌⊎◌, [], Ok, ap}
+use Rattle.std.proofs.lemmas.Bool.{and_parts, not-false, cases_lt, eqb-true, not-true, or_right}
+use Rattle.std.proofs.{lemmas.Bool.le-leb, lemmas.Bool.lt-ltb, lemmas.List.Folds.list_any-append}
+use Rattle.std.specs.Prelude.{MatchBool}
+use Rattle.bpaf_base.specs.{Items.is_command_word, Items.any_item, declared.arg.Arg.Arg}
+use Rattle.bpaf_line.specs.Messages.{is_wrong_input, is_memory, Combines}
+use Rattle.bpaf_line.specs.Taking.{ConflictsSaved, open_item, IsWinner}
+use Rattle.bpaf_line.specs.{Situation.Situation, Situation.is_taken, declared.error.Message.Message}
+use Rattle.bpaf_line.specs.declared.error.Error.{Error}
+use Rattle.bpaf_line.proofs.Places.{present_in_line, open_has_item}
+use Rattle.bpaf_laws.proofs.ChoiceLaws.{chosen_at_equal, not_winner, of_chosen}
+use Rattle.bpaf_laws.specs.Choice.{ChoiceOutcome, BranchesEval, EqualDepths, branch_of, Winner}
+use Rattle.bpaf_laws.specs.{Choice.Chosen, Choice.depth, Choice.OneOk, Combinators.is_untouched}
+use Rattle.bpaf_laws.specs.{Command.is_one_of, Laws.IsNotMemory, Reading.Outcome}
+use Rattle.bpaf_exact.proofs.Cuts.{takes_nonempty, either_union, union_named, first_mine, left_here}
+use Rattle.bpaf_exact.proofs.Cuts.{swap_union, left_later, never_same, takes_left, TookLeft, HeadOf}
+use Rattle.bpaf_exact.proofs.Places.{open_present, closed_item, takes_fewer, same_cells, same_item}
+use Rattle.bpaf_exact.proofs.Product.{none_outside_after, mine_of_both, steady_trans, steady_refl}
+use Rattle.bpaf_exact.proofs.Classes.{combined_missing, combined_refused, is_missing_of, not_memory}
+use Rattle.bpaf_exact.proofs.Cuts.{both_nil, not_left, Union, owner}
+use Rattle.bpaf_exact.proofs.{Names.apart_second, Names.apart_first, Places.match_of, Places.Match}
+use Rattle.bpaf_exact.proofs.{Wrappers.closed_keeps, Classes.memory_class}
+use Rattle.bpaf_exact.specs.Flat.{AlternativeOk, either_value, OptionalEval, FirstUnread, IsWholeIn}
+use Rattle.bpaf_exact.specs.Flat.{TakesFirst, ErrorClass, Variables, OfMissing, none_here, OfMemory}
+use Rattle.bpaf_exact.specs.Flat.{no_place, AgreesOn, Refused, Closure, Steady, cells, class, Stops}
+use Rattle.bpaf_exact.specs.Flat.{first_cells, NonePresent, ClosedValue, is_missing, ClosedEval}
+use Rattle.bpaf_exact.specs.Flat.{alternative_missing, alternative_refused, alternative_memory}
+use Rattle.bpaf_exact.specs.Flat.{AlternativeErr, AlternativeLaw, optional_some, optional_none}
+use Rattle.bpaf_exact.specs.Pieces.{is_own_role, takes_later, TakesPiece, LinePiece, takes_one}
+use Rattle.bpaf_exact.specs.Pieces.{takes_two, either, is_own, pieces, Cells, Apart, Roles}
+use Rattle.bpaf_exact.specs.ProgramForm.{OptionalCommands, FindsNoCommand, ChoiceValue, CommandsLaw}
+use Rattle.bpaf_exact.specs.ProgramForm.{ProgramTook, opens_later, CellsValue, ProgramLaw, Opens}
+use Rattle.bpaf_exact.specs.ProgramForm.{WordsApart, opens_here, OpensNone}
+
+-- the same scope of the same line
+pub record SameScope (m n : Situation) : Type 0 where
+  pub context : n.context ≡ m.context
+  pub start : n.start ≡ m.start
+  pub end : n.end ≡ m.end
+
+-- no evaluation of a flat field changes it
+pub same_scope : {m n : Situation} → Steady m n → SameScope m n
+same_scope a = record { context = a.context; start = a.start; end = a.end }
+
+-- so it is the same in two that began alike
+steady_both : {s m n : Situation} → Steady s m → Steady s n → SameScope n m
+steady_both a b = record {
+  context = a.context ∙ sym b.context;
+  start = a.start ∙ sym b.start;
+  end = a.end ∙ sym b.end;
+}
+
+-- a place where as much is taken has the item that it had
+steady_item : {m n : Situation} → SameScope m n → (p : ℕ) → is_taken n p ≡ is_taken m p
+    → open_item n p ≡ open_item m p
+steady_item {m} {n} st p e = grind (arith, same_item)
+
+-- where as much is taken the cells are the same
+pub cells_same : {m n : Situation} → SameScope m n → ((p : ℕ) → is_taken n p ≡ is_taken m p)
+    → cells n ≡ cells m
+unfolding cells
+cells_same {m} {n} st f = grind (arith, same_cells, steady_item)
+
+-- the leftmost place at which two differ
+left_cells : {at : ℕ → Option Arg} (other : ℕ → Option Arg) (n p : ℕ) {x : Arg} → p < n
+    → at p ≡ None → other p ≡ Some x → ((q : ℕ) → q < p → at q ≡ other q)
+    → TookLeft (first_cells at n) (first_cells other n)
+left_cells other zero p l e f same = absurd (omega arith)
+left_cells other (suc n) zero l e f same = rw (e, f) left_here
+left_cells other (suc n) (suc p) l e f same =
+    left_later (same zero (omega arith)) (left_cells (λ q. other (suc q)) n p (omega arith) e f
+    (λ q i. same (suc q) (omega arith)))
+
+-- where a place isn't taken an item is there
+pub has_item : {env : Variables} {s : Situation} {p : ℕ} → IsWholeIn env s → is_taken s p ≡ false
+    → Match any_item s p
+has_item {s} {p} w free =
+    grind (arith, cases_lt, le-leb, lt-ltb, match_of, open_has_item, present_in_line)
+
+-- the one that took the leftmost place that only one took, by their cells
+left_of : {env : Variables} {s m n : Situation} {p : ℕ} → IsWholeIn env s → Steady s m → Steady s n
+    → is_taken m p ≡ true → is_taken n p ≡ false → ((q : ℕ) → q < p → is_taken m q ≡ is_taken n q)
+    → TookLeft (cells m) (cells n)
+unfolding cells
+left_of {m} {n} {p} w a b took free same =
+    let i = has_item (none_outside_after w b) free in
+    let st = steady_both a b in
+    subst (λ c. TookLeft (first_cells (open_item m) (length c.line))
+    (first_cells (open_item n) (length n.context.line))) (sym st.context)
+    (left_cells (open_item n) (length n.context.line) p
+    (present_in_line n p free) (closed_item m p took) i.is (λ q l. steady_item st q (same q l)))
+
+-- conflict notes change nothing that is taken
+pub saved_steady : {s : Situation} (other : Situation) {t : Situation} {place : ℕ}
+    → ConflictsSaved s other place t → Steady s t
+saved_steady other c = record {
+  context = c.context;
+  start = c.start;
+  end = c.end;
+  path = c.path;
+  keeps = λ p h. c.taken p ∙ h;
+}
+
+-- a piece that was taken is one of the field's own
+pub takes_own : {q : Roles} {cs ds : Cells} {o : LinePiece} → TakesPiece q cs o ds
+    → is_own q o ≡ true
+takes_own (takes_one e) = ap is_own_role e
+takes_own (takes_two e v) = ap is_own_role e
+takes_own (takes_later t) = takes_own t
+
+-- what the other branch did
+data Other (T : Type 0) (qb : Roles) (vb : LinePiece → T → Type 0) (cs cm : Cells) : Type 0 where
+  other_first : {cn : Cells} {ob : LinePiece} → TakesFirst qb cs ob cn → TookLeft cm cn
+      → Other T qb vb cs cm
+  other_missing : pieces qb cs ≡ [] → Other T qb vb cs cm
+  other_unread : FirstUnread T qb vb cs → Other T qb vb cs cm
+
+-- where one has a piece so have both
+some_both : {p q r : Roles} {T : Type 0} {v : LinePiece → T → Type 0} → Union p q r → (cs : Cells)
+    → FirstUnread T p v cs → pieces r cs ≡ [] → ⊥
+some_both u cs z e = grind (arith, mine_of_both)
+
+-- the first of some pieces
+some_head : (os : List LinePiece) → (os ≡ [] → ⊥)
+    → (o : LinePiece) × (rest : List LinePiece) × (os ≡ o ∷ rest)
+some_head [] some = absurd (some refl)
+some_head (o ∷ os) some = (o, os, refl)
+
+-- a first piece that its owner can't read can't be read
+head_unread : {T : Type 0} (q : Roles) {v vr : LinePiece → T → Type 0} (cs : Cells) {o : LinePiece}
+    → ((o : LinePiece) (w : T) → is_own q o ≡ true → vr o w ≡ v o w) → HeadOf q cs o
+    → FirstUnread T q v cs → (w : T) → vr o w → ⊥
+head_unread q cs {o} same h z w y = grind arith
+
+module _ (T : Type 0) {qa qb r : Roles} (u : Union qa qb r) (va : LinePiece → T → Type 0)
+    {vb : LinePiece → T → Type 0} (vr : LinePiece → T → Type 0)
+    (same_a : (o : LinePiece) (v : T) → is_own qa o ≡ true → vr o v ≡ va o v)
+    (same_b : (o : LinePiece) (v : T) → is_own qb o ≡ true → vr o v ≡ vb o v) where
+  -- the winner took the first piece of both, or that can't be read
+  won_first : {cs cm : Cells} {oa o : LinePiece} {os : List LinePiece} → pieces r cs ≡ o ∷ os
+      → TakesPiece qa cs oa cm → Other T qb vb cs cm
+      → TakesFirst qa cs oa cm ⊎ FirstUnread T qa va cs
+      → TakesFirst r cs oa cm ⊎ FirstUnread T r vr cs
+  won_first {cs} {cm} {oa} {o} {os} e t other first = by_owner (owner cs u e) other
+    where
+      by_owner : HeadOf qa cs o ⊎ HeadOf qb cs o → Other T qb vb cs cm
+          → TakesFirst r cs oa cm ⊎ FirstUnread T r vr cs
+      by_owner (inl h) x = grind (arith, first_mine, head_unread, u)
+      by_owner (inr h) (other_first f l) = absurd (not_left u e h.2 t f l)
+      by_owner (inr h) (other_missing none) = let i = h.1 in absurd cc
+      by_owner (inr h) (other_unread z) = inr (o, os, e, head_unread qb cs same_b h z)
+
+  -- the winner's value is one of the choice
+  won : {s m t : Situation} {x : T} → AlternativeOk T qa va s x m
+      → Other T qb vb (cells s) (cells m) → Steady m t → cells t ≡ cells m
+      → AlternativeOk T r vr s x t
+  won {s} {x} a o st e = record {
+    steady = steady_trans a.steady st;
+    piece = a.piece;
+    takes = rw e (takes_left u a.takes);
+    means = rw (same_a a.piece x (takes_own a.takes)) a.means;
+    first =
+        let head = some_head (pieces r (cells s)) (takes_nonempty (takes_left u a.takes)) in
+        rw e (won_first head.2 a.takes o a.first);
+  }
+
+module _ {env : Variables} {T : Type 0} {a b : Outcome T} {qa qb : Roles}
+    {va vb : LinePiece → T → Type 0} (la : AlternativeLaw env T a qa va)
+    (lb : AlternativeLaw env T b qb vb) (apart : Apart qa qb) where
+  -- the items of both
+  u : Union qa qb (either qa qb)
+  u = either_union la.named lb.named apart
+
+  -- what the pieces of both mean
+  abbrev vr : LinePiece → T → Type 0
+  vr = either_value qa va vb
+
+  -- a piece of the second isn't the first's
+  own_role : (o : LinePiece) → is_own qb o ≡ true → is_own qa o ≡ false
+  own_role x h = grind arith
+
+  -- a piece of the first means what it means to the first
+  same_first : (o : LinePiece) (v : T) → is_own qa o ≡ true → vr o v ≡ va o v
+  same_first o v h = ap (λ z. MatchBool z (va o v) (vb o v)) h
+
+  -- one of the second what it means to the second
+  same_second : (o : LinePiece) (v : T) → is_own qb o ≡ true → vr o v ≡ vb o v
+  same_second o v h = ap (λ z. MatchBool z (va o v) (vb o v)) (own_role o h)
+
+  -- the first branch won
+  first_won : {s m t : Situation} {x : T} → AlternativeOk T qa va s x m
+      → Other T qb vb (cells s) (cells m) → Steady m t → cells t ≡ cells m
+      → AlternativeOk T (either qa qb) vr s x t
+  first_won {s} {m} {t} {x} o h st e = won T u va vr same_first same_second o h st e
+
+  -- the second branch won
+  second_won : {s n t : Situation} {y : T} → AlternativeOk T qb vb s y n
+      → Other T qa va (cells s) (cells n) → Steady n t → cells t ≡ cells n
+      → AlternativeOk T (either qa qb) vr s y t
+  second_won {s} {n} {t} {y} o h st e = won T (swap_union u) vb vr same_second same_first o h st e
+
+  -- the other branch refused
+  err_other : {q : Roles} {v : LinePiece → T → Type 0} {s n : Situation} {cm : Cells} (e : Error)
+      → is_memory e.0 ≡ false → AlternativeErr T q v s (class e) n → Other T q v (cells s) cm
+  err_other e h x = grind (arith, not_memory, other_missing, other_unread)
+
+  -- or took something further right
+  ok_other : {q : Roles} {v : LinePiece → T → Type 0} {s n : Situation} {x : T} {cm : Cells}
+      → AlternativeOk T q v s x n → TookLeft cm (cells n) → Other T q v (cells s) cm
+  ok_other j l = ⊎_elim (λ f. other_first f l) (λ z. other_unread z) j.first
+
+  -- both branches leave the path as it was
+  err_path : {q : Roles} {v : LinePiece → T → Type 0} {s n : Situation} (e : Error)
+      → is_memory e.0 ≡ false → AlternativeErr T q v s (class e) n → n.path ≡ s.path
+  err_path e h x = grind (arith, not_memory)
+
+  -- an alternative leaves the path as it was
+  law_path : {z : Outcome T} {q : Roles} {v : LinePiece → T → Type 0} → AlternativeLaw env T z q v
+      → (s : Situation) {n : Situation} (r : Result T Error) → IsWholeIn env s → z s r n
+      → IsNotMemory r → n.path ≡ s.path
+  law_path l s x w o h = grind (arith, err_path)
+
+  -- and both are equally deep
+  equally_deep : {s t : Situation} {r : Result T Error} → IsWholeIn env s
+      → (o : BranchesEval a b s r t) → EqualDepths s o.a o.sa o.b o.sb r t
+  equally_deep w o = grind (arith, chosen_at_equal, law_path)
+
+  -- an alternative that answered took something
+  never_untouched : {q : Roles} {v : LinePiece → T → Type 0} {s m : Situation} {x : T}
+      → AlternativeOk T q v s x m → is_untouched s m ≡ true → ⊥
+  never_untouched o e = grind (arith, eqb-true, open_present, takes_fewer)
+
+  -- the winner's value, where both answered
+  winner_ok : {s sa sb t : Situation} {x y : T} (v : T) (winner : Bool × Option ℕ) → IsWholeIn env s
+      → AlternativeOk T qa va s x sa → AlternativeOk T qb vb s y sb → IsWinner sa sb winner
+      → Winner (branch_of x sa) (branch_of y sb) winner (Ok v) t
+      → AlternativeOk T (either qa qb) vr s v t
+  winner_ok v (first, None) w i j win k =
+      absurd (never_same u i.takes j.takes (cells_same (steady_both i.steady j.steady) win.0))
+  winner_ok {sb} {x} v (true, Some p) w i j win k =
+      let d : x ≡ v = cc in
+      let free = not-true (is_taken sb p) (sym win.0.differs ∙ win.1) in
+      rw (← d) (first_won i
+      (ok_other j (left_of w i.steady j.steady win.1 free win.0.first))
+      (saved_steady sb k.1) (cells_same (same_scope (saved_steady sb k.1)) k.1.taken))
+  winner_ok {sa} {sb} {y} v (false, Some p) w i j win k =
+      let d : y ≡ v = cc in
+      let here = not-false (is_taken sb p) (sym win.0.differs ∙ win.1) in
+      rw (← d) (second_won j
+      (ok_other i (left_of w j.steady i.steady here win.1 (λ q l. sym (win.0.first q l))))
+      (saved_steady sa k.1)
+      (cells_same (same_scope (saved_steady sa k.1)) k.1.taken))
+
+  -- the value of one, where the other refused
+  alone_ok : {s m t : Situation} {x v : T} {e : Error} → AlternativeOk T (either qa qb) vr s x m
+      → OneOk s (branch_of x m) e (Ok v) t → AlternativeOk T (either qa qb) vr s v t
+  alone_ok i x = grind arith
+
+  -- the value where both paths are equally deep
+  equal_ok : (s sa sb : Situation) {t : Situation} {v : T} (x y : Result T Error) → IsWholeIn env s
+      → a s x sa → b s y sb → IsNotMemory x → IsNotMemory y → EqualDepths s x sa y sb (Ok v) t
+      → AlternativeOk T (either qa qb) vr s v t
+  equal_ok s sa sb (Ok x) (Ok y) w f g hf hg (inl o) = grind (arith, and_parts, never_untouched)
+  equal_ok s sa sb {t} {v} (Ok x) (Ok y) w f g hf hg (inr o) = grind (arith, winner_ok)
+  equal_ok s sa sb (Ok x) (Err e) w f g hf hg o =
+      grind (arith, alone_ok, err_other, first_won, steady_refl)
+  equal_ok s sa sb (Err e) (Ok y) w f g hf hg o =
+      grind (arith, alone_ok, err_other, second_won, steady_refl)
+  equal_ok s sa sb (Err e) (Err d) w f g hf hg o = let i = o.0.2 in absurd cc
+
+  -- where neither can read its first piece, if it has one, that of both can't be read
+  both_unread : (cs : Cells) → (pieces (either qa qb) cs ≡ [] → ⊥)
+      → (pieces qa cs ≡ []) ⊎ FirstUnread T qa va cs → (pieces qb cs ≡ []) ⊎ FirstUnread T qb vb cs
+      → FirstUnread T (either qa qb) vr cs
+  both_unread cs some f g =
+      let head = some_head (pieces (either qa qb) cs) some in
+      (head.0, head.1, head.2, by_owner (owner cs u head.2))
+    where
+      by_owner : {o : LinePiece} → HeadOf qa cs o ⊎ HeadOf qb cs o → (w : T) → vr o w → ⊥
+      by_owner (inl h) = grind (arith, head_unread, same_first)
+      by_owner (inr h) = grind (arith, head_unread, same_second)
+
+  -- with a refusal of either class
+  by_class : {s : Situation} {c : ErrorClass} → (c ≡ OfMemory) ⊎ (c ≡ Refused)
+      → FirstUnread T (either qa qb) vr (cells s) → AlternativeErr T (either qa qb) vr s c s
+  by_class (inl c) z = alternative_memory c
+  by_class (inr c) z = alternative_refused c refl z
+
+  -- both branches refused
+  both_failed : (s : Situation) {m n : Situation} (e f : Error) {g : Error} → is_memory e.0 ≡ false
+      → is_memory f.0 ≡ false → Combines e.0 f.0 g.0 → AlternativeErr T qa va s (class e) m
+      → AlternativeErr T qb vb s (class f) n → AlternativeErr T (either qa qb) vr s (class g) s
+  both_failed s e f x y c (alternative_memory p) j = absurd (not_memory e.0 x p)
+  both_failed s e f x y c i (alternative_memory q) = absurd (not_memory f.0 y q)
+  both_failed s e f x y c (alternative_missing p i same st) (alternative_missing q j alike steady) =
+      grind (arith, both_nil, combined_missing, steady_refl, u)
+  both_failed s e f x y c (alternative_missing p i same st) (alternative_refused q path z) =
+      by_class (combined_refused e.0 f.0 (inr q) (inl p) (inr q) c)
+      (both_unread (cells s) (some_both (swap_union u) (cells s) z) (inl i) (inr z))
+  both_failed s e f x y c (alternative_refused p path z) (alternative_missing q j same st) =
+      by_class (combined_refused e.0 f.0 (inl p) (inr p) (inl q) c)
+      (both_unread (cells s) (some_both u (cells s) z) (inr z) (inl j))
+  both_failed s e f x y c (alternative_refused p path z) (alternative_refused q other i) =
+      by_class (combined_refused e.0 f.0 (inl p) (inr p) (inr q) c)
+      (both_unread (cells s) (some_both u (cells s) z) (inr z) (inr i))
+
+  -- the value of one, where the other refused, is no refusal
+  one_no_refusal : {q : Roles} {v : LinePiece → T → Type 0} {s m t : Situation} {x : T}
+      {e g : Error} → AlternativeOk T q v s x m → OneOk s (branch_of x m) e (Err g) t → ⊥
+  one_no_refusal {s} {m} {e} i (inl o) =
+      never_untouched i (and_parts (is_untouched s m) (is_wrong_input e.0) o.0).0
+  one_no_refusal i (inr o) = let h = o.1.0 in cc
+
+  -- the refusal where both paths are equally deep
+  equal_err : (s : Situation) {sa sb t : Situation} (g : Error) (x y : Result T Error)
+      → IsWholeIn env s → a s x sa → b s y sb → IsNotMemory x → IsNotMemory y
+      → EqualDepths s x sa y sb (Err g) t → AlternativeErr T (either qa qb) vr s (class g) t
+  equal_err s g (Ok x) (Ok y) w f h hf hg (inl o) = let i = o.1.0 in absurd cc
+  equal_err s {sa} {sb} {t} g (Ok x) (Ok y) w f h hf hg (inr o) = grind (arith, not_winner)
+  equal_err s {sa} g (Ok x) (Err e) w i j hx hy o = grind (arith, one_no_refusal)
+  equal_err s {sb} g (Err e) (Ok y) w i j hx hy o = grind (arith, one_no_refusal)
+  equal_err s {sa} {sb} g (Err e) (Err d) w f h hf hg o = grind (arith, both_failed)
+
+  -- a choice of two alternatives whose keys are apart is an alternative
+  pub choice_law : AlternativeLaw env T (ChoiceOutcome a b) (either qa qb) (either_value qa va vb)
+  choice_law = record {
+    named = union_named u;
+    keeps = record {
+      ok = λ s t v w o.
+          equal_ok s o.sa o.sb o.a o.b w o.first_ran o.second_ran o.first_spared o.second_spared
+          (equally_deep w o);
+      err = λ s t e w. ⊎_elim
+          (λ o. equal_err s e o.a o.b w o.first_ran o.second_ran o.first_spared o.second_spared
+          (equally_deep w o)) (λ o. alternative_memory (memory_class e.0 o.0));
+    };
+  }
+
+-- Commands.
 
 -- Closures.
-module _ {A B : Type 0} (inner : Outcome A) (r : Roles) {value : CellsValue A} {f : Closure A B}
+module _ {A B : Type 0} {inner : Outcome A} {r : Roles} {value : CellsValue A} {f : Closure A B}
     (agrees : (cs : Cells) → AgreesOn (value cs) f) (c : ErrorClass) where
-  -- what the closure makes of the values
-  abbrev closed : CellsValue B
-  closed = ClosedValue value f
-
   -- round a program
   pub closed_program : {env : Variables} → ProgramLaw env A inner r value
-      → ProgramLaw env B (ClosedEval A B inner f c) r closed
+      → ProgramLaw env B (ClosedEval A B inner f c) r (ClosedValue value f)
   closed_program l = record {
     others = λ q n a cs v s h. l.others q n a cs h.from s h.read;
     keeps = closed_keeps c l.keeps (λ s t x v i y. record {
@@ -49,7 +361,7 @@ module _ {A B : Type 0} (inner : Outcome A) (r : Roles) {value : CellsValue A} {
   -- round commands
   pub closed_commands : {env : Variables} {words : List (List ℕ)}
       → CommandsLaw env A inner r words value
-      → CommandsLaw env B (ClosedEval A B inner f c) r words closed
+      → CommandsLaw env B (ClosedEval A B inner f c) r words (ClosedValue value f)
   closed_commands l = record {
     program = closed_program l.program;
     opened = λ cs v h. l.opened cs h.from h.read;
@@ -78,22 +390,19 @@ module _ {env : Variables} {T : Type 0} {inner : Outcome T} {r : Roles} {words :
 
   -- want of memory stops nothing
   memory_goes_on : {e : Error} {s m : Situation} → class e ≡ OfMemory → Stops e s m → ⊥
-  memory_goes_on h (nothing_found g same) = cc
-  memory_goes_on h (caught g) = cc
+  memory_goes_on h x = grind arith
 
   -- where there is a value, that of a command is one
   some_all : {s t : Situation} {x : T} → ProgramTook T value s x t
       → (OpensNone words (cells s) → ⊥) → (u : Option T) → optional (cells s) u
       → value (cells s) x × NonePresent (cells t)
-  some_all i never (Some y) h = i.all y h
-  some_all i never None n = absurd (never (none_opens n))
+  some_all i never x h = grind (arith, none_opens)
 
   -- and None is
   none_all : {s m : Situation} {e : Error} → Stops e s m
       → ((w : T) → value (cells s) w → class e ≡ OfMemory) → (u : Option T) → optional (cells s) u
       → NonePresent (cells s) × NonePresent (cells s)
-  none_all stops want (Some y) h = absurd (memory_goes_on (want y h) stops)
-  none_all stops want None n = (n, n)
+  none_all stops want x h = grind (arith, memory_goes_on)
 
   -- a value is that of a command, or None, where nothing is present
   optional_took : (s t : Situation) (v : Option T) → IsWholeIn env s
@@ -111,12 +420,7 @@ module _ {env : Variables} {T : Type 0} {inner : Outcome T} {r : Roles} {words :
   optional_refuses : (s t : Situation) (e : Error) → IsWholeIn env s
       → OptionalEval T inner s (Err e) t → (u : Option T) → optional (cells s) u
       → class e ≡ OfMemory
-  optional_refuses s t e w (optional_err i goes) (Some x) h = l.program.keeps.err s t e w i x h
-  optional_refuses s t e w (optional_err i goes) None n =
-      ⊎_elim (λ memory. memory) (λ found. absurd (goes (nothing_found found.0
-      (open_present t ∙ ap present_count found.1 ∙ sym (open_present s)))))
-      (l.none.err s t e w i (none_opens n))
-  optional_refuses s t e w (optional_memory m) u h = m
+  optional_refuses s t e w x u h = grind (arith, none_opens, open_present)
 
   -- the laws
   pub optional_commands : ProgramLaw env (Option T) (OptionalEval T inner) r optional
@@ -127,8 +431,7 @@ module _ {env : Variables} {T : Type 0} {inner : Outcome T} {r : Roles} {words :
     where
       by_value : (q : Roles) {cs : Cells} (v : Option T)
           → ((x : T) → value cs x → pieces q cs ≡ []) → optional cs v → pieces q cs ≡ []
-      by_value q (Some x) f h = f x h
-      by_value q None f n = none_own q n
+      by_value q x f h = grind (arith, none_own)
 
 -- A choice of commands.
 
@@ -156,8 +459,7 @@ opens_apart words others a (opens_later o) (opens_later p) = opens_apart words o
 
 -- a missing item is no wrong input
 missing_input : (m : Message) → is_missing m ≡ true → is_wrong_input m ≡ false
-missing_input (Missing items) e = refl
-missing_input _ e = cc
+missing_input x e = grind arith
 
 -- two situations with the same cells, equally deep
 record Alike (m t : Situation) : Type 0 where
@@ -183,8 +485,8 @@ alike_saved other c = record {
   depth_alike = ap length c.path;
 }
 
-module _ {env : Variables} (T : Type 0) (a b : Outcome T) (ra rb : Roles) (wa wb : List (List ℕ))
-    (va vb : CellsValue T) (la : CommandsLaw env T a ra wa va) (lb : CommandsLaw env T b rb wb vb)
+module _ {env : Variables} {T : Type 0} {a b : Outcome T} {ra rb : Roles} {wa wb : List (List ℕ)}
+    {va vb : CellsValue T} (la : CommandsLaw env T a ra wa va) (lb : CommandsLaw env T b rb wb vb)
     (apart : WordsApart wa wb) where
   -- the values of either
   abbrev values : CellsValue T
@@ -233,22 +535,8 @@ module _ {env : Variables} (T : Type 0) (a b : Outcome T) (ra rb : Roles) (wa wb
   -- a value of the choice is one of the branch that was opened
   choice_took : {s t : Situation} {v : T} → IsWholeIn env s → BranchOk s v t
       → ProgramTook T values s v t
-  choice_took {s} {v} w (of_first {m} i e) =
-      let x = la.program.keeps.ok s m v w i in
-      record {
-        deep = rw e.depth_alike x.deep;
-        read = λ spelled n. inl (x.read spelled (rw (← e.cells_alike) n));
-        all = λ u h. ⊎_elim (λ p. let g = x.all u p in (inl g.0, rw e.cells_alike g.1))
-            (λ q. absurd (la.none.ok s m v w i (first_closed q))) h;
-      }
-  choice_took {s} {v} w (of_second {m} i e) =
-      let x = lb.program.keeps.ok s m v w i in
-      record {
-        deep = rw e.depth_alike x.deep;
-        read = λ spelled n. inr (x.read spelled (rw (← e.cells_alike) n));
-        all = λ u h. ⊎_elim (λ p. absurd (lb.none.ok s m v w i (second_closed p)))
-            (λ q. let g = x.all u q in (inr g.0, rw e.cells_alike g.1)) h;
-      }
+  choice_took {s} {v} w (of_first {m} i e) = grind (arith, first_closed, u)
+  choice_took {s} {v} w (of_second {m} i e) = grind (arith, second_closed, u)
 
   -- a branch that found no command, of whose answer something else than want of memory is known
   abbrev Passed : Situation → Error → Situation → Type 0
@@ -257,42 +545,26 @@ module _ {env : Variables} (T : Type 0) (a b : Outcome T) (ra rb : Roles) (wa wb
   -- nothing else can be of it
   passed : (s m : Situation) (e : Error) → is_memory e.0 ≡ false
       → FindsNoCommand s (class e) m → Passed s e m
-  passed s m e h (inl memory) = absurd (not_memory e.0 h memory)
-  passed s m e h (inr found) = found
+  passed s m e h x = grind (arith, not_memory)
 
   -- it is no wrong input beside a value, nor is its path longer, so no refusal is chosen
   never_refused : {s m n t : Situation} {x : T} {e g : Error} → depth s ≤ depth m → Passed s e n
       → Chosen s (Ok x) m (Err e) n (Err g) t → ⊥
-  never_refused less k (inl deeper) = let given = deeper.1 in cc
-  never_refused less k (inr (inl deeper)) =
-      let same = ap length k.2 in let more = deeper.0 in absurd (omega arith)
-  never_refused {s} {m} {e} less k (inr (inr equal)) = ⊎_elim
-      (λ o. true≢false (sym (and_parts (is_untouched s m) (is_wrong_input e.0) o.0).1
-      ∙ missing_input e.0 (is_missing_of e.0 k.0))) (λ o. let h = o.1.0 in cc) equal.1
+  never_refused less k x = grind (arith, and_parts, is_missing_of, missing_input)
 
   -- where the first has a value none is
   first_fails : (s : Situation) {sa sb t : Situation} (x y : Result T Error) {g : Error} {u : T}
       → IsWholeIn env s → a s x sa → b s y sb → IsNotMemory x → IsNotMemory y
       → Chosen s x sa y sb (Err g) t → va (cells s) u → ⊥
-  first_fails s {sa} (Err d) y {u} w i j hx hy chosen h =
-      not_memory d.0 hx (la.program.keeps.err s sa d w i u h)
-  first_fails s {sb} (Ok x) (Ok y) w i j hx hy chosen h = lb.none.ok s sb y w j (second_closed h)
-  first_fails s {sa} {sb} (Ok x) (Err e) w i j hx hy chosen h =
-      never_refused (la.program.keeps.ok s sa x w i).deep
-      (passed s sb e hy (lb.none.err s sb e w j (second_closed h))) chosen
+  first_fails s x y w i j hx hy chosen h =
+      grind (arith, never_refused, not_memory, passed, second_closed)
 
   -- nor where the second has
   second_fails : (s : Situation) {sa sb t : Situation} (x y : Result T Error) {g : Error} {u : T}
       → IsWholeIn env s → a s x sa → b s y sb → IsNotMemory x → IsNotMemory y
       → Chosen s x sa y sb (Err g) t → vb (cells s) u → ⊥
-  second_fails s {sb} x (Err d) {u} w i j hx hy chosen h =
-      not_memory d.0 hy (lb.program.keeps.err s sb d w j u h)
-  second_fails s {sa} (Ok x) (Ok y) w i j hx hy chosen h = la.none.ok s sa x w i (first_closed h)
-  second_fails s {sa} {sb} (Err e) (Ok y) w i j hx hy chosen h =
-      never_refused (lb.program.keeps.ok s sb y w j).deep
-      (passed s sa e hx (la.none.err s sa e w i (first_closed h)))
-      (⊎_elim (λ deeper. inr (inl deeper)) (λ other. ⊎_elim (λ deeper. inl deeper)
-      (λ equal. inr (inr (sym equal.0, equal.1))) other) chosen)
+  second_fails s x y w i j hx hy chosen h =
+      grind (arith, first_closed, never_refused, not_memory, passed)
 
   -- so a refusal is want of memory there
   choice_refuses : (s t : Situation) (e : Error) → IsWholeIn env s
@@ -310,17 +582,8 @@ module _ {env : Variables} (T : Type 0) (a b : Outcome T) (ra rb : Roles) (wa wb
       → IsWholeIn env s → a s x sa → b s y sb → IsNotMemory x → IsNotMemory y
       → OpensNone wa (cells s) → OpensNone wb (cells s) → Chosen s x sa y sb (Err g) t
       → FindsNoCommand s (class g) t
-  none_chosen s {sa} (Ok x) y w i j hx hy na nb chosen = absurd (la.none.ok s sa x w i na)
-  none_chosen s {sb} (Err d) (Ok y) w i j hx hy na nb chosen = absurd (lb.none.ok s sb y w j nb)
-  none_chosen s {sa} {sb} {t} (Err d) (Err e) {g} w i j hx hy na nb chosen =
-      let k = passed s sa d hx (la.none.err s sa d w i na) in
-      let l = passed s sb e hy (lb.none.err s sb e w j nb) in
-      let o = chosen_at_equal {T = T} s (Err d) sa (Err e) sb (Err g) t (ap length (k.2 ∙ sym l.2))
-      chosen in
-      let given = o.0.2 in
-      let same : o.0.0 ≡ g = cc in
-      ⊎_elim (λ missing. inr (ap class (sym same) ∙ missing, ap cells o.1, ap (λ z. z.path) o.1))
-      (λ memory. inl (ap class (sym same) ∙ memory)) (combined_missing d.0 e.0 k.0 l.0 o.0.1)
+  none_chosen s x y w i j hx hy na nb chosen =
+      grind (arith, chosen_at_equal, combined_missing, passed)
 
   -- where no word opens anything no branch has a value
   none_branch : {s t : Situation} {v : T} → IsWholeIn env s → OpensNone (wa ++ wb) (cells s)

@@ -1,45 +1,35 @@
 -- What taking pieces does to the other pieces and to the cut; that at most one cut exists, and a
 -- value is read off one; cuts of words alone; the first piece, of two fields together too; and that
 -- a cut line holds together.
-use Rattle.std.proofs.Common.{Bool, List, None, Option, Some, arith, false, if◌then◌else◌, inl, inr}
-use Rattle.std.proofs.Common.{[], length, not, refl, sym, true, ℕ, ⊎_elim, ◌++◌, ◌<◌, ◌∙◌, ◌∷◌, ◌≡◌}
-use Rattle.std.proofs.Common.{◌⊎◌, ap}
+use Rattle.std.proofs.Common.{if◌then◌else◌, Option, length, ⊎_elim, arith, false, List, None, Some}
+use Rattle.std.proofs.Common.{refl, true, ◌++◌, inl, inr, not, sym, ◌<◌, ◌∙◌, ◌∷◌, ◌≡◌, ◌⊎◌, [], ap}
 use Rattle.std.proofs.lemmas.List.Elements.{filter-append, All-cons, All-nil}
-use Rattle.std.proofs.{lemmas.Bool.false_from_ne_true, lemmas.List.append_assoc}
+use Rattle.std.proofs.{lemmas.Bool.false_from_ne_true, lemmas.List.append_assoc, Common.ℕ}
 use Rattle.std.specs.List.{AllPass}
-use Rattle.bpaf_base.specs.declared.arg.Arg.TheVariants.{ArgWord, Long, Short, Word}
-use Rattle.bpaf_base.specs.{Items.is_positional, declared.arg.Arg.Arg}
-use Rattle.bpaf_exact.specs.Flat.{IsWords, NonePresent, ReadOff, no_place, none_here, first_later}
-use Rattle.bpaf_exact.specs.Flat.{first_one, TakesFirst, first_two}
-use Rattle.bpaf_exact.specs.Pieces.{Alone, Apart, Cells, Cut, Foreign, LinePiece, One, Roles, Takes}
-use Rattle.bpaf_exact.specs.Pieces.{IsNamed, Role, TakesPiece, TakesPieces, Two, WithNext, argument}
-use Rattle.bpaf_exact.specs.Pieces.{at_end, begin_piece, either, either_role, empty_stays, is_value}
-use Rattle.bpaf_exact.specs.Pieces.{flag, is_key, is_own, is_own_role, mine, others, passed, pieces}
-use Rattle.bpaf_exact.specs.Pieces.{other_stays, takes_argument, takes_flag, takes_more, takes_none}
-use Rattle.bpaf_exact.specs.Pieces.{takes_later, takes_one, takes_two, with_next, word, word_roles}
-use Rattle.bpaf_exact.specs.Pieces.{no_cells}
-use Rattle.bpaf_exact.specs.ProgramForm.{HoldsTogether, is_word_alone, EndsInKey, HasItsValue}
+use Rattle.bpaf_base.specs.{declared.arg.Arg.TheVariants.ArgWord, declared.arg.Arg.Arg}
+use Rattle.bpaf_base.specs.Items.{is_positional}
+use Rattle.bpaf_exact.specs.Flat.{NonePresent, first_later, TakesFirst, none_here, first_one}
+use Rattle.bpaf_exact.specs.Pieces.{takes_argument, TakesPieces, begin_piece, either_role, WithNext}
+use Rattle.bpaf_exact.specs.Pieces.{takes_none, TakesPiece, takes_flag, LinePiece, takes_one, Alone}
+use Rattle.bpaf_exact.specs.Pieces.{IsNamed, at_end, either, is_key, is_own, others, passed, pieces}
+use Rattle.bpaf_exact.specs.Pieces.{empty_stays, is_own_role, other_stays, takes_later, takes_more}
+use Rattle.bpaf_exact.specs.Pieces.{Apart, Cells, Roles, Takes, Role, flag, mine, word, Cut, One}
+use Rattle.bpaf_exact.specs.Pieces.{takes_two, with_next, argument, is_value, no_cells, Foreign}
+use Rattle.bpaf_exact.specs.ProgramForm.{HoldsTogether, is_word_alone, HasItsValue, EndsInKey}
+use Rattle.bpaf_exact.specs.{Flat.first_two, Flat.no_place, Flat.IsWords, Pieces.Two}
 
 -- a value is no key
 pub value_not_key : (w : Arg) → is_value w ≡ true → is_key w ≡ false
-value_not_key (Short c a t) h = cc
-value_not_key (Long c a t) h = cc
-value_not_key _ h = refl
+value_not_key x h = grind arith
 
 -- a word is no key
 pub word_not_key : (w : Arg) → is_positional w ≡ true → is_key w ≡ false
-word_not_key (Short c a t) h = cc
-word_not_key (Long c a t) h = cc
-word_not_key _ h = refl
+word_not_key x h = grind arith
 
 -- an item of a named field is no value
 pub own_not_value : {q : Roles} (k : Arg) → IsNamed q → is_own_role (q k) ≡ true
     → is_value k ≡ false
-own_not_value {q} (ArgWord t) n h = let e : is_own_role (q (ArgWord t))
-    ≡ false = ap is_own_role (n.only_keys (ArgWord t) refl) in cc
-own_not_value {q} (Word t) n h =
-    let e : is_own_role (q (Word t)) ≡ false = ap is_own_role (n.only_keys (Word t) refl) in cc
-own_not_value _ n h = refl
+own_not_value x n h = grind arith
 
 -- a value belongs to no named field
 pub value_foreign : {q : Roles} {w : Arg} → IsNamed q → is_value w ≡ true → q w ≡ Foreign
@@ -52,9 +42,7 @@ word_foreign {w} n h = n.only_keys w (word_not_key w h)
 -- alike pieces behind an item, and alike items next to it, make alike pieces
 begin_cong : (x : Role) (k : Arg) (cs ds : Cells) {os ps : List LinePiece}
     → with_next k ds ≡ with_next k cs → ps ≡ os → begin_piece x k ds ps ≡ begin_piece x k cs os
-begin_cong Foreign k cs ds h e = e
-begin_cong Alone k cs ds h e = ap (λ z. One k ∷ z) e
-begin_cong WithNext k cs ds h e = cc
+begin_cong x k cs ds h e = grind arith
 
 -- an item begins a piece by its role
 pub begin_at : {x y : Role} (k : Arg) (cs : Cells) (os : List LinePiece) → x ≡ y
@@ -64,33 +52,23 @@ begin_at k cs os e = ap (λ z. begin_piece z k cs os) e
 -- where no piece begins there is none behind
 pub nil_rest : (x : Role) (k : Arg) (cs : Cells) {os : List LinePiece} → begin_piece x k cs os ≡ []
     → os ≡ []
-nil_rest Foreign k cs e = e
-nil_rest _ k cs e = cc
+nil_rest x k cs e = grind arith
 
 -- and the item isn't the field's own
 pub nil_foreign : (x : Role) (k : Arg) (cs : Cells) (os : List LinePiece)
     → begin_piece x k cs os ≡ [] → x ≡ Foreign
-nil_foreign Foreign k cs os e = refl
-nil_foreign _ k cs os e = cc
+nil_foreign x k cs os e = grind arith
 
 -- taking a piece leaves what a key before it has next to it
 pub same_next : {q : Roles} (k : Arg) {cs ds : Cells} {o : LinePiece} → IsNamed q
     → TakesPiece q cs o ds → with_next k ds ≡ with_next k cs
-same_next k n (takes_one {k = j} e) =
-    sym (ap (λ b. if b then Two k j else One k) (own_not_value j n (ap is_own_role e)))
-same_next k n (takes_two {k = j} e v) =
-    sym (ap (λ b. if b then Two k j else One k) (own_not_value j n (ap is_own_role e)))
-same_next k n (takes_later {c = None} t) = refl
-same_next k n (takes_later {c = Some j} t) = refl
+same_next k n x = grind (arith, own_not_value)
 
 -- What one takes of its own leaves the pieces of another as they are.
 pub keeps_other : {q r : Roles} {cs ds : Cells} {o : LinePiece} → IsNamed q → IsNamed r → Apart q r
     → TakesPiece q cs o ds → pieces r ds ≡ pieces r cs
-keeps_other {r} nq nr a (takes_one {k} {cs} e) =
-    sym (begin_at k cs (pieces r cs) (a.left k (ap is_own_role e)))
-keeps_other {r} nq nr a (takes_two {k} {w} {cs} e v) =
-    sym (begin_at k (Some w ∷ cs) (pieces r (Some w ∷ cs)) (a.left k (ap is_own_role e))
-    ∙ begin_at w cs (pieces r cs) (value_foreign nr v))
+keeps_other {r} nq nr a (takes_one {k} {cs} e) = grind (arith, begin_at)
+keeps_other {r} nq nr a (takes_two {k} {w} {cs} e v) = grind (arith, begin_at, value_foreign)
 keeps_other nq nr a (takes_later {c = None} t) = keeps_other nq nr a t
 keeps_other {r} nq nr a (takes_later {c = Some k} {cs} {ds} t) =
     begin_cong (r k) k cs ds (same_next k nq t) (keeps_other nq nr a t)
@@ -105,36 +83,27 @@ keeps_other_some nq nr a (takes_more t more) = keeps_other_some nq nr a more ∙
 
 -- an item that isn't the one's has the role that it has to the other
 pub either_right : (x : Role) {y : Role} → x ≡ Foreign → either_role x y ≡ y
-either_right Foreign e = refl
-either_right _ e = absurd cc
+either_right x e = grind arith
 
 -- an item of the one is of the same role to both
 pub either_own : (x y z : Role) → x ≡ z → is_own_role z ≡ true → either_role x y ≡ z
-either_own Foreign y Foreign e h = cc
-either_own Foreign y _ e h = cc
-either_own _ y z e h = e
+either_own x y z e h = grind arith
 
 -- an item begins a piece where it is the field's own
 own_begin : (x : Role) (k : Arg) (cs : Cells) (o : LinePiece) {os ps : List LinePiece}
     → (is_own_role x ≡ true → begin_piece x k cs os ≡ o ∷ os) → os ≡ ps
     → begin_piece x k cs os ≡ (if is_own_role x then (o ∷ ps) else ps)
-own_begin Foreign k cs o f h = h
-own_begin Alone k cs o f h = f refl ∙ ap (λ z. o ∷ z) h
-own_begin WithNext k cs o f h = f refl ∙ ap (λ z. o ∷ z) h
+own_begin x k cs o f h = grind arith
 
 -- the pieces of a field's own are those of the cut that begin with its keys
 pub pieces_of_cut : {q : Roles} (r : Roles) {cs : Cells} {os : List LinePiece} → IsNamed q
     → Cut (either q r) cs os → pieces q cs ≡ mine q os
 pieces_of_cut r n at_end = refl
 pieces_of_cut r n (passed c) = pieces_of_cut r n c
-pieces_of_cut {q} r n (flag {k} {cs} e c) = own_begin (q k) k cs (One k)
-    (λ own. begin_at k cs (pieces q cs) (sym (either_own (q k) (r k) (q k) refl own) ∙ e))
-    (pieces_of_cut r n c)
-pieces_of_cut {q} r n (argument {k} {w} {cs} e v c) = own_begin (q k) k (Some w ∷ cs) (Two k w)
-    (λ own. begin_at k (Some w ∷ cs) (pieces q (Some w ∷ cs))
-    (sym (either_own (q k) (r k) (q k) refl own) ∙ e)
-    ∙ ap (λ b. (if b then Two k w else One k) ∷ pieces q (Some w ∷ cs)) v)
-    (begin_at w cs (pieces q cs) (value_foreign n v) ∙ pieces_of_cut r n c)
+pieces_of_cut {q} r n (flag {k} {cs} e c) =
+    grind (arith, begin_at, either_own, own_begin, pieces_of_cut r n c)
+pieces_of_cut {q} r n (argument {k} {w} {cs} e v c) =
+    grind (arith, begin_at, either_own, own_begin, value_foreign, pieces_of_cut r n c)
 pieces_of_cut {q} r n (word {w} {cs} h c) = own_begin (q w) w cs (One w)
     (λ own. let f = ap is_own_role (word_foreign n h) in absurd cc) (pieces_of_cut r n c)
 
@@ -259,12 +228,9 @@ pub one_take : {q : Roles} {cs ds es : Cells} {os ps : List LinePiece} → Takes
     → Takes q cs ps es → (os ≡ ps) × (ds ≡ es)
 one_take no_cells no_cells = (refl, refl)
 one_take (empty_stays t) (empty_stays u) = let i = one_take t u in (i.0, ap (λ z. None ∷ z) i.1)
-one_take (other_stays {k} e t) (other_stays f u) =
-    let i = one_take t u in (i.0, ap (λ z. Some k ∷ z) i.1)
-one_take (takes_flag {k} e t) (takes_flag f u) =
-    let i = one_take t u in (ap (λ z. One k ∷ z) i.0, ap (λ z. None ∷ z) i.1)
-one_take (takes_argument {k} {w} e v t) (takes_argument f y u) =
-    let i = one_take t u in (ap (λ z. Two k w ∷ z) i.0, ap (λ z. None ∷ (None ∷ z)) i.1)
+one_take (other_stays {k} e t) (other_stays f u) = grind (arith, one_take t u)
+one_take (takes_flag {k} e t) (takes_flag f u) = grind (arith, one_take t u)
+one_take (takes_argument {k} {w} e v t) (takes_argument f y u) = grind (arith, one_take t u)
 one_take (other_stays e t) (takes_flag f u) = absurd cc
 one_take (other_stays e t) (takes_argument f y u) = absurd cc
 one_take (takes_flag e t) (other_stays f u) = absurd cc
@@ -272,76 +238,20 @@ one_take (takes_flag e t) (takes_argument f y u) = absurd cc
 one_take (takes_argument e v t) (other_stays f u) = absurd cc
 one_take (takes_argument e v t) (takes_flag f u) = absurd cc
 
--- where nothing is left, the pieces taken are those of a cut
-cut_of : {r : Roles} {cs ds : Cells} {os : List LinePiece} → Takes (either r word_roles) cs os ds
-    → NonePresent ds → Cut r cs os
-cut_of no_cells no_place = at_end
-cut_of (empty_stays t) (none_here n) = passed (cut_of t n)
-cut_of (other_stays e t) none = elim none [ ]
-cut_of {r} (takes_flag {k} {cs} {os} e t) (none_here n) =
-    by_role (r k) (is_positional k) refl refl e (cut_of t n)
-  where
-    by_role : (x : Role) (b : Bool) → r k ≡ x → is_positional k ≡ b
-        → (if is_own_role x then x else if b then Alone else Foreign) ≡ Alone → Cut r cs os
-        → Cut r (Some k ∷ cs) (One k ∷ os)
-    by_role Foreign true f h e c = word h c
-    by_role Alone b f h e c = flag f c
-    by_role _ _ f h e c = absurd cc
-cut_of {r} (takes_argument {k} e v t) (none_here (none_here n)) =
-    argument (by_role (r k) (is_positional k) e) v (cut_of t n)
-  where
-    by_role : (x : Role) (b : Bool)
-        → (if is_own_role x then x else if b then Alone else Foreign) ≡ WithNext → x ≡ WithNext
-    by_role Foreign true e = absurd cc
-    by_role Foreign false e = absurd cc
-    by_role Alone b e = absurd cc
-    by_role WithNext b e = refl
-
--- a value is read off a cut
-pub read_cut : {V : Type 0} {r : Roles} {value : List LinePiece → V → Type 0} {cs : Cells} {v : V}
-    → (h : ReadOff V r value cs v) → Cut r cs h.cut_into
-read_cut h = cut_of h.cut h.none_left
-
--- the pieces of a cut are taken, and nothing is left
-taken_of : {r : Roles} → IsNamed r → {cs : Cells} {os : List LinePiece} → Cut r cs os
-    → (ds : Cells) × Takes (either r word_roles) cs os ds × NonePresent ds
-taken_of n at_end = ([], no_cells, no_place)
-taken_of n (passed c) = let i = taken_of n c in (None ∷ i.0, empty_stays i.1, none_here i.2)
-taken_of n (flag {k} e c) =
-    let i = taken_of n c in (
-      None ∷ i.0,
-      takes_flag (ap (λ x. if is_own_role x then x else word_roles k) e) i.1,
-      none_here i.2,
-    )
-taken_of n (argument {k} e v c) =
-    let i = taken_of n c in (
-      None ∷ (None ∷ i.0),
-      takes_argument (ap (λ x. if is_own_role x then x else word_roles k) e) v i.1,
-      none_here (none_here i.2),
-    )
-taken_of n (word {w} h c) =
-    let i = taken_of n c in (
-      None ∷ i.0,
-      takes_flag (ap (λ x. if is_own_role x then x else word_roles w) (word_foreign n h)
-          ∙ ap (λ b. if b then Alone else Foreign) h) i.1,
-      none_here i.2,
-    )
-
 -- two cuts of the same cells are one
 pub one_cut : {r : Roles} {cs : Cells} {os ps : List LinePiece} → IsNamed r → Cut r cs os
     → Cut r cs ps → os ≡ ps
-one_cut n c d = (one_take (taken_of n c).1 (taken_of n d).1).0
-
--- what is meant by the pieces of a cut is read off
-pub read_off : {V : Type 0} {r : Roles} (value : List LinePiece → V → Type 0) {cs : Cells}
-    {os : List LinePiece} {v : V} → IsNamed r → Cut r cs os → value os v → ReadOff V r value cs v
-read_off value {os} n c read = let i = taken_of n c in record {
-  cut_into = os;
-  left_cells = i.0;
-  cut = i.1;
-  none_left = i.2;
-  read = read;
-}
+one_cut n at_end at_end = refl
+one_cut n (passed c) (passed d) = one_cut n c d
+one_cut n (flag {k} e c) (flag f d) = ap (λ z. One k ∷ z) (one_cut n c d)
+one_cut n (flag {k} e c) (word h d) = ap (λ z. One k ∷ z) (one_cut n c d)
+one_cut n (word {w} h c) (flag e d) = ap (λ z. One w ∷ z) (one_cut n c d)
+one_cut n (word {w} h c) (word i d) = ap (λ z. One w ∷ z) (one_cut n c d)
+one_cut n (argument {k} {w} e v c) (argument f u d) = ap (λ z. Two k w ∷ z) (one_cut n c d)
+one_cut n (flag e c) (argument f u d) = absurd cc
+one_cut n (argument e v c) (flag f d) = absurd cc
+one_cut n (argument e v c) (word h d) = let f = word_foreign n h in absurd cc
+one_cut n (word h c) (argument e v d) = let f = word_foreign n h in absurd cc
 
 -- no item is a key
 abbrev pub NoKeys : Roles → Type 0
@@ -349,15 +259,11 @@ NoKeys r = (k : Arg) → r k ≡ Foreign
 
 -- an item of a positional field is a word
 word_of : {q : Roles} (k : Arg) → IsWords q → q k ≡ Alone → is_positional k ≡ true
-word_of k n e =
-    elim (is_positional k) as (λ b. (if b then Alone else Foreign) ≡ Alone → b ≡ true)
-    [ true ↦ λ h. refl | false ↦ λ h. cc ] (sym (n.words k) ∙ e)
+word_of k n e = grind arith
 
 -- and a piece by itself
 pub never_two : {q : Roles} {k : Arg} → IsWords q → q k ≡ WithNext → ⊥
-never_two {k} n e =
-    elim (is_positional k) as (λ b. (if b then Alone else Foreign) ≡ WithNext → ⊥)
-    [ true ↦ λ h. cc | false ↦ λ h. cc ] (sym (n.words k) ∙ e)
+never_two n e = grind arith
 
 -- its pieces are ones of a cut by no keys
 pub words_cut : {q r : Roles} → IsWords q → NoKeys r → CutsOff q r
@@ -374,9 +280,7 @@ words_of_cut n f at_end = refl
 words_of_cut n f (passed c) = words_of_cut n f c
 words_of_cut n f (flag {k} e c) = let g = f k in cc
 words_of_cut n f (argument {k} e v c) = let g = f k in cc
-words_of_cut {q} n f (word {w} {cs} h c) =
-    begin_at w cs (pieces q cs) (n.words w ∙ ap (λ b. if b then Alone else Foreign) h) ∙ ap
-    (λ z. One w ∷ z) (words_of_cut n f c)
+words_of_cut {q} n f (word {w} {cs} h c) = grind (arith, begin_at, words_of_cut n f c)
 
 -- Where nothing is present the cut is empty, and only there.
 pub empty_cut : {r : Roles} {cs : Cells} → NonePresent cs → Cut r cs []
@@ -400,11 +304,7 @@ first_takes (first_later n t) = takes_later (first_takes t)
 -- a key and its value are one piece
 pub pair_pieces : {q : Roles} {k w : Arg} (cs : Cells) → IsNamed q → q k ≡ WithNext
     → is_value w ≡ true → pieces q (Some k ∷ (Some w ∷ cs)) ≡ Two k w ∷ pieces q cs
-pair_pieces {q} {k} {w} cs n e v =
-    let a = begin_at k (Some w ∷ cs) (pieces q (Some w ∷ cs)) e in
-    let b = begin_at w cs (pieces q cs) (value_foreign n v) in
-    let c = ap (λ b. if b then Two k w else One k) v in
-    cc
+pair_pieces cs n e v = grind (arith, begin_at, value_foreign)
 
 -- The first piece heads the list.
 pub first_pieces : (q : Roles) {cs ds : Cells} {o : LinePiece} → IsNamed q → TakesFirst q cs o ds
@@ -441,9 +341,7 @@ head_stays {q} {o} {os} n (takes_later {c = Some k} {cs} {ds} t) h other =
     by_role : (x : Role) → q k ≡ x
         → (pieces q cs ≡ o ∷ os → (ps : List LinePiece) × (pieces q ds ≡ o ∷ ps))
         → (ps : List LinePiece) × (pieces q (Some k ∷ ds) ≡ o ∷ ps)
-    by_role Foreign e on =
-        let i = on (sym (begin_at k cs (pieces q cs) e) ∙ h) in
-        (i.0, begin_at k ds (pieces q ds) e ∙ i.1)
+    by_role Foreign e on = grind (arith, begin_at)
     by_role Alone e on =
         let a = begin_at k cs (pieces q cs) e in
         let b = begin_at k ds (pieces q ds) e in
@@ -506,19 +404,13 @@ takes_left u (takes_later t) = takes_later (takes_left u t)
 
 -- a piece is its key's
 pub own_next : (q : Roles) (k : Arg) (cs : Cells) → is_own q (with_next k cs) ≡ is_own_role (q k)
-own_next q k (Some w ∷ cs) =
-    elim (is_value w) as (λ b. is_own q (if b then Two k w else One k) ≡ is_own_role (q k))
-    [ true ↦ refl | false ↦ refl ]
-own_next q k _ = refl
+own_next q k xs = grind arith
 
 -- the key of the piece that an item begins
 head_key : (q : Roles) (x : Role) (k : Arg) (cs : Cells) (os : List LinePiece) (o : LinePiece)
     {ps : List LinePiece} → is_own_role x ≡ true → begin_piece x k cs os ≡ o ∷ ps
     → is_own q o ≡ is_own_role (q k)
-head_key q Foreign k cs os o h e = absurd cc
-head_key q Alone k cs os o h e = let d : One k ≡ o = cc in ap (is_own q) (sym d)
-head_key q WithNext k cs os o h e =
-    let d : with_next k cs ≡ o = cc in ap (is_own q) (sym d) ∙ own_next q k cs
+head_key q x k cs os o h e = grind (arith, own_next)
 
 -- what an item is to each of two fields
 pub data Belongs (qa qb r : Roles) (k : Arg) : Type 0 where
@@ -528,12 +420,7 @@ pub data Belongs (qa qb r : Roles) (k : Arg) : Type 0 where
 
 -- an item belongs to one of both, or to neither
 pub belongs : {qa qb r : Roles} {k : Arg} → Union qa qb r → Belongs qa qb r k
-belongs {qa} {qb} {r} {k} u = by_role (qa k) (qb k) refl refl
-  where
-    by_role : (x y : Role) → qa k ≡ x → qb k ≡ y → Belongs qa qb r k
-    by_role Foreign Foreign e f = to_none e f (u.none k e f)
-    by_role Foreign _ e f = let h = ap is_own_role f in to_second h (u.right k h) e
-    by_role _ y e f = let h = ap is_own_role e in to_first h (u.left k h) (u.apart.left k h)
+belongs {qa} {qb} {r} {k} u = grind (arith, to_first, to_none, to_second)
 
 -- the first piece of both is the first piece of its owner
 abbrev pub HeadOf : Roles → Cells → LinePiece → Type 0
@@ -565,24 +452,13 @@ owner {qa} {qb} {r} (Some k ∷ cs) {o} u e =
         → HeadOf qa (Some k ∷ cs) o ⊎ HeadOf qb (Some k ∷ cs) o
     by_owner (to_first h g f) i = inl (own_head qa (qa k) refl g h)
     by_owner (to_second h g f) i = inr (own_head qb (qb k) refl g h)
-    by_owner (to_none f g h) i =
-        ⊎_elim (λ a. inl ((a.0, begin_at k cs (pieces qa cs) f ∙ a.1, a.2)))
-        (λ b. inr ((b.0, begin_at k cs (pieces qb cs) g ∙ b.1, b.2))) (i h)
+    by_owner (to_none f g h) i = grind (arith, begin_at)
 
--- An item that isn't the first field's own goes before the first piece only where it isn't the
--- other's either.
+-- An item that isn't the first field's own, before the first piece, isn't the other's either.
 not_either : {qa qb r : Roles} {k : Arg} (cs : Cells) {o : LinePiece} {os : List LinePiece}
     → Union qa qb r → qa k ≡ Foreign → is_own qa o ≡ true → pieces r (Some k ∷ cs) ≡ o ∷ os
     → (r k ≡ Foreign) × (pieces r cs ≡ o ∷ os)
-not_either {qa} {qb} {r} {k} cs {o} {os} u f h e = by_owner (belongs u)
-  where
-    by_owner : Belongs qa qb r k → (r k ≡ Foreign) × (pieces r cs ≡ o ∷ os)
-    by_owner (to_first g x y) = let z = ap is_own_role f in absurd cc
-    by_owner (to_second g x y) =
-        let d = head_key qa (r k) k cs (pieces r cs) o (ap is_own_role x ∙ g) e in
-        let z = ap is_own_role f in
-        absurd cc
-    by_owner (to_none x y z) = (z, sym (begin_at k cs (pieces r cs) z) ∙ e)
+not_either cs u f h e = grind (arith, begin_at, belongs, head_key, to_first, to_none, to_second)
 
 -- Where the first piece of both is the first field's, the first field's first is the first of both.
 pub first_mine : {qa qb r : Roles} {cs ds : Cells} {oa o : LinePiece} {os : List LinePiece}
@@ -601,9 +477,14 @@ pub both_nil : {qa qb r : Roles} (cs : Cells) → Union qa qb r → pieces qa cs
 both_nil [] u e f = refl
 both_nil (None ∷ cs) u e f = both_nil cs u e f
 both_nil {qa} {qb} {r} (Some k ∷ cs) u e f =
-    begin_at k cs (pieces r cs)
-    (u.none k (nil_foreign (qa k) k cs (pieces qa cs) e) (nil_foreign (qb k) k cs (pieces qb cs) f))
-    ∙ both_nil cs u (nil_rest (qa k) k cs e) (nil_rest (qb k) k cs f)
+    grind (
+      arith,
+      begin_at,
+      nil_foreign,
+      nil_rest,
+      both_nil cs u (nil_rest (qa k) k cs e) (nil_rest
+          (qb k) k cs f),
+    )
 
 -- the left one took the leftmost place that only one of the two took
 pub data TookLeft : Cells → Cells → Type 0 where
@@ -611,8 +492,7 @@ pub data TookLeft : Cells → Cells → Type 0 where
   left_later : {c d : Option Arg} {cs ds : Cells} → c ≡ d → TookLeft cs ds
       → TookLeft (c ∷ cs) (d ∷ ds)
 
--- If the first piece of both is the second field's and it took that, the first field took nothing
--- further left.
+-- If the second field took the first piece of both, the first field took nothing further left.
 pub not_left : {qa qb r : Roles} {cs ca cb : Cells} {oa ob o : LinePiece} {os : List LinePiece}
     → Union qa qb r → pieces r cs ≡ o ∷ os → is_own qb o ≡ true → TakesPiece qa cs oa ca
     → TakesFirst qb cs ob cb → TookLeft ca cb → ⊥
@@ -641,14 +521,12 @@ not_left {qa} {qb} {r} u e h (takes_two {k} {w = j} {cs} x w) (first_later n s) 
 -- Two fields never leave the same items.
 begin_length : (x : Role) (k : Arg) (cs ds : Cells) (os ps : List LinePiece) → length os < length ps
     → length (begin_piece x k cs os) < length (begin_piece x k ds ps)
-begin_length Foreign k cs ds os ps h = h
-begin_length _ k cs ds os ps h = omega arith
+begin_length x k cs ds os ps h = grind arith
 
 -- taking a piece leaves fewer
 takes_shorter : {q : Roles} {cs ds : Cells} {o : LinePiece} → IsNamed q → TakesPiece q cs o ds
     → length (pieces q ds) < length (pieces q cs)
-takes_shorter {q} n (takes_one {k} {cs} e) =
-    let d = ap length (begin_at k cs (pieces q cs) e) in omega arith
+takes_shorter {q} n (takes_one {k} {cs} e) = grind (arith, begin_at)
 takes_shorter n (takes_two {cs} e v) = let d = ap length (pair_pieces cs n e v) in omega arith
 takes_shorter n (takes_later {c = None} t) = takes_shorter n t
 takes_shorter {q} n (takes_later {c = Some k} {cs} {ds} t) =
@@ -698,10 +576,7 @@ module _ (r : Roles) (n : IsNamed r) where
       → {before : Cells} {k : Arg} {after : Cells} {os : List LinePiece} → Item before k after os
       → Item (front ++ before) k after (ps ++ os)
   further front ps c (flag_key e) = flag_key e
-  further front ps c {before} {k} (argument_key e h) =
-      argument_key e (has_its_value h.value e h.may_be_one
-      h.next (c before h.earlier h.cut_before) h.cut_behind
-      (ap (λ z. ps ++ z) h.one_piece ∙ sym (append_assoc ps h.earlier (Two k h.value ∷ h.later))))
+  further front ps c {before} {k} (argument_key e h) = grind (arith, append_assoc, has_its_value)
   further front ps c (value_of_key v i) =
       value_of_key v (record {
         before = front ++ i.before;
@@ -738,26 +613,17 @@ module _ (r : Roles) (n : IsNamed r) where
   -- a key is one of the record's
   own_key : {before after : Cells} {os : List LinePiece} {k : Arg} → Item before k after os
       → is_key k ≡ true → is_own_role (r k) ≡ true
-  own_key (flag_key e) h = ap is_own_role e
-  own_key (argument_key e i) h = ap is_own_role e
-  own_key {k} (value_of_key v i) h = let f = value_not_key k v in cc
-  own_key {k} (positional p) h = let f = word_not_key k p in cc
+  own_key x h = grind (arith, value_not_key, word_not_key)
 
   -- an argument's key has its value
   own_value : {before after : Cells} {os : List LinePiece} {k : Arg} → Item before k after os
       → r k ≡ WithNext → HasItsValue r before k after os
-  own_value (flag_key e) h = cc
-  own_value (argument_key e i) h = i
-  own_value (value_of_key v i) h = let f = value_foreign n v in cc
-  own_value (positional p) h = let f = word_foreign n p in cc
+  own_value x h = grind (arith, value_foreign, word_foreign)
 
   -- an attached value stands behind such a key
   behind_key : {before after : Cells} {os : List LinePiece} {text : List ℕ}
       → Item before (ArgWord text) after os → EndsInKey r before
-  behind_key {text} (flag_key e) = let f = n.only_keys (ArgWord text) refl in cc
-  behind_key {text} (argument_key e i) = let f = n.only_keys (ArgWord text) refl in cc
-  behind_key (value_of_key v i) = i
-  behind_key (positional p) = cc
+  behind_key x = grind arith
 
   -- what begins with none of the keys are words
   words_alone : {cs : Cells} {os : List LinePiece} → Cut r cs os
@@ -765,11 +631,9 @@ module _ (r : Roles) (n : IsNamed r) where
   words_alone at_end = All-nil (λ o. is_word_alone o ≡ true)
   words_alone (passed c) = words_alone c
   words_alone (flag {k} {os} e c) = rw (others_own r (One k) os (ap is_own_role e)) (words_alone c)
-  words_alone (argument {k} {w} {os} e v c) =
-      rw (others_own r (Two k w) os (ap is_own_role e)) (words_alone c)
+  words_alone (argument {k} {w} {os} e v c) = grind (arith, others_own, words_alone c)
   words_alone (word {w} {os} h c) =
-      rw (others_foreign r os (ap is_own_role (word_foreign n h)))
-      (All-cons (λ o. is_word_alone o ≡ true) (One w) (others r os) h (words_alone c))
+      grind (arith, All-cons, others_foreign, word_foreign, words_alone c)
 
   -- a cut line holds together
   pub cut_holds_together : (cs : Cells) (os : List LinePiece) → Cut r cs os → HoldsTogether r cs os

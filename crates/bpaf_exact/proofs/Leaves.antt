@@ -1,67 +1,57 @@
 -- Flags, arguments, positional words and kept values keep to the laws.
-use Rattle.std.proofs.Common.{Bool, Err, List, None, Ok, Option, Result, [], add-one, if◌then◌else◌}
-use Rattle.std.proofs.Common.{Some, ap, false, inl, inr, map, not, option_and_then, refl, sym, take}
-use Rattle.std.proofs.Common.{subst, true, true≢false, ⊎_elim, ◌&&◌, ◌++◌, ◌||◌, ◌∙◌, ◌∷◌, ◌≡◌, ◌⊎◌}
-use Rattle.std.proofs.Common.{ℕ}
+use Rattle.std.proofs.Common.{option_and_then, add-one, Result, ⊎_elim, Option, arith, false, subst}
+use Rattle.std.proofs.Common.{Bool, List, None, Some, refl, true, ◌&&◌, ◌++◌, ◌||◌, Err, inl, inr}
+use Rattle.std.proofs.Common.{map, not, sym, ◌∙◌, ◌∷◌, ◌≡◌, ◌⊎◌, Ok, [], ap, ℕ}
 use Rattle.std.proofs.lemmas.Bool.{and_parts}
-use Rattle.std.specs.Option.{IsSomeRelated, is_none, is_some, option_map_or}
-use Rattle.bpaf_doc.specs.{Names.Names, Shape.Part}
+use Rattle.std.specs.Option.{IsSomeRelated, option_map_or, is_none, is_some}
 use Rattle.bpaf_base.specs.declared.arg.Arg.TheVariants.{PosWord, Word}
-use Rattle.bpaf_base.specs.Items.{is_key_of, is_positional, item_text, word_text}
+use Rattle.bpaf_base.specs.Items.{is_positional, is_key_of, item_text, word_text}
 use Rattle.bpaf_base.specs.declared.arg.Arg.{Arg}
+use Rattle.bpaf_doc.specs.{Names.Names, Shape.Part}
+use Rattle.bpaf_text.specs.Named.{KeyWithValue, Named as Key, flag_part}
+use Rattle.bpaf_line.specs.declared.error.Message.TheVariants.{ParseFailed, NoArgument, Memory}
+use Rattle.bpaf_line.specs.Taking.{TakesFlag, TakesText, HasNone}
+use Rattle.bpaf_line.specs.{Situation.with_current, Situation.Situation, declared.error.Error.Error}
+use Rattle.bpaf_line.specs.declared.error.Message.{Message}
 use Rattle.bpaf_line.proofs.Places.{open_item_there}
-use Rattle.bpaf_line.specs.declared.error.Message.TheVariants.{Memory, Missing, NoEnv, ParseFailed}
-use Rattle.bpaf_line.specs.declared.error.Message.TheVariants.{NoArgument}
-use Rattle.bpaf_line.specs.Situation.{with_current, Situation}
-use Rattle.bpaf_line.specs.Taking.{HasNone, TakesFlag, TakesText}
-use Rattle.bpaf_line.specs.{declared.error.Error.Error, declared.error.Message.Message}
-use Rattle.bpaf_text.specs.Named.{KeyWithValue, Named as Key, argument_part, flag_part}
-use Rattle.bpaf_laws.specs.Leaves.{ArgumentFails, ArgumentOutcome, HasNoKey, IsNowhere, LacksText}
-use Rattle.bpaf_laws.specs.Leaves.{TakesKeysWithTexts, is_key_with_value, FlagFails, ReadsVariable}
-use Rattle.bpaf_laws.specs.Leaves.{TakesBefore, TakesKeyWithText, TakesOwnText, value_without_key}
-use Rattle.bpaf_laws.specs.Leaves.{FlagOutcome}
-use Rattle.bpaf_laws.specs.Reading.{IsAbsence, MissesItem, first_set, is_set, Outcome}
-use Rattle.bpaf_laws.specs.Combinators.{GivesClone, PureOutcome, is_nil}
-use Rattle.bpaf_exact.proofs.Fronts.{back_more, each_front, front_more, of_front_more, of_front_one}
-use Rattle.bpaf_exact.proofs.Fronts.{front_nil, front_one, never_nil, back_one}
-use Rattle.bpaf_exact.proofs.Places.{bare_taken, behind_of, by_test, match_of, no_pieces, one_taken}
-use Rattle.bpaf_exact.proofs.Places.{take_steady, test_named, test_owns, two_taken}
-use Rattle.bpaf_exact.proofs.Product.{current_cells, none_of_nobody, same_steady, steady_refl}
-use Rattle.bpaf_exact.proofs.Product.{steady_trans}
-use Rattle.bpaf_exact.proofs.Cuts.{begin_at, first_pieces, first_takes, some_trans, never_two}
-use Rattle.bpaf_exact.proofs.{Classes.memory_class, Wrappers.gap_empty, Wrappers.took_front}
-use Rattle.bpaf_exact.specs.Flat.{AlternativeOk, TakesFirst, alternative_memory, first_later}
-use Rattle.bpaf_exact.specs.Flat.{AlternativeErr, alternative_missing, first_one, first_two, ByName}
-use Rattle.bpaf_exact.specs.Flat.{Caught, EachWord, FieldKind, OfMemory, OfMissing, OneWord, Steady}
-use Rattle.bpaf_exact.specs.Flat.{Variables, back, cells, class, class_of, front, is_behind}
-use Rattle.bpaf_exact.specs.Flat.{FrontOf, Gap, Groups, SingleErr, SingleOk, TakesAny, WordByWord}
-use Rattle.bpaf_exact.specs.Flat.{SingleLaw, catch_other, gap_of, of_absent, of_missing, of_piece}
-use Rattle.bpaf_exact.specs.Flat.{catch_missing, gave_absent, of_memory, took, alternative_refused}
-use Rattle.bpaf_exact.specs.Flat.{Refused}
-use Rattle.bpaf_exact.specs.ProgramForm.{FlagValue, LastGroup, WordValue, argument_field}
-use Rattle.bpaf_exact.specs.ProgramForm.{argument_group, ArgumentValue, WordEval, argument_roles}
-use Rattle.bpaf_exact.specs.ProgramForm.{flag_field, flag_roles, pure_field, word_fault}
-use Rattle.bpaf_exact.specs.ProgramForm.{word_memory, word_missing, word_passed, key_field, FormLaw}
-use Rattle.bpaf_exact.specs.ProgramForm.{word_by, word_read}
-use Rattle.bpaf_exact.specs.Pieces.{Alone, Cells, IsNamed, One, Roles, Two, WithNext, stands_behind}
-use Rattle.bpaf_exact.specs.Pieces.{TakesPiece, TakesPieces, takes_more, takes_none, word_roles}
-use Rattle.bpaf_exact.specs.Pieces.{Owns, LinePiece, pieces}
-use Rattle.bpaf_exact.specs.Says.{Says, of_kind}
+use Rattle.bpaf_laws.specs.Leaves.{TakesKeyWithText, ArgumentOutcome, ArgumentFails, ReadsVariable}
+use Rattle.bpaf_laws.specs.Leaves.{TakesOwnText, TakesBefore, FlagOutcome, IsNowhere, LacksText}
+use Rattle.bpaf_laws.specs.Leaves.{TakesKeysWithTexts, is_key_with_value, value_without_key}
+use Rattle.bpaf_laws.specs.Reading.{MissesItem, IsAbsence, first_set, Outcome, is_set}
+use Rattle.bpaf_laws.specs.Combinators.{PureOutcome, GivesClone, is_nil}
+use Rattle.bpaf_laws.specs.Leaves.{FlagFails, HasNoKey}
+use Rattle.bpaf_exact.proofs.Names.{of_front_more, of_front_one, each_front, front_more, back_more}
+use Rattle.bpaf_exact.proofs.Places.{take_steady, bare_taken, test_named, behind_of, no_pieces}
+use Rattle.bpaf_exact.proofs.Places.{one_taken, test_owns, two_taken, match_of, by_test}
+use Rattle.bpaf_exact.proofs.Product.{none_of_nobody, current_cells, steady_trans, same_steady}
+use Rattle.bpaf_exact.proofs.Cuts.{first_pieces, first_takes, some_trans, never_two, begin_at}
+use Rattle.bpaf_exact.proofs.Names.{front_nil, front_one, never_nil, back_one}
+use Rattle.bpaf_exact.proofs.{Wrappers.took_front, Wrappers.gap_empty, Classes.memory_class}
+use Rattle.bpaf_exact.proofs.Product.{steady_refl}
+use Rattle.bpaf_exact.specs.Flat.{AlternativeErr, AlternativeOk, first_later, gave_absent, EachWord}
+use Rattle.bpaf_exact.specs.Flat.{TakesFirst, WordByWord, first_one, first_two, FieldKind, OfMemory}
+use Rattle.bpaf_exact.specs.Flat.{class_of, SingleOk, TakesAny, of_piece, OneWord, FrontOf, Refused}
+use Rattle.bpaf_exact.specs.Flat.{ByName, Caught, Steady, Groups, gap_of, cells, class, front, back}
+use Rattle.bpaf_exact.specs.Flat.{OfMissing, Variables, is_behind, SingleErr, SingleLaw, of_memory}
+use Rattle.bpaf_exact.specs.ProgramForm.{argument_field, argument_group, argument_roles, flag_field}
+use Rattle.bpaf_exact.specs.ProgramForm.{flag_roles, pure_field, word_fault, CellsValue, FlagValue}
+use Rattle.bpaf_exact.specs.ProgramForm.{ArgumentValue, word_missing, word_memory, word_passed}
+use Rattle.bpaf_exact.specs.ProgramForm.{LastGroup, WordValue, key_field, word_read, WordEval}
+use Rattle.bpaf_exact.specs.Pieces.{stands_behind, TakesPieces, TakesPiece, takes_more, takes_none}
+use Rattle.bpaf_exact.specs.Pieces.{word_roles, LinePiece, WithNext, IsNamed, pieces, Alone, Cells}
+use Rattle.bpaf_exact.specs.{Pieces.Roles, Pieces.Owns, Pieces.One, Pieces.Two, Flat.took, Flat.Gap}
+use Rattle.bpaf_exact.specs.{ProgramForm.FormLaw, ProgramForm.word_by, Says.of_kind, Says.Says}
 
 -- a refusal that names a missing item says that items are missing
 misses : (s : Situation) (part : Option Part) (m : Message) → MissesItem s part m
     → class_of m ≡ OfMissing
-misses s part (Missing items) o = refl
-misses s part other o = absurd o
+misses s part other o = grind arith
 
 -- so does that of a key, or without a place on the line that no name in the environment is set
 pub absence_class : (s : Situation) (part : Option Part) (envs : List (List ℕ)) (m : Message)
     → IsAbsence s part envs m
     → (class_of m ≡ OfMissing) ⊎ ((class_of m ≡ Caught) × (envs ≡ [] → ⊥))
-absence_class s (Some part) envs m o = inl (misses s (Some part) m o)
-absence_class s None [] m o = inl (misses s None m o)
-absence_class s None (env ∷ envs) (NoEnv name) o = inr (refl, λ e. cc)
-absence_class s None (env ∷ envs) m o = absurd o
+absence_class s x envs m o = grind (arith, misses)
 
 -- What a parser answers where no piece of its own is there: what stands for that; or it is refused;
 -- or an item is missing, where nothing was taken, or something else.
@@ -75,8 +65,7 @@ pub data NoneRead (T : Type 0) (gap : Gap T) (other : Type 0) (s : Situation) : 
       → (class e ≡ OfMissing) ⊎ ((class e ≡ Caught) × other) → gap.has ≡ false
       → (class e ≡ OfMissing → t ≡ s) → NoneRead T gap other s (Err e) t
 
--- What a parser answers that reads the first of its pieces alone: that has a value, or it has none;
--- or there is none; or want of memory.
+-- What a parser answers that reads the first of its pieces alone, if there is one.
 pub data FirstRead (T : Type 0) (k : FieldKind) (q : Roles) (value : LinePiece → T → Type 0)
     (gap : Gap T) (other : Type 0) (s : Situation) : Result T Error → Situation → Type 0 where
   read_first : {o : LinePiece} {v : T} {t : Situation} → Steady s t
@@ -102,10 +91,7 @@ module _ {T : Type 0} {k : FieldKind} {q : Roles} {gap : Gap T} {other : Type 0}
   -- and so is a refusal
   pub none_err : {group : Groups T} {e : Error} → front k (pieces q (cells s)) ≡ []
       → NoneRead T gap other s (Err e) t → SingleErr T k q group gap s (class e) t
-  none_err p (none_refused c has none) = of_absent c has p none
-  none_err p (none_missing c has same) = of_missing
-      (⊎_elim (λ missing. catch_missing missing) (λ caught. catch_other caught.0) c) has p
-      (λ missing. ap cells (same missing))
+  none_err p x = grind arith
 
   -- the value of a first piece is one of a single evaluation,
   pub first_ok : {value : LinePiece → T → Type 0} {v : T}
@@ -117,10 +103,7 @@ module _ {T : Type 0} {k : FieldKind} {q : Roles} {gap : Gap T} {other : Type 0}
   pub first_err : {value : LinePiece → T → Type 0} {e : Error}
       → FirstRead T k q value gap other s (Err e) t
       → SingleErr T k q (FrontOf T value) gap s (class e) t
-  first_err (read_fault {o} {os} c path is some none) =
-      of_piece c (λ e. some (sym (ap (front k) is) ∙ e)) (λ w rest g.
-      let d : o ∷ os ≡ g.0 ∷ rest = sym is ∙ g.1 in
-      let j : g.0 ≡ o = cc in none w (rw (← j) g.2))
+  first_err (read_fault {o} {os} c path is some none) = grind arith
   first_err (read_none p n) = none_err p n
   first_err (read_memory c) = of_memory c
 
@@ -141,13 +124,7 @@ module _ {T : Type 0} {q : Roles} {value : LinePiece → T → Type 0} {gap : Ga
   -- and so is a refusal, where without a piece an item is missing
   alternative_err : {e : Error} → (other → ⊥) → FirstRead T ByName q value gap other s (Err e) t
       → AlternativeErr T q value s (class e) t
-  alternative_err never (read_fault {o} {os} c path is some none) =
-      alternative_refused c path (o, os, is, none)
-  alternative_err never (read_none p (none_refused c h none)) = absurd cc
-  alternative_err never (read_none p (none_missing (inl c) h same)) =
-      rw (same c) (alternative_missing c p refl steady_refl)
-  alternative_err never (read_none p (none_missing (inr c) h same)) = absurd (never c.1)
-  alternative_err never (read_memory c) = alternative_memory c
+  alternative_err never x = grind (arith, steady_refl)
 
 -- a key whose evaluation reads its first piece alone keeps to the laws of its form
 pub key_field_law : {env : Variables} {T : Type 0} {outcome : Outcome T} {q : Roles}
@@ -158,35 +135,38 @@ pub key_field_law : {env : Variables} {T : Type 0} {outcome : Outcome T} {q : Ro
     → ((s t : Situation) (r : Result T Error) → s.context.env ≡ env → outcome s r t
     → FirstRead T ByName q value gap other s r t)
     → FormLaw env outcome names [] (key_field wide may q value (FrontOf T value) gap)
-key_field_law other wide true named owns empty must reads = (
-  record {
-    named = named;
-    keeps = record {
-      ok = λ s t v w o. alternative_ok (must refl).0 (reads s t (Ok v) w.environment o);
-      err = λ s t e w o.
-          alternative_err (must refl).0 (must refl).1 (reads s t (Err e) w.environment o);
-    };
-  },
-  owns,
-)
-key_field_law other wide false named owns empty must reads = (
-  record {
-    own = named;
-    words = tt;
-    starts = λ v rest g. let e = g.1 in cc;
-    no_absent = empty;
-    keeps = record {
-      ok = λ s t v w o. first_ok (reads s t (Ok v) w.environment o);
-      err = λ s t e w o. first_err (reads s t (Err e) w.environment o);
-    };
-  },
-  owns,
-)
+key_field_law other wide true named owns empty must reads = record {
+  by = (
+    record {
+      named = named;
+      keeps = record {
+        ok = λ s t v w o. alternative_ok (must refl).0 (reads s t (Ok v) w.environment o);
+        err = λ s t e w o.
+            alternative_err (must refl).0 (must refl).1 (reads s t (Err e) w.environment o);
+      };
+    },
+    owns,
+  );
+}
+key_field_law other wide false named owns empty must reads = record {
+  by = (
+    record {
+      own = named;
+      words = tt;
+      starts = λ v rest g. let e = g.1 in cc;
+      no_absent = empty;
+      keeps = record {
+        ok = λ s t v w o. first_ok (reads s t (Ok v) w.environment o);
+        err = λ s t e w o. first_err (reads s t (Err e) w.environment o);
+      };
+    },
+    owns,
+  );
+}
 
 -- no variable's name is among none
 pub none_named : (envs : List (List ℕ)) → is_nil envs ≡ true → envs ≡ []
-none_named [] e = refl
-none_named (env ∷ envs) e = absurd cc
+none_named xs e = grind arith
 
 -- Flags.
 
@@ -201,21 +181,17 @@ module _ {T : Type 0} (clones : T → T → Type 0) (present : T) where
   -- where its variable is set, the present one
   gap_set : (absent : Option T) (set : Option (List ℕ)) {v : T} → is_some set ≡ true
       → clones present v → StandsForNone absent set v
-  gap_set absent None e y = absurd cc
-  gap_set absent (Some text) e y = (refl, y)
+  gap_set absent x e y = grind arith
 
   -- else the absent one
   gap_unset : (absent : Option T) (set : Option (List ℕ)) (v : T) → is_some set ≡ false
       → IsSomeRelated clones absent v → StandsForNone absent set v
-  gap_unset None None v e y = absurd y
-  gap_unset (Some kept) None v e y = (refl, y)
-  gap_unset absent (Some text) v e y = absurd cc
+  gap_unset absent x v e y = grind arith
 
   -- without either none does
   gap_none : (absent : Option T) (set : Option (List ℕ)) → is_some set ≡ false → absent ≡ None
       → is_some (value_without_key present absent set) ≡ false
-  gap_none None None e f = refl
-  gap_none _ _ e f = absurd cc
+  gap_none x y e f = grind arith
 
 -- a flag, where the environment has these variables
 module _ {T : Type 0} (clones : T → T → Type 0) (key : Key) (present : T) (absent : Option T)
@@ -276,8 +252,7 @@ module _ {T : Type 0} (clones : T → T → Type 0) (key : Key) (present : T) (a
 
 -- no value is none
 none_is : {T : Type 0} (absent : Option T) → is_none absent ≡ true → absent ≡ None
-none_is None e = refl
-none_is (Some kept) e = absurd cc
+none_is x e = grind arith
 
 -- a flag keeps to the laws of its form
 pub flag_field_law : (variables : Variables) (T : Type 0) (clones : T → T → Type 0) (key : Key)
@@ -344,8 +319,7 @@ module _ (argument : KeyWithValue) where
 
   -- they are keys
   pub named : IsNamed q
-  named = test_named (is_key_with_value argument) argument.named.names WithNext
-      (λ k e. (and_parts (is_key_of argument.named.names k) _ e).0)
+  named = grind (arith, and_parts, test_named)
 
   -- with its names
   pub owns : Owns q (argument.named.names ∷ [])
@@ -384,29 +358,19 @@ module _ (argument : KeyWithValue) where
     -- the text of a variable stands for no piece
     pub variable_read : {s t : Situation} {text : List ℕ} {v : T} → s.context.env ≡ variables
         → ReadsVariable argument s text t → means text v → Unread s (Ok v) t
-    variable_read {s} {text} {v} same read m =
-        let here = subst (λ z. first_set z argument.named.envs ≡ Some text) same read.set in
-        subst (Unread s (Ok v)) (sym read.left) (subst (λ gap. NoneRead T gap
-        (argument.named.envs ≡ [] → ⊥) s (Ok v) (with_current s None))
-        (ap (gap_of means) (sym here))
-        (none_absent refl m (current_cells s) (same_steady steady_refl)))
+    variable_read same read m =
+        grind (arith, current_cells, named, none_absent, same_steady, steady_refl)
 
     -- one that means no value is refused
     pub variable_fault : {s t : Situation} {e : Error} {text : List ℕ} → s.context.env ≡ variables
         → ReadsVariable argument s text t → class e ≡ Refused → ((v : T) → means text v → ⊥)
         → Unread s (Err e) t
-    variable_fault {s} {t} {e} {text} same read c none =
-        let here = subst (λ z. first_set z argument.named.envs ≡ Some text) same read.set in
-        subst (λ gap. NoneRead T gap (argument.named.envs ≡ [] → ⊥) s (Err e) t)
-        (ap (gap_of means) (sym here)) (none_refused c refl none)
+    variable_fault same read c none = grind (arith, named, none_refused)
 
     -- without one there is no value
     pub nowhere : {s t : Situation} {e : Error} (m : Message) → class e ≡ class_of m
         → s.context.env ≡ variables → IsNowhere argument s m → t ≡ s → Unread s (Err e) t
-    nowhere {s} m c same unset left =
-        let here = subst (λ z. first_set z argument.named.envs ≡ None) same unset.0 in
-        none_missing (rw c (absence_class s (argument_part argument) argument.named.envs m unset.1))
-        (ap (λ z. (gap_of means z).has) here) (λ missing. left)
+    nowhere m c same unset left = grind (arith, absence_class, named, none_missing)
 
   module _ {T : Type 0} (means : List ℕ → T → Type 0)
       (all : argument.last ≡ true) (variables : Variables) where
@@ -465,8 +429,7 @@ module _ (argument : KeyWithValue) where
     -- the pieces, up to the last one
     whole : {s t : Situation} {text : List ℕ} (a : TookAll s t text)
         → pieces q (cells s) ≡ pairs a.1.before ++ Two a.2.key a.2.word ∷ []
-    whole a = a.1.is ∙ ap (λ z. pairs a.1.before ++ z)
-        (first_pieces q named a.2.takes ∙ ap (λ z. Two a.2.key a.2.word ∷ z) a.3)
+    whole a = grind (arith, first_pieces, named)
 
     -- there are some
     some_there : {s t : Situation} {text : List ℕ} → TookAll s t text → pieces q (cells s) ≡ [] → ⊥
@@ -516,8 +479,7 @@ module _ (argument : KeyWithValue) where
         some.is ∙ ap (λ z. first ++ z) bare.is in
         of_piece c (λ none. never_nil first (One m.item) bare.tail (sym there ∙ none))
         (λ v rest g. bare_spoils first bare.tail g.0 m.item g.1.0 g.1.1 (sym there ∙ g.2))
-    last_err {s} e other c same o =
-        none_err (no_key s o.0) (nowhere means variables other c same o.1 o.2)
+    last_err {s} e other c same o = grind (arith, no_key, none_err)
 
     -- such an argument keeps to the laws of a field
     pub last_argument_law : SingleLaw variables T (ArgumentOutcome means argument)
@@ -593,7 +555,8 @@ argument_field_law variables T means argument =
         (argument_read argument means once variables)
     by_last true all true e =
         let no = (and_parts (is_nil argument.named.envs) false (sym e)).1 in absurd cc
-    by_last true all false e = (last_argument_law argument means all variables, owns argument)
+    by_last true all false e =
+        record { by = (last_argument_law argument means all variables, owns argument) }
 
 -- Positional words.
 
@@ -613,10 +576,7 @@ word_is _ strict text e = absurd cc
 -- a field that stops takes none behind `--`
 passed_by : (b : Bool) → b ≡ true → (o : LinePiece) (os : List LinePiece) → is_behind o ≡ true
     → front (OneWord b) (o ∷ os) ≡ []
-passed_by true h o os behind =
-    ap (take 1) (each_front true o os
-    ∙ ap (λ z. if not z then (o ∷ front (EachWord true) os) else []) behind)
-passed_by false h o os behind = absurd cc
+passed_by b h o os behind = grind (arith, each_front)
 
 -- a positional
 module _ {T : Type 0} {b : Bool} {value : LinePiece → T → Type 0}
@@ -720,15 +680,15 @@ module _ {T : Type 0} {b : Bool} {value : LinePiece → T → Type 0}
 -- where no word behind `--` is accepted, one that is stands before it
 pub stands_before : (accepts : Bool → Bool) → not (accepts true) ≡ true → (behind : Bool)
     → accepts behind ≡ true → behind ≡ false
-stands_before accepts stops true on = absurd (true≢false (sym stops ∙ ap not on))
-stands_before accepts stops false on = refl
+stands_before accepts stops b on = grind arith
 
 -- a positional keeps to the laws of its form
 pub word_by_law : (env : Variables) (T : Type 0) (accepts : Bool → Bool)
     (means : List ℕ → T → Type 0)
     → FormLaw env (WordEval T (not (accepts true)) (WordValue accepts means)) [] []
     (word_by accepts means)
-word_by_law env T accepts means = (word_law clear, record { own = λ k e. absurd cc })
+word_by_law env T accepts means =
+    record { by = (word_law clear, record { own = λ k e. absurd cc }) }
   where
     clear : not (accepts true) ≡ true → (o : LinePiece) (v : T) → WordValue accepts means o v
         → is_behind o ≡ false
@@ -741,24 +701,26 @@ module _ (T : Type 0) (clones : T → T → Type 0) (kept : T) where
   -- the laws
   pub pure_field_law : {env : Variables}
       → FormLaw env (PureOutcome (GivesClone clones kept)) [] [] (pure_field (clones kept))
-  pure_field_law = (
-    record {
-      own = record { only_keys = λ k h. refl };
-      keeps = record {
-        ok = λ s t v w o. rw o.1 (record {
-          steady = same_steady steady_refl;
-          takes = rw (current_cells s) takes_none;
-          read = λ none. o.0;
-          rest = λ none. none;
-          all = λ u h. none_of_nobody (cells (with_current s None));
-        });
-        err = λ s t e w o v h. memory_class e.0 o.0;
-      };
-    },
-    record { own = λ k e. absurd cc },
-  )
+  pure_field_law = record {
+    by = (
+      record {
+        own = record { only_keys = λ k h. refl };
+        keeps = record {
+          ok = λ s t v w o. rw o.1 (record {
+            steady = same_steady steady_refl;
+            takes = rw (current_cells s) takes_none;
+            read = λ none. o.0;
+            rest = λ none. none;
+            all = λ u h. none_of_nobody (cells (with_current s None));
+          });
+          err = λ s t e w o v h. memory_class e.0 o.0;
+        };
+      },
+      record { own = λ k e. absurd cc },
+    );
+  }
 
 -- its value says what it is, whatever the pieces are
-pub pure_says : {T : Type 0} {names : List Names} (given : T → Type 0)
-    → Says names (pure_field given) (of_kind ByName) (λ os v. given v)
-pure_says given = record { by = (refl, λ os v all h. h) }
+pub pure_says : {T : Type 0} {names : List Names} {cells : CellsValue T} (given : T → Type 0)
+    → Says names (pure_field given) (of_kind ByName) false (λ os v. given v) cells
+pure_says given = record { by = (refl, refl, λ os v all h. h) }

@@ -5,13 +5,11 @@ pub mod Names
 pub mod Product
 pub mod Repeat
 pub mod Wrappers
-pub mod Choice
 pub mod Programs
 pub mod Commands
 pub mod ProgramForm
 pub mod OneView
 pub mod Surplus
-pub mod Fronts
 pub mod Says
 pub mod ProgramSays
 pub mod Leaves

@@ -1,24 +1,27 @@
--- Fields whose keys are apart have no item in common, and pieces that are shared out by roles are
--- shared out by names.
-use Rattle.std.proofs.Common.{Bool, List, [], append-nil, ap₂, bytes_eq, false, if◌then◌else◌, refl}
-use Rattle.std.proofs.Common.{ap, not, sym, true, true≢false, ◌&&◌, ◌++◌, ◌==◌, ◌||◌, ◌∙◌, ◌∷◌, ◌≡◌}
-use Rattle.std.proofs.Common.{⊎_elim}
-use Rattle.std.proofs.lemmas.Bool.{and_from, and_parts, both_ways, eqb-true, false_from_ne_true}
-use Rattle.std.proofs.lemmas.Bool.{not-true, or_cases, or_left, or_right}
-use Rattle.std.proofs.lemmas.Slice.Eq.{bytes_eq-Decides}
+-- Fields with keys apart have no item in common, pieces shared out by roles are so by names; and what
+-- a field takes of pieces, and leaves.
+use Rattle.std.proofs.Common.{if◌then◌else◌, append-nil, bytes_eq, ⊎_elim, length, arith, false, []}
+use Rattle.std.proofs.Common.{List, refl, true, ◌&&◌, ◌++◌, ◌==◌, ◌||◌, Bool, take, drop, ap₂, not}
+use Rattle.std.proofs.Common.{sym, ◌∙◌, ◌∷◌, ◌≡◌, ap}
+use Rattle.std.proofs.lemmas.Bool.{false_from_ne_true, and_parts, both_ways, and_from, eqb-true}
+use Rattle.std.proofs.lemmas.Bool.{not-true, or_cases, or_right, or_left}
+use Rattle.std.proofs.lemmas.List.{take-append-drop, append_assoc}
 use Rattle.std.proofs.{lemmas.List.Elements.filter-append, lemmas.List.Folds.list_any-append}
-use Rattle.std.specs.{List.list_all, List.list_any, Prelude.filter}
-use Rattle.bpaf_doc.specs.Names.{Names}
-use Rattle.bpaf_base.specs.declared.arg.Arg.TheVariants.{Long, PosWord, Short, Word}
-use Rattle.bpaf_base.specs.Items.{is_positional, is_text_among, is_among, is_key_of}
+use Rattle.std.proofs.{lemmas.Slice.Eq.bytes_eq-Decides, lemmas.List.Sums.take_while-cons}
+use Rattle.std.proofs.Math.Seq.{drop-append_seam}
+use Rattle.std.specs.{List.position_or_len, List.list_all, List.list_any, Prelude.filter}
+use Rattle.bpaf_base.specs.declared.arg.Arg.TheVariants.{PosWord, Short, Long, Word}
+use Rattle.bpaf_base.specs.Items.{is_positional, is_text_among, is_key_of, is_among}
 use Rattle.bpaf_base.specs.declared.arg.Arg.{Arg}
-use Rattle.bpaf_exact.specs.Pieces.{Apart, Cells, Cut, LinePiece, One, Role, Roles, Takes, argument}
-use Rattle.bpaf_exact.specs.Pieces.{Foreign, at_end, either, either_role, empty_stays, flag, is_key}
-use Rattle.bpaf_exact.specs.Pieces.{Two, is_own, is_own_role, no_cells, other_stays, others, passed}
-use Rattle.bpaf_exact.specs.Pieces.{are_all_apart, takes_argument, are_apart, is_key_of_any}
-use Rattle.bpaf_exact.specs.Pieces.{takes_flag, mine, word, Owns}
-use Rattle.bpaf_exact.specs.Says.{EachOwn, first_item, unkeyed, Fits, keyed}
-use Rattle.bpaf_exact.specs.{ProgramForm.may_follow, Flat.OneWord}
+use Rattle.bpaf_doc.specs.Names.{Names}
+use Rattle.bpaf_exact.specs.Pieces.{takes_argument, are_all_apart, is_key_of_any, either_role, Role}
+use Rattle.bpaf_exact.specs.Pieces.{is_key, is_own, others, passed, Apart, Cells, Roles, Takes, Cut}
+use Rattle.bpaf_exact.specs.Pieces.{LinePiece, argument, no_cells, Foreign, pieces, at_end, either}
+use Rattle.bpaf_exact.specs.Pieces.{empty_stays, is_own_role, other_stays, takes_flag, are_apart}
+use Rattle.bpaf_exact.specs.Says.{first_item, EachOwn, unkeyed, keyed, Fits}
+use Rattle.bpaf_exact.specs.Flat.{NoKeysLeft, FieldKind, is_behind, repeated, EachWord, OneWord}
+use Rattle.bpaf_exact.specs.Pieces.{flag, mine, word, Owns}
+use Rattle.bpaf_exact.specs.{Flat.ByName, Flat.front, Flat.back, ProgramForm.may_follow}
 
 -- where a test holds of each element of a list, and another of one, both hold of one
 pub both_hold : {X C : Type 0} (test pick : X → Bool)
@@ -54,8 +57,7 @@ one_list keys others k apart e f =
 
 -- what isn't the field's own
 pub foreign_of : (x : Role) → is_own_role x ≡ false → x ≡ Foreign
-foreign_of Foreign e = refl
-foreign_of _ e = cc
+foreign_of x e = grind arith
 
 -- keys that are apart keep the fields apart
 pub apart_of_names : {q r : Roles} {keys others : List Names} → Owns q keys → Owns r others
@@ -69,8 +71,7 @@ apart_of_names {q} {r} {keys} {others} a b h = record {
 
 -- an item of both is one of either
 either_own : (x y : Role) → is_own_role (either_role x y) ≡ (is_own_role x || is_own_role y)
-either_own Foreign y = refl
-either_own _ y = refl
+either_own x y = grind arith
 
 -- the keys of two fields together
 pub either_owns : {q r : Roles} {keys others : List Names} → Owns q keys → Owns r others
@@ -84,25 +85,16 @@ either_owns {q} {r} {keys} {others} a b = record {
 
 -- only keys have names
 pub named_key : (names : Names) (k : Arg) → is_key_of names k ≡ true → is_key k ≡ true
-named_key names (Short c attached whole) h = refl
-named_key names (Long name attached whole) h = refl
-named_key names _ h = absurd cc
+named_key names x h = grind arith
 
 -- two tests that hold of the same are one
 same_truth : (a b : Bool) → (a ≡ true → b ≡ true) → (b ≡ true → a ≡ true) → a ≡ b
-same_truth true b f g = sym (f refl)
-same_truth false true f g = g refl
-same_truth false false f g = refl
+same_truth b c f g = grind arith
 
 -- of two tests of which each holds where one of two others does, that don't both hold, each is that
 shared : (a b x y : Bool) → (a || b) ≡ (x || y) → (a ≡ true → x ≡ true) → (b ≡ true → y ≡ true)
     → (x ≡ true → y ≡ true → ⊥) → (a ≡ x) × (b ≡ y)
-shared true b x y e f g never =
-    let h = f refl in (sym h, same_truth b y g (λ t. absurd (never h t)))
-shared false true x y e f g never =
-    let h = g refl in (same_truth false x f (λ t. absurd (never t h)), sym h)
-shared false false true y e f g never = absurd cc
-shared false false false y e f g never = (refl, e)
+shared b c x y e f g never = grind (arith, same_truth)
 
 -- Filters.
 
@@ -110,25 +102,18 @@ shared false false false y e f g never = (refl, e)
 kept_twice : (p q both : LinePiece → Bool) → ((o : LinePiece) → both o ≡ (q o && p o))
     → (os : List LinePiece) → filter p (filter q os) ≡ filter both os
 kept_twice p q both same [] = refl
-kept_twice p q both same (o ∷ os) = by_test (q o) (same o) (kept_twice p q both same os)
-  where
-    by_test : (b : Bool) → both o ≡ (b && p o) → filter p (filter q os) ≡ filter both os
-        → filter p (if b then (o ∷ filter q os) else filter q os) ≡ filter both (o ∷ os)
-    by_test true e h = ap₂ (λ c z. if c then (o ∷ z) else z) (sym e) h
-    by_test false e h = h ∙ sym (ap (λ c. if c then (o ∷ filter both os) else filter both os) e)
+kept_twice p q both same (o ∷ os) = grind (arith, kept_twice p q both same os)
 
 -- what both keep is what one does that never holds without the other
 kept_within : {p q : LinePiece → Bool} → ((o : LinePiece) → p o ≡ true → q o ≡ true)
     → (os : List LinePiece) → filter p (filter q os) ≡ filter p os
-kept_within {p} {q} part = kept_twice p q p (λ o. same_truth (p o) (q o && p o)
-    (λ e. and_from (q o) (p o) (part o e) e) (λ e. (and_parts (q o) (p o) e).1))
+kept_within part = grind (arith, and_from, and_parts, kept_twice, same_truth)
 
 -- where a test never holds nothing is kept
 kept_none : {p : LinePiece → Bool} → ((o : LinePiece) → p o ≡ false) → (os : List LinePiece)
     → filter p os ≡ []
 kept_none none [] = refl
-kept_none {p} none (o ∷ os) =
-    ap (λ c. if c then (o ∷ filter p os) else filter p os) (none o) ∙ kept_none none os
+kept_none {p} none (o ∷ os) = grind (arith, kept_none none os)
 
 -- so it is where it never holds of what another kept
 kept_neither : {p q : LinePiece → Bool} → ((o : LinePiece) → q o ≡ true → p o ≡ false)
@@ -148,17 +133,14 @@ no_key names _ h = absurd cc
 
 -- a piece is one's own by its first item
 own_first : (r : Roles) (o : LinePiece) → is_own r o ≡ is_own_role (r (first_item o))
-own_first r (One k) = refl
-own_first r (Two k w) = refl
+own_first r x = grind arith
 
 module _ (r : Roles) (names : List Names) where
-  -- where the own pieces are those that begin with a key of one's names, a test keeps the same of
-  -- the one as of the other
+  -- where own pieces are those that begin with a key of one's names, a test keeps the same of both
   fits_kept : (f : Bool → Bool) (os : List LinePiece) → Fits names r os
       → filter (λ o. f (is_own r o)) os ≡ filter (λ o. f (is_key_of_any names (first_item o))) os
   fits_kept f [] fits = refl
-  fits_kept f (o ∷ os) fits =
-      ap₂ (λ b z. if b then (o ∷ z) else z) (ap f fits.0) (fits_kept f os fits.1)
+  fits_kept f (o ∷ os) fits = grind (arith, fits_kept f os fits.1)
 
   -- so they are those,
   pub mine_keyed : (os : List LinePiece) → Fits names r os → mine r os ≡ keyed names os
@@ -183,42 +165,27 @@ module _ (r : Roles) (names : List Names) where
     cut_fit at_end = tt
     cut_fit (passed c) = cut_fit c
     cut_fit (flag {k} e c) = let own = ap is_own_role e in (own ∙ sym (owned.own k own), cut_fit c)
-    cut_fit (argument {k} e v c) =
-        let own = ap is_own_role e in (own ∙ sym (owned.own k own), cut_fit c)
-    cut_fit (word {w} h c) =
-        let none = no_key names w h in (
-          false_from_ne_true (is_own_role (r w)) (λ e. true≢false (sym (owned.own w e) ∙ none))
-              ∙ sym none,
-          cut_fit c,
-        )
+    cut_fit (argument {k} e v c) = grind (arith, cut_fit c)
+    cut_fit (word {w} h c) = grind (arith, false_from_ne_true, no_key, cut_fit c)
 
 -- of two whose names are apart, each has the pieces that begin with its own
 module _ {q r : Roles} {own behind : List Names} (owned : Owns q own) (owned_behind : Owns r behind)
     (apart : are_all_apart own behind ≡ true) where
   -- one of both is one of either
   either_is : (o : LinePiece) → is_own (either q r) o ≡ (is_own q o || is_own r o)
-  either_is (One k) = either_own (q k) (r k)
-  either_is (Two k w) = either_own (q k) (r k)
+  either_is x = grind (arith, either_own)
 
   -- each has its own
   pub both_fits : (os : List LinePiece) → Fits (own ++ behind) (either q r) os
       → Fits own q os × Fits behind r os
   both_fits [] fits = (tt, tt)
   both_fits (o ∷ os) fits =
-      let rest = both_fits os fits.1 in
-      let k = first_item o in
-      let here = shared (is_own q o) (is_own r o) (is_key_of_any own k) (is_key_of_any behind k)
-      (sym (either_is o) ∙ fits.0 ∙ list_any-append (λ names. is_key_of names k) own behind)
-      (own_keyed q own owned o) (own_keyed r behind owned_behind o) (one_list own behind k apart) in
-      ((here.0, rest.0), (here.1, rest.1))
+      grind (arith, either_is, list_any-append, one_list, shared, both_fits os fits.1)
 
 -- the own ones of pieces are all one's own
 pub each_own : (q : Roles) (os : List LinePiece) → EachOwn q (mine q os)
 each_own q [] = tt
-each_own q (o ∷ os) =
-    elim (is_own q o) as (λ b. is_own q o ≡ b → EachOwn q (mine q os)
-    → EachOwn q (if b then (o ∷ mine q os) else mine q os))
-    [ true ↦ λ e all. (e, all) | false ↦ λ e all. all ] refl (each_own q os)
+each_own q (o ∷ os) = grind (arith, each_own q os)
 
 -- so are those taken from cells
 pub taken_own : {q : Roles} {cs ds : Cells} {os : List LinePiece} → Takes q cs os ds → EachOwn q os
@@ -231,28 +198,40 @@ taken_own (takes_argument e v t) = (ap is_own_role e, taken_own t)
 -- where each own item of the one is one of the other, its pieces are among the other's
 pub mine_within : (q r : Roles) → ((k : Arg) → is_own_role (q k) ≡ true → is_own_role (r k) ≡ true)
     → (os : List LinePiece) → mine q (mine r os) ≡ mine q os
-mine_within q r part =
-    kept_within (λ o e. own_first r o ∙ part (first_item o) (sym (own_first q o) ∙ e))
+mine_within q r part = grind (arith, kept_within, own_first)
 
 -- an own item of the first is one of either, and so is one of the second
 pub first_within : (q r : Roles) (k : Arg) → is_own_role (q k) ≡ true
     → is_own_role (either q r k) ≡ true
-first_within q r k =
-    elim (q k) as (λ x. is_own_role x ≡ true → is_own_role (either_role x (r k)) ≡ true)
-    [ Foreign ↦ λ e. absurd cc | _ ↦ λ e. refl ]
+first_within q r k = grind arith
 
 -- the second
 pub second_within : (q r : Roles) (k : Arg) → is_own_role (r k) ≡ true
     → is_own_role (either q r k) ≡ true
-second_within q r k =
-    elim (q k) as (λ x. is_own_role (r k) ≡ true → is_own_role (either_role x (r k)) ≡ true)
-    [ Foreign ↦ λ e. e | _ ↦ λ e. refl ]
+second_within q r k = grind arith
+
+-- what has no role to two has none to each
+none_of_both : (x : Role) {y : Role} → either_role x y ≡ Foreign → (x ≡ Foreign) × (y ≡ Foreign)
+none_of_both x e = grind arith
+
+-- what is apart from two is apart from each
+pub apart_first : {p q : Roles} (r : Roles) → Apart p (either q r) → Apart p q
+apart_first {q} r a = record {
+  left = λ k own. (none_of_both (q k) (a.left k own)).0;
+  right = λ k own. a.right k (first_within q r k own);
+}
+
+-- and from the other
+pub apart_second : {p : Roles} (q : Roles) {r : Roles} → Apart p (either q r) → Apart p r
+apart_second q {r} a = record {
+  left = λ k own. (none_of_both (q k) (a.left k own)).1;
+  right = λ k own. a.right k (second_within q r k own);
+}
 
 -- what is another's own isn't among one's own
 pub mine_of_others : (p q : Roles) → ((k : Arg) → is_own_role (q k) ≡ true → p k ≡ Foreign)
     → (os : List LinePiece) → mine q (others p os) ≡ mine q os
-mine_of_others p q apart = kept_within (λ o e. ap not (own_first p o ∙ ap is_own_role
-    (apart (first_item o) (sym (own_first q o) ∙ e))))
+mine_of_others p q apart = grind (arith, kept_within, own_first)
 
 module _ (q : Roles) (none : (k : Arg) → is_own_role (q k) ≡ false) where
   -- where no item is one's own, no piece is,
@@ -262,47 +241,28 @@ module _ (q : Roles) (none : (k : Arg) → is_own_role (q k) ≡ false) where
   -- and each is another's
   pub others_none : (os : List LinePiece) → others q os ≡ os
   others_none [] = refl
-  others_none (o ∷ os) =
-      ap (λ c. if not c then (o ∷ others q os) else others q os)
-      (own_first q o ∙ none (first_item o)) ∙ ap (λ z. o ∷ z) (others_none os)
+  others_none (o ∷ os) = grind (arith, own_first, others_none os)
 
 -- where no piece is another's, each is one's own
 pub all_mine : (q : Roles) (os : List LinePiece) → others q os ≡ [] → mine q os ≡ os
 all_mine q [] e = refl
-all_mine q (o ∷ os) e =
-    elim (is_own q o) as (λ b. (if not b then (o ∷ others q os) else others q os) ≡ []
-    → (others q os ≡ [] → mine q os ≡ os) → (if b then (o ∷ mine q os) else mine q os) ≡ o ∷ os)
-    [ true ↦ λ f h. ap (λ z. o ∷ z) (h f) | false ↦ λ f h. cc ] e (all_mine q os)
+all_mine q (o ∷ os) e = grind (arith, all_mine q os)
 
 -- what is neither's is no piece of both
 pub others_both : (q r : Roles) (os : List LinePiece)
     → others r (others q os) ≡ others (either q r) os
-others_both q r = kept_twice (λ o. not (is_own r o)) (λ o. not (is_own q o))
-    (λ o. not (is_own (either q r) o)) by_piece
-  where
-    by_roles : (x y : Role)
-        → not (is_own_role (either_role x y)) ≡ (not (is_own_role x) && not (is_own_role y))
-    by_roles Foreign y = refl
-    by_roles _ y = refl
-
-    by_piece : (o : LinePiece)
-        → not (is_own (either q r) o) ≡ (not (is_own q o) && not (is_own r o))
-    by_piece (One k) = by_roles (q k) (r k)
-    by_piece (Two k w) = by_roles (q k) (r k)
+others_both q r = grind (arith, kept_twice)
 
 -- behind a positional field no item is another field's own
 pub none_behind : {r : Roles} (own behind : List Names) → Owns r behind
     → may_follow (OneWord false) own behind ≡ true → (k : Arg) → is_own_role (r k) ≡ false
-none_behind {r} own [] owned e k =
-    false_from_ne_true (is_own_role (r k)) (λ own. let none = owned.own k own in cc)
-none_behind own (names ∷ behind) owned e k = absurd cc
+none_behind own xs owned e k = grind (arith, false_from_ne_true)
 
 -- behind a positional field nothing begins with another's key
 pub no_fits : (r : Roles) (own behind : List Names) → may_follow (OneWord false) own behind ≡ true
     → ((k : Arg) → is_own_role (r k) ≡ false) → (os : List LinePiece) → Fits behind r os
 no_fits r own [] may none [] = tt
-no_fits r own [] may none (o ∷ os) =
-    (own_first r o ∙ none (first_item o), no_fits r own [] may none os)
+no_fits r own [] may none (o ∷ os) = grind (arith, own_first, no_fits r own [] may none os)
 no_fits r own (names ∷ behind) may none os = absurd cc
 
 -- all names are apart from none
@@ -310,8 +270,7 @@ pub apart_none : (names : List Names) → are_all_apart names [] ≡ true
 apart_none [] = refl
 apart_none (own ∷ names) = apart_none names
 
--- Of a product with words, which stands last in another: the pieces that begin with its keys, and
--- the words that are left to it.
+-- Of a product with words, which stands last in another: its keys' pieces, and words left to it.
 
 -- what is left of pieces without those of others fits as they do
 pub others_fit : (q r : Roles) (names : List Names) (os : List LinePiece) → Fits names r os
@@ -326,11 +285,7 @@ pub rest_fit : (r : Roles) (names : List Names) (whole os : List LinePiece) → 
     → Fits names r os → Fits names r (keyed names whole ++ others r os)
 rest_fit r names [] os fits fit = others_fit r r names os fit
 rest_fit r names (o ∷ whole) os fits fit =
-    elim (is_key_of_any names (first_item o)) as (λ b. Fits names r
-    ((if b then (o ∷ keyed names whole) else keyed names whole) ++ others r os)) [
-      | true ↦ (fits.0, rest_fit r names whole os fits.1 fit)
-      | false ↦ rest_fit r names whole os fits.1 fit
-    ]
+    grind (arith, rest_fit r names whole os fits.1 fit, rest_fit r names whole os fits.1 fit)
 
 -- its own are those of the whole line
 pub mine_rest : (r : Roles) (names : List Names) (whole os : List LinePiece) → Fits names r whole
@@ -344,6 +299,100 @@ mine_rest r names whole os fits =
 pub others_rest : (r : Roles) (names : List Names) (whole os : List LinePiece) → Fits names r whole
     → others r (keyed names whole ++ others r os) ≡ others r os
 others_rest r names whole os fits =
-    filter-append (λ o. not (is_own r o)) (keyed names whole) (others r os)
-    ∙ ap₂ ◌++◌ (ap (others r) (sym (mine_keyed r names whole fits))
-    ∙ kept_neither (λ o. ap not) whole) (kept_within (λ o e. e) os)
+    grind (arith, filter-append, kept_neither, kept_within, mine_keyed)
+
+-- What a field takes of pieces, and what it leaves.
+
+-- a list that something stands in isn't empty
+pub never_nil : {T : Type 0} (before : List T) (x : T) (behind : List T)
+    → before ++ x ∷ behind ≡ [] → ⊥
+never_nil [] x behind e = cc
+never_nil (y ∷ before) x behind e = cc
+
+-- what stands behind the first pieces
+behind_first : {os : List LinePiece} (first behind : List LinePiece) → first ++ behind ≡ os
+    → first ++ drop (length first) os ≡ os
+behind_first first behind e = rw (← e) (ap (λ z. first ++ z) (drop-append_seam first behind))
+
+-- what a repeat takes and what it leaves are all
+each_back : (b : Bool) {os : List LinePiece} → front (EachWord b) os ++ back (EachWord b) os ≡ os
+each_back false {os} = behind_first os [] (append-nil os)
+each_back true {os} =
+    let n = position_or_len is_behind os in
+    behind_first (take n os) (drop n os) (take-append-drop n os)
+
+-- so it is with any field
+front_back : (k : FieldKind) {os : List LinePiece} → front k os ++ back k os ≡ os
+front_back ByName {os} = append-nil os
+front_back (EachWord b) = each_back b
+front_back (OneWord b) {os} =
+    let words = front (EachWord b) os in
+    let rest = back (EachWord b) os in
+    behind_first (take 1 words) (drop 1 words ++ rest)
+    (sym (append_assoc (take 1 words) (drop 1 words) rest)
+    ∙ (ap (λ z. z ++ rest) (take-append-drop 1 words) ∙ each_back b))
+
+-- of nothing it takes nothing
+pub front_nil : (k : FieldKind) → front k [] ≡ []
+front_nil x = grind arith
+
+-- where a field takes none it leaves all
+pub back_all : (k : FieldKind) {os : List LinePiece} → front k os ≡ [] → back k os ≡ os
+back_all x none = grind arith
+
+-- where a field leaves none it takes all
+pub all_front : (k : FieldKind) {os : List LinePiece} → back k os ≡ [] → front k os ≡ os
+all_front k {os} none =
+    sym (append-nil (front k os)) ∙ (ap (λ z. front k os ++ z) (sym none) ∙ front_back k)
+
+-- where a field takes none, nor does a repeat of it
+pub each_nil : (k : FieldKind) (os : List LinePiece) → front k os ≡ [] → front (repeated k) os ≡ []
+each_nil (OneWord b) os none = grind arith
+each_nil _ os none = none
+
+-- and the other way
+pub nil_each : (k : FieldKind) (os : List LinePiece) → front (repeated k) os ≡ [] → front k os ≡ []
+nil_each x os none = grind arith
+
+-- where nothing but what a field leaves is left, none of a named field's keys is
+pub no_keys_left : (k : FieldKind) (q : Roles) (cs : Cells) (os : List LinePiece)
+    → pieces q cs ≡ back k os → NoKeysLeft k q cs
+no_keys_left x q cs os e = grind arith
+
+-- what a repeat takes, by whether it stops at the first piece
+pub each_front : (b : Bool) (o : LinePiece) (os : List LinePiece) → front (EachWord b) (o ∷ os)
+    ≡ (if not (b && is_behind o) then (o ∷ front (EachWord b) os) else [])
+each_front b o os = grind (arith, take_while-cons)
+
+-- A first piece that a field may take: any, where it doesn't stop before one behind `--`.
+
+-- a repeat takes it, and what it takes of the others
+pub front_more : {b : Bool} {o : LinePiece} (os : List LinePiece) → (b ≡ true → is_behind o ≡ false)
+    → front (EachWord b) (o ∷ os) ≡ o ∷ front (EachWord b) os
+front_more os clear = grind (arith, each_front)
+
+-- and leaves what it leaves of those
+pub back_more : {b : Bool} (o : LinePiece) (os : List LinePiece) → (b ≡ true → is_behind o ≡ false)
+    → back (EachWord b) (o ∷ os) ≡ back (EachWord b) os
+back_more o os clear = ap (λ z. drop (length z) (o ∷ os)) (front_more os clear)
+
+-- a field without one takes it
+pub front_one : (b : Bool) (o : LinePiece) (os : List LinePiece) → (b ≡ true → is_behind o ≡ false)
+    → front (OneWord b) (o ∷ os) ≡ o ∷ []
+front_one b o os clear = ap (take 1) (front_more os clear)
+
+-- and leaves the others
+pub back_one : (b : Bool) (o : LinePiece) {os : List LinePiece} → (b ≡ true → is_behind o ≡ false)
+    → back (OneWord b) (o ∷ os) ≡ os
+back_one b o {os} clear = ap (λ z. drop (length z) (o ∷ os)) (front_one b o os clear)
+
+-- what a field takes is the first piece
+pub of_front_one : (b : Bool) (os : List LinePiece) (o : LinePiece) → front (OneWord b) os ≡ o ∷ []
+    → os ≡ o ∷ back (OneWord b) os
+of_front_one b os o e = sym (front_back (OneWord b)) ∙ ap (λ z. z ++ back (OneWord b) os) e
+
+-- what a repeat takes begins with the first piece, and goes on with what it takes of the others
+pub of_front_more : (b : Bool) (os : List LinePiece) (o : LinePiece) {rest : List LinePiece}
+    → front (EachWord b) os ≡ o ∷ rest
+    → (more : List LinePiece) × (os ≡ o ∷ more) × (rest ≡ front (EachWord b) more)
+of_front_more b xs o e = grind (arith, each_front, front_nil)

@@ -1,42 +1,34 @@
--- Where closures can't tell apart what looks alike, the premise of exactness holds, and all values
--- of a line look alike.
-use Rattle.std.proofs.Common.{Bool, List, None, Some, [], false, map, true, ℕ, ◌&&◌, ◌||◌, ◌∷◌, ◌≡◌}
-use Rattle.std.proofs.Common.{Option, ap, inl, inr, not, refl, subst, sym, ◌∙◌}
-use Rattle.std.specs.{Global.Vec, Option.IsSomeRelated, Option.is_none, Prelude.option_map}
-use Rattle.bpaf_doc.specs.Names.{Names}
+-- Where closures can't tell apart what looks alike they agree, and a line's values look alike.
+use Rattle.std.proofs.Common.{Option, arith, false, subst, Bool, List, None, Some, true, ◌&&◌, ◌||◌}
+use Rattle.std.proofs.Common.{refl, map, ◌∷◌, ◌≡◌, not, sym, ◌∙◌, [], ap, ℕ}
+use Rattle.std.specs.{Option.IsSomeRelated, Prelude.option_map, Global.Vec}
 use Rattle.bpaf_base.specs.Items.{item_text}
-use Rattle.bpaf_line.specs.Situation.{Context}
+use Rattle.bpaf_doc.specs.Names.{Names}
 use Rattle.bpaf_text.specs.{Named.KeyWithValue, Named.Named as Key, Meaning.SpellsUnsigned}
+use Rattle.bpaf_line.specs.Situation.{Context}
 use Rattle.bpaf_laws.specs.{Reading.first_set, Reading.Outcome, Combinators.is_nil}
-use Rattle.bpaf_exact.proofs.Cuts.{one_take, one_cut, read_cut}
-use Rattle.bpaf_exact.proofs.ProgramForm.{runs_exactly, record_law, whole_law}
-use Rattle.bpaf_exact.proofs.Wrappers.{alternative_single}
-use Rattle.bpaf_exact.proofs.{Commands.none_opens, Leaves.last_same, Repeat.own_nil}
-use Rattle.bpaf_exact.specs.ProgramForm.{ArgumentValue, FlagValue, WordValue, argument_field}
-use Rattle.bpaf_exact.specs.ProgramForm.{flag_field, argument_group, argument_roles, flag_roles}
-use Rattle.bpaf_exact.specs.ProgramForm.{key_field, word_by, ProgramForm, alternative}
-use Rattle.bpaf_exact.specs.ProgramForm.{before_commands, product, single, FormLaw, commands}
-use Rattle.bpaf_exact.specs.ProgramForm.{complete, program_closed, program_field, completed}
-use Rattle.bpaf_exact.specs.ProgramForm.{is_record, may_follow, program_both, program_if}
-use Rattle.bpaf_exact.specs.ProgramForm.{product_reading, program_alone, program_con, whole_program}
-use Rattle.bpaf_exact.specs.ProgramForm.{program_optional, program_value, whole_value, Accepted}
-use Rattle.bpaf_exact.specs.ProgramForm.{NoMemory, RecordValue, Refusal, RunAnswer, line_cells}
-use Rattle.bpaf_exact.specs.ProgramForm.{IsExact, OptionalCommands, Agrees}
-use Rattle.bpaf_exact.specs.Says.{Alike, HasOneView, LooksLike, OneGroup, RunsToOne, pair_view}
-use Rattle.bpaf_exact.specs.Says.{Respects}
-use Rattle.bpaf_exact.specs.Pieces.{Cells, IsNamed, LinePiece, One, Roles, Two, are_all_apart}
-use Rattle.bpaf_exact.specs.Flat.{FrontOf, Gap, Groups, OwnList, SingleLaw, SingleValue, own_none}
-use Rattle.bpaf_exact.specs.Flat.{Own, listed, listed_and_absent, only_absent, own_more, repeated}
-use Rattle.bpaf_exact.specs.Flat.{ClosedValue, Closure, FallbackValue, OptionalValue, FieldKind}
-use Rattle.bpaf_exact.specs.Flat.{FieldsLaw, FieldsReading, ByName, ReadOff, Variables}
-use Rattle.bpaf_exact.specs.Flat.{list_closure, AgreesOn, Decides}
+use Rattle.bpaf_exact.proofs.{ProgramForm.runs_as_program, ProgramForm.whole_law, Leaves.last_same}
+use Rattle.bpaf_exact.proofs.{Cuts.one_take, Cuts.one_cut, Wrappers.alternative_single}
+use Rattle.bpaf_exact.proofs.{Commands.none_opens, Repeat.own_nil}
+use Rattle.bpaf_exact.specs.ProgramForm.{argument_field, argument_group, argument_roles, flag_field}
+use Rattle.bpaf_exact.specs.ProgramForm.{program_closed, ArgumentValue, program_field, program_both}
+use Rattle.bpaf_exact.specs.ProgramForm.{alternative, program_con, whole_value, is_program, word_by}
+use Rattle.bpaf_exact.specs.ProgramForm.{program_alone, whole_program, program_value, ProgramForm}
+use Rattle.bpaf_exact.specs.ProgramForm.{program_if, FlagValue, WordValue, key_field, completed}
+use Rattle.bpaf_exact.specs.ProgramForm.{commands, complete, product, FormLaw, single, Agrees}
+use Rattle.bpaf_exact.specs.ProgramForm.{program_optional, OptionalCommands, before_commands}
+use Rattle.bpaf_exact.specs.Says.{HasOneView, RunsToOne, pair_view, OneGroup, Respects, Alike}
+use Rattle.bpaf_exact.specs.Pieces.{LinePiece, Cells, Roles, One, Two}
+use Rattle.bpaf_exact.specs.Flat.{SingleValue, only_absent, ClosedValue, SingleLaw, FieldKind, Gap}
+use Rattle.bpaf_exact.specs.Flat.{Variables, own_none, own_more, repeated, AgreesOn, FrontOf, Own}
+use Rattle.bpaf_exact.specs.Flat.{listed_and_absent, FallbackValue, OptionalValue, list_closure}
+use Rattle.bpaf_exact.specs.Flat.{OwnList, Closure, Decides, Groups, listed, ByName}
 
 -- Closures.
 
 module _ (A B X Y : Type 0) (see : A → X) (look : B → Y) (f : Closure A B)
     (respects : Respects A B X Y see look f) where
-  -- What a closure that can't tell apart what looks alike makes of such values looks alike again:
-  -- of the same pieces or cells,
+  -- What such a closure makes of values that look alike looks alike: of the same pieces or cells,
   made_view : {Z : Type 0} (value : Z → A → Type 0) → ((z : Z) → Alike see (value z)) → (z : Z)
       → Alike look (ClosedValue value f z)
   made_view value u z v w a b =
@@ -65,54 +57,43 @@ module _ (A B X Y : Type 0) (see : A → X) (look : B → Y) (f : Closure A B)
 -- the values of the first piece look alike
 front_view : {T X : Type 0} {see : T → X} (value : LinePiece → T → Type 0)
     → ((o : LinePiece) → Alike see (value o)) → OneGroup see (FrontOf T value)
-front_view value u os rest others v w a b =
-    let c : a.0 ∷ rest ≡ b.0 ∷ others = sym a.1 ∙ b.1 in
-    let d : a.0 ≡ b.0 = cc in
-    (u b.0 v w (rw (← d) a.2) b.2, cc)
+front_view value u os rest others v w a b = grind arith
 
 -- a present value
 flag_piece : {T X : Type 0} {see : T → X} {present : T → Type 0} → Alike see present
     → (o : LinePiece) → Alike see (FlagValue present o)
-flag_piece u (One k) v w a b = u v w a b
-flag_piece u (Two k x) v w a b = absurd a
+flag_piece u x v w a b = grind arith
 
 -- a key, where its pieces, its groups and what stands for none look alike
 key_view : {T X : Type 0} {see : T → X} (wide may_choose : Bool) (q : Roles)
     {each : LinePiece → T → Type 0} {group : Groups T} (gap : Gap T)
     → ((o : LinePiece) → Alike see (each o)) → OneGroup see group → Alike see gap.absent
     → HasOneView see (key_field wide may_choose q each group gap)
-key_view wide true q gap piece groups none = piece
-key_view wide false q gap piece groups none = (groups, none)
+key_view wide b q gap piece groups none = grind arith
 
 -- what something means, where it is there
 meant_view : {Y T X : Type 0} {see : T → X} {means : Y → T → Type 0}
     → ((y : Y) → Alike see (means y)) → (kept : Option Y) → Alike see (IsSomeRelated means kept)
-meant_view u None v w a b = absurd a
-meant_view u (Some y) v w a b = u y v w a b
+meant_view u x v w a b = grind arith
 
 -- a flag, whose clones look alike
 pub flag_view : (T X : Type 0) (see : T → X) (clones : T → T → Type 0)
     → ((kept : T) → Alike see (clones kept)) → (key : Key) (present : T) (absent : Option T)
     (variables : Variables) → HasOneView see (flag_field clones key present absent variables)
-flag_view T X see clones u key present absent variables =
-    key_view (not (is_nil key.envs)) (is_nil key.envs && is_none absent) (flag_roles key.names) _
-    (flag_piece (u present)) (front_view _ (flag_piece (u present))) (meant_view u _)
+flag_view x y see clones u key present absent variables =
+    grind (arith, flag_piece, front_view, key_view, meant_view)
 
 -- a key and its value
 argument_piece : {T X : Type 0} {see : T → X} {means : List ℕ → T → Type 0}
     → ((text : List ℕ) → Alike see (means text)) → (o : LinePiece)
     → Alike see (ArgumentValue means o)
-argument_piece u (One k) v w a b = absurd a
-argument_piece u (Two k x) v w a b = u (item_text x) v w a b
+argument_piece u x v w a b = grind arith
 
 -- the pieces of one evaluation
 argument_group_view : {T X : Type 0} {see : T → X} {means : List ℕ → T → Type 0}
     → ((text : List ℕ) → Alike see (means text)) → (last : Bool)
     → OneGroup see (argument_group means last)
-argument_group_view u false = front_view _ (argument_piece u)
-argument_group_view u true = λ os rest others v w a b.
-    let same : Two a.1.0 a.1.1 ≡ Two b.1.0 b.1.1 = last_same _ _ (sym a.2 ∙ b.2) in
-    let word : a.1.1 ≡ b.1.1 = cc in (u (item_text b.1.1) v w (rw (← word) a.3) b.3, a.4 ∙ sym b.4)
+argument_group_view u b = grind (arith, argument_piece, front_view, last_same)
 
 -- an argument, where what a text means looks alike
 pub argument_view : (T X : Type 0) (see : T → X) (means : List ℕ → T → Type 0)
@@ -139,8 +120,7 @@ word_view T X see accepts means u = (front_view _ (word_piece accepts u), λ v w
 -- where a test holds
 if_view : {T X : Type 0} (see : T → X) (s : ProgramForm T) (b : Bool) → HasOneView see s
     → HasOneView see (program_if b s)
-if_view see s true u = u
-if_view see s false u = tt
+if_view see s b u = grind arith
 
 -- Fields without a repeat or default, and what is made of them.
 
@@ -178,96 +158,77 @@ module _ {env : Variables} {T X : Type 0} {see : T → X} {inner : Outcome T} (k
 
   -- the value of a single field
   pub value_view : (os : List LinePiece) → Alike see (SingleValue T group gap os)
-  value_view os v w (inl g) (inl h) = (one os [] [] v w g h).0
-  value_view os v w (inl g) (inr e) = absurd (l.starts v [] (subst (λ z. group z v []) e.0 g))
-  value_view os v w (inr e) (inl h) = absurd (l.starts w [] (subst (λ z. group z w []) e.0 h))
-  value_view os v w (inr e) (inr f) = absent v w e.1 f.1
+  value_view os v w x y = grind arith
 
   -- where there is no piece there is none
   none_single : {os : List LinePiece} {v : T} → os ≡ [] → gap.has ≡ false
       → SingleValue T group gap os v → ⊥
-  none_single {v} e h (inl g) = l.starts v [] (subst (λ z. group z v []) e g)
-  none_single {v} e h (inr f) = l.no_absent v h f.1
+  none_single e h x = grind arith
 
   -- what may be left out
   pub optional_value_view : (os : List LinePiece)
       → Alike (option_map see) (OptionalValue T group gap os)
-  optional_value_view os (Some x) (Some y) g h = ap Some (value_view os x y g h)
-  optional_value_view os (Some x) None g n = absurd (none_single n.0 n.1 g)
-  optional_value_view os None (Some y) n g = absurd (none_single n.0 n.1 g)
-  optional_value_view os None None n m = refl
+  optional_value_view os x y g h = grind (arith, none_single, value_view)
 
   -- what has a default
   pub fallback_value_view : (f : Closure (Unit {0}) T) → Alike see (λ v. f.yes tt v)
       → (os : List LinePiece) → Alike see (FallbackValue T group gap f os)
-  fallback_value_view f given os v w (inl g) (inl h) = value_view os v w g h
-  fallback_value_view f given os v w (inl g) (inr e) = absurd (none_single e.0 e.1 g)
-  fallback_value_view f given os v w (inr e) (inl g) = absurd (none_single e.0 e.1 g)
-  fallback_value_view f given os v w (inr e) (inr d) = given v w e.2 d.2
+  fallback_value_view f given os v w x y = grind (arith, none_single, value_view)
 
-module _ (env : Variables) (T X : Type 0) (see : T → X) (inner : Outcome T) where
+module _ {env : Variables} {T X : Type 0} {inner : Outcome T} {names : List Names}
+    {words : List (List ℕ)} (see : T → X) where
   -- a repeat or default round a field, all values of which look alike
-  whole_view : {B Y : Type 0} {look : B → Y} (kind : FieldKind → FieldKind)
+  whole_view : {B Y : Type 0} {s : ProgramForm T} (look : B → Y) (kind : FieldKind → FieldKind)
       (value : Groups T → Gap T → List LinePiece → B → Type 0)
       → ((k : FieldKind) (q : Roles) (group : Groups T) (gap : Gap T) → SingleLaw env T inner k q
       group gap → OneGroup see group → Alike see gap.absent → (os : List LinePiece)
-      → Alike look (value group gap os)) → (names : List Names) (words : List (List ℕ))
-      (s : ProgramForm T) → FormLaw env inner names words s → HasOneView see s
+      → Alike look (value group gap os)) → FormLaw env inner names words s → HasOneView see s
       → HasOneView look (completed kind value s)
-  whole_view kind value each names words (alternative wide q one) l u =
-      each ByName q _ _ (alternative_single l.0) (front_view one u) (λ v w a b. absurd a)
-  whole_view kind value each names words (single wide k q group gap) l u =
-      each k q group gap l.0 u.0 u.1
-  whole_view kind value each names words _ l u = tt
+  whole_view {s = alternative wide q one} look kind value each l u =
+      each ByName q _ _ (alternative_single l.by.0) (front_view one u) (λ v w a b. absurd a)
+  whole_view {s = single wide k q group gap} look kind value each l u =
+      each k q group gap l.by.0 u.0 u.1
+  whole_view look kind value each l u = tt
 
   -- what may be left out
-  pub optional_field_view : (names : List Names) (words : List (List ℕ)) (s : ProgramForm T)
-      → FormLaw env inner names words s → HasOneView see s
-      → HasOneView (option_map see) (program_optional s)
-  optional_field_view names words (commands false value) l u = by_value
+  pub optional_field_view : {s : ProgramForm T} → FormLaw env inner names words s
+      → HasOneView see s → HasOneView (option_map see) (program_optional s)
+  optional_field_view {s = commands false value} l u = by_value
     where
       by_value : (cs : Cells) → Alike (option_map see) (OptionalCommands T value cs)
       by_value cs (Some x) (Some y) a b = ap Some (u cs x y a b)
       by_value cs None None a b = refl
-      by_value cs (Some x) None a none = absurd (none_opens none _ (l.commands.opened cs x a).1)
-      by_value cs None (Some y) none b = absurd (none_opens none _ (l.commands.opened cs y b).1)
-  optional_field_view names words s l u =
-      whole_view (λ k. k) (OptionalValue T) optional_value_view names words s l u
+      by_value cs (Some x) None a none = grind (arith, none_opens)
+      by_value cs None (Some y) none b = grind (arith, none_opens)
+  optional_field_view l u = grind (arith, optional_value_view, whole_view)
 
   -- a field with a default
-  pub fallback_view : (f : Closure (Unit {0}) T) → Alike see (λ v. f.yes tt v)
-      → (names : List Names) (words : List (List ℕ)) (s : ProgramForm T)
+  pub fallback_view : {s : ProgramForm T} (f : Closure (Unit {0}) T) → Alike see (λ v. f.yes tt v)
       → FormLaw env inner names words s → HasOneView see s
       → HasOneView see (completed (λ k. k) (λ group gap. FallbackValue T group gap f) s)
-  fallback_view f given =
-      whole_view (λ k. k) (λ group gap. FallbackValue T group gap f)
-      (λ k q group gap l one absent. fallback_value_view k q group gap l one absent f given)
+  fallback_view f given = grind (arith, fallback_value_view, whole_view)
 
   -- any field of a record
-  pub field_view : (names : List Names) (words : List (List ℕ)) (s : ProgramForm T)
-      → FormLaw env inner names words s → HasOneView see s → HasOneView see (program_field s)
-  field_view names words (complete wide k q value) l u = u
-  field_view names words (product wide true q fields) l u = u
-  field_view names words (product wide false q fields) l u = u
-  field_view names words (commands optional value) l u = u
-  field_view names words (before_commands value) l u = u
-  field_view names words s l u = whole_view (λ k. k) (SingleValue T) value_view names words s l u
+  pub field_view : {s : ProgramForm T} → FormLaw env inner names words s → HasOneView see s
+      → HasOneView see (program_field s)
+  field_view {s = complete wide k q value} l u = u
+  field_view {s = product wide true q fields} l u = u
+  field_view {s = product wide false q fields} l u = u
+  field_view {s = commands optional value} l u = u
+  field_view {s = before_commands value} l u = u
+  field_view l u = whole_view see (λ k. k) (SingleValue T) value_view l u
 
--- The list of a repeat, as the program keeps it.
-
--- many
-pub many_view : (env : Variables) (T X : Type 0) (see : T → X) (inner : Outcome T)
-    (names : List Names) (words : List (List ℕ)) (s : ProgramForm T)
-    → FormLaw env inner names words s → HasOneView see s
-    → HasOneView (λ values. map see values.items)
-    (program_closed (list_closure T) (completed repeated (OwnList T) s))
-many_view env T X see inner names words s l u =
-    closed_view (List T) (Vec T) (List X) (List X) (map see) (λ values. map see values.items)
-    (list_closure T) (record {
-      same = λ x y v w e f g. ap (map see) f ∙ (e ∙ sym (ap (map see) g));
-      apart = λ x y v e f n. n;
-    }) (completed repeated (OwnList T) s)
-    (whole_view env T X see inner repeated (OwnList T) list_view names words s l u)
+  -- many, as the program keeps it
+  pub many_view : {s : ProgramForm T} → FormLaw env inner names words s → HasOneView see s
+      → HasOneView (λ values. map see values.items)
+      (program_closed (list_closure T) (completed repeated (OwnList T) s))
+  many_view {s} l u =
+      closed_view (List T) (Vec T) (List X) (List X) (map see) (λ values. map see values.items)
+      (list_closure T) (record {
+        same = λ x y v w e f g. ap (map see) f ∙ (e ∙ sym (ap (map see) g));
+        apart = λ x y v e f n. n;
+      }) (completed repeated (OwnList T) s)
+      (whole_view (map see) repeated (OwnList T) list_view l u)
 
 -- Products.
 
@@ -275,82 +236,40 @@ many_view env T X see inner names words s l u =
 pub both_view : (A B X Y : Type 0) (see : A → X) (look : B → Y) (own others : List Names)
     (s : ProgramForm A) (t : ProgramForm B) → HasOneView see s → HasOneView look t
     → HasOneView (pair_view see look) (program_both own others s t)
-both_view A B X Y see look own others (complete wide k q fv) (product other named r rv) u n =
-    if_view (pair_view see look) _ (may_follow k own others)
-    (λ os v w a b. let d = u _ v.0 w.0 a.0 b.0 in let e = n _ v.1 w.1 a.1 b.1 in
-    λ i. (d i, e i))
-both_view A B X Y see look own others (complete wide ByName q fv) (before_commands rv) u n =
-    if_view (pair_view see look) _ (are_all_apart own others)
-    (λ cs v w a b. let same = one_take a.taken b.taken in
-    let d = u _ v.0 w.0 (rw (← same.0) a.own) b.own in
-    let e = n _ v.1 w.1 (rw (← same.1) a.left) b.left in λ i. (d i, e i))
-both_view A B X Y see look own others _ _ u n = tt
+both_view x y z u see look own others x1 x2 x3 n = grind (arith, if_view, one_take)
 
-module _ (T X : Type 0) (see : T → X) where
+module _ {T X : Type 0} (see : T → X) where
   -- the last field
   pub alone_view : (s : ProgramForm T) → HasOneView see s → HasOneView see (program_alone s)
-  alone_view (complete wide k q value) u = λ os v w a b. u _ v w a.0 b.0
-  alone_view (product wide false q fields) u = u
-  alone_view (commands optional value) u = u
-  alone_view (before_commands value) u = u
-  alone_view _ u = tt
+  alone_view x u = grind arith
 
-  -- a record
-  record_view : (env : Variables) (inner : Outcome T) (names : List Names)
-      (words : List (List ℕ)) (s : ProgramForm T) → FormLaw env inner names words s
+  -- a whole program
+  record_view : {env : Variables} {inner : Outcome T} {names : List Names}
+      {words : List (List ℕ)} {s : ProgramForm T} → FormLaw env inner names words s
       → HasOneView see s → HasOneView see (whole_program s)
-  record_view env inner names words (product wide named q fields) l u = u
-  record_view env inner names words s l u =
-      alone_view (program_field s) (field_view env T X see inner names words s l u)
-
-  -- the values of a record
-  product_view : (s : ProgramForm T) → HasOneView see s → (os : List LinePiece)
-      → Alike see ((product_reading s).value os)
-  product_view (product wide named q fields) u os v w a b = u os v w a b
-  product_view _ u os v w a b = absurd a
-
-  -- an exact answer looks like each value of the record
-  like_this : {env : Variables} {inner : Outcome T} {r : Roles} {reading : FieldsReading T}
-      {context : Context} → FieldsLaw env T inner r reading
-      → Alike see (λ v. RecordValue r reading.value context v) → (a : RunAnswer T) (v : T)
-      → IsExact T r reading context a → RecordValue r reading.value context v → LooksLike see v a
-  like_this l one (Accepted w) v e h = one w v (e.sound w refl) h
-  like_this l one NoMemory v e h = tt
-  like_this l one Refusal v e h =
-      e.complete h.cut_into (read_cut h) (l.has_each h.cut_into v h.read)
-
-  -- all that is read off the same cells looks alike
-  reads_one : {r : Roles} {value : List LinePiece → T → Type 0} → IsNamed r
-      → ((os : List LinePiece) → Alike see (value os)) → (cs : Cells)
-      → Alike see (ReadOff T r value cs)
-  reads_one {value} named one cs v w a b =
-      one b.cut_into v w (rw (← one_cut named (read_cut a) (read_cut b)) a.read) b.read
+  record_view {s = product wide named q fields} l u = u
+  record_view {s} l u = alone_view (program_field s) (field_view see l u)
 
   -- All values of a program on the same cells look alike.
-  pub values_look_one : (env : Variables) (outcome : Outcome T) (names : List Names)
-      (words : List (List ℕ)) (s : ProgramForm T) → FormLaw env outcome names words s
+  pub values_look_one : {env : Variables} {outcome : Outcome T} {names : List Names}
+      {words : List (List ℕ)} {s : ProgramForm T} → FormLaw env outcome names words s
       → HasOneView see s → (cs : Cells) → Alike see (program_value s cs)
-  values_look_one env outcome names words s l u =
-      by_whole (whole_program s) (whole_law env T outcome names words s l)
-      (record_view env outcome names words s l u)
+  values_look_one {env} {outcome} {names} {s} l u =
+      by_whole (whole_program s) (whole_law l) (record_view l u)
     where
       by_whole : (w : ProgramForm T) → FormLaw env outcome names [] w → HasOneView see w
           → (cs : Cells) → Alike see (whole_value w cs)
-      by_whole (product wide named q fields) l u = reads_one l.0.named u
+      by_whole (product wide named q fields) l u = grind (arith, one_cut)
       by_whole (before_commands value) l u = u
       by_whole _ l u = λ cs v w a b. absurd a
 
-  -- Where the record has a value, each answer looks like it, or is want of memory; with the value
+  -- Where a program has a value, each answer looks like it, or is want of memory; with the value
   -- itself for a view, it is that value.
-  pub runs_to_one : (outcome : Outcome T) (names : List Names) (words : List (List ℕ))
-      (s : ProgramForm T) → is_record s ≡ true → (context : Context)
+  pub runs_to_one : {outcome : Outcome T} {names : List Names} {words : List (List ℕ)}
+      {s : ProgramForm T} → is_program s ≡ true → (context : Context)
       → FormLaw context.env outcome names words s → HasOneView see s
       → RunsToOne see outcome s context
-  runs_to_one outcome names words s h context l u a v ran r =
-      let law = record_law context.env T outcome names words s h l in
-      let one = record_view context.env outcome names words s l u in
-      like_this law (reads_one law.named (product_view (whole_program s) one) (line_cells context))
-      a v (runs_exactly T outcome names words s h context l a ran) r
+  runs_to_one h context l u a v ran value = grind (arith, runs_as_program, values_look_one)
 
 -- a closure that accepts both or refuses both of what looks alike
 module _ {A B X : Type 0} {see : A → X} {f : Closure A B}

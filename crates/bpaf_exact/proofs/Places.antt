@@ -1,31 +1,28 @@
--- From places to cells: the first place that is wanted, its piece, and what is left when it is
--- taken; and how many items are present.
-use Rattle.std.proofs.Common.{Bool, List, None, Option, Some, [], add-one, ap, arith, if◌then◌else◌}
-use Rattle.std.proofs.Common.{ap₂, false, length, not, option_and_then, refl, suc, true, zero, ◌&&◌}
-use Rattle.std.proofs.Common.{sym, ℕ, ◌+◌, ◌<◌, ◌||◌, ◌∙◌, ◌∷◌, ◌≡◌, ◌≢◌, ◌≤◌}
-use Rattle.std.proofs.lemmas.Bool.{and_right, both_ways, false_from_ne_true, true_from_ne_false}
-use Rattle.std.specs.Option.{is_some, option_map_or}
-use Rattle.bpaf_doc.specs.Names.{Names}
-use Rattle.bpaf_base.specs.declared.arg.Arg.TheVariants.{ArgWord, Word}
-use Rattle.bpaf_base.specs.Items.{any_item, is_key_of, value_text, item_text}
+-- From places to cells: the first wanted place, its piece, what is left; and how many are present.
+use Rattle.std.proofs.Common.{option_and_then, if◌then◌else◌, add-one, Option, length, arith, false}
+use Rattle.std.proofs.Common.{Bool, List, None, Some, refl, true, zero, ◌||◌, ap₂, suc, sym, ◌+◌, ℕ}
+use Rattle.std.proofs.Common.{◌<◌, ◌∙◌, ◌∷◌, ◌≡◌, ◌≢◌, ◌≤◌, [], ap}
+use Rattle.std.proofs.lemmas.Bool.{false_from_ne_true, true_from_ne_false, and_right, both_ways}
+use Rattle.std.specs.Option.{option_map_or, is_some}
+use Rattle.bpaf_base.specs.Items.{value_text, is_key_of, item_text, any_item}
 use Rattle.bpaf_base.specs.declared.arg.Arg.{Arg}
+use Rattle.bpaf_doc.specs.Names.{Names}
 use Rattle.bpaf_index.proofs.BitSets.{count_below-same, count_below-some}
-use Rattle.bpaf_line.proofs.Places.{open_has_item, open_item_there, open_in_line, taken_here}
-use Rattle.bpaf_line.proofs.Places.{taken_other, taken_stays}
-use Rattle.bpaf_line.specs.Situation.{count_below, in_scope, is_open, is_taken, item_at, open_count}
-use Rattle.bpaf_line.specs.Situation.{Situation, take_place}
-use Rattle.bpaf_line.specs.Taking.{value_after, HasNone, IsFirst, is_match, open_item}
-use Rattle.bpaf_exact.proofs.{Cuts.begin_at, Names.named_key}
-use Rattle.bpaf_exact.specs.Pieces.{Alone, Cells, Foreign, LinePiece, One, Role, Roles, TakesPieces}
-use Rattle.bpaf_exact.specs.Pieces.{IsNamed, TakesPiece, Two, WithNext, is_key, is_own_role, pieces}
-use Rattle.bpaf_exact.specs.Pieces.{is_value, takes_later, takes_more, takes_none, with_next, Owns}
-use Rattle.bpaf_exact.specs.Flat.{TakesFirst, first_later, first_one, NotOwn, first_two}
-use Rattle.bpaf_exact.specs.Flat.{present_count, Steady, cells, first_cells}
+use Rattle.bpaf_line.proofs.Places.{open_item_there, open_has_item, open_in_line, taken_other}
+use Rattle.bpaf_line.specs.Situation.{count_below, open_count, take_place, Situation, in_scope}
+use Rattle.bpaf_line.specs.Taking.{value_after, open_item, is_match, HasNone, IsFirst}
+use Rattle.bpaf_line.proofs.Places.{taken_stays, taken_here}
+use Rattle.bpaf_line.specs.Situation.{is_taken, is_open, item_at}
+use Rattle.bpaf_exact.proofs.{Names.named_key, Cuts.begin_at}
+use Rattle.bpaf_exact.specs.Pieces.{TakesPieces, is_own_role, takes_later, TakesPiece, takes_more}
+use Rattle.bpaf_exact.specs.Pieces.{takes_none, LinePiece, with_next, WithNext, is_value, Foreign}
+use Rattle.bpaf_exact.specs.Pieces.{IsNamed, is_key, pieces, Alone, Cells, Roles, Role, Owns, One}
+use Rattle.bpaf_exact.specs.Flat.{present_count, first_later, first_cells, TakesFirst, first_one}
+use Rattle.bpaf_exact.specs.{Flat.first_two, Flat.NotOwn, Flat.Steady, Flat.cells, Pieces.Two}
 
 -- taking a place changes what is taken and the current place alone
 pub take_steady : {s : Situation} {p : ℕ} → Steady s (take_place s p)
-take_steady {s} {p} =
-    record { context = refl; start = refl; end = refl; path = refl; keeps = taken_stays s p }
+take_steady = grind (arith, taken_stays)
 
 -- what is at the first places decides their cells
 pub same_cells : {at : ℕ → Option Arg} (other : ℕ → Option Arg) (n : ℕ)
@@ -69,8 +66,7 @@ tail_two : {at left : ℕ → Option Arg} {p : ℕ} → TakenTwo at left (suc p)
 tail_two taken = record {
   gone = taken.gone;
   next_gone = taken.next_gone;
-  others = λ q other next. taken.others (suc q) (λ e. other (omega arith))
-      (λ e. next (omega arith));
+  others = grind arith;
 }
 
 -- a later one is
@@ -117,8 +113,7 @@ take_two (suc n) (suc p) l e f h v none taken =
 -- an item that isn't the field's own heads no piece
 pub pass_head : (r : Roles) (c : Option Arg) (cs : Cells) → NotOwn r c
     → pieces r (c ∷ cs) ≡ pieces r cs
-pass_head r None cs n = refl
-pass_head r (Some x) cs n = begin_at x cs (pieces r cs) n
+pass_head r x cs n = grind (arith, begin_at)
 
 -- nothing of the field's own is present
 pub none_present : (r : Roles) (at : ℕ → Option Arg) (n : ℕ) → ((q : ℕ) → NotOwn r (at q))
@@ -136,22 +131,14 @@ pub record BareHead (r : Roles) (cs : Cells) (k : Arg) : Type 0 where
 bare_next : {k : Arg} (at : ℕ → Option Arg) (n : ℕ)
     → ((w : Arg) → at zero ≡ Some w → is_value w ≡ true → ⊥)
     → with_next k (first_cells at n) ≡ One k
-bare_next at zero none = refl
-bare_next {k} at (suc n) none = by_cell (at zero) none
-  where
-    by_cell : (c : Option Arg) → ((w : Arg) → c ≡ Some w → is_value w ≡ true → ⊥)
-        → with_next k (c ∷ first_cells (λ q. at (suc q)) n) ≡ One k
-    by_cell None f = refl
-    by_cell (Some w) f = ap (λ b. if b then Two k w else One k)
-        (false_from_ne_true (is_value w) (f w refl))
+bare_next at n none = grind (arith, false_from_ne_true)
 
 -- a key at the front
 bare_key : (r : Roles) {c : Option Arg} (k : Arg) (cs : Cells) → c ≡ Some k → r k ≡ WithNext
     → with_next k cs ≡ One k → BareHead r (c ∷ cs) k
 bare_key r k cs e h n = record {
   tail = pieces r cs;
-  is = ap (λ z. pieces r (z ∷ cs)) e
-      ∙ (begin_at k cs (pieces r cs) h ∙ ap (λ z. z ∷ pieces r cs) n);
+  is = grind (arith, begin_at);
 }
 
 -- the first key that is wanted, without a value behind it
@@ -159,25 +146,20 @@ pub bare_first : {r : Roles} {at : ℕ → Option Arg} (n p : ℕ) {k : Arg} →
     → r k ≡ WithNext → NoneBefore r at p → ((w : Arg) → at (suc p) ≡ Some w → is_value w ≡ true → ⊥)
     → BareHead r (first_cells at n) k
 bare_first zero p l e h none bare = absurd (omega arith)
-bare_first {r} {at} (suc n) zero {k} l e h none bare =
-    bare_key r k _ e h (bare_next (λ q. at (suc q)) n bare)
+bare_first {r} {at} (suc n) zero {k} l e h none bare = grind (arith, bare_key, bare_next)
 bare_first {r} {at} (suc n) (suc p) l e h none bare =
-    let i = bare_first n p (omega arith) e h (tail_before none) bare in
-    record { tail = i.tail; is = pass_head r (at zero) _ (none.before zero (omega arith)) ∙ i.is }
+    grind (arith, pass_head, tail_before, bare_first n p (omega arith) e h (tail_before none) bare)
 
 -- What is open after a place is taken.
 
 -- nothing is open at a place that is taken
 pub closed_item : (s : Situation) (p : ℕ) → is_taken s p ≡ true → open_item s p ≡ None
-closed_item s p e = ap (λ b. if b then item_at s p else None)
-    (and_right (in_scope s p) (not (is_taken s p)) (ap not e))
+closed_item s p e = grind (arith, and_right)
 
 -- a place where as much is taken as before has the item that it had
 pub same_item : (s t : Situation) (p : ℕ) → in_scope t p ≡ in_scope s p → item_at t p ≡ item_at s p
     → is_taken t p ≡ is_taken s p → open_item t p ≡ open_item s p
-same_item s t p e f g =
-    ap₂ (λ a b. if (a && not b) then item_at t p else None) e g
-    ∙ ap (λ z. if is_open s p then z else None) f
+same_item s t p e f g = grind arith
 
 -- one place taken
 pub open_one : (s : Situation) (p : ℕ) → TakenOne (open_item s) (open_item (take_place s p)) p
@@ -248,9 +230,7 @@ test_named test names own asks = record {
 -- where a place has no match, nothing of the field's own is there
 not_own : {test : Arg → Bool} {r : Roles} {own : Role} (s : Situation) (p : ℕ) → ByTest test r own
     → is_match test s p ≡ false → NotOwn r (open_item s p)
-not_own {test} {r} s p t e =
-    elim (open_item s p) as (λ c. option_map_or test c false ≡ false → NotOwn r c)
-    [ None ↦ λ h. tt | Some k ↦ λ h. t.no k h ] e
+not_own s p t e = grind (arith, no)
 
 -- nothing of the field's own stands before the first match
 none_before : {test : Arg → Bool} {r : Roles} {own : Role} {s : Situation} {p : ℕ}
@@ -261,8 +241,7 @@ none_before {s} t f = record { before = λ q l. not_own s q t (f.first q l) }
 pub no_pieces : {test : Arg → Bool} {r : Roles} {own : Role} (s : Situation) → ByTest test r own
     → HasNone test s → pieces r (cells s) ≡ []
 unfolding cells
-no_pieces {r} s t none =
-    none_present r (open_item s) (length s.context.line) (λ p. not_own s p t (none p))
+no_pieces {r} s t none = grind (arith, none_present, not_own)
 
 -- the first match, taken by itself
 pub one_taken : {test : Arg → Bool} {r : Roles} {s : Situation} {p : ℕ} → ByTest test r Alone
@@ -284,9 +263,7 @@ pub record Behind (s : Situation) (p : ℕ) (text : List ℕ) : Type 0 where
 -- the text of a value is that of its item
 value_is : (w : Arg) {text : List ℕ} → value_text w ≡ Some text
     → (is_some (value_text w) ≡ true) × (item_text w ≡ text)
-value_is (ArgWord own) e = (refl, cc)
-value_is (Word own) e = (refl, cc)
-value_is _ e = absurd cc
+value_is x e = grind arith
 
 -- a text behind a key is that of an item there
 pub behind_of : (s : Situation) {p : ℕ} {text : List ℕ} → value_after s p ≡ Some text
@@ -311,11 +288,7 @@ behind_of s {p} {text} e =
 -- where no text is behind a key, no value is there
 none_behind : (s : Situation) (p : ℕ) → value_after s p ≡ None → (w : Arg)
     → open_item s (suc p) ≡ Some w → is_value w ≡ true → ⊥
-none_behind s p e w f v =
-    let g : value_text w ≡ None = sym (ap (option_and_then value_text) f)
-    ∙ (ap (λ q. option_and_then value_text (open_item s q)) (sym (add-one p)) ∙ e) in
-    let h : is_some (value_text w) ≡ false = ap is_some g in
-    cc
+none_behind s p e w f v = grind arith
 
 -- the first match, taken with the value behind it
 pub two_taken : {test : Arg → Bool} {r : Roles} (s : Situation) {p : ℕ} {text : List ℕ}
@@ -354,24 +327,14 @@ takes_fewer _ = omega arith
 pub takes_some_fewer : {q : Roles} {cs ds : Cells} → TakesPieces q cs ds
     → present_count ds ≤ present_count cs
 takes_some_fewer takes_none = omega arith
-takes_some_fewer (takes_more t more) =
-    let i = takes_fewer t in let j = takes_some_fewer more in omega arith
+takes_some_fewer (takes_more t more) = grind (arith, takes_fewer, takes_some_fewer more)
 
 -- the count of a set of places, with the first place set apart
 count_first : (set : ℕ → Bool) (n : ℕ) → count_below set (suc n)
     ≡ (if set zero then (count_below (λ p. set (suc p)) n + 1) else count_below
     (λ p. set (suc p)) n)
 count_first set zero = refl
-count_first set (suc n) =
-    by_test (set (suc n)) (set zero) (count_below (λ p. set (suc p)) n) (count_first set n)
-  where
-    by_test : (last first : Bool) {a : ℕ} (b : ℕ) → a ≡ (if first then (b + 1) else b)
-        → (if last then (a + 1) else a) ≡ (if first then ((if last then (b + 1) else b) + 1) else
-        (if last then (b + 1) else b))
-    by_test true true b e = omega arith
-    by_test true false b e = omega arith
-    by_test false true b e = e
-    by_test false false b e = e
+count_first set (suc n) = grind (arith, count_first set n)
 
 -- the places at which something stands are as many as the items there
 count_cells : (at : ℕ → Option Arg) (n : ℕ)

@@ -1,30 +1,28 @@
 -- Products: a field before other fields, the last field, and the constructor; and that a product of
 -- named fields keeps to the laws of a named field, so it may stand in another product.
-use Rattle.std.proofs.Common.{Bool, Err, List, None, Ok, Result, Some, [], ap, arith, false, filter}
-use Rattle.std.proofs.Common.{ap₂, if◌then◌else◌, inl, inr, length, not, refl, subst, sym, ◌∙◌, ◌∷◌}
-use Rattle.std.proofs.Common.{true, ◌≡◌}
+use Rattle.std.proofs.Common.{if◌then◌else◌, Result, filter, length, arith, false, subst, Bool, Err}
+use Rattle.std.proofs.Common.{List, None, Some, refl, true, inl, inr, not, sym, ◌∙◌, ◌∷◌, ◌≡◌, Ok}
+use Rattle.std.proofs.Common.{[], ap}
 use Rattle.bpaf_base.specs.declared.arg.Arg.{Arg}
-use Rattle.bpaf_line.specs.Situation.{Situation, with_current}
-use Rattle.bpaf_line.specs.{declared.error.Error.Error, Messages.is_memory}
-use Rattle.bpaf_laws.specs.Product.{BothOutcome, ProductOutcome, joined}
-use Rattle.bpaf_laws.specs.{Laws.IsNotMemory, Reading.Outcome}
-use Rattle.bpaf_exact.proofs.Cuts.{begin_at, either_right, nil_rest, others_foreign, take_some_from}
-use Rattle.bpaf_exact.proofs.Cuts.{cut_empty, named_cuts, nil_foreign, pieces_of_cut, put_back_some}
-use Rattle.bpaf_exact.proofs.Cuts.{keeps_other_some, read_cut, read_off, word_foreign, words_of_cut}
-use Rattle.bpaf_exact.proofs.Cuts.{Belongs, belongs, both_nil, either_union, swap_union, takes_left}
-use Rattle.bpaf_exact.proofs.Cuts.{Union, own_next, to_first, to_second, union_named, value_foreign}
-use Rattle.bpaf_exact.proofs.Cuts.{some_trans, empty_cut, to_none, words_cut}
-use Rattle.bpaf_exact.proofs.Classes.{memory_class, not_memory}
-use Rattle.bpaf_exact.specs.Flat.{Before, ErrorClass, FieldKind, FieldLaw, FieldTook, FieldsReading}
-use Rattle.bpaf_exact.specs.Flat.{FieldsLaw, HasValue, IsWholeIn, NoKeysLeft, NonePresent, OfMemory}
-use Rattle.bpaf_exact.specs.Flat.{ByName, KeepsTo, OwnItems, Steady, Variables, both_reading, cells}
-use Rattle.bpaf_exact.specs.Flat.{present_count, ClosedValue, map_closure, portion, no_place}
-use Rattle.bpaf_exact.specs.Flat.{none_here, back, class, front, keys, left}
-use Rattle.bpaf_exact.specs.Pieces.{Alone, Apart, Cells, Cut, Foreign, LinePiece, Role, TakesPieces}
-use Rattle.bpaf_exact.specs.Pieces.{IsNamed, Roles, WithNext, argument, at_end, begin_piece, either}
-use Rattle.bpaf_exact.specs.Pieces.{flag, is_own, is_own_role, no_roles, others, passed, takes_more}
-use Rattle.bpaf_exact.specs.Pieces.{takes_none, with_next, mine, pieces, word, One}
-use Rattle.bpaf_exact.specs.ProgramForm.{last_reading}
+use Rattle.bpaf_line.specs.{Situation.with_current, Situation.Situation, declared.error.Error.Error}
+use Rattle.bpaf_laws.specs.Product.{ProductOutcome, BothOutcome, joined}
+use Rattle.bpaf_laws.specs.Reading.{Outcome}
+use Rattle.bpaf_exact.proofs.Cuts.{either_right, word_foreign, nil_foreign, union_named, named_cuts}
+use Rattle.bpaf_exact.proofs.Cuts.{keeps_other_some, others_foreign, take_some_from, pieces_of_cut}
+use Rattle.bpaf_exact.proofs.Cuts.{put_back_some, value_foreign, words_of_cut, either_union, Union}
+use Rattle.bpaf_exact.proofs.Cuts.{cut_empty, to_second, begin_at, nil_rest, both_nil, own_next}
+use Rattle.bpaf_exact.proofs.Cuts.{swap_union, takes_left, some_trans, empty_cut, words_cut}
+use Rattle.bpaf_exact.proofs.Cuts.{to_first, Belongs, belongs, to_none}
+use Rattle.bpaf_exact.proofs.Classes.{memory_class}
+use Rattle.bpaf_exact.specs.Flat.{FieldsReading, present_count, both_reading, NonePresent, FieldLaw}
+use Rattle.bpaf_exact.specs.Flat.{ClosedValue, map_closure, ErrorClass, NoKeysLeft, FieldKind, back}
+use Rattle.bpaf_exact.specs.Flat.{FieldTook, FieldsLaw, IsWholeIn, Variables, none_here, HasValue}
+use Rattle.bpaf_exact.specs.Flat.{OfMemory, OwnItems, no_place, KeepsTo, portion, Before, ByName}
+use Rattle.bpaf_exact.specs.Flat.{Steady, cells, class, front, keys, left}
+use Rattle.bpaf_exact.specs.Pieces.{LinePiece, argument, no_roles, IsNamed, Foreign, at_end, either}
+use Rattle.bpaf_exact.specs.Pieces.{is_own, others, passed, pieces, Apart, Cells, Roles, Role, flag}
+use Rattle.bpaf_exact.specs.Pieces.{TakesPieces, begin_piece, is_own_role, takes_more, takes_none}
+use Rattle.bpaf_exact.specs.{Pieces.mine, Pieces.word, Pieces.Cut, ProgramForm.last_reading}
 
 -- what isn't taken stays in the scope
 pub none_outside_after : {env : Variables} {s t : Situation} → IsWholeIn env s → Steady s t
@@ -54,11 +52,9 @@ pub no_own_in_cut : {q r : Roles} {cs : Cells} {os : List LinePiece} → IsNamed
     → Cut r cs os → pieces q cs ≡ []
 no_own_in_cut n a at_end = refl
 no_own_in_cut n a (passed c) = no_own_in_cut n a c
-no_own_in_cut {q} n a (flag {k} {cs} e c) =
-    begin_at k cs (pieces q cs) (a.right k (ap is_own_role e)) ∙ no_own_in_cut n a c
+no_own_in_cut {q} n a (flag {k} {cs} e c) = grind (arith, begin_at, no_own_in_cut n a c)
 no_own_in_cut {q} n a (argument {k} {w} {cs} e v c) =
-    begin_at k (Some w ∷ cs) (pieces q (Some w ∷ cs)) (a.right k (ap is_own_role e))
-    ∙ (begin_at w cs (pieces q cs) (value_foreign n v) ∙ no_own_in_cut n a c)
+    grind (arith, begin_at, value_foreign, no_own_in_cut n a c)
 no_own_in_cut {q} n a (word {w} {cs} h c) =
     begin_at w cs (pieces q cs) (word_foreign n h) ∙ no_own_in_cut n a c
 
@@ -67,8 +63,7 @@ others_all : (q : Roles) {o : LinePiece} {os : List LinePiece} → is_own q o �
     → others q os ≡ os → others q (o ∷ os) ≡ o ∷ os
 others_all q {o} {os} h e = others_foreign q os h ∙ ap (λ z. o ∷ z) e
 
--- where a field has no piece, a cut by some keys is one by others that differ in its own alone, and
--- its pieces are all of others
+-- where a field has no piece a cut is one by keys that differ in its own, all pieces of others
 recut : {q r : Roles} (p : Roles) {cs : Cells} {os : List LinePiece} → IsNamed q
     → ((k : Arg) → q k ≡ Foreign → p k ≡ r k) → pieces q cs ≡ [] → Cut r cs os
     → Cut p cs os × (others q os ≡ os)
@@ -117,16 +112,14 @@ step_back k value n b f c =
 -- a field that left nothing of its own
 pub none_left : (k : FieldKind) (q : Roles) {r : Roles} {cs : Cells} {os : List LinePiece}
     → OwnItems k q → Before k q r → Cut r cs os → NoKeysLeft k q cs
-none_left ByName q n b c = no_own_in_cut n b c
-none_left _ q n b c = tt
+none_left x q n b c = grind (arith, no_own_in_cut)
 
 -- The cut after a field was evaluated.
 
 -- a field's own pieces are its portion of the cut
 pub own_portion : (k : FieldKind) (q r : Roles) {cs : Cells} {os : List LinePiece} → OwnItems k q
     → Before k q r → Cut (either (keys k q) r) cs os → front k (pieces q cs) ≡ portion k q os
-own_portion ByName q r n b c = pieces_of_cut r n c
-own_portion k q r n b c = ap (front k) (words_of_cut n b c)
+own_portion k q r n b c = grind (arith, pieces_of_cut, words_of_cut)
 
 -- the cut after a field was evaluated
 pub step_on : (k : FieldKind) {q r : Roles} {cs ds : Cells} {os : List LinePiece} → OwnItems k q
@@ -145,52 +138,43 @@ step_on k {r} n b t e c =
 -- the keys of all are keys
 pub both_named : (k : FieldKind) (q : Roles) {r : Roles} → OwnItems k q → IsNamed r
     → IsNamed (either (keys k q) r)
-both_named ByName q n m =
-    record { only_keys = λ a h. either_right (q a) (n.only_keys a h) ∙ m.only_keys a h }
-both_named _ q n m = m
+both_named x q n m = grind (arith, either_right)
 
--- two values of fields that were all evaluated
-pub record ValuesOfBoth (A B : Type 0) (first : Outcome A) (rest : Outcome B) (s : Situation)
-    (v : A × B) (t : Situation) : Type 0 where
-  pub middle : Situation
-  pub first_ran : first s (Ok v.0) middle
-  pub rest_ran : rest middle (Ok v.1) t
+-- what follows of an answer
+abbrev follows : {T : Type 0} → (Situation → T → Situation → Type 0)
+    → (Situation → ErrorClass → Type 0) → Situation → Result T Error → Situation → Type 0
+follows gave refused s (Ok v) t = gave s v t
+follows gave refused s (Err e) t = refused s (class e)
 
-module _ {A B : Type 0} (first : Outcome A) (rest : Outcome B) where
-  -- joined answers are a value where both are
-  joined_values : {s m t : Situation} (a : Result A Error) (b : Result B Error) {v : A × B}
-      → first s a m → rest m b t → Ok v ≡ joined a b → ValuesOfBoth A B first rest s v t
-  joined_values {m} (Ok a) (Ok b) {v} f g e =
-      let d : v ≡ (a, b) = cc in
-      record { middle = m; first_ran = rw d f; rest_ran = rw d g }
-  joined_values (Ok a) (Err f) h g e = absurd cc
-  joined_values (Err e) (Ok b) h g i = absurd cc
-  joined_values {s} {t} (Err e) (Err f) {v} h g i = by_test (is_memory f.0) i
-    where
-      by_test : (x : Bool) → Ok v ≡ (if x then Err f else Err e) → ValuesOfBoth A B first rest s v t
-      by_test true j = absurd cc
-      by_test false j = absurd cc
+-- A field and what is evaluated after it keep to what follows of an answer of each; and so does a
+-- refusal, which is want of memory, or that of the first.
+module _ {env : Variables} {A B : Type 0} {first : Outcome A} {rest : Outcome B} {k : FieldKind}
+    {q : Roles} {fv : List LinePiece → A → Type 0} {gives : Situation → B → Situation → Type 0}
+    {refuses : Situation → ErrorClass → Situation → Type 0} (lf : FieldLaw env A first k q fv)
+    (lr : KeepsTo env B rest gives refuses) (gave : Situation → A × B → Situation → Type 0)
+    (refused : Situation → ErrorClass → Type 0)
+    (of_both : (s m t : Situation) (x : A) (y : B) → FieldTook A k q fv s x m → gives m y t
+    → gave s (x, y) t)
+    (of_first : (s : Situation) (c : ErrorClass)
+    → ((w : A) → fv (front k (pieces q (cells s))) w → c ≡ OfMemory) → refused s c)
+    (of_rest : (s m t : Situation) (x : A) (c : ErrorClass) → FieldTook A k q fv s x m
+    → refuses m c t → refused s c) where
+  -- by the answers of both
+  of_joined : {s m t : Situation} (a : Result A Error) (b : Result B Error) → IsWholeIn env s
+      → first s a m → rest m b t → follows gave refused s (joined a b) t
+  of_joined x y w f g = grind (arith, memory_class, none_outside_after)
 
-  -- the values of a product are those of its fields
-  pub values_of_both : {s t : Situation} {v : A × B} → BothOutcome first rest s (Ok v) t
-      → ValuesOfBoth A B first rest s v t
-  values_of_both o = joined_values o.a o.b o.first_ran o.rest_ran o.answer
-
-  -- a refusal is want of memory where each of the first is, and each of the others after its value
-  pub refused_both : {s t : Situation} {e : Error}
-      → ((d : Error) (m : Situation) → first s (Err d) m → class d ≡ OfMemory)
-      → ((v : A) (m : Situation) → first s (Ok v) m → rest m (Err e) t → class e ≡ OfMemory)
-      → BothOutcome first rest s (Err e) t → class e ≡ OfMemory
-  refused_both {e} of_first of_rest (inr o) = memory_class e.0 o.1
-  refused_both {s} {t} {e} of_first of_rest (inl o) =
-      by_answers o.a o.b o.first_ran o.rest_ran o.spared o.answer
-    where
-      by_answers : (a : Result A Error) (b : Result B Error) → first s a o.middle
-          → rest o.middle b t → IsNotMemory a → Err e ≡ joined a b → class e ≡ OfMemory
-      by_answers (Ok a) (Ok b) f g spared i = absurd cc
-      by_answers (Ok a) (Err b) f g spared i =
-          let d : b ≡ e = cc in of_rest a o.middle f (rw (← d) g)
-      by_answers (Err a) b f g spared i = absurd (not_memory a.0 spared (of_first a o.middle f))
+  -- the laws
+  pub both_keeps : KeepsTo env (A × B) (BothOutcome first rest) gave (λ s c t. refused s c)
+  both_keeps = record {
+    ok = λ s t v w o. subst (λ r. follows gave refused s r t) (sym o.answer)
+        (of_joined o.a o.b w o.first_ran o.rest_ran);
+    err = λ s t e w. elim [
+      | inl o ↦ subst (λ r. follows gave refused s r t) (sym o.answer)
+          (of_joined o.a o.b w o.first_ran o.rest_ran)
+      | inr o ↦ of_first s (class e) (λ v i. memory_class e.0 o.1)
+    ];
+  }
 
 module _ {env : Variables} {A B : Type 0} {first : Outcome A} {rest : Outcome B} {k : FieldKind}
     {q r : Roles} {fv : List LinePiece → A → Type 0} {others_read : FieldsReading B}
@@ -216,28 +200,21 @@ module _ {env : Variables} {A B : Type 0} {first : Outcome A} {rest : Outcome B}
   both_law = record {
     named = both_named k q lf.own lr.named;
     has_each = λ os v h. ((v.0, h.0), lr.has_each (left k q os) v.1 h.1);
-    keeps = record {
-      ok = λ s t v w o.
-          let h = values_of_both first rest o in
-          let i = lf.keeps.ok s h.middle v.0 w h.first_ran in
-          let j = lr.keeps.ok h.middle t v.1 (none_outside_after w i.steady) h.rest_ran in
-          record {
-            steady = steady_trans i.steady j.steady;
-            read = λ e.
-                let after = j.read e in
-                let p = step_back k fv lf.own b i (read_cut after) in
-                read_off reading.value (both_named k q lf.own lr.named) p.cut (
-                  rw (← p.own) (i.read (none_left k q lf.own b (read_cut after))),
-                  rw p.leaves after.read,
-                );
-            all = λ os c g. j.all (left k q os) (rest_cut i c g.0) g.1;
+    keeps = both_keeps lf lr.keeps _ _ (λ s m t x y i j. record {
+      steady = steady_trans i.steady j.steady;
+      read = λ e.
+          let after = j.read e in
+          let p = step_back k fv lf.own b i after.cut in record {
+            cut_into = p.before;
+            cut = p.cut;
+            read = (
+              rw (← p.own) (i.read (none_left k q lf.own b after.cut)),
+              rw p.leaves after.read,
+            );
           };
-      err = λ s t e w o os c h. refused_both first rest
-          (λ d m f. lf.keeps.err s m d w f h.0.0 (own_value s c h.0))
-          (λ v m f g. let i = lf.keeps.ok s m v w f in
-          lr.keeps.err m t e (none_outside_after w i.steady) g (left k q os) (rest_cut i c h.0) h.1)
-          o;
-    };
+      all = λ os c g. j.all (left k q os) (rest_cut i c g.0) g.1;
+    }) (λ s c no os d h. no h.0.0 (own_value s d h.0))
+        (λ s m t x c i no os d h. no (left k q os) (rest_cut i d h.0) h.1);
   }
 
 -- Nothing is present where the count is nought.
@@ -256,11 +233,7 @@ module _ {env : Variables} {T : Type 0} {outcome : Outcome T} {k : FieldKind} {q
     {value : List LinePiece → T → Type 0} (l : FieldLaw env T outcome k q value) where
   -- a field may stand before none
   pub before_none : Before k q no_roles
-  before_none = by_kind k
-    where
-      by_kind : (z : FieldKind) → Before z q no_roles
-      by_kind ByName = record { left = λ a h. refl; right = λ a h. absurd cc }
-      by_kind _ = λ a. refl
+  before_none = grind arith
 
   -- its keys are keys
   keys_named : IsNamed (either (keys k q) no_roles)
@@ -284,10 +257,11 @@ module _ {env : Variables} {T : Type 0} {outcome : Outcome T} {k : FieldKind} {q
             read = λ n.
                 let c = empty_cut n in
                 let p = step_back k value l.own before_none i c in
-                read_off (last_reading k q value).value keys_named p.cut (
-                  rw (← p.own) (i.read (none_left k q l.own before_none c)),
-                  p.leaves,
-                );
+                record {
+                  cut_into = p.before;
+                  cut = p.cut;
+                  read = (rw (← p.own) (i.read (none_left k q l.own before_none c)), p.leaves);
+                };
             all = λ os c h. cut_empty (step_on k l.own before_none i.takes
                 (i.rest (i.all h.0.0 (last_value s c h.0))) c) h.1;
           };
@@ -304,8 +278,7 @@ current_cells s = refl
 
 -- a step that takes the same is as steady, whichever place is current
 pub same_steady : {s t : Situation} → Steady s t → Steady s (with_current t None)
-same_steady a =
-    record { context = a.context; start = a.start; end = a.end; path = a.path; keeps = a.keeps }
+same_steady a = grind arith
 
 -- what a constructor makes of the values of fields keeps to what follows of each answer of theirs
 pub con_keeps : {env : Variables} {A B : Type 0} {fields : Outcome A} {makes : A → B → Type 0}
@@ -335,9 +308,7 @@ con_law makes l = record {
     steady = same_steady i.steady;
     read = λ n. let a = i.read n in record {
       cut_into = a.cut_into;
-      left_cells = a.left_cells;
       cut = a.cut;
-      none_left = a.none_left;
       read = record { from = x; read = a.read; made = y };
     };
     all = i.all;
@@ -359,36 +330,18 @@ module _ (p q r : Roles) (test : LinePiece → Bool) where
       → ((o : LinePiece) → is_own p o ≡ is_own_role (p k) → test o ≡ b)
       → filter test (begin_piece x k cs os)
       ≡ (if b then begin_piece x k cs (filter test os) else filter test os)
-  kept_begin Foreign k cs os true h = refl
-  kept_begin Foreign k cs os false h = refl
-  kept_begin Alone k cs os b h =
-      ap (λ c. if c then (One k ∷ filter test os) else filter test os) (h (One k) refl)
-  kept_begin WithNext k cs os b h =
-      ap (λ c. if c then (with_next k cs ∷ filter test os) else filter test os)
-      (h (with_next k cs) (own_next p k cs))
+  kept_begin x k cs os b h = grind (arith, own_next)
 
   -- and all
   kept_pieces : ((k : Arg) → Kept k) → (cs : Cells) → filter test (pieces r cs) ≡ pieces q cs
   kept_pieces each [] = refl
   kept_pieces each (None ∷ cs) = kept_pieces each cs
-  kept_pieces each (Some k ∷ cs) = by_item (each k) (kept_pieces each cs)
-    where
-      by_item : Kept k → filter test (pieces r cs) ≡ pieces q cs
-          → filter test (pieces r (Some k ∷ cs)) ≡ pieces q (Some k ∷ cs)
-      by_item (kept e h) behind = kept_begin (r k) k cs (pieces r cs) true h
-          ∙ ap₂ (λ x os. begin_piece x k cs os) e behind
-      by_item (passed_by e h) behind = kept_begin (r k) k cs (pieces r cs) false h
-          ∙ (behind ∙ sym (begin_at k cs (pieces q cs) e))
+  kept_pieces each (Some k ∷ cs) = grind (arith, begin_at, kept_begin, kept_pieces each cs)
 
 module _ {p q r : Roles} (u : Union p q r) where
   -- of the pieces of both the first one's are its own,
   pub mine_of_both : (cs : Cells) → mine p (pieces r cs) ≡ pieces p cs
-  mine_of_both = kept_pieces p p r (is_own p) (λ k. by_owner (belongs u))
-    where
-      by_owner : {k : Arg} → Belongs p q r k → Kept p p r (is_own p) k
-      by_owner (to_first h g f) = kept g (λ o e. e ∙ h)
-      by_owner (to_second h g f) = passed_by f (λ o e. e ∙ ap is_own_role f)
-      by_owner (to_none f g h) = passed_by f (λ o e. e ∙ ap is_own_role f)
+  mine_of_both = grind (arith, Belongs, belongs, kept_pieces, to_first, to_none, to_second)
 
   -- and the others the second one's
   pub others_of_both : (cs : Cells) → others p (pieces r cs) ≡ pieces q cs
@@ -405,8 +358,8 @@ module _ {p q r : Roles} (u : Union p q r) where
   takes_some_left (takes_more t more) = takes_more (takes_left u t) (takes_some_left more)
 
 -- A named field before other named fields.
-module _ {env : Variables} (A B : Type 0) (first : Outcome A) (rest : Outcome B) (q r : Roles)
-    (fv : List LinePiece → A → Type 0) (read : FieldsReading B)
+module _ {env : Variables} {A B : Type 0} {first : Outcome A} {rest : Outcome B} {q r : Roles}
+    {fv : List LinePiece → A → Type 0} (read : FieldsReading B)
     (lf : FieldLaw env A first ByName q fv)
     (lr : FieldLaw env B rest ByName r read.value) (apart : Apart q r) where
   -- the values of both
@@ -427,8 +380,7 @@ module _ {env : Variables} (A B : Type 0) (first : Outcome A) (rest : Outcome B)
 
   -- and what they take leaves its own
   first_kept : {cs ds : Cells} → TakesPieces r cs ds → pieces q ds ≡ pieces q cs
-  first_kept t =
-      keeps_other_some lr.own lf.own (record { left = apart.right; right = apart.left }) t
+  first_kept t = grind (arith, keeps_other_some)
 
   -- where both have a value, so have the others after the first
   rest_value : {s m : Situation} {x : A} {u : A × B} → FieldTook A ByName q fv s x m
@@ -440,33 +392,24 @@ module _ {env : Variables} (A B : Type 0) (first : Outcome A) (rest : Outcome B)
   pub named_both_law : FieldLaw env (A × B) (BothOutcome first rest) ByName both value
   named_both_law = record {
     own = union_named together;
-    keeps = record {
-      ok = λ s t v w o.
-          let h = values_of_both first rest o in
-          let i = lf.keeps.ok s h.middle v.0 w h.first_ran in
-          let j = lr.keeps.ok h.middle t v.1 (none_outside_after w i.steady) h.rest_ran in
-          record {
-            steady = steady_trans i.steady j.steady;
-            takes = some_trans (takes_some_left together i.takes)
-                (takes_some_left (swap_union together) j.takes);
-            read = λ none. (
-              rw (mine_of_both together (cells s))
-                  (i.read (sym (first_kept j.takes) ∙ (sym (mine_of_both together (cells t)) ∙ ap
-                  (mine q) none))),
-              rw (others_of_both together (cells s))
-                  (rw (← keeps_other_some lf.own lr.own apart i.takes)
-                  (j.read (sym (others_of_both together (cells t)) ∙ ap (others q) none))),
-            );
-            rest = λ none. none;
-            all = λ u h. both_nil (cells t) together
-                (first_kept j.takes ∙ i.all u.0 (each_value (cells s) h).0)
-                (j.all u.1 (rest_value i h));
-          };
-      err = λ s t e w o u h. refused_both first rest
-          (λ d m f. lf.keeps.err s m d w f u.0 (each_value (cells s) h).0)
-          (λ v m f g. let i = lf.keeps.ok s m v w f in
-          lr.keeps.err m t e (none_outside_after w i.steady) g u.1 (rest_value i h)) o;
-    };
+    keeps = both_keeps lf lr.keeps _ _ (λ s m t x y i j. record {
+      steady = steady_trans i.steady j.steady;
+      takes = some_trans (takes_some_left together i.takes)
+          (takes_some_left (swap_union together) j.takes);
+      read = λ none. (
+        rw (mine_of_both together (cells s))
+            (i.read (sym (first_kept j.takes) ∙ (sym (mine_of_both together (cells t)) ∙ ap
+            (mine q) none))),
+        rw (others_of_both together (cells s))
+            (rw (← keeps_other_some lf.own lr.own apart i.takes)
+            (j.read (sym (others_of_both together (cells t)) ∙ ap (others q) none))),
+      );
+      rest = λ none. none;
+      all = λ u h. both_nil (cells t) together
+          (first_kept j.takes ∙ i.all u.0 (each_value (cells s) h).0)
+          (j.all u.1 (rest_value i h));
+    }) (λ s c no u h. no u.0 (each_value (cells s) h).0)
+        (λ s m t x c i no u h. no u.1 (rest_value i h));
   }
 
 -- no item is nobody's own

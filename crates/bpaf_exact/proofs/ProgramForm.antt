@@ -1,60 +1,56 @@
 -- Each parser keeps to the laws of its form to a program, where its inner parsers do, by its table
 -- too; so does an outcome that allows no more; and the theorem of exactness.
-use Rattle.std.proofs.Common.{Bool, List, None, Ok, Option, Result, Some, [], ap, append-nil, arith}
-use Rattle.std.proofs.Common.{Err, bytes_eq, false, if◌then◌else◌, inl, inr, length, not, slice_get}
-use Rattle.std.proofs.Common.{refl, subst, sym, true, true≢false, zero, ℕ, ⊎_elim, ◌&&◌, ◌++◌, ◌||◌}
-use Rattle.std.proofs.Common.{◌<◌, ◌∙◌, ◌∷◌, ◌≡◌, ◌⊎◌}
+use Rattle.std.proofs.Common.{append-nil, true≢false, bytes_eq, Option, Result, length, ⊎_elim, Err}
+use Rattle.std.proofs.Common.{arith, false, subst, None, Some, refl, true, ◌&&◌, ◌++◌, Bool, List}
+use Rattle.std.proofs.Common.{inl, inr, not, sym, ◌<◌, ◌∙◌, ◌∷◌, ◌≡◌, ◌⊎◌, Ok, [], ap, ℕ}
 use Rattle.std.proofs.lemmas.Bool.{false_from_ne_true, and_parts, le-leb, lt-ltb}
 use Rattle.std.proofs.lemmas.Slice.Eq.{bytes_eq-Decides}
-use Rattle.std.specs.{Global.Vec, List.list_all, Option.option_map_or}
+use Rattle.std.specs.{List.list_all, Global.Vec}
+use Rattle.bpaf_base.specs.{Items.is_command_word, declared.arg.Arg.Arg}
 use Rattle.bpaf_doc.specs.Names.{Names}
-use Rattle.bpaf_base.specs.{Items.command_word, Items.is_command_word, declared.arg.Arg.Arg}
-use Rattle.bpaf_line.specs.Situation.{Context, Situation, beginning, is_marker, item_in}
-use Rattle.bpaf_line.specs.{declared.error.Error.Error, declared.error.Message.TheVariants.Missing}
-use Rattle.bpaf_line.specs.{Taking.open_item, declared.error.Message.Message}
-use Rattle.bpaf_laws.specs.Combinators.{FallbackOutcome, Gives, GivesAnswer, GivesClone}
-use Rattle.bpaf_laws.specs.Combinators.{CollectOutcome, CountOutcome, LastOutcome, ManyOutcome}
-use Rattle.bpaf_laws.specs.Combinators.{is_nil, SomeOutcome, GuardOutcome, ParseOutcome, MapOutcome}
-use Rattle.bpaf_laws.specs.Combinators.{hidden, HideOutcome, TurnOutcome}
+use Rattle.bpaf_line.specs.Situation.{Situation, beginning, Context, item_in}
+use Rattle.bpaf_line.specs.{declared.error.Message.Message, declared.error.Error.Error}
+use Rattle.bpaf_line.specs.Taking.{open_item}
+use Rattle.bpaf_laws.specs.Combinators.{FallbackOutcome, CollectOutcome, CountOutcome, GuardOutcome}
+use Rattle.bpaf_laws.specs.Combinators.{ParseOutcome, GivesAnswer, LastOutcome, ManyOutcome, is_nil}
+use Rattle.bpaf_laws.specs.Combinators.{SomeOutcome, HideOutcome, TurnOutcome, GivesClone, hidden}
 use Rattle.bpaf_laws.specs.Command.{opening_words, is_one_of, Called}
-use Rattle.bpaf_laws.specs.Product.{ProductOutcome, BothOutcome}
-use Rattle.bpaf_laws.specs.{Choice.ChoiceOutcome, Reading.Outcome}
-use Rattle.bpaf_exact.proofs.Classes.{caught_class, goes_on, kept_class, memory_class, stops_at}
-use Rattle.bpaf_exact.proofs.Programs.{before_law, command_law, con_program, record_program}
-use Rattle.bpaf_exact.proofs.Commands.{choice_commands, closed_commands, closed_program}
-use Rattle.bpaf_exact.proofs.Commands.{optional_commands}
-use Rattle.bpaf_exact.proofs.Product.{both_law, count_none, last_law, named_both_law, named_con_law}
-use Rattle.bpaf_exact.proofs.Product.{named_last_law, none_counted, con_law}
-use Rattle.bpaf_exact.proofs.Wrappers.{alternative_single, closed_law, fallback_field, left_out_law}
-use Rattle.bpaf_exact.proofs.Wrappers.{closed_alternative, closed_single, single_law}
-use Rattle.bpaf_exact.proofs.Repeat.{last_of_law, repeat_law, some_agrees_on}
-use Rattle.bpaf_exact.proofs.Names.{apart_of_names, either_owns, both_hold, foreign_of}
+use Rattle.bpaf_laws.specs.{Product.ProductOutcome, Product.BothOutcome, Choice.ChoiceOutcome}
+use Rattle.bpaf_laws.specs.{Combinators.MapOutcome, Combinators.Gives, Reading.Outcome}
+use Rattle.bpaf_exact.proofs.Classes.{caught_class, memory_class, kept_class, stops_at, goes_on}
+use Rattle.bpaf_exact.proofs.Programs.{record_program, command_law, con_program, before_law}
+use Rattle.bpaf_exact.proofs.Commands.{optional_commands, choice_commands, closed_commands}
+use Rattle.bpaf_exact.proofs.Product.{named_both_law, named_last_law, named_con_law, none_counted}
+use Rattle.bpaf_exact.proofs.Product.{count_none, both_law, last_law, con_law}
+use Rattle.bpaf_exact.proofs.Wrappers.{alternative_single, closed_alternative, fallback_field}
+use Rattle.bpaf_exact.proofs.Wrappers.{closed_single, left_out_law, closed_law, single_law}
+use Rattle.bpaf_exact.proofs.Names.{apart_of_names, either_owns, foreign_of, both_hold}
+use Rattle.bpaf_exact.proofs.Repeat.{some_agrees_on, last_of_law, repeat_law}
+use Rattle.bpaf_exact.proofs.{Commands.closed_program, Commands.choice_law, Cuts.one_cut}
 use Rattle.bpaf_exact.proofs.Places.{open_present, same_cells}
-use Rattle.bpaf_exact.proofs.{Choice.choice_law, Cuts.one_cut, Cuts.read_cut}
-use Rattle.bpaf_exact.specs.Flat.{Before, ErrorClass, FieldKind, FieldLaw, FieldsLaw, FieldsReading}
-use Rattle.bpaf_exact.specs.Flat.{ByName, Caught, IsWholeIn, KeepsTo, NonePresent, ReadOff, Refused}
-use Rattle.bpaf_exact.specs.Flat.{OfMemory, Variables, both_reading, cells, class, class_of, keys}
-use Rattle.bpaf_exact.specs.Flat.{Gap, Groups, OwnList, RepeatOutcome, SingleLaw, repeated}
-use Rattle.bpaf_exact.specs.Flat.{ClosedEval, ClosedValue, Closure, FallbackEval, FallbackValue}
-use Rattle.bpaf_exact.specs.Flat.{Decides, answer_closure, closed_err, closed_memory, closed_no}
-use Rattle.bpaf_exact.specs.Flat.{fallback_given, fallback_memory, fallback_no, optional_memory}
-use Rattle.bpaf_exact.specs.Flat.{guard_closure, optional_none, optional_some, parse_closure}
-use Rattle.bpaf_exact.specs.Flat.{OptionalEval, fallback_err, fallback_ok, optional_err}
-use Rattle.bpaf_exact.specs.Flat.{map_closure, closed_yes, list_closure, some_closure, LastOf}
-use Rattle.bpaf_exact.specs.ProgramForm.{Agrees, FormLaw, ProgramForm, alternative, are_words_apart}
-use Rattle.bpaf_exact.specs.ProgramForm.{NamedLaw, before_commands, choice_only, commands, complete}
-use Rattle.bpaf_exact.specs.ProgramForm.{EndLaw, completed, is_program, may_follow, product_reading}
-use Rattle.bpaf_exact.specs.ProgramForm.{is_named, is_record, product, product_roles, program_alone}
-use Rattle.bpaf_exact.specs.ProgramForm.{program_both, program_choice, program_command, program_con}
-use Rattle.bpaf_exact.specs.ProgramForm.{no_program, program_closed, program_dressed, program_field}
-use Rattle.bpaf_exact.specs.ProgramForm.{program_if, program_optional, program_value, whole_program}
-use Rattle.bpaf_exact.specs.ProgramForm.{whole_value, single, CellsValue, CommandEval}
-use Rattle.bpaf_exact.specs.ProgramForm.{IsSpelledLine, ProgramLaw, are_plain, WordsApart}
-use Rattle.bpaf_exact.specs.ProgramForm.{IsAcceptedOrWant, IsExact, IsNoValue, RecordValue}
-use Rattle.bpaf_exact.specs.ProgramForm.{last_reading, Accepted, RunAnswer, RunRan, line_cells}
-use Rattle.bpaf_exact.specs.ProgramForm.{run_refusal, run_value, run_leftover, run_memory}
-use Rattle.bpaf_exact.specs.ProgramForm.{RunsExactly}
-use Rattle.bpaf_exact.specs.Pieces.{LinePiece, either, Cut, Roles, no_roles, are_all_apart, Owns}
+use Rattle.bpaf_exact.specs.Flat.{FieldsReading, RepeatOutcome, OptionalValue, FallbackValue, cells}
+use Rattle.bpaf_exact.specs.Flat.{closed_memory, guard_closure, optional_none, optional_some, class}
+use Rattle.bpaf_exact.specs.Flat.{parse_closure, both_reading, FallbackEval, OptionalEval, FieldLaw}
+use Rattle.bpaf_exact.specs.Flat.{fallback_err, optional_err, list_closure, some_closure, FieldKind}
+use Rattle.bpaf_exact.specs.Flat.{ClosedValue, ErrorClass, ClosedEval, closed_err, closed_yes, keys}
+use Rattle.bpaf_exact.specs.Flat.{fallback_memory, optional_memory, answer_closure, fallback_given}
+use Rattle.bpaf_exact.specs.Flat.{fallback_no, fallback_ok, map_closure, NonePresent, SingleValue}
+use Rattle.bpaf_exact.specs.Flat.{FieldsLaw, IsWholeIn, Variables, SingleLaw, closed_no, OfMemory}
+use Rattle.bpaf_exact.specs.Flat.{class_of, repeated, KeepsTo, ReadOff, Refused, OwnList, Closure}
+use Rattle.bpaf_exact.specs.Flat.{Decides, Before, ByName, Caught, Groups, LastOf, Gap}
+use Rattle.bpaf_exact.specs.ProgramForm.{program_dressed, are_words_apart, before_commands, FormLaw}
+use Rattle.bpaf_exact.specs.ProgramForm.{product_reading, program_choice, program_closed, completed}
+use Rattle.bpaf_exact.specs.ProgramForm.{product_roles, program_alone, program_field, program_value}
+use Rattle.bpaf_exact.specs.ProgramForm.{program_con, whole_value, CommandEval, RecordValue, Agrees}
+use Rattle.bpaf_exact.specs.ProgramForm.{run_refusal, RunsExactly, is_program, may_follow, NamedLaw}
+use Rattle.bpaf_exact.specs.ProgramForm.{no_program, program_if, CellsValue, ProgramLaw, WordsApart}
+use Rattle.bpaf_exact.specs.ProgramForm.{IsNoValue, RunAnswer, commands, complete, is_named, EndLaw}
+use Rattle.bpaf_exact.specs.ProgramForm.{whole_program, IsSpelledLine, program_both, last_reading}
+use Rattle.bpaf_exact.specs.ProgramForm.{line_cells, run_memory, run_value, is_record, are_plain}
+use Rattle.bpaf_exact.specs.ProgramForm.{program_optional, IsAcceptedOrWant, program_command}
+use Rattle.bpaf_exact.specs.ProgramForm.{run_leftover, ProgramForm, alternative, choice_only}
+use Rattle.bpaf_exact.specs.ProgramForm.{Accepted, product, IsExact, single, RunRan}
+use Rattle.bpaf_exact.specs.Pieces.{are_all_apart, LinePiece, no_roles, either, Roles, Owns, Cut}
 
 -- what b allows a allows too, of a refusal one of the same class
 pub record AllowsNoMore (T : Type 0) (a b : Outcome T) : Type 0 where
@@ -82,15 +78,7 @@ narrower {refuses} n l = record {
 -- at the beginning each item is present, but for the marker
 open_at_first : (context : Context) (p : ℕ) → p < length context.line
     → open_item (beginning context) p ≡ item_in context p
-open_at_first context p l =
-    let a = le-leb zero p (omega arith) in
-    let b = lt-ltb p (length context.line) l in
-    rw (a, b) (by_marker (is_marker context.marker p) (slice_get context.line p))
-  where
-    by_marker : (m : Bool) (at : Option Arg)
-        → (if not (m || false) then (if m then None else at) else None) ≡ (if m then None else at)
-    by_marker true at = refl
-    by_marker false at = refl
+open_at_first context p l = grind (arith, le-leb, lt-ltb)
 
 -- the cells with which parsing begins are those of the line
 pub first_cells_are : (context : Context) → cells (beginning context) ≡ line_cells context
@@ -103,8 +91,7 @@ all_whole = record { end = refl; front = λ p l. absurd (omega arith); environme
 
 -- no value is none
 pub no_value : {V : Type 0} (a : RunAnswer V) {v : V} → IsNoValue a → a ≡ Accepted v → ⊥
-no_value (Accepted x) n h = n
-no_value _ n h = cc
+no_value x n h = grind arith
 
 -- A run, by what the outcome answers at the beginning.
 module _ {V : Type 0} {outcome : Outcome V} {context : Context} (value : CellsValue V) where
@@ -127,11 +114,7 @@ module _ {V : Type 0} {outcome : Outcome V} {context : Context} (value : CellsVa
       → ((t : Situation) (e : Error) → outcome (beginning context) (Err e) t → class e ≡ OfMemory)
       → {a : RunAnswer V} → RunRan V outcome (beginning context) a
       → IsAcceptedOrWant (value (line_cells context)) a
-  run_complete all want (run_value {v = x} {t} o e) = rw (← first_cells_are context) (all t x o).0
-  run_complete all want (run_leftover {v = x} {t} o e n) =
-      absurd (e (open_present t ∙ count_none (all t x o).1))
-  run_complete all want (run_memory o e) = tt
-  run_complete all want (run_refusal {e = x} {t} o e n) = absurd (e (want t x o))
+  run_complete all want x = grind (arith, count_none, first_cells_are, open_present)
 
 module _ {V : Type 0} {outcome : Outcome V} {r : Roles} {reading : FieldsReading V}
     {context : Context} (l : FieldsLaw context.env V outcome r reading) where
@@ -154,129 +137,106 @@ module _ {V : Type 0} {outcome : Outcome V} {r : Roles} {reading : FieldsReading
         let n = i.all os here h in (i.read n, n))
         (λ t e o. l.keeps.err (beginning context) t e all_whole o os here h) ran;
     refused = λ os c none v h. let i = sound ran v h in
-        none (rw (← one_cut l.named (read_cut i) c) (l.has_each i.cut_into v i.read));
+        none (rw (← one_cut l.named i.cut c) (l.has_each i.cut_into v i.read));
   }
 
 -- where a test holds
-if_law : (env : Variables) {T : Type 0} (outcome : Outcome T) (names : List Names)
-    (words : List (List ℕ)) (s : ProgramForm T) (b : Bool)
+if_law : {env : Variables} {T : Type 0} {outcome : Outcome T} {names : List Names}
+    {words : List (List ℕ)} {s : ProgramForm T} (b : Bool)
     → (b ≡ true → FormLaw env outcome names words s)
     → FormLaw env outcome names words (program_if b s)
-if_law env outcome names words s true f = f refl
-if_law env outcome names words s false f = tt
+if_law b f = grind arith
 
 -- a closure
-pub program_closed_law : (env : Variables) {A B : Type 0} (inner : Outcome A) (f : Closure A B)
-    (names : List Names) (words : List (List ℕ)) (s : ProgramForm A) → Agrees f s
+pub program_closed_law : {env : Variables} {A B : Type 0} {inner : Outcome A} {names : List Names}
+    {words : List (List ℕ)} {s : ProgramForm A} (f : Closure A B) → Agrees f s
     → FormLaw env inner names words s
     → FormLaw env (ClosedEval A B inner f Refused) names words (program_closed f s)
-program_closed_law env inner f names words (alternative wide q value) g l =
-    (closed_alternative l.0 g, l.1)
-program_closed_law env inner f names words (single wide k q group gap) g l =
-    (closed_single l.0 g.0 g.1, l.1)
-program_closed_law env inner f names words (complete wide k q value) g l =
-    (closed_law l.0 g Refused, l.1)
-program_closed_law env inner f names words (commands false value) g l = record {
-  roles = l.roles;
-  commands = closed_commands inner l.roles g Refused l.commands;
-  owns = l.owns;
+program_closed_law {s = alternative wide q value} f g l =
+    record { by = (closed_alternative l.by.0 g, l.by.1) }
+program_closed_law {s = single wide k q group gap} f g l =
+    record { by = (closed_single l.by.0 g.0 g.1, l.by.1) }
+program_closed_law {s = complete wide k q value} f g l =
+    record { by = (closed_law l.by.0 g Refused, l.by.1) }
+program_closed_law {s = commands false value} f g l = record {
+  by = record {
+    roles = l.by.roles;
+    commands = closed_commands g Refused l.by.commands;
+    owns = l.by.owns;
+  };
 }
-program_closed_law env inner f names words (commands true value) g l = record {
-  roles = l.roles;
-  program = closed_program inner l.roles g Refused l.program;
-  owns = l.owns;
+program_closed_law {s = commands true value} f g l = record {
+  by = record {
+    roles = l.by.roles;
+    program = closed_program g Refused l.by.program;
+    owns = l.by.owns;
+  };
 }
-program_closed_law env inner f names words _ g l = tt
+program_closed_law f g l = record { by = tt }
 
 -- A closure that never refuses agrees with every form: map, count, collect, a constructor.
 pub never_refuses : {A B : Type 0} (f : Closure A B) → ((x : A) → f.no x → ⊥) → (s : ProgramForm A)
     → Agrees f s
-never_refuses f n (single wide k q group gap) =
-    (λ os rest x y v a b g h. n y h, λ x y v a b g h. n y h)
-never_refuses f n no_program = tt
-never_refuses f n (before_commands value) = tt
-never_refuses f n _ = λ os x y v a b g h. n y h
+never_refuses f n x = grind arith
 
 -- a repeat has the keys of the field
 repeated_keys : (k : FieldKind) (q : Roles) {names : List Names} → Owns (keys k q) names
     → Owns (keys (repeated k) q) names
-repeated_keys ByName q o = o
-repeated_keys _ q o = o
+repeated_keys x q o = grind arith
 
 -- a repeat or default round a field
-pub completed_law : {env : Variables} {T B : Type 0} {inner : Outcome T} {outer : Outcome B}
-    {kind : FieldKind → FieldKind} (value : Groups T → Gap T → List LinePiece → B → Type 0)
-    {names : List Names}
+completed_law : {env : Variables} {T B : Type 0} {inner : Outcome T} {outer : Outcome B}
+    {kind : FieldKind → FieldKind} {names : List Names} {words more : List (List ℕ)}
+    {s : ProgramForm T} (value : Groups T → Gap T → List LinePiece → B → Type 0)
     → ((k : FieldKind) (q : Roles) → Owns (keys k q) names → Owns (keys (kind k) q) names)
     → ((k : FieldKind) (q : Roles) (group : Groups T) (gap : Gap T) → SingleLaw env T inner k q
-    group gap
-    → FieldLaw env B outer (kind k) q (value group gap)) → (words more : List (List ℕ))
-    (s : ProgramForm T) → FormLaw env inner names words s
-    → FormLaw env outer names more (completed kind value s)
-completed_law value owns law words more (alternative wide q each) l =
-    (law ByName q _ _ (alternative_single l.0), owns ByName q l.1)
-completed_law value owns law words more (single wide k q group gap) l =
-    (law k q group gap l.0, owns k q l.1)
-completed_law value owns law words more _ l = tt
+    group gap → FieldLaw env B outer (kind k) q (value group gap))
+    → FormLaw env inner names words s → FormLaw env outer names more (completed kind value s)
+completed_law {s = alternative wide q each} value owns law l =
+    record { by = (law ByName q _ _ (alternative_single l.by.0), owns ByName q l.by.1) }
+completed_law {s = single wide k q group gap} value owns law l =
+    record { by = (law k q group gap l.by.0, owns k q l.by.1) }
+completed_law value owns law l = record { by = tt }
 
 -- what some, collect and count make of the list; a refusal of theirs may be of any class
-pub listed_law : (env : Variables) {T B : Type 0} (inner : Outcome T) (idle : Bool)
-    (f : Closure (List T) B) (c : ErrorClass) (names : List Names) (words : List (List ℕ))
-    (s : ProgramForm T) → Agrees f (completed repeated (OwnList T) s)
+listed_law : {env : Variables} {T B : Type 0} {inner : Outcome T} {names : List Names}
+    {words : List (List ℕ)} {s : ProgramForm T} (idle : Bool) (f : Closure (List T) B)
+    (c : ErrorClass) → Agrees f (completed repeated (OwnList T) s)
     → FormLaw env inner names words s
     → FormLaw env (ClosedEval (List T) B (RepeatOutcome inner idle) f c) names []
     (program_closed f (completed repeated (OwnList T) s))
-listed_law env inner idle f c names words (alternative wide q value) g l =
-    (closed_law (repeat_law (alternative_single l.0) idle) g c, l.1)
-listed_law env inner idle f c names words (single wide k q group gap) g l =
-    (closed_law (repeat_law l.0 idle) g c, repeated_keys k q l.1)
-listed_law env inner idle f c names words _ g l = tt
+listed_law {s = alternative wide q value} idle f c g l =
+    record { by = (closed_law (repeat_law (alternative_single l.by.0) idle) g c, l.by.1) }
+listed_law {s = single wide k q group gap} idle f c g l =
+    record { by = (closed_law (repeat_law l.by.0 idle) g c, repeated_keys k q l.by.1) }
+listed_law idle f c g l = record { by = tt }
 
 -- some needs no premise: of the lists that the same pieces give, all are empty or none is
-pub some_agrees : (env : Variables) {T : Type 0} (inner : Outcome T) (names : List Names)
-    (words : List (List ℕ)) (s : ProgramForm T) → FormLaw env inner names words s
+some_agrees : {env : Variables} {T : Type 0} {inner : Outcome T} {names : List Names}
+    {words : List (List ℕ)} {s : ProgramForm T} → FormLaw env inner names words s
     → Agrees (some_closure T) (completed repeated (OwnList T) s)
-some_agrees env inner names words (alternative wide q value) l =
-    some_agrees_on (alternative_single l.0)
-some_agrees env inner names words (single wide k q group gap) l = some_agrees_on l.0
-some_agrees env inner names words _ l = tt
-
-module _ (env : Variables) (T : Type 0) (inner : Outcome T) (names : List Names)
-    (words : List (List ℕ)) (s : ProgramForm T) (l : FormLaw env inner names words s) where
-  -- the last value
-  pub program_last_law : FormLaw env (LastOutcome inner) names [] (completed repeated (LastOf T) s)
-  program_last_law = completed_law (LastOf T) (λ k q. repeated_keys k q)
-      (λ k q group gap l. last_of_law l) words [] s l
-
-  -- what has a value that stands for it
-  pub program_fallback_law : (f : Closure (Unit {0}) T) → Decides f
-      → FormLaw env (FallbackEval T inner f) names []
-      (completed (λ k. k) (λ group gap. FallbackValue T group gap f) s)
-  program_fallback_law f decides =
-      completed_law (λ group gap. FallbackValue T group gap f) (λ k q o. o)
-      (λ k q group gap l. fallback_field l decides) words [] s l
+some_agrees {s = alternative wide q value} l = some_agrees_on (alternative_single l.by.0)
+some_agrees {s = single wide k q group gap} l = some_agrees_on l.by.0
+some_agrees l = tt
 
 -- what may be left out
-pub program_optional_law : (env : Variables) {T : Type 0} (inner : Outcome T) (names : List Names)
-    (words : List (List ℕ)) (s : ProgramForm T) → FormLaw env inner names words s
+program_optional_law : {env : Variables} {T : Type 0} {inner : Outcome T} {names : List Names}
+    {words : List (List ℕ)} {s : ProgramForm T} → FormLaw env inner names words s
     → FormLaw env (OptionalEval T inner) names [] (program_optional s)
-program_optional_law env inner names words (commands false value) l =
-    record { roles = l.roles; program = optional_commands l.commands; owns = l.owns }
-program_optional_law env inner names words (alternative wide q value) l =
-    (left_out_law (alternative_single l.0), l.1)
-program_optional_law env inner names words (single wide k q group gap) l = (left_out_law l.0, l.1)
-program_optional_law env inner names words _ l = tt
+program_optional_law {s = commands false value} l = record {
+  by = record {
+    roles = l.by.roles;
+    program = optional_commands l.by.commands;
+    owns = l.by.owns;
+  };
+}
+program_optional_law {T} l =
+    completed_law (OptionalValue T) (λ k q o. o) (λ k q group gap l. left_out_law l) l
 
 -- an item is one word
 same_word : (word other : List ℕ) (k : Arg) → is_command_word word k ≡ true
     → is_command_word other k ≡ true → word ≡ other
-same_word word other k = by_word (command_word k)
-  where
-    by_word : (c : Option (List ℕ)) → option_map_or (λ own. bytes_eq own word) c false ≡ true
-        → option_map_or (λ own. bytes_eq own other) c false ≡ true → word ≡ other
-    by_word None e f = absurd cc
-    by_word (Some own) e f =
-        sym ((bytes_eq-Decides own word).0 e) ∙ (bytes_eq-Decides own other).0 f
+same_word word other k = grind (arith, bytes_eq-Decides)
 
 -- so it is a word of at most one of two lists of which none is among the other
 pub words_apart : (words others : List (List ℕ)) → are_words_apart words others ≡ true
@@ -290,121 +250,133 @@ words_apart words others apart k h = false_from_ne_true (is_one_of others k)
     words apart h)
 
 -- a choice of two
-pub program_choice_law : (env : Variables) (T : Type 0) (a b : Outcome T) (own others : List Names)
-    (words more : List (List ℕ)) (s t : ProgramForm T) → FormLaw env a own words s
+pub program_choice_law : {env : Variables} {T : Type 0} {a b : Outcome T} {own others : List Names}
+    {words more : List (List ℕ)} {s t : ProgramForm T} → FormLaw env a own words s
     → FormLaw env b others more t → FormLaw env (ChoiceOutcome a b) (own ++ others) (words ++ more)
     (program_choice own others words more s t)
-program_choice_law env T a b own others words more (alternative wide q x) (alternative other r y) la
-    lb =
-    if_law env (ChoiceOutcome a b) (own ++ others) (words ++ more) _ (are_all_apart own others)
-    (λ h. (choice_law T a b q r x y la.0 lb.0 (apart_of_names la.1 lb.1 h), either_owns la.1 lb.1))
-program_choice_law env T a b own others words more (commands false x) (commands false y) la lb =
-    if_law env (ChoiceOutcome a b) (own ++ others) (words ++ more) _ (are_words_apart words more)
-    (λ h. record {
-      roles = either la.roles lb.roles;
-      commands = choice_commands T a b la.roles lb.roles words more x y la.commands lb.commands
-          (words_apart words more h);
-      owns = either_owns la.owns lb.owns;
+program_choice_law {own} {others} {s = alternative wide q x} {t = alternative other r y} la lb =
+    if_law (are_all_apart own others) (λ h. record {
+      by = (
+        choice_law la.by.0 lb.by.0 (apart_of_names la.by.1 lb.by.1 h),
+        either_owns la.by.1 lb.by.1,
+      );
     })
-program_choice_law env T a b own others words more _ _ la lb = tt
+program_choice_law {words} {more} {s = commands false x} {t = commands false y} la lb =
+    if_law (are_words_apart words more) (λ h. record {
+      by = record {
+        roles = either la.by.roles lb.by.roles;
+        commands = choice_commands la.by.commands lb.by.commands (words_apart words more h);
+        owns = either_owns la.by.owns lb.by.owns;
+      };
+    })
+program_choice_law la lb = record { by = tt }
 
 -- no item without a key
-pub no_names : Owns no_roles []
+no_names : Owns no_roles []
 no_names = record { own = λ k e. absurd cc }
 
-module _ (env : Variables) (T : Type 0) (outcome : Outcome T) (names : List Names)
-    (words : List (List ℕ)) where
-  -- the law of a form
-  abbrev Law : ProgramForm T → Type 0
-  Law = FormLaw env outcome names words
+-- a product of fields, or what ends in commands, keeps to the laws of a program
+end_law : {env : Variables} {T : Type 0} {outcome : Outcome T} {names : List Names}
+    (s : ProgramForm T) → is_program (program_alone s) ≡ true
+    → FormLaw env outcome names [] (program_alone s)
+    → EndLaw env T outcome names (whole_value (program_alone s))
+end_law (complete wide k q value) h l =
+    record { roles = _; program = record_program l.by.0; owns = l.by.1 }
+end_law (product wide false q fields) h l =
+    record { roles = _; program = record_program l.by.0; owns = l.by.1 }
+end_law (commands optional value) h l = l.by
+end_law (before_commands value) h l = l.by
+end_law _ h l = absurd cc
 
+module _ {env : Variables} {T : Type 0} {outcome : Outcome T} {names : List Names}
+    {words : List (List ℕ)} where
   -- another look
-  pub program_dressed_law : (s : ProgramForm T) → Law s → Law (program_dressed s)
-  program_dressed_law (before_commands value) l = tt
-  program_dressed_law _ l = l
+  pub program_dressed_law : {s : ProgramForm T} → FormLaw env outcome names words s
+      → FormLaw env outcome names words (program_dressed s)
+  program_dressed_law {s = before_commands value} l = record { by = tt }
+  program_dressed_law {s = product wide named q fields} l = record { by = l.by }
+  program_dressed_law l = l
 
   -- one parser of a choice
-  pub choice_only_law : (s : ProgramForm T) → Law s → Law (choice_only s)
-  choice_only_law (alternative wide q value) l = l
-  choice_only_law (commands false value) l = l
-  choice_only_law _ l = tt
+  pub choice_only_law : {s : ProgramForm T} → FormLaw env outcome names words s
+      → FormLaw env outcome names words (choice_only s)
+  choice_only_law {s = alternative wide q value} l = l
+  choice_only_law {s = commands false value} l = l
+  choice_only_law l = record { by = tt }
 
   -- a field of a product, which may be a product of named fields
-  pub program_field_law : (s : ProgramForm T) → Law s → Law (program_field s)
-  program_field_law (product wide true q fields) l = (l.2, l.1)
-  program_field_law (alternative wide q value) l = (single_law (alternative_single l.0), l.1)
-  program_field_law (single wide k q group gap) l = (single_law l.0, l.1)
-  program_field_law no_program l = tt
-  program_field_law _ l = l
+  pub program_field_law : {s : ProgramForm T} → FormLaw env outcome names words s
+      → FormLaw env outcome names words (program_field s)
+  program_field_law {s = product wide true q fields} l = record { by = (l.by.2, l.by.1) }
+  program_field_law {s = product wide false q fields} l = record { by = l.by }
+  program_field_law {s = complete wide k q value} l = l
+  program_field_law {s = commands optional value} l = l
+  program_field_law {s = before_commands value} l = l
+  program_field_law l =
+      completed_law (SingleValue T) (λ k q o. o) (λ k q group gap l. single_law l) l
 
   -- the last field, or one alone
-  pub program_alone_law : (s : ProgramForm T) → Law s
+  pub program_alone_law : {s : ProgramForm T} → FormLaw env outcome names words s
       → FormLaw env outcome names [] (program_alone s)
-  program_alone_law (complete wide k q value) l =
-      (last_law l.0, rw (← append-nil names) (either_owns l.1 no_names), by_name k l.0)
+  program_alone_law {s = complete wide k q value} l = record {
+    by = (
+      last_law l.by.0,
+      rw (← append-nil names) (either_owns l.by.1 no_names),
+      by_name k l.by.0,
+    );
+  }
     where
       by_name : (j : FieldKind) → FieldLaw env T outcome j q value
           → NamedLaw env (is_named j) outcome (either (keys j q) no_roles)
           (last_reading j q value).value
-      by_name ByName l = named_last_law l
-      by_name _ l = tt
-  program_alone_law (product wide false q fields) l = l
-  program_alone_law (commands false value) l =
-      record { roles = l.roles; program = l.commands.program; owns = l.owns }
-  program_alone_law (commands true value) l = l
-  program_alone_law (before_commands value) l = l
-  program_alone_law _ l = tt
+      by_name x l = grind (arith, named_last_law)
+  program_alone_law {s = product wide false q fields} l = record { by = l.by }
+  program_alone_law {s = commands false value} l = record {
+    by = record { roles = l.by.roles; program = l.by.commands.program; owns = l.by.owns };
+  }
+  program_alone_law {s = commands true value} l = record { by = l.by }
+  program_alone_law {s = before_commands value} l = record { by = l.by }
+  program_alone_law l = record { by = tt }
 
   -- a whole program
-  pub whole_law : (s : ProgramForm T) → Law s → FormLaw env outcome names [] (whole_program s)
-  whole_law (product wide named q fields) l = l
-  whole_law s l = program_alone_law (program_field s) (program_field_law s l)
+  pub whole_law : {s : ProgramForm T} → FormLaw env outcome names words s
+      → FormLaw env outcome names [] (whole_program s)
+  whole_law {s = product wide named q fields} l = record { by = l.by }
+  whole_law {s} l = program_alone_law (program_field_law {s = s} l)
 
   -- a flat record keeps to the laws of a list of fields,
-  pub record_law : (s : ProgramForm T) → is_record s ≡ true → Law s
+  pub record_law : {s : ProgramForm T} → is_record s ≡ true → FormLaw env outcome names words s
       → FieldsLaw env T outcome (product_roles (whole_program s))
       (product_reading (whole_program s))
-  record_law (alternative wide q value) h l = (whole_law (alternative wide q value) l).0
-  record_law (single wide k q group gap) h l = (whole_law (single wide k q group gap) l).0
-  record_law (complete wide k q value) h l = (whole_law (complete wide k q value) l).0
-  record_law (product wide named q fields) h l = l.0
-  record_law _ h l = absurd cc
+  record_law {s = no_program} h l = absurd cc
+  record_law {s = commands optional value} h l = absurd cc
+  record_law {s = before_commands value} h l = absurd cc
+  record_law {s} h l = (whole_law {s = s} l).by.0
 
-  -- a product of fields, or what ends in commands, keeps to those of a program,
-  end_law : (s : ProgramForm T) → is_program (program_alone s) ≡ true
-      → FormLaw env outcome names [] (program_alone s)
-      → EndLaw env T outcome names (whole_value (program_alone s))
-  end_law (complete wide k q value) h l =
-      record { roles = _; program = record_program l.0; owns = l.1 }
-  end_law (product wide false q fields) h l =
-      record { roles = _; program = record_program l.0; owns = l.1 }
-  end_law (commands optional value) h l = l
-  end_law (before_commands value) h l = l
-  end_law _ h l = absurd cc
-
-  -- and so does each program
-  pub program_law : (s : ProgramForm T) → is_program s ≡ true → Law s
+  -- each program keeps to those of one
+  pub program_law : {s : ProgramForm T} → is_program s ≡ true → FormLaw env outcome names words s
       → EndLaw env T outcome names (program_value s)
-  program_law (product wide named q fields) h l =
-      record { roles = q; program = record_program l.0; owns = l.1 }
-  program_law no_program h l = absurd cc
-  program_law s h l = end_law (program_field s) refl (whole_law s l)
+  program_law {s = product wide named q fields} h l =
+      record { roles = q; program = record_program l.by.0; owns = l.by.1 }
+  program_law {s = no_program} h l = absurd cc
+  program_law {s} h l = end_law (program_field s) refl (whole_law {s = s} l)
 
 -- a command
-pub program_command_law : (env : Variables) (T : Type 0) (inner : Outcome T) (apart : Bool)
-    (called : Called) (names : List Names) (words : List (List ℕ)) (s : ProgramForm T)
+pub program_command_law : {env : Variables} {T : Type 0} {inner : Outcome T} {names : List Names}
+    {words : List (List ℕ)} {s : ProgramForm T} (apart : Bool) (called : Called)
     → FormLaw env inner names words s
     → FormLaw env (CommandEval T inner called) names (opening_words called)
     (program_command false apart called s)
-program_command_law env T inner apart called names words s l =
-    if_law env (CommandEval T inner called) names (opening_words called) _
-    ((apart && are_plain (opening_words called)) && is_program s)
+program_command_law {s} apart called l =
+    if_law ((apart && are_plain (opening_words called)) && is_program s)
     (λ h. let tests = and_parts (apart && are_plain (opening_words called)) (is_program s) h in
     let plain = (and_parts apart (are_plain (opening_words called)) tests.0).1 in
-    let law = program_law env T inner names words s tests.1 l in record {
-      roles = law.roles;
-      commands = command_law T inner law.roles (program_value s) law.program called plain;
-      owns = law.owns;
+    let law = program_law tests.1 l in record {
+      by = record {
+        roles = law.roles;
+        commands = command_law law.program called plain;
+        owns = law.owns;
+      };
     })
 
 -- fields that may follow keep apart
@@ -416,62 +388,70 @@ follows _ q {r} [] a b h =
 follows _ q (names ∷ others) a b h = absurd cc
 
 -- a field before others
-pub program_both_law : (env : Variables) (A B : Type 0) (first : Outcome A) (rest : Outcome B)
-    (own others : List Names) (words : List (List ℕ)) (s : ProgramForm A) (t : ProgramForm B)
+pub program_both_law : {env : Variables} {A B : Type 0} {first : Outcome A} {rest : Outcome B}
+    {own others : List Names} {words : List (List ℕ)} {s : ProgramForm A} {t : ProgramForm B}
     → FormLaw env first own words s → FormLaw env rest others [] t
     → FormLaw env (BothOutcome first rest) (own ++ others) [] (program_both own others s t)
-program_both_law env A B first rest own others words (complete wide k q fv)
-    (product other named r fields) la lb =
-    if_law env (BothOutcome first rest) (own ++ others) [] _ (may_follow k own others) (λ h. (
-      both_law la.0 lb.0 (follows k q others la.1 lb.1 h),
-      either_owns la.1 lb.1,
-      by_names k named la.0 lb.2 (follows k q others la.1 lb.1 h),
-    ))
+program_both_law {env} {A} {B} {first} {rest} {own} {others} {s = complete wide k q fv}
+    {t = product other named r fields} la lb =
+    if_law (may_follow k own others) (λ h. let after = follows k q others la.by.1 lb.by.1 h in
+    record {
+      by = (
+        both_law la.by.0 lb.by.0 after,
+        either_owns la.by.1 lb.by.1,
+        by_names k named la.by.0 lb.by.2 after,
+      );
+    })
   where
     by_names : (j : FieldKind) (all : Bool) → FieldLaw env A first j q fv
         → NamedLaw env all rest r fields.value → Before j q r
         → NamedLaw env (is_named j && all) (BothOutcome first rest) (either (keys j q) r)
         (both_reading j q fv fields).value
-    by_names ByName true l m apart = named_both_law A B first rest q r fv fields l m apart
+    by_names ByName true l m apart = named_both_law fields l m apart
     by_names _ _ l m apart = tt
-program_both_law env A B first rest own others words (complete wide ByName q fv)
-    (before_commands rv) la lb =
-    if_law env (BothOutcome first rest) (own ++ others) [] _ (are_all_apart own others)
-    (λ h. record {
-      roles = either q lb.roles;
-      program = before_law la.0 lb.program (apart_of_names la.1 lb.owns h);
-      owns = either_owns la.1 lb.owns;
+program_both_law {own} {others} {s = complete wide ByName q fv} {t = before_commands rv} la lb =
+    if_law (are_all_apart own others) (λ h. record {
+      by = record {
+        roles = either q lb.by.roles;
+        program = before_law la.by.0 lb.by.program (apart_of_names la.by.1 lb.by.owns h);
+        owns = either_owns la.by.1 lb.by.owns;
+      };
     })
-program_both_law env A B first rest own others words _ _ la lb = tt
+program_both_law la lb = record { by = tt }
 
 -- the constructor of a product
-pub program_con_law : (env : Variables) (A B : Type 0) (inner : Outcome A) (makes : A → B → Type 0)
-    (names : List Names) (s : ProgramForm A) → FormLaw env inner names [] s
+pub program_con_law : {env : Variables} {A B : Type 0} {inner : Outcome A} {names : List Names}
+    {s : ProgramForm A} (makes : A → B → Type 0) → FormLaw env inner names [] s
     → FormLaw env (ProductOutcome inner makes) names [] (program_con (map_closure makes) s)
-program_con_law env A B inner makes names (product wide named q fields) l =
-    (con_law makes l.0, l.1, by_name named l.2)
+program_con_law {env} {A} {B} {inner} {s = product wide named q fields} makes l =
+    record { by = (con_law makes l.by.0, l.by.1, by_name named l.by.2) }
   where
     by_name : (all : Bool) → NamedLaw env all inner q fields.value
         → NamedLaw env all (ProductOutcome inner makes) q
         (ClosedValue fields.value (map_closure makes))
     by_name true l = named_con_law makes l
     by_name false l = tt
-program_con_law env A B inner makes names (before_commands value) l =
-    record { roles = l.roles; program = con_program makes l.program; owns = l.owns }
-program_con_law env A B inner makes names _ l = tt
+program_con_law {s = before_commands value} makes l = record {
+  by = record {
+    roles = l.by.roles;
+    program = con_program makes l.by.program;
+    owns = l.by.owns;
+  };
+}
+program_con_law makes l = record { by = tt }
 
 -- THE THEOREM: on every line, spelled by words, an answer of a run of a program is a value only
 -- where that is one of the program's; and where it has a value, it is one, or want of memory.
-pub runs_as_program : (V : Type 0) (outcome : Outcome V) (names : List Names)
-    (words : List (List ℕ)) (s : ProgramForm V) → is_program s ≡ true → (context : Context)
-    → FormLaw context.env outcome names words s → IsSpelledLine context
-    → (a : RunAnswer V) → RunRan V outcome (beginning context) a
-    → ((v : V) → a ≡ Accepted v → program_value s (line_cells context) v)
+pub runs_as_program : {V : Type 0} {outcome : Outcome V} {names : List Names}
+    {words : List (List ℕ)} {s : ProgramForm V} → is_program s ≡ true → (context : Context)
+    → FormLaw context.env outcome names words s → (a : RunAnswer V)
+    → RunRan V outcome (beginning context) a
+    → (IsSpelledLine context → (v : V) → a ≡ Accepted v → program_value s (line_cells context) v)
     × ((u : V) → program_value s (line_cells context) u
     → IsAcceptedOrWant (program_value s (line_cells context)) a)
-runs_as_program V outcome names words s h context l spelled a ran =
-    let law = (program_law context.env V outcome names words s h l).program.keeps in (
-      run_sound (program_value s)
+runs_as_program {s} h context l a ran =
+    let law = (program_law h l).program.keeps in (
+      λ spelled. run_sound (program_value s)
           (λ t v o. (law.ok (beginning context) t v all_whole o).read spelled) ran,
       λ u value. let here : program_value s (cells (beginning context)) u
           = rw (first_cells_are context) value in run_complete (program_value s)
@@ -480,11 +460,10 @@ runs_as_program V outcome names words s h context l spelled a ran =
     )
 
 -- each answer of a run of a flat record is exact
-pub runs_exactly : (V : Type 0) (outcome : Outcome V) (names : List Names)
-    (words : List (List ℕ)) (s : ProgramForm V) → is_record s ≡ true → (context : Context)
+pub runs_exactly : {V : Type 0} {outcome : Outcome V} {names : List Names}
+    {words : List (List ℕ)} {s : ProgramForm V} → is_record s ≡ true → (context : Context)
     → FormLaw context.env outcome names words s → RunsExactly outcome s context
-runs_exactly V outcome names words s h context l a r =
-    exact (record_law context.env V outcome names words s h l) r
+runs_exactly h context l a ran = exact (record_law h l) ran
 
 -- an outcome that allows no more keeps to the same laws of a program
 narrower_program : {env : Variables} {V : Type 0} {a b : Outcome V} {r : Roles}
@@ -493,123 +472,61 @@ narrower_program : {env : Variables} {V : Type 0} {a b : Outcome V} {r : Roles}
 narrower_program n l = record { others = l.others; keeps = narrower n l.keeps }
 
 -- and of any form
-pub narrower_form : (env : Variables) (T : Type 0) (a b : Outcome T) → AllowsNoMore T a b
-    → (names : List Names) (words : List (List ℕ)) (s : ProgramForm T)
+pub narrower_form : {env : Variables} {T : Type 0} {a b : Outcome T} {names : List Names}
+    {words : List (List ℕ)} {s : ProgramForm T} → AllowsNoMore T a b
     → FormLaw env a names words s → FormLaw env b names words s
-narrower_form env T a b n names words no_program l = tt
-narrower_form env T a b n names words (alternative wide q value) l =
-    (record { named = l.0.named; keeps = narrower n l.0.keeps }, l.1)
-narrower_form env T a b n names words (single wide k q group gap) l = (
-  record {
-    own = l.0.own;
-    words = l.0.words;
-    starts = l.0.starts;
-    no_absent = l.0.no_absent;
-    keeps = narrower n l.0.keeps;
-  },
-  l.1,
-)
-narrower_form env T a b n names words (complete wide k q value) l =
-    (record { own = l.0.own; keeps = narrower n l.0.keeps }, l.1)
-narrower_form env T a b n names words (product wide named q fields) l = (
-  record { named = l.0.named; has_each = l.0.has_each; keeps = narrower n l.0.keeps },
-  l.1,
-  by_name named l.2,
-)
+narrower_form {s = no_program} n l = record { by = tt }
+narrower_form {s = alternative wide q value} n l = record {
+  by = (record { named = l.by.0.named; keeps = narrower n l.by.0.keeps }, l.by.1);
+}
+narrower_form {s = single wide k q group gap} n l = record {
+  by = (
+    record {
+      own = l.by.0.own;
+      words = l.by.0.words;
+      starts = l.by.0.starts;
+      no_absent = l.by.0.no_absent;
+      keeps = narrower n l.by.0.keeps;
+    },
+    l.by.1,
+  );
+}
+narrower_form {s = complete wide k q value} n l = record {
+  by = (record { own = l.by.0.own; keeps = narrower n l.by.0.keeps }, l.by.1);
+}
+narrower_form {env} {a} {b} {s = product wide named q fields} n l = record {
+  by = (
+    record {
+      named = l.by.0.named;
+      has_each = l.by.0.has_each;
+      keeps = narrower n l.by.0.keeps;
+    },
+    l.by.1,
+    by_name named l.by.2,
+  );
+}
   where
     by_name : (all : Bool) → NamedLaw env all a q fields.value → NamedLaw env all b q fields.value
-    by_name true l = record { own = l.own; keeps = narrower n l.keeps }
-    by_name false l = tt
-narrower_form env T a b n names words (commands false value) l = record {
-  roles = l.roles;
-  commands = record {
-    program = narrower_program n l.commands.program;
-    opened = l.commands.opened;
-    none = narrower n l.commands.none;
+    by_name b l = grind (arith, narrower)
+narrower_form {s = commands false value} n l = record {
+  by = record {
+    roles = l.by.roles;
+    commands = record {
+      program = narrower_program n l.by.commands.program;
+      opened = l.by.commands.opened;
+      none = narrower n l.by.commands.none;
+    };
+    owns = l.by.owns;
   };
-  owns = l.owns;
 }
-narrower_form env T a b n names words (commands true value) l =
-    record { roles = l.roles; program = narrower_program n l.program; owns = l.owns }
-narrower_form env T a b n names words (before_commands value) l =
-    record { roles = l.roles; program = narrower_program n l.program; owns = l.owns }
+narrower_form {s = commands true value} n l = record {
+  by = record { roles = l.by.roles; program = narrower_program n l.by.program; owns = l.by.owns };
+}
+narrower_form {s = before_commands value} n l = record {
+  by = record { roles = l.by.roles; program = narrower_program n l.by.program; owns = l.by.owns };
+}
 
 -- By their tables.
-
--- where a parser keeps to the laws of its form, so does what is made of it, with the same keys
-abbrev pub Lifts : {A B : Type 0} → Variables → Outcome A → Outcome B
-    → (ProgramForm A → ProgramForm B) → Type 1
-Lifts {A} env inner outer form =
-    (names : List Names) (words : List (List ℕ)) (s : ProgramForm A)
-    → FormLaw env inner names words s → FormLaw env outer names [] (form s)
-
--- Each keeps to the laws of its form: map
-pub map_law : (env : Variables) (A B : Type 0) (inner : Outcome A) (answers : A → B → Type 0)
-    (names : List Names) (words : List (List ℕ)) (s : ProgramForm A)
-    → FormLaw env inner names words s
-    → FormLaw env (MapOutcome inner answers) names words (program_closed (map_closure answers) s)
-map_law env A B inner answers names words s l =
-    narrower_form env B _ _ (no_more by_answer) names words _
-    (program_closed_law env inner (map_closure answers) names words s
-    (never_refuses (map_closure answers) (λ x n. n) s) l)
-  where
-    by_answer : (s t : Situation) (r : Result B Error) → MapOutcome inner answers s r t
-        → ClosedEval A B inner (map_closure answers) Refused s r t
-    by_answer s t (Ok v) o = closed_yes o.1 o.2
-    by_answer s t (Err e) o = closed_err o
-
--- parse
-pub parse_law : (env : Variables) (A B E : Type 0) (inner : Outcome A)
-    (answers : A → Result B E → Type 0) (shown : E → Option (List ℕ)) (names : List Names)
-    (words : List (List ℕ)) (s : ProgramForm A) → Agrees (parse_closure answers) s
-    → FormLaw env inner names words s → FormLaw env (ParseOutcome inner answers shown) names words
-    (program_closed (parse_closure answers) s)
-parse_law env A B E inner answers shown names words s g l =
-    narrower_form env B _ _ (no_more by_answer) names words _
-    (program_closed_law env inner (parse_closure answers) names words s g l)
-  where
-    by_answer : (s t : Situation) (r : Result B Error) → ParseOutcome inner answers shown s r t
-        → ClosedEval A B inner (parse_closure answers) Refused s r t
-    by_answer s t (Ok v) o = closed_yes o.1 o.2
-    by_answer s t (Err e) (inl o) = closed_err o
-    by_answer s t (Err e) (inr o) = ⊎_elim (λ memory. closed_memory o.1 (ap class_of memory))
-        (λ told. closed_no o.1 (o.2, o.3) (ap class_of told.1)) o.4
-
--- guard
-pub guard_law : (env : Variables) (A : Type 0) (inner : Outcome A) (checks : A → Bool → Type 0)
-    (message : List ℕ) (names : List Names) (words : List (List ℕ)) (s : ProgramForm A)
-    → Agrees (guard_closure checks) s → FormLaw env inner names words s
-    → FormLaw env (GuardOutcome inner checks message) names words
-    (program_closed (guard_closure checks) s)
-guard_law env A inner checks message names words s g l =
-    narrower_form env A _ _ (no_more by_answer) names words _
-    (program_closed_law env inner (guard_closure checks) names words s g l)
-  where
-    by_answer : (s t : Situation) (r : Result A Error) → GuardOutcome inner checks message s r t
-        → ClosedEval A A inner (guard_closure checks) Refused s r t
-    by_answer s t (Ok v) o = closed_yes o.0 (refl, o.1)
-    by_answer s t (Err e) (inl o) = closed_err o
-    by_answer s t (Err e) (inr o) = ⊎_elim (λ told. closed_no o.1 o.2 (ap class_of told))
-        (λ memory. closed_memory o.1 (ap class_of memory)) o.3
-
--- optional
-pub optional_law : (env : Variables) (T : Type 0) (inner : Outcome T) (catch : Bool)
-    → Lifts env inner (TurnOutcome inner catch true)
-    (λ s. program_if (not catch) (program_optional s))
-optional_law env T inner true names words s l = tt
-optional_law env T inner false names words s l =
-    narrower_form env (Option T) _ _ (no_more by_answer) names [] (program_optional s)
-    (program_optional_law env inner names words s l)
-  where
-    by_answer : (s t : Situation) (r : Result (Option T) Error) → TurnOutcome inner false true s r t
-        → OptionalEval T inner s r t
-    by_answer s t (Ok (Some v)) o = optional_some o.0
-    by_answer s t (Ok None) (inl o) = absurd (true≢false o.2)
-    by_answer s t (Ok None) (inr o) = rw o.1 (optional_none o.0.2 (stops_at o.0.3))
-    by_answer s t (Err e) (inl o) = optional_err o.0 (goes_on e o.1)
-    by_answer s t (Err e) (inr o) = optional_memory (memory_class e.0 o.0)
-
--- Repeats.
 
 -- what a repeat makes of a field, by what is made of its list; with `catch` it is none
 abbrev pub repeated_form : {T B : Type 0} → Bool → Closure (List T) B → ProgramForm T
@@ -617,133 +534,179 @@ abbrev pub repeated_form : {T B : Type 0} → Bool → Closure (List T) B → Pr
 repeated_form {T} catch f s =
     program_if (not catch) (program_closed f (completed repeated (OwnList T) s))
 
--- what answers no more than a closure on the list of a repeat, where it has no `catch`, keeps to
--- the laws of its form
-repeated_form_law : (env : Variables) {T B : Type 0} (inner : Outcome T) (idle catch : Bool)
-    {f : Closure (List T) B} {c : ErrorClass} (outcome : Bool → Outcome B)
-    → ((s t : Situation) (r : Result B Error) → outcome false s r t
-    → ClosedEval (List T) B (RepeatOutcome inner idle) f c s r t)
-    → (names : List Names) (words : List (List ℕ)) (s : ProgramForm T)
-    → Agrees f (completed repeated (OwnList T) s) → FormLaw env inner names words s
-    → FormLaw env (outcome catch) names [] (repeated_form catch f s)
-repeated_form_law env inner idle true outcome within names words s agrees l = tt
-repeated_form_law env {B} inner idle false {f} {c} outcome within names words s agrees l =
-    narrower_form env B _ _ (no_more within) names [] _
-    (listed_law env inner idle f c names words s agrees l)
-
--- many
-pub many_law : (env : Variables) (T : Type 0) (inner : Outcome T) (catch : Bool)
-    → Lifts env inner (ManyOutcome inner catch) (repeated_form catch (list_closure T))
-many_law env T inner catch names words s =
-    repeated_form_law env inner false catch (ManyOutcome inner) by_answer names words s
-    (never_refuses (list_closure T) (λ x n. n) _)
-  where
-    by_answer : (s t : Situation) (r : Result (Vec T) Error) → ManyOutcome inner false s r t
-        → ClosedEval (List T) (Vec T) (RepeatOutcome inner false) (list_closure T) Refused s r t
-    by_answer s t (Ok v) o = closed_yes o refl
-    by_answer s t (Err e) o = closed_err o
-
--- some
-pub some_law : (env : Variables) (T : Type 0) (inner : Outcome T) (catch : Bool)
-    (message : List ℕ)
-    → Lifts env inner (SomeOutcome inner catch message) (repeated_form catch (some_closure T))
-some_law env T inner catch message names words s l =
-    repeated_form_law env inner false catch (λ c. SomeOutcome inner c message) by_answer
-    names words s (some_agrees env inner names words s l) l
-  where
-    by_answer : (s t : Situation) (r : Result (Vec T) Error) → SomeOutcome inner false message s r t
-        → ClosedEval (List T) (Vec T) (RepeatOutcome inner false) (some_closure T) Caught s r t
-    by_answer s t (Ok v) o = closed_yes o.0 (refl, λ none. true≢false (sym (ap is_nil none) ∙ o.1))
-    by_answer s t (Err e) (inl o) = closed_err o
-    by_answer s t (Err e) (inr o) =
-        ⊎_elim (λ told. closed_no o.0 refl (ap class_of told))
-        (λ memory. closed_memory o.0 (ap class_of memory)) o.1
-
--- collect
-pub collect_law : (env : Variables) (T C : Type 0) (inner : Outcome T) (catch : Bool)
-    (fills : List T → C → Type 0)
-    → Lifts env inner (CollectOutcome inner catch fills) (repeated_form catch (map_closure fills))
-collect_law env T C inner catch fills names words s =
-    repeated_form_law env inner false catch (λ c. CollectOutcome inner c fills) by_answer
-    names words s (never_refuses (map_closure fills) (λ x n. n) _)
-  where
-    by_answer : (s t : Situation) (r : Result C Error) → CollectOutcome inner false fills s r t
-        → ClosedEval (List T) C (RepeatOutcome inner false) (map_closure fills) Refused s r t
-    by_answer s t (Ok v) o = closed_yes o.1 o.2
-    by_answer s t (Err e) (inl o) = closed_err o
-    by_answer s t (Err e) (inr o) = closed_memory o.1 (memory_class e.0 o.2)
-
--- count
-pub count_law : (env : Variables) (T : Type 0) (inner : Outcome T)
-    → Lifts env inner (CountOutcome inner)
-    (repeated_form false (map_closure (λ vs n. n ≡ length vs)))
-count_law env T inner names words s =
-    repeated_form_law env inner true false (λ c. CountOutcome inner) by_answer names words s
-    (never_refuses (map_closure (λ vs n. n ≡ length vs)) (λ x n. n) _)
-  where
-    by_answer : (s t : Situation) (r : Result ℕ Error) → CountOutcome inner s r t
-        → ClosedEval (List T) ℕ (RepeatOutcome inner true)
-        (map_closure (λ vs n. n ≡ length vs)) Refused s r t
-    by_answer s t (Ok n) o = closed_yes o.1 o.2
-    by_answer s t (Err e) o = closed_err o
-
--- Defaults.
-
--- what gives a value in place of an inner one, as a closure on nothing does, keeps to the laws of
--- its form
-fallback_form_law : (env : Variables) {T : Type 0} (inner : Outcome T) (gives : Gives T)
-    (f : Closure (Unit {0}) T) → Decides f → ((v : T) → gives (Ok v) → f.yes tt v)
-    → ((e : Error) → gives (Err e) → (class e ≡ OfMemory) ⊎ (f.no tt × (class e ≡ Caught)))
-    → Lifts env inner (FallbackOutcome inner gives)
-    (completed (λ k. k) (λ group gap. FallbackValue T group gap f))
-fallback_form_law env {T} inner gives f decides gave refused names words s l =
-    narrower_form env T _ _ (no_more by_answer) names [] _
-    (program_fallback_law env T inner names words s l f decides)
-  where
-    by_answer : (s t : Situation) (r : Result T Error) → FallbackOutcome inner gives s r t
-        → FallbackEval T inner f s r t
-    by_answer s t (Ok v) (inl o) = fallback_ok o
-    by_answer s t (Ok v) (inr o) =
-        rw o.0.1 (fallback_given o.0.0.2 (caught_class o.0.0.0.0 o.0.0.3) (gave v o.1))
-    by_answer s t (Err e) (inl o) = rw o.1
-        (⊎_elim (λ kept. fallback_err kept.1 (kept_class e.0 kept.2))
-        (λ memory. fallback_memory (memory_class e.0 memory)) o.0)
-    by_answer s t (Err e) (inr o) = rw o.0.1 (⊎_elim (λ memory. fallback_memory memory)
-        (λ told. fallback_no o.0.0.2 (caught_class o.0.0.0.0 o.0.0.3) told.0 told.1)
-        (refused e o.1))
-
--- a kept value
-pub fallback_law : (env : Variables) (T : Type 0) (inner : Outcome T) (clones : T → T → Type 0)
-    (kept : T) → Lifts env inner (FallbackOutcome inner (GivesClone clones kept))
-    (completed (λ k. k) (λ group gap. FallbackValue T group gap (map_closure (λ u. clones kept))))
-fallback_law env T inner clones kept =
-    fallback_form_law env inner (GivesClone clones kept) (map_closure (λ u. clones kept))
-    (λ u v y n. n) (λ v g. g) (λ e g. inl (memory_class e.0 g))
-
--- a closure's value
-pub fallback_with_law : (env : Variables) (T E : Type 0) (inner : Outcome T)
-    (answers : Result T E → Type 0) (shown : E → Option (List ℕ)) (names : List Names)
-    (words : List (List ℕ)) (s : ProgramForm T) → Decides (answer_closure answers)
-    → FormLaw env inner names words s
-    → FormLaw env (FallbackOutcome inner (GivesAnswer answers shown)) names []
-    (completed (λ k. k) (λ group gap. FallbackValue T group gap (answer_closure answers)) s)
-fallback_with_law env T E inner answers shown names words s decides =
-    fallback_form_law env inner (GivesAnswer answers shown) (answer_closure answers) decides
-    (λ v g. g) (λ e g. ⊎_elim (λ memory. inl (ap class_of memory))
-    (λ told. inr ((g.0, g.1), ap class_of told.1)) g.2) names words s
+-- what has a value that stands for it
+abbrev pub fallback_form : {T : Type 0} → Closure (Unit {0}) T → ProgramForm T → ProgramForm T
+fallback_form {T} f = completed (λ k. k) (λ group gap. FallbackValue T group gap f)
 
 -- a hidden refusal is one of the same class
 hidden_class : (m : Message) → class_of m ≡ class_of (hidden m)
-hidden_class (Missing items) = refl
-hidden_class m = refl
+hidden_class m = grind arith
 
--- hide
-pub hide_law : (env : Variables) (T : Type 0) (inner : Outcome T) (names : List Names)
-    (words : List (List ℕ)) (s : ProgramForm T) → FormLaw env inner names words s
-    → FormLaw env (HideOutcome inner) names words (program_dressed s)
-hide_law env T inner names words s l =
-    program_dressed_law env T (HideOutcome inner) names words s
-    (narrower_form env T inner (HideOutcome inner) (record {
-      value = λ s t v o. o;
-      refusal = λ s t e o. (o.0, o.1, hidden_class o.0.0 ∙ ap class_of (sym o.2));
-    }) names words s l)
+module _ {env : Variables} {A : Type 0} {inner : Outcome A} {names : List Names}
+    {words : List (List ℕ)} {s : ProgramForm A} (l : FormLaw env inner names words s) where
+  -- Each keeps to the laws of its form: map
+  pub map_law : {B : Type 0} (answers : A → B → Type 0)
+      → FormLaw env (MapOutcome inner answers) names words (program_closed (map_closure answers) s)
+  map_law {B} answers = narrower_form (no_more by_answer) (program_closed_law
+      (map_closure answers) (never_refuses (map_closure answers) (λ x n. n) s) l)
+    where
+      by_answer : (s t : Situation) (r : Result B Error) → MapOutcome inner answers s r t
+          → ClosedEval A B inner (map_closure answers) Refused s r t
+      by_answer s t (Ok v) o = closed_yes o.1 o.2
+      by_answer s t (Err e) o = closed_err o
+
+  -- parse
+  pub parse_law : {B E : Type 0} (answers : A → Result B E → Type 0)
+      (shown : E → Option (List ℕ)) → Agrees (parse_closure answers) s
+      → FormLaw env (ParseOutcome inner answers shown) names words
+      (program_closed (parse_closure answers) s)
+  parse_law {B} answers shown agrees =
+      narrower_form (no_more by_answer) (program_closed_law (parse_closure answers) agrees l)
+    where
+      by_answer : (s t : Situation) (r : Result B Error) → ParseOutcome inner answers shown s r t
+          → ClosedEval A B inner (parse_closure answers) Refused s r t
+      by_answer s t (Ok v) o = closed_yes o.1 o.2
+      by_answer s t (Err e) (inl o) = closed_err o
+      by_answer s t (Err e) (inr o) = ⊎_elim (λ memory. closed_memory o.1 (ap class_of memory))
+          (λ told. closed_no o.1 (o.2, o.3) (ap class_of told.1)) o.4
+
+  -- guard
+  pub guard_law : (checks : A → Bool → Type 0) (message : List ℕ)
+      → Agrees (guard_closure checks) s → FormLaw env (GuardOutcome inner checks message) names
+      words (program_closed (guard_closure checks) s)
+  guard_law checks message agrees =
+      narrower_form (no_more by_answer) (program_closed_law (guard_closure checks) agrees l)
+    where
+      by_answer : (s t : Situation) (r : Result A Error) → GuardOutcome inner checks message s r t
+          → ClosedEval A A inner (guard_closure checks) Refused s r t
+      by_answer s t (Ok v) o = closed_yes o.0 (refl, o.1)
+      by_answer s t (Err e) (inl o) = closed_err o
+      by_answer s t (Err e) (inr o) = ⊎_elim (λ told. closed_no o.1 o.2 (ap class_of told))
+          (λ memory. closed_memory o.1 (ap class_of memory)) o.3
+
+  -- hide
+  pub hide_law : FormLaw env (HideOutcome inner) names words (program_dressed s)
+  hide_law = program_dressed_law (narrower_form (record {
+    value = λ s t v o. o;
+    refusal = λ s t e o. (o.0, o.1, hidden_class o.0.0 ∙ ap class_of (sym o.2));
+  }) l)
+
+  -- optional
+  pub optional_law : (catch : Bool) → FormLaw env (TurnOutcome inner catch true) names []
+      (program_if (not catch) (program_optional s))
+  optional_law true = record { by = tt }
+  optional_law false = narrower_form (no_more by_answer) (program_optional_law l)
+    where
+      by_answer : (s t : Situation) (r : Result (Option A) Error)
+          → TurnOutcome inner false true s r t → OptionalEval A inner s r t
+      by_answer s t (Ok (Some v)) o = optional_some o.0
+      by_answer s t (Ok None) (inl o) = absurd (true≢false o.2)
+      by_answer s t (Ok None) (inr o) = rw o.1 (optional_none o.0.2 (stops_at o.0.3))
+      by_answer s t (Err e) (inl o) = optional_err o.0 (goes_on e o.1)
+      by_answer s t (Err e) (inr o) = optional_memory (memory_class e.0 o.0)
+
+  -- what answers no more than a closure on the list of a repeat without `catch` keeps to its laws
+  repeated_form_law : {B : Type 0} {f : Closure (List A) B} {c : ErrorClass} (idle catch : Bool)
+      (outcome : Bool → Outcome B) → Agrees f (completed repeated (OwnList A) s)
+      → ((s t : Situation) (r : Result B Error) → outcome false s r t
+      → ClosedEval (List A) B (RepeatOutcome inner idle) f c s r t)
+      → FormLaw env (outcome catch) names [] (repeated_form catch f s)
+  repeated_form_law idle true outcome agrees within = record { by = tt }
+  repeated_form_law {f} {c} idle false outcome agrees within =
+      narrower_form (no_more within) (listed_law idle f c agrees l)
+
+  -- many
+  pub many_law : (catch : Bool)
+      → FormLaw env (ManyOutcome inner catch) names [] (repeated_form catch (list_closure A) s)
+  many_law catch = repeated_form_law false catch (ManyOutcome inner)
+      (never_refuses (list_closure A) (λ x n. n) _) by_answer
+    where
+      by_answer : (s t : Situation) (r : Result (Vec A) Error) → ManyOutcome inner false s r t
+          → ClosedEval (List A) (Vec A) (RepeatOutcome inner false) (list_closure A) Refused s r t
+      by_answer s t (Ok v) o = closed_yes o refl
+      by_answer s t (Err e) o = closed_err o
+
+  -- some
+  pub some_law : (catch : Bool) (message : List ℕ) → FormLaw env (SomeOutcome inner catch message)
+      names [] (repeated_form catch (some_closure A) s)
+  some_law catch message = repeated_form_law false catch (λ c. SomeOutcome inner c message)
+      (some_agrees l) by_answer
+    where
+      by_answer : (s t : Situation) (r : Result (Vec A) Error)
+          → SomeOutcome inner false message s r t
+          → ClosedEval (List A) (Vec A) (RepeatOutcome inner false) (some_closure A) Caught s r t
+      by_answer s t (Ok v) o =
+          closed_yes o.0 (refl, λ none. true≢false (sym (ap is_nil none) ∙ o.1))
+      by_answer s t (Err e) (inl o) = closed_err o
+      by_answer s t (Err e) (inr o) = ⊎_elim (λ told. closed_no o.0 refl (ap class_of told))
+          (λ memory. closed_memory o.0 (ap class_of memory)) o.1
+
+  -- collect
+  pub collect_law : {C : Type 0} (catch : Bool) (fills : List A → C → Type 0)
+      → FormLaw env (CollectOutcome inner catch fills) names []
+      (repeated_form catch (map_closure fills) s)
+  collect_law {C} catch fills = repeated_form_law false catch (λ c. CollectOutcome inner c fills)
+      (never_refuses (map_closure fills) (λ x n. n) _) by_answer
+    where
+      by_answer : (s t : Situation) (r : Result C Error) → CollectOutcome inner false fills s r t
+          → ClosedEval (List A) C (RepeatOutcome inner false) (map_closure fills) Refused s r t
+      by_answer s t (Ok v) o = closed_yes o.1 o.2
+      by_answer s t (Err e) (inl o) = closed_err o
+      by_answer s t (Err e) (inr o) = closed_memory o.1 (memory_class e.0 o.2)
+
+  -- count
+  pub count_law : FormLaw env (CountOutcome inner) names []
+      (repeated_form false (map_closure (λ vs n. n ≡ length vs)) s)
+  count_law = repeated_form_law true false (λ c. CountOutcome inner)
+      (never_refuses (map_closure (λ vs n. n ≡ length vs)) (λ x n. n) _) by_answer
+    where
+      by_answer : (s t : Situation) (r : Result ℕ Error) → CountOutcome inner s r t
+          → ClosedEval (List A) ℕ (RepeatOutcome inner true)
+          (map_closure (λ vs n. n ≡ length vs)) Refused s r t
+      by_answer s t (Ok n) o = closed_yes o.1 o.2
+      by_answer s t (Err e) o = closed_err o
+
+  -- last
+  pub program_last_law : FormLaw env (LastOutcome inner) names []
+      (completed repeated (LastOf A) s)
+  program_last_law = completed_law (LastOf A) (λ k q. repeated_keys k q)
+      (λ k q group gap l. last_of_law l) l
+
+  -- what gives a value in place of an inner one, as a closure on nothing does, keeps to its laws
+  fallback_form_law : (gives : Gives A) (f : Closure (Unit {0}) A) → Decides f
+      → ((v : A) → gives (Ok v) → f.yes tt v)
+      → ((e : Error) → gives (Err e) → (class e ≡ OfMemory) ⊎ (f.no tt × (class e ≡ Caught)))
+      → FormLaw env (FallbackOutcome inner gives) names [] (fallback_form f s)
+  fallback_form_law gives f decides gave refused = narrower_form (no_more by_answer)
+      (completed_law (λ group gap. FallbackValue A group gap f) (λ k q o. o)
+      (λ k q group gap l. fallback_field l decides) l)
+    where
+      by_answer : (s t : Situation) (r : Result A Error) → FallbackOutcome inner gives s r t
+          → FallbackEval A inner f s r t
+      by_answer s t (Ok v) (inl o) = fallback_ok o
+      by_answer s t (Ok v) (inr o) =
+          rw o.0.1 (fallback_given o.0.0.2 (caught_class o.0.0.0.0 o.0.0.3) (gave v o.1))
+      by_answer s t (Err e) (inl o) = rw o.1
+          (⊎_elim (λ kept. fallback_err kept.1 (kept_class e.0 kept.2))
+          (λ memory. fallback_memory (memory_class e.0 memory)) o.0)
+      by_answer s t (Err e) (inr o) = rw o.0.1 (⊎_elim (λ memory. fallback_memory memory)
+          (λ told. fallback_no o.0.0.2 (caught_class o.0.0.0.0 o.0.0.3) told.0 told.1)
+          (refused e o.1))
+
+  -- a kept value
+  pub fallback_law : (clones : A → A → Type 0) (kept : A)
+      → FormLaw env (FallbackOutcome inner (GivesClone clones kept)) names []
+      (fallback_form (map_closure (λ u. clones kept)) s)
+  fallback_law clones kept =
+      fallback_form_law (GivesClone clones kept) (map_closure (λ u. clones kept))
+      (λ u v y n. n) (λ v g. g) (λ e g. inl (memory_class e.0 g))
+
+  -- a closure's value
+  pub fallback_with_law : {E : Type 0} (answers : Result A E → Type 0)
+      (shown : E → Option (List ℕ)) → Decides (answer_closure answers)
+      → FormLaw env (FallbackOutcome inner (GivesAnswer answers shown)) names []
+      (fallback_form (answer_closure answers) s)
+  fallback_with_law answers shown decides =
+      fallback_form_law (GivesAnswer answers shown) (answer_closure answers) decides
+      (λ v g. g) (λ e g. ⊎_elim (λ memory. inl (ap class_of memory))
+      (λ told. inr ((g.0, g.1), ap class_of told.1)) g.2)

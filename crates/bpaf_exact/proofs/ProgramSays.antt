@@ -1,220 +1,268 @@
 -- Of each combinator: its values say what is told of them, where those of its inner parsers do.
-use Rattle.std.proofs.Common.{Bool, List, None, Some, [], arith, false, inl, inr, not, refl, suc}
-use Rattle.std.proofs.Common.{true, zero, ℕ, ◌&&◌, ◌++◌, ◌∷◌, ◌≡◌}
-use Rattle.std.proofs.lemmas.Bool.{and_parts}
-use Rattle.std.specs.List.{Contains}
+use Rattle.std.proofs.Common.{append-nil, arith, false, subst, Bool, List, refl, true, zero, ◌&&◌}
+use Rattle.std.proofs.Common.{◌++◌, None, Some, inl, inr, not, suc, sym, ◌∙◌, ◌∷◌, ◌≡◌, [], ap, ℕ}
+use Rattle.std.specs.{Prelude.MatchBool, List.Contains}
 use Rattle.bpaf_doc.specs.Names.{Names}
-use Rattle.bpaf_laws.specs.Command.{opening_words, Called}
-use Rattle.bpaf_laws.specs.{Product.BothOutcome, Reading.Outcome}
-use Rattle.bpaf_exact.proofs.ProgramForm.{program_alone_law, program_both_law, program_field_law}
-use Rattle.bpaf_exact.proofs.ProgramForm.{whole_law}
-use Rattle.bpaf_exact.proofs.Says.{closed_says, choice_into, list_says, fallback_by}
-use Rattle.bpaf_exact.proofs.Says.{whole_form_says, OwnsKeys, owned, field_says, optional_says}
-use Rattle.bpaf_exact.proofs.Says.{listed_says, unless_says, field_owned, alone_says, both_say}
-use Rattle.bpaf_exact.proofs.Says.{con_says, WholeSays, record_says}
-use Rattle.bpaf_exact.proofs.{Names.cut_fit, Names.taken_own, Cuts.read_cut}
-use Rattle.bpaf_exact.specs.Flat.{ByName, FieldKind, Variables, keys, Gap, Groups, OwnList}
-use Rattle.bpaf_exact.specs.Flat.{repeated, ClosedValue, Closure, FallbackValue, OptionalValue}
-use Rattle.bpaf_exact.specs.Flat.{LastOf}
-use Rattle.bpaf_exact.specs.Pieces.{LinePiece, others, are_all_apart}
-use Rattle.bpaf_exact.specs.ProgramForm.{ProgramForm, alternative, are_words_apart, before_commands}
-use Rattle.bpaf_exact.specs.ProgramForm.{choice_only, completed, is_program, no_program, commands}
-use Rattle.bpaf_exact.specs.ProgramForm.{complete, product_roles, program_alone, program_both}
-use Rattle.bpaf_exact.specs.ProgramForm.{program_choice, program_command, program_con}
-use Rattle.bpaf_exact.specs.ProgramForm.{program_closed, program_dressed, program_field, program_if}
-use Rattle.bpaf_exact.specs.ProgramForm.{FormLaw, program_value, single, whole_program, whole_value}
-use Rattle.bpaf_exact.specs.ProgramForm.{product, program_optional, CellsValue, ChoiceValue}
-use Rattle.bpaf_exact.specs.ProgramForm.{OptionalCommands, are_plain}
-use Rattle.bpaf_exact.specs.Says.{CellsSay, CutSays, FieldThenSays, IsSaid, ProgramFieldsSay}
-use Rattle.bpaf_exact.specs.Says.{FieldsKeep, ProgramFieldsSaid, ProgramFormSays, cells_said}
-use Rattle.bpaf_exact.specs.Says.{ProgramSaid, ProgramSays, fields_said_inside, of_all_cells}
-use Rattle.bpaf_exact.specs.Says.{of_all_pieces, of_cells, of_pieces, said_both, said_choice}
-use Rattle.bpaf_exact.specs.Says.{said_alone, said_closed, said_command, said_con, said_last}
-use Rattle.bpaf_exact.specs.Says.{said_dressed, said_fallback, said_optional, said_repeat}
-use Rattle.bpaf_exact.specs.Says.{FallbackSays, FormSays, LastSays, SaidKind, form_kind, Said, Says}
-use Rattle.bpaf_exact.specs.Says.{of_kind, repeated_kind, says_that, says_this}
-
--- Programs.
+use Rattle.bpaf_laws.specs.{Command.opening_words, Command.Called, Product.BothOutcome}
+use Rattle.bpaf_laws.specs.Reading.{Outcome}
+use Rattle.bpaf_exact.proofs.ProgramForm.{program_alone_law, program_field_law, program_both_law}
+use Rattle.bpaf_exact.proofs.Says.{fallback_by, optional_by, front_says, whole_says, list_says}
+use Rattle.bpaf_exact.proofs.Names.{first_within, mine_within, none_behind, others_both, apart_none}
+use Rattle.bpaf_exact.proofs.Names.{apart_of_names, mine_of_others, others_unkeyed, second_within}
+use Rattle.bpaf_exact.proofs.Names.{mine_rest, both_fits, taken_own, all_mine, each_own, rest_fit}
+use Rattle.bpaf_exact.proofs.Names.{others_none, others_rest, mine_keyed, others_fit, mine_none}
+use Rattle.bpaf_exact.proofs.{Names.own_fit, Names.no_fits, Names.cut_fit, ProgramForm.whole_law}
+use Rattle.bpaf_exact.proofs.Names.{all_front}
+use Rattle.bpaf_exact.specs.Flat.{FieldsReading, FallbackValue, OptionalValue, both_reading, ByName}
+use Rattle.bpaf_exact.specs.Flat.{SingleValue, ClosedValue, FieldKind, Variables, repeated, OwnList}
+use Rattle.bpaf_exact.specs.Flat.{Closure, Groups, gap_of, LastOf, front, back, keys, Gap}
+use Rattle.bpaf_exact.specs.Pieces.{are_all_apart, LinePiece, no_roles, either, is_own, others}
+use Rattle.bpaf_exact.specs.ProgramForm.{before_commands, program_command, program_dressed, FormLaw}
+use Rattle.bpaf_exact.specs.ProgramForm.{program_choice, program_closed, product_roles, ProgramForm}
+use Rattle.bpaf_exact.specs.ProgramForm.{program_alone, program_field, program_value, whole_program}
+use Rattle.bpaf_exact.specs.ProgramForm.{choice_only, ChoiceValue, program_con, whole_value, single}
+use Rattle.bpaf_exact.specs.ProgramForm.{CellsValue, is_program, may_follow, no_program, program_if}
+use Rattle.bpaf_exact.specs.ProgramForm.{last_reading, CommandValue, program_both, alternative}
+use Rattle.bpaf_exact.specs.ProgramForm.{OptionalCommands, program_optional, are_words_apart}
+use Rattle.bpaf_exact.specs.ProgramForm.{completed, are_plain, commands, complete, product}
+use Rattle.bpaf_exact.specs.Says.{FieldThenSays, repeated_kind, FallbackSays, OptionalSays, BothSay}
+use Rattle.bpaf_exact.specs.Says.{RepeatSays, cells_said, its_pieces, EitherSays, AloneSays, AllOwn}
+use Rattle.bpaf_exact.specs.Says.{FieldsSay, FrontSays, form_kind, says_this, says_that, FormSays}
+use Rattle.bpaf_exact.specs.Says.{LastSays, MadeSays, SaidKind, CutSays, of_kind, IsSaid, keyed}
+use Rattle.bpaf_exact.specs.Says.{ProgramSaid, ProgramSays, FieldsKeep, FieldsSaid, RecordSays}
+use Rattle.bpaf_exact.specs.Pieces.{Roles, Owns, mine}
+use Rattle.bpaf_exact.specs.Says.{Fits, Said, Says}
 
 -- where a test holds
-cells_if : {T : Type 0} (b : Bool) (s : ProgramForm T) (said : CellsValue T)
-    → (b ≡ true → CellsSay s said) → CellsSay (program_if b s) said
-cells_if true s said h = h refl
-cells_if false s said h = tt
+if_says : {T : Type 0} (b : Bool) {s : ProgramForm T} {kind : SaidKind} {names : List Names}
+    {c : Bool} {said : Said T} {cells : CellsValue T} → Says names s kind c said cells
+    → Says names (program_if b s) kind c said cells
+if_says true h = h
+if_says false h = record { by = tt }
 
 -- what says so with a closure round it
 closed_said : {A B : Type 0} {f : Closure A B} {value said : CellsValue A} → IsSaid value said
     → IsSaid (ClosedValue value f) (ClosedValue said f)
 closed_said h cs v c = record { from = c.from; read = h cs c.from c.read; made = c.made }
 
--- no repeat or default of what says so of cells
-completed_cells : {T B : Type 0} (kind : FieldKind → FieldKind)
-    (value : Groups T → Gap T → List LinePiece → B → Type 0) (s : ProgramForm T)
-    (said : CellsValue T) (whole : CellsValue B) → CellsSay s said
-    → CellsSay (completed kind value s) whole
-completed_cells kind value (alternative wide q each) said whole h = absurd h
-completed_cells kind value (single wide k q group gap) said whole h = absurd h
-completed_cells kind value _ said whole h = tt
+-- with a closure round it
+pub program_closed_says : {A B : Type 0} {s : ProgramForm A} {kind : SaidKind} {names : List Names}
+    {c : Bool} {said : Said A} {cells : CellsValue A} (f : Closure A B)
+    → Says names s kind c said cells
+    → Says names (program_closed f s) kind c (MadeSays said f) (ClosedValue cells f)
+program_closed_says {s = alternative wide q value} f h = record {
+  by = (
+    h.by.0,
+    h.by.1,
+    λ o v m. record { from = m.from; told = h.by.2 o m.from m.read; made = m.made },
+  );
+}
+program_closed_says {s = single wide k q group gap} f h = record {
+  by = (
+    h.by.0,
+    h.by.1,
+    λ os rest v g. let there = h.by.2 os rest g.from g.read in record {
+      part = there.part;
+      is = there.is;
+      some = there.some;
+      told = record { from = g.from; told = there.told; made = g.made };
+    },
+    λ v m. record { from = m.0; told = h.by.3 m.0 m.1; made = m.2 },
+  );
+}
+program_closed_says {s = complete wide k q value} f h = record {
+  by = (
+    h.by.0,
+    h.by.1,
+    λ os v all m. record { from = m.from; told = h.by.2 os m.from all m.read; made = m.made },
+  );
+}
+program_closed_says {s = commands optional value} f h =
+    record { by = (h.by.0, closed_said h.by.1) }
+program_closed_says f h = record { by = tt }
 
-module _ {P Q A B : Type 0} (inside : Q → P) (q : Q) where
-  -- a closure
-  pub program_closed_says : {s : ProgramForm A} {said : ProgramSaid P A} {kind : SaidKind}
-      {names : List Names} (f : Q → Closure A B) → ProgramSays names s kind said (inside q)
-      → ProgramSays names (program_closed (f q) s) kind (said_closed inside f said) q
-  program_closed_says {said = of_pieces said} f h = record { by = closed_says h.by }
-  program_closed_says {s} {said = of_cells said} f h = record { by = by_form s h.by }
-    where
-      by_form : (s : ProgramForm A) → CellsSay s (said (inside q))
-          → CellsSay (program_closed (f q) s) (ClosedValue (said (inside q)) (f q))
-      by_form (alternative wide r value) h = absurd h
-      by_form (single wide k r group gap) h = absurd h
-      by_form (complete wide k r value) h = absurd h
-      by_form (commands optional value) h = closed_said h
-      by_form _ h = tt
+-- a repeat or default round a field, of which each value says so
+whole_form_says : {T B : Type 0} {kind : FieldKind → FieldKind} (lift : SaidKind → SaidKind)
+    → ((k : FieldKind) → lift (of_kind k) ≡ of_kind (kind k))
+    → (value : Groups T → Gap T → List LinePiece → B → Type 0) {said : Said T} (whole : Said B)
+    → ((group : Groups T) (gap : Gap T) → ((os rest : List LinePiece) (v : T) → group os v rest
+    → FrontSays said os v rest) → ((v : T) → gap.absent v
+    → said [] v) → (os : List LinePiece) (v : B) → value group gap os v → whole os v)
+    → {names : List Names} {j : SaidKind} {c : Bool} {cells : CellsValue T} {others : CellsValue B}
+    {s : ProgramForm T} → Says names s j c said cells
+    → Says names (completed kind value s) (lift j) c whole others
+whole_form_says lift lifts value whole each {s = alternative wide q one} h = record {
+  by = (
+    h.by.0,
+    ap lift h.by.1 ∙ lifts ByName,
+    λ os v all. each _ _ (front_says one h.by.2) (λ v none. absurd none) os v,
+  );
+}
+whole_form_says lift lifts value whole each {s = single wide k q group gap} h = record {
+  by = (h.by.0, ap lift h.by.1 ∙ lifts k, λ os v all. each group gap h.by.2 h.by.3 os v);
+}
+whole_form_says lift lifts value whole each h = record { by = tt }
 
-module _ {P Q T : Type 0} (inside : Q → P) (q : Q) {s : ProgramForm T} where
-  -- what is made of a repeat
-  pub program_repeat_says : {said : ProgramSaid P T} {kind : SaidKind} {names : List Names}
-      {B : Type 0} → ProgramSays names s kind said (inside q) → (catch : Bool)
-      (f : Closure (List T) B) → ProgramSays names (program_if (not catch)
-      (program_closed f (completed repeated (OwnList T) s))) (repeated_kind kind)
-      (said_repeat inside f said) q
-  program_repeat_says {said = of_pieces said} h catch f =
-      record { by = unless_says catch (listed_says f h.by) }
-  program_repeat_says {said = of_cells said} h catch f =
-      record { by = cells_if (not catch) _ _ (λ on. by_form s h.by) }
-    where
-      by_form : (s : ProgramForm T) → CellsSay s (said (inside q))
-          → CellsSay (program_closed f (completed repeated (OwnList T) s)) (λ cs v. ⊥)
-      by_form (alternative wide r value) h = absurd h
-      by_form (single wide k r group gap) h = absurd h
-      by_form _ h = tt
+-- what may be left out
+optional_says : {T : Type 0} {s : ProgramForm T} {kind : SaidKind} {names : List Names} {c : Bool}
+    {said : Said T} {cells : CellsValue T} → Says names s kind c said cells
+    → Says names (program_optional s) kind c (OptionalSays said) (OptionalCommands T cells)
+optional_says {T} {s = commands false value} {cells} h = record { by = (h.by.0, by_value) }
+  where
+    by_value : IsSaid (OptionalCommands T value) (OptionalCommands T cells)
+    by_value cs (Some v) m = h.by.1 cs v m
+    by_value cs None none = none
+optional_says {T} {said} h =
+    whole_form_says (λ j. j) (λ k. refl) (OptionalValue T) (OptionalSays said) (optional_by said) h
 
-  -- its last value
-  pub program_last_says : {said : ProgramSaid P T} {kind : SaidKind} {names : List Names}
-      → ProgramSays names s kind said (inside q)
-      → ProgramSays names (completed repeated (LastOf T) s) (repeated_kind kind)
-      (said_last inside said) q
-  program_last_says {said = of_pieces said} h = record {
-    by = whole_form_says repeated_kind (λ k. refl) (LastOf T) (LastSays (said (inside q)))
-        (λ group gap fronts absent os v m. record {
-          values = m.0 ++ v ∷ [];
-          told = list_says (said (inside q)) group gap fronts absent os (m.0 ++ v ∷ []) m.1;
-          is = record { before = m.0; is = refl };
-        }) h.by;
-  }
-  program_last_says {said = of_cells said} h =
-      record { by = completed_cells repeated (LastOf T) s (said (inside q)) (λ cs v. ⊥) h.by }
+module _ {T : Type 0} {s : ProgramForm T} {kind : SaidKind} {names : List Names} {c : Bool}
+    {said : Said T} {cells : CellsValue T} (h : Says names s kind c said cells) where
+  -- under `many`, `some`, `collect` or `count`
+  pub program_repeat_says : {B : Type 0} (catch : Bool) (f : Closure (List T) B)
+      → Says names (program_if (not catch) (program_closed f (completed repeated (OwnList T) s)))
+      (repeated_kind kind) c (MadeSays (RepeatSays said) f) (ClosedValue (λ cs v. ⊥) f)
+  program_repeat_says catch f = if_says (not catch) (program_closed_says f (whole_form_says
+      repeated_kind (λ k. refl) (OwnList T) (RepeatSays said) (list_says said) h))
 
-  -- a fallback
-  pub program_fallback_says : {said : ProgramSaid P T} {kind : SaidKind} {names : List Names}
-      → ProgramSays names s kind said (inside q) → (f : Q → Closure (Unit {0}) T)
-      → ProgramSays names (completed (λ k. k) (λ group gap. FallbackValue T group gap (f q)) s) kind
-      (said_fallback inside f said) q
-  program_fallback_says {said = of_pieces said} h f = record {
-    by = whole_form_says (λ j. j) (λ k. refl) (λ group gap. FallbackValue T group gap (f q))
-        (FallbackSays (said (inside q)) ((f q).yes tt)) (λ group gap fronts absent.
-        fallback_by (said (inside q)) group gap fronts absent (f q)) h.by;
-  }
-  program_fallback_says {said = of_cells said} h f = record {
-    by = completed_cells (λ k. k) (λ group gap. FallbackValue T group gap (f q)) s
-        (said (inside q)) (λ cs v. ⊥) h.by;
-  }
+  -- the last value of a repeat
+  pub program_last_says : Says names (completed repeated (LastOf T) s) (repeated_kind kind) c
+      (LastSays said) (λ cs v. ⊥)
+  program_last_says = whole_form_says repeated_kind (λ k. refl) (LastOf T) (LastSays said)
+      (λ group gap fronts absent os v m. record {
+        values = m.0 ++ v ∷ [];
+        told = list_says said group gap fronts absent os (m.0 ++ v ∷ []) m.1;
+        is = record { before = m.0; is = refl };
+      }) h
 
-  -- another look
-  pub program_dressed_says : {said : ProgramSaid P T} {kind : SaidKind} {names : List Names}
-      → ProgramSays names s kind said (inside q)
-      → ProgramSays names (program_dressed s) kind (said_dressed inside said) q
-  program_dressed_says {said = of_pieces said} {kind} {names} h =
-      record { by = record { by = by_form s h.by.by } }
-    where
-      by_form : (s : ProgramForm T) → FormSays names s kind (said (inside q))
-          → FormSays names (program_dressed s) kind (said (inside q))
-      by_form (before_commands value) h = tt
-      by_form _ h = h
-  program_dressed_says {said = of_cells said} h = record { by = by_form s h.by }
-    where
-      by_form : (s : ProgramForm T) → CellsSay s (said (inside q))
-          → CellsSay (program_dressed s) (said (inside q))
-      by_form (before_commands value) h = tt
-      by_form _ h = h
+  -- under a fallback
+  pub program_fallback_says : (f : Closure (Unit {0}) T)
+      → Says names (completed (λ k. k) (λ group gap. FallbackValue T group gap f) s) kind c
+      (FallbackSays said (f.yes tt)) (λ cs v. ⊥)
+  program_fallback_says f =
+      whole_form_says (λ j. j) (λ k. refl) (λ group gap. FallbackValue T group gap f)
+      (FallbackSays said (f.yes tt))
+      (λ group gap fronts absent. fallback_by said group gap fronts absent f) h
 
-  -- what may be left out
-  pub program_optional_says : {said : ProgramSaid P T} {kind : SaidKind} {names : List Names}
-      → ProgramSays names s kind said (inside q) → (catch : Bool)
-      → ProgramSays names (program_if (not catch) (program_optional s)) kind
-      (said_optional inside said) q
-  program_optional_says {said = of_pieces said} h catch =
-      record { by = unless_says catch (optional_says h.by) }
-  program_optional_says {said = of_cells said} h catch =
-      record { by = cells_if (not catch) _ _ (λ on. by_form s h.by) }
-    where
-      by_value : {value : CellsValue T} → IsSaid value (said (inside q))
-          → IsSaid (OptionalCommands T value) (OptionalCommands T (said (inside q)))
-      by_value h cs (Some v) c = h cs v c
-      by_value h cs None none = none
+  -- under `optional`
+  pub program_optional_says : (catch : Bool)
+      → Says names (program_if (not catch) (program_optional s)) kind c (OptionalSays said)
+      (OptionalCommands T cells)
+  program_optional_says catch = if_says (not catch) (optional_says h)
 
-      by_form : (s : ProgramForm T) → CellsSay s (said (inside q))
-          → CellsSay (program_optional s) (OptionalCommands T (said (inside q)))
-      by_form (commands false value) h = by_value h
-      by_form s h =
-          completed_cells (λ k. k) (OptionalValue T) s (said (inside q))
-          (OptionalCommands T (said (inside q))) h
+-- with another look
+pub program_dressed_says : {T : Type 0} {s : ProgramForm T} {kind : SaidKind} {names : List Names}
+    {c : Bool} {said : Said T} {cells : CellsValue T} → Says names s kind c said cells
+    → Says names (program_dressed s) kind c said cells
+program_dressed_says {s = product wide named q fields} h = record { by = h.by }
+program_dressed_says {s = before_commands value} h = record { by = tt }
+program_dressed_says h = h
+
+-- own items are those with one of these names
+abbrev pub FormOwns : {T : Type 0} → List Names → ProgramForm T → Type 0
+FormOwns names (complete wide k q value) = Owns (keys k q) names
+FormOwns names (product wide named q fields) = Owns q names
+FormOwns names _ = Unit {0}
+
+-- so it is with a form
+record OwnsKeys {T : Type 0} (names : List Names) (s : ProgramForm T) : Type 0 where
+  by : FormOwns names s
+
+-- of what keeps to its law
+owned : {env : Variables} {T : Type 0} {outcome : Outcome T} {names : List Names}
+    {words : List (List ℕ)} {s : ProgramForm T} → FormLaw env outcome names words s
+    → OwnsKeys names s
+owned {s = complete wide k q value} law = record { by = law.by.1 }
+owned {s = product wide named q fields} law = record { by = law.by.1 }
+owned law = record { by = tt }
+
+-- as a field
+field_says : {T : Type 0} {s : ProgramForm T} {kind : SaidKind} {names : List Names} {c : Bool}
+    {said : Said T} {cells : CellsValue T} → OwnsKeys names s → Says names s kind c said cells
+    → Says names (program_field s) kind c said cells
+field_says {s = product wide true q fields} {names} own h = record {
+  by = (
+    h.by.0,
+    h.by.1,
+    λ os v all m. let fit = own_fit q names own.by os all in
+        h.by.2 os os v fit fit m refl refl,
+  );
+}
+field_says {s = product wide false q fields} own h = record { by = h.by }
+field_says {s = complete wide k q value} own h = h
+field_says {s = commands optional value} own h = h
+field_says {s = before_commands value} own h = h
+field_says {T} {said} own h =
+    whole_form_says (λ j. j) (λ k. refl) (SingleValue T) said (whole_says said) h
+
+-- each value of a whole program of this form says so of all pieces of a line, or of the cells
+abbrev WholeSays : {T : Type 0} → List Names → ProgramForm T → Bool → Said T → CellsValue T → Type 0
+WholeSays {T} names (product wide named r fields) c said cells =
+    (c ≡ false) × ((os : List LinePiece) (v : T) → Fits names r os → fields.value os v → said os v)
+WholeSays names (before_commands value) c said cells = (c ≡ true) × IsSaid value cells
+WholeSays names _ c said cells = Unit {0}
+
+-- A value of a whole program says what its parser says.
+record_says : {T : Type 0} (s : ProgramForm T) {kind : SaidKind} {names : List Names} {c : Bool}
+    {said : Said T} {cells : CellsValue T} → Says names s kind c said cells
+    → WholeSays names (whole_program s) c said cells
+record_says {T} s {kind} {names} {c} {said} {cells} h = by_form s h.by
+  where
+    all_own : (k : FieldKind) (q : Roles) (value : List LinePiece → T → Type 0)
+        → ((os : List LinePiece) (v : T) → AllOwn k q os → value os v → said os v)
+        → {os : List LinePiece} {v : T} → (last_reading k q value).value os v → said os v
+    all_own ByName q value each {os} {v} m =
+        rw (← all_mine q os m.1) (each (mine q os) v (each_own q os) m.0)
+    all_own k q value each {os} {v} m =
+        subst (λ z. said z v) (all_front k m.1) (each (front k os) v tt m.0)
+
+    by_form : (s : ProgramForm T) → FormSays names s kind c said cells
+        → WholeSays names (whole_program s) c said cells
+    by_form (alternative wide q value) h = (
+      h.0,
+      λ os v fits m. all_own ByName q _ (λ os v all. whole_says said _ (gap_of value None)
+          (front_says value h.2) (λ v none. absurd none) os v) m,
+    )
+    by_form (single wide k q group gap) h = (
+      h.0,
+      λ os v fits m. all_own k q _ (λ os v all. whole_says said group gap h.2 h.3 os v) m,
+    )
+    by_form (complete wide k q value) h = (h.0, λ os v fits m. all_own k q value h.2 m)
+    by_form (product wide named q fields) h = grind arith
+    by_form (commands optional value) h = h
+    by_form (before_commands value) h = h
+    by_form no_program h = tt
 
 -- a value of a whole program says so of the cells
-pub program_says : (env : Variables) {P T : Type 0} (outcome : Outcome T) (words : List (List ℕ))
-    (s : ProgramForm T) {kind : SaidKind} {names : List Names} {said : ProgramSaid P T} {p : P}
+pub program_says : {env : Variables} {P T : Type 0} {outcome : Outcome T} {words : List (List ℕ)}
+    {s : ProgramForm T} {kind : SaidKind} {names : List Names} (said : ProgramSaid P T) (p : P)
     → FormLaw env outcome names words s → ProgramSays names s kind said p
-    → is_program s ≡ true → IsSaid (program_value s) (cells_said s said p)
-program_says env {P} {T} outcome words s {kind} {names} {said} {p} law h is = by_said said h
+    → IsSaid (program_value s) (cells_said s said p)
+program_says {env} {P} {T} {outcome} {s} {names} said p law h =
+    by_whole (whole_program s) (whole_law law) said.in_cells (record_says s h)
   where
-    by_cells : (s : ProgramForm T) (said : CellsValue T) → CellsSay s said
-        → IsSaid (program_value s) said
-    by_cells (commands optional value) said h = h
-    by_cells (before_commands value) said h = h
-    by_cells no_program said h = λ cs v c. absurd c
-    by_cells _ said h = absurd h
-
-    by_whole : (w : ProgramForm T) → FormLaw env outcome names [] w → {said : Said T}
-        → WholeSays names w said → IsSaid (whole_value w) (CutSays (product_roles w) said)
-    by_whole (product wide named q fields) law says = λ cs v read. record {
+    by_whole : (w : ProgramForm T) → FormLaw env outcome names [] w → (c : Bool)
+        → WholeSays names w c (said.pieces p) (said.cells p)
+        → IsSaid (whole_value w) (elim c as (λ b. CellsValue T)
+        [ true ↦ said.cells p | false ↦ CutSays (product_roles w) (said.pieces p) ])
+    by_whole (product wide named q fields) law c says = rw says.0 (λ cs v read. record {
       cut_into = read.cut_into;
-      cut = read_cut read;
-      told = says read.cut_into v (cut_fit q names law.1 (read_cut read)) read.read;
-    }
-    by_whole no_program law says = λ cs v c. absurd c
-    by_whole _ law says = absurd says
-
-    by_said : (said : ProgramSaid P T) → ProgramSays names s kind said p
-        → IsSaid (program_value s) (cells_said s said p)
-    by_said (of_cells said) h = by_cells s (said p) h.by
-    by_said (of_pieces said) h =
-        by_whole (whole_program s) (whole_law env T outcome names words s law) (record_says s h.by)
+      cut = read.cut;
+      told = says.1 read.cut_into v (cut_fit q names law.by.1 read.cut) read.read;
+    })
+    by_whole (before_commands value) law c says = rw says.0 says.1
+    by_whole _ law c says = λ cs v m. absurd m
 
 -- a command
-pub program_command_says : (env : Variables) {P Q T : Type 0} (inside : Q → P) (q : Q)
-    (outcome : Outcome T) (words : List (List ℕ)) (form : P → ProgramForm T)
-    {said : ProgramSaid P T} {kind : SaidKind} {names : List Names} (adjacent apart : Bool)
-    (called : Q → Called) → FormLaw env outcome names words (form (inside q))
-    → ProgramSays names (form (inside q)) kind said (inside q)
-    → ProgramSays names (program_command adjacent apart (called q) (form (inside q)))
-    (of_kind ByName) (said_command inside called form said) q
-program_command_says env {T} inside q outcome words form adjacent apart called law h = record {
-  by = cells_if (((not adjacent && apart) && are_plain opening) && is_program s) _ _
-      (λ on. (λ cs v c. (
-        c.0,
-        c.1,
-        (program_says env outcome words s law h
-            (and_parts ((not adjacent && apart) && are_plain opening) (is_program s) on).1) c.0 v
-            c.2,
-      )));
-}
-  where
-    s : ProgramForm T
-    s = form (inside q)
-
-    opening : List (List ℕ)
-    opening = opening_words (called q)
+pub program_command_says : {env : Variables} {P T : Type 0} {outcome : Outcome T}
+    {words : List (List ℕ)} {s : ProgramForm T} {kind : SaidKind} {names : List Names}
+    (said : ProgramSaid P T) (p : P) (adjacent apart : Bool) (called : Called)
+    → FormLaw env outcome names words s → ProgramSays names s kind said p
+    → Says names (program_command adjacent apart called s) (of_kind ByName) true (λ os v. ⊥)
+    (CommandValue T (opening_words called) (cells_said s said p))
+program_command_says {s} said p adjacent apart called law h =
+    if_says (((not adjacent && apart) && are_plain (opening_words called)) && is_program s) (record {
+      by = (refl, λ cs v m. (m.0, m.1, program_says said p law h m.0 v m.2));
+    })
 
 -- Choices.
 
@@ -226,268 +274,238 @@ at_first x xs = (zero, omega arith, refl)
 pub in_rest : {X : Type 0} (x : X) (xs : List X) {y : X} → Contains xs y → Contains (x ∷ xs) y
 in_rest x xs there = (suc there.0, omega arith, there.2)
 
--- one of a choice says no more
-only_says : {Q T : Type 0} (q : Q) (said : ProgramSaid Q T) (names : List Names) (s : ProgramForm T)
-    → ProgramFormSays names s (of_kind ByName) said q
-    → ProgramFormSays names (choice_only s) (of_kind ByName) said q
-only_says {T} q (of_pieces said) names s h = record { by = by_form s h.by }
+-- what the one says the other does
+pub record Into {T : Type 0} (one said : Said T) (these cells : CellsValue T) : Type 0 where
+  pub by_pieces : (os : List LinePiece) (v : T) → one os v → said os v
+  pub by_cells : IsSaid these cells
+
+-- the first parser of a choice, into what is said of all
+pub first_says : {T : Type 0} {s : ProgramForm T} {kind : SaidKind} {keys : List Names} {c : Bool}
+    {one said : Said T} {these cells : CellsValue T} (names : List Names)
+    → Into one said these cells → Says keys s kind c one these
+    → Says names (choice_only s) (of_kind ByName) c said cells
+first_says {s = alternative wide q value} names into h =
+    record { by = (h.by.0, refl, λ o v m. into.by_pieces (o ∷ []) v (h.by.2 o v m)) }
+first_says {s = commands false value} names into h =
+    record { by = (h.by.0, λ cs v m. into.by_cells cs v (h.by.1 cs v m)) }
+first_says names into h = record { by = tt }
+
+-- a choice of two, into what is said of both
+choice_into : {T : Type 0} {a b : ProgramForm T} {j k : SaidKind} {m n : List Names} {c d : Bool}
+    {this that said : Said T} {these those cells : CellsValue T} (names own others : List Names)
+    (words more : List (List ℕ)) → Into this said these cells → Into that said those cells
+    → Says m a j c this these → Says n b k d that those
+    → Says names (program_choice own others words more a b) (of_kind ByName) c said cells
+choice_into {T} {a = alternative wide q first} {b = alternative other r second} {said} names own
+    others words more from_this from_that h g = if_says (are_all_apart own others) (record {
+      by = (h.by.0, refl, λ o v m. piece o v (is_own q o) m);
+    })
   where
-    by_form : (s : ProgramForm T) → FormSays names s (of_kind ByName) (said q)
-        → FormSays names (choice_only s) (of_kind ByName) (said q)
-    by_form (alternative wide r value) h = h
-    by_form (commands optional value) h = absurd h
-    by_form _ h = tt
-only_says q (of_cells said) names s h =
-    elim s as (λ s. CellsSay s (said q) → CellsSay (choice_only s) (said q))
-    [ commands false value ↦ λ h. h | alternative wide r value ↦ λ h. absurd h | _ ↦ λ h. tt ] h
+    piece : (o : LinePiece) (v : T) (b : Bool) → MatchBool b (first o v) (second o v)
+        → said (o ∷ []) v
+    piece o v true m = from_this.by_pieces (o ∷ []) v (h.by.2 o v m)
+    piece o v false m = from_that.by_pieces (o ∷ []) v (g.by.2 o v m)
+choice_into {T} {a = commands false x} {b = commands false y} {cells} names own others words more
+    from_this from_that h g =
+    if_says (are_words_apart words more) (record { by = (h.by.0, either_says) })
+  where
+    either_says : IsSaid (ChoiceValue T x y) cells
+    either_says cs v (inl m) = from_this.by_cells cs v (h.by.1 cs v m)
+    either_says cs v (inr m) = from_that.by_cells cs v (g.by.1 cs v m)
+choice_into names own others words more from_this from_that h g = record { by = tt }
 
-module _ {P Q T : Type 0} (q : Q) where
-  -- what one parser says goes into what is said of all
-  abbrev pub Into : ProgramSaid P T → ProgramSaid Q T → P → Type 0
-  Into (of_pieces says) (of_pieces said) p =
-      (os : List LinePiece) (v : T) → says p os v → said q os v
-  Into (of_cells says) (of_cells said) p = IsSaid (says p) (said q)
-  Into _ _ p = ⊥
+-- one more parser, into what is said of all
+pub more_says : {T : Type 0} {s : ProgramForm T} {kind : SaidKind} {keys : List Names}
+    {c d : Bool} {one said : Said T} {these cells : CellsValue T} (names own others : List Names)
+    (words more : List (List ℕ)) (before : ProgramForm T) → Into one said these cells
+    → Says names (choice_only before) (of_kind ByName) c said cells → Says keys s kind d one these
+    → Says names (choice_only (program_choice own others words more before s)) (of_kind ByName) c
+    said cells
+more_says {T} {s} {c} {said} {cells} names own others words more before into h g =
+    by_form before h
+  where
+    all : Into said said cells cells
+    all = record { by_pieces = λ os v m. m; by_cells = λ cs v m. m }
 
-  -- one more parser, into what is said of all
-  pub more_says : (says : ProgramSaid P T) (said : ProgramSaid Q T) (p : P) (kind : SaidKind)
-      (names own others : List Names) (words more : List (List ℕ)) (before s : ProgramForm T)
-      → ProgramFormSays names (choice_only before) (of_kind ByName) said q
-      → ProgramFormSays others s kind says p → Into says said p
-      → ProgramFormSays names (choice_only (program_choice own others words more before s))
-      (of_kind ByName) said q
-  more_says (of_pieces says) (of_pieces said) p kind names own others words more before s h g
-      into = only_says q (of_pieces said) names _ (record { by = by_form before s h.by g.by })
-    where
-      by_form : (before s : ProgramForm T)
-          → FormSays names (choice_only before) (of_kind ByName) (said q)
-          → FormSays others s kind (says p)
-          → FormSays names (program_choice own others words more before s) (of_kind ByName) (said q)
-      by_form (alternative wide r a) (alternative other u b) h g =
-          choice_into names others names own others words more (of_kind ByName) kind (λ os v m. m)
-          into (alternative wide r a) (alternative other u b) h g
-      by_form (commands false a) (commands optional b) h g = absurd g
-      by_form _ _ h g = tt
-  more_says (of_cells says) (of_cells said) p kind names own others words more before s h g into =
-      only_says q (of_cells said) names _ (by_form before s h g)
-    where
-      by_form : (before s : ProgramForm T) → CellsSay (choice_only before) (said q)
-          → CellsSay s (says p) → CellsSay (program_choice own others words more before s) (said q)
-      by_form (commands false a) (commands false b) h g =
-          cells_if (are_words_apart words more) _ _ (λ on. either)
-        where
-          either : IsSaid (ChoiceValue T a b) (said q)
-          either cs v (inl c) = h cs v c
-          either cs v (inr c) = into cs v (g cs v c)
-      by_form (alternative wide r a) s h g = absurd h
-      by_form _ _ h g = tt
-  more_says (of_cells says) (of_pieces said) p kind names own others words more before s h g into =
-      absurd into
-  more_says (of_pieces says) (of_cells said) p kind names own others words more before s h g into =
-      absurd into
-
-  -- the first parser
-  pub first_says : (says : ProgramSaid P T) (said : ProgramSaid Q T) (p : P) (kind : SaidKind)
-      (keys names : List Names) (s : ProgramForm T) → ProgramFormSays keys s kind says p
-      → Into says said p → ProgramFormSays names (choice_only s) (of_kind ByName) said q
-  first_says (of_pieces says) (of_pieces said) p kind keys names s h into =
-      record { by = by_form s h.by }
-    where
-      by_form : (s : ProgramForm T) → FormSays keys s kind (says p)
-          → FormSays names (choice_only s) (of_kind ByName) (said q)
-      by_form (alternative wide r value) h = (refl, λ o v m. into (o ∷ []) v (h.1 o v m))
-      by_form (commands optional value) h = absurd h
-      by_form _ h = tt
-  first_says (of_cells says) (of_cells said) p kind keys names s h into = by_form s h
-    where
-      by_form : (s : ProgramForm T) → CellsSay s (says p) → CellsSay (choice_only s) (said q)
-      by_form (commands false value) h = λ cs v c. into cs v (h cs v c)
-      by_form (alternative wide r value) h = absurd h
-      by_form _ h = tt
-  first_says (of_cells says) (of_pieces said) p kind keys names s h into = absurd into
-  first_says (of_pieces says) (of_cells said) p kind keys names s h into = absurd into
+    by_form : (before : ProgramForm T)
+        → Says names (choice_only before) (of_kind ByName) c said cells
+        → Says names (choice_only (program_choice own others words more before s))
+        (of_kind ByName) c said cells
+    by_form (alternative wide q value) h = grind (arith, choice_into, first_says)
+    by_form (commands false value) h = grind (arith, choice_into, first_says)
+    by_form _ h = record { by = tt }
 
 -- of two
-pub program_choice_says : {P Q R T : Type 0} (this : R → P) (that : R → Q) (r : R)
-    (own others : List Names) (words more : List (List ℕ)) {s t : ProgramForm T}
-    {a : ProgramSaid P T} {b : ProgramSaid Q T} {j k : SaidKind} → ProgramSays own s j a (this r)
-    → ProgramSays others t k b (that r)
-    → ProgramSays (own ++ others) (program_choice own others words more s t) (of_kind ByName)
-    (said_choice this that a b) r
-program_choice_says {P} {Q} {T} this that r own others words more {s} {t} {a} {b} {j} {k} h g =
-    record { by = by_said a b h.by g.by }
-  where
-    both_cells : (s t : ProgramForm T) (x y : CellsValue T) → CellsSay s x → CellsSay t y
-        → CellsSay (program_choice own others words more s t) (ChoiceValue T x y)
-    both_cells (commands false va) (commands false vb) x y h g =
-        cells_if (are_words_apart words more) _ _ (λ on. either)
-      where
-        either : IsSaid (ChoiceValue T va vb) (ChoiceValue T x y)
-        either cs w (inl c) = inl (h cs w c)
-        either cs w (inr c) = inr (g cs w c)
-    both_cells (alternative wide q value) t x y h g = absurd h
-    both_cells _ _ x y h g = tt
-
-    first_cells : (s t : ProgramForm T) (x : CellsValue T) (y : Said T) → CellsSay s x
-        → FormSays others t k y → CellsSay (program_choice own others words more s t) (λ cs v. ⊥)
-    first_cells (alternative wide q value) t x y h g = absurd h
-    first_cells (commands false value) (commands optional other) x y h g = absurd g
-    first_cells _ _ x y h g = tt
-
-    second_cells : (s t : ProgramForm T) (x : Said T) (y : CellsValue T) → FormSays own s j x
-        → CellsSay t y → CellsSay (program_choice own others words more s t) (λ cs v. ⊥)
-    second_cells (commands optional value) t x y h g = absurd h
-    second_cells (alternative wide q value) (alternative other u more) x y h g = absurd g
-    second_cells _ _ x y h g = tt
-
-    by_said : (a : ProgramSaid P T) (b : ProgramSaid Q T)
-        → ProgramFormSays own s j a (this r) → ProgramFormSays others t k b (that r)
-        → ProgramFormSays (own ++ others) (program_choice own others words more s t)
-        (of_kind ByName) (said_choice this that a b) r
-    by_said (of_pieces a) (of_pieces b) h g = record {
-      by = choice_into own others (own ++ others) own others words more j k
-          (λ os v m. says_this m) (λ os v m. says_that m) s t h.by g.by;
-    }
-    by_said (of_cells a) (of_cells b) h g = both_cells s t (a (this r)) (b (that r)) h g
-    by_said (of_cells a) (of_pieces b) h g = first_cells s t (a (this r)) (b (that r)) h g.by
-    by_said (of_pieces a) (of_cells b) h g = second_cells s t (a (this r)) (b (that r)) h.by g
+pub program_choice_says : {T : Type 0} {s t : ProgramForm T} {j k : SaidKind} {a b : Said T}
+    {x y : CellsValue T} {c d : Bool} (own others : List Names) (words more : List (List ℕ))
+    → Says own s j c a x → Says others t k d b y
+    → Says (own ++ others) (program_choice own others words more s t) (of_kind ByName) c
+    (EitherSays a b) (ChoiceValue T x y)
+program_choice_says own others words more h g = choice_into (own ++ others) own others words more
+    (record { by_pieces = λ os v m. says_this m; by_cells = λ cs v m. inl m })
+    (record { by_pieces = λ os v m. says_that m; by_cells = λ cs v m. inr m }) h g
 
 -- Products.
 
 -- the last field
-pub program_alone_says : (env : Variables) {P Q T : Type 0} (last : Q → P) {q : Q}
-    (outcome : Outcome T) (kind : P → SaidKind) (names : P → List Names) (words : List (List ℕ))
-    {s : ProgramForm T} {said : ProgramSaid P T} → FormLaw env outcome (names (last q)) words s
-    → ProgramSays (names (last q)) s (kind (last q)) said (last q)
-    → ProgramFieldsSay (names (last q)) (program_alone (program_field s))
-    (said_alone last kind names said) q
-program_alone_says env last outcome kind names words {s} {said = of_pieces said} law h = record {
-  by = alone_says (field_owned env outcome words s law)
-      (field_says (owned env outcome words s law) h.by);
+alone_says : {T : Type 0} {names : List Names} {s : ProgramForm T} {kind : SaidKind} {c : Bool}
+    {said : Said T} {cells : CellsValue T} → OwnsKeys names s → Says names s kind c said cells
+    → FieldsSay names (program_alone s) c (AloneSays kind names said) cells
+alone_says {names} {s = product wide false q fields} own_keys h = record {
+  by = (
+    h.by.0,
+    λ whole os v fits fit m same. rw h.by.1 (h.by.2 (keyed names whole ++ others q os) os v
+        (rest_fit q names whole os fits fit) fit m (mine_rest q names whole os fits ∙ same)
+        (others_rest q names whole os fits)),
+  );
 }
-program_alone_says env {T} last {q} outcome kind names words {s} {said = of_cells said} law h =
-    record { by = by_form s h.by }
+alone_says {T} {names} {s = complete wide k q value} {said} own_keys h = record {
+  by = (
+    h.by.0,
+    λ whole os v fits fit m same. rw h.by.1 (own k q value own_keys.by h.by.2 whole os v
+        fits m same),
+  );
+}
   where
-    by_form : (s : ProgramForm T) → CellsSay s (said (last q))
-        → CellsSay (program_alone (program_field s)) (said (last q))
-    by_form (commands optional value) h = h
-    by_form (before_commands value) h = h
-    by_form no_program h = tt
-    by_form _ h = absurd h
+    own : (k : FieldKind) (q : Roles) (value : List LinePiece → T → Type 0) → Owns (keys k q) names
+        → ((os : List LinePiece) (v : T) → AllOwn k q os → value os v → said os v)
+        → (whole os : List LinePiece) (v : T)
+        → Fits names (either (keys k q) no_roles) whole → (last_reading k q value).value os v
+        → mine (either (keys k q) no_roles) whole ≡ mine (either (keys k q) no_roles) os
+        → said (its_pieces (of_kind k) names whole (others (either (keys k q) no_roles) os)) v
+    own ByName q value owned each whole os v fits m same =
+        subst (λ z. said z v) (sym (mine_within q (either q no_roles) (first_within q no_roles) os)
+        ∙ (ap (mine q) (sym same)
+        ∙ (mine_within q (either q no_roles) (first_within q no_roles) whole
+        ∙ mine_keyed q names whole
+        (both_fits owned (record { own = λ k e. absurd cc }) (apart_none names)
+        whole (subst (λ own. Fits own (either q no_roles) whole) (sym (append-nil names))
+        fits)).0)))
+        (each (mine q os) v (each_own q os) m.0)
+    own k q value owned each whole os v fits m same = grind (arith, others_none)
+alone_says {s = commands optional value} own_keys h = record { by = h.by }
+alone_says {s = before_commands value} own_keys h = record { by = h.by }
+alone_says own_keys h = record { by = tt }
+
+-- a field before others, by its kind
+module _ {A B : Type 0} (own : List Names) {behind : List Names} (said : Said A)
+    (rest_said : FieldsSaid B) (q : Roles) {r : Roles} (first : List LinePiece → A → Type 0)
+    (fields : FieldsReading B) (owned_behind : Owns r behind)
+    (rest_each : (whole os : List LinePiece) (v : B) → Fits behind r whole → Fits behind r os
+    → fields.value os v → mine r whole ≡ mine r os → rest_said whole (others r os) v) where
+  -- what it and those behind it say
+  kind_says : (k : FieldKind)
+      → ((os : List LinePiece) (v : A) → AllOwn k q os → first os v → said os v)
+      → Owns (keys k q) own → may_follow k own behind ≡ true → (whole os : List LinePiece)
+      (v : A × B) → Fits (own ++ behind) (either (keys k q) r) whole
+      → Fits (own ++ behind) (either (keys k q) r) os → (both_reading k q first fields).value os v
+      → mine (either (keys k q) r) whole ≡ mine (either (keys k q) r) os
+      → BothSay (of_kind k) own said rest_said whole (others (either (keys k q) r) os) v
+  kind_says ByName each owned may whole os v fits fit m same =
+      let apart = apart_of_names owned owned_behind may in
+      let both = either q r in (
+        subst (λ z. said z v.0) (sym (mine_within q both (first_within q r) os)
+            ∙ (ap (mine q) (sym same) ∙ (mine_within q both (first_within q r) whole
+            ∙ mine_keyed q own whole (both_fits owned owned_behind may whole fits).0)))
+            (each (mine q os) v.0 (each_own q os) m.0),
+        subst (λ z. rest_said whole z v.1) (others_both q r os) (rest_each whole (others q os) v.1
+            (both_fits owned owned_behind may whole fits).1
+            (others_fit q r behind os (both_fits owned owned_behind may os fit).1) m.1
+            (sym (mine_within r both (second_within q r) whole) ∙ (ap (mine r) same
+            ∙ (mine_within r both (second_within q r) os
+            ∙ sym (mine_of_others q r (λ k e. apart.right k e) os))))),
+      )
+  kind_says k each owned may whole os v fits fit m same =
+      let none = none_behind own behind owned_behind may in
+      let left_to = others_none r none os in (
+        rw left_to (each (front k os) v.0 tt m.0),
+        rw (← others_none r none (back k os) ∙ ap (back k) (sym left_to))
+            (rest_each whole (back k os) v.1 (no_fits r own behind may none whole)
+            (no_fits r own behind may none (back k os)) m.1
+            (mine_none r none whole ∙ sym (mine_none r none (back k os)))),
+      )
+
+-- fields where a test holds
+fields_if : {V : Type 0} (b : Bool) (s : ProgramForm V) {names : List Names} {c : Bool}
+    {said : FieldsSaid V} {cells : CellsValue V} → (b ≡ true → FieldsSay names s c said cells)
+    → FieldsSay names (program_if b s) c said cells
+fields_if true s h = h refl
+fields_if false s h = record { by = tt }
 
 -- a field before others
-module _ {P Q R A B : Type 0} (first : R → P) (rest : R → Q) (r : R) (outcome : Outcome A)
-    (behind : Outcome B) (kind : P → SaidKind) (names : P → List Names) (words : List (List ℕ))
-    (others : List Names) where
-  -- a named one before what ends in commands
-  before_says : {said : Said A} (more : CellsValue B) (s : ProgramForm A) (t : ProgramForm B)
-      → OwnsKeys (names (first r)) s → Says (names (first r)) s (kind (first r)) said
-      → CellsSay t more
-      → CellsSay (program_both (names (first r)) others s t) (FieldThenSays (names (first r)) said
-      more)
-  before_says more (complete wide ByName q reads) (before_commands value) own h g =
-      cells_if (are_all_apart (names (first r)) others) _ _ (λ on cs v read. record {
-        roles = q;
-        owns = own.by;
-        told = record {
-          own_pieces = read.own_pieces;
-          left_cells = read.left_cells;
-          taken = read.taken;
-          own = h.by.1 read.own_pieces v.0 (taken_own read.taken) read.own;
-          left = g read.left_cells v.1 read.left;
-        };
-      })
-  before_says more (complete wide k q reads) (product other named u fields) own h g = absurd g
-  before_says more _ _ own h g = tt
+both_say : {A B : Type 0} {own behind : List Names} {a : ProgramForm A} {s : ProgramForm B}
+    {kind : SaidKind} {c d : Bool} {said : Said A} {more : FieldsSaid B} {cells : CellsValue A}
+    {rest : CellsValue B} → OwnsKeys own a → OwnsKeys behind s → Says own a kind c said cells
+    → FieldsSay behind s d more rest
+    → FieldsSay (own ++ behind) (program_both own behind a s) d (BothSay kind own said more)
+    (FieldThenSays own said rest)
+both_say {own} {behind} {a = complete wide k q first} {s = product other named r fields} {said}
+    {more} own_keys behind_keys h g = fields_if (may_follow k own behind) _ (λ may. record {
+      by = (
+        g.by.0,
+        λ whole os v fits fit m same. rw h.by.1 (kind_says own said more q first fields
+            behind_keys.by g.by.1 k h.by.2 own_keys.by may whole os v fits fit m same),
+      );
+    })
+both_say {own} {behind} {a = complete wide ByName q first} {s = before_commands value} own_keys
+    behind_keys h g = fields_if (are_all_apart own behind) _ (λ on. record {
+      by = (
+        g.by.0,
+        λ cs v read. record {
+          roles = q;
+          owns = own_keys.by;
+          told = record {
+            own_pieces = read.own_pieces;
+            left_cells = read.left_cells;
+            taken = read.taken;
+            own = h.by.2 read.own_pieces v.0 (taken_own read.taken) read.own;
+            left = g.by.1 read.left_cells v.1 read.left;
+          };
+        },
+      );
+    })
+both_say own_keys behind_keys h g = record { by = tt }
 
-  -- commands before others
-  cells_before : (said : CellsValue A) (s : ProgramForm A) (t : ProgramForm B) → CellsSay s said
-      → CellsSay (program_both (names (first r)) others (program_field s) t) (λ cs v. ⊥)
-  cells_before said (alternative wide q value) t h = absurd h
-  cells_before said (single wide k q group gap) t h = absurd h
-  cells_before said (complete wide k q value) t h = absurd h
-  cells_before said (product wide named q fields) t h = absurd h
-  cells_before said _ t h = tt
-
-  pub program_both_say : (env : Variables) {s : ProgramForm A} {t : ProgramForm B}
-      {said : ProgramSaid P A} {more : ProgramFieldsSaid Q B}
-      → FormLaw env outcome (names (first r)) words s → FormLaw env behind others [] t
-      → ProgramSays (names (first r)) s (kind (first r)) said (first r)
-      → ProgramFieldsSay others t more (rest r)
-      → ProgramFieldsSay (names (first r) ++ others) (program_both (names (first r)) others
-      (program_field s) t) (said_both first rest kind names said more) r
-  program_both_say env {s} {t} {said = of_pieces said} {more = of_all_pieces more} law laws h g =
-      record {
-        by = both_say (field_owned env outcome words s law) (owned env behind [] t laws)
-            (field_says (owned env outcome words s law) h.by) g.by;
-      }
-  program_both_say env {s} {t} {said = of_pieces said} {more = of_all_cells more} law laws h g =
-      record {
-        by = before_says (more (rest r)) (program_field s) t (field_owned env outcome words s law)
-            (field_says (owned env outcome words s law) h.by) g.by;
-      }
-  program_both_say env {s} {t} {said = of_cells said} law laws h g =
-      record { by = cells_before (said (first r)) s t h.by }
-
--- fields that stand inside
-pub inside_say : {P Q V : Type 0} (inside : Q → P) {q : Q} {names : List Names} {s : ProgramForm V}
-    {said : ProgramFieldsSaid P V} → ProgramFieldsSay names s said (inside q)
-    → ProgramFieldsSay names s (fields_said_inside inside said) q
-inside_say inside {said = of_all_pieces said} h = record { by = h.by }
-inside_say inside {said = of_all_cells said} h = record { by = h.by }
-
--- a constructor
-pub program_con_says : (env : Variables) {P Q A B : Type 0} (fields : Q → P) (q : Q)
-    (outcome : Outcome A) (names : P → List Names) (makes : Q → Closure A B) {s : ProgramForm A}
-    {said : ProgramFieldsSaid P A} → FormLaw env outcome (names (fields q)) [] s
-    → ProgramFieldsSay (names (fields q)) s said (fields q)
-    → ProgramSays (names (fields q)) (program_con (makes q) s) (form_kind s)
-    (said_con fields names makes said) q
-program_con_says env fields q outcome names makes {s} {said = of_all_pieces said} law g =
-    record { by = con_says (owned env outcome [] s law) g.by }
-program_con_says env {A} fields q outcome names makes {s} {said = of_all_cells said} law g =
-    record { by = by_form s g.by }
-  where
-    by_form : (s : ProgramForm A) → CellsSay s (said (fields q))
-        → CellsSay (program_con (makes q) s) (ClosedValue (said (fields q)) (makes q))
-    by_form (product wide named r fields) h = absurd h
-    by_form (before_commands value) h = closed_said h
-    by_form _ h = tt
+-- what a constructor makes of the values of fields
+pub program_con_says : {A B : Type 0} {names : List Names} {s : ProgramForm A} {c : Bool}
+    {said : FieldsSaid A} {cells : CellsValue A} (f : Closure A B) → FieldsSay names s c said cells
+    → Says names (program_con f s) (form_kind s) c (RecordSays said names f) (ClosedValue cells f)
+program_con_says {names} {s = product wide named q fields} {said} f g = record {
+  by = (
+    g.by.0,
+    refl,
+    λ whole os v fits fit m same other. record {
+      from = m.from;
+      fields = subst (λ z. said whole z m.from) (sym other ∙ others_unkeyed q names whole fits)
+          (g.by.1 whole os m.from fits fit m.read same);
+      made = m.made;
+    },
+  );
+}
+program_con_says {s = before_commands value} f g = record { by = (g.by.0, closed_said g.by.1) }
+program_con_says f g = record { by = tt }
 
 -- the last field
-pub keep_last : {env : Variables} {P R A : Type 0} (last : R → P) (r : R) (outcome : Outcome A)
-    (kind : P → SaidKind) (names : P → List Names) (words : List (List ℕ)) (s : ProgramForm A)
-    (said : ProgramSaid P A) → FormLaw env outcome (names (last r)) words s
-    → ProgramSays (names (last r)) s (kind (last r)) said (last r)
-    → FieldsKeep env outcome (names (last r)) (program_alone (program_field s))
-    (said_alone last kind names said) r
-keep_last {env} {A} last r outcome kind names words s said law says = record {
-  law = program_alone_law env A outcome (names (last r)) words (program_field s)
-      (program_field_law env A outcome (names (last r)) words s law);
-  says = program_alone_says env last outcome kind names words law says;
+pub keep_last : {env : Variables} {A : Type 0} {outcome : Outcome A} {words : List (List ℕ)}
+    {names : List Names} {s : ProgramForm A} {kind : SaidKind} {c : Bool} {said : Said A}
+    {cells : CellsValue A} → FormLaw env outcome names words s → Says names s kind c said cells
+    → FieldsKeep env outcome names (program_alone (program_field s)) c (AloneSays kind names said)
+    cells
+keep_last law says = let field = program_field_law law in record {
+  law = program_alone_law field;
+  says = alone_says (owned field) (field_says (owned law) says);
 }
 
--- fields that stand inside of others
-pub keep_inside : {env : Variables} {P R V : Type 0} (inside : R → P) (r : R) {outcome : Outcome V}
-    {names : List Names} {s : ProgramForm V} {said : ProgramFieldsSaid P V}
-    → FieldsKeep env outcome names s said (inside r)
-    → FieldsKeep env outcome names s (fields_said_inside inside said) r
-keep_inside inside r kept = record { law = kept.law; says = inside_say inside kept.says }
-
 -- a field before such fields
-pub keep_before : {env : Variables} {P Q R A B : Type 0} (first : R → P) (rest : R → Q) (r : R)
-    (outcome : Outcome A) (kind : P → SaidKind) (names : P → List Names) (words : List (List ℕ))
-    (s : ProgramForm A) (said : ProgramSaid P A) → FormLaw env outcome (names (first r)) words s
-    → ProgramSays (names (first r)) s (kind (first r)) said (first r) → {behind : Outcome B}
-    {others : List Names} {t : ProgramForm B} {more : ProgramFieldsSaid Q B}
-    → FieldsKeep env behind others t more (rest r)
-    → FieldsKeep env (BothOutcome outcome behind) (names (first r) ++ others)
-    (program_both (names (first r)) others (program_field s) t) (said_both first rest kind names
-    said more) r
-keep_before {env} {A} {B} first rest r outcome kind names words s said law says {behind} {others}
-    {t} kept = record {
-      law = program_both_law env A B outcome behind (names (first r)) others words (program_field s)
-          t (program_field_law env A outcome (names (first r)) words s law) kept.law;
-      says = program_both_say first rest r outcome behind kind names words others env law kept.law
-          says kept.says;
-    }
+pub keep_before : {env : Variables} {A B : Type 0} {outcome : Outcome A} {words : List (List ℕ)}
+    {names others : List Names} {s : ProgramForm A} {kind : SaidKind} {c d : Bool} {said : Said A}
+    {cells : CellsValue A} {behind : Outcome B} {t : ProgramForm B} {more : FieldsSaid B}
+    {rest : CellsValue B} → FormLaw env outcome names words s → Says names s kind c said cells
+    → FieldsKeep env behind others t d more rest
+    → FieldsKeep env (BothOutcome outcome behind) (names ++ others)
+    (program_both names others (program_field s) t) d (BothSay kind names said more)
+    (FieldThenSays names said rest)
+keep_before law says kept = let field = program_field_law law in record {
+  law = program_both_law field kept.law;
+  says = both_say (owned field) (owned kept.law) (field_says (owned law) says) kept.says;
+}

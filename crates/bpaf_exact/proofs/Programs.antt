@@ -1,44 +1,38 @@
--- A command over a program, and a named field before others, the last of which are commands, keep
--- to the laws.
-use Rattle.std.proofs.Common.{Err, List, None, Ok, Option, Some, [], arith, bytes_eq, false, ap}
-use Rattle.std.proofs.Common.{if◌then◌else◌, inl, inr, length, not, refl, subst, suc, sym, true}
-use Rattle.std.proofs.Common.{true≢false, zero, ⊎_elim, ◌&&◌, ◌<◌, ◌∙◌, ◌∷◌, ◌≡◌, ◌≤◌, ℕ}
-use Rattle.std.proofs.lemmas.Bool.{cases_Bool, cases_lt, false_from_ne_true}
-use Rattle.std.proofs.lemmas.Slice.Eq.{bytes_eq-Decides}
-use Rattle.std.proofs.{lemmas.Bool.Decides.nat_tests, lemmas.List.length_push}
-use Rattle.std.specs.{List.list_any, Option.option_map_or}
-use Rattle.bpaf_base.specs.declared.arg.Arg.TheVariants.{Long, Short}
-use Rattle.bpaf_base.specs.{Items.any_item, declared.arg.Arg.Arg}
-use Rattle.bpaf_line.proofs.Places.{match_is_open, open_item_there, open_in_scope, taken_here}
-use Rattle.bpaf_line.proofs.Places.{taken_other, taken_stays}
+-- A command over a program, and a named field before what ends in commands, keep to the laws.
+use Rattle.std.proofs.Common.{if◌then◌else◌, true≢false, bytes_eq, Option, length, ⊎_elim, arith, ℕ}
+use Rattle.std.proofs.Common.{false, subst, List, None, Some, refl, true, zero, ◌&&◌, Err, inl, inr}
+use Rattle.std.proofs.Common.{not, suc, sym, ◌<◌, ◌∙◌, ◌∷◌, ◌≡◌, ◌≤◌, Ok, [], ap}
+use Rattle.std.proofs.lemmas.Bool.{false_from_ne_true, cases_Bool, cases_lt}
+use Rattle.std.proofs.{lemmas.Slice.Eq.bytes_eq-Decides, lemmas.Bool.Decides.nat_tests}
+use Rattle.std.proofs.lemmas.List.{length_push}
+use Rattle.std.specs.{Option.option_map_or, List.list_any}
+use Rattle.bpaf_base.specs.declared.arg.Arg.TheVariants.{Short, Long}
+use Rattle.bpaf_base.specs.{declared.arg.Arg.Arg, Items.any_item}
+use Rattle.bpaf_line.proofs.Places.{open_item_there, match_is_open, open_in_scope, taken_other}
 use Rattle.bpaf_line.specs.Situation.{Situation, in_scope, is_taken, item_at}
+use Rattle.bpaf_line.proofs.Places.{taken_stays, taken_here}
 use Rattle.bpaf_line.specs.{declared.error.Error.Error, Taking.open_item}
 use Rattle.bpaf_laws.specs.Command.{opening_words, IsNotOpened, IsOpenedAt, is_one_of, Called}
-use Rattle.bpaf_laws.specs.Command.{inside}
 use Rattle.bpaf_laws.specs.{Product.ProductOutcome, Product.BothOutcome, Reading.Outcome}
-use Rattle.bpaf_exact.proofs.Product.{count_none, no_own_in_cut, none_outside_after, values_of_both}
-use Rattle.bpaf_exact.proofs.Product.{refused_both, con_keeps}
-use Rattle.bpaf_exact.proofs.{Cuts.begin_at, Cuts.nil_foreign, Cuts.nil_rest, Cuts.one_take}
-use Rattle.bpaf_exact.proofs.{Cuts.value_foreign, Cuts.read_cut, Places.TakenOne}
-use Rattle.bpaf_exact.proofs.{Places.closed_item, Places.match_of, Places.open_present}
-use Rattle.bpaf_exact.proofs.{Places.same_item, Places.take_one, Names.first_within}
-use Rattle.bpaf_exact.proofs.{Names.second_within, Names.both_hold, Choice.has_item}
-use Rattle.bpaf_exact.specs.Flat.{ByName, FieldLaw, FieldTook, FieldsLaw, FieldsReading, IsWholeIn}
-use Rattle.bpaf_exact.specs.Flat.{OfMemory, ReadOff, first_cells, Variables, cells, class}
-use Rattle.bpaf_exact.specs.Flat.{ClosedValue, map_closure, TakesFirst, first_later, first_one}
-use Rattle.bpaf_exact.specs.Flat.{NotOwn}
-use Rattle.bpaf_exact.specs.Pieces.{Alone, Apart, Cells, Foreign, LinePiece, One, Roles, TakesPiece}
-use Rattle.bpaf_exact.specs.Pieces.{Role, Takes, TakesPieces, Two, either, either_role, empty_stays}
-use Rattle.bpaf_exact.specs.Pieces.{IsNamed, is_key, is_own_role, no_cells, other_stays, takes_flag}
-use Rattle.bpaf_exact.specs.Pieces.{takes_argument, takes_later, takes_more, takes_none, takes_one}
-use Rattle.bpaf_exact.specs.Pieces.{pieces, takes_two}
-use Rattle.bpaf_exact.specs.ProgramForm.{AllSpelled, CellsValue, CommandEval, CommandsLaw}
-use Rattle.bpaf_exact.specs.ProgramForm.{CommandValue, FieldThen, FindsNoCommand, IsSpelledLine}
-use Rattle.bpaf_exact.specs.ProgramForm.{Opens, OpensNone, ProgramLaw, ProgramTook, are_plain}
-use Rattle.bpaf_exact.specs.ProgramForm.{command_memory, command_leftover, command_value}
-use Rattle.bpaf_exact.specs.ProgramForm.{command_missing, empty_cell, is_spelled, no_cell}
-use Rattle.bpaf_exact.specs.ProgramForm.{opens_later, command_refused, is_dashed, opens_here}
-use Rattle.bpaf_exact.specs.ProgramForm.{spelled_cell}
+use Rattle.bpaf_laws.specs.Command.{inside}
+use Rattle.bpaf_exact.proofs.Product.{no_own_in_cut, count_none, both_keeps, con_keeps}
+use Rattle.bpaf_exact.proofs.Cuts.{value_foreign, nil_foreign, begin_at, nil_rest, one_take}
+use Rattle.bpaf_exact.proofs.Places.{open_present, closed_item, same_item, TakenOne, match_of}
+use Rattle.bpaf_exact.proofs.Names.{apart_second, apart_first, both_hold}
+use Rattle.bpaf_exact.proofs.{Commands.has_item, Places.take_one}
+use Rattle.bpaf_exact.specs.Flat.{FieldsReading, first_cells, ClosedValue, map_closure, first_later}
+use Rattle.bpaf_exact.specs.Flat.{TakesFirst, FieldTook, FieldsLaw, IsWholeIn, Variables, first_one}
+use Rattle.bpaf_exact.specs.Flat.{FieldLaw, OfMemory, ReadOff, ByName, NotOwn, cells, class}
+use Rattle.bpaf_exact.specs.Pieces.{takes_argument, TakesPieces, empty_stays, other_stays, no_cells}
+use Rattle.bpaf_exact.specs.Pieces.{LinePiece, takes_one, takes_two, IsNamed, either, is_key, Alone}
+use Rattle.bpaf_exact.specs.Pieces.{takes_later, takes_more, takes_none, TakesPiece, takes_flag}
+use Rattle.bpaf_exact.specs.Pieces.{pieces, Apart, Cells, Roles, Takes, One, Two}
+use Rattle.bpaf_exact.specs.ProgramForm.{FindsNoCommand, command_memory, IsSpelledLine, CommandEval}
+use Rattle.bpaf_exact.specs.ProgramForm.{command_leftover, command_missing, command_refused, Opens}
+use Rattle.bpaf_exact.specs.ProgramForm.{ProgramTook, opens_later, AllSpelled, CellsValue, no_cell}
+use Rattle.bpaf_exact.specs.ProgramForm.{ProgramLaw, empty_cell, is_spelled, opens_here, FieldThen}
+use Rattle.bpaf_exact.specs.ProgramForm.{command_value, CommandValue, spelled_cell, CommandsLaw}
+use Rattle.bpaf_exact.specs.ProgramForm.{OpensNone, are_plain, is_dashed}
 
 -- A command's word on cells.
 
@@ -134,15 +128,13 @@ first_spelled {at} (suc n) all = by_cell (at zero) (all zero) (first_spelled n (
 -- all that is present on a line is
 pub cells_spelled : (s : Situation) → IsSpelledLine s.context → AllSpelled (cells s)
 unfolding cells
-cells_spelled s all =
-    first_spelled (length s.context.line) (λ p k e. all p k (open_item_there s p k e).1)
+cells_spelled s all = grind (arith, first_spelled, open_item_there)
 
 -- A command's word in a situation.
 
 -- where not any item is open none is
 not_any : (c : Option Arg) → option_map_or any_item c false ≡ false → c ≡ None
-not_any None e = refl
-not_any (Some k) e = cc
+not_any x e = grind arith
 
 module _ (called : Called) (s : Situation) (p : ℕ)
     (at : IsOpenedAt (opening_words called) s p) where
@@ -169,9 +161,7 @@ module _ (called : Called) (s : Situation) (p : ℕ)
       outside before = grind (arith, nat_tests)
 
       same_scope : {q : ℕ} → p ≤ q → in_scope behind q ≡ in_scope s q
-      same_scope after =
-          let within = open_in_scope s p (match_is_open any_item s p at.first.matches) in
-          grind (arith, nat_tests)
+      same_scope after = grind (arith, match_is_open, nat_tests, open_in_scope)
 
   -- it opens the cells, and leaves those behind it
   pub opens_cells : Opens (opening_words called) (cells s) (cells behind)
@@ -199,17 +189,10 @@ module _ (called : Called) (s : Situation) (p : ℕ)
 pub opens_none : {words : List (List ℕ)} (s : Situation) → IsNotOpened words s
     → OpensNone words (cells s)
 unfolding cells
-opens_none {words} s none ds o =
-    let w = word_of (length s.context.line) o in
-    let there = open_item_there s w.0 w.1 w.3 in
-    true≢false (sym (ap (λ z. option_map_or (is_one_of words) z false) there.1 ∙ w.4)
-    ∙ none w.0 (record {
-      matches = ap (λ z. option_map_or any_item z false) w.3;
-      first = λ q l. ap (λ z. option_map_or any_item z false) (w.5 q l);
-    }))
+opens_none {words} s none ds o = grind (arith, open_item_there, word_of)
 
 -- A command keeps to the laws, where its program does.
-module _ {env : Variables} (T : Type 0) (inner : Outcome T) (r : Roles) (value : CellsValue T)
+module _ {env : Variables} {T : Type 0} {inner : Outcome T} {r : Roles} {value : CellsValue T}
     (l : ProgramLaw env T inner r value) (called : Called)
     (plain : are_plain (opening_words called) ≡ true) where
   -- its words
@@ -288,7 +271,7 @@ module _ {env : Variables} {V : Type 0} {outcome : Outcome V} {r : Roles}
   -- the laws
   pub record_program : ProgramLaw env V outcome r (ReadOff V r reading.value)
   record_program = record {
-    others = λ q n a cs v s h. no_own_in_cut n a (read_cut h);
+    others = λ q n a cs v s h. no_own_in_cut n a h.cut;
     keeps = record {
       ok = λ s t v w o.
           let i = l.keeps.ok s t v w o in
@@ -296,11 +279,11 @@ module _ {env : Variables} {V : Type 0} {outcome : Outcome V} {r : Roles}
             deep = let e = ap length i.steady.path in omega arith;
             read = λ spelled. i.read;
             all = λ u h.
-                let n = i.all h.cut_into (read_cut h) (l.has_each h.cut_into u h.read) in
+                let n = i.all h.cut_into h.cut (l.has_each h.cut_into u h.read) in
                 (i.read n, n);
           };
       err = λ s t e w o u h.
-          l.keeps.err s t e w o h.cut_into (read_cut h) (l.has_each h.cut_into u h.read);
+          l.keeps.err s t e w o h.cut_into h.cut (l.has_each h.cut_into u h.read);
     };
   }
 
@@ -311,15 +294,10 @@ taken_pieces : {q : Roles} {cs ds : Cells} {os : List LinePiece} → IsNamed q �
     → os ≡ pieces q cs
 taken_pieces n no_cells = refl
 taken_pieces n (empty_stays t) = taken_pieces n t
-taken_pieces {q} n (other_stays {k} {cs} e t) =
-    taken_pieces n t ∙ sym (begin_at k cs (pieces q cs) e)
-taken_pieces {q} n (takes_flag {k} {cs} e t) =
-    ap (λ z. One k ∷ z) (taken_pieces n t) ∙ sym (begin_at k cs (pieces q cs) e)
+taken_pieces {q} n (other_stays {k} {cs} e t) = grind (arith, begin_at, taken_pieces n t)
+taken_pieces {q} n (takes_flag {k} {cs} e t) = grind (arith, begin_at, taken_pieces n t)
 taken_pieces {q} n (takes_argument {k} {w} {cs} e v t) =
-    ap (λ z. Two k w ∷ z) (taken_pieces n t)
-    ∙ sym (begin_at k (Some w ∷ cs) (pieces q (Some w ∷ cs)) e
-    ∙ ap (λ b. (if b then Two k w else One k) ∷ pieces q (Some w ∷ cs)) v
-    ∙ ap (λ z. Two k w ∷ z) (begin_at w cs (pieces q cs) (value_foreign n v)))
+    grind (arith, begin_at, value_foreign, taken_pieces n t)
 
 -- where there is no own piece none is taken
 take_none : {q : Roles} (cs : Cells) → pieces q cs ≡ [] → Takes q cs [] cs
@@ -353,13 +331,10 @@ foreign_before : {p q : Roles} {cs ds : Cells} {os : List LinePiece} → IsNamed
 foreign_before n a no_cells e = e
 foreign_before n a (empty_stays t) e = foreign_before n a t e
 foreign_before {p} n a (other_stays {k} {cs} {ds} f t) e =
-    begin_at k cs (pieces p cs) (nil_foreign (p k) k ds (pieces p ds) e)
-    ∙ foreign_before n a t (nil_rest (p k) k ds e)
-foreign_before {p} n a (takes_flag {k} {cs} f t) e =
-    begin_at k cs (pieces p cs) (a.right k (ap is_own_role f)) ∙ foreign_before n a t e
+    grind (arith, begin_at, nil_foreign, nil_rest, foreign_before n a t (nil_rest (p k) k ds e))
+foreign_before {p} n a (takes_flag {k} {cs} f t) e = grind (arith, begin_at, foreign_before n a t e)
 foreign_before {p} n a (takes_argument {k} {w} {cs} f v t) e =
-    begin_at k (Some w ∷ cs) (pieces p (Some w ∷ cs)) (a.right k (ap is_own_role f))
-    ∙ begin_at w cs (pieces p cs) (value_foreign n v) ∙ foreign_before n a t e
+    grind (arith, begin_at, value_foreign, foreign_before n a t e)
 
 -- what is left is spelled
 left_spelled : {q : Roles} {cs ds : Cells} {os : List LinePiece} → Takes q cs os ds
@@ -370,25 +345,6 @@ left_spelled (other_stays e t) (spelled_cell s a) = spelled_cell s (left_spelled
 left_spelled (takes_flag e t) (spelled_cell s a) = empty_cell (left_spelled t a)
 left_spelled (takes_argument e v t) (spelled_cell s (spelled_cell r a)) =
     empty_cell (empty_cell (left_spelled t a))
-
--- what has no role to two has none to each
-none_of_both : (x : Role) {y : Role} → either_role x y ≡ Foreign → (x ≡ Foreign) × (y ≡ Foreign)
-none_of_both Foreign e = (refl, e)
-none_of_both _ e = absurd cc
-
--- what is apart from two is apart from each
-pub apart_first : {p q : Roles} (r : Roles) → Apart p (either q r) → Apart p q
-apart_first {q} r a = record {
-  left = λ k own. (none_of_both (q k) (a.left k own)).0;
-  right = λ k own. a.right k (first_within q r k own);
-}
-
--- and from the other
-pub apart_second : {p : Roles} (q : Roles) {r : Roles} → Apart p (either q r) → Apart p r
-apart_second q {r} a = record {
-  left = λ k own. (none_of_both (q k) (a.left k own)).1;
-  right = λ k own. a.right k (second_within q r k own);
-}
 
 module _ {env : Variables} {A B : Type 0} {first : Outcome A} {rest : Outcome B} {q r : Roles}
     {fv : List LinePiece → A → Type 0} {rv : CellsValue B} (lf : FieldLaw env A first ByName q fv)
@@ -404,11 +360,7 @@ module _ {env : Variables} {A B : Type 0} {first : Outcome A} {rest : Outcome B}
   -- its answer is one on them, and what it left are the cells that the others' value is on
   first_gives : {s m : Situation} {x : A} {u : A × B} → FieldTook A ByName q fv s x m
       → (h : value (cells s) u) → fv h.own_pieces x × (cells m ≡ h.left_cells)
-  first_gives {u} i h =
-      let none = i.all u.0 (own_value h) in (
-        rw (taken_pieces lf.own h.taken) (i.read none),
-        (one_take (all_taken i.takes none).1 h.taken).1,
-      )
+  first_gives i h = grind (arith, all_taken, one_take, own_value, taken_pieces)
 
   -- the laws
   pub before_law : ProgramLaw env (A × B) (BothOutcome first rest) (either q r) value
@@ -416,45 +368,34 @@ module _ {env : Variables} {A B : Type 0} {first : Outcome A} {rest : Outcome B}
     others = λ p n a cs v s h.
         foreign_before n (apart_first r a) h.taken (lr.others p n (apart_second q a) h.left_cells
         v.1 (left_spelled h.taken s) h.left);
-    keeps = record {
-      ok = λ s t v w o.
-          let h = values_of_both first rest o in
-          let i = lf.keeps.ok s h.middle v.0 w h.first_ran in
-          let j = lr.keeps.ok h.middle t v.1 (none_outside_after w i.steady) h.rest_ran in
+    keeps = both_keeps lf lr.keeps _ _ (λ s m t x y i j. record {
+      deep = let e = ap length i.steady.path in let l = j.deep in omega arith;
+      read = λ spelled e.
+          let still : IsSpelledLine m.context = rw i.steady.context spelled in
+          let after = j.read still e in
+          let none = lr.others q lf.own apart (cells m) y (cells_spelled m still) after in
+          let all = all_taken i.takes none in
           record {
-            deep = let e = ap length i.steady.path in let l = j.deep in omega arith;
-            read = λ spelled e.
-                let still : IsSpelledLine h.middle.context = rw i.steady.context spelled in
-                let after = j.read still e in
-                let none = lr.others q lf.own apart (cells h.middle) v.1
-                (cells_spelled h.middle still) after in
-                let all = all_taken i.takes none in
-                record {
-                  own_pieces = all.0;
-                  left_cells = cells h.middle;
-                  taken = all.1;
-                  own = rw (taken_pieces lf.own all.1) (i.read none);
-                  left = after;
-                };
-            all = λ u g.
-                let first_one = first_gives i g in
-                let others = j.all u.1 (rw first_one.1 g.left) in (
-                  record {
-                    own_pieces = g.own_pieces;
-                    left_cells = g.left_cells;
-                    taken = g.taken;
-                    own = first_one.0;
-                    left = rw (← first_one.1) others.0;
-                  },
-                  others.1,
-                );
+            own_pieces = all.0;
+            left_cells = cells m;
+            taken = all.1;
+            own = rw (taken_pieces lf.own all.1) (i.read none);
+            left = after;
           };
-      err = λ s t e w o u h. refused_both first rest
-          (λ d m f. lf.keeps.err s m d w f u.0 (own_value h))
-          (λ v m f g. let i = lf.keeps.ok s m v w f in
-          lr.keeps.err m t e (none_outside_after w i.steady) g u.1
-          (rw (first_gives i h).1 h.left)) o;
-    };
+      all = λ u g.
+          let first_one = first_gives i g in
+          let others = j.all u.1 (rw first_one.1 g.left) in (
+            record {
+              own_pieces = g.own_pieces;
+              left_cells = g.left_cells;
+              taken = g.taken;
+              own = first_one.0;
+              left = rw (← first_one.1) others.0;
+            },
+            others.1,
+          );
+    }) (λ s c no u h. no u.0 (own_value h))
+        (λ s m t x c i no u h. no u.1 (rw (first_gives i h).1 h.left));
   }
 
 -- with its constructor a product keeps to the laws of a program

@@ -1,27 +1,21 @@
--- Repeats of a field that keeps to the laws of one evaluation, and what `some` and `last` make of
--- one.
-use Rattle.std.proofs.Common.{Bool, Err, List, None, Ok, arith, false, inl, inr, refl, [], ap}
-use Rattle.std.proofs.Common.{subst, sym, true, true≢false, ⊎_elim, ◌<◌, ◌∙◌, ◌∷◌, ◌≡◌, ◌≤◌, ◌++◌}
-use Rattle.std.proofs.Common.{◌⊎◌}
-use Rattle.bpaf_line.specs.{Situation.Situation, Situation.open_count, declared.error.Error.Error}
-use Rattle.bpaf_laws.specs.Combinators.{LastOutcome, UntilRest, Turns, is_nil, rests, stops}
-use Rattle.bpaf_laws.specs.Combinators.{TurnOutcome}
-use Rattle.bpaf_laws.specs.Reading.{Outcome}
-use Rattle.bpaf_exact.proofs.Classes.{stops_at, memory_class, goes_on}
-use Rattle.bpaf_exact.proofs.Places.{takes_some_fewer, open_present, takes_fewer}
+-- Repeats of a field that keeps to the laws of one evaluation; what `some` and `last` make of one.
+use Rattle.std.proofs.Common.{true≢false, ⊎_elim, arith, false, subst, Bool, List, None, refl, true}
+use Rattle.std.proofs.Common.{◌++◌, Err, inl, inr, sym, ◌<◌, ◌∙◌, ◌∷◌, ◌≡◌, ◌≤◌, ◌⊎◌, Ok, [], ap}
+use Rattle.bpaf_line.specs.{Situation.open_count, Situation.Situation, declared.error.Error.Error}
+use Rattle.bpaf_laws.specs.Combinators.{LastOutcome, TurnOutcome, UntilRest, is_nil, Turns, rests}
+use Rattle.bpaf_laws.specs.{Combinators.stops, Reading.Outcome}
+use Rattle.bpaf_exact.proofs.Names.{no_keys_left, never_nil, back_all, each_nil, nil_each}
 use Rattle.bpaf_exact.proofs.Product.{none_outside_after, steady_trans, steady_refl}
-use Rattle.bpaf_exact.proofs.Fronts.{no_keys_left, never_nil, back_all, each_nil, nil_each}
+use Rattle.bpaf_exact.proofs.Places.{takes_some_fewer, open_present, takes_fewer}
+use Rattle.bpaf_exact.proofs.Classes.{memory_class, stops_at, goes_on}
 use Rattle.bpaf_exact.proofs.Cuts.{some_trans}
-use Rattle.bpaf_exact.specs.Flat.{EachWord, ErrorClass, FieldKind, FieldTook, IsWholeIn, ByName}
-use Rattle.bpaf_exact.specs.Flat.{FieldLaw, OfMemory, OfMissing, OneWord, OwnItems, Steady}
-use Rattle.bpaf_exact.specs.Flat.{Variables, back, cells, class, front, CanCatch, Gap, Own, OwnList}
-use Rattle.bpaf_exact.specs.Flat.{ReadsWords, RepeatOutcome, Readable, SingleErr, SingleLaw}
-use Rattle.bpaf_exact.specs.Flat.{SingleOk, TakesAny, Groups, catch_missing, catch_other, caught}
-use Rattle.bpaf_exact.specs.Flat.{gave_absent, TookGroup, listed, listed_and_absent, nothing_found}
-use Rattle.bpaf_exact.specs.Flat.{of_missing, of_absent, of_memory, of_piece, only_absent, own_more}
-use Rattle.bpaf_exact.specs.Flat.{own_none, present_count, Stops, repeated, took, AgreesOn}
-use Rattle.bpaf_exact.specs.Flat.{some_closure, LastOf}
-use Rattle.bpaf_exact.specs.Pieces.{Cells, LinePiece, TakesPieces, pieces, takes_more, takes_none}
+use Rattle.bpaf_exact.specs.Flat.{gave_absent, only_absent, ErrorClass, FieldKind, FieldTook, cells}
+use Rattle.bpaf_exact.specs.Flat.{FieldLaw, CanCatch, Readable, SingleOk, TakesAny, own_more, class}
+use Rattle.bpaf_exact.specs.Flat.{own_none, repeated, AgreesOn, OfMemory, OwnItems, OwnList, Steady}
+use Rattle.bpaf_exact.specs.Flat.{IsWholeIn, OfMissing, Variables, SingleErr, SingleLaw, TookGroup}
+use Rattle.bpaf_exact.specs.Flat.{listed_and_absent, present_count, RepeatOutcome, some_closure}
+use Rattle.bpaf_exact.specs.Flat.{Groups, listed, LastOf, front, Stops, back, took, Gap, Own}
+use Rattle.bpaf_exact.specs.Pieces.{TakesPieces, takes_more, takes_none, LinePiece, pieces, Cells}
 use Rattle.bpaf_exact.specs.Pieces.{Roles}
 
 -- where the cells are the same none was taken
@@ -31,8 +25,7 @@ same_takes e = rw e takes_none
 -- what has an own list can be read
 readable : {T : Type 0} (k : FieldKind) {group : Groups T} (os : List LinePiece) {vs : List T}
     → Own T group (front (repeated k) os) vs → Readable k group os
-readable ByName os {vs} o = (vs, o)
-readable _ os o = tt
+readable x os o = grind arith
 
 -- where the cells are the same as many items are present
 pub same_count : (s m : Situation) → cells m ≡ cells s → open_count m ≡ open_count s
@@ -41,32 +34,23 @@ same_count s m e = open_present m ∙ (ap present_count e ∙ sym (open_present 
 -- a turn that took nothing stops at what can be caught
 pub stops_by : {s m : Situation} {e : Error} → CanCatch (class e)
     → (class e ≡ OfMissing → cells m ≡ cells s) → Stops e s m
-stops_by {s} {m} (catch_missing c) same = nothing_found c (same_count s m (same c))
-stops_by (catch_other c) same = caught c
+stops_by x same = grind (arith, same_count)
 
 -- a turn stops at what can be caught
 pub stopped_by : {s m : Situation} {e : Error} → Stops e s m → CanCatch (class e)
-stopped_by (nothing_found c same) = catch_missing c
-stopped_by (caught c) = catch_other c
+stopped_by x = grind arith
 
 -- where it can be caught there is no piece, and no absent value
 pub catch_none : {T : Type 0} {k : FieldKind} {q : Roles} {group : Groups T} {gap : Gap T}
     {s m : Situation} {c : ErrorClass} → CanCatch c → SingleErr T k q group gap s c m
     → (gap.has ≡ false) × (front k (pieces q (cells s)) ≡ [])
-catch_none h (of_missing c g p same) = (g, p)
-catch_none (catch_missing h) (of_memory c) = absurd cc
-catch_none (catch_other h) (of_memory c) = absurd cc
-catch_none (catch_missing h) (of_absent c g p n) = absurd cc
-catch_none (catch_other h) (of_absent c g p n) = absurd cc
-catch_none (catch_missing h) (of_piece c p n) = absurd cc
-catch_none (catch_other h) (of_piece c p n) = absurd cc
+catch_none h x = grind arith
 
 -- where nothing is there, and nothing stands for that, there is no value
 pub none_given : {T : Type 0} {k : FieldKind} {q : Roles} {group : Groups T} {gap : Gap T}
     {s t : Situation} {v : T} → (front k (pieces q (cells s)) ≡ []) × (gap.has ≡ false)
     → SingleOk T k q group gap s v t → ⊥
-none_given none (gave_absent h p ab same st) = let b = none.1 in cc
-none_given none (took h) = h.found none.0
+none_given none x = grind arith
 
 module _ {env : Variables} {T : Type 0} {inner : Outcome T} {k : FieldKind} {q : Roles}
     {group : Groups T} {gap : Gap T} (l : SingleLaw env T inner k q group gap) where
@@ -86,25 +70,13 @@ module _ {env : Variables} {T : Type 0} {inner : Outcome T} {k : FieldKind} {q :
   by_group : {os : List LinePiece} {v : T} {rest : List LinePiece} → group os v rest
       → group (front (repeated k) os) v (front (repeated k) rest)
       × (back (repeated k) rest ≡ back (repeated k) os)
-  by_group {os} {v} {rest} g =
-      elim k as (λ z. ReadsWords z group → group (front (repeated z) os) v (front (repeated z) rest)
-      × (back (repeated z) rest ≡ back (repeated z) os)) [
-        | ByName ↦ λ u. (g, refl)
-        | OneWord b ↦ λ u. u.by_each os v rest g
-        | EachWord b ↦ λ u. absurd u
-      ] l.words
+  by_group g = grind arith
 
   -- and the other way
   of_group : {os : List LinePiece} {v : T} {rest : List LinePiece}
       → group (front (repeated k) os) v rest
       → (more : List LinePiece) × group os v more × (rest ≡ front (repeated k) more)
-  of_group {os} {v} {rest} = by_kind k l.words
-    where
-      by_kind : (z : FieldKind) → ReadsWords z group → group (front (repeated z) os) v rest
-          → (more : List LinePiece) × group os v more × (rest ≡ front (repeated z) more)
-      by_kind ByName u g = (rest, g, refl)
-      by_kind (OneWord b) u g = u.of_each os v rest g
-      by_kind (EachWord b) u g = absurd u
+  of_group = grind arith
 
   -- what a repeat took: all its pieces, of which this is said
   record Took (told : List LinePiece → Type 0) (s t : Situation) : Type 0 where
@@ -123,12 +95,7 @@ module _ {env : Variables} {T : Type 0} {inner : Outcome T} {k : FieldKind} {q :
 
   -- where a piece was taken fewer items are present
   fewer_count : (s m : Situation) → TakesAny q (cells s) (cells m) → open_count m < open_count s
-  fewer_count s m t =
-      let a = takes_fewer t.one in
-      let d = takes_some_fewer t.more in
-      let b = open_present m in
-      let c = open_present s in
-      omega arith
+  fewer_count s m t = grind (arith, open_present, takes_fewer, takes_some_fewer)
 
   -- a repeat that ends where there is no piece
   ended : (told : List LinePiece → Type 0) {s t : Situation} → Steady s t
@@ -157,8 +124,7 @@ module _ {env : Variables} {T : Type 0} {inner : Outcome T} {k : FieldKind} {q :
       → (false ≡ true) ⊎ (open_count m < open_count s) → SingleOk T k q group gap s v m
       → (Steady s m → Took (Later vs) m t) → Took (Later (v ∷ vs)) s t
   step_took (inl e) o i = absurd cc
-  step_took {s} {m} (inr fewer) (gave_absent h p ab same st) i =
-      let h = same_count s m same in absurd (omega arith)
+  step_took {s} {m} (inr fewer) (gave_absent h p ab same st) i = grind (arith, same_count)
   step_took (inr fewer) (took h) i = took_more h (i h.steady)
 
   -- a value that took nothing ends it
@@ -187,8 +153,7 @@ module _ {env : Variables} {T : Type 0} {inner : Outcome T} {k : FieldKind} {q :
 
   -- no piece has no own list but the empty one
   pub own_nil : {os : List LinePiece} {vs : List T} → os ≡ [] → Own T group os vs → vs ≡ []
-  own_nil e own_none = refl
-  own_nil e (own_more {rest} {v} g o) = absurd (l.starts v rest (rw (← e) g))
+  own_nil e x = grind arith
 
   -- an own list, with the absent value where there is one
   with_absent : (has : Bool) → gap.has ≡ has → {os : List LinePiece} {v : T} {vs : List T}
@@ -258,39 +223,24 @@ module _ {env : Variables} {T : Type 0} {inner : Outcome T} {k : FieldKind} {q :
 
   -- Where the pieces can be read a refusal comes for want of memory alone.
 
-  -- an own list is empty, or has a first value
-  data OwnView (os : List LinePiece) (vs : List T) : Type 0 where
-    view_none : os ≡ [] → vs ≡ [] → OwnView os vs
-    view_more : (w : T) (rest : List LinePiece) (ws : List T) → vs ≡ w ∷ ws → group os w rest
-        → Own T group rest ws → OwnView os vs
-
-  -- by its constructors
-  own_view : {os : List LinePiece} {vs : List T} → Own T group os vs → OwnView os vs
-  own_view own_none = view_none refl refl
-  own_view (own_more {rest} {v} {vs = us} g o) = view_more v rest us refl g o
-
   -- what is left after a turn can be read
   on_step : {s m : Situation} {v : T} {ws : List T} → Own T group (own s) ws
       → SingleOk T k q group gap s v m → Steady s m × (us : List T) × Own T group (own m) us
   on_step {s} {m} {ws} o (gave_absent h p ab same st) = (st, ws, rw (same_own s m same) o)
-  on_step {s} {m} o (took h) = let more = by_view (own_view o) in (h.steady, more.0, more.1)
+  on_step {s} {m} o (took h) = let more = by_own refl o in (h.steady, more.0, more.1)
     where
-      by_view : {ws : List T} → OwnView (own s) ws → (us : List T) × Own T group (own m) us
-      by_view (view_none p e) = absurd (h.found (nil_each k _ p))
-      by_view (view_more w rest us e g o) =
-          let f = of_group g in
+      by_own : {os : List LinePiece} {ws : List T} → own s ≡ os → Own T group os ws
+          → (us : List T) × Own T group (own m) us
+      by_own p own_none = absurd (h.found (nil_each k _ p))
+      by_own p (own_more {rest} {v = w} {vs = us} g o) =
+          let f = of_group {os = pieces q (cells s)} {rest = rest} (rw p g) in
           (us, rw (← f.2 ∙ sym (ap (front (repeated k)) (h.readable w f.0 f.1).1)) o)
 
   -- where the pieces can be read a refusal is want of memory
-  failed_gives : {s t : Situation} {e : Error} {ws : List T} → IsWholeIn env s
-      → (gap.has ≡ true → (a : T) × gap.absent a) → OwnView (own s) ws → (Stops e s t → ⊥)
-      → SingleErr T k q group gap s (class e) t → class e ≡ OfMemory
-  failed_gives w ab o n (of_memory c) = c
-  failed_gives w ab o n (of_missing c g p same) = absurd (n (stops_by c same))
-  failed_gives w ab o n (of_absent c g p none) = let a = ab g in absurd (none a.0 a.1)
-  failed_gives w ab (view_none p x) n (of_piece c ne none) = absurd (ne (nil_each k _ p))
-  failed_gives w ab (view_more v rest us x g o) n (of_piece c ne none) =
-      let f = of_group g in absurd (none v f.0 f.1)
+  failed_gives : {s t : Situation} {e : Error} {os : List LinePiece} {ws : List T} → IsWholeIn env s
+      → (gap.has ≡ true → (a : T) × gap.absent a) → own s ≡ os → Own T group os ws
+      → (Stops e s t → ⊥) → SingleErr T k q group gap s (class e) t → class e ≡ OfMemory
+  failed_gives w ab p o n x = grind (arith, nil_each, of_group, stops_by)
 
   -- where the pieces can be read, turns fail for want of memory alone
   turns_fail : (first last : Bool) (vs : List T) {s m t : Situation} {e : Error} {ws : List T}
@@ -298,7 +248,7 @@ module _ {env : Variables} {T : Type 0} {inner : Outcome T} {k : FieldKind} {q :
       → Turns inner false first s vs m → TurnOutcome inner false last m (Err e) t
       → class e ≡ OfMemory
   turns_fail first last [] {s} {t = t} {e} w ab o turns fails =
-      ⊎_elim (λ f. failed_gives w ab (own_view o) (goes_on e f.1) (l.keeps.err s t e w f.0))
+      ⊎_elim (λ f. failed_gives w ab refl o (goes_on e f.1) (l.keeps.err s t e w f.0))
       (λ f. memory_class e.0 f.0)
       (subst (λ z. TurnOutcome inner false last z (Err e) t) (sym turns) fails)
   turns_fail first last (v ∷ vs) {s} w ab o turns fails =
@@ -316,17 +266,11 @@ module _ {env : Variables} {T : Type 0} {inner : Outcome T} {k : FieldKind} {q :
   repeat_fails : (idle : Bool) {s : Situation} (t : Situation) (e : Error) {ws : List T}
       → IsWholeIn env s → RepeatOutcome inner idle s (Err e) t → OwnList T group gap (own s) ws
       → class e ≡ OfMemory
-  repeat_fails false t e w o own_list =
-      let read = all_read own_list in
-      turns_fail true (is_nil o.values) o.values w read.0 read.2 o.steps o.fails
-  repeat_fails true t e w o own_list =
-      let read = all_read own_list in
-      turns_fail false (is_nil o.values) o.values w read.0 read.2 o.steps o.fails
+  repeat_fails b t e w o x = grind (arith, all_read, turns_fail)
 
   -- the items of a repeat are those of the field
   own_repeated : OwnItems (repeated k) q
-  own_repeated =
-      elim k as (λ z. OwnItems z q → OwnItems (repeated z) q) [ ByName ↦ λ o. o | _ ↦ λ o. o ] l.own
+  own_repeated = grind arith
 
   -- many, and what is built on it: the values of the own list
   pub repeat_law : (idle : Bool) → FieldLaw env (List T) (RepeatOutcome inner idle) (repeated k) q
@@ -355,21 +299,17 @@ module _ {env : Variables} {T : Type 0} {inner : Outcome T} {k : FieldKind} {q :
 
   -- an empty own list has no pieces
   own_empty : {os : List LinePiece} {vs : List T} → vs ≡ [] → Own T group os vs → os ≡ []
-  own_empty e own_none = refl
-  own_empty e (own_more g o) = absurd cc
+  own_empty e x = grind arith
 
   -- an empty list under a repeat comes of no piece
   empty_list : {os : List LinePiece} {vs : List T} → vs ≡ [] → OwnList T group gap os vs
       → Nothing os
-  empty_list e (listed h o) = nothing h (own_empty e o)
-  empty_list e _ = absurd cc
+  empty_list e x = grind (arith, own_empty)
 
   -- and no piece gives an empty list
   empty_nothing : {os : List LinePiece} {vs : List T} → Nothing os → OwnList T group gap os vs
       → vs ≡ []
-  empty_nothing (nothing g e) (listed h o) = own_nil e o
-  empty_nothing (nothing g e) (listed_and_absent h a o) = absurd cc
-  empty_nothing (nothing g e) (only_absent h a) = absurd cc
+  empty_nothing x y = grind (arith, own_nil)
 
   -- Of the own lists of the same pieces all are empty or none is.
   pub some_agrees_on : (os : List LinePiece) → AgreesOn (OwnList T group gap os) (some_closure T)
@@ -378,16 +318,8 @@ module _ {env : Variables} {T : Type 0} {inner : Outcome T} {k : FieldKind} {q :
   -- so the evaluation after an empty list answers no value
   again_ok : (s : Situation) {m : Situation} (t : Situation) (v : T) → IsWholeIn env s
       → UntilRest inner s [] m → inner m (Ok v) t → ⊥
-  again_ok s {m} t v w f g =
-      let i = repeat_took true w f in
-      by_empty (empty_list refl i.list) i.none (l.keeps.ok m t v (none_outside_after w i.steady) g)
-    where
-      by_empty : Nothing (front (repeated k) (pieces q (cells s)))
-          → pieces q (cells m) ≡ back (repeated k) (pieces q (cells s))
-          → SingleOk T k q group gap m v t → ⊥
-      by_empty (nothing h e) p o =
-          let same : pieces q (cells m) ≡ pieces q (cells s) = p ∙ back_all (repeated k) e in
-          none_given (nil_each k _ (ap (front (repeated k)) same ∙ e), h) o
+  again_ok s t v w f g =
+      grind (arith, back_all, empty_list, nil_each, none_given, none_outside_after, repeat_took)
 
   -- a last value is that of the own list
   last_took : (s t : Situation) (v : T) → IsWholeIn env s → LastOutcome inner s (Ok v) t
@@ -406,8 +338,7 @@ module _ {env : Variables} {T : Type 0} {inner : Outcome T} {k : FieldKind} {q :
   -- where the list has a last value it isn't empty
   never_empty : {s m : Situation} {v : T} → IsWholeIn env s → UntilRest inner s [] m
       → LastOf T group gap (front (repeated k) (pieces q (cells s))) v → ⊥
-  never_empty {v} w f h =
-      never_nil h.0 v [] (empty_nothing (empty_list refl (repeat_took true w f).list) h.1)
+  never_empty {v} w f h = grind (arith, empty_list, empty_nothing, never_nil, repeat_took)
 
   -- so a refusal is want of memory
   last_refuses : (s t : Situation) (e : Error) → IsWholeIn env s → LastOutcome inner s (Err e) t

@@ -1,15 +1,12 @@
 -- A surplus occurrence, a surplus word and an occurrence without a value leave a field no value.
-use Rattle.std.proofs.Common.{Bool, List, Option, Some, [], false, inl, inr, not, true, ℕ, ◌∷◌, ◌≡◌}
-use Rattle.std.proofs.Common.{None}
+use Rattle.std.proofs.Common.{Option, arith, Bool, List, not, ◌∷◌, ◌≡◌, ◌≢◌, [], ℕ}
 use Rattle.bpaf_exact.proofs.Wrappers.{own_bad}
-use Rattle.bpaf_exact.specs.Flat.{FieldKind, FieldsReading, HasValue, both_reading, left, portion}
-use Rattle.bpaf_exact.specs.Flat.{FrontOf, Groups, OwnList, listed_and_absent, own_more, own_none}
-use Rattle.bpaf_exact.specs.Flat.{Gap, SingleValue, gap_of, listed, only_absent, FallbackValue}
-use Rattle.bpaf_exact.specs.Flat.{OptionalValue, HasBad, LastOf, Closure}
-use Rattle.bpaf_exact.specs.ProgramForm.{ProgramForm, alternative, complete, program_closed, single}
-use Rattle.bpaf_exact.specs.ProgramForm.{completed, product, program_field, program_if}
-use Rattle.bpaf_exact.specs.ProgramForm.{HasNoSurplus, AtMostOne, last_reading, IsPartOf, OneByOne}
-use Rattle.bpaf_exact.specs.ProgramForm.{key_field, word_by}
+use Rattle.bpaf_exact.specs.Flat.{FieldsReading, FallbackValue, OptionalValue, both_reading, Groups}
+use Rattle.bpaf_exact.specs.Flat.{SingleValue, FieldKind, HasValue, own_more, own_none, portion}
+use Rattle.bpaf_exact.specs.Flat.{FrontOf, OwnList, Closure, HasBad, left, Gap}
+use Rattle.bpaf_exact.specs.ProgramForm.{program_closed, program_field, HasNoSurplus, last_reading}
+use Rattle.bpaf_exact.specs.ProgramForm.{ProgramForm, program_if, completed, AtMostOne, key_field}
+use Rattle.bpaf_exact.specs.ProgramForm.{IsPartOf, OneByOne, word_by}
 use Rattle.bpaf_exact.specs.Pieces.{LinePiece, Roles}
 
 -- A surplus occurrence.
@@ -18,115 +15,83 @@ use Rattle.bpaf_exact.specs.Pieces.{LinePiece, Roles}
 pub front_one : {T : Type 0} (value : LinePiece → T → Type 0) → OneByOne (FrontOf T value)
 front_one value os rest v g = (g.0, g.1)
 
--- where one evaluation reads one piece, two have no value
-group_once : {T : Type 0} {group : Groups T} → OneByOne group → (o p : LinePiece)
-    {os : List LinePiece} (v : T) → group (o ∷ p ∷ os) v [] → ⊥
-group_once one o p {os} v g = let i = one (o ∷ p ∷ os) [] v g in let e = i.1 in cc
+module _ {T : Type 0} (group : Groups T) (gap : Gap T) {os : List LinePiece} (some : os ≢ [])
+    (unread : (v : T) → group os v [] → ⊥) where
+  -- pieces that one evaluation doesn't read have no value where there is no repeat or default,
+  pub single_none : (v : T) → SingleValue T group gap os v → ⊥
+  single_none v x = grind arith
 
-module _ {T : Type 0} {group : Groups T} (gap : Gap T) (one : OneByOne group) where
-  -- nor have two where there is no repeat or default
-  single_once : AtMostOne (SingleValue T group gap)
-  single_once o p os v (inl g) = group_once one o p v g
-  single_once o p os v (inr e) = cc
-
-  -- nor where they may be left out
-  optional_once : AtMostOne (OptionalValue T group gap)
-  optional_once o p os (Some v) h = single_once o p os v h
-  optional_once o p os None e = cc
+  -- nor where they may be left out,
+  pub optional_none : (v : Option T) → OptionalValue T group gap os v → ⊥
+  optional_none x h = grind (arith, single_none)
 
   -- nor where a value stands for them
-  fallback_once : (f : Closure (Unit {0}) T) → AtMostOne (FallbackValue T group gap f)
-  fallback_once f o p os v (inl h) = single_once o p os v h
-  fallback_once f o p os v (inr e) = cc
+  pub fallback_none : (f : Closure (Unit {0}) T) (v : T) → FallbackValue T group gap f os v → ⊥
+  fallback_none f v x = grind (arith, single_none)
+
+-- where one evaluation reads one piece, two have no value
+group_once : {T : Type 0} {group : Groups T} → OneByOne group → (o p : LinePiece)
+    (os : List LinePiece) (v : T) → group (o ∷ p ∷ os) v [] → ⊥
+group_once one o p os v g = let i = one (o ∷ p ∷ os) [] v g in let e = i.1 in cc
 
 -- a closure round a field keeps that
 pub closed_no_surplus : {A B : Type 0} (f : Closure A B) (s : ProgramForm A) → HasNoSurplus s
     → HasNoSurplus (program_closed f s)
-closed_no_surplus f (single wide k q group gap) h = λ os rest v g. h os rest g.from g.read
-closed_no_surplus f (complete wide k q value) h = λ o p os v i. h o p os i.from i.read
-closed_no_surplus f _ h = tt
+closed_no_surplus f x h = grind arith
 
 -- what a repeat or default makes of a field, where it leaves two without a value, has no surplus
 completed_once : {T B : Type 0} (value : Groups T → Gap T → List LinePiece → B → Type 0)
     → ((group : Groups T) (gap : Gap T) → OneByOne group → AtMostOne (value group gap))
     → (s : ProgramForm T) → HasNoSurplus s → HasNoSurplus (completed (λ k. k) value s)
-completed_once value once (alternative wide q each) h = once _ (gap_of each None) (front_one each)
-completed_once value once (single wide k q group gap) h = once group gap h
-completed_once value once _ h = tt
+completed_once value once x h = grind (arith, front_one)
 
 -- a field without a repeat or default has no surplus
 pub field_no_surplus : {T : Type 0} (s : ProgramForm T) → HasNoSurplus s
     → HasNoSurplus (program_field s)
-field_no_surplus (product wide named q fields) h = absurd h
-field_no_surplus (complete wide k q value) h = h
-field_no_surplus {T} s h = completed_once (SingleValue T) (λ group. single_once) s h
+field_no_surplus s h = grind (arith, completed_once, group_once, single_none)
 
 -- nor has what may be left out
 pub optional_no_surplus : {T : Type 0} (s : ProgramForm T) → HasNoSurplus s
     → HasNoSurplus (completed (λ k. k) (OptionalValue T) s)
-optional_no_surplus {T} = completed_once (OptionalValue T) (λ group. optional_once)
+optional_no_surplus = grind (arith, completed_once, group_once, optional_none)
 
 -- nor what has a value that stands for it
 pub fallback_no_surplus : {T : Type 0} (f : Closure (Unit {0}) T) (s : ProgramForm T)
     → HasNoSurplus s
     → HasNoSurplus (completed (λ k. k) (λ group gap. FallbackValue T group gap f) s)
-fallback_no_surplus {T} f = completed_once (λ group gap. FallbackValue T group gap f)
-    (λ group gap one. fallback_once gap one f)
+fallback_no_surplus f = grind (arith, completed_once, fallback_none, group_once)
 
 -- whether `catch` is set changes nothing there
 pub unless_no_surplus : {T : Type 0} (catch : Bool) (s : ProgramForm T) → HasNoSurplus s
     → HasNoSurplus (program_if (not catch) s)
-unless_no_surplus true s h = tt
-unless_no_surplus false s h = h
+unless_no_surplus b s h = grind arith
 
 -- a flag has none, nor an argument, but for one that takes all its keys at once
 pub key_no_surplus : {T : Type 0} (wide may_choose : Bool) (q : Roles)
     (each : LinePiece → T → Type 0) (gap : Gap T)
     → HasNoSurplus (key_field wide may_choose q each (FrontOf T each) gap)
-key_no_surplus wide true q each gap = tt
-key_no_surplus wide false q each gap = front_one each
+key_no_surplus wide b q each gap = grind (arith, front_one)
 
 -- nor a word
 pub word_no_surplus : {T : Type 0} (accepts : Bool → Bool) (means : List ℕ → T → Type 0)
     → HasNoSurplus (word_by accepts means)
 word_no_surplus accepts means = front_one _
 
--- An occurrence without a value, as the key of a failed alternative.
-module _ (T : Type 0) (value : LinePiece → T → Type 0) (gap : Gap T) where
+-- An occurrence without a value, as the key of a failed alternative: the pieces are some, and one
+-- evaluation doesn't read them.
+module _ {T : Type 0} (value : LinePiece → T → Type 0) where
   -- it is among some
-  none_bad : (os : List LinePiece) → os ≡ [] → ¬ (HasBad T value os)
-  none_bad [] e b = elim b [ ]
-  none_bad (o ∷ os) e b = cc
+  pub bad_some : {os : List LinePiece} → HasBad T value os → os ≢ []
+  bad_some b e = let none : HasBad T value [] = rw (← e) b in elim none [ ]
 
-  -- a repeat has no value then
-  pub repeat_bad : {os : List LinePiece} {vs : List T} → HasBad T value os
+  -- none reads them
+  pub bad_unread : {os : List LinePiece} → HasBad T value os → (v : T) → FrontOf T value os v [] → ⊥
+  bad_unread b v g = own_bad value b (own_more g own_none)
+
+  -- nor has a repeat a value then
+  pub repeat_bad : {gap : Gap T} {os : List LinePiece} {vs : List T} → HasBad T value os
       → OwnList T (FrontOf T value) gap os vs → ⊥
-  repeat_bad b (listed h o) = own_bad value b o
-  repeat_bad b (listed_and_absent h a o) = own_bad value b o
-  repeat_bad b (only_absent h a) = elim b [ ]
-
-  -- nor has `last`
-  pub last_bad : (os : List LinePiece) (v : T) → HasBad T value os
-      → LastOf T (FrontOf T value) gap os v → ⊥
-  last_bad os v b h = repeat_bad b h.1
-
-  -- nor what has no repeat or default
-  pub single_bad : {os : List LinePiece} {v : T} → HasBad T value os
-      → SingleValue T (FrontOf T value) gap os v → ⊥
-  single_bad b (inl g) = own_bad value b (own_more g own_none)
-  single_bad {os} b (inr e) = none_bad os e.0 b
-
-  -- nor what may be left out
-  pub optional_bad : (os : List LinePiece) (v : Option T) → HasBad T value os
-      → OptionalValue T (FrontOf T value) gap os v → ⊥
-  optional_bad os (Some v) b h = single_bad b h
-  optional_bad os None b e = none_bad os e.0 b
-
-  -- nor what has a value that stands for it
-  pub fallback_bad : (f : Closure (Unit {0}) T) (os : List LinePiece) (v : T) → HasBad T value os
-      → FallbackValue T (FrontOf T value) gap f os v → ⊥
-  fallback_bad f os v b (inl h) = single_bad b h
-  fallback_bad f os v b (inr e) = none_bad os e.0 b
+  repeat_bad b x = grind (arith, own_bad)
 
 -- Which parts a record has: each of its fields, and that no piece is left.
 module _ {A B : Type 0} (k : FieldKind) (q : Roles) (first : List LinePiece → A → Type 0)
@@ -161,8 +126,7 @@ module _ (each : List LinePiece → Type 0) (own : List LinePiece → List LineP
   pub surplus_occurrence : {T : Type 0} (field : List LinePiece → T → Type 0) → AtMostOne field
       → IsPartOf each own (HasValue field) → (o p : LinePiece) (more : List LinePiece)
       → own os ≡ o ∷ p ∷ more → ¬ (each os)
-  surplus_occurrence field once is o p more e =
-      part_lacks (HasValue field) is (λ has. once o p more has.0 (rw (← e) has.1))
+  surplus_occurrence field once is o p more e = grind (arith, part_lacks)
 
   -- with a surplus word,
   pub surplus_word : IsPartOf each own (λ z. z ≡ []) → (o : LinePiece) (more : List LinePiece)
@@ -172,7 +136,6 @@ module _ (each : List LinePiece → Type 0) (own : List LinePiece → List LineP
   -- and with an occurrence without a value, where these leave the field none.
   pub bad_occurrence : {A T : Type 0} (one : LinePiece → A → Type 0)
       (field : List LinePiece → T → Type 0)
-      → ((ps : List LinePiece) (w : T) → HasBad A one ps → field ps w → ⊥)
+      → ((ps : List LinePiece) → HasBad A one ps → (w : T) → field ps w → ⊥)
       → IsPartOf each own (HasValue field) → HasBad A one (own os) → ¬ (each os)
-  bad_occurrence one field none is bad = part_lacks (HasValue field) is
-      (λ has. none (own os) has.0 bad has.1)
+  bad_occurrence one field none is bad = grind (arith, part_lacks)

@@ -1,28 +1,27 @@
 -- Closures, optional and fallback keep to the laws; alternatives are fields, and closures round
 -- them and round single fields are such.
-use Rattle.std.proofs.Common.{Err, List, None, Ok, Option, Some, false, inl, inr, refl, [], ap}
-use Rattle.std.proofs.Common.{subst, sym, ⊎_elim, ◌∙◌, ◌∷◌, ◌≡◌, ◌⊎◌}
+use Rattle.std.proofs.Common.{Option, ⊎_elim, arith, false, subst, List, None, Some, refl, Err, inl}
+use Rattle.std.proofs.Common.{inr, sym, ◌∙◌, ◌∷◌, ◌≡◌, ◌⊎◌, Ok, [], ap}
 use Rattle.std.specs.Option.{IsSomeRelated, is_some}
-use Rattle.bpaf_line.specs.{Situation.Situation, declared.error.Error.Error}
+use Rattle.bpaf_line.specs.{declared.error.Error.Error, Situation.Situation}
 use Rattle.bpaf_laws.specs.Reading.{Outcome}
 use Rattle.bpaf_exact.proofs.Cuts.{takes_nonempty, first_pieces, first_takes, head_stays}
-use Rattle.bpaf_exact.proofs.Repeat.{same_takes, stops_by, stopped_by, catch_none, none_given}
-use Rattle.bpaf_exact.proofs.{Fronts.no_keys_left, Fronts.back_all, Product.steady_refl}
-use Rattle.bpaf_exact.specs.Flat.{AlternativeErr, AlternativeLaw, AlternativeOk, FirstUnread}
-use Rattle.bpaf_exact.specs.Flat.{HasBad, alternative_missing, alternative_refused, bad_here}
-use Rattle.bpaf_exact.specs.Flat.{TakesFirst, alternative_memory, bad_later, EachWord, ErrorClass}
-use Rattle.bpaf_exact.specs.Flat.{FieldKind, FieldTook, IsWholeIn, NoKeysLeft, ByName, FieldLaw}
-use Rattle.bpaf_exact.specs.Flat.{OfMemory, OfMissing, OneWord, Refused, KeepsTo, Steady, Variables}
-use Rattle.bpaf_exact.specs.Flat.{back, cells, class, front, CanCatch, FrontOf, Gap, Own}
-use Rattle.bpaf_exact.specs.Flat.{ReadsWords, Readable, SingleErr, SingleLaw, SingleOk, SingleValue}
-use Rattle.bpaf_exact.specs.Flat.{Groups, catch_missing, gap_of, gave_absent, TookGroup, of_missing}
-use Rattle.bpaf_exact.specs.Flat.{of_absent, of_memory, of_piece, own_more, own_none, took}
-use Rattle.bpaf_exact.specs.Flat.{ClosedEval, ClosedValue, Closure, FallbackEval, FallbackValue}
-use Rattle.bpaf_exact.specs.Flat.{AgreesOn, OptionalEval, OptionalValue, closed_err, closed_gap}
-use Rattle.bpaf_exact.specs.Flat.{Decides, closed_memory, closed_no, closed_yes, fallback_given}
-use Rattle.bpaf_exact.specs.Flat.{fallback_err, fallback_memory, optional_memory, optional_none}
-use Rattle.bpaf_exact.specs.Flat.{fallback_no, fallback_ok, optional_err, optional_some}
-use Rattle.bpaf_exact.specs.Pieces.{Cells, LinePiece, pieces, takes_more, takes_none, Roles}
+use Rattle.bpaf_exact.proofs.Repeat.{same_takes, stopped_by, catch_none, none_given, stops_by}
+use Rattle.bpaf_exact.proofs.{Names.no_keys_left, Names.back_all, Product.steady_refl}
+use Rattle.bpaf_exact.specs.Flat.{alternative_refused, alternative_memory, fallback_memory, OneWord}
+use Rattle.bpaf_exact.specs.Flat.{AlternativeOk, FallbackValue, OptionalValue, closed_memory, cells}
+use Rattle.bpaf_exact.specs.Flat.{optional_none, optional_some, FallbackEval, OptionalEval, Refused}
+use Rattle.bpaf_exact.specs.Flat.{fallback_err, optional_err, fallback_ok, FirstUnread, SingleValue}
+use Rattle.bpaf_exact.specs.Flat.{NoKeysLeft, ReadsWords, ClosedEval, closed_err, closed_gap, class}
+use Rattle.bpaf_exact.specs.Flat.{closed_yes, bad_later, FieldKind, FieldTook, IsWholeIn, OfMissing}
+use Rattle.bpaf_exact.specs.Flat.{EachWord, FieldLaw, OfMemory, CanCatch, Readable, SingleOk, front}
+use Rattle.bpaf_exact.specs.Flat.{own_more, own_none, AgreesOn, bad_here, KeepsTo, FrontOf, Closure}
+use Rattle.bpaf_exact.specs.Flat.{Variables, SingleErr, SingleLaw, TookGroup, of_memory, closed_no}
+use Rattle.bpaf_exact.specs.Flat.{Decides, HasBad, ByName, Steady, Groups, gap_of, back, took, Gap}
+use Rattle.bpaf_exact.specs.Flat.{optional_memory, fallback_given, AlternativeErr, AlternativeLaw}
+use Rattle.bpaf_exact.specs.Flat.{gave_absent, ClosedValue, fallback_no, TakesFirst, ErrorClass}
+use Rattle.bpaf_exact.specs.Pieces.{takes_more, takes_none, LinePiece, pieces, Cells, Roles}
+use Rattle.bpaf_exact.specs.Flat.{Own}
 
 -- what a closure makes of an outcome keeps to what follows of each answer inside
 pub closed_keeps : {env : Variables} {A B : Type 0} {inner : Outcome A} {f : Closure A B}
@@ -44,8 +43,7 @@ closed_keeps {env} {A} {B} {inner} {f} c {gave} {refused} l accepts declines wan
 
     by_err : (s t : Situation) (e : Error) → IsWholeIn env s
         → ClosedEval A B inner f c s (Err e) t → refused s (class e) t
-    by_err s t e w (closed_no {x} i n g) =
-        subst (λ z. refused s z t) (sym g) (declines s t x (l.ok s t x w i) n)
+    by_err s t e w (closed_no {x} i n g) = grind arith
     by_err s t e w (closed_memory i m) = subst (λ z. refused s z t) (sym m) (wants s t)
     by_err s t e w (closed_err i) = fails s t (class e) (l.err s t e w i)
 
@@ -81,8 +79,7 @@ module _ {env : Variables} {T : Type 0} {inner : Outcome T} {k : FieldKind} {q :
       → group (front z (pieces q (cells s))) v []
       × (pieces q (cells t) ≡ back z (pieces q (cells s)))
   took_read ByName s t u n up = (rw (← n) (up ([], rw n own_none)), n)
-  took_read (OneWord b) s t {v} u n up =
-      u.by_front (pieces q (cells s)) v (pieces q (cells t)) (up tt)
+  took_read (OneWord b) s t {v} u n up = grind arith
   took_read (EachWord b) s t u n up = absurd u
 
   -- what the front means the pieces mean
@@ -100,8 +97,7 @@ module _ {env : Variables} {T : Type 0} {inner : Outcome T} {k : FieldKind} {q :
   took_takes : {s t : Situation} {v w : T} → TookGroup T k q group s v t
       → SingleValue T group gap (front k (pieces q (cells s))) w
       → pieces q (cells t) ≡ back k (pieces q (cells s))
-  took_takes {w} h (inl g) = (h.readable w _ (of_front k l.words g)).1
-  took_takes h (inr e) = absurd (h.found e.0)
+  took_takes h x = grind (arith, of_front)
 
   -- one evaluation, as that of a field
   single_took : {s t : Situation} {v : T} → SingleOk T k q group gap s v t
@@ -124,13 +120,7 @@ module _ {env : Variables} {T : Type 0} {inner : Outcome T} {k : FieldKind} {q :
   -- and a refusal is want of memory
   err_gives : {s t : Situation} {c : ErrorClass} {w : T} → SingleErr T k q group gap s c t
       → SingleValue T group gap (front k (pieces q (cells s))) w → c ≡ OfMemory
-  err_gives (of_memory c) v = c
-  err_gives (of_missing c h p same) (inl g) = absurd (not_empty _ p g)
-  err_gives {w} (of_missing c h p same) (inr x) = absurd (l.no_absent w h x.1)
-  err_gives (of_absent c h p n) (inl g) = absurd (not_empty _ p g)
-  err_gives {w} (of_absent c h p n) (inr x) = absurd (n w x.1)
-  err_gives {w} (of_piece c ne n) (inl g) = absurd (n w _ (of_front k l.words g))
-  err_gives (of_piece c ne n) (inr x) = absurd (ne x.0)
+  err_gives x v = grind (arith, not_empty, of_front)
 
   -- a field without a repeat or default keeps to the laws of a field
   pub single_law : FieldLaw env T inner k q (SingleValue T group gap)
@@ -152,15 +142,7 @@ module _ {env : Variables} {T : Type 0} {inner : Outcome T} {k : FieldKind} {q :
         → ((u : B) → value (front k (pieces q (cells s))) u
         → ((y : T) × SingleValue T group gap (front k (pieces q (cells s))) y)
         ⊎ ((front k (pieces q (cells s)) ≡ []) × (gap.has ≡ false))) → FieldTook B k q value s v t
-    own_took o kept own =
-        let a = single_took o in
-        record {
-          steady = a.steady;
-          takes = a.takes;
-          read = λ n. kept (a.read n);
-          rest = a.rest;
-          all = λ u g. ⊎_elim (λ i. a.all i.0 i.1) (λ none. absurd (none_given none o)) (own u g);
-        }
+    own_took o kept own = grind (arith, none_given, single_took)
 
     -- and what stands for none
     given_took : {s : Situation} {v : B} → front k (pieces q (cells s)) ≡ []
@@ -193,10 +175,7 @@ module _ {env : Variables} {T : Type 0} {inner : Outcome T} {k : FieldKind} {q :
       → (CanCatch c → (c ≡ OfMissing → cells t ≡ cells s) → ⊥)
       → front k (pieces q (cells s)) ≡ [] → gap.has ≡ false → SingleErr T k q group gap s c t
       → c ≡ OfMemory
-  none_fails n p b (of_memory c) = c
-  none_fails n p b (of_missing c g p' same) = absurd (n c same)
-  none_fails n p b (of_absent c g p' x) = absurd cc
-  none_fails n p b (of_piece c ne x) = absurd (ne p)
+  none_fails n p b x = grind arith
 
   -- where the portion has a value, a refusal is want of memory
   optional_refuses : (s t : Situation) (e : Error) → IsWholeIn env s
@@ -228,13 +207,11 @@ module _ {env : Variables} {T : Type 0} {inner : Outcome T} {k : FieldKind} {q :
         → FallbackEval T inner f s (Err g) t → (v : T)
         → FallbackValue T group gap f (front k (pieces q (cells s))) v → class g ≡ OfMemory
     fallback_refuses s t g w (fallback_no {e} {m} i h n c) v (inl o) =
-        let a = catch_none h (l.keeps.err s m e w i) in
-        absurd (⊎_elim (not_empty _ a.1) (λ z. l.no_absent v a.0 z.1) o)
+        grind (arith, catch_none, not_empty)
     fallback_refuses s t g w (fallback_no i h n c) v (inr p) = absurd (decides tt v p.2 n)
     fallback_refuses s t g w (fallback_memory c) v view = c
     fallback_refuses s t g w (fallback_err {m} i n) v (inl o) = err_gives (l.keeps.err s m g w i) o
-    fallback_refuses s t g w (fallback_err {m} i n) v (inr p) =
-        none_fails (λ c same. n c) p.0 p.1 (l.keeps.err s m g w i)
+    fallback_refuses s t g w (fallback_err {m} i n) v (inr p) = grind (arith, none_fails)
 
     pub fallback_field : FieldLaw env T (FallbackEval T inner f) k q (FallbackValue T group gap f)
     fallback_field =
@@ -254,10 +231,7 @@ own_bad {T} value h (own_more {rest} {v} g o) = by_bad (λ b. own_bad value b o)
 pub front_alone : {T : Type 0} (value : LinePiece → T → Type 0) {o : LinePiece} {v : T}
     {os left rest : List LinePiece} {w : T} → os ≡ o ∷ left → value o v → FrontOf T value os w rest
     → FrontOf T value os v rest × (left ≡ rest)
-front_alone value {o} {left} {rest} e means g =
-    let d : o ∷ left ≡ g.0 ∷ rest = sym e ∙ g.1 in
-    let r : left ≡ rest = cc in
-    ((o, e ∙ ap (λ z. o ∷ z) r, means), r)
+front_alone value e means g = grind arith
 
 -- where the first piece was taken and has the value, it is the first group
 pub took_front : {T : Type 0} (value : LinePiece → T → Type 0) {k : FieldKind} {q : Roles}
@@ -276,8 +250,7 @@ took_front value {k} {t} {o} st f e means some =
 -- without something there is nothing that it means
 pub gap_empty : {X T : Type 0} (means : X → T → Type 0) (kept : Option X) (v : T)
     → is_some kept ≡ false → IsSomeRelated means kept v → ⊥
-gap_empty means None v h a = a
-gap_empty means (Some x) v h a = cc
+gap_empty means x v h a = grind arith
 
 -- An alternative is a field without a repeat or default.
 module _ {env : Variables} {T : Type 0} {outcome : Outcome T} {q : Roles}
@@ -287,32 +260,19 @@ module _ {env : Variables} {T : Type 0} {outcome : Outcome T} {q : Roles}
       → TakesFirst q (cells s) a.piece (cells t) ⊎ FirstUnread T q value (cells s)
       → (vs : List T) × Own T (FrontOf T value) (pieces q (cells t)) vs
       → FrontOf T value (pieces q (cells s)) v (pieces q (cells t))
-  alternative_reads a (inl f) o = (a.piece, first_pieces q l.named f, a.means)
-  alternative_reads {v} a (inr z) o =
-      let stays = head_stays l.named a.takes z.2 (λ e. z.3 v (rw (← e) a.means)) in
-      absurd (own_bad value (rw stays.1 (bad_here z.3)) o.1)
+  alternative_reads a x o = grind (arith, first_pieces, head_stays, own_bad)
 
   -- a first piece that can be read is the one that was taken
   alternative_readable : {s t : Situation} {v : T} (a : AlternativeOk T q value s v t)
       → TakesFirst q (cells s) a.piece (cells t) ⊎ FirstUnread T q value (cells s) → (w : T)
       (rest : List LinePiece) → FrontOf T value (pieces q (cells s)) w rest
       → FrontOf T value (pieces q (cells s)) v rest × (pieces q (cells t) ≡ rest)
-  alternative_readable a (inl f) w rest g = front_alone value (first_pieces q l.named f) a.means g
-  alternative_readable a (inr z) w rest g =
-      let d : z.0 ∷ z.1 ≡ g.0 ∷ rest = sym z.2 ∙ g.1 in
-      let e : g.0 ≡ z.0 = cc in
-      absurd (z.3 w (rw (← e) g.2))
+  alternative_readable a x w rest g = grind (arith, first_pieces, front_alone)
 
   -- its refusal, as that of one evaluation
   alternative_err : {s t : Situation} {c : ErrorClass} → AlternativeErr T q value s c t
       → SingleErr T ByName q (FrontOf T value) (gap_of value None) s c t
-  alternative_err (alternative_memory c) = of_memory c
-  alternative_err (alternative_missing c p same st) =
-      of_missing (catch_missing c) refl p (λ c. same)
-  alternative_err (alternative_refused c p z) =
-      of_piece c (λ none. let d : z.0 ∷ z.1 ≡ [] = sym z.2 ∙ none in cc) (λ w rest g.
-      let d : z.0 ∷ z.1 ≡ g.0 ∷ rest = sym z.2 ∙ g.1 in
-      let e : g.0 ≡ z.0 = cc in z.3 w (rw (← e) g.2))
+  alternative_err x = grind arith
 
   -- so it keeps to the laws of one evaluation
   pub alternative_single : SingleLaw env T outcome ByName q (FrontOf T value) (gap_of value None)
@@ -358,9 +318,7 @@ module _ {env : Variables} {A B : Type 0} {inner : Outcome A} {q : Roles}
   -- an inner refusal is passed on
   err_closed : {s t : Situation} {c : ErrorClass} → AlternativeErr A q value s c t
       → AlternativeErr B q (ClosedValue value f) s c t
-  err_closed (alternative_memory c) = alternative_memory c
-  err_closed (alternative_missing c p same st) = alternative_missing c p same st
-  err_closed {s} (alternative_refused c p z) = alternative_refused c p (closed_unread (cells s) z)
+  err_closed x = grind (arith, closed_unread)
 
   -- a closure round an alternative is one
   pub closed_alternative : AlternativeLaw env B (ClosedEval A B inner f Refused) q
@@ -395,8 +353,7 @@ module _ {env : Variables} {A B : Type 0} {inner : Outcome A} {k : FieldKind} {q
   -- the same, by the kind of the field
   inner_readable : (z : FieldKind) (os : List LinePiece) → Readable z closed_group os
       → Readable z group os
-  inner_readable ByName os r = inner_list r.1
-  inner_readable _ os r = tt
+  inner_readable x os r = grind (arith, inner_list)
 
   -- with a closure a field reads words as before
   closed_words : (z : FieldKind) → ReadsWords z group → ReadsWords z closed_group
@@ -432,19 +389,12 @@ module _ {env : Variables} {A B : Type 0} {inner : Outcome A} {k : FieldKind} {q
   -- a value that the closure refused
   no_single : {s t : Situation} (x : A) → f.no x → SingleOk A k q group gap s x t
       → SingleErr B k q closed_group (closed_gap gap f) s Refused t
-  no_single x n (gave_absent h p ab same st) =
-      of_absent refl h p (λ v a. gap_agrees a.0 x v a.1 ab a.2 n)
-  no_single {s} x n (took h) =
-      of_piece refl h.found (λ w rest g. agrees (pieces q (cells s)) rest g.from x w g.read
-      (h.readable g.from rest g.read).0 g.made n)
+  no_single x n y = grind arith
 
   -- an inner refusal is passed on
   err_single : {s t : Situation} {c : ErrorClass} → SingleErr A k q group gap s c t
       → SingleErr B k q closed_group (closed_gap gap f) s c t
-  err_single (of_memory c) = of_memory c
-  err_single (of_missing c h p same) = of_missing c h p same
-  err_single (of_absent c h p n) = of_absent c h p (λ v a. n a.0 a.1)
-  err_single (of_piece c ne n) = of_piece c ne (λ w rest g. n g.from rest g.read)
+  err_single x = grind arith
 
   -- a closure round a single field is one
   pub closed_single : SingleLaw env B (ClosedEval A B inner f Refused) k q closed_group

@@ -1,19 +1,19 @@
 -- What a flat field keeps to when it is evaluated: its answer and what it takes depend on its own
 -- pieces alone; and what closures, defaults and repeats make of it.
-use Rattle.std.specs.Prelude.{Bool, List, Option, [], false, length, suc, true, zero, ◌<◌, ◌∷◌, ◌≡◌}
-use Rattle.std.specs.Prelude.{None, filter, if◌then◌else◌, Err, Ok, drop, not, take, ℕ, Some}
-use Rattle.std.specs.Prelude.{is_some, ◌⊎◌, Result, ◌++◌, MatchBool}
-use Rattle.std.specs.{List.before_first, Option.IsSomeRelated, Global.Vec}
-use Rattle.bpaf_base.specs.{Items.is_positional, declared.arg.Arg.Arg}
-use Rattle.bpaf_line.specs.Messages.{is_memory, can_catch}
-use Rattle.bpaf_line.specs.Situation.{Situation, is_taken, open_count}
-use Rattle.bpaf_line.specs.{declared.error.Error.Error, declared.error.Message.TheVariants.Missing}
-use Rattle.bpaf_line.specs.{declared.error.Message.Message, Taking.open_item}
-use Rattle.bpaf_laws.specs.Reading.{Outcome}
+use Rattle.std.specs.Prelude.{if◌then◌else◌, MatchBool, is_some, Option, length, filter, Result, []}
+use Rattle.std.specs.Prelude.{false, Bool, List, true, zero, None, drop, take, Some, ◌++◌, suc, ◌<◌}
+use Rattle.std.specs.Prelude.{◌∷◌, ◌≡◌, Err, not, ◌⊎◌, Ok, ℕ}
+use Rattle.std.specs.{Option.IsSomeRelated, List.before_first, Global.Vec}
+use Rattle.bpaf_base.specs.declared.arg.Arg.{Arg}
+use Rattle.bpaf_line.specs.Situation.{open_count, Situation, is_taken}
+use Rattle.bpaf_line.specs.{declared.error.Message.TheVariants.Missing, declared.error.Error.Error}
+use Rattle.bpaf_line.specs.{Messages.is_memory, Messages.can_catch, declared.error.Message.Message}
+use Rattle.bpaf_line.specs.Taking.{open_item}
 use Rattle.bpaf_laws.specs.Combinators.{ListOutcome, UntilFault, UntilRest}
-use Rattle.bpaf_exact.specs.Pieces.{Cells, Foreign, LinePiece, One, is_own, no_roles, stands_behind}
-use Rattle.bpaf_exact.specs.Pieces.{Apart, Cut, IsNamed, Roles, Takes, TakesPieces, Two, word_roles}
-use Rattle.bpaf_exact.specs.Pieces.{Alone, either, pieces, roles_of, TakesPiece, WithNext, is_value}
+use Rattle.bpaf_laws.specs.Reading.{Outcome}
+use Rattle.bpaf_exact.specs.Pieces.{no_roles, WithNext, is_value, Foreign, IsNamed, is_own, pieces}
+use Rattle.bpaf_exact.specs.Pieces.{stands_behind, TakesPieces, word_roles, TakesPiece, LinePiece}
+use Rattle.bpaf_exact.specs.Pieces.{Cells, Apart, Roles, Alone, One, Cut, Two}
 
 -- the classes of refusals
 pub data ErrorClass : Type 0 where
@@ -64,8 +64,7 @@ pub record IsWholeIn (variables : Variables) (s : Situation) : Type 0 where
   pub front : (p : ℕ) → p < s.start → is_taken s p ≡ true
   pub environment : s.context.env ≡ variables
 
--- nothing but what is taken, the conflicts and the current place has changed, and what was taken is
--- taken still
+-- nothing but what is taken, conflicts and the current place has changed, and none is given back
 pub record Steady (s t : Situation) : Type 0 where
   pub context : t.context ≡ s.context
   pub start : t.start ≡ s.start
@@ -157,9 +156,7 @@ pub record FieldLaw (variables : Variables) (T : Type 0) (outcome : Outcome T) (
 pub record ReadOff (V : Type 0) (r : Roles) (value : List LinePiece → V → Type 0) (cs : Cells)
     (v : V) : Type 0 where
   pub cut_into : List LinePiece
-  pub left_cells : Cells
-  pub cut : Takes (either r (roles_of is_positional Alone)) cs cut_into left_cells
-  pub none_left : NonePresent left_cells
+  pub cut : Cut r cs cut_into
   pub read : value cut_into v
 
 -- a field has a value on its pieces
@@ -172,8 +169,7 @@ pub record FieldsReading (V : Type 0) : Type 1 where
   pub value : List LinePiece → V → Type 0
   pub each : List LinePiece → Type 0
 
--- an answer of a list of flat fields: where it leaves nothing, it is read off; and where each has a
--- value, it leaves nothing
+-- an answer of flat fields: it is read off where nothing is left, as where each has a value
 pub record FieldsTook (V : Type 0) (r : Roles) (reading : FieldsReading V) (s : Situation) (v : V)
     (t : Situation) : Type 0 where
   pub steady : Steady s t
@@ -201,8 +197,7 @@ both_reading {A = A} k q first rest = record {
   each = λ os. ((v : A) × first (portion k q os) v) × rest.each (left k q os);
 }
 
--- A flat field without a repeat or default: one evaluation, and what repeats and defaults make of
--- it.
+-- A flat field without a repeat or default: one evaluation, and what these make of it.
 
 -- how one evaluation reads a value off the front of the own pieces, and which it leaves
 abbrev pub Groups : Type 0 → Type 1
@@ -310,8 +305,7 @@ pub record SingleLaw (variables : Variables) (T : Type 0) (outcome : Outcome T) 
   pub no_absent : (v : T) → gap.has ≡ false → gap.absent v → ⊥
   pub keeps : KeepsTo variables T outcome (SingleOk T k q group gap) (SingleErr T k q group gap)
 
--- The own list under a repeat; the absent value must be there also where it isn't used: the repeat
--- asks once more.
+-- The own list under a repeat, which asks once more: an absent value is there also if unused.
 pub data OwnList (T : Type 0) (group : Groups T) (gap : Gap T) : List LinePiece → List T
     → Type 0 where
   listed : {os : List LinePiece} {vs : List T} → gap.has ≡ false → Own T group os vs
@@ -320,8 +314,7 @@ pub data OwnList (T : Type 0) (group : Groups T) (gap : Gap T) : List LinePiece 
       → Own T group os (v ∷ vs) → OwnList T group gap os (v ∷ vs)
   only_absent : {a : T} → gap.has ≡ true → gap.absent a → OwnList T group gap [] (a ∷ [])
 
--- the value of a field without a repeat or default: that of all pieces at once; or, where there is
--- none, the absent one
+-- the value of a field without a repeat or default: that of all pieces, or of none the absent one
 abbrev pub SingleValue : (T : Type 0) → Groups T → Gap T → List LinePiece → T → Type 0
 SingleValue T group gap os v = group os v [] ⊎ ((os ≡ []) × gap.absent v)
 
@@ -335,8 +328,7 @@ pub data Stops (e : Error) (s m : Situation) : Type 0 where
   nothing_found : class e ≡ OfMissing → open_count m ≡ open_count s → Stops e s m
   caught : class e ≡ Caught → Stops e s m
 
--- the values of a repeat, by its turns, until one stops; with `idle` also one value alone that took
--- nothing
+-- the values of a repeat, until a turn stops; with `idle` also one value alone that took nothing
 abbrev pub RepeatOutcome : {T : Type 0} → Outcome T → Bool → Outcome (List T)
 RepeatOutcome inner false s r t = ListOutcome inner false s r t
 RepeatOutcome inner true s (Ok values) t = UntilRest inner s values t
@@ -428,8 +420,7 @@ pub data FallbackEval (T : Type 0) (inner : Outcome T) (f : Closure (Unit {0}) T
   fallback_err : {e : Error} {m : Situation} → inner s (Err e) m → (CanCatch (class e) → ⊥)
       → FallbackEval T inner f s (Err e) s
 
--- the value of a field with a default: its own; or what stands for it, where there is neither a
--- piece nor an absent value
+-- the value of a field with a default: its own; or what stands for neither piece nor absent value
 abbrev pub FallbackValue : (T : Type 0) → Groups T → Gap T → Closure (Unit {0}) T
     → List LinePiece → T → Type 0
 FallbackValue T group gap f os v =

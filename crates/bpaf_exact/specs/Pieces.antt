@@ -1,5 +1,4 @@
--- How a flat record sees a line: its places, cut into pieces, which the fields share out by the
--- names of their keys.
+-- How a flat record sees a line: places cut into pieces, which fields share out by their names.
 use Rattle.std.specs.Prelude.{Bool, List, Option, Some, [], false, filter, if◌then◌else◌, true, ◌≡◌}
 use Rattle.std.specs.Prelude.{None, not, ◌∷◌, ◌&&◌}
 use Rattle.std.specs.{Option.is_some, List.list_all, List.list_any}
@@ -13,7 +12,6 @@ abbrev pub Cells : Type 0
 Cells = List (Option Arg)
 
 -- what an item is to a field: nothing of its own, a piece by itself, or the key of a piece of two
--- items
 pub data Role : Type 0 where
   Foreign Alone WithNext : Role
 
@@ -112,8 +110,7 @@ begin_piece Foreign k cs os = os
 begin_piece Alone k cs os = One k ∷ os
 begin_piece WithNext k cs os = with_next k cs ∷ os
 
--- a field's own keys or words that are present, in line order, each with its value where one is
--- present
+-- a field's own keys or words that are present, in line order, each with its value if one is
 abbrev pub pieces : Roles → Cells → List LinePiece
 pieces r [] = []
 pieces r (None ∷ cs) = pieces r cs

@@ -1,30 +1,28 @@
 -- What a parser is to a program: how it reads what is present, and the law that this puts on its
 -- outcome; and the value that a record or a program has on a line.
-use Rattle.std.specs.Prelude.{◌≡◌, ◌≤◌, ◌⊎◌, ℕ, Bool, true, false, List, [], ◌∷◌, Option, Some}
-use Rattle.std.specs.Prelude.{None, Result, Ok, Err, ◌==◌, not, length, ◌&&◌, ◌||◌, bytes_eq, ◌++◌}
-use Rattle.std.specs.Prelude.{map}
+use Rattle.std.specs.Prelude.{bytes_eq, Option, Result, length, false, Bool, true, List, Some, None}
+use Rattle.std.specs.Prelude.{◌==◌, ◌&&◌, ◌||◌, ◌++◌, ◌≡◌, ◌≤◌, ◌⊎◌, ◌∷◌, Err, not, map, [], Ok, ℕ}
 use Rattle.std.specs.{List.list_all, List.AllPass, Option.is_none}
+use Rattle.bpaf_base.specs.declared.arg.Arg.TheVariants.{ArgWord, Short, Long}
+use Rattle.bpaf_base.specs.Items.{is_argument_key, is_positional, is_key_of, item_text, word_text}
 use Rattle.bpaf_base.specs.declared.arg.Arg.{Arg}
-use Rattle.bpaf_base.specs.declared.arg.Arg.TheVariants.{Short, Long, ArgWord}
-use Rattle.bpaf_base.specs.Items.{is_argument_key, is_key_of, is_positional, item_text, word_text}
-use Rattle.bpaf_line.specs.Situation.{Situation, Context, item_in, open_count, with_current}
-use Rattle.bpaf_line.specs.Situation.{beginning}
-use Rattle.bpaf_line.specs.{declared.error.Error.Error, Taking.TakesText, Taking.HasNone}
-use Rattle.bpaf_laws.specs.{Command.Called, Command.IsNotOpened, Command.IsOpenedAt, Command.inside}
-use Rattle.bpaf_laws.specs.{Command.is_one_of, Command.opening_words, Choice.depth, Reading.Outcome}
-use Rattle.bpaf_laws.specs.{Reading.first_set, Leaves.value_without_key, Combinators.is_nil}
-use Rattle.bpaf_exact.specs.Pieces.{Cells, Roles, LinePiece, pieces, Apart, IsNamed, Takes, Cut}
-use Rattle.bpaf_exact.specs.Pieces.{either, no_roles, Owns, are_all_apart, Alone, WithNext, One}
-use Rattle.bpaf_exact.specs.Pieces.{Two, stands_behind, roles_of, is_value, is_key, is_own_role}
-use Rattle.bpaf_exact.specs.Pieces.{others}
-use Rattle.bpaf_exact.specs.Flat.{ErrorClass, OfMemory, OfMissing, class, cells, NonePresent}
-use Rattle.bpaf_exact.specs.Flat.{Variables, KeepsTo, first_cells, FieldKind, ReadOff, portion}
-use Rattle.bpaf_exact.specs.Flat.{left, FieldsReading, AlternativeLaw, either_value, ByName}
-use Rattle.bpaf_exact.specs.Flat.{FieldLaw, FieldsLaw, keys, both_reading, Groups, Gap, FrontOf}
-use Rattle.bpaf_exact.specs.Flat.{gap_of, SingleLaw, SingleValue, Closure, AgreesOn, ClosedValue}
-use Rattle.bpaf_exact.specs.Flat.{OptionalValue, closed_gap, Caught, OneWord, Refused}
 use Rattle.bpaf_doc.specs.Names.{Names}
 use Rattle.bpaf_text.specs.Named.{Named as Key, KeyWithValue}
+use Rattle.bpaf_line.specs.Situation.{with_current, open_count, Situation, beginning, Context}
+use Rattle.bpaf_line.specs.{Taking.TakesText, Taking.HasNone, declared.error.Error.Error}
+use Rattle.bpaf_line.specs.Situation.{item_in}
+use Rattle.bpaf_laws.specs.Command.{opening_words, IsNotOpened, IsOpenedAt, is_one_of, Called}
+use Rattle.bpaf_laws.specs.{Reading.first_set, Reading.Outcome, Leaves.value_without_key}
+use Rattle.bpaf_laws.specs.{Combinators.is_nil, Command.inside, Choice.depth}
+use Rattle.bpaf_exact.specs.Pieces.{are_all_apart, stands_behind, is_own_role, LinePiece, no_roles}
+use Rattle.bpaf_exact.specs.Pieces.{others, Cells, Roles, Apart, Takes, Alone, Owns, Cut, One, Two}
+use Rattle.bpaf_exact.specs.Pieces.{WithNext, roles_of, is_value, IsNamed, pieces, either, is_key}
+use Rattle.bpaf_exact.specs.Flat.{AlternativeLaw, FieldsReading, OptionalValue, either_value, class}
+use Rattle.bpaf_exact.specs.Flat.{ErrorClass, closed_gap, OfMissing, Variables, FieldKind, OfMemory}
+use Rattle.bpaf_exact.specs.Flat.{FieldsLaw, SingleLaw, FieldLaw, AgreesOn, KeepsTo, ReadOff, cells}
+use Rattle.bpaf_exact.specs.Flat.{portion, FrontOf, Closure, OneWord, Refused, ByName, Groups, left}
+use Rattle.bpaf_exact.specs.Flat.{both_reading, NonePresent, first_cells, SingleValue, ClosedValue}
+use Rattle.bpaf_exact.specs.Flat.{gap_of, Caught, keys, Gap}
 
 -- which values some cells have
 abbrev pub CellsValue : Type 0 → Type 1
@@ -44,8 +42,7 @@ OpensNone words cs = (ds : Cells) → ¬ (Opens words cs ds)
 
 -- Which items a command's word may be.
 
--- the whole word of a key: none, where another key of the same word stands before it, else one that
--- begins with a dash
+-- the whole word of a key: none behind another of the same word, else one that begins with a dash
 abbrev pub is_dashed : List ℕ → Bool
 is_dashed [] = true
 is_dashed (b ∷ bs) = b == 45
@@ -120,8 +117,7 @@ pub record ProgramLaw (variables : Variables) (V : Type 0) (outcome : Outcome V)
   pub keeps : KeepsTo variables V outcome (ProgramTook V value)
       (λ s c t. (w : V) → value (cells s) w → c ≡ OfMemory)
 
--- a refusal of such a class says that the word is missing, and nothing is taken; or that memory is
--- wanted
+-- such a refusal says that the word is missing, and nothing is taken; or that memory is wanted
 abbrev pub FindsNoCommand : Situation → ErrorClass → Situation → Type 0
 FindsNoCommand s c t =
     (c ≡ OfMemory) ⊎ ((c ≡ OfMissing) × (cells t ≡ cells s) × (t.path ≡ s.path))
@@ -160,9 +156,7 @@ WordsApart words others = (k : Arg) → is_one_of words k ≡ true → is_one_of
 abbrev pub line_cells : Context → Cells
 line_cells context = first_cells (item_in context) (length context.line)
 
--- v is a value of the record on the line: the line is cut into pieces, and each field's portion of
--- them
--- has its value
+-- v is a value of the record on the line: read off the pieces that this is cut into
 abbrev pub RecordValue : {V : Type 0} → Roles → (List LinePiece → V → Type 0) → Context → V → Type 0
 RecordValue {V = V} r value context v = ReadOff V r value (line_cells context) v
 
@@ -216,8 +210,7 @@ last_reading {T = T} k q value = record {
   each = λ os. ((v : T) × value (portion k q os) v) × (left k q os ≡ []);
 }
 
--- What a parser is to a program: how it reads what is present, and the law that this puts on its
--- outcome.
+-- What a parser is to a program: how it reads what is present, and which law its outcome keeps to.
 
 -- what a parser is to a program, with its own items and its values; a wide field or record may
 -- stand in a program alone, and in no flat record
@@ -257,29 +250,32 @@ pub record OpenedLaw (variables : Variables) (T : Type 0) (outcome : Outcome T)
   pub commands : CommandsLaw variables T outcome roles words value
   pub owns : Owns roles names
 
--- the laws of each where the environment has these variables, of a parser with these keys and these
--- words of commands
-abbrev pub FormLaw : {T : Type 0} → Variables → Outcome T → List Names → List (List ℕ)
+-- the laws of each where the environment has these variables, with these keys and words of commands
+abbrev pub LawOf : {T : Type 0} → Variables → Outcome T → List Names → List (List ℕ)
     → ProgramForm T → Type 0
-FormLaw variables outcome names words no_program = Unit {0}
-FormLaw {T = T} variables outcome names words (alternative wide q value) =
+LawOf variables outcome names words no_program = Unit {0}
+LawOf {T = T} variables outcome names words (alternative wide q value) =
     AlternativeLaw variables T outcome q value × Owns q names
-FormLaw {T = T} variables outcome names words (single wide k q group gap) =
+LawOf {T = T} variables outcome names words (single wide k q group gap) =
     SingleLaw variables T outcome k q group gap × Owns (keys k q) names
-FormLaw {T = T} variables outcome names words (complete wide k q value) =
+LawOf {T = T} variables outcome names words (complete wide k q value) =
     FieldLaw variables T outcome k q value × Owns (keys k q) names
-FormLaw {T = T} variables outcome names words (product wide named q fields) =
+LawOf {T = T} variables outcome names words (product wide named q fields) =
     FieldsLaw variables T outcome q fields × Owns q names
     × NamedLaw variables named outcome q fields.value
-FormLaw {T = T} variables outcome names words (commands false value) =
+LawOf {T = T} variables outcome names words (commands false value) =
     OpenedLaw variables T outcome names words value
-FormLaw {T = T} variables outcome names words (commands true value) =
+LawOf {T = T} variables outcome names words (commands true value) =
     EndLaw variables T outcome names value
-FormLaw {T = T} variables outcome names words (before_commands value) =
+LawOf {T = T} variables outcome names words (before_commands value) =
     EndLaw variables T outcome names value
 
--- the premise of exactness: whether a closure accepts depends on what is present alone, also where
--- that has several values
+-- such an outcome keeps to the laws of its form
+pub record FormLaw {T : Type 0} (variables : Variables) (outcome : Outcome T) (names : List Names)
+    (words : List (List ℕ)) (s : ProgramForm T) : Type 0 where
+  pub by : LawOf variables outcome names words s
+
+-- the premise: whether a closure accepts depends on what is present alone, whichever its values are
 abbrev pub Agrees : {A B : Type 0} → Closure A B → ProgramForm A → Type 0
 Agrees f (alternative wide q value) = (o : LinePiece) → AgreesOn (value o) f
 Agrees f (single wide k q group gap) =
@@ -495,8 +491,7 @@ abbrev pub argument_group : {T : Type 0} → (List ℕ → T → Type 0) → (la
 argument_group {T = T} means false = FrontOf T (ArgumentValue means)
 argument_group {T = T} means true = LastGroup T means
 
--- an argument, where the environment has these variables; with a name there, or as an adjacent one,
--- it is wide
+-- an argument, where the environment has these variables; with a name there or adjacent it is wide
 abbrev pub argument_field : {T : Type 0} → (List ℕ → T → Type 0) → KeyWithValue → Variables
     → ProgramForm T
 argument_field means argument variables =
@@ -536,8 +531,7 @@ pub data WordEval (T : Type 0) (stops : Bool) (value : LinePiece → T → Type 
 abbrev pub pure_field : {T : Type 0} → (T → Type 0) → ProgramForm T
 pure_field given = complete true ByName no_roles (λ os v. given v)
 
--- each answer that a run over the line may give is exact: a value of the record, want of memory, or
--- a refusal where it has none
+-- each answer that a run over the line may give is exact
 abbrev pub RunsExactly : {V : Type 0} → Outcome V → ProgramForm V → Context → Type 0
 RunsExactly {V = V} outcome s context =
     (a : RunAnswer V) → RunRan V outcome (beginning context) a
@@ -604,8 +598,7 @@ HasNoSurplus (complete wide k q value) = AtMostOne value
 HasNoSurplus (product wide named q fields) = ⊥
 HasNoSurplus _ = Unit {0}
 
--- A part of a record, with its portion of the pieces: where each field has a value, so it is with
--- the part.
+-- A part of a record, with its portion of the pieces: it has a value where each field has.
 abbrev pub IsPartOf : (List LinePiece → Type 0) → (List LinePiece → List LinePiece)
     → (List LinePiece → Type 0) → Type 0
 IsPartOf each own part = (os : List LinePiece) → each os → part (own os)

@@ -1,21 +1,19 @@
--- What the values of a field, a record and a program say of the pieces of a line, and values that
--- look alike.
-use Rattle.std.specs.Prelude.{◌≡◌, ℕ, Bool, true, false, List, [], ◌∷◌, ◌++◌, Option, Some, None}
-use Rattle.std.specs.Prelude.{filter, map, not}
-use Rattle.std.specs.List.{Contains}
+-- What values of a field, a record and a program say of a line's pieces; values that look alike.
+use Rattle.std.specs.Prelude.{Option, filter, false, Bool, true, List, ◌++◌, Some, None, ◌≡◌, ◌∷◌}
+use Rattle.std.specs.{Prelude.map, Prelude.not, Prelude.[], Prelude.ℕ, List.Contains}
+use Rattle.bpaf_base.specs.{declared.arg.Arg.Arg, Items.item_text}
 use Rattle.bpaf_doc.specs.Names.{Names}
-use Rattle.bpaf_base.specs.{Items.item_text, declared.arg.Arg.Arg}
-use Rattle.bpaf_exact.specs.Pieces.{LinePiece, One, Roles, Two, is_own, mine, others, stands_behind}
-use Rattle.bpaf_exact.specs.Pieces.{is_key_of_any, Owns, Cells, Cut}
-use Rattle.bpaf_exact.specs.Flat.{FieldKind, ByName, front, back, Own, repeated, Closure, IsLast}
-use Rattle.bpaf_exact.specs.Flat.{ClosedValue, Variables, Groups}
-use Rattle.bpaf_exact.specs.ProgramForm.{ProgramForm, no_program, alternative, single, complete}
-use Rattle.bpaf_exact.specs.ProgramForm.{product, before_commands, product_roles, whole_program}
-use Rattle.bpaf_exact.specs.ProgramForm.{CellsValue, ChoiceValue, CommandValue, OptionalCommands}
-use Rattle.bpaf_exact.specs.ProgramForm.{commands, FormLaw, FieldThen, product_reading, RunAnswer}
-use Rattle.bpaf_exact.specs.ProgramForm.{Accepted, NoMemory, Refusal, RecordValue, RunRan}
-use Rattle.bpaf_laws.specs.{Command.Called, Command.opening_words, Reading.Outcome}
-use Rattle.bpaf_line.specs.Situation.{Context, beginning}
+use Rattle.bpaf_line.specs.Situation.{beginning, Context}
+use Rattle.bpaf_laws.specs.{Command.opening_words, Command.Called, Reading.Outcome}
+use Rattle.bpaf_exact.specs.Pieces.{stands_behind, is_key_of_any, LinePiece, is_own, others, Roles}
+use Rattle.bpaf_exact.specs.Pieces.{Cells, mine, Owns, One, Two, Cut}
+use Rattle.bpaf_exact.specs.Flat.{ClosedValue, FieldKind, Variables, repeated, Closure, ByName, Own}
+use Rattle.bpaf_exact.specs.ProgramForm.{ProgramForm, alternative, ChoiceValue, no_program, product}
+use Rattle.bpaf_exact.specs.ProgramForm.{product_roles, whole_program, program_value, CommandValue}
+use Rattle.bpaf_exact.specs.ProgramForm.{CellsValue, line_cells, FieldThen, RunAnswer, complete}
+use Rattle.bpaf_exact.specs.ProgramForm.{OptionalCommands, IsAcceptedOrWant, before_commands}
+use Rattle.bpaf_exact.specs.ProgramForm.{commands, FormLaw, single, RunRan}
+use Rattle.bpaf_exact.specs.Flat.{IsLast, Groups, front, back}
 
 -- The pieces of a field's own.
 
@@ -32,8 +30,7 @@ keyed names os = filter (λ o. is_key_of_any names (first_item o)) os
 abbrev pub unkeyed : List Names → List LinePiece → List LinePiece
 unkeyed names os = filter (λ o. not (is_key_of_any names (first_item o))) os
 
--- of which pieces a field says something: those of a field of a kind; or those of a product with
--- words, which stands last
+-- of which pieces a field says something: those of a kind; or those of a last product with words
 pub data SaidKind : Type 0 where
   of_kind : FieldKind → SaidKind
   of_rest : SaidKind
@@ -71,8 +68,7 @@ words_after of_rest words = []
 abbrev pub Said : Type 0 → Type 1
 Said T = List LinePiece → T → Type 0
 
--- a flag: one key and the present value, or no key; then the present value where its variable is
--- set, else the absent one
+-- a flag: one key and the present value; or none and the present or absent one, by its variable
 pub data FlagSays {T : Type 0} (clones : T → T → Type 0) (present : T) (absent : Option T)
     (set : Option (List ℕ)) (os : List LinePiece) (v : T) : Type 0 where
   says_present : (k : Arg) → os ≡ One k ∷ [] → clones present v
@@ -182,56 +178,29 @@ abbrev pub Fits : List Names → Roles → List LinePiece → Type 0
 Fits names r [] = Unit {0}
 Fits names r (o ∷ os) = (is_own r o ≡ is_key_of_any names (first_item o)) × Fits names r os
 
--- a value of this form, of a parser with these keys, says so of the pieces that it is read off; one
--- of commands, which is read off none, says nothing
-abbrev pub FormSays : {T : Type 0} → List Names → ProgramForm T → SaidKind → Said T → Type 0
-FormSays names no_program kind said = Unit {0}
-FormSays {T = T} names (alternative wide q value) kind said =
-    (kind ≡ of_kind ByName) × ((o : LinePiece) (v : T) → value o v → said (o ∷ []) v)
-FormSays {T = T} names (single wide k q group gap) kind said =
-    (kind ≡ of_kind k)
-    × ((os rest : List LinePiece) (v : T) → group os v rest → FrontSays said os v rest)
-    × ((v : T) → gap.absent v → said [] v)
-FormSays {T = T} names (complete wide k q value) kind said =
-    (kind ≡ of_kind k) × ((os : List LinePiece) (v : T) → AllOwn k q os → value os v → said os v)
-FormSays {T = T} names (product wide named r fields) kind said =
-    (kind ≡ product_kind named)
-    × ((whole os : List LinePiece) (v : T) → Fits names r whole → Fits names r os
-    → fields.value os v → mine r whole ≡ mine r os → others r whole ≡ others r os → said whole v)
-FormSays names _ kind said = ⊥
-
--- a value of such a parser does
-pub record Says {T : Type 0} (names : List Names) (form : ProgramForm T) (kind : SaidKind)
-    (said : Said T) : Type 0 where
-  pub by : FormSays names form kind said
-
--- values of such fields say so of all pieces of a line, of which those that they are read off are
--- all that begin with their keys
-abbrev pub FieldsFormSays : {V : Type 0} → List Names → ProgramForm V → FieldsSaid V → Type 0
-FieldsFormSays {V = V} names (product wide named r fields) said =
-    (whole os : List LinePiece) (v : V) → Fits names r whole → Fits names r os
-    → fields.value os v → mine r whole ≡ mine r os → said whole (others r os) v
-FieldsFormSays names no_program said = Unit {0}
-FieldsFormSays names _ said = ⊥
-
--- the values of fields do
-pub record FieldsSay {V : Type 0} (names : List Names) (form : ProgramForm V) (said : FieldsSaid V)
-    : Type 0 where
-  pub by : FieldsFormSays names form said
-
 -- What the values of a program with commands say: each named field of its own pieces, and the rest
 -- of what is left without these.
 
 -- what the value of each parser of a type says: of the pieces that are its own; or, where it ends
 -- in commands, of the cells of its scope
-pub data ProgramSaid (P T : Type 0) : Type 1 where
-  of_pieces : (P → Said T) → ProgramSaid P T
-  of_cells : (P → CellsValue T) → ProgramSaid P T
+pub record ProgramSaid (P T : Type 0) : Type 1 where
+  pub in_cells : Bool
+  pub pieces : P → Said T
+  pub cells : P → CellsValue T
+
+-- of pieces alone
+abbrev pub of_pieces : {P T : Type 0} → (P → Said T) → ProgramSaid P T
+of_pieces said = record { in_cells = false; pieces = said; cells = λ p cs v. ⊥ }
+
+-- of cells alone
+abbrev pub of_cells : {P T : Type 0} → (P → CellsValue T) → ProgramSaid P T
+of_cells said = record { in_cells = true; pieces = λ p os v. ⊥; cells = said }
 
 -- what the values of fields say
-pub data ProgramFieldsSaid (P V : Type 0) : Type 1 where
-  of_all_pieces : (P → FieldsSaid V) → ProgramFieldsSaid P V
-  of_all_cells : (P → CellsValue V) → ProgramFieldsSaid P V
+pub record ProgramFieldsSaid (P V : Type 0) : Type 1 where
+  pub in_cells : Bool
+  pub pieces : P → FieldsSaid V
+  pub cells : P → CellsValue V
 
 -- the cells are cut into pieces, by these roles, of which a value says so
 pub record CutSays {T : Type 0} (roles : Roles) (said : Said T) (cs : Cells) (v : T) : Type 0
@@ -242,14 +211,19 @@ pub record CutSays {T : Type 0} (roles : Roles) (said : Said T) (cs : Cells) (v 
 
 -- what the value of a whole program of this form says of cells
 abbrev pub cells_said : {P T : Type 0} → ProgramForm T → ProgramSaid P T → P → CellsValue T
-cells_said form (of_pieces said) = λ p. CutSays (product_roles (whole_program form)) (said p)
-cells_said form (of_cells said) = said
+cells_said {T = T} form said p = elim said.in_cells as (λ b. CellsValue T) [
+  | true ↦ said.cells p
+  | false ↦ CutSays (product_roles (whole_program form)) (said.pieces p)
+]
 
 -- of a parser round another, by what it makes of either
 abbrev pub said_round : {P Q A B : Type 0} → (Q → P) → (Q → Said A → Said B)
     → (Q → CellsValue A → CellsValue B) → ProgramSaid P A → ProgramSaid Q B
-said_round inside pieces cells (of_pieces said) = of_pieces (λ q. pieces q (said (inside q)))
-said_round inside pieces cells (of_cells said) = of_cells (λ q. cells q (said (inside q)))
+said_round inside pieces cells said = record {
+  in_cells = said.in_cells;
+  pieces = λ q. pieces q (said.pieces (inside q));
+  cells = λ q. cells q (said.cells (inside q));
+}
 
 -- of a closure
 abbrev pub said_closed : {P Q A B : Type 0} → (Q → P) → (Q → Closure A B) → ProgramSaid P A
@@ -274,7 +248,8 @@ said_flat inside says = said_round inside says (λ q said cs v. ⊥)
 -- of what is made of a repeat
 abbrev pub said_repeat : {P Q T B : Type 0} → (Q → P) → Closure (List T) B → ProgramSaid P T
     → ProgramSaid Q B
-said_repeat inside f = said_flat inside (λ q said. MadeSays (RepeatSays said) f)
+said_repeat inside f said =
+    said_closed (λ q. q) (λ q. f) (said_flat inside (λ q said. RepeatSays said) said)
 
 -- of its last value
 abbrev pub said_last : {P Q T : Type 0} → (Q → P) → ProgramSaid P T → ProgramSaid Q T
@@ -294,11 +269,11 @@ said_command {T = T} inside called form said = of_cells (λ q.
 -- of a choice of two
 abbrev pub said_choice : {P Q R T : Type 0} → (R → P) → (R → Q) → ProgramSaid P T → ProgramSaid Q T
     → ProgramSaid R T
-said_choice this that (of_pieces a) (of_pieces b) =
-    of_pieces (λ r. EitherSays (a (this r)) (b (that r)))
-said_choice {T = T} this that (of_cells a) (of_cells b) =
-    of_cells (λ r. ChoiceValue T (a (this r)) (b (that r)))
-said_choice this that _ _ = of_cells (λ r cs v. ⊥)
+said_choice {T = T} this that a b = record {
+  in_cells = a.in_cells;
+  pieces = λ r. EitherSays (a.pieces (this r)) (b.pieces (that r));
+  cells = λ r. ChoiceValue T (a.cells (this r)) (b.cells (that r));
+}
 
 -- one of some parsers says so of the cells
 pub record OneOfCells {P T : Type 0} (says : P → CellsValue T) (ps : List P) (cs : Cells)
@@ -309,8 +284,11 @@ pub record OneOfCells {P T : Type 0} (says : P → CellsValue T) (ps : List P) (
 
 -- of a choice of any number
 abbrev pub said_choices : {P Q T : Type 0} → (Q → List P) → ProgramSaid P T → ProgramSaid Q T
-said_choices parsers (of_pieces said) = of_pieces (λ q. OneOfSays said (parsers q))
-said_choices parsers (of_cells said) = of_cells (λ q. OneOfCells said (parsers q))
+said_choices parsers said = record {
+  in_cells = said.in_cells;
+  pieces = λ q. OneOfSays said.pieces (parsers q);
+  cells = λ q. OneOfCells said.cells (parsers q);
+}
 
 -- a named field before others: it says so of its own pieces, wherever they stand, and they do of
 -- what is left without these
@@ -320,38 +298,52 @@ pub record FieldThenSays {A B : Type 0} (names : List Names) (said : Said A) (re
   pub owns : Owns roles names
   pub told : FieldThen A B roles said rest cs v
 
+-- what a last field says, as fields do: of all pieces and of the words that are left
+abbrev pub AloneSays : {T : Type 0} → SaidKind → List Names → Said T → FieldsSaid T
+AloneSays kind names said os words v = said (its_pieces kind names os words) v
+
+-- what a field before others says, and these of the words that it leaves
+abbrev pub BothSay : {A B : Type 0} → SaidKind → List Names → Said A → FieldsSaid B
+    → FieldsSaid (A × B)
+BothSay kind names said more os words v =
+    said (its_pieces kind names os words) v.0 × more os (words_after kind words) v.1
+
 -- of the last field
 abbrev pub said_alone : {P Q T : Type 0} → (Q → P) → (P → SaidKind) → (P → List Names)
     → ProgramSaid P T → ProgramFieldsSaid Q T
-said_alone last kind names (of_pieces said) =
-    of_all_pieces (λ q os words v.
-    said (last q) (its_pieces (kind (last q)) (names (last q)) os words) v)
-said_alone last kind names (of_cells said) = of_all_cells (λ q. said (last q))
+said_alone last kind names said = record {
+  in_cells = said.in_cells;
+  pieces = λ q. AloneSays (kind (last q)) (names (last q)) (said.pieces (last q));
+  cells = λ q. said.cells (last q);
+}
 
 -- of a field before others
 abbrev pub said_both : {P Q R A B : Type 0} → (R → P) → (R → Q) → (P → SaidKind)
     → (P → List Names) → ProgramSaid P A → ProgramFieldsSaid Q B → ProgramFieldsSaid R (A × B)
-said_both first rest kind names (of_pieces said) (of_all_pieces more) =
-    of_all_pieces (λ r os words v.
-    said (first r) (its_pieces (kind (first r)) (names (first r)) os words) v.0
-    × more (rest r) os (words_after (kind (first r)) words) v.1)
-said_both first rest kind names (of_pieces said) (of_all_cells more) =
-    of_all_cells (λ r. FieldThenSays (names (first r)) (said (first r)) (more (rest r)))
-said_both first rest kind names (of_cells said) more = of_all_cells (λ r cs v. ⊥)
+said_both first rest kind names said more = record {
+  in_cells = more.in_cells;
+  pieces = λ r. BothSay (kind (first r)) (names (first r)) (said.pieces (first r))
+      (more.pieces (rest r));
+  cells = λ r. FieldThenSays (names (first r)) (said.pieces (first r)) (more.cells (rest r));
+}
 
 -- of fields that stand inside
 abbrev pub fields_said_inside : {P Q V : Type 0} → (Q → P) → ProgramFieldsSaid P V
     → ProgramFieldsSaid Q V
-fields_said_inside inside (of_all_pieces said) = of_all_pieces (λ q. said (inside q))
-fields_said_inside inside (of_all_cells said) = of_all_cells (λ q. said (inside q))
+fields_said_inside inside said = record {
+  in_cells = said.in_cells;
+  pieces = λ q. said.pieces (inside q);
+  cells = λ q. said.cells (inside q);
+}
 
 -- of what a constructor makes of fields
 abbrev pub said_con : {P Q A B : Type 0} → (Q → P) → (P → List Names) → (Q → Closure A B)
     → ProgramFieldsSaid P A → ProgramSaid Q B
-said_con fields names makes (of_all_pieces said) =
-    of_pieces (λ q. RecordSays (said (fields q)) (names (fields q)) (makes q))
-said_con {A = A} {B = B} fields names makes (of_all_cells said) =
-    of_cells (λ q. ClosedValue (said (fields q)) (makes q))
+said_con {A = A} {B = B} fields names makes said = record {
+  in_cells = said.in_cells;
+  pieces = λ q. RecordSays (said.pieces (fields q)) (names (fields q)) (makes q);
+  cells = λ q. ClosedValue (said.cells (fields q)) (makes q);
+}
 
 -- That a value says so.
 
@@ -359,40 +351,64 @@ said_con {A = A} {B = B} fields names makes (of_all_cells said) =
 abbrev pub IsSaid : {T : Type 0} → CellsValue T → CellsValue T → Type 0
 IsSaid {T = T} value said = (cs : Cells) (v : T) → value cs v → said cs v
 
--- a value of what ends in commands does
-abbrev pub CellsSay : {T : Type 0} → ProgramForm T → CellsValue T → Type 0
-CellsSay no_program said = Unit {0}
-CellsSay (commands optional value) said = IsSaid value said
-CellsSay (before_commands value) said = IsSaid value said
-CellsSay _ said = ⊥
-
--- a value of this form does
-abbrev pub ProgramFormSays : {P T : Type 0} → List Names → ProgramForm T → SaidKind
-    → ProgramSaid P T → P → Type 0
-ProgramFormSays names s kind (of_pieces said) p = Says names s kind (said p)
-ProgramFormSays names s kind (of_cells said) p = CellsSay s (said p)
+-- a value of this form, of a parser with these keys, says so of the pieces that it is read off; one
+-- of commands does of the cells
+abbrev pub FormSays : {T : Type 0} → List Names → ProgramForm T → SaidKind → (in_cells : Bool)
+    → Said T → CellsValue T → Type 0
+FormSays names no_program kind in_cells said cells = Unit {0}
+FormSays {T = T} names (alternative wide q value) kind in_cells said cells =
+    (in_cells ≡ false) × (kind ≡ of_kind ByName)
+    × ((o : LinePiece) (v : T) → value o v → said (o ∷ []) v)
+FormSays {T = T} names (single wide k q group gap) kind in_cells said cells =
+    (in_cells ≡ false) × (kind ≡ of_kind k)
+    × ((os rest : List LinePiece) (v : T) → group os v rest → FrontSays said os v rest)
+    × ((v : T) → gap.absent v → said [] v)
+FormSays {T = T} names (complete wide k q value) kind in_cells said cells =
+    (in_cells ≡ false) × (kind ≡ of_kind k)
+    × ((os : List LinePiece) (v : T) → AllOwn k q os → value os v → said os v)
+FormSays {T = T} names (product wide named r fields) kind in_cells said cells =
+    (in_cells ≡ false) × (kind ≡ product_kind named)
+    × ((whole os : List LinePiece) (v : T) → Fits names r whole → Fits names r os
+    → fields.value os v → mine r whole ≡ mine r os → others r whole ≡ others r os → said whole v)
+FormSays names (commands optional value) kind in_cells said cells =
+    (in_cells ≡ true) × IsSaid value cells
+FormSays names (before_commands value) kind in_cells said cells =
+    (in_cells ≡ true) × IsSaid value cells
 
 -- a value of such a parser does
-pub record ProgramSays {P T : Type 0} (names : List Names) (form : ProgramForm T)
-    (kind : SaidKind) (said : ProgramSaid P T) (p : P) : Type 0 where
-  pub by : ProgramFormSays names form kind said p
+pub record Says {T : Type 0} (names : List Names) (form : ProgramForm T) (kind : SaidKind)
+    (in_cells : Bool) (said : Said T) (cells : CellsValue T) : Type 0 where
+  pub by : FormSays names form kind in_cells said cells
 
--- values of fields of this form do
-abbrev pub ProgramFieldsFormSay : {P V : Type 0} → List Names → ProgramForm V
-    → ProgramFieldsSaid P V → P → Type 0
-ProgramFieldsFormSay names s (of_all_pieces said) p = FieldsSay names s (said p)
-ProgramFieldsFormSay names s (of_all_cells said) p = CellsSay s (said p)
+-- so it is with a parser of a type
+abbrev pub ProgramSays : {P T : Type 0} → List Names → ProgramForm T → SaidKind → ProgramSaid P T
+    → P → Type 0
+ProgramSays names form kind said p =
+    Says names form kind said.in_cells (said.pieces p) (said.cells p)
 
--- the values of such fields do
-pub record ProgramFieldsSay {P V : Type 0} (names : List Names) (form : ProgramForm V)
-    (said : ProgramFieldsSaid P V) (p : P) : Type 0 where
-  pub by : ProgramFieldsFormSay names form said p
+-- values of such fields say so of all pieces of a line, of which those that they are read off are
+-- all that begin with their keys; or of the cells
+abbrev pub FieldsFormSays : {V : Type 0} → List Names → ProgramForm V → (in_cells : Bool)
+    → FieldsSaid V → CellsValue V → Type 0
+FieldsFormSays {V = V} names (product wide named r fields) in_cells said cells =
+    (in_cells ≡ false) × ((whole os : List LinePiece) (v : V) → Fits names r whole
+    → Fits names r os → fields.value os v → mine r whole ≡ mine r os → said whole (others r os) v)
+FieldsFormSays names (before_commands value) in_cells said cells =
+    (in_cells ≡ true) × IsSaid value cells
+FieldsFormSays names no_program in_cells said cells = Unit {0}
+FieldsFormSays names _ in_cells said cells = ⊥
+
+-- the values of fields do
+pub record FieldsSay {V : Type 0} (names : List Names) (form : ProgramForm V) (in_cells : Bool)
+    (said : FieldsSaid V) (cells : CellsValue V) : Type 0 where
+  pub by : FieldsFormSays names form in_cells said cells
 
 -- fields of this form keep to it, and their values say so
-pub record FieldsKeep {P V : Type 0} (variables : Variables) (outcome : Outcome V)
-    (names : List Names) (s : ProgramForm V) (said : ProgramFieldsSaid P V) (p : P) : Type 0 where
+pub record FieldsKeep {V : Type 0} (variables : Variables) (outcome : Outcome V)
+    (names : List Names) (s : ProgramForm V) (in_cells : Bool) (said : FieldsSaid V)
+    (cells : CellsValue V) : Type 0 where
   pub law : FormLaw variables outcome names [] s
-  pub says : ProgramFieldsSay names s said p
+  pub says : FieldsSay names s in_cells said cells
 
 -- all these values look alike
 abbrev pub Alike : {T X : Type 0} → (T → X) → (T → Type 0) → Type 0
@@ -413,8 +429,7 @@ HasOneView see (product wide named q fields) = (os : List LinePiece) → Alike s
 HasOneView see (commands optional value) = (cs : Cells) → Alike see (value cs)
 HasOneView see (before_commands value) = (cs : Cells) → Alike see (value cs)
 
--- A closure that can't tell values apart that look alike: it accepts both or refuses both, and its
--- answers look alike.
+-- A closure that can't tell apart what looks alike: it accepts both or none, with answers alike.
 pub record Respects (A B X Y : Type 0) (see : A → X) (look : B → Y) (f : Closure A B) : Type 0 where
   pub same : (x y : A) (v w : B) → see x ≡ see y → f.yes x v → f.yes y w → look v ≡ look w
   pub apart : (x y : A) (v : B) → see x ≡ see y → f.yes x v → f.no y → ⊥
@@ -423,15 +438,8 @@ pub record Respects (A B X Y : Type 0) (see : A → X) (look : B → Y) (f : Clo
 abbrev pub pair_view : {A B X Y : Type 0} → (A → X) → (B → Y) → A × B → X × Y
 pair_view see look v = (see v.0, look v.1)
 
--- the answer looks like v, or is want of memory
-abbrev pub LooksLike : {V X : Type 0} → (V → X) → V → RunAnswer V → Type 0
-LooksLike see v (Accepted w) = see w ≡ see v
-LooksLike see v NoMemory = Unit {0}
-LooksLike see v Refusal = ⊥
-
--- Where the record has a value v, each answer looks like v, or is want of memory.
+-- Where the program has a value v, each answer looks like v, or is want of memory.
 abbrev pub RunsToOne : {V X : Type 0} → (V → X) → Outcome V → ProgramForm V → Context → Type 0
 RunsToOne {V = V} see outcome s context =
     (a : RunAnswer V) (v : V) → RunRan V outcome (beginning context) a
-    → RecordValue (product_roles (whole_program s)) (product_reading (whole_program s)).value context v
-    → LooksLike see v a
+    → program_value s (line_cells context) v → IsAcceptedOrWant (λ w. see w ≡ see v) a

@@ -1,32 +1,29 @@
 -- Adjacent commands and groups keep to the laws where what is inside does, and read one stretch.
-use Rattle.std.proofs.Common.{◌≡◌, ℕ, ◌<◌, ◌≤◌, true, ◌&&◌, nat_le, nat_lt, arith, ◌+◌, ◌==◌, ◌||◌}
-use Rattle.std.proofs.Common.{◌∙◌, sym, true≢false}
+use Rattle.std.proofs.Common.{true≢false, nat_le, nat_lt, arith, true, ◌&&◌, ◌==◌, ◌||◌, ◌≡◌, ◌<◌}
+use Rattle.std.proofs.Common.{◌≤◌, ◌+◌, ◌∙◌, sym, ℕ}
 use Rattle.std.proofs.{lemmas.Bool.Decides.nat_tests, lemmas.Bool.both_ways}
-use Rattle.bpaf_line.specs.Situation.{Situation, is_open, open_count, with_scope}
-use Rattle.bpaf_line.specs.Messages.{is_memory}
-use Rattle.bpaf_line.specs.{declared.error.Error.Error, declared.error.Message.TheVariants.Missing}
-use Rattle.bpaf_laws.specs.Laws.{Keeps, Closes, newly, Reads, Lawful, NamesAnswer, IsNotMemory}
-use Rattle.bpaf_laws.specs.Laws.{Spares, taken_count}
-use Rattle.bpaf_laws.specs.Command.{Called, CommandReads, IsOpenedAt, inside, opening_words}
-use Rattle.bpaf_laws.specs.Reading.{Readings, Outcome, Share}
-use Rattle.bpaf_laws.specs.Adjacent.{StretchReads, Failure, longer, longest, taken_by, Probe}
-use Rattle.bpaf_laws.specs.Adjacent.{Narrowed, whole, again, Tries, answered, refused, TriedInVain}
-use Rattle.bpaf_laws.specs.Adjacent.{none_tried, not_taken, all_failed, Searches, gave, none_gave}
-use Rattle.bpaf_laws.specs.Adjacent.{wanted, GroupOutcome, EndsWith, IsStretch}
-use Rattle.bpaf_laws.proofs.CommandLaws.{leaves_nothing, keeps_inside, word_is_open, word_read}
-use Rattle.bpaf_laws.proofs.Keeping.{keeps_refl, keeps_scope, keeps_trans, newly_joins, newly_take}
-use Rattle.bpaf_laws.proofs.Keeping.{reads_as, reads_both, AnswersLawfully, LawfulAnswer, lawful_by}
-use Rattle.bpaf_laws.proofs.Keeping.{keeps_of, keeps_same, names_same, names_want}
-use Rattle.std.specs.Prelude.{IfOk, false, List, Result, Ok, Err, Option, Some, None, if◌then◌else◌}
+use Rattle.std.specs.Prelude.{Result, Option, false, IfOk, List, Some, None, Err, Ok}
 use Rattle.bpaf_doc.specs.Shape.{Part}
+use Rattle.bpaf_line.specs.Situation.{open_count, with_scope, Situation, is_open}
+use Rattle.bpaf_line.specs.declared.error.Error.{Error}
 use Rattle.bpaf_line.proofs.Places.{open_in_scope}
+use Rattle.bpaf_laws.specs.Laws.{NamesAnswer, IsNotMemory, Closes, Lawful, Spares, Keeps, newly}
+use Rattle.bpaf_laws.specs.Command.{opening_words, CommandReads, IsOpenedAt, Called, inside}
+use Rattle.bpaf_laws.specs.Adjacent.{StretchReads, GroupOutcome, TriedInVain, none_tried, not_taken}
+use Rattle.bpaf_laws.specs.Adjacent.{all_failed, none_gave, IsStretch, Narrowed, answered, Searches}
+use Rattle.bpaf_laws.specs.Adjacent.{EndsWith, Failure, longest, refused, longer, wanted, Probe}
+use Rattle.bpaf_laws.proofs.CommandLaws.{leaves_nothing, keeps_inside, word_is_open, word_read}
+use Rattle.bpaf_laws.proofs.Keeping.{keeps_trans, keeps_refl, newly_take, reads_both, keeps_same}
+use Rattle.bpaf_laws.proofs.Keeping.{AnswersLawfully, LawfulAnswer, newly_joins, keeps_scope}
+use Rattle.bpaf_laws.proofs.Keeping.{names_same, names_want, lawful_by, reads_as, keeps_of}
+use Rattle.bpaf_laws.specs.Adjacent.{whole, again, Tries, gave}
+use Rattle.bpaf_laws.specs.{Reading.Readings, Reading.Outcome, Reading.Share, Laws.Reads}
 
 module _ (s : Situation) (from end : ℕ)
     (present : (p : ℕ) → from ≤ p → p < end → is_open s p ≡ true) where
   -- the stretch as the scope keeps all
   pub keeps_stretch : Keeps s (with_scope s from end)
-  keeps_stretch = keeps_scope s s from end (keeps_refl s)
-      (λ p inside. grind (arith, nat_tests, present p))
+  keeps_stretch = grind (arith, keeps_refl, keeps_scope, nat_tests)
 
   -- where nothing of the stretch is left, what is newly taken is the stretch
   pub newly_stretch : (t : Situation) → Keeps (with_scope s from end) t
@@ -49,9 +46,7 @@ module _ (called : Called) (s : Situation) (p : ℕ) (at : IsOpenedAt (opening_w
       (none : open_count t ≡ 0) where
     -- what it keeps inside the command
     kept_inside : Keeps (inside called s p) t
-    kept_inside =
-        let m : Situation = inside called s p in
-        keeps_trans m (with_scope m (p + 1) end) t (keeps_stretch m (p + 1) end present) read.keeps
+    kept_inside = grind (arith, keeps_stretch, keeps_trans)
 
     -- all that is newly taken is the word and the stretch behind it
     one_stretch : (q : ℕ) → newly s t q ≡ (nat_le p q && nat_lt q end)
@@ -62,8 +57,7 @@ module _ (called : Called) (s : Situation) (p : ℕ) (at : IsOpenedAt (opening_w
         let behind = newly_stretch m (p + 1) end present t read.keeps read.closed none q in
         grind (arith, nat_tests, joins.all q, word q)
 
-    -- what is read over a stretch of present places behind the word is a reading, with the scope
-    -- from the word on
+    -- what is read over a stretch of places behind the word is read, with the scope from the word
     pub adjacent_read : Reads T (StretchReads T (CommandReads T (opening_words called) reads)) s v
         (with_scope t p s.end)
     adjacent_read =
@@ -85,9 +79,7 @@ pub narrowed_open : {T : Type 0} (inner : Outcome T) (s : Situation) (a b : ℕ)
     → Narrowed T inner s a b → (a ≤ b) × ((p : ℕ) → a ≤ p → p < b → is_open s p ≡ true)
 narrowed_open inner s a b (whole stop stretch) = (stretch.ordered, stretch.present)
 narrowed_open inner s a b (again stop left v t before ran next) =
-    let opened = narrowed_open inner s a stop before in
-    let inside = open_in_scope (with_scope t a stop) left next.present in
-    (inside.0, λ p low high. opened.1 p low (omega (arith, inside.1)))
+    grind (arith, open_in_scope, narrowed_open inner s a stop before)
 
 module _ {T : Type 0} {inner : Outcome T} {reads : Readings T} (law : Lawful T inner reads)
     (s : Situation) where
@@ -102,10 +94,8 @@ module _ {T : Type 0} {inner : Outcome T} {reads : Readings T} (law : Lawful T i
   -- so do the attempts from a place on
   pub tries_keep : (a : ℕ) (r : Result T Error) (t : Situation) → Tries T inner s a r t → Keeps s t
   tries_keep a r t (answered stop v left narrowed ran none) =
-      keeps_scope s left s.start s.end (attempt_keeps a stop (Ok v) left narrowed ran)
-      (λ p within. within)
-  tries_keep a r t (refused stop e left narrowed ran) =
-      attempt_keeps a stop (Err e) left narrowed ran
+      grind (arith, attempt_keeps, keeps_scope)
+  tries_keep a r t (refused stop e left narrowed ran) = grind (arith, attempt_keeps)
 
   -- a value of theirs is read off one stretch, and an error names its answer
   tries_answer : (a : ℕ) (r : Result T Error) (t : Situation) → Tries T inner s a r t
@@ -138,10 +128,7 @@ module _ {T : Type 0} {inner : Outcome T} {reads : Readings T} (law : Lawful T i
   -- so does the one that took more
   longer_keeps : (best : Option Failure) (other : Failure) → BestKeeps best
       → BestKeeps (Some other) → BestKeeps (longer s best other)
-  longer_keeps best other before now =
-      elim (nat_lt (taken_by s best) (taken_count s other.left))
-      as (λ more. BestKeeps (if more then Some other else best))
-      [ true ↦ now | false ↦ before ]
+  longer_keeps best other before now = grind arith
 
   -- so does the longest failure of places that were tried in vain
   vain_keeps : {first : Part} {from : ℕ} {failures : List Failure}
@@ -149,15 +136,12 @@ module _ {T : Type 0} {inner : Outcome T} {reads : Readings T} (law : Lawful T i
   vain_keeps none_tried = tt
   vain_keeps (not_taken from a failures before start probe) = vain_keeps before
   vain_keeps (all_failed from a failures e t before start probe tries spared) =
-      longer_keeps (longest s failures) (record { error = e; left = t }) (vain_keeps before)
-      (tries_answer a (Err e) t tries)
+      grind (arith, longer_keeps, tries_answer, vain_keeps before)
 
   -- and the end of a search without a value
   end_keeps : (first : Part) (best : Option Failure) (e : Error) (t : Situation) → BestKeeps best
       → EndsWith s first best e t → Keeps s t × NamesAnswer e.0
-  end_keeps first None e t before ends =
-      (keeps_same s t ends.3, names_same e.0 (Missing ends.0) tt ends.1)
-  end_keeps first (Some failure) e t before ends = rw (ends.0, ends.1) before
+  end_keeps first x e t before ends = grind (arith, keeps_same, names_same)
 
 -- adjacent groups keep to the laws
 pub group_lawful : {T : Type 0} {inner : Outcome T} {reads : Readings T} (first : Part)

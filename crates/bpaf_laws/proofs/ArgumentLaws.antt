@@ -1,32 +1,31 @@
 -- Arguments keep to the laws: what taking keys with the texts behind them takes, and that a key
 -- comes before the environment.
-use Rattle.std.proofs.Common.{ℕ, List, Result, arith, ◌≡◌, ◌+◌, Bool, true, false, [], ◌∷◌, ◌++◌}
-use Rattle.std.proofs.Common.{sym, subst, ◌∙◌, ⊎_elim, ap, Ok, Err, inl, inr, Some, true≢false}
-use Rattle.std.proofs.lemmas.Bool.{eqb-true, or_cases, or_left, or_right, cases_Bool}
+use Rattle.std.proofs.Common.{true≢false, Result, ⊎_elim, arith, false, subst, List, Bool, true, []}
+use Rattle.std.proofs.Common.{◌++◌, Some, ◌≡◌, ◌+◌, ◌∷◌, sym, ◌∙◌, Err, inl, inr, ap, Ok, ℕ}
+use Rattle.std.proofs.lemmas.Bool.{cases_Bool, eqb-true, or_cases, or_right, or_left}
 use Rattle.std.proofs.lemmas.Bool.Decides.{nat_tests}
-use Rattle.bpaf_text.specs.Named.{KeyWithValue, argument_part}
-use Rattle.bpaf_line.specs.Situation.{Situation, is_open, take_place, open_count}
-use Rattle.bpaf_line.specs.Taking.{is_match, open_item, value_after}
-use Rattle.bpaf_line.specs.declared.error.Message.TheVariants.{Memory, ParseFailed, ParseFailure}
-use Rattle.bpaf_line.specs.declared.error.Message.TheVariants.{NoArgument}
-use Rattle.bpaf_line.specs.{declared.error.Message.Message, declared.error.Error.Error}
-use Rattle.bpaf_laws.specs.Reading.{ReadsValue, FaultsText, Share, IsPair, Readings}
-use Rattle.bpaf_laws.specs.Leaves.{ArgumentOutcome, ArgumentFails, GetsText, is_key_with_value}
-use Rattle.bpaf_laws.specs.Leaves.{TakesKeyWithText, TakesKeysWithTexts, behind, IsKeyBefore}
-use Rattle.bpaf_laws.specs.Leaves.{AreKeysWithText, ArgumentReads, IsOwnText, TakesBefore}
-use Rattle.bpaf_laws.specs.Leaves.{TakesOwnText, RefusesText, ReadsVariable, LacksText, HasNoKey}
-use Rattle.bpaf_laws.specs.Leaves.{Counts, IsFirstBare, LacksOwnText, FailsKeyFirst}
-use Rattle.bpaf_laws.specs.Leaves.{KeyBeforeEnvironment}
-use Rattle.bpaf_laws.specs.Laws.{Keeps, Reads, newly, Lawful, NamesAnswer}
-use Rattle.std.specs.Prelude.{◌⊎◌, ◌<◌, ◌≤◌, ◌==◌, ◌||◌, Option, None, refl, option_and_then}
+use Rattle.std.specs.Prelude.{option_and_then, Option, ◌==◌, ◌||◌, None, ◌⊎◌, ◌<◌, ◌≤◌}
 use Rattle.std.specs.Option.{option_map_or, IsSomeRelated}
 use Rattle.bpaf_base.specs.{declared.arg.Arg.Arg, Items.value_text}
-use Rattle.bpaf_line.proofs.Places.{taken_here, taken_other, taken_stays, match_is_open}
-use Rattle.bpaf_line.proofs.Places.{match_has_item, value_is_open}
-use Rattle.bpaf_laws.proofs.Keeping.{keeps_same, keeps_trans, keeps_take, reads_as, reads_both}
-use Rattle.bpaf_laws.proofs.Keeping.{newly_take_both, closes_take_both, same_took_none}
-use Rattle.bpaf_laws.proofs.Keeping.{AnswersLawfully, lawful_by, keeps_unset, newly_none}
-use Rattle.bpaf_laws.proofs.Keeping.{reads_unset, names_absence}
+use Rattle.bpaf_text.specs.Named.{argument_part, KeyWithValue}
+use Rattle.bpaf_line.specs.Situation.{take_place, open_count, Situation, is_open}
+use Rattle.bpaf_line.specs.declared.error.Message.TheVariants.{ParseFailure, ParseFailed, Memory}
+use Rattle.bpaf_line.proofs.Places.{match_has_item, match_is_open, value_is_open, taken_other}
+use Rattle.bpaf_line.specs.Taking.{value_after, open_item, is_match}
+use Rattle.bpaf_line.specs.declared.error.Message.TheVariants.{NoArgument}
+use Rattle.bpaf_line.specs.{declared.error.Message.Message, declared.error.Error.Error}
+use Rattle.bpaf_line.proofs.Places.{taken_stays, taken_here}
+use Rattle.bpaf_laws.specs.Reading.{ReadsValue, FaultsText, Readings, IsPair, Share}
+use Rattle.bpaf_laws.specs.Leaves.{TakesKeyWithText, ArgumentOutcome, AreKeysWithText, TakesOwnText}
+use Rattle.bpaf_laws.specs.Leaves.{LacksOwnText, IsKeyBefore, TakesBefore, RefusesText, IsFirstBare}
+use Rattle.bpaf_laws.specs.Leaves.{KeyBeforeEnvironment, TakesKeysWithTexts, is_key_with_value}
+use Rattle.bpaf_laws.specs.Leaves.{ArgumentFails, ArgumentReads, ReadsVariable, FailsKeyFirst}
+use Rattle.bpaf_laws.specs.Leaves.{IsOwnText, LacksText, GetsText, HasNoKey, behind, Counts}
+use Rattle.bpaf_laws.specs.Laws.{NamesAnswer, Lawful, Keeps, Reads, newly}
+use Rattle.bpaf_laws.proofs.Keeping.{closes_take_both, newly_take_both, AnswersLawfully, keeps_same}
+use Rattle.bpaf_laws.proofs.Keeping.{keeps_unset, keeps_take, reads_both, newly_none, lawful_by}
+use Rattle.bpaf_laws.proofs.Keeping.{same_took_none, names_absence, reads_unset, keeps_trans}
+use Rattle.bpaf_laws.proofs.Keeping.{reads_as}
 
 module _ {T : Type 0} (means : List ℕ → T → Type 0) (argument : KeyWithValue) (s t : Situation)
     (text : List ℕ) where
@@ -60,10 +59,7 @@ module _ (argument : KeyWithValue) (s : Situation) (text : List ℕ) (t : Situat
 
   -- so did the place behind it, also when the key is taken
   value_open : is_open (take_place s takes.key) (takes.key + 1) ≡ true
-  value_open =
-      let there = value_is_open s takes.key text takes.value in
-      let other = taken_other s takes.key (takes.key + 1) (λ e. absurd (omega arith)) in
-      grind arith
+  value_open = grind (arith, taken_other, value_is_open)
 
   -- the key, behind which the text stands, and the place behind it are newly taken
   pub key_read : Reads (List ℕ) (λ context share own. IsKeyBefore argument context takes.key own
@@ -85,11 +81,7 @@ module _ (argument : KeyWithValue) (s : Situation) (text : List ℕ) (t : Situat
 
   -- one item fewer at least is present in scope
   pub pair_fewer : open_count t < open_count s
-  pair_fewer =
-      let here = key_read.reading.1 takes.key in
-      let none = λ (same : open_count s ≤ open_count t).
-      same_took_none s t key_read.keeps key_read.closed same takes.key in
-      grind (arith, nat_tests)
+  pair_fewer = grind (arith, key_read, nat_tests, same_took_none)
 
   -- nothing is present any more at these two places
   none_left : (p : ℕ) → (p ≡ takes.key) ⊎ (p ≡ takes.key + 1) → open_item t p ≡ None
@@ -115,26 +107,17 @@ module _ (argument : KeyWithValue) (s : Situation) (text : List ℕ) (t : Situat
 
   -- with the text behind it that it has
   pub value_before : (p : ℕ) → is_match test t p ≡ true → value_after s p ≡ value_after t p
-  value_before p there =
-      let step = one_of_two (p + 1) in
-      let first = takes.first.matches in
-      let key = key_is_no_value argument (open_item s (p + 1)) in
-      grind (arith, is_left p there, none_left (p + 1))
+  value_before p there = grind (arith, is_left, key_is_no_value, none_left, one_of_two)
 
   -- a key that is gone later is the one that was taken
   pub gone_key : (p : ℕ) → is_match test s p ≡ true → is_match test t p ≡ false → p ≡ takes.key
-  gone_key p there gone =
-      let step = one_of_two p in
-      let none = key_is_no_value argument (open_item s (takes.key + 1)) in
-      let value = takes.value in
-      grind arith
+  gone_key p there gone = grind (arith, key_is_no_value, one_of_two)
 
 -- one key more, behind those that were taken
 pub texts_more : (argument : KeyWithValue) (s m t : Situation) (texts : List (List ℕ))
     (text : List ℕ) → TakesKeysWithTexts argument s texts m → TakesKeyWithText argument m text t
     → TakesKeysWithTexts argument s (texts ++ text ∷ []) t
-texts_more argument s m t [] text same takes =
-    (t, subst (λ x. TakesKeyWithText argument x text t) same takes, refl)
+texts_more argument s m t [] text same takes = grind arith
 texts_more argument s m t (x ∷ texts) text o takes =
     (o.0, o.1, texts_more argument o.0 m t texts text o.2 takes)
 
@@ -241,8 +224,7 @@ module _ (T : Type 0) (means : List ℕ → T → Type 0) (argument : KeyWithVal
   -- what a refusal of an argument keeps, and that it isn't the answer of a run inside
   argument_refused : (s t : Situation) (m : Message) → ArgumentFails means argument s m t
       → Keeps s t × NamesAnswer m
-  argument_refused s t (NoArgument key name) fails =
-      (before_keeps argument.last argument s t fails.1, tt)
+  argument_refused s t (NoArgument key name) fails = grind (arith, before_keeps)
   argument_refused s t (ParseFailed place fault) fails = (text_keeps s t fails.0 fails.1, tt)
   argument_refused s t Memory fails = (
     ⊎_elim (before_keeps argument.last argument s t) (λ got. text_keeps s t got.0 got.1) fails,
@@ -350,9 +332,7 @@ module _ (argument : KeyWithValue) where
   lacks_own : (s t : Situation) (key : ℕ) (metavar : List ℕ) (last : Bool)
       → LacksText argument t (NoArgument key metavar) → TakesBefore last argument s t
       → (is_match with_value s key ≡ true) × LacksOwnText last argument s key metavar
-  lacks_own s t key metavar false lacks same =
-      subst (λ x. (is_match with_value x key ≡ true) × LacksOwnText false argument x key metavar) same
-      (lacks.0.matches, lacks)
+  lacks_own s t key metavar false lacks same = grind arith
   lacks_own s t key metavar true lacks before =
       let bare = bare_before s t before.0 before.1 key (record {
         matches = lacks.0.matches;
@@ -363,8 +343,7 @@ module _ (argument : KeyWithValue) where
 
 module _ {T : Type 0} (means : List ℕ → T → Type 0) (argument : KeyWithValue)
     (s t : Situation) where
-  -- a text that was got is that of the key that counts where one is there, and else that of the
-  -- environment
+  -- a text that was got is that of the key that counts, or where none is that of the environment
   by_key : (text : List ℕ) → GetsText argument s text t → (A B : Type 0)
       → (TakesOwnText argument.last argument s text t → A) → (ReadsVariable argument s text t → B)
       → ((p : ℕ) → is_match (is_key_with_value argument) s p ≡ true → A) × (HasNoKey argument s → B)

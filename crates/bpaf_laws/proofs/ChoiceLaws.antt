@@ -1,24 +1,23 @@
--- Choices keep to the laws where their branches do, catch no want of memory, and the leftmost
--- wins.
-use Rattle.std.proofs.Common.{◌≡◌, ℕ, Bool, true, false, Result, Ok, Err, Option, Some, None, arith}
-use Rattle.std.proofs.Common.{sym, inl, inr, List, [], ◌∷◌, not, refl, ap, ◌∙◌, ◌⊎◌, ⊎_elim, ◌++◌}
-use Rattle.std.proofs.Common.{subst, ◌≤◌, ◌&&◌, IsOk, true≢false}
-use Rattle.std.proofs.{lemmas.Bool.and_parts, lemmas.Bool.Decides.nat_tests}
-use Rattle.bpaf_line.specs.Situation.{Situation, is_taken, open_count}
-use Rattle.bpaf_line.specs.Taking.{ConflictsSaved, IsLeftmost, IsWinner, TakeTheSame}
-use Rattle.bpaf_line.specs.{declared.error.Error.Error, Messages.Combines}
-use Rattle.bpaf_laws.proofs.Keeping.{names_combined, names_want, AnswersLawfully, LawfulAnswer}
-use Rattle.bpaf_laws.proofs.Keeping.{lawful_answer, lawful_by, keeps_refl, keeps_same, reads_as}
-use Rattle.bpaf_laws.proofs.Keeping.{reads_conflicts, same_took_none}
-use Rattle.bpaf_laws.proofs.LeafLaws.{refusal_lawful}
-use Rattle.bpaf_laws.specs.Choice.{AnsweredBranch, branch_of, depth, Winner, EqualDepths, Chosen}
-use Rattle.bpaf_laws.specs.Choice.{BranchesEval, ChoiceOutcome, ChoiceReads, Nested, ChoicesOutcome}
-use Rattle.bpaf_laws.specs.Choice.{ChoicesReads, no_choice, is_want, IsWant, ValueOfWinner}
-use Rattle.bpaf_laws.specs.Choice.{ChoiceDescribes, either_shape, Stands, IsChosen, TookAndIsChosen}
-use Rattle.bpaf_laws.specs.Choice.{LeftmostWins, LeftmostOfAll}
-use Rattle.bpaf_laws.specs.Laws.{Lawful, IsNotMemory, Spares, WithoutMemory}
-use Rattle.bpaf_laws.specs.{Reading.Readings, Reading.Outcome, Combinators.is_untouched}
+-- Choices keep to the laws where their branches do, catch no want of memory; the leftmost wins.
+use Rattle.std.proofs.Common.{true≢false, Result, Option, false, arith, Bool, true, Some, None, ◌≡◌}
+use Rattle.std.proofs.Common.{List, refl, ◌++◌, ◌&&◌, IsOk, Err, sym, inl, inr, ◌∷◌, not, ◌∙◌, ◌⊎◌}
+use Rattle.std.proofs.{Common.Ok, Common.[], Common.ap, Common.ℕ, lemmas.Bool.Decides.nat_tests}
+use Rattle.std.proofs.lemmas.Bool.{and_parts}
 use Rattle.bpaf_doc.specs.Shape.{Shape}
+use Rattle.bpaf_line.specs.Taking.{ConflictsSaved, TakeTheSame, IsLeftmost, IsWinner}
+use Rattle.bpaf_line.specs.{Situation.Situation, Situation.is_taken, declared.error.Error.Error}
+use Rattle.bpaf_line.specs.Messages.{Combines}
+use Rattle.bpaf_laws.proofs.Keeping.{AnswersLawfully, reads_conflicts, names_combined, LawfulAnswer}
+use Rattle.bpaf_laws.proofs.Keeping.{same_took_none, lawful_answer, names_want, keeps_refl}
+use Rattle.bpaf_laws.specs.Choice.{ChoiceDescribes, TookAndIsChosen, AnsweredBranch, ChoicesOutcome}
+use Rattle.bpaf_laws.specs.Choice.{ChoiceOutcome, ValueOfWinner, LeftmostOfAll, BranchesEval, depth}
+use Rattle.bpaf_laws.specs.Choice.{ChoicesReads, either_shape, LeftmostWins, EqualDepths, branch_of}
+use Rattle.bpaf_laws.specs.Choice.{ChoiceReads, no_choice, IsChosen, is_want, Winner, Chosen}
+use Rattle.bpaf_laws.proofs.Keeping.{keeps_same, lawful_by, reads_as}
+use Rattle.bpaf_laws.proofs.LeafLaws.{refusal_lawful}
+use Rattle.bpaf_laws.specs.Laws.{WithoutMemory, IsNotMemory, Lawful, Spares}
+use Rattle.bpaf_laws.specs.{Choice.Nested, Choice.IsWant, Choice.Stands, Combinators.is_untouched}
+use Rattle.bpaf_laws.specs.Reading.{Readings, Outcome}
 
 -- an error is no value
 pub no_value : {T : Type 0} (v : T) (e : Error) → ◌≡◌ {A = Result T Error} (Ok v) (Err e) → ⊥
@@ -27,9 +26,7 @@ no_value v e same = cc
 -- the branch that won has a value
 pub not_winner : {T : Type 0} (first second : AnsweredBranch T) (winner : Bool × Option ℕ)
     (e : Error) (t : Situation) → Winner first second winner (Err e) t → ⊥
-not_winner first second (wins, None) e t won = no_value first.value e (sym won.0)
-not_winner first second (true, Some place) e t won = no_value first.value e (sym won.0)
-not_winner first second (false, Some place) e t won = no_value second.value e (sym won.0)
+not_winner first second x e t won = grind (arith, no_value)
 
 module _ {T : Type 0} (s : Situation) (Holds : Result T Error → Situation → Type 0)
     (noted : (v : T) (m loser : Situation) (place : ℕ) (t : Situation)
@@ -47,49 +44,33 @@ module _ {T : Type 0} (s : Situation) (Holds : Result T Error → Situation → 
   of_winner x y sa sb (false, Some place) r t won one other =
       rw won.0 (noted y sb sa place t won.1 other)
 
-  -- what holds of two answers, also where an error goes back and where two are combined, holds of
-  -- the table's at equal depths
+  -- what holds of two answers, also of an error put back and of two combined, holds at equal depths
   of_equal : (a : Result T Error) (sa : Situation) (b : Result T Error) (sb : Situation)
       (r : Result T Error) (t : Situation) → EqualDepths s a sa b sb r t → Holds a sa → Holds b sb
       → Holds r t
-  of_equal (Ok x) sa (Ok y) sb r t (inl o) one other = rw (o.1.0, o.1.1) one
-  of_equal (Ok x) sa (Ok y) sb r t (inr o) one other =
-      of_winner x y sa sb o.1.0 r t o.1.2 one other
-  of_equal (Ok x) sa (Err f) sb r t (inl o) one other = rw (o.1, o.2) (back f sb other)
-  of_equal (Ok x) sa (Err f) sb r t (inr o) one other = rw (o.1.0, o.1.1) one
-  of_equal (Err e) sa (Ok y) sb r t (inl o) one other = rw (o.1, o.2) (back e sa one)
-  of_equal (Err e) sa (Ok y) sb r t (inr o) one other = rw (o.1.0, o.1.1) other
-  of_equal (Err e) sa (Err f) sb r t o one other =
-      rw (o.0.2, o.1) (both e f o.0.0 sa sb o.0.1 one other)
+  of_equal x sa y sb r t o one other = grind (arith, of_winner)
 
   -- and at any
   pub of_chosen : (a : Result T Error) (sa : Situation) (b : Result T Error) (sb : Situation)
       (r : Result T Error) (t : Situation) → Chosen s a sa b sb r t → Holds a sa → Holds b sb
       → Holds r t
-  of_chosen a sa b sb r t (inl deeper) one other = rw (deeper.1, deeper.2) one
-  of_chosen a sa b sb r t (inr (inl deeper)) one other = rw (deeper.1, deeper.2) other
-  of_chosen a sa b sb r t (inr (inr equal)) one other =
-      of_equal a sa b sb r t equal.1 one other
+  of_chosen a sa b sb r t x one other = grind (arith, of_equal)
 
 -- where both paths are equally deep the table is that of equal depths
 pub chosen_at_equal : {T : Type 0} (s : Situation) (a : Result T Error) (sa : Situation)
     (b : Result T Error) (sb : Situation) (r : Result T Error) (t : Situation)
     → depth sa ≡ depth sb → Chosen s a sa b sb r t → EqualDepths s a sa b sb r t
-chosen_at_equal s a sa b sb r t same (inl deeper) = let d = deeper.0 in absurd (omega arith)
-chosen_at_equal s a sa b sb r t same (inr (inl deeper)) = let d = deeper.0 in absurd (omega arith)
-chosen_at_equal s a sa b sb r t same (inr (inr equal)) = equal.1
+chosen_at_equal s a sa b sb r t same x = grind arith
 
 module _ {T : Type 0} {first second : Outcome T} {rf rs : Readings T} (lf : Lawful T first rf)
     (ls : Lawful T second rs) where
   -- what the first branch may answer the choice may
   of_first : AnswersLawfully first (ChoiceReads rf rs)
-  of_first s (Ok v) t o = reads_as (lf.ok s t v o) inl
-  of_first s (Err e) t o = lawful_answer lf s (Err e) t o
+  of_first s x t o = grind (arith, lawful_answer, reads_as)
 
   -- so it is with the second
   of_second : AnswersLawfully second (ChoiceReads rf rs)
-  of_second s (Ok v) t o = reads_as (ls.ok s t v o) inr
-  of_second s (Err e) t o = lawful_answer ls s (Err e) t o
+  of_second s x t o = grind (arith, lawful_answer, reads_as)
 
   -- so is the answer of branches that were evaluated
   evaluated : AnswersLawfully (BranchesEval first second) (ChoiceReads rf rs)
@@ -127,8 +108,7 @@ pub choices_lawful : {T P : Type 0} (outcome : P → Outcome T) (reads : P → R
     → ((p : P) → Lawful T (outcome p) (reads p))
     → Lawful T (ChoicesOutcome outcome ps) (ChoicesReads reads ps)
 choices_lawful outcome reads [] each = refusal_lawful no_choice
-choices_lawful outcome reads (p ∷ ps) each =
-    from_lawful outcome reads (outcome p) (reads p) ps each (each p)
+choices_lawful outcome reads (p ∷ ps) each = grind (arith, from_lawful)
 
 -- A choice of two: what its evaluation shows, and that it catches no want of memory.
 
@@ -146,25 +126,13 @@ choice_wants : {T : Type 0} (first second : Outcome T) (s : Situation) (r : Resu
     (t : Situation) → IsWant s r t → ChoiceOutcome first second s r t
 choice_wants first second s r t want = grind arith
 
--- where two branches that didn't want memory ran, the choice of two gives the answer chosen by
--- theirs, or want of memory
+-- where both branches ran and wanted no memory, the choice gives the chosen answer, or wants some
 pub ran_outcome : {T : Type 0} (first second : Outcome T) (s : Situation) (a : Result T Error)
     (sa : Situation) (b : Result T Error) (sb : Situation) (r : Result T Error) (t : Situation)
     → first s a sa → second s b sb → is_want a ≡ false → is_want b ≡ false
     → Chosen s a sa b sb r t ⊎ IsWant s r t → ChoiceOutcome first second s r t
-ran_outcome first second s a sa b sb r t f g p q answer = ⊎_elim
-    (λ chosen. choice_ran first second s r t (record {
-      a = a;
-      sa = sa;
-      b = b;
-      sb = sb;
-      first_ran = f;
-      second_ran = g;
-      first_spared = spared_of a p;
-      second_spared = spared_of b q;
-      chosen = chosen;
-    }))
-    (choice_wants first second s r t) answer
+ran_outcome first second s a sa b sb r t f g p q answer =
+    grind (arith, choice_ran, choice_wants, spared_of)
 
 module _ {T : Type 0} (first second less other : Outcome T) (fewer : Spares first less)
     (fewer_others : Spares second other) (s t : Situation) (r : Result T Error) where
@@ -193,9 +161,7 @@ choice_within first second less other fewer others s t r ran =
 pub choice_spared : {T : Type 0} (first second : Outcome T) (s t : Situation) (r : Result T Error)
     → ChoiceOutcome first second s r t → IsNotMemory r
     → ChoiceOutcome (WithoutMemory first) (WithoutMemory second) s r t
-choice_spared first second s t r ran spared =
-    choice_within first second (WithoutMemory first) (WithoutMemory second)
-    (λ s t r ran spared. (ran, spared)) (λ s t r ran spared. (ran, spared)) s t r ran
+choice_spared first second s t r ran spared = grind (arith, choice_within)
 
 -- of two situations the leftmost place of the one is that of the other
 pub leftmost_of_other : (s other : Situation) (p : ℕ) → IsLeftmost s other p → IsLeftmost other s p
@@ -237,17 +203,14 @@ pub one_more : {T P : Type 0} (outcome : P → Outcome T) (before : Outcome T) (
     (s : Situation) (r : Result T Error) (t : Situation)
     → ChoiceOutcome (Nested ChoiceOutcome outcome before ps) (outcome p) s r t
     → Nested ChoiceOutcome outcome before (ps ++ p ∷ []) s r t
-one_more outcome before ps p s r t chosen =
-    subst (λ combined. combined s r t) (sym (nested_more ChoiceOutcome outcome before ps p)) chosen
+one_more outcome before ps p s r t chosen = grind (arith, nested_more)
 
 -- one more parser is shown
 pub one_more_shown : {P : Type 0} (describes : P → Shape → Type 0) (before : Shape → Type 0)
     (ps : List P) (p : P) (a b shape : Shape)
     → Nested ChoiceDescribes describes before ps a → describes p b → shape ≡ either_shape a b
     → Nested ChoiceDescribes describes before (ps ++ p ∷ []) shape
-one_more_shown describes before ps p a b shape first last is =
-    subst (λ shows. shows shape) (sym (nested_more ChoiceDescribes describes before ps p))
-    (a, b, first, last, is)
+one_more_shown describes before ps p a b shape first last is = grind (arith, nested_more)
 
 -- fewer answers of parsers that aren't want of memory give fewer of a choice of many
 nested_spares : {T P : Type 0} (outcome without : P → Outcome T) (before less : Outcome T)
@@ -265,9 +228,7 @@ pub choices_spared : {T P : Type 0} (outcome : P → Outcome T) (ps : List P) (s
     (r : Result T Error) → ChoicesOutcome outcome ps s r t → IsNotMemory r
     → ChoicesOutcome (λ p. WithoutMemory (outcome p)) ps s r t
 choices_spared outcome [] s t r o spared = o
-choices_spared outcome (p ∷ ps) s t r o spared =
-    nested_spares outcome (λ q. WithoutMemory (outcome q)) (outcome p) (WithoutMemory (outcome p)) ps
-    (λ s t r ran spared. (ran, spared)) (λ q s t r ran spared. (ran, spared)) s t r o spared
+choices_spared outcome (p ∷ ps) s t r o spared = grind (arith, nested_spares)
 
 -- The leftmost place that only one of two branches took belongs to the chosen one.
 
@@ -275,8 +236,7 @@ choices_spared outcome (p ∷ ps) s t r o spared =
 one_leftmost : (s other : Situation) (p q : ℕ) → IsLeftmost s other p → IsLeftmost s other q → q ≡ p
 one_leftmost s other p q a b = grind (arith, a.first, b.first)
 
--- the chosen one of two answers took the leftmost place taken by only one of them; without one the
--- first is chosen
+-- the chosen of two answers took the leftmost place that only one took; without one it's the first
 abbrev IsLeftmostChosen : {T : Type 0} → Result T Error → Situation → Result T Error → Situation
     → T → Situation → Type 0
 IsLeftmostChosen a sa b sb v t =
@@ -318,10 +278,7 @@ module _ {T : Type 0} (v : T) (t : Situation) where
 -- what answered a value and left as many items took nothing
 pub took_nothing : {T : Type 0} {outcome : Outcome T} {reads : Readings T} → Lawful T outcome reads
     → (s t : Situation) (v : T) → outcome s (Ok v) t → is_untouched s t ≡ true → TakeTheSame t s
-took_nothing law s t v ran untouched p =
-    let read = law.ok s t v ran in
-    let same : open_count s ≤ open_count t = grind (arith, nat_tests) in
-    grind (arith, read.keeps.stays p, same_took_none s t read.keeps read.closed same p)
+took_nothing law s t v ran untouched p = grind (arith, nat_tests, same_took_none)
 
 module _ {T : Type 0} {first second : Outcome T} {first_reads second_reads : Readings T}
     (first_law : Lawful T first first_reads) (second_law : Lawful T second second_reads) where
@@ -345,8 +302,7 @@ module _ {T : Type 0} {first second : Outcome T} {first_reads second_reads : Rea
   )
   equal_chosen s v t (Ok x) sa (Ok y) sb first_ran second_ran (inr won) one other =
       winner_chosen v t (branch_of x sa) (branch_of y sb) won.1.0 won.1.1 won.1.2
-  equal_chosen s v t (Ok x) sa (Err e) sb first_ran second_ran chosen one other =
-      absurd (true≢false (sym other))
+  equal_chosen s v t (Ok x) sa (Err e) sb first_ran second_ran chosen one other = grind arith
   equal_chosen s v t (Err e) sa b sb first_ran second_ran chosen one other =
       absurd (true≢false (sym one))
 
@@ -401,6 +357,4 @@ module _ {T P : Type 0} (outcome : P → Outcome T) (reads : P → Readings T)
   -- and in the choice of all parsers
   pub choices_leftmost : (ps : List P) (s t : Situation) (r : Result T Error)
       → ChoicesOutcome outcome ps s r t → LeftmostOfAll outcome ps s r t
-  choices_leftmost [] s t r ran = tt
-  choices_leftmost (p ∷ ps) s t r ran =
-      from_leftmost (outcome p) (laws p) ps (λ m n a ran. ran) s t r ran
+  choices_leftmost xs s t r ran = grind (arith, from_leftmost)

@@ -1,32 +1,30 @@
 -- Combinators over one inner parser keep to the laws where it does; repeats are bounded.
-use Rattle.std.proofs.Common.{ℕ, Bool, true, List, Result, Ok, Err, Option, Some, ⊎_elim, inl, inr}
-use Rattle.std.proofs.Common.{true≢false, arith, ◌≡◌, refl, ◌⊎◌, Box, ap, ◌∙◌, ◌+◌, ◌<◌, ◌≤◌, false}
-use Rattle.std.proofs.Common.{if◌then◌else◌, [], ◌∷◌, ◌++◌, length, sym, subst, IfOk, ◌≢◌, ◌==◌}
-use Rattle.std.proofs.Common.{not, IsErrAnd, is_some}
-use Rattle.std.proofs.lemmas.Bool.Decides.{nat_tests}
-use Rattle.std.specs.Prelude.{None, ◌&&◌, vec_len}
-use Rattle.std.specs.{declared.alloc.Global.Global, Global.Vec}
-use Rattle.bpaf_line.specs.declared.error.Message.TheVariants.{PureFailed, Memory, GuardFailed}
-use Rattle.bpaf_line.specs.declared.error.Message.TheVariants.{ParseFailed, ParseSome}
-use Rattle.bpaf_line.specs.{Situation.Situation, Situation.open_count, declared.error.Error.Error}
-use Rattle.bpaf_line.specs.{declared.error.Message.Message, Messages.is_memory}
-use Rattle.bpaf_laws.specs.Laws.{Keeps, Lawful, NamesAnswer, Reads}
-use Rattle.bpaf_laws.specs.Combinators.{Gives, NamesGiven, OptionalReads, FallbackOutcome}
-use Rattle.bpaf_laws.specs.Combinators.{GivesAnswer, TurnOutcome, PureReads, MapReads, MapOutcome}
-use Rattle.bpaf_laws.specs.Combinators.{ParseOutcome, GuardOutcome, HideOutcome, hidden, is_nil}
-use Rattle.bpaf_laws.specs.Combinators.{Turns, UntilRest, UntilFault, stops, rests, ListOutcome}
-use Rattle.bpaf_laws.specs.Combinators.{EachReads, ListReads, ManyOutcome, SomeOutcome}
-use Rattle.bpaf_laws.specs.Combinators.{CollectOutcome, CountOutcome, LastOutcome, EachTakes}
-use Rattle.bpaf_laws.specs.Combinators.{LaterTake, IsBounded, CollectIsBounded, EndsIn}
-use Rattle.bpaf_laws.specs.{Reading.Readings, Reading.Outcome, Reading.HasPlace, Choice.ChoiceReads}
-use Rattle.bpaf_laws.proofs.Keeping.{AnswersLawfully, lawful_answer, lawful_by, keeps_same}
-use Rattle.bpaf_laws.proofs.Keeping.{reads_as, newly_none, reads_same, names_fault, names_want}
-use Rattle.bpaf_laws.proofs.Keeping.{names_same, keeps_refl, keeps_trans, reads_both}
-use Rattle.bpaf_laws.proofs.Keeping.{open_count-falls, fewer_took, same_took_none}
-use Rattle.bpaf_doc.specs.declared.item.Item.TheFolds.{fold-roll-Meta}
-use Rattle.bpaf_doc.specs.Shape.{Shape, Part, Subsection, shape_of, part_layer, shape_layer}
-use Rattle.bpaf_doc.specs.{declared.doc.Piece.Piece, declared.item.Item.TheOpen.Meta-F}
-use Rattle.bpaf_doc.specs.{declared.meta.Meta.Meta, declared.meta.MetaInfo.MetaInfo}
+use Rattle.std.proofs.Common.{⊎_elim, arith, false, subst, Bool, true, List, Some, refl, ◌++◌, IfOk}
+use Rattle.std.proofs.Common.{◌==◌, Err, inl, inr, ◌≡◌, ◌⊎◌, Box, ◌+◌, ◌<◌, ◌≤◌, ◌∷◌, sym, ◌≢◌, not}
+use Rattle.std.proofs.Common.{if◌then◌else◌, true≢false, IsErrAnd, is_some, length, Result, Option}
+use Rattle.std.proofs.{Common.Ok, Common.ap, Common.[], Common.ℕ, lemmas.Bool.Decides.nat_tests}
+use Rattle.std.specs.{Prelude.vec_len, Prelude.None, Prelude.◌&&◌, declared.alloc.Global.Global}
+use Rattle.std.specs.Global.{Vec}
+use Rattle.bpaf_doc.specs.Shape.{shape_layer, Subsection, part_layer, shape_of, Shape, Part}
+use Rattle.bpaf_doc.specs.{declared.item.Item.TheFolds.fold-roll-Meta, declared.doc.Piece.Piece}
+use Rattle.bpaf_doc.specs.{declared.item.Item.TheOpen.Meta-F, declared.meta.MetaInfo.MetaInfo}
+use Rattle.bpaf_doc.specs.declared.meta.Meta.{Meta}
+use Rattle.bpaf_line.specs.declared.error.Message.TheVariants.{PureFailed, Memory}
+use Rattle.bpaf_line.specs.{Situation.open_count, Situation.Situation, declared.error.Error.Error}
+use Rattle.bpaf_line.specs.declared.error.Message.{Message}
+use Rattle.bpaf_laws.specs.Combinators.{CollectIsBounded, FallbackOutcome, CollectOutcome, MapReads}
+use Rattle.bpaf_laws.specs.Combinators.{GivesAnswer, TurnOutcome, HideOutcome, ListOutcome, hidden}
+use Rattle.bpaf_laws.specs.Combinators.{ManyOutcome, SomeOutcome, LastOutcome, NamesGiven, is_nil}
+use Rattle.bpaf_laws.specs.Combinators.{IsBounded, PureReads, UntilRest, EachReads, EndsIn, Gives}
+use Rattle.bpaf_laws.specs.Combinators.{OptionalReads, ParseOutcome, GuardOutcome, CountOutcome}
+use Rattle.bpaf_laws.specs.Combinators.{MapOutcome, UntilFault, ListReads, EachTakes, LaterTake}
+use Rattle.bpaf_laws.proofs.Keeping.{open_count-falls, AnswersLawfully, same_took_none, names_fault}
+use Rattle.bpaf_laws.proofs.Keeping.{lawful_answer, keeps_trans, keeps_same, newly_none, reads_same}
+use Rattle.bpaf_laws.proofs.Keeping.{names_want, names_same, keeps_refl, reads_both, fewer_took}
+use Rattle.bpaf_laws.specs.Combinators.{Turns, stops, rests}
+use Rattle.bpaf_laws.specs.Laws.{NamesAnswer, Lawful, Keeps, Reads}
+use Rattle.bpaf_laws.specs.{Reading.Readings, Reading.HasPlace, Reading.Outcome, Choice.ChoiceReads}
+use Rattle.bpaf_laws.proofs.Keeping.{lawful_by, reads_as}
 use Rattle.bpaf_doc.specs.declared.meta.Meta as meta
 
 -- a refusal by a closure is the answer of no run inside
@@ -94,25 +92,13 @@ module _ {T : Type 0} {inner : Outcome T} {reads : Readings T} (law : Lawful T i
   pub parse_lawful : {R E : Type 0} (answers : T → Result R E → Type 0)
       (shown : E → Option (List ℕ))
       → Lawful R (ParseOutcome inner answers shown) (MapReads T R reads (λ x v. answers x (Ok v)))
-  parse_lawful answers shown = made_lawful (λ x v. answers x (Ok v)) (λ s t v o. o) (λ s t e o.
-      ⊎_elim inl (λ fault. inr (
-        fault.0,
-        fault.1,
-        names_fault shown fault.2 (ParseFailed t.current) e.0 (λ text. tt) fault.4,
-      )) o)
+  parse_lawful answers shown = grind (arith, made_lawful, names_fault)
 
   -- and guarded ones
   pub guard_lawful : (checks : T → Bool → Type 0) (message : List ℕ)
       → Lawful T (GuardOutcome inner checks message)
       (MapReads T T reads (λ x v. (v ≡ x) × checks x true))
-  guard_lawful checks message = made_lawful (λ x v. (v ≡ x) × checks x true)
-      (λ s t v o. (v, o.0, (refl, o.1)))
-      (λ s t e o. ⊎_elim inl (λ failed. inr (
-        failed.0,
-        failed.1,
-        ⊎_elim (names_same e.0 (GuardFailed t.current message) tt)
-            (names_same e.0 Memory tt) failed.3,
-      )) o)
+  guard_lawful checks message = grind (arith, made_lawful, names_same)
 
 -- a refusal that names no missing item names its answer where it did
 names_hidden : (m : Message) → NamesAnswer m → NamesAnswer (hidden m)
@@ -138,8 +124,7 @@ section_shape inner title =
 pub titled_shape : (info : MetaInfo) (inner : Box Meta Global) (title : List Piece)
     → inner.value ≡ info.0.now
     → shape_of (meta.Subsection inner title) ≡ Subsection (shape_of info.0.now) title
-titled_shape info inner title lent =
-    section_shape inner title ∙ ap (λ m. Subsection (shape_of m) title) lent
+titled_shape info inner title lent = grind (arith, section_shape)
 
 -- Repeats keep to the laws where the inner parser does, and are bounded.
 
@@ -159,30 +144,21 @@ pub steps_more : {T : Type 0} (inner : Outcome T) (catches first : Bool) (s m : 
     (vs : List T) (v : T) (t : Situation) → Turns inner catches first s vs m
     → TurnOutcome inner catches (first && is_nil vs) m (Ok (Some v)) t
     → Turns inner catches first s (vs ++ v ∷ []) t
-steps_more inner catches first s m [] v t o step =
-    (t, (subst (λ w. inner w (Ok v) t) (sym o) step.0, grind arith), refl)
+steps_more inner catches first s m [] v t o step = grind arith
 steps_more inner catches first s m (x ∷ vs) v t o step =
     (o.0, o.1, steps_more inner catches false o.0 m vs v t o.2 (step.0, grind arith))
 
 -- a run without a value leaves all as it was
 pub no_values : {T : Type 0} (inner : Outcome T) (s : Situation) (vs : List T) (t : Situation)
     → vs ≡ [] → UntilRest inner s vs t → t ≡ s
-no_values inner s [] t e (stops run) = let stop = run.stop in let same = run.steps in grind arith
-no_values inner s (v ∷ vs) t e run = cc
-no_values inner s [] t e (rests v is o same) = cc
+no_values inner s xs t e run = grind arith
 
 module _ {T : Type 0} {inner : Outcome T} {reads : Readings T} (law : Lawful T inner reads)
     (catches : Bool) where
   -- a stop reads no value
   stop_reads : (first : Bool) (s t : Situation) → TurnOutcome inner catches first s (Ok None) t
       → Reads (List T) (EachReads reads) s [] t
-  stop_reads first s t (inl dropped) =
-      let read = law.ok s t dropped.0 dropped.1 in
-      record {
-        keeps = read.keeps;
-        closed = read.closed;
-        reading = same_took_none s t read.keeps read.closed dropped.3;
-      }
+  stop_reads first s t (inl dropped) = grind (arith, same_took_none)
   stop_reads first s t (inr stopped) =
       reads_same (EachReads reads) s t [] stopped.1 (newly_none s)
 
@@ -233,34 +209,24 @@ module _ {T : Type 0} {inner : Outcome T} {reads : Readings T} (law : Lawful T i
   -- many keeps to the laws
   pub many_lawful : Lawful (Vec T) (ManyOutcome inner catches)
       (MapReads (List T) (Vec T) (ListReads reads) (λ values v. v.items ≡ values))
-  many_lawful = made_lawful list_lawful (λ values v. v.items ≡ values)
-      (λ s t v o. (v.items, o, refl)) (λ s t e o. inl o)
+  many_lawful = grind (arith, list_lawful, made_lawful)
 
   -- some keeps to the laws
   pub some_lawful : (message : List ℕ)
       → Lawful (Vec T) (SomeOutcome inner catches message) (MapReads (List T) (Vec T)
       (ListReads reads) (λ values v. (v.items ≡ values) × (is_nil values ≡ false)))
-  some_lawful message = made_lawful list_lawful
-      (λ values v. (v.items ≡ values) × (is_nil values ≡ false))
-      (λ s t v o. (v.items, o.0, (refl, o.1)))
-      (λ s t e o. ⊎_elim inl (λ none. inr (
-        [],
-        none.0,
-        ⊎_elim (names_same e.0 (ParseSome message) tt) (names_same e.0 Memory tt) none.1,
-      )) o)
+  some_lawful message = grind (arith, list_lawful, made_lawful, names_same)
 
   -- collect keeps to the laws
   pub collect_lawful : {C : Type 0} (fills : List T → C → Type 0)
       → Lawful C (CollectOutcome inner catches fills) (MapReads (List T) C (ListReads reads) fills)
-  collect_lawful fills = made_lawful list_lawful fills (λ s t v o. o) (λ s t e o.
-      ⊎_elim inl (λ refused. inr (refused.0, refused.1, names_want e.0 refused.2)) o)
+  collect_lawful fills = grind (arith, list_lawful, made_lawful, names_want)
 
   -- each value took an item, so there are no more values than items
   pub values_bounded : (s : Situation) (vs : List T) (t : Situation)
       → Turns inner catches false s vs t → length vs + open_count t ≤ open_count s
   values_bounded s [] t o = let same = ap open_count o in omega arith
-  values_bounded s (v ∷ vs) t o =
-      omega (arith, took_item inner catches s o.0 v o.1, values_bounded o.0 vs t o.2)
+  values_bounded s (v ∷ vs) t o = grind (arith, took_item, values_bounded o.0 vs t o.2)
 
   -- the first value may have taken none
   steps_bounded : (s : Situation) (vs : List T) (t : Situation) → Turns inner catches true s vs t
@@ -276,14 +242,12 @@ module _ {T : Type 0} {inner : Outcome T} {reads : Readings T} (law : Lawful T i
   each_takes : (s : Situation) (vs : List T) (t : Situation) → Turns inner catches false s vs t
       → EachTakes inner s vs t
   each_takes s [] t o = o
-  each_takes s (v ∷ vs) t o =
-      (o.0, o.1.0, took_item inner catches s o.0 v o.1, each_takes o.0 vs t o.2)
+  each_takes s (v ∷ vs) t o = grind (arith, took_item, each_takes o.0 vs t o.2)
 
   -- all but the first took an item
   later_take : (s : Situation) (vs : List T) (t : Situation) → Turns inner catches true s vs t
       → LaterTake inner s vs t
-  later_take s [] t o = o
-  later_take s (v ∷ vs) t o = (o.0, o.1.0, each_takes o.0 vs t o.2)
+  later_take s xs t o = grind (arith, each_takes)
 
   -- a repeat is bounded
   pub list_bounded : (s t : Situation) (values : List T) → ListOutcome inner catches s (Ok values) t
@@ -324,8 +288,7 @@ module _ {T : Type 0} {inner : Outcome T} {reads : Readings T} (law : Lawful T i
         steps = any_first inner false s vs run.last run.steps;
         stop = run.stop;
       })
-      answers s (Ok vs) t (rests v is o same) =
-          subst (λ values. Reads (List T) (ListReads reads) s values t) (sym is) (one_read s t v o)
+      answers s (Ok vs) t (rests v is o same) = grind (arith, one_read)
       answers s (Err e) t run = lawful_answer (list_lawful law false) s (Err e) t (record {
         values = run.values;
         last = run.last;
@@ -336,8 +299,7 @@ module _ {T : Type 0} {inner : Outcome T} {reads : Readings T} (law : Lawful T i
   -- count keeps to the laws
   pub count_lawful : Lawful ℕ (CountOutcome inner)
       (MapReads (List T) ℕ (ListReads reads) (λ values n. n ≡ length values))
-  count_lawful = made_lawful rest_lawful (λ values n. n ≡ length values) (λ s t n o. o)
-      (λ s t e o. inl o)
+  count_lawful = grind (arith, made_lawful, rest_lawful)
 
   -- last keeps to the laws
   pub last_lawful : Lawful T (LastOutcome inner) (MapReads (List T) T (ListReads reads)
@@ -395,9 +357,7 @@ not_nil us vs v e = rw (e, nil_behind vs v) refl
 pub steps_refused : {T : Type 0} (inner : Outcome T) (r : Result (Vec T) Error) (catches : Bool)
     (s t : Situation) (vs : List T) → Turns inner catches true s vs t
     → IsErrAnd r (λ e. e.0 ≡ Memory) → ManyOutcome inner catches s r t
-steps_refused inner (Err e) catches s t vs steps is =
-    record { values = vs; last = t; steps = steps; fails = inr (ap is_memory is, refl) }
-steps_refused inner (Ok v) catches s t vs steps is = absurd is
+steps_refused inner x catches s t vs steps is = grind arith
 
 -- there is no last value where there is no value
 pub none_nil : {T : Type 0} (values : List T) (o : Option T) (b : Bool) → is_some o ≡ not b

@@ -1,35 +1,33 @@
 -- How what evaluations keep is put together. No combinator builds a `Keeps` of its own: it goes
 -- through these lemmas and one for each call of a state, so that a clause can be added to the laws
 -- here.
-use Rattle.std.proofs.Common.{◌≡◌, ℕ, ◌+◌, true, ◌&&◌, ◌||◌, List, [], ◌∷◌, ◌++◌, Result, Option}
-use Rattle.std.proofs.Common.{refl, sym, ◌∙◌, ap, subst, append_assoc, append-nil, arith}
-use Rattle.std.proofs.Common.{true≢false, Bool, false, ⊎_elim, zero, suc, ◌<◌, ◌≤◌, if◌then◌else◌}
-use Rattle.std.proofs.Common.{length, map}
+use Rattle.std.proofs.Common.{arith, false, true, ◌&&◌, ◌||◌, List, ◌++◌, refl, Bool, zero, ◌≡◌, []}
+use Rattle.std.proofs.Common.{append_assoc, append-nil, true≢false, Result, Option, length, subst}
+use Rattle.std.proofs.Common.{◌+◌, ◌∷◌, sym, ◌∙◌, suc, ◌<◌, ◌≤◌, map, ap, ℕ}
 use Rattle.std.proofs.{lemmas.Bool.Decides.nat_tests, lemmas.Bool.cases_cond}
-use Rattle.std.proofs.{lemmas.List.map-append}
-use Rattle.std.specs.Prelude.{◌==◌, not, Ok, Err, None, Some}
-use Rattle.bpaf_line.specs.Situation.{Situation, Context, is_taken, is_open, in_scope, take_place}
-use Rattle.bpaf_line.specs.Situation.{with_scope, with_path, with_current, count_below, open_count}
-use Rattle.bpaf_line.specs.declared.error.Message.TheVariants.{Memory, Missing, ParseFailure}
-use Rattle.bpaf_line.specs.Messages.{Combines, CombinesSpared, can_catch, is_answer, is_memory}
+use Rattle.std.proofs.lemmas.List.{map-append}
+use Rattle.std.specs.Prelude.{◌==◌, None, Some, not, Err, Ok}
+use Rattle.bpaf_doc.specs.{Shape.shape_of, Shape.Shape, Shape.Part, declared.doc.Piece.Piece}
+use Rattle.bpaf_doc.specs.declared.meta.Meta.{Meta}
+use Rattle.bpaf_text.specs.{declared.fault.TextFault.TextFault, Meaning.ReadsText, Named.Named}
+use Rattle.bpaf_line.specs.Situation.{with_current, count_below, take_place, with_scope, open_count}
+use Rattle.bpaf_line.specs.Situation.{Situation, with_path, is_taken, in_scope, Context, is_open}
+use Rattle.bpaf_line.specs.declared.error.Message.TheVariants.{ParseFailure, Memory}
+use Rattle.bpaf_line.specs.Messages.{CombinesSpared, is_answer, is_memory, Combines}
+use Rattle.bpaf_line.proofs.Marks.{keeps_marks_current, keeps_marks_trans, keeps_marks_scope}
+use Rattle.bpaf_line.proofs.Places.{open_not_taken, open_in_line, taken_other, taken_stays}
+use Rattle.bpaf_line.proofs.Marks.{keeps_marks_refl, keeps_marks_take, keeps_marks_path}
+use Rattle.bpaf_line.proofs.Places.{taken_here}
 use Rattle.bpaf_line.specs.declared.failure.ParseFailure.{ParseFailure as Failure}
-use Rattle.bpaf_line.specs.{Taking.ConflictsSaved, declared.error.Error.Error}
-use Rattle.bpaf_line.specs.{declared.error.Message.Message, Rendering.Renders}
-use Rattle.bpaf_line.proofs.Marks.{keeps_marks_refl, keeps_marks_trans, keeps_marks_take}
-use Rattle.bpaf_line.proofs.Marks.{keeps_marks_scope, keeps_marks_path, keeps_marks_current}
-use Rattle.bpaf_line.proofs.Places.{taken_here, taken_other, taken_stays, open_not_taken}
-use Rattle.bpaf_line.proofs.Places.{open_in_line}
-use Rattle.bpaf_laws.specs.Reading.{Share, Readings, Outcome, Joins, IsEmptyShare, IsPlace, IsPair}
-use Rattle.bpaf_laws.specs.Reading.{IsAbsence, HasPlace, IsKept, ReadsValue, TellsReading}
-use Rattle.bpaf_laws.specs.Laws.{Keeps, Closes, Extends, Reads, Lawful, newly, NamesAnswer}
-use Rattle.bpaf_laws.specs.Laws.{HasSomeName, Refusal, refusal_of, told, no_memory, wanting}
-use Rattle.bpaf_laws.specs.Laws.{taken_count, CountFalls}
-use Rattle.bpaf_laws.specs.Product.{BothReads, AppendsShapes, LastDescribes}
-use Rattle.bpaf_laws.specs.Combinators.{TellsFault, FallbackOutcome, GivesClone}
-use Rattle.bpaf_laws.specs.Leaves.{FlagOutcome}
-use Rattle.bpaf_doc.specs.Shape.{Part, Shape, shape_of}
-use Rattle.bpaf_doc.specs.{declared.doc.Piece.Piece, declared.meta.Meta.Meta}
-use Rattle.bpaf_text.specs.{Named.Named, Meaning.ReadsText, declared.fault.TextFault.TextFault}
+use Rattle.bpaf_line.specs.{declared.error.Message.Message, declared.error.Error.Error}
+use Rattle.bpaf_line.specs.{Taking.ConflictsSaved, Rendering.Renders}
+use Rattle.bpaf_laws.specs.Reading.{IsEmptyShare, TellsReading, ReadsValue, IsAbsence, Readings}
+use Rattle.bpaf_laws.specs.Reading.{HasPlace, Outcome, IsPlace, IsPair, IsKept, Share, Joins}
+use Rattle.bpaf_laws.specs.Laws.{no_memory, Extends, Refusal, wanting, Closes, Lawful, Keeps, Reads}
+use Rattle.bpaf_laws.specs.Laws.{NamesAnswer, HasSomeName, taken_count, refusal_of, CountFalls}
+use Rattle.bpaf_laws.specs.Combinators.{FallbackOutcome, TellsFault, GivesClone}
+use Rattle.bpaf_laws.specs.Product.{AppendsShapes, LastDescribes, BothReads}
+use Rattle.bpaf_laws.specs.{Laws.newly, Laws.told, Leaves.FlagOutcome}
 use Rattle.bpaf_line.specs.declared.failure.ParseFailure.TheVariants as failure
 
 -- what an evaluation keeps, whatever it answers
@@ -61,8 +59,7 @@ lawful_by answers = record {
 -- and where they hold each answer is so
 pub lawful_answer : {T : Type 0} {outcome : Outcome T} {reads : Readings T}
     → Lawful T outcome reads → AnswersLawfully outcome reads
-lawful_answer law s (Ok v) t o = law.ok s t v o
-lawful_answer law s (Err e) t o = (law.err s t e o, law.named s t e o)
+lawful_answer law s x t o = grind arith
 
 -- what was read is a reading of others too, where its places are
 pub reads_as : {A B : Type 0} {reads : Readings A} {others : Readings B} {s : Situation} {v : A}
@@ -137,11 +134,7 @@ closes_trans s m t k a b p inside outside = grind (arith, k.stays, a, b)
 -- what two evaluations take, one after the other, is what both take together
 pub newly_joins : (s m t : Situation) → Keeps s m → Keeps m t
     → Joins (newly s m) (newly m t) (newly s t)
-newly_joins s m t a b =
-    record {
-      all = λ p. grind (arith, a.stays p, b.stays p);
-      apart = λ p. grind (arith, a.stays p, b.stays p);
-    }
+newly_joins s m t a b = grind arith
 
 -- what is read by one evaluation after another is read by both
 pub reads_both : {A B : Type 0} {first : Readings A} {rest : Readings B} {s m t : Situation} {x : A}
@@ -192,19 +185,12 @@ keeps_same s t same = subst (Keeps s) (sym same) (keeps_refl s)
 -- and a value that may be read off no place is read
 pub reads_same : {T : Type 0} (reads : Readings T) (s t : Situation) (v : T) → t ≡ s
     → reads s.context (newly s s) v → Reads T reads s v t
-reads_same {T} reads s t v same read =
-    subst (Reads T reads s v) (sym same)
-    (record { keeps = keeps_refl s; closed = closes_refl s; reading = read })
+reads_same reads s t v same read = grind (arith, closes_refl, keeps_refl)
 
 -- so it is where no place is current any more
 pub reads_unset : {T : Type 0} (reads : Readings T) (s t : Situation) (v : T)
     → t ≡ with_current s None → reads s.context (newly s s) v → Reads T reads s v t
-reads_unset {T} reads s t v unset read =
-    subst (Reads T reads s v) (sym unset) (record {
-      keeps = keeps_current s s None (keeps_refl s);
-      closed = closes_refl s;
-      reading = read;
-    })
+reads_unset reads s t v unset read = grind (arith, closes_refl, keeps_current, keeps_refl)
 
 -- after a place was taken it is that place that is taken, or what was
 taken_after : (s : Situation) (p q : ℕ) → is_taken (take_place s p) q ≡ (q == p || is_taken s q)
@@ -212,8 +198,7 @@ taken_after s p q = grind (arith, nat_tests, taken_here, taken_other)
 
 -- a present place of the scope is taken: that place is newly taken, and no other
 pub newly_take : (s : Situation) (p : ℕ) → is_open s p ≡ true → IsPlace p (newly s (take_place s p))
-newly_take s p there q =
-    let free = open_not_taken s p there in grind (arith, nat_tests, taken_after s p q)
+newly_take s p there q = grind (arith, nat_tests, open_not_taken, taken_after)
 
 -- and all else is kept
 pub keeps_take : (s : Situation) (p : ℕ) → is_open s p ≡ true → Keeps s (take_place s p)
@@ -279,9 +264,7 @@ names_want m want = tt
 pub names_fault : {E : Type 0} (shown : E → Option (List ℕ)) (fault : E)
     (refusal : List ℕ → Message) (m : Message) → ((text : List ℕ) → NamesAnswer (refusal text))
     → TellsFault shown fault refusal m → NamesAnswer m
-names_fault shown fault refusal m names tells =
-    ⊎_elim (λ want. names_same m Memory tt want)
-    (λ told. names_same m (refusal told.0) (names told.0) told.1) tells
+names_fault shown fault refusal m names tells = grind (arith, names_same)
 
 -- the refusal of a key that is nowhere
 pub names_absence : (s : Situation) (part : Option Part) (envs : List (List ℕ)) (m : Message)
@@ -291,20 +274,12 @@ names_absence s part envs m absent = grind arith
 -- two refusals combined, neither of which is want of memory
 names_spared : (first second both : Message) → NamesAnswer first → NamesAnswer second
     → CombinesSpared first second both → NamesAnswer both
-names_spared (ParseFailure f) second both one other o = names_same both (ParseFailure f) one o
-names_spared first (ParseFailure f) both one other o = names_same both (ParseFailure f) other o
-names_spared (Missing items) (Missing others) both one other o =
-    ⊎_elim (λ all. names_same both (Missing _) tt all) (λ want. names_same both Memory tt want) o
-names_spared first second both one other o =
-    ⊎_elim (names_same both second other) (names_same both first one)
-    (cases_cond (can_catch first) second first both o)
+names_spared first second both one other o = grind (arith, cases_cond, names_same)
 
 -- two refusals combined
 pub names_combined : (first second both : Message) → NamesAnswer first → NamesAnswer second
     → Combines first second both → NamesAnswer both
-names_combined first second both one other o =
-    ⊎_elim (λ want. names_same both Memory tt want.1)
-    (λ spared. names_spared first second both one other spared.1) o
+names_combined first second both one other o = grind (arith, names_same, names_spared)
 
 -- each message but the answer of an inner run has a name
 pub name_of : (m : Message) → is_answer m ≡ false → (name : Refusal) × (refusal_of m ≡ Some name)
@@ -320,8 +295,7 @@ shows_nothing m s doc full other tells = grind arith
 pub told_has_name : (m : Message) (s : Situation) (f : Failure) → is_answer m ≡ false
     → Renders m s f → HasSomeName f
 told_has_name m s failure.Memory plain tells = (no_memory, wanting)
-told_has_name m s (failure.Stdout doc full) plain tells =
-    absurd (shows_nothing m s doc full plain tells)
+told_has_name m s (failure.Stdout doc full) plain tells = grind (arith, shows_nothing)
 told_has_name m s (failure.Stderr doc) plain tells =
     let named : (name : Refusal) × (refusal_of m ≡ Some name) = name_of m plain in
     (named.0, told named.0 m s doc named.1 tells)
@@ -333,10 +307,7 @@ pub count_below-joined : (whole f g : ℕ → Bool) (n : ℕ) → ((p : ℕ) →
     → ((p : ℕ) → (f p && g p) ≡ false) → count_below whole n ≡ count_below f n + count_below g n
 count_below-joined whole f g zero all apart = refl
 count_below-joined whole f g (suc n) all apart =
-    let here = all n in
-    let not_both = apart n in
-    let before = count_below-joined whole f g n all apart in
-    grind arith
+    grind (arith, count_below-joined whole f g n all apart)
 
 -- what is present at first is present still, or newly taken
 pub open_joins : (s t : Situation) → Keeps s t → Closes s t → Joins (is_open t) (newly s t) (is_open s)
@@ -358,8 +329,7 @@ open_count-falls s t k c =
 -- so it does for every parser that keeps to the laws
 pub lawful_falls : {T : Type 0} {outcome : Outcome T} {reads : Readings T} → Lawful T outcome reads
     → CountFalls outcome
-lawful_falls law s t v answered =
-    let read = law.ok s t v answered in open_count-falls s t read.keeps read.closed
+lawful_falls law s t v answered = grind (arith, open_count-falls)
 
 -- a set without numbers below n lacks each of them
 pub none_below : (set : ℕ → Bool) (n : ℕ) → count_below set n ≡ 0 → (p : ℕ) → p < n → set p ≡ false
@@ -369,12 +339,7 @@ none_below set (suc n) e p within = grind (arith, none_below set n)
 -- a set with some numbers below n has one
 some_below : (set : ℕ → Bool) (n : ℕ) → 0 < count_below set n → HasPlace set
 some_below set zero some = absurd (omega arith)
-some_below set (suc n) some = at (set n) refl some (some_below set n)
-  where
-    at : (b : Bool) → set n ≡ b → 0 < (if b then (count_below set n + 1) else (count_below set n))
-        → (0 < count_below set n → HasPlace set) → HasPlace set
-    at true here more below = (n, here)
-    at false lacking more below = below more
+some_below set (suc n) some = grind (arith, some_below set n)
 
 -- an evaluation that left fewer present places took one
 pub fewer_took : (s t : Situation) → Keeps s t → Closes s t → open_count t < open_count s

@@ -1,32 +1,30 @@
--- Flags, items that a look matches, the program's name and leaves that look at no item keep to the
--- laws.
-use Rattle.std.proofs.Common.{◌≡◌, Bool, true, false, Option, sym, subst, inl, inr, arith, ℕ, ◌+◌}
-use Rattle.std.proofs.Common.{List, [], ◌∷◌, refl, ◌⊎◌, Some, option_map, if◌then◌else◌, String}
-use Rattle.std.proofs.Common.{⊎_elim}
-use Rattle.std.proofs.lemmas.List.Elements.{All-nil, All-cons, All-take, All-contains}
-use Rattle.std.proofs.lemmas.List.Elements.{Contains-append_right}
-use Rattle.std.specs.{Prelude.Ok, Prelude.Err, Prelude.All, Prelude.Contains, List.filter_map}
-use Rattle.std.specs.{List.cons_option, declared.alloc.Global.Global}
+-- Flags, items that a look matches, the program's name and leaves without items keep to the laws.
+use Rattle.std.proofs.Common.{if◌then◌else◌, option_map, Option, String, ⊎_elim, false, subst, Bool}
+use Rattle.std.proofs.Common.{arith, true, List, refl, Some, ◌≡◌, sym, inl, inr, ◌+◌, ◌∷◌, ◌⊎◌, []}
+use Rattle.std.proofs.lemmas.List.Elements.{Contains-append_right, All-contains, All-cons, All-take}
+use Rattle.std.proofs.{lemmas.List.Elements.All-nil, Common.ℕ}
+use Rattle.std.specs.Prelude.{Contains, Err, All, Ok}
+use Rattle.std.specs.{List.cons_option, List.filter_map, declared.alloc.Global.Global}
+use Rattle.bpaf_base.specs.{Items.is_attached, Items.is_key_of, declared.arg.Arg.Arg}
 use Rattle.bpaf_doc.specs.{Names.Names, Shape.Part}
-use Rattle.bpaf_text.specs.Named.{Named, flag_part}
-use Rattle.bpaf_line.specs.Situation.{Situation, is_open, item_at, take_place}
-use Rattle.bpaf_line.specs.declared.error.Message.TheVariants.{Memory, ParseFailure, Missing}
-use Rattle.bpaf_line.specs.declared.error.Message.TheVariants.{ParseFail}
-use Rattle.bpaf_line.specs.Taking.{TakesFlag, placed_item, open_item}
+use Rattle.bpaf_text.specs.Named.{flag_part, Named}
+use Rattle.bpaf_line.specs.Situation.{take_place, Situation, is_open, item_at}
+use Rattle.bpaf_line.specs.declared.error.Message.TheVariants.{ParseFailure, ParseFail, Missing}
+use Rattle.bpaf_line.specs.Taking.{placed_item, TakesFlag, open_item}
+use Rattle.bpaf_line.specs.declared.error.Message.TheVariants.{Memory}
 use Rattle.bpaf_line.specs.declared.error.Message.{Message}
-use Rattle.bpaf_base.specs.{Items.is_key_of, Items.is_attached, declared.arg.Arg.Arg}
-use Rattle.bpaf_line.proofs.Places.{match_is_open, match_has_item, open_item_there}
-use Rattle.bpaf_laws.specs.Laws.{Keeps, Reads, Lawful, NamesAnswer}
-use Rattle.bpaf_laws.specs.Leaves.{FlagReads, at_key, nowhere, FlagOutcome, FlagFails, IsPresent}
-use Rattle.bpaf_laws.specs.Leaves.{Looks, AnyReads, AnyOutcome, AnyFails, FirstMatch, looked_at}
-use Rattle.bpaf_laws.specs.Leaves.{take_item, AppnameOutcome, AppnameReads}
-use Rattle.bpaf_laws.specs.Reading.{Readings, Share, IsPair, IsPlace}
-use Rattle.bpaf_laws.specs.Combinators.{GivesRefusal, PureOutcome, PureReads, PureWithOutcome}
-use Rattle.bpaf_laws.specs.Combinators.{Gives, NamesGiven}
-use Rattle.bpaf_laws.proofs.Keeping.{AnswersLawfully, lawful_by, keeps_same, keeps_take, reads_same}
-use Rattle.bpaf_laws.proofs.Keeping.{closes_take, newly_none, names_absence, newly_take}
-use Rattle.bpaf_laws.proofs.Keeping.{keeps_trans, closes_take_both, newly_take_both, names_same}
-use Rattle.bpaf_laws.proofs.Keeping.{keeps_unset, reads_unset}
+use Rattle.bpaf_line.proofs.Places.{open_item_there, match_has_item, match_is_open}
+use Rattle.bpaf_laws.specs.Leaves.{AppnameOutcome, AppnameReads, FlagOutcome, AnyOutcome, FlagReads}
+use Rattle.bpaf_laws.specs.Leaves.{FirstMatch, FlagFails, IsPresent, looked_at, take_item, AnyReads}
+use Rattle.bpaf_laws.specs.Combinators.{PureWithOutcome, GivesRefusal, PureOutcome, NamesGiven}
+use Rattle.bpaf_laws.proofs.Keeping.{closes_take_both, AnswersLawfully, newly_take_both, keeps_same}
+use Rattle.bpaf_laws.proofs.Keeping.{reads_unset, keeps_take, reads_same, newly_none, newly_take}
+use Rattle.bpaf_laws.proofs.Keeping.{names_absence, closes_take, keeps_trans, keeps_unset}
+use Rattle.bpaf_laws.specs.Reading.{Readings, IsPlace, IsPair, Share}
+use Rattle.bpaf_laws.specs.Leaves.{AnyFails, nowhere, at_key, Looks}
+use Rattle.bpaf_laws.specs.Laws.{NamesAnswer, Lawful, Keeps, Reads}
+use Rattle.bpaf_laws.specs.Combinators.{PureReads, Gives}
+use Rattle.bpaf_laws.proofs.Keeping.{names_same, lawful_by}
 
 -- what looking for a flag keeps
 pub flag_keeps : (names : Names) (s : Situation) (found : Bool) (t : Situation)
@@ -100,8 +98,7 @@ placed_more s p items at is all = grind (arith, All-cons (IsPlaced s))
 all_placed : (s : Situation) (places : List ℕ)
     → All (IsPlaced s) (filter_map (placed_item s) places)
 all_placed s [] = All-nil (IsPlaced s)
-all_placed s (p ∷ places) =
-    placed_more s p (filter_map (placed_item s) places) (open_item s p) refl (all_placed s places)
+all_placed s (p ∷ places) = grind (arith, placed_more, all_placed s places)
 
 -- so are those that are looked at
 looked_placed : (s : Situation) (anywhere : Bool) → All (IsPlaced s) (looked_at anywhere s)

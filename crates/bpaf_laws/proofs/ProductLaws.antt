@@ -1,13 +1,13 @@
 -- Products keep to the laws where their fields do, and catch no want of memory.
-use Rattle.std.specs.Prelude.{true, false, Result, Ok, Err, None, if◌then◌else◌}
-use Rattle.std.proofs.Common.{inl, inr, subst, arith}
-use Rattle.bpaf_line.specs.{Situation.Situation, Messages.is_memory, declared.error.Error.Error}
-use Rattle.bpaf_laws.proofs.Keeping.{AnswersLawfully, LawfulAnswer, lawful_answer, lawful_by}
-use Rattle.bpaf_laws.proofs.Keeping.{reads_both, keeps_trans, keeps_current}
-use Rattle.bpaf_laws.specs.Product.{BothReads, BothEval, BothOutcome, FailFastOutcome, joined}
-use Rattle.bpaf_laws.specs.Product.{ProductOutcome}
-use Rattle.bpaf_laws.specs.Laws.{Lawful, IsNotMemory, Spares, WithoutMemory}
-use Rattle.bpaf_laws.specs.{Combinators.MapReads, Reading.Readings, Reading.Outcome}
+use Rattle.std.proofs.Common.{subst, arith, inl, inr}
+use Rattle.std.specs.Prelude.{if◌then◌else◌, Result, false, true, Err, Ok}
+use Rattle.bpaf_line.specs.{declared.error.Error.Error, Situation.Situation, Messages.is_memory}
+use Rattle.bpaf_laws.proofs.Keeping.{AnswersLawfully, lawful_answer, keeps_current, LawfulAnswer}
+use Rattle.bpaf_laws.specs.Product.{FailFastOutcome, ProductOutcome, BothOutcome, BothReads, joined}
+use Rattle.bpaf_laws.proofs.Keeping.{keeps_trans, reads_both, lawful_by}
+use Rattle.bpaf_laws.specs.Laws.{WithoutMemory, IsNotMemory, Lawful, Spares}
+use Rattle.bpaf_laws.specs.{Reading.Readings, Reading.Outcome, Combinators.MapReads}
+use Rattle.bpaf_laws.specs.Product.{BothEval}
 
 module _ {A B : Type 0} {first : Outcome A} {rest : Outcome B} {rf : Readings A} {rr : Readings B}
     (la : Lawful A first rf) (lb : Lawful B rest rr) where
@@ -31,9 +31,7 @@ module _ {A B : Type 0} {first : Outcome A} {rest : Outcome B} {rf : Readings A}
 
   -- also where want of memory is the answer at once
   both_answers : AnswersLawfully (BothOutcome first rest) (BothReads A B rf rr)
-  both_answers s (Ok v) t o = both_ran s (Ok v) t o
-  both_answers s (Err e) t (inl o) = both_ran s (Err e) t o
-  both_answers s (Err e) t (inr stopped) = lawful_answer la s (Err e) t stopped.0
+  both_answers s x t o = grind (arith, both_ran, lawful_answer)
 
   -- fields that keep to the laws keep to them together
   pub both_lawful : Lawful (A × B) (BothOutcome first rest) (BothReads A B rf rr)
@@ -53,18 +51,7 @@ module _ {A B : Type 0} {first : Outcome A} {rest : Outcome B} {rf : Readings A}
 pub product_lawful : {V T : Type 0} {fields : Outcome V} {reads : Readings V}
     (makes : V → T → Type 0) → Lawful V fields reads
     → Lawful T (ProductOutcome fields makes) (MapReads V T reads makes)
-product_lawful {V} {T} {fields} {reads} makes l = lawful_by answers
-  where
-    answers : AnswersLawfully (ProductOutcome fields makes) (MapReads V T reads makes)
-    answers s (Ok v) t o =
-        let r = l.ok s o.0 o.1 o.2 in
-        rw o.4 (record {
-          keeps = keeps_current s o.0 None r.keeps;
-          closed = r.closed;
-          reading = record { from = o.1; read = r.reading; made = o.3 };
-        })
-    answers s (Err e) t o =
-        rw o.2 (keeps_current s o.0 None (l.err s o.0 e o.1), l.named s o.0 e o.1)
+product_lawful makes l = grind (arith, AnswersLawfully, keeps_current, lawful_by)
 
 -- what isn't want of memory comes of others that isn't either
 rest_spared : {A B : Type 0} (a : Result A Error) (b : Result B Error) → IsNotMemory (joined a b)

@@ -1,24 +1,23 @@
 -- Which short names each type shows, by those that its inner parsers show.
-use Rattle.std.proofs.Common.{◌≡◌, List, [], ◌∷◌, ◌++◌, ℕ, Option, Some, None, refl, ap, ap₂}
-use Rattle.std.proofs.Common.{Result, ◌∙◌, append_assoc, append-nil, arith}
+use Rattle.std.proofs.Common.{append_assoc, append-nil, Option, Result, arith, List, ◌++◌, refl, []}
+use Rattle.std.proofs.Common.{◌≡◌, ◌∷◌, ap₂, ◌∙◌, ap, ℕ}
 use Rattle.std.proofs.lemmas.List.Concat.{flat_map-append}
 use Rattle.std.specs.declared.alloc.AllocError.{AllocError}
-use Rattle.bpaf_doc.specs.Shape.{Adjacent, Shown, Shape, Shapes, Or, Optional, Required, Many, Part}
-use Rattle.bpaf_doc.specs.Shape.{Suffix, Subsection, CustomUsage, none, ◌then◌, members, shape_of}
-use Rattle.bpaf_doc.specs.Shape.{alternatives, shapes_of, parts, parts_of_all, shorts_of_argument}
-use Rattle.bpaf_doc.specs.Shape.{shorts_of_flag}
-use Rattle.bpaf_doc.specs.{declared.meta.MetaInfo.MetaInfo, declared.doc.Piece.Piece}
+use Rattle.bpaf_doc.specs.Shape.{shorts_of_argument, shorts_of_flag, alternatives, parts_of_all, Or}
+use Rattle.bpaf_doc.specs.Shape.{shape_of, members, Shapes, ◌then◌, Shown, Shape, parts, Many, Part}
+use Rattle.bpaf_doc.specs.Shape.{CustomUsage, Subsection, shapes_of, Adjacent, Optional, Required}
+use Rattle.bpaf_doc.specs.{declared.meta.MetaInfo.MetaInfo, declared.doc.Piece.Piece, Shape.none}
 use Rattle.bpaf_words.specs.Line.{ShortNames}
 use Rattle.bpaf_text.specs.Named.{KeyWithValue, Named}
-use Rattle.bpaf_laws.specs.Choice.{ChoiceDescribes, either_shape, ChoicesDescribes, Nested}
-use Rattle.bpaf_laws.specs.Combinators.{DefaultDescribes, OptionalDescribes, SectionDescribes}
-use Rattle.bpaf_laws.specs.Combinators.{TitledDescribes, UsageDescribes, usage_pieces}
-use Rattle.bpaf_laws.specs.Combinators.{ManyDescribes, SomeDescribes}
-use Rattle.bpaf_laws.specs.Product.{BothDescribes, LastDescribes, ProductDescribes}
-use Rattle.bpaf_laws.specs.Laws.{FieldsShowNames, ShowsNames, all_shorts, joined_shorts}
-use Rattle.bpaf_laws.specs.Laws.{of_arguments, of_flags, shorts_of}
-use Rattle.bpaf_laws.specs.Leaves.{argument_shape, flag_shape}
-use Rattle.bpaf_laws.specs.{Adjacent.GroupDescribes, Command.Called, Command.CommandDescribes}
+use Rattle.bpaf_laws.specs.Choice.{ChoicesDescribes, ChoiceDescribes, either_shape, Nested}
+use Rattle.bpaf_laws.specs.Combinators.{OptionalDescribes, DefaultDescribes, SectionDescribes}
+use Rattle.bpaf_laws.specs.Combinators.{TitledDescribes, UsageDescribes, ManyDescribes}
+use Rattle.bpaf_laws.specs.Laws.{FieldsShowNames, joined_shorts, of_arguments, ShowsNames, of_flags}
+use Rattle.bpaf_laws.specs.Product.{ProductDescribes, BothDescribes, LastDescribes}
+use Rattle.bpaf_laws.specs.Combinators.{SomeDescribes, usage_pieces}
+use Rattle.bpaf_laws.specs.{Leaves.argument_shape, Leaves.flag_shape, Adjacent.GroupDescribes}
+use Rattle.bpaf_laws.specs.Command.{CommandDescribes, Called}
+use Rattle.bpaf_laws.specs.Laws.{all_shorts, shorts_of}
 
 -- a parser of one shape, of these names
 pub one_shape : {shape : Shape} {names : ShortNames} → shorts_of (parts shape) ≡ names
@@ -60,8 +59,7 @@ module _ {inner : Shape → Type 0} {names : ShortNames} (inside : ShowsNames in
   -- what has a default
   pub default_shows : (shown : Option (List Piece))
       → ShowsNames (DefaultDescribes inner shown) names
-  default_shows None = optional_shows
-  default_shows (Some text) = around (λ shape. Suffix (Optional shape) text) (λ shape. refl)
+  default_shows x = grind (arith, around, optional_shows)
 
   -- what has a usage text of its own
   pub usage_shows : (usage : Option (List Piece)) → ShowsNames (UsageDescribes inner usage) names

@@ -36,8 +36,7 @@ module _ {T : Type 0} (inner : Outcome T) where
   steps_spared : (catches first : Bool) (s : Situation) (vs : List T) (t : Situation)
       → Turns inner catches first s vs t → Turns (WithoutMemory inner) catches first s vs t
   steps_spared catches first s [] t o = o
-  steps_spared catches first s (v ∷ vs) t o =
-      (o.0, ((o.1.0, tt), o.1.1), steps_spared catches false o.0 vs t o.2)
+  steps_spared catches first s (v ∷ vs) t o = grind (arith, steps_spared catches false o.0 vs t o.2)
 
   -- so are those until one stops
   until_stop_spared : (catches first : Bool) (s : Situation) (vs : List T) (t : Situation)
@@ -74,12 +73,9 @@ module _ {T : Type 0} (inner : Outcome T) where
   -- nor does collect
   pub spared_collect : {C : Type 0} (catches : Bool) (fills : List T → C → Type 0)
       → CatchesNoMemory (λ outcome. CollectOutcome outcome catches fills) inner
-  spared_collect catches fills s t (Ok v) o spared =
-      (o.0, until_stop_spared catches true s o.0 t o.1, o.2)
-  spared_collect catches fills s t (Err e) (inl failed) spared =
-      inl (until_error_spared catches true s e t failed spared)
-  spared_collect catches fills s t (Err e) (inr refused) spared =
-      absurd (both_ways (is_memory e.0) spared refused.2)
+  spared_collect catches fills s t (Ok v) o spared = grind (arith, until_stop_spared)
+  spared_collect catches fills s t (Err e) (inl failed) spared = grind (arith, until_error_spared)
+  spared_collect catches fills s t (Err e) (inr refused) spared = grind (arith, both_ways)
 
   -- nor does a run that stopped or rested
   until_rest_spared : (s : Situation) (vs : List T) (t : Situation) → UntilRest inner s vs t
@@ -95,9 +91,6 @@ module _ {T : Type 0} (inner : Outcome T) where
   -- nor does last
   pub spared_last : CatchesNoMemory (λ outcome. LastOutcome outcome) inner
   spared_last s t (Ok v) (inl run) spared = inl (run.0, until_rest_spared s _ t run.1)
-  spared_last s t (Ok v) (inr again) spared =
-      inr (again.0, until_rest_spared s [] again.0 again.1, (again.2, tt))
-  spared_last s t (Err e) (inl fault) spared =
-      inl (until_error_spared false false s e t fault spared)
-  spared_last s t (Err e) (inr again) spared =
-      inr (again.0, until_rest_spared s [] again.0 again.1, (again.2, spared))
+  spared_last s t (Ok v) (inr again) spared = grind (arith, until_rest_spared)
+  spared_last s t (Err e) (inl fault) spared = grind (arith, until_error_spared)
+  spared_last s t (Err e) (inr again) spared = grind (arith, until_rest_spared)

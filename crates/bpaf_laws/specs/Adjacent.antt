@@ -50,8 +50,7 @@ abbrev pub taken_by : Situation → Option Failure → ℕ
 taken_by s None = 0
 taken_by s (Some failure) = taken_count s failure.left
 
--- of the longest failure until now and a later one that which took more places; of equals the
--- former
+-- of the longest failure until now and a later one that which took more; of equals the former
 abbrev pub longer : Situation → Option Failure → Failure → Option Failure
 longer s best other = if nat_lt (taken_by s best)
     (taken_count s other.left) then Some other else best

@@ -49,8 +49,7 @@ Winner first second (wins, None) r t = Stands first r t
 Winner first second (true, Some place) r t = WonBy first second place r t
 Winner first second (false, Some place) r t = WonBy second first place r t
 
--- the value of the branch that took the leftmost place taken by only one of them; without such a
--- place it is the first
+-- the value of the branch that took the leftmost place taken by only one; without one, of the first
 abbrev pub ValueOfWinner : {T : Type 0} → AnsweredBranch T → AnsweredBranch T → Result T Error
     → Situation → Type 0
 ValueOfWinner first second r t =
@@ -154,8 +153,7 @@ abbrev pub LeftmostWins : {T : Type 0} → Outcome T → Outcome T → Outcome T
 LeftmostWins first second s (Ok v) t = LeftmostIsChosen first second s v t
 LeftmostWins first second s (Err e) t = ChoiceOutcome first second s (Err e) t
 
--- choices of two, nested to the left: what stands before, chosen against the meaning of each parser
--- in turn
+-- choices of two, nested to the left: what stands before against the meaning of each in turn
 abbrev pub Nested : {A : Type 1} {P : Type 0} → (A → A → A) → (P → A) → A → List P → A
 Nested choice meaning before [] = before
 Nested choice meaning before (p ∷ ps) = Nested choice meaning (choice before (meaning p)) ps
@@ -164,8 +162,7 @@ Nested choice meaning before (p ∷ ps) = Nested choice meaning (choice before (
 abbrev pub no_choice : List ℕ
 no_choice = codes "Invalid choice usage"
 
--- the choice of all parsers: of one, whatever that answers, also its refusals; without parsers a
--- refusal
+-- the choice of all parsers: of one, whatever that answers, its refusals too; of none a refusal
 abbrev pub ChoicesOutcome : {T P : Type 0} → (P → Outcome T) → List P → Outcome T
 ChoicesOutcome outcome [] = PureOutcome (GivesRefusal no_choice)
 ChoicesOutcome outcome (p ∷ ps) = Nested ChoiceOutcome outcome (outcome p) ps

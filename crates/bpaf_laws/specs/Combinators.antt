@@ -1,22 +1,21 @@
 -- Combinators over one inner parser: what changes its value, what stands in for one, repeats, and
 -- what is shown otherwise; and leaves that look at no item.
-use Rattle.std.specs.Prelude.{◌≡◌, ◌⊎◌, ℕ, Bool, true, false, List, Result, Ok, Err, Option, IfSome}
-use Rattle.std.specs.Prelude.{◌==◌, ◌<◌, ◌≤◌, not, ◌&&◌, ◌||◌, Some, None, ◌++◌, String, codes}
-use Rattle.std.specs.Prelude.{string_bytes, ◌+◌, [], ◌∷◌, length, ⊤}
-use Rattle.std.specs.declared.alloc.AllocError.{AllocError}
-use Rattle.std.specs.{declared.alloc.Global.Global, Global.Vec}
-use Rattle.bpaf_line.specs.declared.error.Message.TheVariants.{Memory, ParseFailed, GuardFailed}
-use Rattle.bpaf_line.specs.declared.error.Message.TheVariants.{Missing, PureFailed, ParseFail}
-use Rattle.bpaf_line.specs.declared.error.Message.TheVariants.{ParseSome}
-use Rattle.bpaf_line.specs.Situation.{Context, Situation, open_count, with_current}
-use Rattle.bpaf_line.specs.Messages.{is_memory, can_catch, is_wrong_input}
-use Rattle.bpaf_line.specs.{declared.error.Message.Message, declared.error.Error.Error}
-use Rattle.bpaf_laws.specs.Reading.{Share, Readings, Outcome, IsEmptyShare, Joins, HasPlace}
+use Rattle.std.specs.Prelude.{string_bytes, Result, Option, IfSome, String, length, false, codes, ℕ}
+use Rattle.std.specs.Prelude.{Bool, true, List, ◌==◌, ◌&&◌, ◌||◌, Some, None, ◌++◌, ◌≡◌, ◌⊎◌, Err}
+use Rattle.std.specs.Prelude.{◌<◌, ◌≤◌, not, ◌+◌, ◌∷◌, Ok, [], ⊤}
+use Rattle.std.specs.{declared.alloc.AllocError.AllocError, declared.alloc.Global.Global}
+use Rattle.std.specs.Global.{Vec}
+use Rattle.bpaf_doc.specs.Shape.{CustomUsage, Subsection, Optional, Required, shape_of, Suffix}
+use Rattle.bpaf_doc.specs.{declared.meta.MetaInfo.MetaInfo, declared.doc.Piece.Piece}
+use Rattle.bpaf_doc.specs.{Shape.Shape, Shape.Many, Print.TextPieces}
+use Rattle.bpaf_line.specs.declared.error.Message.TheVariants.{ParseFailed, GuardFailed, PureFailed}
+use Rattle.bpaf_line.specs.declared.error.Message.TheVariants.{ParseFail, ParseSome, Missing}
+use Rattle.bpaf_line.specs.Situation.{with_current, open_count, Situation, Context}
+use Rattle.bpaf_line.specs.Messages.{is_wrong_input, is_memory, can_catch}
+use Rattle.bpaf_line.specs.{declared.error.Message.TheVariants.Memory, declared.error.Error.Error}
+use Rattle.bpaf_line.specs.declared.error.Message.{Message}
+use Rattle.bpaf_laws.specs.Reading.{IsEmptyShare, Readings, HasPlace, Outcome, Share, Joins}
 use Rattle.bpaf_laws.specs.Laws.{NamesAnswer}
-use Rattle.bpaf_doc.specs.Shape.{Shape, Optional, Suffix, Many, Required, CustomUsage, Subsection}
-use Rattle.bpaf_doc.specs.Shape.{shape_of}
-use Rattle.bpaf_doc.specs.Print.{TextPieces}
-use Rattle.bpaf_doc.specs.{declared.doc.Piece.Piece, declared.meta.MetaInfo.MetaInfo}
 
 -- a refusal with the text of a fault; or want of memory for the text
 abbrev pub TellsFault : {E : Type 0} → (E → Option (List ℕ)) → E → (List ℕ → Message) → Message
@@ -299,8 +298,7 @@ abbrev pub LaterTake : {T : Type 0} → Outcome T → Situation → List T → S
 LaterTake inner s [] t = s ≡ t
 LaterTake inner s (v ∷ vs) t = (m : Situation) × inner s (Ok v) m × EachTakes inner m vs t
 
--- at most one value more than the items present at the start, and each value but the first took an
--- item
+-- at most one value more than items present at the start, and each value but the first took an item
 abbrev pub IsBounded : {T : Type 0} → Outcome T → Situation → List T → Type 0
 IsBounded inner s values =
     (length values ≤ open_count s + 1) × ((m : Situation) × LaterTake inner s values m)

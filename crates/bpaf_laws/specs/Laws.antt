@@ -1,19 +1,18 @@
 -- What every parser keeps to, whatever it parses: its answers, the names of its refusals and of
 -- its keys, counts of places, and want of memory, which is caught nowhere.
-use Rattle.std.specs.Prelude.{◌≡◌, false, List, ◌++◌, codes, ⊤, ℕ, Bool, Option, Some, None, true}
-use Rattle.std.specs.Prelude.{not, ◌&&◌, Ok, Err, ◌+◌, length, ◌⊎◌, Result, []}
+use Rattle.std.specs.Prelude.{Option, length, Result, false, codes, List, ◌++◌, Bool, Some, None, ⊤}
+use Rattle.std.specs.Prelude.{true, ◌&&◌, ◌≡◌, not, Err, ◌+◌, ◌⊎◌, Ok, [], ℕ}
 use Rattle.std.specs.List.{flat_map}
-use Rattle.bpaf_doc.specs.Shape.{Shape, Part, members, parts, parts_of_all, shorts_of_arguments}
-use Rattle.bpaf_doc.specs.Shape.{shorts_of_flags}
-use Rattle.bpaf_doc.specs.{declared.doc.Piece.Piece, Print.printed, Print.Print, Print.Prints}
-use Rattle.bpaf_line.specs.declared.failure.ParseFailure.{ParseFailure}
-use Rattle.bpaf_line.specs.Situation.{Situation, is_taken, is_open, in_scope, count_below}
-use Rattle.bpaf_line.specs.Situation.{open_count}
-use Rattle.bpaf_line.specs.{declared.error.Message.Message, Rendering.Renders, Marks.KeepsMarks}
-use Rattle.bpaf_line.specs.{declared.error.Error.Error, Messages.is_memory}
-use Rattle.bpaf_pages.specs.Help.{PageTexts, help_text}
-use Rattle.bpaf_laws.specs.Reading.{Share, Readings, Outcome}
+use Rattle.bpaf_doc.specs.Shape.{shorts_of_arguments, shorts_of_flags, parts_of_all, members, Shape}
+use Rattle.bpaf_doc.specs.{Print.printed, Print.Prints, Print.Print, declared.doc.Piece.Piece}
+use Rattle.bpaf_doc.specs.Shape.{parts, Part}
 use Rattle.bpaf_words.specs.Line.{ShortNames}
+use Rattle.bpaf_line.specs.Situation.{count_below, open_count, Situation, is_taken, in_scope}
+use Rattle.bpaf_line.specs.{declared.failure.ParseFailure.ParseFailure, declared.error.Error.Error}
+use Rattle.bpaf_line.specs.{declared.error.Message.Message, Messages.is_memory, Situation.is_open}
+use Rattle.bpaf_line.specs.{Rendering.Renders, Marks.KeepsMarks}
+use Rattle.bpaf_laws.specs.Reading.{Readings, Outcome, Share}
+use Rattle.bpaf_pages.specs.Help.{PageTexts, help_text}
 use Rattle.bpaf_line.specs.declared.failure.ParseFailure.TheVariants as failure
 use Rattle.bpaf_line.specs.declared.error.Message.TheVariants as message
 

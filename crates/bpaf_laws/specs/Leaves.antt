@@ -1,22 +1,21 @@
 -- Flags, arguments, items by their text, and the name of the program.
-use Rattle.std.specs.Prelude.{◌≡◌, ◌≢◌, ◌⊎◌, ℕ, ◌+◌, Bool, true, false, List, ◌∷◌, ◌++◌, take, All}
-use Rattle.std.specs.Prelude.{if◌then◌else◌, Ok, Err, Option, Some, None, [], IfSome, codes}
-use Rattle.std.specs.Prelude.{slice_get, string_bytes, String, zero, suc, ◌≤◌, ◌||◌, Result}
-use Rattle.std.specs.Prelude.{option_and_then, ◌<◌, ⊤}
-use Rattle.std.specs.{declared.alloc.Global.Global, Option.option_map_or, Option.IsSomeRelated}
-use Rattle.bpaf_doc.specs.Shape.{Part, Shape, Shown, Skip, Optional}
+use Rattle.std.specs.Prelude.{option_and_then, if◌then◌else◌, string_bytes, slice_get, Option, Bool}
+use Rattle.std.specs.Prelude.{IfSome, String, Result, false, codes, true, List, ◌++◌, take, Some, ℕ}
+use Rattle.std.specs.Prelude.{None, zero, ◌||◌, ◌≡◌, ◌≢◌, ◌⊎◌, ◌+◌, ◌∷◌, All, Err, suc, ◌≤◌, ◌<◌, ⊤}
+use Rattle.std.specs.{Option.option_map_or, Option.IsSomeRelated, declared.alloc.Global.Global}
+use Rattle.std.specs.Prelude.{Ok, []}
+use Rattle.bpaf_base.specs.Items.{is_argument_key, is_attached, value_text, item_text, is_key_of}
 use Rattle.bpaf_base.specs.declared.arg.Arg.{Arg}
-use Rattle.bpaf_base.specs.Items.{item_text, is_attached, is_argument_key, value_text, is_key_of}
-use Rattle.bpaf_line.specs.Situation.{Situation, Context, item_in, is_open, take_place}
-use Rattle.bpaf_line.specs.Situation.{with_current}
-use Rattle.bpaf_line.specs.declared.error.Message.TheVariants.{Memory, Missing, ParseFailed}
-use Rattle.bpaf_line.specs.declared.error.Message.TheVariants.{NoArgument}
-use Rattle.bpaf_line.specs.Taking.{IsMissingIn, open_items, TakesValue, RefusesArgument, HasNone}
-use Rattle.bpaf_line.specs.Taking.{TakesFlag, is_match, value_after, IsFirst}
-use Rattle.bpaf_line.specs.{declared.error.Message.Message, declared.error.Error.Error}
-use Rattle.bpaf_laws.specs.Reading.{Share, Outcome, IsPlace, IsPair, Readings, IsEmptyShare}
-use Rattle.bpaf_laws.specs.Reading.{HasItem, first_set, IsAbsence, FaultsText, is_set}
-use Rattle.bpaf_text.specs.Named.{KeyWithValue, argument_part, Named, flag_part}
+use Rattle.bpaf_doc.specs.Shape.{Optional, Shape, Shown, Part, Skip}
+use Rattle.bpaf_text.specs.Named.{argument_part, KeyWithValue, flag_part, Named}
+use Rattle.bpaf_line.specs.Situation.{with_current, take_place, Situation, Context, item_in}
+use Rattle.bpaf_line.specs.declared.error.Message.TheVariants.{ParseFailed, NoArgument, Missing}
+use Rattle.bpaf_line.specs.Taking.{RefusesArgument, IsMissingIn, value_after, open_items, TakesFlag}
+use Rattle.bpaf_line.specs.Taking.{TakesValue, is_match, HasNone, IsFirst}
+use Rattle.bpaf_line.specs.{declared.error.Message.TheVariants.Memory, declared.error.Error.Error}
+use Rattle.bpaf_line.specs.{declared.error.Message.Message, Situation.is_open}
+use Rattle.bpaf_laws.specs.Reading.{IsEmptyShare, FaultsText, first_set, IsAbsence, Readings, Share}
+use Rattle.bpaf_laws.specs.Reading.{Outcome, IsPlace, HasItem, IsPair, is_set}
 
 -- what a look at a text may answer: Some of a value where it matches, None where it doesn't
 abbrev pub Looks : Type 0 → Type 1
@@ -33,8 +32,7 @@ abbrev pub IsLiteral : List ℕ → Looks (Unit {0})
 IsLiteral literal text (Some v) = text ≡ literal
 IsLiteral literal text None = text ≢ literal
 
--- the items that are looked at: under `anywhere` all present ones in scope, in order, else the
--- first of these alone
+-- the items that are looked at: under `anywhere` all present in scope, in order, else the first
 abbrev pub looked_at : Bool → Situation → List (ℕ × Arg)
 looked_at true s = open_items s
 looked_at false s = take 1 (open_items s)
@@ -127,8 +125,7 @@ abbrev pub behind : Share → Share
 behind keys zero = false
 behind keys (suc p) = keys p
 
--- keys of the argument, one or more, and the places behind them; that behind the greatest of them
--- has this text
+-- keys of the argument, one at least, and the places behind; the greatest has this text behind it
 pub record AreKeysWithText (argument : KeyWithValue) (context : Context) (share : Share)
     (text : List ℕ) : Type 0 where
   pub keys : Share
@@ -178,14 +175,12 @@ abbrev pub TakesOwnText : Bool → KeyWithValue → Situation → List ℕ → S
 TakesOwnText false = TakesKeyWithText
 TakesOwnText true = TakesLastText
 
--- what was taken when no text was found: nothing; where the last one counts, any keys with their
--- texts
+-- what was taken when no text was found: nothing; where the last counts any keys with their texts
 abbrev pub TakesBefore : Bool → KeyWithValue → Situation → Situation → Type 0
 TakesBefore false argument s t = t ≡ s
 TakesBefore true argument s t = (texts : List (List ℕ)) × TakesKeysWithTexts argument s texts t
 
--- no key is there, and this is the text of the first environment name that is set; no place is
--- current then
+-- no key is there, and this is the text of the first name that is set; no place is current then
 pub record ReadsVariable (argument : KeyWithValue) (s : Situation) (text : List ℕ) (t : Situation)
     : Type 0 where
   pub no_key : HasNoKey argument s
@@ -236,8 +231,7 @@ abbrev pub TakesText : KeyWithValue → Situation → Result (List ℕ) Error �
 TakesText argument s (Ok text) t = GetsText argument s text t
 TakesText argument s (Err e) t = RefusesText argument s e.0 t
 
--- a refusal: no text; or a text that means no value, its places taken; or want of memory for its
--- value
+-- a refusal: no text; or one that means no value, its places taken; or want of memory for its value
 abbrev pub ArgumentFails : {T : Type 0} → (List ℕ → T → Type 0) → KeyWithValue → Situation → Message
     → Situation → Type 0
 ArgumentFails means argument s (ParseFailed place fault) t =
@@ -257,8 +251,7 @@ ArgumentOutcome means argument s (Err e) t = ArgumentFails means argument s e.0 
 abbrev pub argument_shape : KeyWithValue → Shape
 argument_shape argument = option_map_or Shown (argument_part argument) Skip
 
--- what stands for no key, by the text of its variable: the present value where that is set, else
--- the absent one
+-- what stands for no key: where its variable is set the present value, else the absent one
 abbrev pub value_without_key : {T : Type 0} → T → Option T → Option (List ℕ) → Option T
 value_without_key present absent (Some text) = Some present
 value_without_key present absent None = absent
@@ -306,8 +299,7 @@ abbrev pub optional_if : {T : Type 0} → Option T → Shape → Shape
 optional_if None shape = shape
 optional_if (Some kept) shape = Optional shape
 
--- what a flag shows: its item, which may be left out where it has an absent value; without a name
--- nothing
+-- what a flag shows: its item, which it may lack with an absent value; without a name nothing
 abbrev pub flag_shape : {T : Type 0} → Named → Option T → Shape
 flag_shape named absent =
     option_map_or (λ part. optional_if absent (Shown part)) (flag_part named) Skip

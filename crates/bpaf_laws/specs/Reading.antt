@@ -62,8 +62,7 @@ abbrev pub ReadsValue : {T : Type 0} → (List ℕ → T → Type 0) → List �
 ReadsValue means text current (Ok v) = means text v
 ReadsValue means text current (Err e) = FaultsText means text current e.0
 
--- what a reading of a text is for a parser: its value; a fault, at the current place; or want of
--- memory
+-- what a reading of a text is for a parser: its value; a fault at the current place; want of memory
 abbrev pub TellsReading : {T : Type 0} → Result T TextFault → Option ℕ → Result T Error → Type 0
 TellsReading (Ok v) current (Ok w) = w ≡ v
 TellsReading (Err (fault.Fault text)) current (Err e) =

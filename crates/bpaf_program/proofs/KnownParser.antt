@@ -1,38 +1,34 @@
 -- The parsers of a program, and their fields, are known where what they are made of is.
-use Rattle.std.proofs.Common.{All, Err, IsUtf8, List, Ok, Result, [], ap, ap₂, refl, true, ◌∙◌, ◌≡◌}
-use Rattle.std.proofs.Common.{ℕ, Bool, Option, Some, false}
-use Rattle.bpaf_doc.specs.{Shape.Shape, Names.Names, declared.doc.Piece.Piece}
-use Rattle.bpaf_line.specs.declared.failure.ParseFailure.{ParseFailure}
-use Rattle.bpaf_line.specs.{declared.error.Error.Error, Situation.Situation}
-use Rattle.bpaf_laws.specs.Laws.{joined_shorts, no_shorts, of_arguments, of_flags}
-use Rattle.bpaf_laws.specs.Combinators.{MapOutcome, FallbackOutcome, GivesClone, ManyOutcome}
-use Rattle.bpaf_laws.specs.Combinators.{TurnOutcome}
-use Rattle.bpaf_laws.specs.Leaves.{ArgumentOutcome, FlagOutcome}
-use Rattle.bpaf_laws.specs.{Choice.ChoiceOutcome, Product.ProductOutcome, Product.BothOutcome}
+use Rattle.std.proofs.Common.{IsUtf8, Result, Option, false, List, refl, true, Bool, Some, All, Err}
+use Rattle.std.proofs.Common.{ap₂, ◌∙◌, ◌≡◌, Ok, ap, ℕ}
+use Rattle.bpaf_doc.specs.{declared.doc.Piece.Piece, Shape.Shape, Names.Names}
+use Rattle.bpaf_words.specs.{Arguments.Given, Line.ShortNames}
+use Rattle.bpaf_text.specs.Named.{KeyWithValue, key_named, Named}
+use Rattle.bpaf_line.specs.{declared.failure.ParseFailure.ParseFailure, declared.error.Error.Error}
+use Rattle.bpaf_line.specs.Situation.{Situation}
+use Rattle.bpaf_laws.specs.Combinators.{FallbackOutcome, ManyOutcome, TurnOutcome, MapOutcome}
+use Rattle.bpaf_laws.specs.Laws.{joined_shorts, of_arguments, no_shorts, of_flags}
+use Rattle.bpaf_laws.specs.{Product.ProductOutcome, Product.BothOutcome, Combinators.GivesClone}
+use Rattle.bpaf_laws.specs.{Leaves.ArgumentOutcome, Leaves.FlagOutcome, Choice.ChoiceOutcome}
 use Rattle.bpaf_laws.specs.{Command.CommandPart, Command.named_only, Reading.Outcome}
-use Rattle.bpaf_exact.proofs.ProgramForm.{narrower_form, no_more, program_both_law, program_con_law}
-use Rattle.bpaf_exact.proofs.ProgramForm.{program_alone_law, program_choice_law, program_field_law}
-use Rattle.bpaf_exact.proofs.ProgramForm.{AllowsNoMore, map_law, fallback_law, many_law}
-use Rattle.bpaf_exact.proofs.ProgramForm.{optional_law}
-use Rattle.bpaf_exact.proofs.Leaves.{argument_field_law, flag_field_law}
-use Rattle.bpaf_exact.specs.ProgramForm.{is_program, program_field}
-use Rattle.bpaf.specs.Run.{known_names, RunsWords}
-use Rattle.bpaf.specs.{Command.EitherCommandOutcome, Info.plain_info, Info.RunInfo, Ending.EndsRun}
-use Rattle.bpaf.specs.{Positional.PositionalOutcome, declared.leaves.positional.Position.Position}
+use Rattle.bpaf_laws.proofs.Keeping.{fallback_kept}
 use Rattle.bpaf_core.specs.declared.commands.ParseCommand.{ParseCommand}
-use Rattle.bpaf_program.specs.KnownParser.{AreKnownFields, IsExactFor, IsKnownParser, program_names}
-use Rattle.bpaf_program.specs.KnownParser.{known_command, shown_shorts, known_con, known_map}
-use Rattle.bpaf_program.specs.KnownParser.{IsValueBy, known_default, known_many, known_optional}
-use Rattle.bpaf_program.specs.KnownParser.{known_switch, IsKept}
-use Rattle.bpaf_program.specs.Fields.{IsPlainCommand}
-use Rattle.bpaf_record.proofs.Programs.{answers_as_program}
-use Rattle.bpaf_record.specs.Grammar.{Grammar, alone, choice, command_words, keys_of, program_form}
-use Rattle.bpaf_record.specs.Grammar.{both, argument, word}
+use Rattle.bpaf.specs.{declared.leaves.positional.Position.Position, Run.known_names, Run.RunsWords}
+use Rattle.bpaf.specs.{Info.plain_info, Info.RunInfo, Command.EitherCommandOutcome, Ending.EndsRun}
+use Rattle.bpaf.specs.Positional.{PositionalOutcome}
+use Rattle.bpaf_exact.proofs.ProgramForm.{program_both_law, program_con_law, narrower_form, no_more}
+use Rattle.bpaf_exact.proofs.ProgramForm.{program_choice_law, program_alone_law, program_field_law}
+use Rattle.bpaf_exact.proofs.ProgramForm.{AllowsNoMore, fallback_law, optional_law, many_law}
+use Rattle.bpaf_exact.proofs.{Leaves.argument_field_law, Leaves.flag_field_law, ProgramForm.map_law}
+use Rattle.bpaf_exact.specs.ProgramForm.{is_program}
+use Rattle.bpaf_record.specs.Grammar.{program_form, argument, Grammar, choice, alone, both, word}
+use Rattle.bpaf_record.proofs.Running.{answers_as_program}
 use Rattle.bpaf_record.specs.Commands.{plain_command_law, positional_law}
 use Rattle.bpaf_record.specs.Record.{AnswersAsProgram}
-use Rattle.bpaf_words.specs.{Arguments.Given, Line.ShortNames}
-use Rattle.bpaf_text.specs.Named.{KeyWithValue, Named, key_named}
-use Rattle.bpaf_laws.proofs.Keeping.{fallback_kept}
+use Rattle.bpaf_program.specs.KnownParser.{AreKnownFields, known_optional, IsKnownParser, known_con}
+use Rattle.bpaf_program.specs.KnownParser.{program_names, known_command, known_default, IsExactFor}
+use Rattle.bpaf_program.specs.KnownParser.{shown_shorts, known_switch, known_many, known_map}
+use Rattle.bpaf_program.specs.{KnownParser.IsValueBy, KnownParser.IsKept, Fields.IsPlainCommand}
 
 module _ {A B : Type 0} (inner : Outcome A) {answers wanted : A → B → Type 0}
     (only : (x : A) (v : B) → answers x v → wanted x v) where
@@ -67,9 +63,7 @@ command_known {T} called known describes {command = command} same plain {outcome
       ap (λ c. c.adjacent) same ∙ plain.adjacent,
       ap (λ c. c.info) same ∙ plain.info,
     ) (record {
-      law = λ env. plain_command_law env T outcome describes plain_info
-          (named_only called) _ _ (keys_of known true) (command_words known)
-          (program_form known env) (is.law env);
+      law = λ env. plain_command_law describes plain_info (named_only called) _ _ (is.law env);
       shown = is.shown;
     })
 
@@ -77,10 +71,8 @@ command_known {T} called known describes {command = command} same plain {outcome
 pub choice_known : {T : Type 0} (first second : Grammar T) {one two : Outcome T}
     {own others : ShortNames} → IsKnownParser first one own → IsKnownParser second two others
     → IsKnownParser (choice first second) (ChoiceOutcome one two) (joined_shorts own others)
-choice_known {T} first second {one} {two} these those = record {
-  law = λ env. program_choice_law env T one two (keys_of first true) (keys_of second true)
-      (command_words first) (command_words second) (program_form first env)
-      (program_form second env) (these.law env) (those.law env);
+choice_known first second these those = record {
+  law = λ env. program_choice_law (these.law env) (those.law env);
   shown = ap₂ joined_shorts these.shown those.shown;
 }
 
@@ -89,20 +81,17 @@ pub map_known : {A B : Type 0} (make : A → B) (known : Grammar A) {outcome : O
     {shorts : ShortNames} → IsKnownParser known outcome shorts
     → {answers : A → B → Type 0} → ((x : A) (v : B) → answers x v → v ≡ make x)
     → IsKnownParser (known_map make known) (MapOutcome outcome answers) shorts
-map_known {A} {B} make known {outcome} inner {answers} only = record {
-  law = λ env. narrower_form env B _ _ (map_within outcome only) (keys_of known true)
-      (command_words known) _ (map_law env A B outcome (λ x v. v ≡ make x)
-      (keys_of known true) (command_words known) (program_form known env) (inner.law env));
+map_known make known {outcome} inner only = record {
+  law = λ env. narrower_form (map_within outcome only)
+      (map_law (inner.law env) (λ x v. v ≡ make x));
   shown = inner.shown;
 }
 
 -- commands as the last field
 pub last_known : {T : Type 0} (known : Grammar T) {outcome : Outcome T} {shorts : ShortNames}
     → IsKnownParser known outcome shorts → AreKnownFields (alone known) outcome shorts
-last_known {T} known {outcome} inner = record {
-  law = λ env. program_alone_law env T outcome (keys_of known true) (command_words known)
-      (program_field (program_form known env)) (program_field_law env T outcome
-      (keys_of known true) (command_words known) (program_form known env) (inner.law env));
+last_known known inner = record {
+  law = λ env. program_alone_law (program_field_law (inner.law env));
   shown = inner.shown;
 }
 
@@ -111,11 +100,8 @@ pub both_known : {A B : Type 0} (first : Grammar A) (rest : Grammar B) {one : Ou
     {outcome : Outcome B} {own others : ShortNames} → IsKnownParser first one own
     → AreKnownFields rest outcome others
     → AreKnownFields (both first rest) (BothOutcome one outcome) (joined_shorts own others)
-both_known {A} {B} first rest {one} {outcome} is more = record {
-  law = λ env. program_both_law env A B one outcome (keys_of first true) (keys_of rest true)
-      (command_words first) (program_field (program_form first env)) (program_form rest env)
-      (program_field_law env A one (keys_of first true) (command_words first)
-      (program_form first env) (is.law env)) (more.law env);
+both_known first rest is more = record {
+  law = λ env. program_both_law (program_field_law (is.law env)) (more.law env);
   shown = ap₂ joined_shorts is.shown more.shown;
 }
 
@@ -124,10 +110,9 @@ pub con_known : {A B : Type 0} (make : A → B) (known : Grammar A) {outcome : O
     {shorts : ShortNames} → AreKnownFields known outcome shorts
     → {answers : A → B → Type 0} → ((x : A) (v : B) → answers x v → v ≡ make x)
     → IsKnownParser (known_con make known) (ProductOutcome outcome answers) shorts
-con_known {A} {B} make known {outcome} fields {answers} only = record {
-  law = λ env. narrower_form env B _ _ (con_within outcome only) (keys_of known true) []
-      _ (program_con_law env A B outcome (λ x v. v ≡ make x) (keys_of known true)
-      (program_form known env) (fields.law env));
+con_known make known {outcome} fields only = record {
+  law = λ env. narrower_form (con_within outcome only)
+      (program_con_law (λ x v. v ≡ make x) (fields.law env));
   shown = fields.shown;
 }
 
@@ -151,9 +136,8 @@ pub program_exactly : {T : Type 0} (known : Grammar T) (own : Given)
     → IsKnownParser known outcome shorts
     → info ≡ plain_info → given ≡ own → All IsUtf8 own.words → IsExactFor (IsValueBy known own) r
 program_exactly {T} known own program {outcome} {describes} {r = r} runs is info_is given_is =
-    exact_for known (answers_as_program T outcome describes plain_info (program_names known)
-    (keys_of known true) (command_words known) (program_form known own.env) own (is.law own.env)
-    program r (rw (info_is, given_is, is.shown) at runs)) refl refl
+    exact_for known (answers_as_program describes plain_info (program_names known) own
+    (is.law own.env) program r (rw (info_is, given_is, is.shown) at runs)) refl refl
 
 -- The fields of a program are known where what they are made of is.
 
@@ -197,8 +181,7 @@ module _ {T : Type 0} {known : Grammar T} {outcome : Outcome T} {shorts : ShortN
       → IsKnownParser (known_many known) (ManyOutcome outcome catch) shorts
   many_known none =
       rw none (record {
-        law = λ env. many_law env T outcome false (keys_of known true) (command_words known)
-            (program_form known env) (is.law env);
+        law = λ env. many_law (is.law env) false;
         shown = is.shown;
       })
 
@@ -207,8 +190,7 @@ module _ {T : Type 0} {known : Grammar T} {outcome : Outcome T} {shorts : ShortN
       → IsKnownParser (known_optional known) (TurnOutcome outcome catch true) shorts
   optional_known none =
       rw none (record {
-        law = λ env. optional_law env T outcome false (keys_of known true)
-            (command_words known) (program_form known env) (is.law env);
+        law = λ env. optional_law (is.law env) false;
         shown = is.shown;
       })
 
@@ -219,9 +201,8 @@ module _ {T : Type 0} {known : Grammar T} {outcome : Outcome T} {shorts : ShortN
       (FallbackOutcome outcome (GivesClone clones kept)) shorts
   default_known {clones} equal value is_kept =
       rw is_kept (record {
-        law = λ env. narrower_form env T _ _
+        law = λ env. narrower_form
             (no_more (λ s t r o. fallback_kept equal outcome value s r t o))
-            (keys_of known true) [] _ (fallback_law env T outcome IsKept value
-            (keys_of known true) (command_words known) (program_form known env) (is.law env));
+            (fallback_law (is.law env) IsKept value);
         shown = is.shown;
       })

@@ -1,38 +1,37 @@
 -- Flat fields, records and programs all of whose values on the same words look alike.
-use Rattle.std.proofs.Common.{Bool, List, [], ap, false, map, string_bytes, true, ℕ, ◌++◌, ◌∷◌, ◌≡◌}
-use Rattle.std.proofs.Common.{Some, not, subst, sym, ◌&&◌, ◌||◌, ◌∙◌, All, IsUtf8, ap₂, inl, inr}
+use Rattle.std.proofs.Common.{string_bytes, IsUtf8, false, subst, Bool, List, true, ◌++◌, Some, map}
+use Rattle.std.proofs.Common.{◌&&◌, ◌||◌, ◌∷◌, ◌≡◌, not, sym, ◌∙◌, All, ap₂, inl, inr, [], ap, ℕ}
 use Rattle.std.specs.Prelude.{option_map}
 use Rattle.bpaf_doc.specs.Names.{Names}
-use Rattle.bpaf_text.specs.{Meaning.SpellsUnsigned, Named.KeyWithValue, Named.key_named}
-use Rattle.bpaf_laws.specs.Combinators.{FallbackOutcome, GivesClone, ManyOutcome, TurnOutcome}
-use Rattle.bpaf_laws.specs.Combinators.{is_nil}
-use Rattle.bpaf_laws.specs.{Leaves.ArgumentOutcome, Leaves.FlagOutcome, Product.BothOutcome}
-use Rattle.bpaf_laws.specs.{Product.ProductOutcome, Reading.first_set, Reading.Outcome}
-use Rattle.bpaf_exact.proofs.OneView.{alone_view, argument_view, both_view, con_view, fallback_view}
-use Rattle.bpaf_exact.proofs.OneView.{field_view, flag_view, many_view, optional_field_view}
-use Rattle.bpaf_exact.proofs.OneView.{word_view, values_look_one}
-use Rattle.bpaf_exact.proofs.ProgramForm.{fallback_law, many_law, program_both_law, program_con_law}
-use Rattle.bpaf_exact.proofs.ProgramForm.{optional_law, program_alone_law, program_field_law}
-use Rattle.bpaf_exact.proofs.ProgramForm.{words_apart}
-use Rattle.bpaf_exact.proofs.Leaves.{argument_field_law, flag_field_law}
-use Rattle.bpaf_exact.proofs.Commands.{opens_apart, opens_left, opens_right}
-use Rattle.bpaf_exact.proofs.{Programs.opens_one, Cuts.one_take}
-use Rattle.bpaf_exact.specs.ProgramForm.{argument_field, argument_group, flag_field, key_field}
-use Rattle.bpaf_exact.specs.ProgramForm.{word_by, FormLaw, ProgramForm, completed, program_both}
-use Rattle.bpaf_exact.specs.ProgramForm.{program_con, program_alone, program_closed}
-use Rattle.bpaf_exact.specs.ProgramForm.{program_optional, program_field, ArgumentValue}
-use Rattle.bpaf_exact.specs.ProgramForm.{argument_roles, are_words_apart, program_value, CellsValue}
-use Rattle.bpaf_exact.specs.ProgramForm.{ChoiceValue, CommandValue, FieldThen, Opens, line_cells}
-use Rattle.bpaf_exact.specs.Says.{HasOneView, pair_view, Alike}
-use Rattle.bpaf_exact.specs.Flat.{FallbackValue, list_closure, repeated, map_closure, Variables}
-use Rattle.bpaf_exact.specs.Flat.{OwnList, gap_of, ClosedValue}
-use Rattle.bpaf_exact.specs.Pieces.{Cells, LinePiece, Roles}
+use Rattle.bpaf_words.specs.{Arguments.Given, Line.Known}
+use Rattle.bpaf_text.specs.{Named.KeyWithValue, Named.key_named, Meaning.SpellsUnsigned}
+use Rattle.bpaf_laws.specs.Combinators.{FallbackOutcome, ManyOutcome, TurnOutcome, GivesClone}
+use Rattle.bpaf_laws.specs.{Product.ProductOutcome, Product.BothOutcome, Combinators.is_nil}
+use Rattle.bpaf_laws.specs.Leaves.{ArgumentOutcome, FlagOutcome}
+use Rattle.bpaf_laws.specs.Reading.{first_set, Outcome}
 use Rattle.bpaf.specs.Positional.{PositionalOutcome, accepts}
 use Rattle.bpaf.specs.declared.leaves.positional.Position.{Position}
-use Rattle.bpaf_program.specs.KnownParser.{IsKept, MeansText, String, makes}
+use Rattle.bpaf_exact.proofs.OneView.{optional_field_view, values_look_one, argument_view, con_view}
+use Rattle.bpaf_exact.proofs.OneView.{fallback_view, alone_view, field_view, both_view, flag_view}
+use Rattle.bpaf_exact.proofs.ProgramForm.{program_con_law, fallback_law, optional_law, words_apart}
+use Rattle.bpaf_exact.proofs.ProgramForm.{program_alone_law, program_field_law, program_both_law}
+use Rattle.bpaf_exact.proofs.Commands.{opens_apart, opens_right, opens_left}
+use Rattle.bpaf_exact.proofs.{Leaves.argument_field_law, Leaves.flag_field_law, Programs.opens_one}
+use Rattle.bpaf_exact.proofs.{OneView.many_view, OneView.word_view, ProgramForm.many_law}
+use Rattle.bpaf_exact.proofs.Cuts.{one_take}
+use Rattle.bpaf_exact.specs.ProgramForm.{program_optional, are_words_apart, argument_field, word_by}
+use Rattle.bpaf_exact.specs.ProgramForm.{argument_group, program_closed, argument_roles, flag_field}
+use Rattle.bpaf_exact.specs.ProgramForm.{program_alone, program_field, ArgumentValue, program_value}
+use Rattle.bpaf_exact.specs.ProgramForm.{ChoiceValue, CellsValue, line_cells, key_field, completed}
+use Rattle.bpaf_exact.specs.ProgramForm.{program_both, CommandValue, ProgramForm, program_con}
+use Rattle.bpaf_exact.specs.Flat.{FallbackValue, list_closure, map_closure, ClosedValue, Variables}
+use Rattle.bpaf_exact.specs.ProgramForm.{FieldThen, FormLaw, Opens}
+use Rattle.bpaf_exact.specs.Pieces.{LinePiece, Cells, Roles}
+use Rattle.bpaf_exact.specs.Says.{HasOneView, pair_view, Alike}
+use Rattle.bpaf_exact.specs.Flat.{repeated, OwnList, gap_of}
 use Rattle.bpaf_record.specs.{Commands.positional_law, Record.IsProgramValueOf}
 use Rattle.bpaf_record.proofs.Running.{same_context}
-use Rattle.bpaf_words.specs.{Arguments.Given, Line.Known}
+use Rattle.bpaf_program.specs.KnownParser.{MeansText, IsKept, String, makes}
 
 -- a form that this outcome, of a parser with these keys, keeps to, and whose values look alike
 pub record IsSeen {T X : Type 0} (outcome : Outcome T) (see : T → X) (names : List Names)
@@ -96,16 +95,16 @@ module _ {T X : Type 0} {outcome : Outcome T} {see : T → X} {names : List Name
   pub many_seen : IsSeen (ManyOutcome outcome false) (λ values. map see values.items) names
       (program_closed (list_closure T) (completed repeated (OwnList T) form))
   many_seen = record {
-    law = λ env. many_law env T outcome false names [] form (is.law env);
-    view = many_view [] T X see outcome names [] form (is.law []) is.view;
+    law = λ env. many_law (is.law env) false;
+    view = many_view see (is.law []) is.view;
   }
 
   -- what may be left out
   pub optional_seen : IsSeen (TurnOutcome outcome false true) (option_map see) names
       (program_optional form)
   optional_seen = record {
-    law = λ env. optional_law env T outcome false names [] form (is.law env);
-    view = optional_field_view [] T X see outcome names [] form (is.law []) is.view;
+    law = λ env. optional_law (is.law env) false;
+    view = optional_field_view see (is.law []) is.view;
   }
 
   -- what has a default
@@ -114,9 +113,8 @@ module _ {T X : Type 0} {outcome : Outcome T} {see : T → X} {names : List Name
       (completed (λ k. k) (λ group gap. FallbackValue T group gap
       (map_closure (λ u. clones kept))) form)
   fallback_seen clones kept one = record {
-    law = λ env. fallback_law env T outcome clones kept names [] form (is.law env);
-    view = fallback_view [] T X see outcome (map_closure (λ u. clones kept)) one names [] form
-        (is.law []) is.view;
+    law = λ env. fallback_law (is.law env) clones kept;
+    view = fallback_view see (map_closure (λ u. clones kept)) one (is.law []) is.view;
   }
 
   -- what is this value where it is left out
@@ -129,15 +127,15 @@ module _ {T X : Type 0} {outcome : Outcome T} {see : T → X} {names : List Name
   -- a field
   pub field_seen : IsSeen outcome see names (program_field form)
   field_seen = record {
-    law = λ env. program_field_law env T outcome names [] form (is.law env);
-    view = field_view [] T X see outcome names [] form (is.law []) is.view;
+    law = λ env. program_field_law (is.law env);
+    view = field_view see (is.law []) is.view;
   }
 
   -- a last field
   pub alone_seen : IsSeen outcome see names (program_alone form)
   alone_seen = record {
-    law = λ env. program_alone_law env T outcome names [] form (is.law env);
-    view = alone_view T X see form is.view;
+    law = λ env. program_alone_law (is.law env);
+    view = alone_view see form is.view;
   }
 
   -- what a constructor makes of values that look alike
@@ -146,7 +144,7 @@ module _ {T X : Type 0} {outcome : Outcome T} {see : T → X} {names : List Name
       → IsSeen (ProductOutcome outcome (λ x v. v ≡ make x)) look names
       (program_con (map_closure (λ x v. v ≡ make x)) form)
   con_seen {V} {Y} make look same = record {
-    law = λ env. program_con_law env T V outcome (λ x v. v ≡ make x) names form (is.law env);
+    law = λ env. program_con_law (λ x v. v ≡ make x) (is.law env);
     view = con_view T V X Y see look (map_closure (λ x v. v ≡ make x))
         (record {
           same = λ x y v w e f g. ap look f ∙ (same x y e ∙ sym (ap look g));
@@ -161,12 +159,10 @@ pub both_seen : {A B X Y : Type 0} {see : A → X} {look : B → Y} {own others 
     → IsSeen outcome see own first → IsSeen outcomes look others rest
     → IsSeen (BothOutcome outcome outcomes) (pair_view see look) (own ++ others)
     (program_both own others first rest)
-both_seen {A} {B} {X} {Y} {see} {look} {own} {others} {first} {rest} {outcome} {outcomes} one more =
-    record {
-      law = λ env. program_both_law env A B outcome outcomes own others [] first rest (one.law env)
-          (more.law env);
-      view = both_view A B X Y see look own others first rest one.view more.view;
-    }
+both_seen {A} {B} {X} {Y} {see} {look} {own} {others} {first} {rest} one more = record {
+  law = λ env. program_both_law (one.law env) (more.law env);
+  view = both_view A B X Y see look own others first rest one.view more.view;
+}
 
 -- Programs all of whose values on the same words look alike.
 
@@ -183,8 +179,7 @@ pub record AreSeen {T X : Type 0} (see : T → X) (words : List (List ℕ)) (val
 -- a program whose values look alike
 pub values_look : {T X : Type 0} {outcome : Outcome T} {see : T → X} {names : List Names}
     {form : ProgramForm T} → IsSeen outcome see names form → LooksOne see (program_value form)
-values_look {T} {X} {outcome} {see} {names} {form} is =
-    values_look_one T X see [] outcome names [] form (is.law []) is.view
+values_look {see} is = values_look_one see (is.law []) is.view
 
 module _ {T X : Type 0} {see : T → X} where
   -- a command over what looks alike

@@ -1,49 +1,46 @@
 -- What an answer says by the words: of one field, of those in front of commands, of a command, and
 -- of the words behind `--`.
-use Rattle.std.proofs.Common.{◌≡◌, ◌≢◌, ℕ, zero, suc, Bool, true, false, List, [], ◌∷◌, ◌+◌, length}
-use Rattle.std.proofs.Common.{codes, map, refl, sym, ap, ◌∙◌, subst, cond, if◌then◌else◌, ◌||◌}
-use Rattle.std.proofs.Common.{arith, All, IsUtf8, slice_index_or, true≢false, ◌==◌, not, ◌++◌}
-use Rattle.std.proofs.Common.{slice_index, ◌<◌, None, Some, Option, IsSome, Result, Ok, Err, IfOk}
-use Rattle.std.proofs.Common.{⊎_elim, ◌⊎◌, inl, inr}
-use Rattle.std.proofs.lemmas.List.Elements.{All-contains, All-contains_itself, All-filter, All-take}
-use Rattle.std.proofs.lemmas.List.Elements.{Contains-append_left, Contains-append_right}
-use Rattle.std.proofs.lemmas.List.Elements.{Contains-get_or, filter_passes, Contains-append_cases}
-use Rattle.std.proofs.lemmas.List.Elements.{recursion_from_All}
-use Rattle.std.proofs.lemmas.List.Sums.{count_by_more_yes, length-filter, sum_by-take-le}
-use Rattle.std.proofs.lemmas.List.Sums.{AllPass-from_list_all}
-use Rattle.std.proofs.{lemmas.Str.encode_ascii, lemmas.Bool.or_cases, lemmas.Bool.not-true}
-use Rattle.std.specs.List.{AllZip, Contains, filter, position_or_len, list_all, AllByRecursion}
-use Rattle.std.specs.{Prelude.flat_map, Char.IsAsciiDigit, Option.option_to_list}
-use Rattle.bpaf_doc.specs.Names.{Names}
-use Rattle.bpaf_base.specs.declared.arg.Arg.TheVariants.{Short, Long, PosWord}
-use Rattle.bpaf_base.specs.Items.{is_key_of, is_among, is_text_among, item_text}
+use Rattle.std.proofs.Common.{slice_index_or, slice_index, true≢false, length, IsUtf8, Option, zero}
+use Rattle.std.proofs.Common.{refl, cond, ◌==◌, ◌++◌, None, Some, IfOk, ◌≡◌, ◌≢◌, suc, ◌∷◌, ◌+◌, []}
+use Rattle.std.proofs.Common.{IsSome, Result, ⊎_elim, false, codes, subst, arith, Bool, true, List}
+use Rattle.std.proofs.Common.{map, sym, ◌∙◌, All, not, ◌<◌, ◌⊎◌, inl, inr, ap, ℕ}
+use Rattle.std.proofs.lemmas.List.Elements.{Contains-append_left, All-contains_itself, All-contains}
+use Rattle.std.proofs.lemmas.List.Elements.{Contains-append_right, Contains-append_cases, All-take}
+use Rattle.std.proofs.lemmas.List.Elements.{recursion_from_All, Contains-get_or, filter_passes}
+use Rattle.std.proofs.lemmas.List.Sums.{AllPass-from_list_all, count_by_more_yes, sum_by-take-le}
+use Rattle.std.proofs.{lemmas.Bool.or_cases, lemmas.Bool.not-true, lemmas.List.Elements.All-filter}
+use Rattle.std.proofs.{lemmas.List.Sums.length-filter, lemmas.Str.encode_ascii}
+use Rattle.std.specs.List.{position_or_len, AllByRecursion, Contains, list_all, AllZip, filter}
+use Rattle.std.specs.{Option.option_to_list, Char.IsAsciiDigit, Prelude.flat_map}
+use Rattle.bpaf_base.specs.declared.arg.Arg.TheVariants.{PosWord, Short, Long}
+use Rattle.bpaf_base.specs.Items.{is_text_among, is_key_of, item_text, is_among}
 use Rattle.bpaf_base.specs.declared.arg.Arg.{Arg}
-use Rattle.bpaf_words.specs.Line.{Known, Items, Spells, HasNoMarker, SpellAll, HasNoEquals}
-use Rattle.bpaf_words.specs.Line.{IsNumberWord, by_dash, dash_char, long, short}
+use Rattle.bpaf_doc.specs.Names.{Names}
+use Rattle.bpaf_words.specs.Line.{IsNumberWord, HasNoMarker, HasNoEquals, dash_char, SpellAll, long}
+use Rattle.bpaf_words.specs.Line.{by_dash, Spells, Known, Items, short}
 use Rattle.bpaf_words.specs.Arguments.{Given}
 use Rattle.bpaf_words.proofs.OneSpelling.{one_spelling}
-use Rattle.bpaf_line.specs.declared.failure.ParseFailure.{ParseFailure}
-use Rattle.bpaf_line.specs.{Taking.IsContext, Situation.Context}
-use Rattle.bpaf.specs.Marker.{is_marker_word, words_before, words_behind}
-use Rattle.bpaf.specs.declared.leaves.positional.Position.TheVariants.{NonStrict, Strict}
-use Rattle.bpaf.specs.Positional.{accepts}
-use Rattle.bpaf_exact.specs.Pieces.{Roles, LinePiece, Cut, is_value, Cells, Takes, no_cells}
-use Rattle.bpaf_exact.specs.Pieces.{empty_stays, other_stays, takes_argument, takes_flag}
-use Rattle.bpaf_exact.specs.Pieces.{is_own_role, Owns, Alone, IsNamed, One, is_own, stands_behind}
-use Rattle.bpaf_exact.specs.Pieces.{Two, others}
-use Rattle.bpaf_exact.specs.ProgramForm.{line_cells, ProgramForm, CellsValue, Opens, opens_here}
-use Rattle.bpaf_exact.specs.ProgramForm.{opens_later, flag_roles, WordValue}
-use Rattle.bpaf_exact.specs.Says.{first_item, keyed, Said, FlagSays, says_present, says_variable}
-use Rattle.bpaf_exact.specs.Says.{says_absent, ArgumentSays, OptionalSays, says_some, says_none}
-use Rattle.bpaf_exact.specs.Says.{FallbackSays, says_own, says_kept, RepeatSays, CutSays, WordSays}
-use Rattle.bpaf_exact.specs.Flat.{front, OneWord, back}
-use Rattle.bpaf_record.specs.Record.{IsSpelledByAny, IsSpelledItem, WasSpelled, TellsOfWords}
-use Rattle.bpaf_record.specs.Record.{WasCalled}
-use Rattle.bpaf_record.proofs.Running.{cut_kept, each_present, on_line, present}
-use Rattle.bpaf_exact.proofs.Says.{NeedsPiece, argument_needs, no_values, repeat_needs, word_values}
-use Rattle.bpaf_exact.proofs.{Fronts.of_front_one, Places.test_named}
+use Rattle.bpaf_line.specs.{declared.failure.ParseFailure.ParseFailure, Situation.Context}
+use Rattle.bpaf_line.specs.Taking.{IsContext}
 use Rattle.bpaf_laws.specs.Command.{is_one_of}
+use Rattle.bpaf.specs.declared.leaves.positional.Position.TheVariants.{NonStrict, Strict}
+use Rattle.bpaf.specs.Marker.{is_marker_word, words_before, words_behind}
+use Rattle.bpaf.specs.Positional.{accepts}
 use Rattle.bpaf.proofs.Sides.{all_spelled, of_words}
+use Rattle.bpaf_exact.proofs.Says.{argument_needs, repeat_needs, word_values, NeedsPiece, no_values}
+use Rattle.bpaf_exact.proofs.{Names.of_front_one, Places.test_named}
+use Rattle.bpaf_exact.specs.Pieces.{takes_argument, stands_behind, empty_stays, other_stays, is_own}
+use Rattle.bpaf_exact.specs.Pieces.{is_own_role, takes_flag, LinePiece, is_value, no_cells, IsNamed}
+use Rattle.bpaf_exact.specs.Pieces.{others, Roles, Cells, Takes, Owns, Cut, One, Two}
+use Rattle.bpaf_exact.specs.ProgramForm.{ProgramForm, opens_later, line_cells, CellsValue, Opens}
+use Rattle.bpaf_exact.specs.Says.{says_variable, says_present, ArgumentSays, OptionalSays, FlagSays}
+use Rattle.bpaf_exact.specs.Says.{FallbackSays, says_absent, first_item, RepeatSays, says_some}
+use Rattle.bpaf_exact.specs.Says.{says_none, WordSays, CutSays, keyed, Said}
+use Rattle.bpaf_exact.specs.ProgramForm.{opens_here, flag_roles, WordValue}
+use Rattle.bpaf_exact.specs.Flat.{OneWord, front, back}
+use Rattle.bpaf_record.specs.Record.{IsSpelledByAny, IsSpelledItem, TellsOfWords, WasSpelled}
+use Rattle.bpaf_record.proofs.Running.{each_present, cut_kept, on_line, present}
+use Rattle.bpaf_record.specs.Record.{WasCalled}
 
 module _ (known : Known) where
   -- one of these words spells a part, whose items are among those of all
@@ -59,12 +56,7 @@ module _ (known : Known) where
     Contains-append_left items (flat_map (λ items. items) parts),
   )
   part_of (first ∷ words) (items ∷ parts) word spelled (suc k, within, is) =
-      let part = part_of words parts word spelled.1 (k, omega arith, is) in (
-        part.0,
-        part.1,
-        λ item there. Contains-append_right items (flat_map (λ items. items) parts) item
-            (part.2 item there),
-      )
+      grind (arith, Contains-append_right, part_of words parts word spelled.1 (k, omega arith, is))
 
   -- so the items that one spells are
   among_all : (words : List (List ℕ)) (items own : List Arg) (word : List ℕ) (item : Arg)
@@ -149,22 +141,13 @@ module _ (test : Arg → Bool) where
 module _ (names : Names) where
   -- the value of a key is none
   value_is_no_key : (w : Arg) → is_value w ≡ true → is_key_of names w ≡ false
-  value_is_no_key (Short c attached text) value = absurd cc
-  value_is_no_key (Long name attached text) value = absurd cc
-  value_is_no_key w value = refl
+  value_is_no_key w value = grind arith
 
   -- the keys that begin pieces are the first items of those that begin with one
   keys_first : (os : List LinePiece)
       → filter (is_key_of names) (map first_item os) ≡ map first_item (keyed (names ∷ []) os)
   keys_first [] = refl
-  keys_first (o ∷ os) =
-      by_test (is_key_of names (first_item o)) (keyed (names ∷ []) os) (keys_first os)
-    where
-      by_test : (b : Bool) {ks : List Arg} (ps : List LinePiece) → ks ≡ map first_item ps
-          → (if b then (first_item o ∷ ks) else ks)
-          ≡ map first_item (if b || false then (o ∷ ps) else ps)
-      by_test true ps e = ap (λ ks. first_item o ∷ ks) e
-      by_test false ps e = e
+  keys_first (o ∷ os) = grind (arith, keys_first os)
 
   module _ (known : Known) (given : Given) (context : Context) (on : IsContext known given context)
       (r : Roles) (os : List LinePiece) (cut : Cut r (line_cells context) os) where
@@ -203,16 +186,11 @@ is_long_name (b ∷ bs) = list_all (λ byte. not (byte == 61)) (b ∷ bs)
 
 -- it is not empty
 is_some_name : (name : List ℕ) → is_long_name name ≡ true → name ≢ []
-is_some_name [] is none = cc
-is_some_name (b ∷ bs) is none = cc
+is_some_name name is none = grind arith
 
 -- no byte of it is `=`
 has_no_equals : (name : List ℕ) → is_long_name name ≡ true → HasNoEquals name
-has_no_equals [] is i within same = absurd cc
-has_no_equals (b ∷ bs) is i within same =
-    let pass = AllPass-from_list_all (λ byte. not (byte == 61)) (b ∷ bs) is i 0 within in
-    let fails : not (slice_index (b ∷ bs) i == 61) ≡ false = ap (λ byte. not (byte == 61)) same in
-    cc
+has_no_equals xs is i within same = grind (arith, AllPass-from_list_all)
 
 -- `--name` is no number
 long_is_no_number : (numbers : Bool) (name : List ℕ) → ¬ (IsNumberWord numbers (codes "--" ++ name))
@@ -265,8 +243,7 @@ short_is_spelled numbers off names words c there ascii is key known = record {
 -- what follows of a value that says so is said of the answer
 pub answer_says : {T : Type 0} {P Q : T → Type 0} (r : Result T ParseFailure) → IfOk r P
     → ((v : T) → P v → Q v) → IfOk r Q
-answer_says (Ok v) holds so = so v holds
-answer_says (Err f) holds so = tt
+answer_says x holds so = grind arith
 
 -- pieces that are a key's own on the line of words: where there is one, one of the words before the
 -- first `--` spells the key
@@ -285,8 +262,7 @@ module _ {words : List (List ℕ)} {key : Names} {os : List LinePiece} (own : Ow
   -- So was that of a value that needs a piece,
   pub value_spelled : {A : Type 0} {inside : Said A} {x : A} → NeedsPiece inside
       → inside os x → IsKeySpelled
-  value_spelled {A} {inside} {x} needs so =
-      key_spelled (λ none. needs.some x (subst (λ os. inside os x) none so))
+  value_spelled needs so = grind (arith, key_spelled)
 
   -- of an argument's value where no variable of its is set,
   pub argument_spelled : {A : Type 0} {means : List ℕ → A → Type 0} {last : Bool}
@@ -299,42 +275,29 @@ module _ {words : List (List ℕ)} {key : Names} {os : List LinePiece} (own : Ow
       → FlagSays (λ kept x. x ≡ kept) present absent set os b → absent ≡ Some false → set ≡ None
       → (names : Names) → key ≡ names → (switch : Bool) → switch ≡ b → switch ≡ true
       → WasSpelled names words
-  switch_spelled (says_present k one is) off unset names same switch value on =
-      key_spelled (λ none. cc) names same
-  switch_spelled (says_variable text none set is) off unset names same switch value on = absurd cc
-  switch_spelled (says_absent a none set kept is) off unset names same switch value on = absurd cc
+  switch_spelled x off unset names same switch value on = grind (arith, key_spelled)
 
   -- of a required flag that has its value then,
   pub flag_spelled : {A : Type 0} {clones : A → A → Type 0} {present : A}
       {absent : Option A} {set : Option (List ℕ)} {x : A}
       → FlagSays clones present absent set os x → absent ≡ None → set ≡ None
       → (names : Names) → key ≡ names → clones present x × WasSpelled names words
-  flag_spelled (says_present k one is) required unset names same =
-      (is, key_spelled (λ none. cc) names same)
-  flag_spelled (says_variable text none set is) required unset names same = absurd cc
-  flag_spelled (says_absent a none set kept is) required unset names same = absurd cc
+  flag_spelled x required unset names same = grind (arith, key_spelled)
 
   -- of an optional value that is Some,
   pub optional_spelled : {A : Type 0} {inside : Said A} {o : Option A} → NeedsPiece inside
       → OptionalSays inside os o → (value : Option A) → value ≡ o → IsSome value → IsKeySpelled
-  optional_spelled needs (says_some x is so) value same some = value_spelled {x = x} needs so
-  optional_spelled needs (says_none is none) value same some =
-      let wrong : false ≡ true = subst IsSome (same ∙ is) some in
-      absurd cc
+  optional_spelled needs x value same some = grind (arith, value_spelled)
 
   -- of a value under a fallback that isn't what stands in its place,
   pub fallback_spelled : {A : Type 0} {inside : Said A} {kept : A → Type 0} {x : A}
       → NeedsPiece inside → FallbackSays inside kept os x → ¬ (kept x) → IsKeySpelled
-  fallback_spelled {A} {inside} {kept} {x} needs (says_own so) other =
-      value_spelled {x = x} needs so
-  fallback_spelled needs (says_kept none is) other = absurd (other is)
+  fallback_spelled needs x other = grind (arith, value_spelled)
 
   -- and of a repeat that isn't empty.
   pub repeat_spelled : {A : Type 0} {inside : Said A} {xs : List A} → NeedsPiece inside
       → RepeatSays inside os xs → (values : List A) → values ≡ xs → values ≢ [] → IsKeySpelled
-  repeat_spelled {A} {inside} {xs} needs so values same some =
-      key_spelled (λ none. repeat_needs needs xs (λ empty. some (same ∙ empty))
-      (subst (λ os. RepeatSays inside os xs) none so))
+  repeat_spelled needs so values same some = grind (arith, key_spelled, repeat_needs)
 
 -- pieces are those of the line of words: those that begin with a key are its own, and where one of
 -- the words before the first `--` spells the key, whatever names are known, there is one
@@ -370,8 +333,7 @@ module _ {known : Known} {words : List (List ℕ)} {os : List LinePiece}
   pub of_line : {key : Names} → OwnOf words key (keyed (key ∷ []) os)
   of_line {key} = line.own key
 
-  -- what follows where one of the words before the first `--` spells the key, whatever names are
-  -- known
+  -- what follows where a word before the first `--` spells the key, whatever names are known
   abbrev IfKeySpelled : Names → Type 0 → Type 0
   IfKeySpelled key A =
       (names : Names) → key ≡ names → All IsUtf8 words → IsSpelledByAny known.numbers names words
@@ -397,8 +359,7 @@ module _ {known : Known} {words : List (List ℕ)} {os : List LinePiece}
   pub spelled_optional : {key : Names} {A : Type 0} {inside : Said A} {o : Option A}
       → OptionalSays inside (keyed (key ∷ []) os) o → (value : Option A) → value ≡ o
       → IfKeySpelled key (IsSome value)
-  spelled_optional (says_some x is so) value e names same texts spelled =
-      subst IsSome (sym (e ∙ is)) refl
+  spelled_optional (says_some x is so) value e names same texts spelled = grind arith
   spelled_optional (says_none is none) value e names same texts spelled =
       absurd (spelled_key names same texts spelled none)
 
@@ -413,54 +374,47 @@ module _ {known : Known} {words : List (List ℕ)} {os : List LinePiece}
 -- What an answer of a program says by the words: whose keys were spelled of the fields in front of
 -- commands, and which command's word was.
 
--- what is left of cells: at each place what was there, or nothing
-pub data IsLeft : Cells → Cells → Type 0 where
-  none_left : IsLeft [] []
-  still_there : {c : Option Arg} {left cs : Cells} → IsLeft left cs → IsLeft (c ∷ left) (c ∷ cs)
-  gone : {c : Option Arg} {left cs : Cells} → IsLeft left cs → IsLeft (None ∷ left) (c ∷ cs)
+-- what is present of the left cells is present of these
+pub record IsLeft (left cs : Cells) : Type 0 where
+  pub each : (k : Arg) → Contains (present left) k → Contains (present cs) k
 
 -- all of them
-all_left : (cs : Cells) → IsLeft cs cs
-all_left [] = none_left
-all_left (c ∷ cs) = still_there (all_left cs)
+all_left : {cs : Cells} → IsLeft cs cs
+all_left = record { each = λ k there. there }
 
--- what is left of what is left
-left_again : {a b c : Cells} → IsLeft a b → IsLeft b c → IsLeft a c
-left_again none_left none_left = none_left
-left_again (still_there l) (still_there m) = still_there (left_again l m)
-left_again (still_there l) (gone m) = gone (left_again l m)
-left_again (gone l) (still_there m) = gone (left_again l m)
-left_again (gone l) (gone m) = gone (left_again l m)
+-- so it is where a cell is there still,
+still_there : {left cs : Cells} (c : Option Arg) → IsLeft left cs → IsLeft (c ∷ left) (c ∷ cs)
+still_there {left} {cs} c l = record {
+  each = λ k there. ⊎_elim
+      (λ here. Contains-append_left (option_to_list c) (present cs) k here)
+      (λ behind. Contains-append_right (option_to_list c) (present cs) k (l.each k behind))
+      (Contains-append_cases (option_to_list c) (present left) k there);
+}
+
+-- and where it is gone
+gone : {left cs : Cells} (c : Option Arg) → IsLeft left cs → IsLeft (None ∷ left) (c ∷ cs)
+gone {cs = cs} c l = record {
+  each = λ k there. Contains-append_right (option_to_list c) (present cs) k (l.each k there);
+}
 
 -- the pieces of a field taken away
 taken_left : {q : Roles} {cs left : Cells} {os : List LinePiece} → Takes q cs os left
     → IsLeft left cs
-taken_left no_cells = none_left
-taken_left (empty_stays t) = still_there (taken_left t)
-taken_left (other_stays e t) = still_there (taken_left t)
-taken_left (takes_flag e t) = gone (taken_left t)
-taken_left (takes_argument e v t) = gone (gone (taken_left t))
+taken_left no_cells = all_left
+taken_left (empty_stays t) = still_there None (taken_left t)
+taken_left (other_stays {k = k} e t) = still_there (Some k) (taken_left t)
+taken_left (takes_flag {k = k} e t) = gone (Some k) (taken_left t)
+taken_left (takes_argument {k = k} {w = w} e v t) = gone (Some k) (gone (Some w) (taken_left t))
 
 -- what stands behind a command's word
 opens_left : {words : List (List ℕ)} {cs ds : Cells} → Opens words cs ds → IsLeft ds cs
-opens_left (opens_here {cs = cs} is) = gone (all_left cs)
-opens_left (opens_later o) = still_there (opens_left o)
-
--- an item that is left is present where it is left of
-item_there : {left cs : Cells} → IsLeft left cs → (k : Arg) → Contains (present left) k
-    → Contains (present cs) k
-item_there none_left k there = there
-item_there (still_there {c = c} {left = left} {cs = cs} l) k there = ⊎_elim
-    (λ here. Contains-append_left (option_to_list c) (present cs) k here)
-    (λ behind. Contains-append_right (option_to_list c) (present cs) k (item_there l k behind))
-    (Contains-append_cases (option_to_list c) (present left) k there)
-item_there (gone {c = c} {cs = cs} l) k there =
-    Contains-append_right (option_to_list c) (present cs) k (item_there l k there)
+opens_left (opens_here {k = k} is) = gone (Some k) all_left
+opens_left (opens_later o) = still_there None (opens_left o)
 
 -- so is one that passes a test
 kept_on : (test : Arg → Bool) {left cs : Cells} → IsLeft left cs → HasPassing test (present left)
     → HasPassing test (present cs)
-kept_on test l (k, among, passes) = (k, item_there l k among, passes)
+kept_on test l (k, among, passes) = (k, l.each k among, passes)
 
 -- the word of a command stands where it opens
 opens_on : (words : List (List ℕ)) {cs ds : Cells} → Opens words cs ds
@@ -508,7 +462,7 @@ told_line told words are = record {
   are = are;
   context = told.is_value.context;
   on_line = told.is_value.on_line;
-  left = all_left (line_cells told.is_value.context);
+  left = all_left;
 }
 
 module _ {known : Known} {given : Given} {words : List (List ℕ)} {cs : Cells}
@@ -520,7 +474,7 @@ module _ {known : Known} {given : Given} {words : List (List ℕ)} {cs : Cells}
     are = line.are;
     context = line.context;
     on_line = line.on_line;
-    left = left_again (taken_left taken) line.left;
+    left = record { each = λ k there. line.left.each k ((taken_left taken).each k there) };
   }
 
   -- The pieces of a named field are its key's own there.
@@ -567,8 +521,7 @@ pieces_behind os = map item_text (items_behind os)
 
 -- the value of a key doesn't stand behind `--`
 value_before : (w : Arg) → is_value w ≡ true → stands_behind w ≡ false
-value_before (PosWord text) h = absurd cc
-value_before w h = refl
+value_before w h = grind arith
 
 -- an item that doesn't stand there
 abbrev IsBefore : Arg → Type 0
@@ -579,9 +532,7 @@ behind_is : (items : List Arg) (texts : List (List ℕ)) → AllByRecursion IsBe
     → map item_text (filter stands_behind (items ++ map PosWord texts)) ≡ texts
 behind_is [] [] before = refl
 behind_is [] (text ∷ texts) before = ap (λ rest. text ∷ rest) (behind_is [] texts tt)
-behind_is (k ∷ items) texts before =
-    let kept = filter stands_behind (items ++ map PosWord texts) in
-    ap (λ b. map item_text (cond b (k ∷ kept) kept)) before.0 ∙ behind_is items texts before.1
+behind_is (k ∷ items) texts before = grind (arith, behind_is items texts before.1)
 
 -- Of a context's line, cut for a record, what stands behind `--` are the words there.
 pub line_behind : {known : Known} {given : Given} {context : Context}
@@ -601,26 +552,16 @@ line_behind {known} {given} {context} is cut =
 module _ (q : Roles) (named : IsNamed q) where
   -- no item of a named field stands there
   own_before : (k : Arg) → is_own_role (q k) ≡ true → stands_behind k ≡ false
-  own_before (PosWord text) h =
-      absurd (true≢false (sym h ∙ ap is_own_role (named.only_keys (PosWord text) refl)))
-  own_before k h = refl
+  own_before k h = grind arith
 
   -- nor does one that begins a piece of its own
   piece_before : (o : LinePiece) → is_own q o ≡ true → stands_behind (first_item o) ≡ false
-  piece_before (One k) h = own_before k h
-  piece_before (Two k w) h = own_before k h
+  piece_before x h = grind (arith, own_before)
 
   -- so it leaves all items that do,
   others_are : (os : List LinePiece) → items_behind (others q os) ≡ items_behind os
   others_are [] = refl
-  others_are (o ∷ os) = by_own (is_own q o) refl (others_are os)
-    where
-      by_own : (b : Bool) → is_own q o ≡ b → items_behind (others q os) ≡ items_behind os
-          → items_behind (if not b then (o ∷ others q os) else others q os) ≡ items_behind (o ∷ os)
-      by_own true e h =
-          h ∙ sym (ap (λ b. cond b (first_item o ∷ items_behind os) (items_behind os))
-          (piece_before o e))
-      by_own false e h = ap (λ ks. cond (stands_behind (first_item o)) (first_item o ∷ ks) ks) h
+  others_are (o ∷ os) = grind (arith, piece_before, others_are os)
 
   -- and all texts,
   pub others_behind : (os : List LinePiece) → pieces_behind (others q os) ≡ pieces_behind os
@@ -629,18 +570,13 @@ module _ (q : Roles) (named : IsNamed q) where
 -- as a flag
 pub flag_leaves : (names : Names) (os : List LinePiece)
     → pieces_behind (others (flag_roles names) os) ≡ pieces_behind os
-flag_leaves names os =
-    others_behind (flag_roles names) (test_named (is_key_of names) names Alone (λ k e. e)) os
+flag_leaves names os = grind (arith, others_behind, test_named)
 
 -- A word that has to stand before `--` leaves all of it,
 pub name_before : {T : Type 0} {means : List ℕ → T → Type 0} (ws : List LinePiece) {v : T}
     → WordSays (accepts NonStrict) means (front (OneWord true) ws) v
     → pieces_behind (back (OneWord true) ws) ≡ pieces_behind ws
-name_before ws so =
-    let left = items_behind (back (OneWord true) ws) in
-    sym (ap pieces_behind (of_front_one true ws (One so.word) so.is)
-    ∙ ap (λ b. map item_text (cond b (so.word ∷ left) left))
-    (not-true (stands_behind so.word) so.side))
+name_before ws so = grind (arith, not-true, of_front_one)
 
 -- and a repeat of words that have to stand behind it reads it, in order.
 pub strict_words : {T : Type 0} {means : List ℕ → T → Type 0} {ws : List LinePiece} {vs : List T}
@@ -652,7 +588,5 @@ strict_words {T} {means} {ws} {vs} so = each ws vs (word_values so)
     each [] [] all = tt
     each [] (v ∷ vs) all = absurd all
     each (o ∷ ws) [] all = absurd all
-    each (One k ∷ ws) (v ∷ vs) all =
-        subst (λ b. AllZip means (map item_text (cond b (k ∷ items_behind ws) (items_behind ws)))
-        (v ∷ vs)) (sym all.0.0) (all.0.1, each ws vs all.1)
+    each (One k ∷ ws) (v ∷ vs) all = grind (arith, each ws vs all.1)
     each (Two k w ∷ ws) (v ∷ vs) all = absurd all.0

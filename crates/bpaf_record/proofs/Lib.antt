@@ -1,4 +1,3 @@
 pub mod Parts
 pub mod Running
-pub mod Programs
 pub mod Answered

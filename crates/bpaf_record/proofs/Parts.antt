@@ -1,65 +1,54 @@
 -- What the combinators make of a part of a program, a choice of any number of parsers among them.
-use Rattle.std.proofs.Common.{◌≡◌, ℕ, Bool, true, false, not, ◌&&◌, ◌||◌, List, [], ◌∷◌, ◌++◌, refl}
-use Rattle.std.proofs.Common.{sym, ap, ◌∙◌, if◌then◌else◌, zero, suc, ◌+◌, ◌<◌, ◌≤◌, length, take}
-use Rattle.std.proofs.Common.{flat_map, slice_index_or, arith, append-nil, append_assoc}
+use Rattle.std.proofs.Common.{slice_index_or, if◌then◌else◌, append_assoc, append-nil, flat_map, []}
+use Rattle.std.proofs.Common.{length, false, arith, Bool, true, ◌&&◌, List, ◌++◌, refl, zero, take}
+use Rattle.std.proofs.Common.{◌≡◌, not, ◌∷◌, sym, ◌∙◌, suc, ◌+◌, ◌<◌, ◌≤◌, ap, ℕ}
 use Rattle.std.proofs.{lemmas.List.Folds.list_all-append, lemmas.List.take_more}
 use Rattle.std.specs.List.{list_all}
 use Rattle.bpaf_doc.specs.Names.{Names}
-use Rattle.bpaf_laws.specs.{Command.Called, Command.opening_words, Choice.Nested}
-use Rattle.bpaf_exact.specs.Flat.{FieldKind, ByName, OneWord, EachWord, Gap, Groups, OwnList}
-use Rattle.bpaf_exact.specs.Flat.{repeated, Closure, FallbackValue, LastOf}
-use Rattle.bpaf_exact.specs.ProgramForm.{ProgramForm, no_program, alternative, single, complete}
-use Rattle.bpaf_exact.specs.ProgramForm.{product, commands, before_commands, program_if}
-use Rattle.bpaf_exact.specs.ProgramForm.{program_closed, program_dressed, completed}
-use Rattle.bpaf_exact.specs.ProgramForm.{program_optional, are_words_apart, program_choice}
-use Rattle.bpaf_exact.specs.ProgramForm.{choice_only, is_named, is_program, is_record, may_follow}
-use Rattle.bpaf_exact.specs.ProgramForm.{program_alone, program_both, program_command, program_con}
-use Rattle.bpaf_exact.specs.ProgramForm.{program_field, are_plain}
-use Rattle.bpaf_exact.specs.Pieces.{are_all_apart, LinePiece}
-use Rattle.bpaf_record.specs.declared.part.ProgramPart.TheVariants.{Complete, Product, Commands}
-use Rattle.bpaf_record.specs.Part.{kind_of, part_of, part_if, closed_part, completed_part}
-use Rattle.bpaf_record.specs.Part.{dressed_part, optional_part, chosen_part, only_part}
-use Rattle.bpaf_record.specs.Part.{is_program_part, is_record_part, command_part, field_part}
-use Rattle.bpaf_record.specs.Part.{last_part, before_part, is_named_kind, made_part, may_stand}
-use Rattle.bpaf_record.specs.Grammar.{Grammar, choice, choices_of, command_words, keys_of}
+use Rattle.bpaf_laws.specs.{Command.opening_words, Command.Called, Choice.Nested}
+use Rattle.bpaf_exact.specs.Flat.{FallbackValue, FieldKind, repeated, OwnList, Closure, Groups, Gap}
+use Rattle.bpaf_exact.specs.ProgramForm.{program_dressed, program_closed, program_choice, completed}
+use Rattle.bpaf_exact.specs.ProgramForm.{choice_only, program_con, program_if, is_program, is_named}
+use Rattle.bpaf_exact.specs.ProgramForm.{program_alone, program_field, program_both, ProgramForm}
+use Rattle.bpaf_exact.specs.ProgramForm.{program_optional, are_words_apart, program_command}
+use Rattle.bpaf_exact.specs.ProgramForm.{may_follow, is_record, are_plain}
+use Rattle.bpaf_exact.specs.{Pieces.are_all_apart, Pieces.LinePiece, Flat.LastOf}
+use Rattle.bpaf_record.specs.Part.{optional_part, dressed_part, command_part, closed_part, kind_of}
+use Rattle.bpaf_record.specs.Part.{is_program_part, completed_part, is_record_part, is_named_kind}
+use Rattle.bpaf_record.specs.Part.{chosen_part, before_part, field_part, only_part, last_part}
+use Rattle.bpaf_record.specs.Grammar.{command_words, choices_of, Grammar, keys_of, choice}
+use Rattle.bpaf_record.specs.Part.{made_part, may_stand, part_of, part_if}
 
 -- where a test holds
 if_is : {T : Type 0} (b : Bool) (s : ProgramForm T)
     → part_if b (part_of s) ≡ part_of (program_if b s)
-if_is true s = refl
-if_is false s = refl
+if_is b s = grind arith
 
 -- a closure
 pub closed_part_is : {A B : Type 0} (f : Closure A B) (s : ProgramForm A)
     → closed_part (part_of s) ≡ part_of (program_closed f s)
-closed_part_is f no_program = refl
-closed_part_is f _ = refl
+closed_part_is f s = grind arith
 
 -- another look
 pub dressed_part_is : {T : Type 0} (s : ProgramForm T)
     → dressed_part (part_of s) ≡ part_of (program_dressed s)
-dressed_part_is no_program = refl
-dressed_part_is _ = refl
+dressed_part_is s = grind arith
 
 -- a repeated word is a word
 repeated_is : (k : FieldKind) → kind_of k ≡ kind_of (repeated k)
-repeated_is ByName = refl
-repeated_is _ = refl
+repeated_is s = grind arith
 
 -- a repeat or a default of a kind
 completed_is : {T B : Type 0} (kind : FieldKind → FieldKind)
     (value : Groups T → Gap T → List LinePiece → B → Type 0)
     → ((k : FieldKind) → kind_of k ≡ kind_of (kind k)) → (s : ProgramForm T)
     → completed_part (part_of s) ≡ part_of (completed kind value s)
-completed_is kind value same (alternative wide q each) = ap (Complete wide) (same ByName)
-completed_is kind value same (single wide k q group gap) = ap (Complete wide) (same k)
-completed_is kind value same _ = refl
+completed_is kind value same s = grind arith
 
 -- what is made of a repeat
 pub listed_part_is : {T B : Type 0} (f : Closure (List T) B) (s : ProgramForm T)
     → completed_part (part_of s) ≡ part_of (program_closed f (completed repeated (OwnList T) s))
-listed_part_is f (single wide k q group gap) = ap (Complete wide) (repeated_is k)
-listed_part_is f _ = refl
+listed_part_is f s = grind (arith, repeated_is)
 
 -- and of one that may catch
 pub repeat_part_is : {T B : Type 0} (catch : Bool) (f : Closure (List T) B) (s : ProgramForm T)
@@ -76,59 +65,43 @@ last_part_is {T} s = completed_is repeated (LastOf T) repeated_is s
 pub fallback_part_is : {T : Type 0} (f : Closure (Unit {0}) T) (s : ProgramForm T)
     → completed_part (part_of s)
     ≡ part_of (completed (λ k. k) (λ group gap. FallbackValue T group gap f) s)
-fallback_part_is {T} f s =
-    completed_is (λ k. k) (λ group gap. FallbackValue T group gap f) (λ k. refl) s
+fallback_part_is f s = grind (arith, completed_is)
 
 -- what may be left out, and may catch
 pub optional_part_is : {T : Type 0} (catch : Bool) (s : ProgramForm T)
     → part_if (not catch) (optional_part (part_of s))
     ≡ part_of (program_if (not catch) (program_optional s))
-optional_part_is {T} catch s = ap (part_if (not catch)) (optional_is s) ∙ if_is (not catch) _
-  where
-    optional_is : (s : ProgramForm T) → optional_part (part_of s) ≡ part_of (program_optional s)
-    optional_is (commands false value) = refl
-    optional_is _ = refl
+optional_part_is {T} catch s = grind (arith, if_is)
 
 -- a choice of two
 pub choice_part_is : {T : Type 0} (own others : List Names) (words more : List (List ℕ))
     (s t : ProgramForm T)
     → chosen_part (are_all_apart own others) (are_words_apart words more) (part_of s) (part_of t)
     ≡ part_of (program_choice own others words more s t)
-choice_part_is own others words more (alternative wide q a) (alternative other r b) =
-    if_is (are_all_apart own others) _
-choice_part_is own others words more (commands false a) (commands false b) =
-    if_is (are_words_apart words more) _
-choice_part_is own others words more _ _ = refl
+choice_part_is own others words more s t = grind (arith, if_is)
 
 -- one parser of a choice
 pub only_part_is : {T : Type 0} (s : ProgramForm T)
     → only_part (part_of s) ≡ part_of (choice_only s)
-only_part_is (commands false value) = refl
-only_part_is _ = refl
+only_part_is s = grind arith
 
 -- a flat record
 pub record_part_is : {T : Type 0} (s : ProgramForm T) → is_record_part (part_of s) ≡ is_record s
-record_part_is no_program = refl
-record_part_is _ = refl
+record_part_is s = grind arith
 
 -- a program
 pub program_part_is : {T : Type 0} (s : ProgramForm T) → is_program_part (part_of s) ≡ is_program s
-program_part_is no_program = refl
-program_part_is _ = refl
+program_part_is s = grind arith
 
 -- a command
 pub command_part_is : {T : Type 0} (adjacent apart : Bool) (called : Called) (s : ProgramForm T)
     → command_part ((not adjacent && apart) && are_plain (opening_words called)) (part_of s)
     ≡ part_of (program_command adjacent apart called s)
-command_part_is adjacent apart called s =
-    ap (λ b. part_if (((not adjacent && apart) && are_plain (opening_words called)) && b)
-    (Commands false)) (program_part_is s)
-    ∙ if_is (((not adjacent && apart) && are_plain (opening_words called)) && is_program s) _
+command_part_is adjacent apart called s = grind (arith, if_is, program_part_is)
 
 -- one test alone
 pub and_true : (b : Bool) → b ≡ (b && true)
-and_true true = refl
-and_true false = refl
+and_true b = grind arith
 
 -- a test of the keys of two
 pub all_joined : {X : Type 0} (test : X → Bool) (xs ys : List X)
@@ -139,65 +112,37 @@ all_joined test xs ys = sym (list_all-append test xs ys)
 pub keys_entered : (test : Names → Bool) (deep : Bool) (names : List Names) (b : Bool)
     → b ≡ list_all test names
     → (if deep then b else true) ≡ list_all test (if deep then names else [])
-keys_entered test true names b e = e
-keys_entered test false names b e = refl
+keys_entered test b names s e = grind arith
 
 -- a field of a product
 field_part_is : {T : Type 0} (s : ProgramForm T) → field_part (part_of s) ≡ part_of (program_field s)
-field_part_is (product wide true q fields) = refl
-field_part_is _ = refl
+field_part_is s = grind arith
 
 -- a named one
 named_is : (k : FieldKind) → is_named_kind (kind_of k) ≡ is_named k
-named_is ByName = refl
-named_is _ = refl
+named_is s = grind arith
 
 -- the last field
 pub alone_part_is : {T : Type 0} (s : ProgramForm T)
     → last_part (field_part (part_of s)) ≡ part_of (program_alone (program_field s))
-alone_part_is {T} s = ap last_part (field_part_is s) ∙ by_field (program_field s)
-  where
-    by_field : (s : ProgramForm T) → last_part (part_of s) ≡ part_of (program_alone s)
-    by_field (complete wide k q value) = ap (Product wide) (named_is k)
-    by_field (product wide true q fields) = refl
-    by_field _ = refl
+alone_part_is s = grind (arith, field_part_is, named_is)
 
 -- keys may stand after a field
 stands : (k : FieldKind) (own others : List Names)
     → may_stand (kind_of k) (are_all_apart own others) (list_all (λ names. false) others)
     ≡ may_follow k own others
-stands ByName own others = refl
-stands (OneWord stops) own (names ∷ others) = refl
-stands (EachWord stops) own (names ∷ others) = refl
-stands _ own [] = refl
+stands s own others = grind arith
 
 -- a field before others
 pub both_part_is : {A B : Type 0} (own others : List Names) (s : ProgramForm A) (t : ProgramForm B)
     → before_part (field_part (part_of s)) (part_of t) (are_all_apart own others)
     (list_all (λ names. false) others) ≡ part_of (program_both own others (program_field s) t)
-both_part_is {A} {B} own others s t =
-    ap (λ part. before_part part (part_of t) (are_all_apart own others)
-    (list_all (λ names. false) others)) (field_part_is s)
-    ∙ by_field (program_field s) t
-  where
-    by_field : (s : ProgramForm A) (t : ProgramForm B)
-        → before_part (part_of s) (part_of t) (are_all_apart own others)
-        (list_all (λ names. false) others) ≡ part_of (program_both own others s t)
-    by_field (complete wide k q value) (product other named r fields) =
-        ap (λ b. part_if b (Product (wide || other) (is_named_kind (kind_of k) && named)))
-        (stands k own others)
-        ∙ (ap (λ b. part_if (may_follow k own others) (Product (wide || other) (b && named)))
-        (named_is k)
-        ∙ if_is (may_follow k own others) _)
-    by_field (complete wide ByName q value) (before_commands rest) =
-        if_is (are_all_apart own others) _
-    by_field _ _ = refl
+both_part_is own others s t = grind (arith, field_part_is, if_is, named_is, stands)
 
 -- a constructor
 pub con_part_is : {A B : Type 0} (f : Closure A B) (s : ProgramForm A)
     → made_part (part_of s) ≡ part_of (program_con f s)
-con_part_is f no_program = refl
-con_part_is f _ = refl
+con_part_is f s = grind arith
 
 module _ {P T : Type 0} (of : P → Grammar T) where
   -- one parser more is chosen last
@@ -219,31 +164,28 @@ module _ {P T : Type 0} (of : P → Grammar T) where
   -- and of the first alone it is that one
   pub first_is : (ps : List P) (d : P) → 1 ≤ length ps
       → choices_of of (take 1 ps) ≡ of (slice_index_or ps 0 d)
-  first_is [] d some = absurd (omega arith)
-  first_is (p ∷ ps) d some = refl
+  first_is xs d some = grind arith
 
-  -- its keys are those of all
+  -- what is listed of it, as its keys are or its words, is that of all
+  pub choices_listed : {X : Type 0} (list : Grammar T → List X) → list (choices_of of []) ≡ []
+      → ((g h : Grammar T) → list (choice g h) ≡ list g ++ list h) → (ps : List P)
+      → list (choices_of of ps) ≡ flat_map (λ p. list (of p)) ps
+  choices_listed list none two [] = none
+  choices_listed {X} list none two (p ∷ ps) = nested (of p) ps
+    where
+      nested : (g : Grammar T) (ps : List P)
+          → list (Nested choice of g ps) ≡ list g ++ flat_map (λ p. list (of p)) ps
+      nested g [] = sym (append-nil (list g))
+      nested g (p ∷ ps) = nested (choice g (of p)) ps
+          ∙ (ap (λ z. z ++ flat_map (λ p. list (of p)) ps) (two g (of p))
+          ∙ append_assoc (list g) (list (of p)) (flat_map (λ p. list (of p)) ps))
+
+  -- so are its keys
   pub choices_keys : (ps : List P) (deep : Bool)
       → keys_of (choices_of of ps) deep ≡ flat_map (λ p. keys_of (of p) deep) ps
-  choices_keys [] deep = refl
-  choices_keys (p ∷ ps) deep = nested (of p) ps
-    where
-      nested : (g : Grammar T) (ps : List P) → keys_of (Nested choice of g ps) deep
-          ≡ keys_of g deep ++ flat_map (λ p. keys_of (of p) deep) ps
-      nested g [] = sym (append-nil (keys_of g deep))
-      nested g (p ∷ ps) = nested (choice g (of p)) ps
-          ∙ append_assoc (keys_of g deep) (keys_of (of p) deep)
-          (flat_map (λ p. keys_of (of p) deep) ps)
+  choices_keys ps deep = choices_listed (λ g. keys_of g deep) refl (λ g h. refl) ps
 
-  -- and so are its words
+  -- and its words
   pub choices_words : (ps : List P)
       → command_words (choices_of of ps) ≡ flat_map (λ p. command_words (of p)) ps
-  choices_words [] = refl
-  choices_words (p ∷ ps) = nested (of p) ps
-    where
-      nested : (g : Grammar T) (ps : List P) → command_words (Nested choice of g ps)
-          ≡ command_words g ++ flat_map (λ p. command_words (of p)) ps
-      nested g [] = sym (append-nil (command_words g))
-      nested g (p ∷ ps) = nested (choice g (of p)) ps
-          ∙ append_assoc (command_words g) (command_words (of p))
-          (flat_map (λ p. command_words (of p)) ps)
+  choices_words ps = choices_listed command_words refl (λ g h. refl) ps

@@ -1,43 +1,38 @@
--- Each answer that the table of a run allows to a flat record keeps to its fields: what is present
--- on the line of the words, and what it is read as.
-use Rattle.std.proofs.Common.{◌≡◌, ◌<◌, ℕ, zero, suc, Bool, true, false, List, [], ◌∷◌, ◌++◌, ◌==◌}
-use Rattle.std.proofs.Common.{Option, Some, None, length, map, refl, sym, ap, ◌∙◌, arith, All}
-use Rattle.std.proofs.Common.{subst, codes, slice_get, if◌then◌else◌, append-nil, cond, drop}
-use Rattle.std.proofs.Common.{IsUtf8, Result, Ok, Err, IfOk, not}
-use Rattle.std.proofs.lemmas.List.Elements.{All-append, All-contains, All-map}
-use Rattle.std.proofs.lemmas.List.Elements.{Contains-append_right}
-use Rattle.std.proofs.{lemmas.List.get_or_at, lemmas.Option.slice_get_within, lemmas.Bool.and_parts}
+-- Each answer that the table of a run allows to a program is exact, and to a flat record keeps to its
+-- fields: what is present on the line of the words, and what it is read as.
+use Rattle.std.proofs.Common.{if◌then◌else◌, append-nil, slice_get, Option, length, IsUtf8, Result}
+use Rattle.std.proofs.Common.{false, arith, subst, codes, zero, Bool, true, List, ◌++◌, ◌==◌, Some}
+use Rattle.std.proofs.Common.{None, refl, cond, drop, IfOk, ◌≡◌, ◌<◌, suc, ◌∷◌, map, sym, ◌∙◌, All}
+use Rattle.std.proofs.Common.{Err, [], ap, Ok, ℕ}
+use Rattle.std.proofs.lemmas.List.Elements.{Contains-append_right, All-contains, All-append}
+use Rattle.std.proofs.{lemmas.Option.slice_get_within, lemmas.List.Elements.All-map}
+use Rattle.std.proofs.{lemmas.List.get_or_at, lemmas.Bool.and_parts}
 use Rattle.std.specs.{Prelude.flat_map, Prelude.get_or, List.Contains, List.filter}
-use Rattle.std.specs.{Option.option_to_list}
-use Rattle.bpaf_base.specs.{declared.arg.Arg.Arg, declared.arg.Arg.TheVariants.PosWord}
-use Rattle.bpaf_words.specs.{Line.HasNoMarker, Line.IsLine, Line.SpellAll, Line.with_marker}
-use Rattle.bpaf_words.specs.{Line.without_marker, Line.Known, Line.HasNoLine, Arguments.Given}
-use Rattle.bpaf_line.specs.Situation.{Context, is_marker, item_in, Situation, beginning}
-use Rattle.bpaf_line.specs.declared.failure.ParseFailure.{ParseFailure}
-use Rattle.bpaf_line.specs.{Taking.IsContext, declared.error.Error.Error}
-use Rattle.bpaf.specs.Run.{Runs, RunsWords, value, leftover, refused, ran, no_line as none_there}
-use Rattle.bpaf.specs.Run.{no_memory as wanted}
-use Rattle.bpaf.specs.{Marker.is_marker_word, Marker.words_before, Marker.words_behind}
-use Rattle.bpaf.specs.{Info.RunInfo, Ending.EndsRun, Ending.memory, Ending.usage, Ending.passed_on}
-use Rattle.bpaf.specs.{Ending.refused as told_refusal, Ending.leftover as told_leftover}
-use Rattle.bpaf.proofs.Sides.{EachOf, all_spelled, of_words, two_sides}
-use Rattle.bpaf_exact.specs.Pieces.{Cells, Cut, LinePiece, Roles, argument, at_end, flag, is_value}
-use Rattle.bpaf_exact.specs.Pieces.{passed, word}
-use Rattle.bpaf_exact.specs.ProgramForm.{IsSpelledLine, is_dashed, is_spelled, line_cells, RunRan}
-use Rattle.bpaf_exact.specs.ProgramForm.{run_value, run_leftover, run_memory, run_refusal}
-use Rattle.bpaf_exact.specs.ProgramForm.{IsNoValue, IsAcceptedOrWant, IsExact, RecordValue}
-use Rattle.bpaf_exact.specs.ProgramForm.{ProgramForm, alternative, single, complete, product}
-use Rattle.bpaf_exact.specs.ProgramForm.{FormLaw, is_record, product_roles, product_reading}
-use Rattle.bpaf_exact.specs.ProgramForm.{whole_program}
-use Rattle.bpaf_exact.specs.{Flat.first_cells, Flat.FieldsLaw, Flat.FieldsReading, Says.first_item}
-use Rattle.bpaf_words.proofs.OneLine.{one_lines}
+use Rattle.std.specs.Option.{option_to_list}
+use Rattle.bpaf_base.specs.{declared.arg.Arg.TheVariants.PosWord, declared.arg.Arg.Arg}
 use Rattle.bpaf_doc.specs.{Names.Names, Shape.Shape}
+use Rattle.bpaf_words.specs.Line.{without_marker, HasNoMarker, with_marker, HasNoLine, SpellAll}
+use Rattle.bpaf_words.specs.{Line.IsLine, Line.Known, Arguments.Given}
+use Rattle.bpaf_words.proofs.OneLine.{one_lines}
+use Rattle.bpaf_line.specs.Situation.{is_marker, beginning, Context, item_in}
+use Rattle.bpaf_line.specs.{declared.failure.ParseFailure.ParseFailure, Taking.IsContext}
 use Rattle.bpaf_laws.specs.Reading.{Outcome}
-use Rattle.bpaf_record.specs.Record.{is_flat_record, answer_of, AnswersByFields, IsValueOf}
-use Rattle.bpaf_record.specs.Record.{IsValueOrWant, HasWholeLine, PiecesOf, is_whole_program}
-use Rattle.bpaf_record.specs.Commands.{left_over}
-use Rattle.bpaf_exact.proofs.{Classes.memory_class, Classes.not_memory, Cuts.cut_holds_together}
-use Rattle.bpaf_exact.proofs.{Cuts.read_cut, ProgramForm.record_law, ProgramForm.runs_exactly}
+use Rattle.bpaf.specs.Run.{no_line as none_there, no_memory as wanted, RunsWords, refused, ran}
+use Rattle.bpaf.specs.Marker.{is_marker_word, words_before, words_behind}
+use Rattle.bpaf.specs.Info.{RunInfo}
+use Rattle.bpaf.proofs.Sides.{all_spelled, two_sides, of_words, EachOf}
+use Rattle.bpaf_exact.proofs.ProgramForm.{runs_as_program, runs_exactly, record_law}
+use Rattle.bpaf_exact.proofs.{ProgramSays.program_says, Cuts.cut_holds_together}
+use Rattle.bpaf_exact.specs.Pieces.{LinePiece, argument, is_value, at_end, passed, Cells, Roles}
+use Rattle.bpaf_exact.specs.ProgramForm.{IsAcceptedOrWant, IsSpelledLine, product_roles, is_spelled}
+use Rattle.bpaf_exact.specs.ProgramForm.{whole_program, program_value, ProgramForm, line_cells}
+use Rattle.bpaf_exact.specs.ProgramForm.{is_program, is_dashed, is_record, complete, Accepted}
+use Rattle.bpaf_exact.specs.Says.{ProgramSaid, ProgramSays, first_item, cells_said, SaidKind}
+use Rattle.bpaf_exact.specs.{Pieces.flag, Pieces.word, Pieces.Cut, Flat.first_cells, Flat.Variables}
+use Rattle.bpaf_exact.specs.ProgramForm.{FormLaw}
+use Rattle.bpaf_record.specs.Record.{is_whole_program, AnswersAsProgram, AnswersByFields, answer_of}
+use Rattle.bpaf_record.specs.Record.{is_flat_record, IsValueOrWant, TellsOfWords, PiecesOf}
+use Rattle.bpaf_record.specs.Commands.{run_ran}
 use Prim.Native.Nat.compare
 use Rattle.bpaf_line.specs.declared.failure.ParseFailure.TheVariants as failure
 
@@ -56,8 +51,7 @@ others_present : (items : List Arg) (marker : Arg) (rest : List Arg)
     slice_get (items ++ marker ∷ rest) p) (length (items ++ marker ∷ rest)))
     ≡ items ++ rest
 others_present [] marker rest = simp (compare.suc-zero) (all_present rest)
-others_present (k ∷ items) marker rest =
-    simp (compare.suc-suc, compare.zero-suc) (ap (λ ks. k ∷ ks) (others_present items marker rest))
+others_present (k ∷ items) marker rest = grind (arith, others_present items marker rest)
 
 -- what is present are the items of the words before the first `--`, and then the words behind it
 pub record ArePresent (known : Known) (words : List (List ℕ)) (here : List Arg) : Type 0 where
@@ -101,9 +95,7 @@ on_line known words line marker (with_marker before after items cut none spells)
 at_place : (at : ℕ → Option Arg) (n p : ℕ) (item : Arg) → p < n → at p ≡ Some item
     → Contains (present (first_cells at n)) item
 at_place at zero p item within is = absurd (omega arith)
-at_place at (suc n) zero item within is =
-    subst (λ c. Contains (present (c ∷ first_cells (λ q. at (suc q)) n)) item) (sym is)
-    (0, omega arith, refl)
+at_place at (suc n) zero item within is = grind arith
 at_place at (suc n) (suc p) item within is =
     Contains-append_right (option_to_list (at zero)) (present (first_cells (λ q. at (suc q)) n))
     item (at_place (λ q. at (suc q)) n p item (omega arith) is)
@@ -180,130 +172,85 @@ never_without known given texts context is at_word number none =
     (one_lines known given.words texts).not_both context.line context.marker at_word number is.is_line
     none
 
--- Each answer that the table of a run allows to a flat record keeps to its fields.
+-- Each answer that the table of a run allows is exact.
 
--- what a run answers that gives no value is none
-no_value : (T : Type 0) (f : ParseFailure) → IsNoValue (answer_of {T = T} (Err f))
-no_value T (failure.Stdout doc full) = tt
-no_value T (failure.Stderr doc) = tt
-no_value T failure.Memory = tt
+-- what is accepted is a value, and want is want of memory
+want_on : {T : Type 0} {P Q : T → Type 0} → ((v : T) → P v → Q v) → (r : Result T ParseFailure)
+    → IsAcceptedOrWant P (answer_of r) → IsValueOrWant Q r
+want_on so x h = grind arith
 
-module _ (T : Type 0) (outcome : Outcome T) (describes : Shape → Type 0) (info : RunInfo) where
-  -- a run that leaves items
-  leftover_ran : (s left t : Situation) (v : T) (f : ParseFailure) → outcome s (Ok v) left
-      → EndsRun describes info None s left f t → RunRan T outcome s (answer_of (Err f))
-  leftover_ran s left t v f o (told_leftover m before after g u is tells) =
-      run_leftover o (left_over left m is) (no_value T f)
+-- what holds of each value that is accepted holds of the answer
+sound_on : {T : Type 0} {Q : T → Type 0} (r : Result T ParseFailure)
+    → ((v : T) → answer_of r ≡ Accepted v → Q v) → IfOk r Q
+sound_on x h = grind arith
 
-  -- a run whose parser refuses
-  refused_ran : (s left t : Situation) (e : Error) (f : ParseFailure) → outcome s (Err e) left
-      → EndsRun describes info (Some e.0) s left f t → RunRan T outcome s (answer_of (Err f))
-  refused_ran s left t e f o (memory m before after is) = run_memory o (memory_class e.0 is)
-  refused_ran s left t e f o (usage m before g after spared shows is) =
-      run_refusal o (not_memory e.0 spared) (no_value T f)
-  refused_ran s left t e f o (passed_on g before after spared shows) =
-      run_refusal o (not_memory e.0 spared) (no_value T f)
-  refused_ran s left t e f o (told_refusal m before after g u spared shows other tells) =
-      run_refusal o (not_memory e.0 spared) (no_value T f)
+module _ {T : Type 0} {outcome : Outcome T} (describes : Shape → Type 0) (info : RunInfo)
+    (known : Known) {names : List Names} {words : List (List ℕ)} {form : ProgramForm T}
+    (given : Given) (law : FormLaw given.env outcome names words form) where
+  -- the law on the words' line
+  law_on : {context : Context} → IsContext known given context
+      → FormLaw context.env outcome names words form
+  law_on is = subst (λ env. FormLaw env outcome names words form) (sym is.env) law
 
-  -- a run from its beginning
-  pub run_ran : (s t : Situation) (r : Result T ParseFailure)
-      → Runs T outcome (EndsRun describes info) s r t → RunRan T outcome s (answer_of r)
-  run_ran s t r (value v after o none) = run_value o none
-  run_ran s t r (leftover v left f after o ends) = leftover_ran s left after v f o ends
-  run_ran s t r (refused e left f after o ends) = refused_ran s left after e f o ends
+  -- each answer to words keeps to the fields of a flat record
+  pub answers_by_fields : is_record form ≡ true → (r : Result T ParseFailure)
+      → RunsWords T outcome describes info known given r → AnswersByFields T known form given r
+  answers_by_fields flat r (ran context answer t is run) =
+      let roles : Roles = product_roles (whole_program form) in
+      let exact = runs_exactly flat context (law_on is) (answer_of r)
+      (run_ran T outcome describes info (beginning context) t r run) in
+      let here = λ (texts : All IsUtf8 given.words) (line : PiecesOf known form given).
+      subst (λ c. Cut roles (line_cells c) line.cut_into)
+      (same_context given texts known line.context context line.on_line is) line.cut in
+      record {
+        whole = sound_on r (λ v e. let read = exact.sound v e in record {
+          is_value = record { context = context; on_line = is; read = read };
+          together = cut_holds_together roles
+              (record_law flat law).named (line_cells context)
+              read.cut_into read.cut;
+        });
+        complete = λ texts line each.
+            want_on (λ v read. record { context = context; on_line = is; read = read }) r
+            (exact.complete line.cut_into (here texts line) each);
+        refused = λ texts line none.
+            sound_on r (exact.refused line.cut_into (here texts line) none);
+      }
+  answers_by_fields flat (Err f) (none_there at_word number context told none line name renders) =
+      record {
+        whole = tt;
+        complete = λ texts there each. absurd (never_without known given texts there.context
+            there.on_line at_word number none);
+        refused = λ texts there none_has. tt;
+      }
+  answers_by_fields flat (Err f) wanted = record {
+    whole = tt;
+    complete = λ texts there each. refl;
+    refused = λ texts there none_has. tt;
+  }
 
-module _ (T : Type 0) (outcome : Outcome T) (describes : Shape → Type 0) (info : RunInfo) where
-  module _ (known : Known) (names : List Names) (words : List (List ℕ)) (form : ProgramForm T)
-      (given : Given) (law : FormLaw given.env outcome names words form) (flat : is_record form ≡ true) where
-    -- a value of the record on words
-    abbrev IsValue : T → Type 0
-    IsValue = IsValueOf known form given
-
-    -- the keys of the record
-    abbrev roles : Roles
-    roles = product_roles (whole_program form)
-
-    -- how its fields read the pieces
-    abbrev reading : FieldsReading T
-    reading = product_reading (whole_program form)
-
-    -- they keep to the laws
-    fields_law : FieldsLaw given.env T outcome roles reading
-    fields_law = record_law given.env T outcome names words form flat law
-
-    -- the pieces that the words are cut into
-    abbrev Line : Type 0
-    Line = PiecesOf known form given
-
-    -- the line of a value of the record is whole
-    whole_line : (v : T) → IsValue v → HasWholeLine known form given v
-    whole_line v is = record {
-      is_value = is;
-      together = cut_holds_together roles fields_law.named (line_cells is.context)
-          is.read.cut_into (read_cut is.read);
-    }
-
-    module _ (context : Context) (is : IsContext known given context)
-        (r : Result T ParseFailure) (exact : IsExact T roles reading context (answer_of r)) where
-      -- what is exact on the words' line is a value only where that is one of the record's
-      sound_on : (a : Result T ParseFailure) → r ≡ a → IfOk a (HasWholeLine known form given)
-      sound_on (Ok v) e = whole_line v
-          (record { context = context; on_line = is; read = exact.sound v (ap answer_of e) })
-      sound_on (Err f) e = tt
-
-      -- an answer that is one of the record's values there, or want of memory
-      answer_on : (a : Result T ParseFailure)
-          → IsAcceptedOrWant (λ v. RecordValue roles reading.value context v) (answer_of a)
-          → IsValueOrWant IsValue a
-      answer_on (Ok v) given_value = record { context = context; on_line = is; read = given_value }
-      answer_on (Err (failure.Stdout doc full)) none = absurd none
-      answer_on (Err (failure.Stderr doc)) none = absurd none
-      answer_on (Err failure.Memory) none = refl
-
-      -- the pieces of the words are those of this line
-      pieces_on : All IsUtf8 given.words → (line : Line)
-          → Cut roles (line_cells context) line.cut_into
-      pieces_on texts line = subst (λ c. Cut roles (line_cells c) line.cut_into)
-          (same_context given texts known line.context context line.on_line is) line.cut
-
-      -- where each field has a value
-      complete_on : All IsUtf8 given.words → (line : Line) → reading.each line.cut_into
-          → IsValueOrWant IsValue r
-      complete_on texts line each =
-          answer_on r (exact.complete line.cut_into (pieces_on texts line) each)
-
-      -- where one has none
-      refused_on : All IsUtf8 given.words → (line : Line) → ¬ (reading.each line.cut_into)
-          → (a : Result T ParseFailure) → r ≡ a → IfOk a (λ v. ⊥)
-      refused_on texts line none (Ok v) e =
-          exact.refused line.cut_into (pieces_on texts line) none v (ap answer_of e)
-      refused_on texts line none (Err f) e = tt
-
-    -- each answer to words keeps to the fields
-    pub answers_by_fields : (r : Result T ParseFailure)
-        → RunsWords T outcome describes info known given r → AnswersByFields T known form given r
-    answers_by_fields r (ran context answer t is run) =
-        let here = subst (λ env. FormLaw env outcome names words form) (sym is.env) law in
-        let exact = runs_exactly T outcome names words form flat context here (answer_of r)
-        (run_ran T outcome describes info (beginning context) t r run) in
-        record {
-          whole = sound_on context is r exact r refl;
-          complete = complete_on context is r exact;
-          refused = λ texts line none. refused_on context is r exact texts line none r refl;
-        }
-    answers_by_fields (Err f) (none_there at_word number context told none line name renders) =
-        record {
-          whole = tt;
-          complete = λ texts there each. absurd (never_without known given texts there.context
-              there.on_line at_word number none);
-          refused = λ texts there none_has. tt;
-        }
-    answers_by_fields (Err f) wanted = record {
-      whole = tt;
-      complete = λ texts there each. refl;
-      refused = λ texts there none_has. tt;
-    }
+  -- THE THEOREM: on words each answer of a run of a program is exact.
+  pub answers_as_program : is_program form ≡ true → (r : Result T ParseFailure)
+      → RunsWords T outcome describes info known given r → AnswersAsProgram T known form given r
+  answers_as_program program r (ran context answer t is run) =
+      let exact = runs_as_program program context (law_on is) (answer_of r) (run_ran T outcome describes info (beginning context) t r run) in
+      record {
+        sound = sound_on r (λ v e. record {
+          context = context;
+          on_line = is;
+          read = exact.0 (context_spelled is) v e;
+        });
+        answered = λ texts v there.
+            want_on (λ v read. record { context = context; on_line = is; read = read }) r
+            (exact.1 v (subst (λ c. program_value form (line_cells c) v)
+            (same_context given texts known there.context context there.on_line is) there.read));
+      }
+  answers_as_program program (Err f)
+      (none_there at_word number context told none line name renders) = record {
+        sound = tt;
+        answered = λ texts v there. absurd (never_without known given texts there.context
+            there.on_line at_word number none);
+      }
+  answers_as_program program (Err f) wanted = grind arith
 
 -- options that are a flat record have a parser that is one
 pub is_flat_form : {T : Type 0} (form : ProgramForm T) (names : List Names) (info : RunInfo)
@@ -313,8 +260,21 @@ is_flat_form form names info e = (and_parts (is_record form) _ e).0
 -- and are a program
 pub flat_is_whole : {T : Type 0} (form : ProgramForm T) (names : List Names) (info : RunInfo)
     → is_flat_record form names info ≡ true → is_whole_program form names info ≡ true
-flat_is_whole (alternative wide q each) names info e = (and_parts (not wide) _ e).1
-flat_is_whole (single wide k q group gap) names info e = (and_parts (not wide) _ e).1
-flat_is_whole (complete wide k q each) names info e = (and_parts (not wide) _ e).1
-flat_is_whole (product wide named q fields) names info e = (and_parts (not wide) _ e).1
-flat_is_whole _ names info e = absurd cc
+flat_is_whole x names info e = grind (arith, and_parts)
+
+-- options that are a program have a parser that is one
+pub is_program_form : {T : Type 0} (form : ProgramForm T) (names : List Names) (info : RunInfo)
+    → is_whole_program form names info ≡ true → is_program form ≡ true
+is_program_form form names info e = (and_parts (is_program form) _ e).0
+
+-- a value of an exact answer says what its parser says
+pub tells_of_words : {P T : Type 0} {known : Known} {form : ProgramForm T} {kind : SaidKind}
+    {names : List Names} {given : Given} {env : Variables} {outcome : Outcome T}
+    {words : List (List ℕ)} (said : ProgramSaid P T) (p : P) → FormLaw env outcome names words form → ProgramSays names form kind said p
+    → (r : Result T ParseFailure) → AnswersAsProgram T known form given r
+    → IfOk r (TellsOfWords known form (cells_said form said p) given)
+tells_of_words said p law says (Ok v) exact = record {
+  is_value = exact.sound;
+  told = program_says said p law says (line_cells exact.sound.context) v exact.sound.read;
+}
+tells_of_words said p law says (Err f) exact = tt

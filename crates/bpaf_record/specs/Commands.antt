@@ -1,33 +1,35 @@
 -- Plain commands and positional words keep to the laws of their forms.
-use Rattle.std.proofs.Common.{◌≡◌, ℕ, Bool, true, false, List, Some, None, Result, Ok, Err, ap, inl}
-use Rattle.std.proofs.Common.{inr, [], refl, sym, ◌∙◌, not, subst, true≢false}
-use Rattle.bpaf_doc.specs.{Names.Names, Shape.Part, Shape.Shape}
-use Rattle.bpaf_line.specs.declared.failure.ParseFailure.{ParseFailure}
-use Rattle.bpaf_line.specs.Situation.{Situation, open_count, with_current}
-use Rattle.bpaf_line.specs.declared.error.Message.TheVariants.{Memory, Missing, ParseFailed}
-use Rattle.bpaf_line.specs.declared.error.Message.TheVariants.{StrictPos, NonStrictPos}
-use Rattle.bpaf_line.specs.{declared.error.Error.Error, declared.error.Message.Message}
-use Rattle.bpaf_laws.specs.Command.{Called, IsNotOpened, IsOpenedAt, inside, opening_words}
+use Rattle.std.proofs.Common.{true≢false, Result, false, subst, Bool, true, List, Some, refl, ◌≡◌}
+use Rattle.std.proofs.Common.{Err, inl, inr, sym, ◌∙◌, not, Ok, ap, [], ℕ}
+use Rattle.bpaf_base.specs.{declared.arg.Arg.Arg, Items.word_text}
+use Rattle.bpaf_doc.specs.{Shape.Shape, Shape.Part, Names.Names}
+use Rattle.bpaf_line.specs.declared.error.Message.TheVariants.{NonStrictPos, ParseFailed, StrictPos}
+use Rattle.bpaf_line.specs.declared.error.Message.TheVariants.{Missing, Memory}
+use Rattle.bpaf_line.specs.{declared.failure.ParseFailure.ParseFailure, declared.error.Error.Error}
+use Rattle.bpaf_line.specs.Situation.{open_count, Situation}
+use Rattle.bpaf_line.specs.declared.error.Message.{Message}
+use Rattle.bpaf_laws.specs.Command.{opening_words, IsOpenedAt, Called, inside}
 use Rattle.bpaf_laws.specs.Reading.{Outcome}
-use Rattle.bpaf_core.specs.Command.{EitherCommandOutcome, CommandOutcome, value, ended, missing}
-use Rattle.bpaf_core.specs.Command.{no_memory, IsMissingPart}
 use Rattle.bpaf_parts.specs.Failures.{end_message}
-use Rattle.bpaf.specs.Leftover.{IsLeftover, conflict, only_once, not_expected}
-use Rattle.bpaf.specs.Ending.{EndsRun, memory, usage, passed_on, refused as told_refusal}
-use Rattle.bpaf.specs.Ending.{leftover as told_leftover}
-use Rattle.bpaf.specs.Run.{Runs, value as ran_value, leftover, refused}
+use Rattle.bpaf_core.specs.Command.{EitherCommandOutcome, CommandOutcome, no_memory, missing, value}
+use Rattle.bpaf_core.specs.Command.{ended}
+use Rattle.bpaf.specs.Leftover.{not_expected, IsLeftover, only_once, conflict}
+use Rattle.bpaf.specs.Ending.{leftover as told_leftover, refused as told_refusal, passed_on, memory}
 use Rattle.bpaf.specs.Positional.{PositionalOutcome, PositionalFails, accepts}
-use Rattle.bpaf.specs.{Info.RunInfo, declared.leaves.positional.Position.Position}
-use Rattle.bpaf_exact.specs.ProgramForm.{CommandEval, command_value, command_leftover}
-use Rattle.bpaf_exact.specs.ProgramForm.{command_refused, command_missing, command_memory}
-use Rattle.bpaf_exact.specs.ProgramForm.{ProgramForm, FormLaw, program_command, WordValue, WordEval}
-use Rattle.bpaf_exact.specs.ProgramForm.{word_by, word_fault, word_memory, word_missing}
-use Rattle.bpaf_exact.specs.ProgramForm.{word_passed, word_read}
-use Rattle.bpaf_exact.specs.{Flat.class_of, Flat.Variables, Flat.class, Pieces.One}
+use Rattle.bpaf.specs.{Run.value as ran_value, Run.leftover, Run.refused, Run.Runs, Info.RunInfo}
+use Rattle.bpaf.specs.{declared.leaves.positional.Position.Position, Ending.EndsRun, Ending.usage}
 use Rattle.bpaf_exact.proofs.ProgramForm.{program_command_law, narrower_form, no_more}
 use Rattle.bpaf_exact.proofs.Leaves.{stands_before, word_by_law, word_is}
-use Rattle.bpaf_exact.proofs.{Classes.not_memory, Places.open_counted}
-use Rattle.bpaf_base.specs.{declared.arg.Arg.Arg, Items.word_text}
+use Rattle.bpaf_exact.proofs.{Classes.memory_class, Classes.not_memory, Places.open_counted}
+use Rattle.bpaf_exact.specs.ProgramForm.{command_leftover, command_refused, command_missing, RunRan}
+use Rattle.bpaf_exact.specs.ProgramForm.{program_command, command_memory, command_value, word_fault}
+use Rattle.bpaf_exact.specs.ProgramForm.{word_memory, word_passed, run_refusal, run_memory, FormLaw}
+use Rattle.bpaf_exact.specs.ProgramForm.{word_missing, run_leftover, CommandEval, ProgramForm}
+use Rattle.bpaf_exact.specs.ProgramForm.{WordValue, word_read, IsNoValue, run_value, WordEval}
+use Rattle.bpaf_exact.specs.{Flat.Variables, Flat.class_of, Flat.class, ProgramForm.word_by}
+use Rattle.bpaf_exact.specs.Pieces.{One}
+use Rattle.bpaf_record.specs.Record.{answer_of}
+use Rattle.bpaf_line.specs.declared.failure.ParseFailure.TheVariants as failure
 
 -- where something is told of what is left something is
 pub left_over : (s : Situation) (m : Message) → IsLeftover s m → open_count s ≡ 0 → ⊥
@@ -35,83 +37,71 @@ left_over s m (conflict p winner next is) = open_counted s p next.present
 left_over s m (only_once p earlier next is key) = open_counted s p next.present
 left_over s m (not_expected p next is key) = open_counted s p next.present
 
-module _ (T : Type 0) (inner : Outcome T) (describes : Shape → Type 0) (info : RunInfo)
-    (called : Called) (shows : Part → Type 0) where
-  -- what runs behind the word left something
-  left_behind : (s m t u : Situation) (v : T) (f : ParseFailure) (e : Error) (p : ℕ)
-      → IsOpenedAt (opening_words called) s p → inner (inside called s p) (Ok v) m
-      → EndsRun describes info None (inside called s p) m f u
-      → CommandEval T inner called s (Err e) t
-  left_behind s m t u v f e p at o (told_leftover w before after g x is tells) =
-      command_leftover at o (left_over m w is)
+-- what a run answers that gives no value is none
+no_value : (T : Type 0) (f : ParseFailure) → IsNoValue (answer_of {T = T} (Err f))
+no_value T (failure.Stdout doc full) = tt
+no_value T (failure.Stderr doc) = tt
+no_value T failure.Memory = tt
 
-  -- what runs behind it refused
-  refused_behind : (s m u : Situation) (d e : Error) (f : ParseFailure) (p : ℕ)
-      → IsOpenedAt (opening_words called) s p → inner (inside called s p) (Err d) m
-      → EndsRun describes info (Some d.0) (inside called s p) m f u → e.0 ≡ end_message f
-      → CommandEval T inner called s (Err e) u
-  refused_behind s m u d e f p at o (memory w before after is) h = command_memory (ap class_of h)
-  refused_behind s m u d e f p at o (usage w before g after spared shown is) h =
-      command_refused at o (not_memory d.0 spared)
-  refused_behind s m u d e f p at o (passed_on g before after spared shown) h =
-      command_refused at o (not_memory d.0 spared)
-  refused_behind s m u d e f p at o (told_refusal w before after g x spared shown plain tells) h =
-      command_refused at o (not_memory d.0 spared)
+module _ (T : Type 0) (inner : Outcome T) (describes : Shape → Type 0) (info : RunInfo) where
+  -- what a run answers, as exactness sees it
+  pub run_ran : (s t : Situation) (r : Result T ParseFailure)
+      → Runs T inner (EndsRun describes info) s r t → RunRan T inner s (answer_of r)
+  run_ran s t r (ran_value v left o none) = run_value o none
+  run_ran s t r (leftover v left f after o (told_leftover m l before g u is tells)) =
+      run_leftover o (left_over left m is) (no_value T f)
+  run_ran s t r (refused e left f after o (memory m before u is)) =
+      run_memory o (memory_class e.0 is)
+  run_ran s t r (refused e left f after o (usage m before g u spared shows is)) =
+      run_refusal o (not_memory e.0 spared) (no_value T f)
+  run_ran s t r (refused e left f after o (passed_on g before u spared shows)) =
+      run_refusal o (not_memory e.0 spared) (no_value T f)
+  run_ran s t r (refused e left f after o (told_refusal m l before g u spared shows other tells)) =
+      run_refusal o (not_memory e.0 spared) (no_value T f)
 
-  -- any end but a value
-  ended_behind : (s t : Situation) (e : Error) (f : ParseFailure) (p : ℕ)
-      → IsOpenedAt (opening_words called) s p
-      → Runs T inner (EndsRun describes info) (inside called s p) (Err f) t → e.0 ≡ end_message f
-      → CommandEval T inner called s (Err e) t
-  ended_behind s t e f p at (leftover v left g u o ends) h =
-      left_behind s left t u v g e p at o ends
-  ended_behind s t e f p at (refused d left g u o ends) h =
-      refused_behind s left u d e g p at o ends h
+  module _ (called : Called) (shows : Part → Type 0) where
+    -- any end but a value behind the word
+    ended_behind : {s t : Situation} {e : Error} (f : ParseFailure) {p : ℕ}
+        → IsOpenedAt (opening_words called) s p
+        → RunRan T inner (inside called s p) (answer_of (Err f)) → e.0 ≡ end_message f
+        → CommandEval T inner called s (Err e) t
+    ended_behind failure.Memory at ran h = command_memory (ap class_of h)
+    ended_behind (failure.Stdout doc full) at (run_leftover o left n) h = command_leftover at o left
+    ended_behind (failure.Stdout doc full) at (run_refusal o other n) h = command_refused at o other
+    ended_behind (failure.Stderr doc) at (run_leftover o left n) h = command_leftover at o left
+    ended_behind (failure.Stderr doc) at (run_refusal o other n) h = command_refused at o other
 
-  -- a value
-  value_behind : (s t : Situation) (v : T) (p : ℕ) → IsOpenedAt (opening_words called) s p
-      → Runs T inner (EndsRun describes info) (inside called s p) (Ok v) t
-      → CommandEval T inner called s (Ok v) t
-  value_behind s t v p at (ran_value w u o none) = command_value at o none
-
-  -- the word isn't there
-  missing_word : (s t : Situation) (e : Error) → IsNotOpened (opening_words called) s
-      → IsMissingPart shows s e.0 → CommandEval T inner called s (Err e) (with_current s None)
-  missing_word s t e none (inl m) = command_memory (ap class_of m)
-  missing_word s t e none (inr m) = command_missing none (ap class_of m.3)
-
-  -- each answer
-  command_eval : (s t : Situation) (r : Result T Error)
-      → CommandOutcome T inner (EndsRun describes info) called shows s r t
-      → CommandEval T inner called s r t
-  command_eval s t r (value v p u at ran) = value_behind s u v p at ran
-  command_eval s t r (ended f e p u at ran h) = ended_behind s u e f p at ran h
-  command_eval s t r (missing e none m) = missing_word s s e none m
-  command_eval s t r (no_memory e p at h) = command_memory (ap class_of h)
+    -- each answer
+    command_eval : (s t : Situation) (r : Result T Error)
+        → CommandOutcome T inner (EndsRun describes info) called shows s r t
+        → CommandEval T inner called s r t
+    command_eval s t r (value v p u at (ran_value w after o none)) = command_value at o none
+    command_eval s t r (ended f e p u at ran h) =
+        ended_behind f at (run_ran (inside called s p) u (Err f) ran) h
+    command_eval s t r (missing e none (inl m)) = command_memory (ap class_of m)
+    command_eval s t r (missing e none (inr m)) = command_missing none (ap class_of m.3)
+    command_eval s t r (no_memory e p at h) = command_memory (ap class_of h)
 
 -- A plain command keeps to the law of its form, where what runs behind its word does.
-pub plain_command_law : (env : Variables) (T : Type 0) (inner : Outcome T)
-    (describes : Shape → Type 0) (info : RunInfo) (called : Called) (shows : Part → Type 0)
-    (apart : Bool) (names : List Names) (words : List (List ℕ)) (form : ProgramForm T)
-    → FormLaw env inner names words form
+pub plain_command_law : {env : Variables} {T : Type 0} {inner : Outcome T} {names : List Names}
+    {words : List (List ℕ)} {form : ProgramForm T} (describes : Shape → Type 0) (info : RunInfo)
+    (called : Called) (shows : Part → Type 0) (apart : Bool) → FormLaw env inner names words form
     → FormLaw env (CommandOutcome T inner (EndsRun describes info) called shows) names
     (opening_words called) (program_command false apart called form)
-plain_command_law env T inner describes info called shows apart names words form l =
-    narrower_form env T _ _
-    (no_more (λ s t r o. command_eval T inner describes info called shows s t r o)) names
-    (opening_words called) (program_command false apart called form)
-    (program_command_law env T inner apart called names words form l)
+plain_command_law {T} {inner} describes info called shows apart l = narrower_form
+    (no_more (λ s t r o. command_eval T inner describes info called shows s t r o))
+    (program_command_law apart called l)
 
 -- An adjacent one has none.
-pub either_command_law : (env : Variables) (T : Type 0) (inner : Outcome T)
-    (describes : Shape → Type 0) (info : RunInfo) (called : Called) (shows : Part → Type 0)
-    (adjacent apart : Bool) (names : List Names) (words : List (List ℕ)) (form : ProgramForm T)
+pub either_command_law : {env : Variables} {T : Type 0} {inner : Outcome T} {names : List Names}
+    {words : List (List ℕ)} {form : ProgramForm T} (describes : Shape → Type 0) (info : RunInfo)
+    (called : Called) (shows : Part → Type 0) (adjacent apart : Bool)
     → FormLaw env inner names words form → FormLaw env
     (EitherCommandOutcome adjacent T inner (EndsRun describes info) called shows) names
     (opening_words called) (program_command adjacent apart called form)
-either_command_law env T inner describes info called shows true apart names words form l = tt
-either_command_law env T inner describes info called shows false apart names words form l =
-    plain_command_law env T inner describes info called shows apart names words form l
+either_command_law describes info called shows true apart l = record { by = tt }
+either_command_law describes info called shows false apart l =
+    plain_command_law describes info called shows apart l
 
 module _ {T : Type 0} (means : List ℕ → T → Type 0) (w : Arg) (strict : Bool) (text : List ℕ)
     (is : word_text w ≡ Some (strict, text)) (v : T) (position : Position) where
@@ -166,6 +156,5 @@ pub positional_law : (env : Variables) (T : Type 0) (means : List ℕ → T → 
     (position : Position) (metavar : List ℕ)
     → FormLaw env (PositionalOutcome means position metavar) [] []
     (word_by (accepts position) means)
-positional_law env T means position metavar =
-    narrower_form env T _ _ (no_more (word_within T means position metavar)) [] []
-    (word_by (accepts position) means) (word_by_law env T (accepts position) means)
+positional_law env T means position metavar = narrower_form
+    (no_more (word_within T means position metavar)) (word_by_law env T (accepts position) means)

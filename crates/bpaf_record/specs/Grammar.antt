@@ -1,25 +1,24 @@
 -- The grammar of programs: of which parsers they are made, and by which steps.
-use Rattle.std.specs.Prelude.{ℕ, Bool, not, true, false, List, [], ◌∷◌, ◌++◌, Option, if◌then◌else◌}
+use Rattle.std.specs.Prelude.{if◌then◌else◌, Option, false, Bool, true, List, ◌++◌, not, ◌∷◌, [], ℕ}
 use Rattle.std.specs.List.{Contains}
 use Rattle.bpaf_doc.specs.Names.{Names}
-use Rattle.bpaf_laws.specs.Choice.{Nested, ChoicesOutcome, ChoiceOutcome}
-use Rattle.bpaf_laws.specs.{Command.Called, Command.opening_words, Reading.Outcome}
-use Rattle.bpaf.specs.declared.leaves.positional.Position.{Position}
-use Rattle.bpaf.specs.{Info.RunInfo, Positional.accepts}
-use Rattle.bpaf_exact.specs.Flat.{ByName, OneWord, Variables, LastOf, OwnList, repeated, Closure}
-use Rattle.bpaf_exact.specs.Flat.{FallbackValue}
-use Rattle.bpaf_exact.specs.ProgramForm.{argument_field, flag_field, pure_field, word_by}
-use Rattle.bpaf_exact.specs.ProgramForm.{ProgramForm, choice_only, completed, no_program}
-use Rattle.bpaf_exact.specs.ProgramForm.{program_alone, program_both, program_choice}
-use Rattle.bpaf_exact.specs.ProgramForm.{program_closed, program_command, program_con}
-use Rattle.bpaf_exact.specs.ProgramForm.{program_dressed, program_field, program_if}
-use Rattle.bpaf_exact.specs.ProgramForm.{program_optional, EachAgrees, FormLaw}
-use Rattle.bpaf_exact.specs.Says.{SaidKind, form_kind, of_kind, repeated_kind, ProgramFormSays}
-use Rattle.bpaf_exact.specs.Says.{ProgramSaid, ProgramSays, of_cells, of_pieces, said_choices}
-use Rattle.bpaf_record.specs.Record.{are_unusual}
 use Rattle.bpaf_text.specs.Named.{Named as Key, KeyWithValue}
-use Rattle.bpaf_exact.proofs.ProgramForm.{choice_only_law, program_choice_law}
-use Rattle.bpaf_exact.proofs.ProgramSays.{Into, at_first, first_says, in_rest, more_says}
+use Rattle.bpaf_laws.specs.Choice.{ChoicesOutcome, ChoiceOutcome, Nested}
+use Rattle.bpaf_laws.specs.{Command.opening_words, Command.Called, Reading.Outcome}
+use Rattle.bpaf.specs.{declared.leaves.positional.Position.Position, Positional.accepts}
+use Rattle.bpaf.specs.Info.{RunInfo}
+use Rattle.bpaf_exact.proofs.ProgramSays.{first_says, more_says, at_first, in_rest, Into}
+use Rattle.bpaf_exact.proofs.ProgramForm.{program_choice_law, choice_only_law}
+use Rattle.bpaf_exact.specs.Flat.{FallbackValue, Variables, repeated, OneWord, OwnList, Closure}
+use Rattle.bpaf_exact.specs.ProgramForm.{argument_field, program_choice, program_closed, flag_field}
+use Rattle.bpaf_exact.specs.ProgramForm.{choice_only, program_con, pure_field, no_program, word_by}
+use Rattle.bpaf_exact.specs.ProgramForm.{program_alone, program_field, program_both, ProgramForm}
+use Rattle.bpaf_exact.specs.ProgramForm.{program_optional, program_command, program_dressed}
+use Rattle.bpaf_exact.specs.ProgramForm.{program_if, EachAgrees, completed, FormLaw}
+use Rattle.bpaf_exact.specs.Says.{repeated_kind, ProgramSaid, ProgramSays, OneOfCells, form_kind}
+use Rattle.bpaf_exact.specs.Says.{OneOfSays, SaidKind, of_kind, Says}
+use Rattle.bpaf_exact.specs.Flat.{ByName, LastOf}
+use Rattle.bpaf_record.specs.Record.{are_unusual}
 
 -- what a parser is made of: what it is by itself, or a step and the parsers inside
 pub data Grammar : Type 0 → Type 1 where
@@ -130,9 +129,9 @@ module _ {P T : Type 0} (of : P → Grammar T) (variables : Variables) where
       → (ps : List P) → EachAgrees agrees ps
       → FormLaw variables (ChoicesOutcome outcome ps) (keys_of (only (choices_of of ps)) true)
       (command_words (only (choices_of of ps))) (program_form (only (choices_of of ps)) variables)
-  choices_law outcome agrees law [] each = tt
+  choices_law outcome agrees law [] each = record { by = tt }
   choices_law outcome agrees law (p ∷ ps) each =
-      choice_only_law variables T _ _ _ _ (nested ps each.1 (outcome p) (of p) (law p each.0))
+      choice_only_law (nested ps each.1 (outcome p) (of p) (law p each.0))
     where
       nested : (ps : List P) → EachAgrees agrees ps → (first : Outcome T) (g : Grammar T)
           → FormLaw variables first (keys_of g true) (command_words g) (program_form g variables)
@@ -140,54 +139,40 @@ module _ {P T : Type 0} (of : P → Grammar T) (variables : Variables) where
           (keys_of (Nested choice of g ps) true) (command_words (Nested choice of g ps))
           (program_form (Nested choice of g ps) variables)
       nested [] each first g l = l
-      nested (p ∷ ps) each first g l =
-          nested ps each.1 (ChoiceOutcome first (outcome p)) (choice g (of p))
-          (program_choice_law variables T first (outcome p) (keys_of g true) (keys_of (of p) true)
-          (command_words g) (command_words (of p)) (program_form g variables)
-          (program_form (of p) variables) l (law p each.0))
+      nested (p ∷ ps) each first g l = nested ps each.1 (ChoiceOutcome first (outcome p))
+          (choice g (of p)) (program_choice_law l (law p each.0))
 
   -- a value says so, where those of the parsers do
-  pub choices_says : {Q : Type 0} (q : Q) (names : List Names) (kind : P → SaidKind)
-      (agrees : P → Type 0) (parsers : Q → List P) (said : ProgramSaid P T)
+  pub choices_says : (names : List Names) (kind : P → SaidKind) (agrees : P → Type 0)
+      (said : ProgramSaid P T)
       → ((p : P) → agrees p → ProgramSays (keys_of (of p) true) (program_form (of p) variables)
-      (kind p) said p) → EachAgrees agrees (parsers q)
-      → ProgramSays names (program_form (only (choices_of of (parsers q))) variables)
-      (of_kind ByName) (said_choices parsers said) q
-  choices_says {Q} q names kind agrees parsers said each agree =
-      record { by = by_list (parsers q) agree (one_of said) }
+      (kind p) said p) → (ps : List P) → EachAgrees agrees ps
+      → Says names (program_form (only (choices_of of ps)) variables) (of_kind ByName)
+      said.in_cells (OneOfSays said.pieces ps) (OneOfCells said.cells ps)
+  choices_says names kind agrees said each [] agree = record { by = tt }
+  choices_says names kind agrees said each (first ∷ later) agree =
+      nested (of first) later agree.1 (λ r there. in_rest first later there)
+      (first_says names (one_of first (at_first first later)) (each first agree.0))
     where
-      one_of : (said : ProgramSaid P T) (p : P) → Contains (parsers q) p
-          → Into q said (said_choices parsers said) p
-      one_of (of_pieces said) p there = λ os v m. record { parser = p; among = there; told = m }
-      one_of (of_cells said) p there = λ cs v m. record { parser = p; among = there; told = m }
+      all : List P
+      all = first ∷ later
+
+      one_of : (p : P) → Contains all p → Into (said.pieces p) (OneOfSays said.pieces all)
+          (said.cells p) (OneOfCells said.cells all)
+      one_of p there = record {
+        by_pieces = λ os v m. record { parser = p; among = there; told = m };
+        by_cells = λ cs v m. record { parser = p; among = there; told = m };
+      }
 
       nested : (g : Grammar T) (ps : List P) → EachAgrees agrees ps
-          → ((p : P) → Contains ps p → Into q said (said_choices parsers said) p)
-          → ProgramFormSays names (choice_only (program_form g variables)) (of_kind ByName)
-          (said_choices parsers said) q
-          → ProgramFormSays names (choice_only (program_form (Nested choice of g ps) variables))
-          (of_kind ByName) (said_choices parsers said) q
-      nested g [] agree into h = h
-      nested g (p ∷ ps) agree into h =
-          nested (choice g (of p)) ps agree.1 (λ r there. into r (in_rest p ps there))
-          (more_says q said (said_choices parsers said) p (kind p) names (keys_of g true)
-          (keys_of (of p) true) (command_words g) (command_words (of p))
-          (program_form g variables) (program_form (of p) variables) h (each p agree.0).by
-          (into p (at_first p ps)))
-
-      by_list : (ps : List P) → EachAgrees agrees ps
-          → ((p : P) → Contains ps p → Into q said (said_choices parsers said) p)
-          → ProgramFormSays names (program_form (only (choices_of of ps)) variables)
-          (of_kind ByName) (said_choices parsers said) q
-      by_list [] agree into = nothing said
-        where
-          nothing : (said : ProgramSaid P T) → ProgramFormSays names
-              (program_form (only (choices_of of [])) variables) (of_kind ByName)
-              (said_choices parsers said) q
-          nothing (of_pieces said) = record { by = tt }
-          nothing (of_cells said) = tt
-      by_list (p ∷ ps) agree into =
-          nested (of p) ps agree.1 (λ r there. into r (in_rest p ps there))
-          (first_says q said (said_choices parsers said) p (kind p) (keys_of (of p) true) names
-          (program_form (of p) variables) (each p agree.0).by
-          (into p (at_first p ps)))
+          → ((p : P) → Contains ps p → Contains all p)
+          → Says names (choice_only (program_form g variables)) (of_kind ByName) said.in_cells
+          (OneOfSays said.pieces all) (OneOfCells said.cells all)
+          → Says names (choice_only (program_form (Nested choice of g ps) variables))
+          (of_kind ByName) said.in_cells (OneOfSays said.pieces all) (OneOfCells said.cells all)
+      nested g [] agree within h = h
+      nested g (p ∷ ps) agree within h =
+          nested (choice g (of p)) ps agree.1 (λ r there. within r (in_rest p ps there))
+          (more_says names (keys_of g true) (keys_of (of p) true) (command_words g)
+          (command_words (of p)) (program_form g variables)
+          (one_of p (within p (at_first p ps))) h (each p agree.0))

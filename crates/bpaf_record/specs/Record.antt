@@ -1,21 +1,20 @@
 -- Flat records and programs with commands, and their keys and words by the words that spell them.
-use Rattle.std.specs.Prelude.{◌≡◌, All, Bool, ◌&&◌, IfOk, IsUtf8, List, Result, Ok, Err, true, ℕ}
-use Rattle.std.specs.Prelude.{not}
-use Rattle.std.specs.List.{list_all, Contains}
-use Rattle.bpaf_doc.specs.Names.{Names}
-use Rattle.bpaf_words.specs.Arguments.{Given}
-use Rattle.bpaf_words.specs.Line.{Known, Items, ShortNames, Spells, known_at}
-use Rattle.bpaf_line.specs.declared.failure.ParseFailure.{ParseFailure}
-use Rattle.bpaf_line.specs.{Taking.IsContext, Situation.Context}
-use Rattle.bpaf.specs.{Info.RunInfo, Marker.words_before}
-use Rattle.bpaf_exact.specs.Pieces.{LinePiece, Cut, are_apart}
-use Rattle.bpaf_exact.specs.ProgramForm.{RunAnswer, Accepted, NoMemory, Refusal, RecordValue}
-use Rattle.bpaf_exact.specs.ProgramForm.{line_cells, ProgramForm, is_record, product_roles}
-use Rattle.bpaf_exact.specs.ProgramForm.{product_reading, HoldsTogether, whole_program, is_program}
-use Rattle.bpaf_exact.specs.ProgramForm.{program_value, CellsValue}
-use Rattle.bpaf_base.specs.Items.{is_key_of, is_among, is_text_among}
+use Rattle.std.specs.Prelude.{IsUtf8, Result, Bool, ◌&&◌, IfOk, List, true, ◌≡◌, All, Err, not, Ok}
+use Rattle.std.specs.{List.list_all, List.Contains, Prelude.ℕ}
+use Rattle.bpaf_base.specs.Items.{is_text_among, is_key_of, is_among}
 use Rattle.bpaf_base.specs.declared.arg.Arg.{Arg}
+use Rattle.bpaf_doc.specs.Names.{Names}
+use Rattle.bpaf_words.specs.Line.{ShortNames, known_at, Spells, Known, Items}
+use Rattle.bpaf_words.specs.Arguments.{Given}
+use Rattle.bpaf_line.specs.{declared.failure.ParseFailure.ParseFailure, Situation.Context}
+use Rattle.bpaf_line.specs.Taking.{IsContext}
 use Rattle.bpaf_laws.specs.Command.{is_one_of}
+use Rattle.bpaf.specs.{Marker.words_before, Info.RunInfo}
+use Rattle.bpaf_exact.specs.ProgramForm.{product_reading, product_roles, HoldsTogether, RecordValue}
+use Rattle.bpaf_exact.specs.ProgramForm.{is_program, CellsValue, RunAnswer, is_record, Accepted}
+use Rattle.bpaf_exact.specs.ProgramForm.{whole_program, program_value, ProgramForm, line_cells}
+use Rattle.bpaf_exact.specs.Pieces.{LinePiece, are_apart, Cut}
+use Rattle.bpaf_exact.specs.ProgramForm.{NoMemory, Refusal}
 use Rattle.bpaf_line.specs.declared.failure.ParseFailure.TheVariants as failure
 
 -- none of these keys shares a name with those of help and version

@@ -55,16 +55,13 @@ impl<T: Drop, A: ProgramField<T>, B: ProgramField<T>> ProgramField<T> for ParseO
         this && that
     }
 
-    ghost law = { λ p a variables. program_choice_law variables T _ _
-        (keys_of (A.grammar p.this) true) (keys_of (B.grammar p.that) true)
-        (command_words (A.grammar p.this)) (command_words (B.grammar p.that))
-        (program_form (A.grammar p.this) variables) (program_form (B.grammar p.that) variables)
-        (A.law p.this a.0 variables) (B.law p.that a.1 variables) };
+    ghost law = { λ p a variables.
+        program_choice_law (A.law p.this a.0 variables) (B.law p.that a.1 variables) };
 
-    ghost said = { λ p a variables. program_choice_says (λ p. p.this) (λ p. p.that) p
-        (keys_of (A.grammar p.this) true) (keys_of (B.grammar p.that) true)
-        (command_words (A.grammar p.this)) (command_words (B.grammar p.that))
-        (A.said p.this a.0 variables) (B.said p.that a.1 variables) };
+    ghost said = { λ p a variables. program_choice_says (keys_of (A.grammar p.this) true)
+        (keys_of (B.grammar p.that) true) (command_words (A.grammar p.this))
+        (command_words (B.grammar p.that)) (A.said p.this a.0 variables)
+        (B.said p.that a.1 variables) };
 }
 
 impl<T: Drop, A: FlatField<T>, B: FlatField<T>> FlatField<T> for ParseOrElse<A, B> {}
@@ -128,6 +125,7 @@ fn join_rest<T, P: ProgramField<T>>(parsers: &[P], first: ProgramPart) -> Progra
 }
 
 /// The choice of these parsers; of none it is nothing.
+#[tactic(auto, using(crate::proofs::Parts::first_is))]
 fn join_all<T, P: ProgramField<T>>(parsers: &[P]) -> ProgramPart
     ensures { (variables : Variables) →
         result ≡ part_of (program_form (choices_of P.grammar parsers.now) variables) }
@@ -147,14 +145,17 @@ impl<T: Drop, P: ProgramField<T> + Drop> ProgramField<T> for ParseChoice<P> {
 
     ghost agrees = { λ p. EachAgrees P.agrees p.parsers.items };
 
+    #[tactic(auto, using(crate::proofs::Parts::only_part_is))]
     fn part(&self) -> ProgramPart {
         join_all(self.parsers.as_slice()).only()
     }
 
+    #[tactic(auto, using(crate::proofs::Parts::choices_keys))]
     fn all_keys<N: KeyTest>(&self, test: &N) -> bool {
         all_keys_of::<T, P, N>(self.parsers.as_slice(), test)
     }
 
+    #[tactic(auto, using(crate::proofs::Parts::choices_words))]
     fn all_words<W: WordTest>(&self, test: &W) -> bool {
         all_words_of::<T, P, W>(self.parsers.as_slice(), test)
     }
@@ -162,10 +163,10 @@ impl<T: Drop, P: ProgramField<T> + Drop> ProgramField<T> for ParseChoice<P> {
     ghost law = { λ p a variables. choices_law P.grammar variables P.outcome P.agrees
         (λ q b. P.law q b variables) p.parsers.items a };
 
-    ghost said = { λ p a variables. choices_says P.grammar variables p
+    ghost said = { λ p a variables. choices_says P.grammar variables
         (keys_of (only (choices_of P.grammar p.parsers.items)) true)
-        (λ q. said_kind (P.grammar q) variables) P.agrees (λ p. p.parsers.items)
-        (P.says variables) (λ q b. P.said q b variables) a };
+        (λ q. said_kind (P.grammar q) variables) P.agrees (P.says variables)
+        (λ q b. P.said q b variables) p.parsers.items a };
 }
 
 impl<T: Drop, P: FlatField<T> + Drop> FlatField<T> for ParseChoice<P> {}

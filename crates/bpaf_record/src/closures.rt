@@ -35,12 +35,11 @@ impl<T, R, P: ProgramField<T>, F: Fn(T) -> R> ProgramField<R> for ParseMap<T, P,
         self.inner.all_words(test)
     }
 
-    ghost law = { λ p a variables. map_law variables T R _ (λ x y. F.post p.map_fn x y)
-        (keys_of (P.grammar p.inner) true) (command_words (P.grammar p.inner))
-        (program_form (P.grammar p.inner) variables) (P.law p.inner a variables) };
+    ghost law = { λ p a variables. map_law (P.law p.inner a variables)
+        (λ x y. F.post p.map_fn x y) };
 
-    ghost said = { λ p a variables. program_closed_says (λ p. p.inner) p
-        (λ p. map_closure (λ x y. F.post p.map_fn x y)) (P.said p.inner a variables) };
+    ghost said = { λ p a variables. program_closed_says
+        (map_closure (λ x y. F.post p.map_fn x y)) (P.said p.inner a variables) };
 }
 
 impl<T, R, P: FlatField<T>, F> FlatField<R> for ParseMap<T, P, F, R> {}
@@ -72,13 +71,11 @@ impl<T, R, E: Display + Drop, P: ProgramField<T>, F: Fn(T) -> Result<R, E>> Prog
         self.inner.all_words(test)
     }
 
-    ghost law = { λ p a variables. parse_law variables T R _ _ (λ x y. F.post p.parse_fn x y)
-        E.output (keys_of (P.grammar p.inner) true) (command_words (P.grammar p.inner))
-        (program_form (P.grammar p.inner) variables) (a.1 variables)
-        (P.law p.inner a.0 variables) };
+    ghost law = { λ p a variables. parse_law (P.law p.inner a.0 variables)
+        (λ x y. F.post p.parse_fn x y) E.output (a.1 variables) };
 
-    ghost said = { λ p a variables. program_closed_says (λ p. p.inner) p
-        (λ p. parse_closure (λ x y. F.post p.parse_fn x y)) (P.said p.inner a.0 variables) };
+    ghost said = { λ p a variables. program_closed_says
+        (parse_closure (λ x y. F.post p.parse_fn x y)) (P.said p.inner a.0 variables) };
 }
 
 impl<T, R, E: Display + Drop, P: FlatField<T>, F> FlatField<R> for ParseWith<T, P, F, E, R> {}
@@ -108,13 +105,11 @@ impl<'m, T: Drop, P: ProgramField<T>, F: Fn(&T) -> bool> ProgramField<T> for Par
         self.inner.all_words(test)
     }
 
-    ghost law = { λ p a variables. guard_law variables T _ (FnReturnsAt F.Fn p.check) p.message.now
-        (keys_of (P.grammar p.inner) true) (command_words (P.grammar p.inner))
-        (program_form (P.grammar p.inner) variables) (a.1 variables)
-        (P.law p.inner a.0 variables) };
+    ghost law = { λ p a variables. guard_law (P.law p.inner a.0 variables)
+        (FnReturnsAt F.Fn p.check) p.message.now (a.1 variables) };
 
-    ghost said = { λ p a variables. program_closed_says (λ p. p.inner) p
-        (λ p. guard_closure (FnReturnsAt F.Fn p.check)) (P.said p.inner a.0 variables) };
+    ghost said = { λ p a variables. program_closed_says
+        (guard_closure (FnReturnsAt F.Fn p.check)) (P.said p.inner a.0 variables) };
 }
 
 impl<'m, T: Drop, P: FlatField<T>, F> FlatField<T> for ParseGuard<'m, P, F> {}

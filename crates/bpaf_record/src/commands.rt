@@ -45,15 +45,11 @@ impl<T: Drop, P: ProgramField<T>> ProgramField<T> for ParseCommand<T, P> {
         names_pass(&self.names, test)
     }
 
-    ghost law = { λ p a variables. either_command_law variables T (P.outcome p.inner)
-        (P.describes p.inner) p.info p.names (CommandPart p.names p.help (P.describes p.inner))
-        p.adjacent (are_unusual (keys_of (P.grammar p.inner) false) p.info)
-        (keys_of (P.grammar p.inner) true) (command_words (P.grammar p.inner))
-        (program_form (P.grammar p.inner) variables) (P.law p.inner a variables) };
+    ghost law = { λ p a variables. either_command_law (P.describes p.inner) p.info p.names
+        (CommandPart p.names p.help (P.describes p.inner)) p.adjacent
+        (are_unusual (keys_of (P.grammar p.inner) false) p.info) (P.law p.inner a variables) };
 
-    ghost said = { λ p a variables. program_command_says variables (λ p. p.inner) p
-        (P.outcome p.inner) (command_words (P.grammar p.inner))
-        (λ p. program_form (P.grammar p) variables) p.adjacent
-        (are_unusual (keys_of (P.grammar p.inner) false) p.info) (λ p. p.names)
+    ghost said = { λ p a variables. program_command_says (P.says variables) p.inner p.adjacent
+        (are_unusual (keys_of (P.grammar p.inner) false) p.info) p.names
         (P.law p.inner a variables) (P.said p.inner a variables) };
 }

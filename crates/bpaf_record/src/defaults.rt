@@ -35,12 +35,9 @@ impl<T: Drop, P: ProgramField<T>> ProgramField<Option<T>> for ParseOptional<P> {
         true
     }
 
-    ghost law = { λ p a variables. optional_law variables T _ p.catch
-        (keys_of (P.grammar p.inner) true) (command_words (P.grammar p.inner))
-        (program_form (P.grammar p.inner) variables) (P.law p.inner a variables) };
+    ghost law = { λ p a variables. optional_law (P.law p.inner a variables) p.catch };
 
-    ghost said = { λ p a variables. program_optional_says (λ p. p.inner) p
-        (P.said p.inner a variables) p.catch };
+    ghost said = { λ p a variables. program_optional_says (P.said p.inner a variables) p.catch };
 }
 
 impl<T: Drop, P: FlatField<T>> FlatField<Option<T>> for ParseOptional<P> {}
@@ -66,12 +63,10 @@ impl<T: Clone, P: ProgramField<T>> ProgramField<T> for ParseFallback<P, T> {
         true
     }
 
-    ghost law = { λ p a variables. fallback_law variables T _ T.is_clone p.value
-        (keys_of (P.grammar p.inner) true) (command_words (P.grammar p.inner))
-        (program_form (P.grammar p.inner) variables) (P.law p.inner a variables) };
+    ghost law = { λ p a variables. fallback_law (P.law p.inner a variables) T.is_clone p.value };
 
-    ghost said = { λ p a variables. program_fallback_says (λ p. p.inner) p
-        (P.said p.inner a variables) (λ p. map_closure (λ u. T.is_clone p.value)) };
+    ghost said = { λ p a variables. program_fallback_says (P.said p.inner a variables)
+        (map_closure (λ u. T.is_clone p.value)) };
 }
 
 impl<T: Clone, P: FlatField<T>> FlatField<T> for ParseFallback<P, T> {}
@@ -101,13 +96,11 @@ impl<T, E: Display + Drop, P: ProgramField<T>, F: Fn() -> Result<T, E>> ProgramF
         true
     }
 
-    ghost law = { λ p a variables. fallback_with_law variables T _ _ (λ r. F.post p.fallback r)
-        E.output (keys_of (P.grammar p.inner) true) (command_words (P.grammar p.inner))
-        (program_form (P.grammar p.inner) variables) (λ u v y n. a.1 v n.0 y n.1)
-        (P.law p.inner a.0 variables) };
+    ghost law = { λ p a variables. fallback_with_law (P.law p.inner a.0 variables)
+        (λ r. F.post p.fallback r) E.output (λ u v y n. a.1 v n.0 y n.1) };
 
-    ghost said = { λ p a variables. program_fallback_says (λ p. p.inner) p
-        (P.said p.inner a.0 variables) (λ p. answer_closure (λ r. F.post p.fallback r)) };
+    ghost said = { λ p a variables. program_fallback_says (P.said p.inner a.0 variables)
+        (answer_closure (λ r. F.post p.fallback r)) };
 }
 
 impl<T, E: Display + Drop, P: FlatField<T>, F> FlatField<T> for ParseFallbackWith<T, P, F, E> {}

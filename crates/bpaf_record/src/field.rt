@@ -80,7 +80,8 @@ pub trait ProgramFields<V>: Fields<V> {
     /// values say so.
     ghost keeps: { (p : Self) → agrees p → (variables : Variables)
         → FieldsKeep variables (Self.Fields.outcome p) (keys_of (grammar p) true)
-        (program_form (grammar p) variables) (says variables) p };
+        (program_form (grammar p) variables) (says variables).in_cells
+        ((says variables).pieces p) ((says variables).cells p) };
 }
 
 /// The mark of the fields of a flat record.

@@ -2,7 +2,7 @@
 
 ghost use Rattle.bpaf_record.specs.Grammar.{command_words, keys_of, said_kind};
 ghost use Rattle.bpaf_exact.specs.Says.{fields_said_inside};
-ghost use Rattle.bpaf_exact.proofs.ProgramSays.{keep_before, keep_inside};
+ghost use Rattle.bpaf_exact.proofs.ProgramSays.{keep_before};
 ghost use Rattle.std.specs.Prelude.{true};
 
 use crate::field::{FlatField, FlatFields, ProgramField, ProgramFields};
@@ -42,26 +42,14 @@ impl<
         self.fields.all_keys(test)
     }
 
-    ghost keeps = { λ p a variables. keep_inside (λ q. q.fields) p
-        (keep_before (λ q. q.first) (λ q. q.rest) p.fields _
-        (λ q. said_kind (A.grammar q) variables) (λ q. keys_of (A.grammar q) true)
-        (command_words (A.grammar p.fields.first)) _ (A.says variables)
-        (A.law p.fields.first a.0 variables) (A.said p.fields.first a.0 variables)
-        (keep_before (λ q. q.first) (λ q. q.rest) p.fields.rest _
-        (λ q. said_kind (B.grammar q) variables) (λ q. keys_of (B.grammar q) true)
-        (command_words (B.grammar p.fields.rest.first)) _ (B.says variables)
+    ghost keeps = { λ p a variables. keep_before (A.law p.fields.first a.0 variables)
+        (A.said p.fields.first a.0 variables) (keep_before
         (B.law p.fields.rest.first a.1.0 variables) (B.said p.fields.rest.first a.1.0 variables)
-        (keep_before (λ q. q.first) (λ q. q.rest) p.fields.rest.rest _
-        (λ q. said_kind (C.grammar q) variables) (λ q. keys_of (C.grammar q) true)
-        (command_words (C.grammar p.fields.rest.rest.first)) _ (C.says variables)
-        (C.law p.fields.rest.rest.first a.1.1.0 variables)
+        (keep_before (C.law p.fields.rest.rest.first a.1.1.0 variables)
         (C.said p.fields.rest.rest.first a.1.1.0 variables)
-        (keep_before (λ q. q.first) (λ q. q.rest) p.fields.rest.rest.rest _
-        (λ q. said_kind (D.grammar q) variables) (λ q. keys_of (D.grammar q) true)
-        (command_words (D.grammar p.fields.rest.rest.rest.first)) _ (D.says variables)
-        (D.law p.fields.rest.rest.rest.first a.1.1.1.0 variables)
+        (keep_before (D.law p.fields.rest.rest.rest.first a.1.1.1.0 variables)
         (D.said p.fields.rest.rest.rest.first a.1.1.1.0 variables)
-        (R.keeps p.fields.rest.rest.rest.rest a.1.1.1.1 variables))))) };
+        (R.keeps p.fields.rest.rest.rest.rest a.1.1.1.1 variables)))) };
 }
 
 impl<

@@ -46,8 +46,7 @@ impl<T: Clone> ProgramField<T> for ParseFlag<T> {
     ghost law = { λ p a variables.
         flag_field_law variables T T.is_clone p.named p.present p.absent };
 
-    ghost said = { λ p a variables.
-        record { by = flag_says T.is_clone p.present p.named p.absent variables } };
+    ghost said = { λ p a variables. flag_says T.is_clone p.present p.named p.absent variables };
 }
 
 impl<T: Clone> FlatField<T> for ParseFlag<T> {}
@@ -83,7 +82,7 @@ impl<T: FromText> ProgramField<T> for ParseArgument<T> {
 
     ghost law = { λ p a variables. argument_field_law variables T T.means p };
 
-    ghost said = { λ p a variables. record { by = argument_says T.means p variables } };
+    ghost said = { λ p a variables. argument_says T.means p variables };
 }
 
 impl<T: FromText> FlatField<T> for ParseArgument<T> {}
@@ -112,10 +111,9 @@ impl<T: FromText> ProgramField<T> for ParsePositional<T> {
         true
     }
 
-    ghost law = { λ p a variables.
-        positional_law variables T T.means p.position p.metavar.0.now };
+    ghost law = { λ p a variables. positional_law variables T T.means p.position p.metavar.0.now };
 
-    ghost said = { λ p a variables. record { by = word_by_says (accepts p.position) T.means } };
+    ghost said = { λ p a variables. word_by_says (accepts p.position) T.means };
 }
 
 impl<T: FromText> FlatField<T> for ParsePositional<T> {}
@@ -143,8 +141,7 @@ impl<T: Clone> ProgramField<T> for ParsePure<T> {
         true
     }
 
-    ghost law = { λ p a variables.
-        pure_field_law T T.is_clone p.value };
+    ghost law = { λ p a variables. pure_field_law T T.is_clone p.value };
 
-    ghost said = { λ p a variables. record { by = pure_says (T.is_clone p.value) } };
+    ghost said = { λ p a variables. pure_says (T.is_clone p.value) };
 }

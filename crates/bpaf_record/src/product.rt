@@ -32,10 +32,8 @@ impl<T: Drop, A: ProgramField<T>> ProgramFields<T> for Last<A> {
         self.last.all_keys(test)
     }
 
-    ghost keeps = { λ p a variables. keep_last (λ q. q.last) p
-        (A.outcome p.last) (λ q. said_kind (A.grammar q) variables)
-        (λ q. keys_of (A.grammar q) true) (command_words (A.grammar p.last)) _ (A.says variables)
-        (A.law p.last a variables) (A.said p.last a variables) };
+    ghost keeps = { λ p a variables.
+        keep_last (A.law p.last a variables) (A.said p.last a variables) };
 }
 
 impl<T: Drop, A: FlatField<T>> FlatFields<T> for Last<A> {}
@@ -69,9 +67,7 @@ impl<T: Drop, V, A: ProgramField<T>, R: ProgramFields<V>> ProgramFields<(T, V)> 
         first && rest
     }
 
-    ghost keeps = { λ p a variables. keep_before (λ q. q.first) (λ q. q.rest) p _
-        (λ q. said_kind (A.grammar q) variables) (λ q. keys_of (A.grammar q) true)
-        (command_words (A.grammar p.first)) _ (A.says variables) (A.law p.first a.0 variables)
+    ghost keeps = { λ p a variables. keep_before (A.law p.first a.0 variables)
         (A.said p.first a.0 variables) (R.keeps p.rest a.1 variables) };
 }
 
@@ -98,14 +94,11 @@ impl<V, T, P: ProgramFields<V>, F: Fn(V) -> T> ProgramField<T> for ParseCon<V, P
         true
     }
 
-    ghost law = { λ p a variables. program_con_law variables V T _ (λ x y. F.post p.make x y)
-        (keys_of (P.grammar p.fields) true) (program_form (P.grammar p.fields) variables)
+    ghost law = { λ p a variables. program_con_law (λ x y. F.post p.make x y)
         (P.keeps p.fields a variables).law };
 
-    ghost said = { λ p a variables. program_con_says variables (λ p. p.fields) p
-        (P.outcome p.fields)
-        (λ q. keys_of (P.grammar q) true) (λ p. map_closure (λ x y. F.post p.make x y))
-        (P.keeps p.fields a variables).law (P.keeps p.fields a variables).says };
+    ghost said = { λ p a variables. program_con_says (map_closure (λ x y. F.post p.make x y))
+        (P.keeps p.fields a variables).says };
 }
 
 impl<V, T, P: FlatFields<V>, F> FlatField<T> for ParseCon<V, P, F> {}

@@ -83,6 +83,7 @@ impl<T: Drop, P: ProgramField<T> + FlatField<T>> Record<T> for OptionParser<T, P
         (known_names p.info (P.shorts p.inner))
         (program_form (P.grammar p.inner) given.env) given };
 
+    #[tactic(auto, using(crate::proofs::Running::flat_is_whole))]
     fn run_record(&self, args: Args<'_>) -> Result<T, ParseFailure> {
         self.run_program(args)
     }

@@ -35,12 +35,10 @@ impl<T: Drop, P: ProgramField<T>> ProgramField<Vec<T>> for ParseMany<P> {
         true
     }
 
-    ghost law = { λ p a variables. many_law variables T _ p.catch (keys_of (P.grammar p.inner) true)
-        (command_words (P.grammar p.inner)) (program_form (P.grammar p.inner) variables)
-        (P.law p.inner a variables) };
+    ghost law = { λ p a variables. many_law (P.law p.inner a variables) p.catch };
 
-    ghost said = { λ p a variables. program_repeat_says (λ p. p.inner) p
-        (P.said p.inner a variables) p.catch (list_closure T) };
+    ghost said = { λ p a variables. program_repeat_says (P.said p.inner a variables) p.catch
+        (list_closure T) };
 }
 
 impl<T: Drop, P: FlatField<T>> FlatField<Vec<T>> for ParseMany<P> {}
@@ -66,12 +64,10 @@ impl<'m, T: Drop, P: ProgramField<T>> ProgramField<Vec<T>> for ParseSome<'m, P> 
         true
     }
 
-    ghost law = { λ p a variables. some_law variables T _ p.catch p.message.now
-        (keys_of (P.grammar p.inner) true) (command_words (P.grammar p.inner))
-        (program_form (P.grammar p.inner) variables) (P.law p.inner a variables) };
+    ghost law = { λ p a variables. some_law (P.law p.inner a variables) p.catch p.message.now };
 
-    ghost said = { λ p a variables. program_repeat_says (λ p. p.inner) p
-        (P.said p.inner a variables) p.catch (some_closure T) };
+    ghost said = { λ p a variables. program_repeat_says (P.said p.inner a variables) p.catch
+        (some_closure T) };
 }
 
 impl<'m, T: Drop, P: FlatField<T>> FlatField<Vec<T>> for ParseSome<'m, P> {}
@@ -98,12 +94,9 @@ impl<T: Drop, C: FromList<T> + Drop, P: ProgramField<T>> ProgramField<C> for Par
         true
     }
 
-    ghost law = { λ p a variables. collect_law variables T C _ p.catch C.fills
-        (keys_of (P.grammar p.inner) true) (command_words (P.grammar p.inner))
-        (program_form (P.grammar p.inner) variables) (P.law p.inner a variables) };
+    ghost law = { λ p a variables. collect_law (P.law p.inner a variables) p.catch C.fills };
 
-    ghost said = { λ p a variables. program_repeat_says (λ p. p.inner) p
-        (P.said p.inner a variables) p.catch
+    ghost said = { λ p a variables. program_repeat_says (P.said p.inner a variables) p.catch
         (map_closure C.fills) };
 }
 
@@ -131,12 +124,9 @@ impl<T: Drop, P: ProgramField<T>> ProgramField<usize> for ParseCount<P, T> {
         true
     }
 
-    ghost law = { λ p a variables. count_law variables T _ (keys_of (P.grammar p.inner) true)
-        (command_words (P.grammar p.inner)) (program_form (P.grammar p.inner) variables)
-        (P.law p.inner a variables) };
+    ghost law = { λ p a variables. count_law (P.law p.inner a variables) };
 
-    ghost said = { λ p a variables. program_repeat_says (λ p. p.inner) p
-        (P.said p.inner a variables) false
+    ghost said = { λ p a variables. program_repeat_says (P.said p.inner a variables) false
         (map_closure (λ values n. n ≡ length values)) };
 }
 
@@ -162,12 +152,9 @@ impl<T: Drop, P: ProgramField<T>> ProgramField<T> for ParseLast<P> {
         true
     }
 
-    ghost law = { λ p a variables. program_last_law variables T _ (keys_of (P.grammar p.inner) true)
-        (command_words (P.grammar p.inner)) (program_form (P.grammar p.inner) variables)
-        (P.law p.inner a variables) };
+    ghost law = { λ p a variables. program_last_law (P.law p.inner a variables) };
 
-    ghost said = { λ p a variables.
-        program_last_says (λ p. p.inner) p (P.said p.inner a variables) };
+    ghost said = { λ p a variables. program_last_says (P.said p.inner a variables) };
 }
 
 impl<T: Drop, P: FlatField<T>> FlatField<T> for ParseLast<P> {}

@@ -33,12 +33,9 @@ impl<T, P: ProgramField<T>> ProgramField<T> for ParseUsage<P> {
         self.inner.all_words(test)
     }
 
-    ghost law = { λ p a variables. program_dressed_law variables T _
-        (keys_of (P.grammar p.inner) true) (command_words (P.grammar p.inner))
-        (program_form (P.grammar p.inner) variables) (P.law p.inner a variables) };
+    ghost law = { λ p a variables. program_dressed_law (P.law p.inner a variables) };
 
-    ghost said = { λ p a variables. program_dressed_says (λ p. p.inner) p
-        (P.said p.inner a variables) };
+    ghost said = { λ p a variables. program_dressed_says (P.said p.inner a variables) };
 }
 
 impl<T, P: FlatField<T>> FlatField<T> for ParseUsage<P> {}
@@ -63,12 +60,9 @@ impl<T, P: ProgramField<T>> ProgramField<T> for ParseGroupHelp<P> {
         self.inner.all_words(test)
     }
 
-    ghost law = { λ p a variables. program_dressed_law variables T _
-        (keys_of (P.grammar p.inner) true) (command_words (P.grammar p.inner))
-        (program_form (P.grammar p.inner) variables) (P.law p.inner a variables) };
+    ghost law = { λ p a variables. program_dressed_law (P.law p.inner a variables) };
 
-    ghost said = { λ p a variables. program_dressed_says (λ p. p.inner) p
-        (P.said p.inner a variables) };
+    ghost said = { λ p a variables. program_dressed_says (P.said p.inner a variables) };
 }
 
 impl<T, P: FlatField<T>> FlatField<T> for ParseGroupHelp<P> {}
@@ -95,10 +89,7 @@ impl<T, P: ProgramField<T>> ProgramField<T> for ParseHide<P> {
         self.inner.all_words(test)
     }
 
-    ghost law = { λ p a variables. hide_law variables T _ (keys_of (P.grammar p.inner) true)
-        (command_words (P.grammar p.inner)) (program_form (P.grammar p.inner) variables)
-        (P.law p.inner a variables) };
+    ghost law = { λ p a variables. hide_law (P.law p.inner a variables) };
 
-    ghost said = { λ p a variables. program_dressed_says (λ p. p.inner) p
-        (P.said p.inner a variables) };
+    ghost said = { λ p a variables. program_dressed_says (P.said p.inner a variables) };
 }

@@ -6,7 +6,7 @@ use Rattle.bpaf.specs.declared.leaves.positional.Position.TheVariants.{NonStrict
 use Rattle.bpaf.specs.Marker.{words_before, words_behind}
 use Rattle.bpaf.specs.Positional.{accepts}
 use Rattle.bpaf_exact.specs.ProgramForm.{WordValue, flag_roles}
-use Rattle.bpaf_exact.specs.Flat.{FrontOf, SingleValue, gap_of, list_closure}
+use Rattle.bpaf_exact.specs.Flat.{FrontOf, SingleValue, gap_of}
 use Rattle.bpaf_exact.specs.{Says.Alike, Says.WordSays, Pieces.LinePiece, Pieces.others}
 use Rattle.bpaf_program.specs.Ending.{line, line_each, truth}
 use Rattle.bpaf_program.specs.KnownParser.{MeansText, String}
@@ -21,7 +21,7 @@ use Rattle.example_launch.specs.declared.options.Launch.{Launch}
 use Rattle.std.specs.List.{Contains}
 use Rattle.bpaf_line.specs.declared.failure.ParseFailure.{ParseFailure}
 use Rattle.bpaf_record.proofs.Answered.{flag_leaves, line_behind, name_before, strict_words}
-use Rattle.bpaf_exact.proofs.{Says.listed_says, Says.word_by_says, Says.word_says, Cuts.read_cut}
+use Rattle.bpaf_exact.proofs.{Says.list_says, Says.front_says, Says.word_says}
 
 -- of a launch the lines are seen
 pub same_lines : (words : List (List ℕ)) → All IsUtf8 words → Alike lines (IsLaunchValue words)
@@ -53,14 +53,16 @@ launch_passes own v value =
     let left = others (flag_roles dry_run_names) (others (flag_roles verbose_names) cut) in
     let launch = value.read.read in
     let words = launch.read.1.1 in
-    let passed = (listed_says (list_closure String) {names = []}
-    (word_by_says (accepts Strict) MeansText)).by.1 _ _ tt words.1.0 in
+    let told = list_says (WordSays (accepts Strict) MeansText)
+    (FrontOf String (WordValue (accepts Strict) MeansText)) (gap_of MeansText None)
+    (front_says (WordValue (accepts Strict) MeansText) (word_says (accepts Strict) MeansText))
+    (λ v none. absurd none) _ _ words.1.0.read in
     ap (λ launch. map string_bytes launch.words.items) launch.made
-    ∙ (ap (map string_bytes) passed.made
-    ∙ (texts_are _ passed.from (strict_words passed.told)
+    ∙ (ap (map string_bytes) words.1.0.made
+    ∙ (texts_are _ words.1.0.from (strict_words told)
     ∙ (name_before left (name_says _ _ words.0)
     ∙ (flag_leaves dry_run_names (others (flag_roles verbose_names) cut)
-    ∙ (flag_leaves verbose_names cut ∙ line_behind value.on_line (read_cut value.read))))))
+    ∙ (flag_leaves verbose_names cut ∙ line_behind value.on_line value.read.cut)))))
 
 -- so the words ask for the launch that is dealt out of them
 pub launch_asked : (own : List (List ℕ)) (r : Result Launch ParseFailure)

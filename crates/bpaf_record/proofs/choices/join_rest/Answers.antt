@@ -6,9 +6,6 @@ use Rattle.bpaf_record.specs.Part.{chosen_part, part_of}
 use Rattle.bpaf_record.proofs.Parts.{choices_keys, choices_words, one_more, choice_part_is}
 use Rattle.bpaf_record.proofs.choices.join_rest.Goals as goal
 
-pub loop-index-init : goal.loop-index-init
-loop-index-init g c = (omega arith, c.requires.first)
-
 pub loop-index-preserved : goal.loop-index-preserved
 loop-index-preserved g c = (
   omega arith,
@@ -37,8 +34,4 @@ loop-index-preserved g c = (
 )
 
 pub returns : goal.returns
-returns g c variables =
-    let ps = c.args.parsers.now in
-    c.loop-index.invariant.1 variables
-    ∙ ap (λ qs. part_of (program_form (choices_of g.P.ProgramField.grammar qs) variables))
-    (take_all c.loop-index.index ps (let done = c.loop-index-test.false in omega arith))
+returns g c variables = grind (arith, take_all)

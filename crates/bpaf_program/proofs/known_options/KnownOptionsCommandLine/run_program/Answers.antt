@@ -2,7 +2,7 @@ use Rattle.std.proofs.Common.{true}
 use Rattle.bpaf_words.specs.Arguments.{given_of}
 use Rattle.bpaf.specs.Run.{known_names}
 use Rattle.bpaf_record.specs.Grammar.{command_words, keys_of, program_form}
-use Rattle.bpaf_record.proofs.Programs.{answers_as_program}
+use Rattle.bpaf_record.proofs.Running.{answers_as_program}
 use Rattle.bpaf_program.specs.KnownParser.{shown_shorts}
 use Rattle.bpaf_program.proofs.known_options.KnownOptionsCommandLine.run_program.Goals as goal
 
@@ -11,9 +11,8 @@ returns-clause-each_exact g c known r o =
     let parser = c.args.self.now.options.inner in
     let grammar = g.K.KnownProgram.grammar in
     let given = given_of c.args.args in
-    answers_as_program g.row.T.Denot (g.P.Parser.outcome parser) (g.P.Parser.describes parser)
-    c.args.self.now.options.info (known_names c.args.self.now.options.info (shown_shorts grammar))
-    (keys_of grammar true) (command_words grammar) (program_form grammar given.env) given
+    answers_as_program (g.P.Parser.describes parser) c.args.self.now.options.info
+    (known_names c.args.self.now.options.info (shown_shorts grammar)) given
     (known.law given.env) (g.K.KnownProgram.whole given.env) r (rw known.shown at o)
 
 pub returns-clause-exact : goal.returns-clause-exact

@@ -1,8 +1,8 @@
-use Rattle.std.proofs.Common.{true, false}
+use Rattle.std.proofs.Common.{arith, false}
 use Rattle.bpaf_words.specs.Arguments.{given_of}
-use Rattle.bpaf_record.specs.Grammar.{command_words, keys_of, program_form}
 use Rattle.bpaf.specs.Run.{known_names}
-use Rattle.bpaf_record.proofs.Programs.{answers_as_program, is_program_form, tells_of_words}
+use Rattle.bpaf_record.proofs.Running.{answers_as_program, is_program_form, tells_of_words}
+use Rattle.bpaf_record.specs.Grammar.{program_form, keys_of}
 use Rattle.bpaf_record.proofs.command_line.OptionParserCommandLine.run_program.Goals as goal
 
 pub returns-clause-each_exact : goal.returns-clause-each_exact
@@ -10,23 +10,14 @@ returns-clause-each_exact g c agrees r o =
     let parser = c.args.self.now.inner in
     let grammar = g.P.ProgramField.grammar parser in
     let given = given_of c.args.args in
-    let form = program_form grammar given.env in
-    answers_as_program g.row.T.Denot (g.P.Parser.outcome parser) (g.P.Parser.describes parser)
-    c.args.self.now.info (known_names c.args.self.now.info (g.P.Parser.shorts parser))
-    (keys_of grammar true) (command_words grammar) form given
+    answers_as_program (g.P.Parser.describes parser) c.args.self.now.info
+    (known_names c.args.self.now.info (g.P.Parser.shorts parser)) given
     (g.met.P.ProgramField.law parser agrees given.env)
-    (is_program_form form (keys_of grammar false) c.args.self.now.info c.requires.program) r o
+    (is_program_form (program_form grammar given.env) (keys_of grammar false)
+    c.args.self.now.info c.requires.program) r o
 
 pub returns-clause-exact : goal.returns-clause-exact
 returns-clause-exact g c agrees = returns-clause-each_exact g c agrees _ c.run_inner.ensures.outcome
 
 pub returns-clause-fields : goal.returns-clause-fields
-returns-clause-fields g c agrees =
-    let parser = c.args.self.now.inner in
-    let grammar = g.P.ProgramField.grammar parser in
-    let given = given_of c.args.args in
-    tells_of_words given.env (g.P.Parser.outcome parser) (command_words grammar)
-    (g.met.P.ProgramField.law parser agrees given.env)
-    (g.met.P.ProgramField.said parser agrees given.env)
-    (is_program_form (program_form grammar given.env) (keys_of grammar false)
-    c.args.self.now.info c.requires.program) _ (returns-clause-exact g c agrees)
+returns-clause-fields g c agrees = grind (arith, returns-clause-exact, tells_of_words)
