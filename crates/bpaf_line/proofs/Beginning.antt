@@ -90,30 +90,24 @@ pub sound_beginning : (i : Inside) (context : Context) → situation_of i ≡ be
 sound_beginning i context e marker_inside worded bits room left clear keyless behind aside none
     within =
     let start = beginning context in
-    let size : length i.items.items ≡ length context.line = ap (λ s. length s.context.line) e in
     let set : BitsOf start i.words.items = bits_beginning context i.words.items bits in
-    record {
-      worded = omega arith;
-      bits = subst (λ s. BitsOf s i.words.items) (sym e) set;
-      room = omega arith;
-      in_turn = subst TakenInTurn (sym e) (λ n within. absurd (omega arith));
-      ordered = let from = ap (λ s. s.start) e in omega (arith, from);
-      inside = let to = ap (λ s. s.end) e in omega (arith, to);
-      counted = left ∙ (sym (open_count-start context context.marker marker_inside)
-          ∙ sym (ap open_count e));
-      first = subst (λ s. IsFirstPresent s i.first) (sym e)
-          (first_by_bits start i.words.items 0 i.first (omega arith) set (omega arith)
-          (λ q lower upper. absurd (omega arith)) clear);
-      aside = subst (IsRemembered (situation_of i)) (sym aside)
-          (remembers_nothing (situation_of i));
-      chained = chains_anew (situation_of i) i.chains
-          (subst (λ s. IfSome i.chains (AreBehind s.context.line (λ p. false))) (sym e) behind);
-      keyless = subst (λ s. HasNoKeyFrom s.context.line i.keys) (sym e) keyless;
-      behind = λ q low high. absurd (omega (arith, none));
-      behind_inside = omega (arith, none, within);
-      named = subst (λ s. IfSome s.context.name (λ n. slice_get s.path 0 ≡ Some n)) (sym e)
-          (path_begins context.name);
-    }
+    subst (IsSoundAt i) (sym e) (record {
+      worded = worded;
+      bits = set;
+      room = room;
+      in_turn = λ n within. absurd (omega arith);
+      ordered = omega arith;
+      inside = omega arith;
+      counted = left ∙ sym (open_count-start context context.marker marker_inside);
+      first = first_by_bits start i.words.items 0 i.first (omega arith) set (omega arith)
+          (λ q lower upper. absurd (omega arith)) clear;
+      aside = rw aside (remembers_nothing start);
+      chained = chains_anew start i.chains behind;
+      keyless = keyless;
+      behind = λ q low high. absurd (omega arith);
+      behind_inside = rw none within;
+      named = path_begins context.name;
+    })
 
 -- a state whose fields are those of the beginning is at the beginning
 pub begins : (i : Inside) (context : Context) → i.items.items ≡ context.line → i.marker

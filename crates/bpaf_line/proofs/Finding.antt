@@ -86,7 +86,7 @@ open_behind s chains class start q item h begins inside at there = ⊎_elim
     (λ (behind : start ≤ q). behind) (cases_lt q start)
 
 -- the first along the chain from that start on is the first with the name
-pub first_named : (test : Arg → Bool) (s : Situation) (chains : Chained) (key : Arg)
+first_named : (test : Arg → Bool) (s : Situation) (chains : Chained) (key : Arg)
     (start end p : ℕ) → AreChainsOf s chains → end ≤ length chains.classes
     → IsChainStart chains key start → IsFirstAlong test s chains.classes start end p
     → IsFirstAmong test (names_of key) s end p
@@ -151,35 +151,29 @@ key_of_more a b (ArgWord _) = refl
 key_of_more a b (Word _) = refl
 key_of_more a b (PosWord _) = refl
 
--- of one name more
-pub among_more : (test : Arg → Bool) (names one : Names) (s : Situation)
-    (end p next : ℕ) → IsFirstAmong test names s end p → IsFirstAmong test one s p next
+-- of one name more, whose chain was walked
+pub among_more : (test : Arg → Bool) (names : Names) (key : Arg) (s : Situation) (chains : Chained)
+    (start end p next : ℕ) → AreChainsOf s chains → end ≤ length chains.classes
+    → IsChainStart chains key start → IsFirstAmong test names s end p
+    → IsFirstAlong test s chains.classes start p next
     → IsFirstAmong test (record {
-      shorts = names.shorts ++ one.shorts;
-      longs = names.longs ++ one.longs;
+      shorts = names.shorts ++ (names_of key).shorts;
+      longs = names.longs ++ (names_of key).longs;
     }) s end next
-among_more test names one s end p next old new = record {
-  within = omega (arith, old.within, new.within);
-  matches = λ below. ⊎_elim
-      (λ (nearer : next < p). new.matches nearer)
-      (λ (past : p ≤ next). let at : next ≡ p = omega (arith, new.within) in
-      ap (is_match test s) at ∙ old.matches (omega arith))
-      (cases_lt next p);
-  none = λ q item before there passes. key_of_more names one item
-      ∙ (ap (λ b. b || is_key_of one item)
-      (old.none q item (omega (arith, new.within)) there passes)
-      ∙ new.none q item before there passes);
-}
-
--- a key with one of the names has one of the short ones or one of the long ones
-key_named : (names : Names) (adjacent : Bool) (item : Arg) → is_argument_key names adjacent item
-    ≡ true → is_key_of (record { shorts = names.shorts; longs = [] }) item ≡ false
-    → is_key_of (record { shorts = []; longs = names.longs }) item ≡ false → true ≡ false
-key_named names adjacent (Short c attached word) key short long = sym (and_parts _ _ key).0 ∙ short
-key_named names adjacent (Long name attached word) key short long = sym (and_parts _ _ key).0 ∙ long
-key_named names adjacent (ArgWord text) key short long = sym key
-key_named names adjacent (Word text) key short long = sym key
-key_named names adjacent (PosWord text) key short long = sym key
+among_more test names key s chains start end p next h inside begins old along =
+    let new = first_named test s chains key start p next h (omega (arith, old.within)) begins along
+    in record {
+      within = omega (arith, old.within, new.within);
+      matches = λ below. ⊎_elim
+          (λ (nearer : next < p). new.matches nearer)
+          (λ (past : p ≤ next). let at : next ≡ p = omega (arith, new.within) in
+          ap (is_match test s) at ∙ old.matches (omega arith))
+          (cases_lt next p);
+      none = λ q item before there passes. key_of_more names (names_of key) item
+          ∙ (ap (λ b. b || is_key_of (names_of key) item)
+          (old.none q item (omega (arith, new.within)) there passes)
+          ∙ new.none q item before there passes);
+    }
 
 -- what stands at a place from which on the line has no key is none
 pub no_key_there : (names : Names) (adjacent : Bool) (s : Situation) (low q : ℕ)
@@ -208,45 +202,30 @@ none_past names adjacent s low end q h is past = ⊎_elim
     (λ (behind : s.end ≤ q). past_scope (is_argument_key names adjacent) s q behind)
     (cases_lt q s.end)
 
--- the first key of the short names and of the long ones is the first key, where none is behind
-pub key_found : (names : Names) (adjacent : Bool) (s : Situation) (end short place : ℕ)
+-- the first key of the names is the first key, where none is behind
+pub key_found : (names : Names) (adjacent : Bool) (s : Situation) (end place : ℕ)
     (found : Option ℕ) → ((q : ℕ) → end ≤ q → is_match (is_argument_key names adjacent) s q ≡ false)
-    → IsFirstAmong (is_argument_key names adjacent)
-    (record { shorts = names.shorts; longs = [] }) s end short
-    → IsFirstAmong (is_argument_key names adjacent)
-    (record { shorts = []; longs = names.longs }) s short place → found
-    ≡ then_some (nat_lt place end) place
+    → IsFirstAmong (is_argument_key names adjacent) names s end place
+    → found ≡ then_some (nat_lt place end) place
     → MatchOption found (HasNone (is_argument_key names adjacent) s)
     (IsFirst (is_argument_key names adjacent) s)
-key_found names adjacent s end short place found past_end shorts longs is =
-    subst (λ r. MatchOption r (HasNone test s) (IsFirst test s)) (sym is)
-    (by_test (nat_lt place end) refl)
+key_found names adjacent s end place found past_end among is =
+    rw is (by_test (nat_lt place end) refl)
   where
-    test : Arg → Bool
-    test = is_argument_key names adjacent
+    lacks : (named fits : Bool) → ((named && fits) ≡ true → named ≡ false) → (named && fits) ≡ false
+    lacks named fits h = grind arith
 
     none_at : (q : ℕ) → q < place → (at : Option Arg) → open_item s q ≡ at
-        → option_map_or test at false ≡ false
+        → option_map_or (is_argument_key names adjacent) at false ≡ false
     none_at q before None e = refl
-    none_at q before (Some item) e = ⊎_elim
-        (λ (key : test item ≡ true). absurd (true≢false
-        (key_named names adjacent item key (shorts.none q item
-        (omega (arith, longs.within)) e key) (longs.none q item before e key))))
-        (λ (other : test item ≡ false). other) (cases_Bool (test item))
-
-    before_it : (q : ℕ) → q < place → is_match test s q ≡ false
-    before_it q before = none_at q before (open_item s q) refl
+    none_at q before (Some item) e = lacks (is_key_of names item) _ (among.none q item before e)
 
     by_test : (b : Bool) → nat_lt place end ≡ b → MatchOption (then_some b place)
-        (HasNone test s) (IsFirst test s)
-    by_test true e =
-        let below : place < end = ltb-true place end e in
-        record {
-          matches = ⊎_elim (λ (nearer : place < short). longs.matches nearer)
-              (λ (past : short ≤ place). let at : place ≡ short = omega (arith, longs.within) in ap
-              (is_match test s) at ∙ shorts.matches (omega arith)) (cases_lt place short);
-          first = before_it;
-        }
-    by_test false e = λ q. ⊎_elim (λ (before : q < place). before_it q before)
+        (HasNone (is_argument_key names adjacent) s) (IsFirst (is_argument_key names adjacent) s)
+    by_test true e = record {
+      matches = among.matches (ltb-true place end e);
+      first = λ q before. none_at q before (open_item s q) refl;
+    }
+    by_test false e = λ q. ⊎_elim (λ (before : q < place). none_at q before (open_item s q) refl)
         (λ (past : place ≤ q). past_end q (let far = ltb-false place end e in omega arith))
         (cases_lt q place)

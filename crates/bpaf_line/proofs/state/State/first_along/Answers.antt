@@ -16,9 +16,6 @@ loop-place-preserved c =
 
 pub returns-then-is_key_at : goal.returns-then-is_key_at
 returns-then-is_key_at c =
-    first_along (is_argument_key (record {
-      shorts = c.args.shorts.now;
-      longs = c.args.longs.now;
-    }) c.args.adjacent) c.args.self.now c.args.chains.now.classes c.args.start c.args.end
-    c.loop-place.place c.loop-place.place c.loop-place.invariant (omega arith)
+    first_along (is_sought c.args.key) c.args.self.now c.args.chains.now.classes c.args.start
+    c.args.end c.loop-place.place c.loop-place.place c.loop-place.invariant (omega arith)
     (omega (arith, c.loop-place-test.true)) (λ below. sym c.is_key_at.ensures ∙ c.if-is_key_at.true)

@@ -6,7 +6,7 @@ use Rattle.bpaf_line.proofs.state.State.first_word_in_turn.Goals as goal
 
 pub loop-place-init : goal.loop-place-init
 loop-place-init c = none_in_front is_positional c.args.self.now c.self.inside.first
-    (subst (λ s. IsFirstPresent s c.self.inside.first) c.self.view_is c.self.invariant.first)
+    (subst (IsSoundAt c.self.inside) c.self.view_is c.self.invariant).first
 
 pub loop-place-preserved : goal.loop-place-preserved
 loop-place-preserved c = none_up_to is_positional c.args.self.now c.loop-place.place

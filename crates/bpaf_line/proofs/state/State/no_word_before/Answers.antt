@@ -6,4 +6,4 @@ use Rattle.bpaf_line.proofs.state.State.no_word_before.Goals as goal
 
 pub returns-then-self : goal.returns-then-self
 returns-then-self c = none_in_front is_positional c.args.self.now c.self.inside.first
-    (subst (λ s. IsFirstPresent s c.self.inside.first) c.self.view_is c.self.invariant.first)
+    (subst (IsSoundAt c.self.inside) c.self.view_is c.self.invariant).first

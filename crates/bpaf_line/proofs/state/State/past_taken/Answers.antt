@@ -6,5 +6,5 @@ pub returns-then-place-self : goal.returns-then-place-self
 returns-then-place-self c q low high = absurd (omega arith)
 
 pub returns : goal.returns
-returns c q low high = sym (ap (λ s. is_taken s q) c.self.view_is)
-    ∙ c.self.invariant.behind q (omega arith) (omega arith)
+returns c q low high = (subst (IsSoundAt c.self.inside) c.self.view_is c.self.invariant).behind q
+    (omega arith) (omega arith)

@@ -10,14 +10,11 @@ invariant_of-self c =
     let s = c.self-2.inside in
     let name : s.name ≡ c.args.self.now.context.name = ap (λ t. t.context.name)
     (c.self-2.view_is ∙ c.loop-self.invariant.cut) in
-    let path : map string_bytes c.truncate-2.new.self.items ≡ take c.args.mark.depth
-    (map string_bytes s.path.items) =
-    ap (map string_bytes) c.truncate-2.ensures.items
+    let path = ap (map string_bytes) c.truncate-2.ensures.items
     ∙ sym (take-map string_bytes c.args.mark.depth s.path.items) in
-    sound_path s c.truncate.new.self c.truncate-2.new.self c.self-2.invariant
-    (subst (λ xs. IfSome s.name (λ n. slice_get xs 0 ≡ Some n)) (sym path)
-    (path_cut s.name (map string_bytes s.path.items) c.args.mark.depth c.self-2.invariant.named
-    (subst (λ n. IfSome n (λ _. 1 ≤ c.args.mark.depth)) (sym name) c.requires.named)))
+    sound_path s _ c.self-2.invariant c.truncate.new.self c.truncate-2.new.self
+    (rw path (path_cut s.name (map string_bytes s.path.items) c.args.mark.depth
+    c.self-2.invariant.named (rw name c.requires.named)))
 
 pub returns-clause-undone : goal.returns-clause-undone
 returns-clause-undone c =

@@ -6,6 +6,6 @@ use Rattle.bpaf_line.proofs.state.State.value_after.Goals as goal
 pub overflow_add-key : goal.overflow_add-key
 overflow_add-key c = omega (
   arith,
-  open_below_end c.self.inside c.args.key
-      (ap (λ s. is_open s c.args.key) c.self.view_is ∙ c.requires),
+  open_in_scope c.args.self.now c.args.key c.requires,
+  ap (λ s. s.end) c.self.view_is,
 )
