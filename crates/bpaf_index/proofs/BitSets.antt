@@ -3,9 +3,8 @@ use Rattle.std.proofs.Common.{◌≡◌, ◌≢◌, ℕ, zero, suc, ◌+◌, ◌
 use Rattle.std.proofs.Common.{◌∙◌, arith, if◌then◌else◌, ⊎_elim, ◌==◌, ◌||◌, List, [], ◌∷◌, ◌++◌}
 use Rattle.std.proofs.Common.{sym, ◌-◌, ◌/◌, ◌%◌, ◌^◌, not, min, count_ones, bit_and, pow_pos, ◌*◌}
 use Rattle.std.proofs.Common.{length, slice_index, slice_set, get_or-set_same, get_or-set_other}
-use Rattle.std.proofs.Common.{nat_le, replicate, ◌&&◌, Option, Some, None, true≢false}
-use Rattle.std.proofs.lemmas.Bool.{cases_lt, ne_eqb, cases_eq, eq-eqb, and_left, le-leb, lt-leb}
-use Rattle.std.proofs.lemmas.Bool.{or_right, not-true}
+use Rattle.std.proofs.Common.{nat_le, replicate, ◌&&◌, Option, Some}
+use Rattle.std.proofs.lemmas.Bool.{cases_lt, cases_eq, eq-eqb, and_left, le-leb, lt-leb}
 use Rattle.std.proofs.lemmas.Bool.Decides.{nat_tests}
 use Rattle.std.proofs.lemmas.List.Folds.{list_any-append, list_any_at}
 use Rattle.std.proofs.lemmas.Nat.{ones-le, ones_cat, shr-shr, mod_below, and_mask, shr_le}
@@ -113,8 +112,12 @@ ones_low (suc k) n =
 -- a bit that isn't set is set in the complement
 complement : (word i : ℕ) → word < 2 ^ 64 → i < 64
     → is_bit (bit_not w64 word) i ≡ not (is_bit word i)
-complement word i fits within = grind (arith, nat_tests, bit_at_not w64 word i fits within,
-    bit_at-lt word i)
+complement word i fits within = grind (
+  arith,
+  nat_tests,
+  bit_at_not w64 word i fits within,
+  bit_at-lt word i,
+)
 
 -- a bit of a word that was shifted is one further up
 pub bit_shifted : (word low i : ℕ) → bit_at (word / 2 ^ low) i ≡ bit_at word (low + i)
@@ -303,3 +306,6 @@ least_take words places p bit found = take_it (has_bit words)
         → IsLeastIn (λ q. is_on (places ++ p ∷ []) q && (if bit then has q else not (has q)))
         (Some (lesser_of found p))
     take_it has h on = grind (arith, nat_tests, is_on_push)
+
+-- how many places are clear, word by word
+pub ruleset clear_counts = (count_clear-none, count_clear-word, count_clear-most)

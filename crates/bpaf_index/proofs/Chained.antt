@@ -1,22 +1,21 @@
 -- Chains: how classes are given out along a line, how its places are linked, and how a walk along
 -- the links goes.
 use Rattle.std.proofs.Common.{◌≡◌, ◌⊎◌, ℕ, ◌+◌, ◌<◌, ◌≤◌, List, Bool, true, false, Some, None}
-use Rattle.std.proofs.Common.{String, if◌then◌else◌, inl, inr, refl, ap, sym, ◌∙◌, subst, arith}
-use Rattle.std.proofs.Common.{length, take, slice_index, bytes_eq, string_bytes, ◌≢◌, [], ◌||◌}
-use Rattle.std.proofs.Common.{Option, ⊎_elim, get_or, slice_set, length-set, get_or-set_same}
+use Rattle.std.proofs.Common.{String, if◌then◌else◌, inl, refl, ap, sym, ◌∙◌, subst, arith}
+use Rattle.std.proofs.Common.{length, take, slice_index, bytes_eq, string_bytes}
+use Rattle.std.proofs.Common.{Option, get_or, slice_set, length-set, get_or-set_same}
 use Rattle.std.proofs.Common.{get_or-set_other}
 use Rattle.std.proofs.lemmas.List.{get_or-take, length-take-le}
 use Rattle.std.proofs.lemmas.Option.{slice_get_read, get_or_from_slice_get}
-use Rattle.std.proofs.lemmas.Bool.{cases_lt, cases_eq, eqb-true}
 use Rattle.std.proofs.lemmas.Bool.Decides.{nat_tests}
 use Rattle.std.proofs.{lemmas.Map.Text.btree_map_updates_text, lemmas.Slice.Eq.bytes_eq-Decides}
 use Rattle.std.specs.BTreeMap.{BTreeMap, get_by_text, Updates}
-use Rattle.std.specs.{declared.alloc.Global.Global, String.string_cmp, Option.option_map_or}
-use Rattle.bpaf_base.specs.declared.arg.Arg.TheVariants.{Short, Long, ArgWord, Word, PosWord}
+use Rattle.std.specs.{declared.alloc.Global.Global, String.string_cmp}
+use Rattle.bpaf_base.specs.declared.arg.Arg.TheVariants.{Long}
 use Rattle.bpaf_base.specs.{declared.arg.Arg.Arg, Names.Names, Items.is_key_of}
 use Rattle.bpaf_index.specs.Chained.{Naming, class_of, IsNoted, AreClassesOf, Chained, IsNextOf}
 use Rattle.bpaf_index.specs.Chained.{IsPlaceOf, IsChainStartOf, HasWalked, AreBehind, head_of}
-use Rattle.bpaf_index.specs.Chained.{names_of, named_at, is_key, HasNoKeyFrom}
+use Rattle.bpaf_index.specs.Chained.{names_of, is_key, HasNoKeyFrom}
 use Rattle.bpaf_index.specs.InsideChains.{IsLinked}
 
 -- the classes of a line's first places, fewer than 128 and one for each of these
@@ -46,27 +45,17 @@ noted_long shorts old new kept next item {name = name} long is none updates = rw
     finds text =
         rw (← is) (btree_map_updates_text (string_bytes kept) old new (Some next) updates text)
 
-    of_test : (text : List ℕ) (b : Bool) → bytes_eq name text ≡ b
-        → (get_by_text new text ≡ get_by_text old text)
-        ⊎ ((get_by_text old text ≡ None) × (get_by_text new text ≡ Some next))
-    of_test text true e = inr (
-      subst (λ x. get_by_text old x ≡ None) ((bytes_eq-Decides name text).0 e)
-          (subst (λ i. class_of (record { shorts = shorts; longs = old.entries }) i ≡ None) long
-          none),
-      finds text ∙ ap (λ b. if b then Some next else get_by_text old text) e,
-    )
-    of_test text false e =
-        inl (finds text ∙ ap (λ b. if b then Some next else get_by_text old text) e)
-
     others : (other : Arg) → (class_of (record { shorts = shorts; longs = new.entries }) other
         ≡ class_of (record { shorts = shorts; longs = old.entries }) other)
         ⊎ ((class_of (record { shorts = shorts; longs = old.entries }) other ≡ None)
         × (class_of (record { shorts = shorts; longs = new.entries }) other ≡ Some next))
-    others (Short d _ _) = inl refl
-    others (Long text _ _) = of_test text (bytes_eq name text) refl
-    others (ArgWord text) = inl refl
-    others (Word text) = inl refl
-    others (PosWord text) = inl refl
+    others (Long text _ _) = by_text text (rw long at none)
+      where
+        by_text : (text : List ℕ) → get_by_text old name ≡ None
+            → (get_by_text new text ≡ get_by_text old text)
+            ⊎ ((get_by_text old text ≡ None) × (get_by_text new text ≡ Some next))
+        by_text text none = grind (arith, finds text, bytes_eq-Decides name text)
+    others _ = inl refl
 
 -- the classes of the front of a line are those of the line's first places
 pub classes_of_front : (names : Naming) (line : List Arg) (n : ℕ) (classes : List ℕ)

@@ -93,6 +93,7 @@ fn zeros(word: u64, low: usize) -> usize
 /// How many places from one on, below the end, have no bit set.
 ///
 /// A word of 64 places is one step.
+#[tactic(auto, using(crate::proofs::BitSets::clear_counts))]
 pub fn count_clear(words: &[u64], from: usize, end: usize) -> usize
     requires ordered { from ≤ end }
     requires inside { end ≤ 64 * length words.now }
@@ -109,6 +110,7 @@ pub fn count_clear(words: &[u64], from: usize, end: usize) -> usize
 }
 
 /// How many of so many bits of a word, from one on, are clear.
+#[tactic(auto, using(crate::proofs::BitSets::clear_all, crate::proofs::BitSets::clear_none, crate::proofs::BitSets::clear_counted))]
 fn clear_within(word: u64, low: usize, wide: usize) -> usize
     requires some { 0 < wide }
     requires inside { low + wide ≤ 64 }
@@ -137,6 +139,7 @@ fn write(words: &mut [u64], place: usize, bit: bool)
 }
 
 /// Gives the bits of some places this value.
+#[tactic(auto, using(crate::proofs::BitSets::changes_more))]
 fn write_all(words: &mut [u64], places: &[usize], bit: bool)
     requires { AreWithin words.old places.now }
     ensures { ChangesBits words.old words.new places.now bit }

@@ -217,6 +217,7 @@ pub fn reach_back(chains: &mut Option<Chains>, place: usize)
 /// How many places there are up to a line's last key and with it; none, where it has no key. It
 /// stays a call, so that its loop keeps no count of its caller's.
 #[inline(never)]
+#[tactic(auto, using(crate::proofs::Chained::keyless_more))]
 pub fn count_to_last_key(items: &[Arg]) -> usize
     ensures within { result ≤ length items.now }
     ensures keyless { HasNoKeyFrom items.now result }
