@@ -253,7 +253,7 @@ pub count_clear-most : (words : List ℕ) (low p : ℕ) → count_clear words lo
 count_clear-most words low p = count_below-most (is_clear_from words low) p
 
 -- no bit of words that are 0 is set
-has_bit_zero : (n p : ℕ) → has_bit (replicate n 0) p ≡ false
+pub has_bit_zero : (n p : ℕ) → has_bit (replicate n 0) p ≡ false
 has_bit_zero n p = ap (λ x. is_bit x (p % 64)) (zero_at (p / 64))
     ∙ ap (λ b. b == 1) (bit_at-zero (p % 64))
   where

@@ -6,10 +6,10 @@ use Rattle.std.proofs.Common.{vec_capacity, []}
 use Rattle.std.proofs.lemmas.Bool.{lt-ltb, and_right, or_right, or_left, eq-eqb}
 use Rattle.std.proofs.lemmas.Bool.Decides.{nat_tests}
 use Rattle.std.specs.{Int.from_bool, Prelude.string_bytes}
-use Rattle.bpaf_line.specs.Inside.{no_aside, IsRemembered, situation_of, BitsOf, IsSound}
+use Rattle.bpaf_line.specs.Inside.{no_aside, situation_of, BitsOf, IsSound, IsSoundAt}
 use Rattle.bpaf_line.specs.Inside.{shared_entries}
 use Rattle.bpaf_line.specs.Situation.{Situation, Context, beginning, open_count, is_open, is_taken}
-use Rattle.bpaf_line.specs.Situation.{is_marker, is_dealt_place, TakenInTurn, IsFirstPresent}
+use Rattle.bpaf_line.specs.Situation.{is_marker, is_dealt_place}
 use Rattle.bpaf_line.specs.declared.state.State.TheInside.{Inside}
 use Rattle.bpaf_index.specs.Bits.{has_bit, IsFirstClear}
 use Rattle.bpaf_index.specs.Chained.{AreBehind, HasNoKeyFrom}

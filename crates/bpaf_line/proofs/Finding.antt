@@ -1,10 +1,10 @@
 -- Finding: the first key with one of some names, and the first word, along the chains of those.
 use Rattle.std.proofs.Common.{◌≡◌, ℕ, ◌+◌, ◌<◌, ◌≤◌, ◌==◌, Bool, true, false, not, ◌||◌, List, []}
-use Rattle.std.proofs.Common.{◌++◌, Option, Some, None, length, refl, ap, sym, ◌∙◌, subst, arith}
-use Rattle.std.proofs.Common.{⊎_elim, if◌then◌else◌, nat_lt, slice_get, slice_index, bytes_eq}
+use Rattle.std.proofs.Common.{◌++◌, Option, Some, None, length, refl, ap, sym, ◌∙◌, arith}
+use Rattle.std.proofs.Common.{⊎_elim, if◌then◌else◌, nat_lt, slice_get, slice_index, bytes_eq, ◌&&◌}
 use Rattle.std.proofs.Common.{MatchOption, min}
 use Rattle.std.proofs.lemmas.Bool.{cases_lt, cases_Bool, true≢false, ltb-true, ltb-false, le-ltb}
-use Rattle.std.proofs.lemmas.Bool.{lt-leb, not-true, and_left, and_right, and_parts}
+use Rattle.std.proofs.lemmas.Bool.{lt-leb, not-true, and_left, and_right}
 use Rattle.std.proofs.lemmas.List.Folds.{list_any-append}
 use Rattle.std.specs.{Bool.then_some, Option.option_map_or}
 use Rattle.bpaf_doc.specs.Names.{Names}

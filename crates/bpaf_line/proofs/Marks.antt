@@ -4,11 +4,11 @@ use Rattle.std.proofs.Common.{◌≡◌, ℕ, ◌+◌, ◌-◌, ◌<◌, ◌≤�
 use Rattle.std.proofs.Common.{sym, ◌∙◌, arith, length-drop, Option, [], ◌∷◌, length-append, ◌≢◌}
 use Rattle.std.proofs.Common.{◌==◌, Bool, true, false, not, ◌&&◌, Some, None, if◌then◌else◌}
 use Rattle.std.proofs.Common.{reverse, option_map, zero, suc, ◌*◌, ◌||◌, subst, ⊎_elim, nat_lt}
-use Rattle.std.proofs.Common.{slice_index, add-one, true≢false, Result, Ok, Err, OnOk}
+use Rattle.std.proofs.Common.{slice_index, add-one, Result, Ok, Err, OnOk}
 use Rattle.std.proofs.lemmas.List.{length-take-le, take-append-le, take-append-drop, take-take}
 use Rattle.std.proofs.lemmas.List.{take_rest, drop-take, get_or-drop, reverse-append, take_more}
 use Rattle.std.proofs.lemmas.List.{take_all}
-use Rattle.std.proofs.lemmas.Bool.{eq-eqb, ne_eqb, cases_eq, not-true, and_parts, or_right, or_from}
+use Rattle.std.proofs.lemmas.Bool.{eq-eqb, ne_eqb, cases_eq, or_right}
 use Rattle.std.proofs.lemmas.Bool.{ltb-true, ltb-false}
 use Rattle.std.proofs.lemmas.List.Folds.{find-append, list_any-append}
 use Rattle.bpaf_line.specs.Situation.{Situation, cut_to, take_place, with_conflicts, with_scope}
@@ -17,7 +17,7 @@ use Rattle.bpaf_line.specs.Situation.{is_on, is_marker, with_trail, PresentInTur
 use Rattle.bpaf_line.specs.Marks.{HasReached, undone, steps_since, redone, CanRedo, KeepsMarks}
 use Rattle.bpaf_line.specs.Marks.{Changes, Fits}
 use Rattle.bpaf_line.specs.Taking.{ConflictsSaved, IsWinner, leftmost_of}
-use Rattle.bpaf_line.specs.Inside.{situation_of, BitsOf, IsSound}
+use Rattle.bpaf_line.specs.Inside.{IsSoundAt}
 use Rattle.bpaf_line.specs.{declared.mark.Mark.Mark, declared.state.State.TheInside.Inside}
 use Rattle.std.specs.{Option.option_or, List.find}
 use Rattle.bpaf_index.specs.Bits.{has_bit, is_in_first, AreWithin, IsLeastIn}
@@ -353,11 +353,11 @@ module _ (s : Situation) (mark : Mark) (steps : Changes) where
             (λ q below. same_both q (mine.1 q (omega arith)) (theirs.1 q below))
 
 -- the bits tell what own places and the others' are
-pub record AreApart (words own theirs : List ℕ) : Type 0 where
-  pub own : AreWithin words own
+pub record AreApart (words mine theirs : List ℕ) : Type 0 where
+  pub own : AreWithin words mine
   pub others : AreWithin words theirs
-  pub set : (q : ℕ) → is_on own q ≡ true → has_bit words q ≡ true
-  pub clear : (q : ℕ) → is_on theirs q ≡ true → is_on own q ≡ false → has_bit words q ≡ false
+  pub set : (q : ℕ) → is_on mine q ≡ true → has_bit words q ≡ true
+  pub clear : (q : ℕ) → is_on theirs q ≡ true → is_on mine q ≡ false → has_bit words q ≡ false
 
 module _ (i : Inside) (s : Situation) (mark : Mark) (steps : Changes) (sound : IsSoundAt i s)
     (reached : HasReached mark s) (redo : CanRedo steps (undone mark s)) where

@@ -5,29 +5,28 @@ use Rattle.std.proofs.Common.{◌∙◌, subst, arith, ⊎_elim, if◌then◌els
 use Rattle.std.proofs.Common.{length-append, map, string_bytes, None, ◌≢◌, List, ◌++◌, Vec, String}
 use Rattle.std.proofs.Common.{vec_capacity, vec_len, get_or, Option, Some, slice_get, min, max}
 use Rattle.std.proofs.Common.{IfSome}
-use Rattle.std.proofs.lemmas.Bool.{and_left, and_right, or_left, le-ltb, leb-true, cases_lt, lt-leb}
-use Rattle.std.proofs.lemmas.Bool.{le-leb, cases_eq, lt-ltb, cond-true}
+use Rattle.std.proofs.lemmas.Bool.{and_left, and_right, or_left, le-ltb, leb-true, cases_lt}
+use Rattle.std.proofs.lemmas.Bool.{cases_eq, cond-true}
 use Rattle.std.proofs.lemmas.List.{take-append-le, take-append-drop, take-take, take_all, take_more}
 use Rattle.std.proofs.lemmas.List.{drop_all, drop_more, length-take-le, with_items_is, get_or_read}
 use Rattle.std.proofs.lemmas.Option.{slice_get-get_or}
 use Rattle.std.proofs.{lemmas.List.Folds.list_any-append, lemmas.Bool.Decides.nat_tests}
 use Rattle.std.specs.{Int.from_bool, Vec.with_items, declared.alloc.Global.Global}
 use Rattle.bpaf_line.specs.Inside.{no_aside, count_within, IsSurvey, IsRemembered, situation_of}
-use Rattle.bpaf_line.specs.Inside.{BitsOf, IsSound, AreChainsOf}
+use Rattle.bpaf_line.specs.Inside.{BitsOf, IsSound, AreChainsOf, IsSoundAt}
 use Rattle.bpaf_line.specs.Situation.{Situation, cut_to, with_trail, with_scope, is_on, is_open}
 use Rattle.bpaf_line.specs.Situation.{is_taken, in_scope, open_count, TakenInTurn, IsFirstPresent}
-use Rattle.bpaf_line.specs.Situation.{is_marker, AreTaken, HasNoneOpen}
+use Rattle.bpaf_line.specs.Situation.{is_marker, HasNoneOpen}
 use Rattle.bpaf_line.specs.Taking.{open_item}
 use Rattle.bpaf_line.specs.{declared.aside.Aside.Aside, declared.state.State.TheInside.Inside}
 use Rattle.bpaf_index.proofs.BitSets.{count_below-none, count_below-same, count_below-cut}
 use Rattle.bpaf_index.proofs.BitSets.{count_below-most}
 use Rattle.bpaf_line.proofs.Places.{put, open_count-put, put_here, put_other, put_stays}
-use Rattle.bpaf_line.proofs.Places.{in_turn_put, room_on_trail, last_put, in_turn_cut}
-use Rattle.bpaf_line.proofs.Places.{first_without, open_in_scope, open_not_taken}
+use Rattle.bpaf_line.proofs.Places.{in_turn_put, room_on_trail, last_put, in_turn_cut, open_in_line}
+use Rattle.bpaf_line.proofs.Places.{first_without, open_not_taken}
 use Rattle.bpaf_base.specs.declared.arg.Arg.{Arg}
 use Rattle.bpaf_index.specs.Bits.{has_bit, is_clear_from, count_clear, ChangesBit, IsFirstClear}
 use Rattle.bpaf_index.specs.Chained.{Chained, head_of, AreBehind, ReachBack, IfChained}
-use Rattle.bpaf_index.specs.Chained.{HasNoKeyFrom}
 
 -- of a scope of no places all is known
 pub remembers_nothing : (s : Situation) → IsRemembered s no_aside
@@ -78,7 +77,8 @@ pub survey_narrowed : (s : Situation) (start end left first : ℕ) → left ≡ 
 survey_narrowed s start end left first counted is_first same later in_front = record {
   counted = counted ∙ count_below-same (is_open s) (is_open (with_scope s start end))
       (length s.context.line)
-      (λ q _. narrowed s.start s.end start end first q (is_taken s q) (is_first.passed q));
+      (λ q _. narrowed s.start s.end start end first q (is_taken s q) (is_first.passed q) same later
+      in_front);
   first = record {
     from = in_front;
     within = omega (arith, is_first.within);

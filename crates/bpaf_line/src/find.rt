@@ -131,8 +131,8 @@ impl State {
 
     /// The first such key, looked for at each place from the first present one on.
     fn first_in_turn(&self, key: Sought<'_>) -> Option<usize>
-        ensures { MatchOption result (HasNone (is_sought key) self.now)
-            (IsFirst (is_sought key) self.now) }
+        ensures { MatchOption result (HasNone (is_sought key.entry) self.now)
+            (IsFirst (is_sought key.entry) self.now) }
     {
         let end = self.end.min(self.keys);
         let mut place = self.first;
@@ -150,7 +150,7 @@ impl State {
     fn first_chained(&self, chains: &Chains, end: usize, key: Sought<'_>) -> usize
         requires chains { AreChainsOf self.now chains.now }
         requires inside { end ≤ length chains.now.classes }
-        ensures { IsFirstAmong (is_sought key) (sought_names key) self.now end result }
+        ensures { IsFirstAmong (is_sought key.entry) (sought_names key.entry) self.now end result }
     {
         let mut place = end;
         for short in key.shorts {
@@ -167,7 +167,7 @@ impl State {
     fn first_along(&self, chains: &Chains, start: usize, end: usize, key: Sought<'_>) -> usize
         requires chains { AreChainsOf self.now chains.now }
         requires inside { end ≤ length chains.now.classes }
-        ensures { IsFirstAlong (is_sought key) self.now chains.now.classes start end result }
+        ensures { IsFirstAlong (is_sought key.entry) self.now chains.now.classes start end result }
     {
         let mut place = start;
         while place < end {
@@ -181,7 +181,7 @@ impl State {
 
     /// Whether such a key is at a place.
     fn is_key_at(&self, place: usize, key: Sought<'_>) -> bool
-        ensures { result ≡ is_match (is_sought key) self.now place }
+        ensures { result ≡ is_match (is_sought key.entry) self.now place }
     {
         match self.get(place) {
             Some(item) => is_argument_key(item, key.shorts, key.longs, key.adjacent),

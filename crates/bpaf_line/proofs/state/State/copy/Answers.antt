@@ -1,6 +1,4 @@
-use Rattle.std.proofs.Common.{◌≡◌, ◌∙◌, ◌++◌, IfSome, ap, arith, false, map, string_bytes, refl}
-use Rattle.std.proofs.Common.{length, subst}
-use Rattle.bpaf_index.specs.Chained.{AreBehind}
+use Rattle.std.proofs.Common.{◌≡◌, ◌∙◌, ◌++◌, ap, arith, map, string_bytes, refl}
 use Rattle.bpaf_line.proofs.Sound.{sound_copy}
 use Rattle.bpaf_line.proofs.state.State.copy.Goals as goal
 

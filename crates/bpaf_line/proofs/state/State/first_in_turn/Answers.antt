@@ -1,9 +1,7 @@
 use Rattle.std.proofs.Common.{◌<◌, ◌≤◌, ◌∙◌, ap, sym, subst, arith, min, ⊎_elim}
 use Rattle.std.proofs.lemmas.Bool.{cases_lt}
-use Rattle.bpaf_base.specs.Items.{is_argument_key}
-use Rattle.bpaf_index.specs.Chained.{HasNoKeyFrom}
-use Rattle.bpaf_line.specs.Situation.{IsFirstPresent}
 use Rattle.bpaf_line.proofs.Finding.{none_in_front, none_up_to, none_past}
+use Rattle.bpaf_line.specs.Inside.{IsSoundAt, is_sought, sought_names}
 use Rattle.bpaf_line.proofs.state.State.first_in_turn.Goals as goal
 
 pub loop-place-init : goal.loop-place-init

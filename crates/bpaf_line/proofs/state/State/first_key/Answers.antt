@@ -1,8 +1,7 @@
-use Rattle.std.proofs.Common.{◌≡◌, ◌∙◌, ap, sym, subst, min, length}
+use Rattle.std.proofs.Common.{◌∙◌, ap, sym, subst, min, length}
 use Rattle.bpaf_doc.specs.Names.{Names}
-use Rattle.bpaf_base.specs.Items.{is_argument_key}
-use Rattle.bpaf_line.specs.Situation.{IsFirstPresent}
 use Rattle.bpaf_line.proofs.Finding.{key_found, first_at_front, none_past}
+use Rattle.bpaf_line.specs.Inside.{IsSoundAt}
 use Rattle.bpaf_line.proofs.state.State.first_key.Goals as goal
 
 pub returns-then-is_key_at : goal.returns-then-is_key_at

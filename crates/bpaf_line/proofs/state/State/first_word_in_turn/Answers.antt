@@ -1,7 +1,7 @@
 use Rattle.std.proofs.Common.{◌∙◌, subst, sym}
 use Rattle.bpaf_base.specs.Items.{is_positional}
-use Rattle.bpaf_line.specs.Situation.{IsFirstPresent}
 use Rattle.bpaf_line.proofs.Finding.{none_in_front, none_past_taken, none_up_to}
+use Rattle.bpaf_line.specs.Inside.{IsSoundAt}
 use Rattle.bpaf_line.proofs.state.State.first_word_in_turn.Goals as goal
 
 pub loop-place-init : goal.loop-place-init

@@ -1,7 +1,7 @@
 use Rattle.std.proofs.Common.{subst}
 use Rattle.bpaf_base.specs.Items.{is_positional}
-use Rattle.bpaf_line.specs.Situation.{IsFirstPresent}
 use Rattle.bpaf_line.proofs.Finding.{none_in_front}
+use Rattle.bpaf_line.specs.Inside.{IsSoundAt}
 use Rattle.bpaf_line.proofs.state.State.no_word_before.Goals as goal
 
 pub returns-then-self : goal.returns-then-self

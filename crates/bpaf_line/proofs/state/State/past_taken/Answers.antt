@@ -1,5 +1,5 @@
-use Rattle.std.proofs.Common.{◌∙◌, ap, arith, sym}
-use Rattle.bpaf_line.specs.Situation.{is_taken}
+use Rattle.std.proofs.Common.{arith, subst}
+use Rattle.bpaf_line.specs.Inside.{IsSoundAt}
 use Rattle.bpaf_line.proofs.state.State.past_taken.Goals as goal
 
 pub returns-then-place-self : goal.returns-then-place-self

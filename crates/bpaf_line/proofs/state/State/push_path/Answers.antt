@@ -1,5 +1,5 @@
-use Rattle.std.proofs.Common.{◌≡◌, ◌∙◌, ◌++◌, ◌∷◌, [], ap, sym, subst, map, string_bytes, slice_get}
-use Rattle.std.proofs.{Common.Some, Common.IfSome, lemmas.List.map-append}
+use Rattle.std.proofs.Common.{◌∙◌, ◌∷◌, [], ap, map, string_bytes}
+use Rattle.std.proofs.{lemmas.List.map-append}
 use Rattle.bpaf_line.proofs.Sound.{sound_path, path_longer}
 use Rattle.bpaf_line.proofs.state.State.push_path.Goals as goal
 

@@ -1,5 +1,5 @@
-use Rattle.std.proofs.Common.{◌≡◌, ◌∙◌, ◌++◌, ap, sym, subst, map, string_bytes, slice_get, IfSome}
-use Rattle.std.proofs.{Common.Some, lemmas.List.map-append}
+use Rattle.std.proofs.Common.{◌∙◌, ◌++◌, ap, sym, subst, map, string_bytes}
+use Rattle.std.proofs.{lemmas.List.map-append}
 use Rattle.bpaf_line.specs.Situation.{with_current, with_scope, PresentInTurn}
 use Rattle.bpaf_line.specs.{Inside.situation_of, Inside.changes_of, Marks.redone}
 use Rattle.bpaf_line.proofs.{Marks.redone_parts, Sound.sound_path, Sound.path_longer}

@@ -1,7 +1,7 @@
-use Rattle.std.proofs.Common.{◌≤◌, ◌∙◌, ◌-◌, ap, sym, subst, arith, length, drop}
+use Rattle.std.proofs.Common.{◌∙◌, ap, sym, subst, drop}
 use Rattle.std.proofs.lemmas.List.{take_rest}
-use Rattle.bpaf_index.specs.Bits.{count_clear, IsFirstClear}
-use Rattle.bpaf_line.specs.Inside.{situation_of, count_within, IsSurvey}
+use Rattle.bpaf_index.specs.Bits.{count_clear}
+use Rattle.bpaf_line.specs.Inside.{situation_of, count_within, IsSoundAt}
 use Rattle.bpaf_line.proofs.Sound.{survey_narrowed, survey_counted, survey_recalled, gone_were_left}
 use Rattle.bpaf_line.proofs.state.State.survey.Goals as goal
 

@@ -1,4 +1,4 @@
-use Rattle.std.proofs.Common.{◌≡◌, ◌∙◌, ◌≤◌, ap, sym, subst, take, slice_get, IfSome, Some, map}
+use Rattle.std.proofs.Common.{◌≡◌, ◌∙◌, ap, sym, subst, map}
 use Rattle.std.proofs.{Common.string_bytes, Common.length, Common.arith, lemmas.List.take-map}
 use Rattle.bpaf_line.specs.{Marks.Fits, Marks.undone, Situation.with_current, Inside.situation_of}
 use Rattle.bpaf_line.proofs.Sound.{sound_path, path_cut}

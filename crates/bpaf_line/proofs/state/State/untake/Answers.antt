@@ -1,8 +1,6 @@
-use Rattle.std.proofs.Common.{◌≡◌, ◌+◌, ◌-◌, ◌<◌, ◌∙◌, ap, subst, false, arith, length, take, min}
-use Rattle.std.proofs.Common.{if◌then◌else◌, nat_le}
+use Rattle.std.proofs.Common.{◌≡◌, ◌+◌, ◌-◌, ◌<◌, ◌∙◌, ap, arith, length, min}
+use Rattle.std.proofs.Common.{if◌then◌else◌}
 use Rattle.std.specs.Int.{from_bool}
-use Rattle.bpaf_line.specs.Inside.{no_aside}
-use Rattle.bpaf_index.specs.Bits.{ChangesBit}
 use Rattle.bpaf_line.proofs.Sound.{sound_untake, left_below_count, last_read}
 use Rattle.bpaf_line.proofs.state.State.untake.Goals as goal
 

@@ -1,6 +1,5 @@
-use Rattle.std.proofs.Common.{◌∙◌, ap, arith}
-use Rattle.bpaf_line.specs.Situation.{is_open}
-use Rattle.bpaf_line.proofs.Sound.{open_below_end}
+use Rattle.std.proofs.Common.{ap, arith}
+use Rattle.bpaf_line.proofs.Places.{open_in_scope}
 use Rattle.bpaf_line.proofs.state.State.value_after.Goals as goal
 
 pub overflow_add-key : goal.overflow_add-key
