@@ -23,20 +23,17 @@ taken_at_beginning context p = at_start (nat_lt p (length context.line))
     (is_marker context.marker p)
   where
     at_start : (x y : Bool) → (not x || (y || false)) ≡ not (x && not y)
-    at_start true true = refl
-    at_start true false = refl
-    at_start false y = refl
+    at_start x y = grind arith
 
 -- the bits at the beginning are those of the marker
 bits_beginning : (context : Context) (words : List ℕ)
     → ((p : ℕ) → has_bit words p ≡ is_marker context.marker p) → BitsOf (beginning context) words
 bits_beginning context words bits p within =
-    bits p ∙ sym (ap (λ b. not b || (is_marker context.marker p || false))
-    (lt-ltb p (length context.line) within) ∙ or_it (is_marker context.marker p))
+    by_place p (length context.line) _ _ within (bits p)
   where
-    or_it : (b : Bool) → (b || false) ≡ b
-    or_it true = refl
-    or_it false = refl
+    by_place : (p n : ℕ) (bit marker : Bool) → p < n → bit ≡ marker
+        → bit ≡ (not (nat_lt p n) || (marker || false))
+    by_place p n bit marker within same = grind (arith, nat_tests)
 
 -- how a run begins whose line has its marker at this place
 abbrev start_with : Context → Option ℕ → Situation

@@ -64,8 +64,7 @@ item_of_line s p item there = of_test (is_marker s.context.marker p) (slice_get 
     (open_item_there s p item there).1
   where
     of_test : (b : Bool) (at : Option Arg) → (if b then None else at) ≡ Some item → at ≡ Some item
-    of_test false at e = e
-    of_test true at e = cc
+    of_test b at e = grind arith
 
 -- the class of an open item with the name of a key is that of the key
 class_named : (s : Situation) (chains : Chained) (key : Arg) (q : ℕ) (item : Arg)
@@ -122,34 +121,24 @@ module _ (s : Situation) (chains : Chained) (start p : ℕ) (h : AreChainsOf s c
       → is_match is_positional s q ≡ false
   no_word_passed q inside below = by_item (open_item s q) refl
     where
-      none : (at : Option Arg) → open_item s q ≡ at → option_map_or is_positional at false ≡ false
-          → is_match is_positional s q ≡ false
-      none at e other = ap (λ found. option_map_or is_positional found false) e ∙ other
-
       word : (item : Arg) → open_item s q ≡ Some item → class_of chains.names item ≡ Some 0
-          → is_match is_positional s q ≡ false
+          → is_positional item ≡ false
       word item there class =
           let at = sym class ∙ h.classes q item inside (item_of_line s q item there) in
-          not-true _ (walked.passed (slice_index chains.classes q) q (begins.place _ at)
+          sym (ap (λ found. option_map_or is_positional found false) there)
+          ∙ not-true _ (walked.passed (slice_index chains.classes q) q (begins.place _ at)
           (open_behind s chains _ start q item h begins inside at there) below refl)
 
-      by_item : (at : Option Arg) → open_item s q ≡ at → is_match is_positional s q ≡ false
-      by_item None e = none None e refl
-      by_item (Some (Short c attached text)) e = none _ e refl
-      by_item (Some (Long name attached text)) e = none _ e refl
-      by_item (Some (ArgWord text)) e = none _ e refl
+      by_item : (at : Option Arg) → open_item s q ≡ at → option_map_or is_positional at false ≡ false
       by_item (Some (Word text)) e = word _ e refl
       by_item (Some (PosWord text)) e = word _ e refl
+      by_item _ e = refl
 
 -- a key with the names of two has those of one or of the other
 key_of_more : (a b : Names) (item : Arg)
     → is_key_of (record { shorts = a.shorts ++ b.shorts; longs = a.longs ++ b.longs }) item
     ≡ (is_key_of a item || is_key_of b item)
-key_of_more a b (Short c _ _) = list_any-append (λ d. d == c) a.shorts b.shorts
-key_of_more a b (Long name _ _) = list_any-append (λ other. bytes_eq other name) a.longs b.longs
-key_of_more a b (ArgWord _) = refl
-key_of_more a b (Word _) = refl
-key_of_more a b (PosWord _) = refl
+key_of_more a b item = grind (arith, list_any-append {X = ℕ}, list_any-append {X = List ℕ})
 
 -- of one name more, whose chain was walked
 pub among_more : (test : Arg → Bool) (names : Names) (key : Arg) (s : Situation) (chains : Chained)

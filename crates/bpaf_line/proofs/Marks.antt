@@ -23,6 +23,7 @@ use Rattle.std.specs.{Option.option_or, List.find}
 use Rattle.bpaf_index.specs.Bits.{has_bit, is_in_first, AreWithin, IsLeastIn}
 use Rattle.bpaf_index.proofs.BitSets.{is_on_push, on_others}
 use Rattle.bpaf_line.proofs.Places.{present_in_line}
+use Rattle.std.proofs.lemmas.Bool.Decides.{nat_tests}
 
 -- a part of a list, and a part of what is behind it
 take_on : (k n : ℕ) (xs : List ℕ) → take k xs ++ take n (drop k xs) ≡ take (k + n) xs
@@ -175,11 +176,10 @@ last_of-append xs ys p =
     mapped : (a b : Option (ℕ × ℕ))
         → option_map (λ pair. pair.1) (option_or a b) ≡ option_or (option_map (λ pair. pair.1) a)
         (option_map (λ pair. pair.1) b)
-    mapped None b = refl
-    mapped (Some pair) b = refl
+    mapped a b = grind arith
 
 -- a pair more at the end counts for its place
-pub last_of_here : (pairs : List (ℕ × ℕ)) (p winner : ℕ)
+last_of_here : (pairs : List (ℕ × ℕ)) (p winner : ℕ)
     → last_of (pairs ++ (p, winner) ∷ []) p ≡ Some winner
 last_of_here pairs p winner = last_of-append pairs ((p, winner) ∷ []) p
     ∙ ap (λ o. option_or o (last_of pairs p)) at
@@ -188,7 +188,7 @@ last_of_here pairs p winner = last_of-append pairs ((p, winner) ∷ []) p
     at = rw (eq-eqb p p refl) refl
 
 -- and for no other
-pub last_of_other : (pairs : List (ℕ × ℕ)) (p q winner : ℕ) → q ≢ p
+last_of_other : (pairs : List (ℕ × ℕ)) (p q winner : ℕ) → q ≢ p
     → last_of (pairs ++ (p, winner) ∷ []) q ≡ last_of pairs q
 last_of_other pairs p q winner other = last_of-append pairs ((p, winner) ∷ []) q
     ∙ ap (λ o. option_or o (last_of pairs q)) at
@@ -222,9 +222,7 @@ conflicts_saved s loser winner pairs excluded = record {
     by_cases : (x y : Bool) (was : Option ℕ)
         → (if x then None else option_or (if not x && y then Some winner else None) was) ≡
         (if not x && y then Some winner else (if x then None else was))
-    by_cases true y was = refl
-    by_cases false true was = refl
-    by_cases false false was = refl
+    by_cases x y was = grind arith
 
 -- Two parses that went on from one mark: what only one of them took.
 
@@ -238,9 +236,7 @@ taken_with s more q =
     (is_on s.trail q) (is_on more q)
   where
     moved : (x y a b : Bool) → (x || (y || (a || b))) ≡ ((x || (y || a)) || b)
-    moved true y a b = refl
-    moved false true a b = refl
-    moved false false a b = refl
+    moved x y a b = grind arith
 
 -- places that are present in turn are present at first
 present_at_first : (s : Situation) (places : List ℕ) → PresentInTurn s places → (n : ℕ)
@@ -413,29 +409,28 @@ PairsOf s winner places pairs = (p : ℕ)
 pub pairs_more : (s : Situation) (winner : ℕ) (places : List ℕ) (pairs : List (ℕ × ℕ)) (n : ℕ)
     → PairsOf s winner places pairs → is_taken s n ≡ false
     → PairsOf s winner (places ++ n ∷ []) (pairs ++ (n, winner) ∷ [])
-pairs_more s winner places pairs n h free p = ⊎_elim
-    (λ (at : p ≡ n). subst (λ q. last_of (pairs ++ (n, winner) ∷ []) q ≡
-    (if not (is_taken s q) && is_on (places ++ n ∷ []) q then Some winner else None)) (sym at)
-    (last_of_here pairs n winner ∙ sym
-    (ap (λ b. if not b && is_on (places ++ n ∷ []) n then Some winner else None) free
-    ∙ ap (λ b. if b then Some winner else None)
-    (is_on_push places n n ∙ or_right (is_on places n) _ (eq-eqb n n refl)))))
-    (λ (other : p ≢ n). last_of_other pairs n p winner other
-    ∙ (h p ∙ ap (λ b. if not (is_taken s p) && b then Some winner else None)
-    (sym (on_others places n p other)))) (cases_eq p n)
+pairs_more s winner places pairs n h free p = by_place (is_taken s) (h p) free
+  where
+    by_place : (taken : ℕ → Bool)
+        → last_of pairs p ≡ (if not (taken p) && is_on places p then Some winner else None)
+        → taken n ≡ false → last_of (pairs ++ (n, winner) ∷ []) p
+        ≡ (if not (taken p) && is_on (places ++ n ∷ []) p then Some winner else None)
+    by_place taken at free = grind (
+      arith,
+      nat_tests,
+      is_on_push places n p,
+      last_of_here pairs n winner,
+      last_of_other pairs n p winner,
+    )
 
 -- and a taken one has none
 pub pairs_not : (s : Situation) (winner : ℕ) (places : List ℕ) (pairs : List (ℕ × ℕ)) (n : ℕ)
     → PairsOf s winner places pairs → is_taken s n ≡ true
     → PairsOf s winner (places ++ n ∷ []) pairs
-pairs_not s winner places pairs n h taken p = ⊎_elim
-    (λ (at : p ≡ n).
-    let none = taken_one p (ap (is_taken s) at ∙ taken) in
-    h p ∙ (none (is_on places p) ∙ sym (none (is_on (places ++ n ∷ []) p))))
-    (λ (other : p ≢ n). h p ∙ ap (λ b. if not (is_taken s p) && b then Some winner else None)
-    (sym (on_others places n p other)))
-    (cases_eq p n)
+pairs_not s winner places pairs n h taken p = by_place (is_taken s) (h p) taken
   where
-    taken_one : (q : ℕ) → is_taken s q ≡ true → (b : Bool)
-        → (if not (is_taken s q) && b then Some winner else None) ≡ None
-    taken_one q e b = ap (λ t. if not t && b then Some winner else None) e
+    by_place : (taken : ℕ → Bool)
+        → last_of pairs p ≡ (if not (taken p) && is_on places p then Some winner else None)
+        → taken n ≡ true → last_of pairs p
+        ≡ (if not (taken p) && is_on (places ++ n ∷ []) p then Some winner else None)
+    by_place taken at here = grind (arith, nat_tests, is_on_push places n p)

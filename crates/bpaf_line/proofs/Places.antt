@@ -4,7 +4,7 @@ use Rattle.std.proofs.Common.{◌≡◌, ◌≢◌, ℕ, zero, suc, ◌+◌, ◌
 use Rattle.std.proofs.Common.{◌&&◌, ◌||◌, [], ◌∷◌, ◌++◌, length, take, refl, ap, sym, ◌∙◌, subst}
 use Rattle.std.proofs.Common.{arith, if◌then◌else◌, ⊎_elim, nat_lt, slice_index, add-one, min, List}
 use Rattle.std.proofs.Common.{Option, Some, None, option_and_then, slice_get, get_or, find, ◌⊎◌}
-use Rattle.std.proofs.Common.{inl, inr}
+use Rattle.std.proofs.Common.{inl, inr, nat_le}
 use Rattle.std.proofs.lemmas.Bool.{cases_lt, cases_eq, eq-eqb, or_right, and_left, and_right}
 use Rattle.std.proofs.lemmas.Bool.{and_from, and_parts, not-true, cases_Bool, true≢false, le-leb}
 use Rattle.std.proofs.lemmas.Bool.{lt-ltb}
@@ -22,6 +22,7 @@ use Rattle.bpaf_index.proofs.BitSets.{count_below-same, count_below-fewer, count
 use Rattle.bpaf_index.proofs.BitSets.{is_on_push, on_others, count_below-most}
 use Rattle.bpaf_base.specs.Items.{value_text, any_item}
 use Rattle.bpaf_base.specs.{declared.arg.Arg.TheVariants.ArgWord, declared.arg.Arg.Arg}
+use Rattle.bpaf_index.specs.Bits.{IsFirstWith}
 
 -- a present place of the scope lies in the scope
 pub open_in_scope : (s : Situation) (p : ℕ) → is_open s p ≡ true → (s.start ≤ p) × (p < s.end)
@@ -68,17 +69,18 @@ open_count-put s p free = by_scope (in_scope s p) refl
     closed : is_open (put s p) p ≡ false
     closed = and_right (in_scope s p) _ (ap not (put_here s p))
 
+    same_all : (f g : ℕ → Bool) (q : ℕ) → f p ≡ false → g p ≡ false → (q ≢ p → f q ≡ g q)
+        → g q ≡ f q
+    same_all f g q lacks lacking other = grind arith
+
     by_scope : (b : Bool) → in_scope s p ≡ b → open_count (put s p) + from_bool b ≡ open_count s
     by_scope true e =
         count_below-fewer (is_open s) (is_open (put s p)) (length s.context.line) p
         (present_in_line s p free) (and_from (in_scope s p) _ e (ap not free)) closed same_open
     by_scope false e =
-        let same : open_count (put s p) ≡ open_count s = count_below-same (is_open (put s p))
-        (is_open s) (length s.context.line) (λ q _. ⊎_elim
-        (λ (at : q ≡ p). subst (λ x. is_open (put s p) x ≡ is_open s x) (sym at)
-        (closed ∙ sym (and_left (in_scope s p) _ e)))
-        (λ (other : q ≢ p). sym (same_open q other))
-        (cases_eq q p)) in
+        let same = count_below-same (is_open (put s p)) (is_open s) (length s.context.line)
+        (λ q _. same_all (is_open s) (is_open (put s p)) q (and_left (in_scope s p) _ e) closed
+        (same_open q)) in
         omega arith
 
 -- each place of a longer trail was present in its turn, where those of the old one were, and the
@@ -155,42 +157,21 @@ in_turn_cut s n turns inside k within =
     rw (take-take k n s.trail (omega arith), get_or-take n s.trail k 0 below)
     (turns k (omega arith))
 
--- what isn't taken with one place more isn't taken without it
-pub present_still : (s : Situation) (p q : ℕ) → is_taken (put s p) q ≡ false → is_taken s q ≡ false
-present_still s p q free = ⊎_elim
-    (λ (taken : is_taken s q ≡ true). absurd (true≢false (sym (put_stays s p q taken) ∙ free)))
-    (λ (present : is_taken s q ≡ false). present) (cases_Bool (is_taken s q))
-
 -- without the place that was put, the first present one is it or the old one
 pub first_without : (s : Situation) (p first : ℕ) → IsFirstPresent (put s p) first
     → is_taken s p ≡ false → IsFirstPresent s (if in_scope s p then min first p else first)
-first_without s p first old free = by_scope (in_scope s p) refl
+first_without s p first old free =
+    earlier (is_taken s) (is_taken (put s p)) (put_here s p) (put_other s p) free s.start s.end old
   where
-    by_scope : (b : Bool) → in_scope s p ≡ b → IsFirstPresent s (if b then min first p else first)
-    by_scope true e =
-        let inside : (s.start ≤ p) × (p < s.end) = grind (arith, nat_tests) in
-        record {
-          from = omega (arith, old.from);
-          within = omega (arith, inside);
-          present = λ below. ⊎_elim
-              (λ (before : first < p). let at : min first p ≡ first = omega arith in rw at
-              (present_still s p first (old.present (omega arith))))
-              (λ (behind : p ≤ first). let at : min first p ≡ p = omega arith in rw at free)
-              (cases_lt first p);
-          passed = λ q lower upper. sym (put_other s p q (λ at. absurd (omega arith)))
-              ∙ old.passed q lower (omega arith);
-        }
-    by_scope false e = record {
-      from = old.from;
-      within = old.within;
-      present = λ below. present_still s p first (old.present below);
-      passed = λ q lower upper. sym (put_other s p q
-          (λ at. absurd (true≢false (sym (in_it q lower (omega (arith, old.within)))
-          ∙ (ap (in_scope s) at ∙ e))))) ∙ old.passed q lower upper;
+    earlier : (f g : ℕ → Bool) → g p ≡ true → ((q : ℕ) → q ≢ p → g q ≡ f q) → f p ≡ false
+        → (low high : ℕ) → IsFirstWith g false low high first
+        → IsFirstWith f false low high (if nat_le low p && nat_lt p high then min first p else first)
+    earlier f g here others free low high old = record {
+      from = grind (arith, nat_tests, old.from);
+      within = grind (arith, nat_tests, old.within);
+      present = grind (arith, nat_tests, old.within, old.present, others first, here);
+      passed = λ q lower upper. grind (arith, nat_tests, old.within, old.passed q lower, others q);
     }
-      where
-        in_it : (q : ℕ) → s.start ≤ q → q < s.end → in_scope s q ≡ true
-        in_it q lower upper = and_from _ _ (le-leb s.start q lower) (lt-ltb q s.end upper)
 
 -- a place that was taken is taken
 pub taken_here : (s : Situation) (p : ℕ) → is_taken (take_place s p) p ≡ true
@@ -212,15 +193,13 @@ open_item_there s p item there = of_test (is_open s p) (item_at s p) there
   where
     of_test : (b : Bool) (at : Option Arg) → (if b then at else None) ≡ Some item
         → (b ≡ true) × (at ≡ Some item)
-    of_test true at e = (refl, e)
-    of_test false at e = cc
+    of_test b at e = grind arith
 
 module _ (test : Arg → Bool) (s : Situation) (p : ℕ) (matches : is_match test s p ≡ true) where
   -- both hold where an item under a condition passes the test
   both_of : (b : Bool) (at : Option Arg) → option_map_or test (if b then at else None) false ≡ true
       → (b ≡ true) × (option_map_or test at false ≡ true)
-  both_of true at e = (refl, e)
-  both_of false at e = cc
+  both_of b at e = grind arith
 
   -- a match is present, and in scope
   pub match_is_open : is_open s p ≡ true
@@ -233,24 +212,15 @@ module _ (test : Arg → Bool) (s : Situation) (p : ℕ) (matches : is_match tes
 -- a place that is present and in scope has an item
 pub open_has_item : (s : Situation) (p : ℕ) → is_open s p ≡ true → is_match any_item s p ≡ true
 open_has_item s p there =
-    has (is_open s p) (is_marker s.context.marker p) there
-    (not_marker (nat_lt p (length s.context.line)) (is_marker s.context.marker p)
-    (is_on s.trail p) (open_not_taken s p there))
+    has (is_open s p) (nat_lt p (length s.context.line)) (is_marker s.context.marker p)
+    (is_on s.trail p) there (open_not_taken s p there)
     (slice_get s.context.line p) (get_or s.context.line p (ArgWord []))
     (slice_get-get_or s.context.line p (ArgWord []) (open_in_line s p there))
   where
-    not_marker : (within marker on : Bool) → (not within || (marker || on)) ≡ false → marker ≡ false
-    not_marker within false on e = refl
-    not_marker true true on e = cc
-    not_marker false true on e = cc
-
-    has : (b marker : Bool) → b ≡ true → marker ≡ false → (at : Option Arg) (item : Arg)
-        → at ≡ Some item
+    has : (b within marker on : Bool) → b ≡ true → (not within || (marker || on)) ≡ false
+        → (at : Option Arg) (item : Arg) → at ≡ Some item
         → option_map_or any_item (if b then (if marker then None else at) else None) false ≡ true
-    has true false e f (Some x) item at = refl
-    has true false e f None item at = cc
-    has true true e f at item is = cc
-    has false marker e f at item is = cc
+    has b within marker on e free at item is = grind arith
 
 -- the place behind a key with a value is present and in scope, and has this text
 pub value_is_open : (s : Situation) (p : ℕ) (text : List ℕ) → value_after s p ≡ Some text
@@ -260,8 +230,7 @@ value_is_open s p text value = of_test (is_open s (p + 1)) (item_at s (p + 1)) v
     of_test : (b : Bool) (at : Option Arg)
         → option_and_then value_text (if b then at else None) ≡ Some text
         → (b ≡ true) × (option_and_then value_text at ≡ Some text)
-    of_test true at e = (refl, e)
-    of_test false at e = cc
+    of_test b at e = grind arith
 
 -- a place that is open is the first of those from it on
 pub items_from : (s : Situation) (p : ℕ) (item : Arg) → p < length s.context.line
@@ -332,25 +301,10 @@ first_found : (test : ℕ → Bool) (n low p : ℕ) → low ≤ p → p < low + 
     → ((q : ℕ) → low ≤ q → q < p → test q ≡ false) → find test (range_with_len low n) ≡ Some p
 first_found test zero low p from within passes fails = absurd (omega arith)
 first_found test (suc n) low p from within passes fails =
-    by_first (test low) refl
-    (λ above. first_found test n (low + 1) p above (omega arith) passes
-    (λ q later before. fails q (omega arith) before))
-  where
-    by_first : (here : Bool) → test low ≡ here
-        → (low + 1 ≤ p → find test (range_with_len (low + 1) n) ≡ Some p)
-        → cond here (Some low) (find test (range_with_len (low + 1) n)) ≡ Some p
-    by_first true is later = ap Some (is_low (cases_lt low p))
-      where
-        is_low : (low < p) ⊎ (p ≤ low) → low ≡ p
-        is_low (inl below) = absurd (true≢false (sym is ∙ fails low (omega arith) below))
-        is_low (inr past) = omega arith
-    by_first false is later = later (behind (cases_lt low p))
-      where
-        behind : (low < p) ⊎ (p ≤ low) → low + 1 ≤ p
-        behind (inl below) = omega arith
-        behind (inr past) =
-            let same : p ≡ low = omega arith in
-            absurd (true≢false (sym passes ∙ ap test same ∙ is))
+    let later = λ (above : low + 1 ≤ p). first_found test n (low + 1) p above (omega arith) passes
+    (λ q from before. fails q (omega arith) before) in
+    let here = fails low (omega arith) in
+    grind arith
 
 -- a place that isn't below the line's end is taken
 taken_past : (s : Situation) (q : ℕ) → length s.context.line ≤ q → is_taken s q ≡ true
@@ -361,12 +315,8 @@ pub none_present : (s : Situation) (low high top : ℕ) → top ≡ min high (le
     → ((q : ℕ) → low ≤ q → q < top → is_taken s q ≡ true) → first_present s low high ≡ None
 none_present s low high top is taken =
     none_found (λ q. not (is_taken s q)) (high - low) low
-    (λ q from within. ap not (by_end q from within (cases_lt q top)))
-  where
-    by_end : (q : ℕ) → low ≤ q → q < low + (high - low) → (q < top) ⊎ (top ≤ q)
-        → is_taken s q ≡ true
-    by_end q from within (inl below) = taken q from below
-    by_end q from within (inr past) = taken_past s q (omega arith)
+    (λ q from within. ap not (⊎_elim (λ (below : q < top). taken q from below)
+    (λ (past : top ≤ q). taken_past s q (omega arith)) (cases_lt q top)))
 
 -- the first present place of the line
 pub some_present : (s : Situation) (low high top p : ℕ) → top ≡ min high (length s.context.line)

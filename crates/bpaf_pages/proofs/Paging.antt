@@ -2,11 +2,18 @@
 use Rattle.std.proofs.Common.{◌≡◌, ℕ, List, [], ◌∷◌, ap, ◌∙◌, refl, zero, suc, ◌+◌, ◌<◌, ◌++◌}
 use Rattle.std.proofs.Common.{Option, map, sym, drop, length, get_or, arith, drop-cons, add-one}
 use Rattle.std.proofs.Common.{append_assoc, subst, codes}
+use Rattle.std.proofs.lemmas.List.{length-map, map-append, get_or-map}
 use Rattle.std.proofs.lemmas.Grind.{fold-append}
 use Rattle.bpaf_doc.specs.Print.{Print, Prints, prints}
-use Rattle.bpaf_doc.specs.declared.doc.Piece.{Piece}
-use Rattle.bpaf_pages.specs.Help.{glued, joined_behind, Line, Below, below_last, nothing, joined, PageTexts, section, sections}
+use Rattle.bpaf_doc.specs.Shape.{Shown, part_of}
+use Rattle.bpaf_doc.specs.{declared.doc.Piece.Piece, declared.doc.Doc.Doc, declared.item.Item.Item}
+use Rattle.bpaf_pages.specs.Help.{glued, joined_behind, Line, Listed, Below, place_in, lines}
+use Rattle.bpaf_pages.specs.Help.{below_last, nothing, joined, PageTexts, section, sections}
 use Rattle.bpaf_pages.specs.Help.{opening, lists, widest, paragraph, paragraphs, page, prints_of}
+use Rattle.bpaf_pages.specs.{declared.lines.ListPlace.ListPlace, InsideLine.line_of}
+use Rattle.bpaf_pages.specs.{declared.lines.Line.Line as LineHere}
+use denote.Bor.{Bor}
+use Rattle.bpaf_pages.specs.declared.lines.Told.TheVariants as told
 
 -- what a document prints is the text that it prints
 pub shows : (text : Print) (doc : List Piece) → Prints text doc → prints doc ≡ text
@@ -55,12 +62,26 @@ below_found text (first ∷ rest) (suc from) (suc last) line within ends here =
     below_found text rest from last line (omega arith) (omega arith) here
 
 -- a text was put below the last of the lines from one on
-pub below_put : (all new : List Line) (text : List Piece) (from last : ℕ) (line : Line)
+pub below_put : (all new : List LineHere) (text : Bor Doc) (from last : ℕ) (line : LineHere)
     → from < length all → last + 1 ≡ length all → line ≡ get_or all last line
-    → new ≡ all ++ record { place = line.place; told = Below text } ∷ []
-    → new ≡ all ++ below_last text (drop from all)
+    → new ≡ all ++ record { place = line.place; told = told.Below text } ∷ []
+    → map line_of new ≡ map line_of all ++ below_last text.now (drop from (map line_of all))
 below_put all new text from last line within ends here put =
-    put ∙ ap (λ x. all ++ x) (sym (below_found text all from last line within ends here))
+    ap (map line_of) put ∙ map-append line_of all _ ∙ ap (λ x. map line_of all ++ x)
+    (sym (below_found text.now (map line_of all) from last (line_of line)
+    (rw length-map within) (rw length-map ends)
+    (ap line_of here ∙ sym (get_or-map line_of all last line (line_of line) (omega arith)))))
+
+-- an item was put behind lines
+pub item_put :
+    (all new : List LineHere) (item : Bor Item) (place : ListPlace) (home : Option ℕ) (met : ℕ)
+    → place ≡ place_in home (part_of item.now)
+    → new ≡ all ++ record { place = place; told = told.Listed item } ∷ []
+    → map line_of new ≡ map line_of all ++ lines (Shown (part_of item.now)) home met
+item_put all new item place home met stands put =
+    ap (map line_of) put ∙ map-append line_of all _
+    ∙ ap (λ x. map line_of all ++ record { place = x; told = Listed (part_of item.now) } ∷ [])
+    stands
 
 -- The paragraphs of a help page.
 

@@ -73,7 +73,7 @@ pub data Told : Type 0 where
   Listed : Part → Told
   Below : List Piece → Told
 
--- one line: where it stands, and what it tells
+-- one line
 pub record Line : Type 0 where
   pub place : ListPlace
   pub told : Told

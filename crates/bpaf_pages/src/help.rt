@@ -6,7 +6,7 @@ ghost use Rattle.bpaf_doc.specs.Print.{Prints, prints};
 ghost use Rattle.bpaf_pages.specs.Help.{around, joined_behind, usage_text, lines, titles, lines_at};
 ghost use Rattle.bpaf_pages.specs.Help.{paragraph, prints_of, usage_line, usage_paragraph, rows};
 ghost use Rattle.bpaf_pages.specs.Help.{section, sections, opening, lists, help_text};
-ghost use Rattle.bpaf_pages.specs.InsideHelp.{given_by};
+ghost use Rattle.bpaf_pages.specs.{InsideLine.line_of, InsideHelp.given_by};
 
 use crate::joined::{around, glue};
 use crate::lines::{Lines, ListPlace, Title};
@@ -109,7 +109,7 @@ fn push_opening(
 impl<'a> Lines<'a> {
     /// The lines of a tree, and of another one behind it.
     fn of_both(alloc: Global, meta: &'a Meta, extra: &'a Meta) -> Result<Lines<'a>, AllocError>
-        ensures all { IfOk result (λ both. both.all.items
+        ensures all { IfOk result (λ both. map line_of both.all.items
             ≡ lines (And (shape_of meta.now then shape_of extra.now then none)) None 0) }
         ensures titles { IfOk result (λ both. both.titles.items
             ≡ titles (And (shape_of meta.now then shape_of extra.now then none))) }
@@ -129,7 +129,7 @@ impl<'a> Lines<'a> {
         title: &Title<'_>,
     ) -> Result<Doc, AllocError>
         ensures { IfOk result (Prints
-            (section width self.now.all.items number title.now)) }
+            (section width (map line_of self.now.all.items) number title.now)) }
     {
         let mut doc = around(alloc, "", title.text, "\n")?;
         let rows = self.rows(alloc, width, ListPlace::Section(number))?;
@@ -141,7 +141,7 @@ impl<'a> Lines<'a> {
     fn push_sections(&self, alloc: Global, page: &mut Doc, width: usize) -> Result<(), AllocError>
         ensures { OnOk result (Prints
             (joined_behind (codes "\n") (prints page.old)
-            (sections width self.now.all.items 0 self.now.titles.items))
+            (sections width (map line_of self.now.all.items) 0 self.now.titles.items))
             page.new) }
     {
         for (number, title) in self.titles.iter().enumerate() {
@@ -160,7 +160,7 @@ impl<'a> Lines<'a> {
         place: ListPlace,
     ) -> Result<Doc, AllocError>
         ensures { IfOk result (Prints (around heading.now []
-            (rows width (lines_at place self.now.all.items)))) }
+            (rows width (lines_at place (map line_of self.now.all.items))))) }
     {
         let rows = self.rows(alloc, width, place)?;
         around(alloc, heading, &rows, "")
@@ -170,7 +170,7 @@ impl<'a> Lines<'a> {
     fn push_lists(&self, alloc: Global, page: &mut Doc, width: usize) -> Result<(), AllocError>
         ensures { OnOk result (Prints
             (joined_behind (codes "\n") (prints page.old)
-            (lists width self.now.all.items))
+            (lists width (map line_of self.now.all.items)))
             page.new) }
     {
         let words = self.list(

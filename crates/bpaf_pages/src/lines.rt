@@ -3,12 +3,13 @@ ghost use Rattle.std.specs.Prelude.{◌≡◌, ◌++◌, [], OnOk, length, drop,
 ghost use Rattle.bpaf_doc.specs.Shape.{shape_of, members_of, part_of, Subsection, Suffix, Shown};
 ghost use Rattle.bpaf_pages.specs.Help.{lines, lines_of_all, titles, titles_of_all, below_last};
 ghost use Rattle.bpaf_pages.specs.Help.{list_of, place_in};
+ghost use Rattle.bpaf_pages.specs.InsideLine.{line_of};
 
 use bpaf_doc::{Doc, Item, Meta};
 use std::alloc::{AllocError, Global};
 use std::marker::Model;
 
-/// Where a line stands: in a list of the whole page, or in the section of this number.
+/// Where a line stands: in a list of the whole page, or in the section of this number, from 0.
 #[derive(Clone, Copy)]
 pub(crate) enum ListPlace {
     Positionals,
@@ -29,14 +30,6 @@ pub(crate) enum Told<'a> {
 pub(crate) struct Line<'a> {
     pub(crate) place: ListPlace,
     pub(crate) told: Told<'a>,
-}
-
-impl<'a> Model for Line<'a> {
-    ghost use Rattle.bpaf_pages.specs.{Help.Line as PageLine, InsideLine.told_of};
-
-    ghost Value = { PageLine };
-
-    ghost view = { λ line. record { place = line.place; told = told_of line.told } };
 }
 
 /// The title of a section.
@@ -103,8 +96,9 @@ impl<'a> Lines<'a> {
 
     /// Appends a text below the last of the lines from this one on, none where there is no line.
     fn push_below(&mut self, from: usize, text: &'a Doc) -> Result<(), AllocError>
-        ensures all { OnOk result (self.new.all.items
-            ≡ self.old.all.items ++ below_last text.now (drop from self.old.all.items)) }
+        ensures all { OnOk result (map line_of self.new.all.items
+            ≡ map line_of self.old.all.items
+            ++ below_last text.now (drop from (map line_of self.old.all.items))) }
         ensures titles { self.new.titles.items ≡ self.old.titles.items }
     {
         let len = self.all.len();
@@ -121,8 +115,9 @@ impl<'a> Lines<'a> {
     /// Appends the lines of all members, as `collect` those of one.
     #[cycle(lines)]
     fn collect_all(&mut self, all: &'a [Meta], home: Option<usize>) -> Result<(), AllocError>
-        ensures all { OnOk result (self.new.all.items
-            ≡ self.old.all.items ++ lines_of_all (members_of all.now) home (length self.old.titles.items)) }
+        ensures all { OnOk result (map line_of self.new.all.items
+            ≡ map line_of self.old.all.items
+            ++ lines_of_all (members_of all.now) home (length self.old.titles.items)) }
         ensures titles { OnOk result (self.new.titles.items
             ≡ self.old.titles.items ++ titles_of_all (members_of all.now)) }
     {
@@ -134,8 +129,9 @@ impl<'a> Lines<'a> {
 
     /// Appends an item, which stands in the section of a number or outside.
     fn push_item(&mut self, item: &'a Item, home: Option<usize>) -> Result<(), AllocError>
-        ensures all { OnOk result (self.new.all.items
-            ≡ self.old.all.items ++ lines (Shown (part_of item.now)) home (length self.old.titles.items)) }
+        ensures all { OnOk result (map line_of self.new.all.items
+            ≡ map line_of self.old.all.items
+            ++ lines (Shown (part_of item.now)) home (length self.old.titles.items)) }
         ensures titles { OnOk result (self.new.titles.items ≡ self.old.titles.items) }
     {
         let place = place_in(home, item);
@@ -154,8 +150,9 @@ impl<'a> Lines<'a> {
         title: &'a Doc,
         home: Option<usize>,
     ) -> Result<(), AllocError>
-        ensures all { OnOk result (self.new.all.items
-            ≡ self.old.all.items ++ lines (Subsection (shape_of inner.now) title.now) home
+        ensures all { OnOk result (map line_of self.new.all.items
+            ≡ map line_of self.old.all.items
+            ++ lines (Subsection (shape_of inner.now) title.now) home
             (length self.old.titles.items)) }
         ensures titles { OnOk result (self.new.titles.items
             ≡ self.old.titles.items ++ titles (Subsection (shape_of inner.now) title.now)) }
@@ -173,8 +170,9 @@ impl<'a> Lines<'a> {
         text: &'a Doc,
         home: Option<usize>,
     ) -> Result<(), AllocError>
-        ensures all { OnOk result (self.new.all.items
-            ≡ self.old.all.items ++ lines (Suffix (shape_of inner.now) text.now) home
+        ensures all { OnOk result (map line_of self.new.all.items
+            ≡ map line_of self.old.all.items
+            ++ lines (Suffix (shape_of inner.now) text.now) home
             (length self.old.titles.items)) }
         ensures titles { OnOk result (self.new.titles.items
             ≡ self.old.titles.items ++ titles (Suffix (shape_of inner.now) text.now)) }
@@ -189,8 +187,9 @@ impl<'a> Lines<'a> {
     /// titles of its sections.
     #[cycle(lines)]
     pub(crate) fn collect(&mut self, meta: &'a Meta, home: Option<usize>) -> Result<(), AllocError>
-        ensures all { OnOk result (self.new.all.items
-            ≡ self.old.all.items ++ lines (shape_of meta.now) home (length self.old.titles.items)) }
+        ensures all { OnOk result (map line_of self.new.all.items
+            ≡ map line_of self.old.all.items
+            ++ lines (shape_of meta.now) home (length self.old.titles.items)) }
         ensures titles { OnOk result (self.new.titles.items
             ≡ self.old.titles.items ++ titles (shape_of meta.now)) }
     {

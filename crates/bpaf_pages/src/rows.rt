@@ -5,7 +5,7 @@ ghost use Rattle.bpaf_doc.specs.{Shape.part_of, Shape.name_of, Print.Prints, Pri
 ghost use Rattle.bpaf_pages.specs.Help.{Listed, same_place, lines_at, key_names, also_short};
 ghost use Rattle.bpaf_pages.specs.Help.{list_name, help_of, width_of, name_width, widest, column};
 ghost use Rattle.bpaf_pages.specs.Help.{line_text, rows};
-ghost use Rattle.bpaf_pages.specs.InsideLine.{told_of};
+ghost use Rattle.bpaf_pages.specs.InsideLine.{told_of, line_of};
 
 use crate::lines::{Lines, ListPlace, Told};
 use bpaf_doc::{Doc, Item, ShortLong, Style};
@@ -194,7 +194,7 @@ impl ListPlace {
 impl<'a> Lines<'a> {
     /// The width of the widest name.
     pub(crate) fn widest(&self, alloc: Global) -> Result<usize, AllocError>
-        ensures { IfOk result (λ width. width ≡ widest self.now.all.items) }
+        ensures { IfOk result (λ width. width ≡ widest (map line_of self.now.all.items)) }
     {
         let mut widest = 0;
         for line in &self.all {
@@ -214,7 +214,7 @@ impl<'a> Lines<'a> {
         place: ListPlace,
     ) -> Result<Doc, AllocError>
         ensures { IfOk result (Prints
-            (rows width (lines_at place self.now.all.items))) }
+            (rows width (lines_at place (map line_of self.now.all.items)))) }
     {
         let mut doc = Doc::new(alloc);
         for line in &self.all {

@@ -1,9 +1,11 @@
+use Rattle.std.proofs.Common.{map}
+use Rattle.bpaf_pages.specs.InsideLine.{line_of}
 use Rattle.bpaf_pages.proofs.Paging.{section_step}
 use Rattle.bpaf_pages.proofs.lines.Lines.push_sections.Goals as goal
 
 pub loop-number-preserved : goal.loop-number-preserved
 loop-number-preserved c =
-    let all = c.args.self.now.all.items in
+    let all = map line_of c.args.self.now.all.items in
     let same = c.deref-title-items.ensures.value in
     let within = c.loop-number-test.true in
     let told = c.in_ok-section.ensures in
