@@ -17,18 +17,7 @@ use Rattle.bpaf_doc.specs.declared.doc.Style.TheVariants as style
 lacks_first : (text : List ℕ) → LacksTextAt empty_line text 0 → begins_with_empty_line text ≡ false
 lacks_first [] lacks = refl
 lacks_first (c ∷ []) lacks = refl
-lacks_first (c ∷ d ∷ rest) lacks = by_tests (c == 10) refl (d == 10) refl
-  where
-    by_tests : (first : Bool) → (c == 10) ≡ first → (second : Bool) → (d == 10) ≡ second
-        → (c == 10 && d == 10) ≡ false
-    by_tests false is_first second is_second = cc
-    by_tests true is_first false is_second = cc
-    by_tests true is_first true is_second =
-        let is_break : c ≡ 10 = grind (arith, nat_tests) in
-        let is_other : d ≡ 10 = grind (arith, nat_tests) in
-        let contrary = lacks rest (ap (λ x. x ∷ d ∷ rest) is_break
-        ∙ ap (λ x. 10 ∷ x ∷ rest) is_other) in
-        absurd contrary
+lacks_first (c ∷ d ∷ rest) lacks = let none = lacks rest in grind (arith, nat_tests)
 
 -- one character more, where no empty line stands first
 cut_later : (c : ℕ) (rest : List ℕ) → LacksTextAt empty_line (c ∷ rest) 0
@@ -120,32 +109,6 @@ folded_plain after (c ∷ rest) free =
     folded_character after c rest false (no_break_head c rest free)
     ∙ ap (λ x. c ∷ x) (folded_plain false rest (no_break_tail c rest free))
 
--- a line that no line break stands before, and the line break behind it
-later_line : (line more : List ℕ) → HasNoBreak line → folded_after false (line ++ 10 ∷ more)
-    ≡ line ++ break_or_space (keeps_break more) ∷ folded_after true more
-later_line [] more free = by_what_follows (keeps_break more)
-  where
-    by_what_follows : (keeps : Bool) → (if not keeps then 32 else 10) ∷ folded_after true more
-        ≡ break_or_space keeps ∷ folded_after true more
-    by_what_follows true = refl
-    by_what_follows false = refl
-later_line (c ∷ line) more free =
-    folded_character false c (line ++ 10 ∷ more) false (no_break_head c line free)
-    ∙ ap (λ x. c ∷ x) (later_line line more (no_break_tail c line free))
-
--- behind a line that isn't empty a line break stays by what follows it alone
-break_behind_line : (after : Bool) (c : ℕ) (line more : List ℕ)
-    → break_between after (c ∷ line) more ≡ break_or_space (keeps_break more)
-break_behind_line after c line more =
-    let some : (length (c ∷ line) == 0) ≡ false = grind (arith, nat_tests) in
-    ap (λ x. break_or_space ((after && x) || keeps_break more)) some
-    ∙ by_what_follows after (keeps_break more)
-  where
-    by_what_follows : (after keeps : Bool)
-        → break_or_space ((after && false) || keeps) ≡ break_or_space keeps
-    by_what_follows true keeps = refl
-    by_what_follows false keeps = refl
-
 -- a line and the line break behind it
 pub folded_line : (after : Bool) (line more : List ℕ) → HasNoBreak line
     → folded_after after (line ++ 10 ∷ more)
@@ -155,13 +118,16 @@ folded_line after [] more free = by_its_neighbours after (keeps_break more)
     by_its_neighbours : (after keeps : Bool)
         → (if not (after || keeps) then 32 else 10) ∷ folded_after true more
         ≡ break_or_space ((after && true) || keeps) ∷ folded_after true more
-    by_its_neighbours true keeps = refl
-    by_its_neighbours false true = refl
-    by_its_neighbours false false = refl
+    by_its_neighbours after keeps = grind arith
 folded_line after (c ∷ line) more free =
     folded_character after c (line ++ 10 ∷ more) false (no_break_head c line free)
-    ∙ ap (λ x. c ∷ x) (later_line line more (no_break_tail c line free))
-    ∙ ap (λ x. c ∷ (line ++ x ∷ folded_after true more)) (sym (break_behind_line after c line more))
+    ∙ ap (λ x. c ∷ x) (folded_line false line more (no_break_tail c line free)
+    ∙ ap (λ x. line ++ break_or_space x ∷ folded_after true more)
+    (by_its_length (length line) after (keeps_break more)))
+  where
+    by_its_length : (n : ℕ) (after keeps : Bool)
+        → ((false && (n == 0)) || keeps) ≡ ((after && (suc n == 0)) || keeps)
+    by_its_length n after keeps = grind (arith, nat_tests)
 
 -- one line more is printed
 pub folded_more : (out mid new full : List ℕ) (after : Bool) (rest line more : List ℕ)

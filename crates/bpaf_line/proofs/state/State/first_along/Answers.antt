@@ -4,9 +4,6 @@ use Rattle.bpaf_line.proofs.Finding.{first_along}
 use Rattle.bpaf_line.specs.Inside.{is_sought}
 use Rattle.bpaf_line.proofs.state.State.first_along.Goals as goal
 
-pub loop-place-init : goal.loop-place-init
-loop-place-init c = walked_none c.args.chains.now.classes _ c.args.start
-
 pub loop-place-preserved : goal.loop-place-preserved
 loop-place-preserved c =
     let chains = c.args.chains.now in

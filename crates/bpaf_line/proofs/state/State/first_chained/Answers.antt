@@ -16,11 +16,6 @@ loop-short-preserved c =
     c.args.end _ _ c.requires.chains c.requires.inside c.first_short.ensures c.loop-short.invariant
     c.first_along-place.ensures)
 
-pub loop-long-init : goal.loop-long-init
-loop-long-init c =
-    rw (take_all c.loop-short.short-index c.args.key.shorts.now (omega (arith, c.loop-short-test.false)))
-    at c.loop-short.invariant
-
 pub loop-long-preserved : goal.loop-long-preserved
 loop-long-preserved c =
     let names = c.args.key.longs.now in

@@ -4,10 +4,6 @@ use Rattle.bpaf_line.proofs.Finding.{none_in_front, none_up_to, none_past}
 use Rattle.bpaf_line.specs.Inside.{IsSoundAt, is_sought, sought_names}
 use Rattle.bpaf_line.proofs.state.State.first_in_turn.Goals as goal
 
-pub loop-place-init : goal.loop-place-init
-loop-place-init c = none_in_front (is_sought c.args.key) c.args.self.now c.self.inside.first
-    (subst (IsSoundAt c.self.inside) c.self.view_is c.self.invariant).first
-
 pub loop-place-preserved : goal.loop-place-preserved
 loop-place-preserved c = none_up_to (is_sought c.args.key) c.args.self.now c.loop-place.place
     c.loop-place.invariant (sym c.is_key_at.ensures ∙ c.if-is_key_at.false)

@@ -4,11 +4,6 @@ use Rattle.bpaf_line.proofs.Finding.{key_found, first_at_front, none_past}
 use Rattle.bpaf_line.specs.Inside.{IsSoundAt}
 use Rattle.bpaf_line.proofs.state.State.first_key.Goals as goal
 
-pub returns-then-is_key_at : goal.returns-then-is_key_at
-returns-then-is_key_at c = first_at_front _ c.args.self.now c.self.inside.first
-    (subst (IsSoundAt c.self.inside) c.self.view_is c.self.invariant).first
-    (sym c.is_key_at.ensures ∙ c.if-is_key_at.true)
-
 pub returns : goal.returns
 returns c =
     let names : Names = record { shorts = c.args.shorts.now; longs = c.args.longs.now } in

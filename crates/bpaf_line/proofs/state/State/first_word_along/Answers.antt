@@ -4,9 +4,6 @@ use Rattle.bpaf_index.proofs.Chained.{walked_more, walked_none}
 use Rattle.bpaf_line.proofs.Finding.{no_word_passed, none_past_taken}
 use Rattle.bpaf_line.proofs.state.State.first_word_along.Goals as goal
 
-pub loop-place-init : goal.loop-place-init
-loop-place-init c = walked_none c.args.chains.now.classes _ c.first_word-start.result
-
 pub loop-place-preserved : goal.loop-place-preserved
 loop-place-preserved c =
     let chains = c.args.chains.now in

@@ -12,14 +12,6 @@ overflow_sub-self c = left_enough c.self.inside _ c.self.invariant c.args.place 
     (ap (λ s. is_taken s c.args.place) c.self.view_is ∙ c.requires)
     (c.from.ensures ∙ ap from_bool c.lies_within.ensures)
 
-pub first_without-self-inside-requires-clause-set :
-    goal.first_without-self-inside-requires-clause-set
-first_without-self-inside-requires-clause-set c at =
-    let s = c.self.inside in
-    let written = bit_written s c.args.place true _ _ c.deref_mut.ensures.value c.set.ensures in
-    ap (λ words. has_bit words s.first) (c.deref-2.ensures.value ∙ written.1)
-    ∙ (ap (has_bit c.set.new.words) at ∙ written.0.here)
-
 pub first_without-self-inside-requires-clause-clear :
     goal.first_without-self-inside-requires-clause-clear
 first_without-self-inside-requires-clause-clear c below other =

@@ -33,11 +33,3 @@ returns-clause-undone c =
     (c.self-2.view_is ∙ c.loop-self.invariant.cut) all c.truncate.ensures.items
     (ap (map string_bytes) c.truncate-2.ensures.items
     ∙ sym (take-map string_bytes mark.depth c.self-2.inside.path.items))
-
-pub returns-clause-fits : goal.returns-clause-fits
-returns-clause-fits c = subst (Fits c.args.mark) (sym (returns-clause-undone c))
-    (fits_undone c.args.mark c.args.self.now c.requires)
-
-pub returns-clause-back : goal.returns-clause-back
-returns-clause-back c = ap (undone c.args.mark) (returns-clause-undone c)
-    ∙ (undone_twice c.args.mark c.args.self.now ∙ sym (returns-clause-undone c))
