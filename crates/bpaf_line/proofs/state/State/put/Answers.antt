@@ -24,11 +24,8 @@ pub pass-requires-clause-behind : goal.pass-requires-clause-behind
 pass-requires-clause-behind c =
     let s = c.self.inside in
     let written = bit_written s c.args.place true _ _ c.deref_mut.ensures.value c.set.ensures in
-    subst (λ items. IfSome s.chains (AreBehind items (has_bit c.deref-4.result.now)))
-    (sym c.deref-3.ensures.value)
-    (subst (λ words. IfSome s.chains (AreBehind s.items.items (has_bit words)))
-    (sym (c.deref-4.ensures.value ∙ written.1))
-    (behind_put s _ c.self.invariant c.args.place c.set.new.words written.0))
+    rw (c.deref-3.ensures.value, c.deref-4.ensures.value ∙ written.1)
+    (behind_put s _ c.self.invariant c.args.place c.set.new.words written.0)
 
 pub invariant_of-self : goal.invariant_of-self
 invariant_of-self c =
@@ -40,15 +37,10 @@ invariant_of-self c =
     (pushed_place s c.args.place c.push.new.self _ c.self.invariant free c.push.ensures.succeeds
     c.push.ensures.items) c.push.ensures.capacity
     (ap (λ n. s.left - n) (c.from.ensures ∙ ap from_bool c.lies_within.ensures))
-    (subst (λ words. IsFirstClear words s.first s.end c.first_without-self-inside.result)
-    (c.deref-2.ensures.value ∙ written.1) c.first_without-self-inside.ensures)
+    (rw (c.deref-2.ensures.value ∙ written.1) at c.first_without-self-inside.ensures)
     (omega (arith, c.len.ensures, s.items.ok.0, c.pass_taken-self-inside.ensures.within))
-    (λ q low high. ap (λ words. has_bit words q) (sym (c.deref.ensures.value ∙ written.1))
-    ∙ c.pass_taken-self-inside.ensures.set q low high)
-    (subst (λ words. IfSome c.pass.new.chains (AreBehind s.items.items (has_bit words)))
-    (c.deref-4.ensures.value ∙ written.1)
-    (subst (λ items. IfSome c.pass.new.chains (AreBehind items (has_bit c.deref-4.result.now)))
-    c.deref-3.ensures.value c.pass.ensures))
+    (rw (c.deref.ensures.value ∙ written.1) at c.pass_taken-self-inside.ensures.set)
+    (rw (c.deref-3.ensures.value, c.deref-4.ensures.value ∙ written.1) at c.pass.ensures)
 
 pub returns : goal.returns
 returns c =
