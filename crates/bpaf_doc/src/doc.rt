@@ -188,6 +188,7 @@ impl Doc {
     /// ```
     ///
     /// appends `Reads each file.`, and as detail a line break and `Files are read in order.`
+    #[tactic(auto, using(crate::proofs::Folding::printed_text))]
     pub fn text(&mut self, text: &str) -> Result<(), AllocError>
         ensures ok { OnOk result ((more : List Piece)
             × TextPieces text.now more
@@ -269,6 +270,7 @@ impl Doc {
     }
 
     /// Whether it prints nothing, also in full. It takes no memory.
+    #[tactic(auto, using(crate::proofs::Folding::not_empty))]
     pub fn is_empty(&self) -> bool
         ensures { result ≡ is_empty (prints self.now) }
     {
