@@ -9,7 +9,7 @@ use Rattle.std.proofs.lemmas.List.Elements.{AllWithin-more, All-push}
 use Rattle.std.proofs.lemmas.Grind.{flat_map-append, common_steps}
 use Rattle.std.proofs.lemmas.Str.{cons_from_encodes, encodes_same, encodes-append}
 use Rattle.std.proofs.lemmas.Str.{length-le-encodes, length-encode, len_utf8_bounds}
-use Rattle.std.proofs.lemmas.List.{nil_from_length}
+use Rattle.std.proofs.lemmas.List.{nil_from_length, take_all, drop_all}
 use Rattle.std.proofs.{lemmas.Bool.cases_lt, lemmas.Bool.Decides.nat_tests}
 use Rattle.std.specs.List.{flat_map, AllWithin}
 use Rattle.std.specs.{Bool.then_some, declared.alloc.AllocError.AllocError}
@@ -100,36 +100,25 @@ pub texts_all : (words : List (List ℕ)) (n : ℕ) → AllWithin IsUtf8 words 0
     → AllWithin IsUtf8 words n (length words) → All IsUtf8 words
 texts_all words n f r k d l = ⊎_elim (λ b. f k d (omega arith) b) (λ a. r k d a l) (cases_lt k n)
 
--- a front as long as the list, or longer, is the whole list
-take_whole : {X : Type 0} (xs : List X) (n : ℕ) → length xs ≤ n → take n xs ≡ xs
-take_whole xs n h = grind (arith, common_steps)
-
--- and nothing is behind it
-drop_whole : {X : Type 0} (xs : List X) (n : ℕ) → length xs ≤ n → drop n xs ≡ []
-drop_whole xs n h = grind (arith, common_steps)
-
--- the line of words with a spelled front, by whether words are left behind it
-line_by : (known : Known) (words : List (List ℕ)) (items : List Arg) (n : ℕ) (b : Bool)
-    → nat_lt n (length words) ≡ b → Begins known words items n → EndsFront words n
-    → IsLine known words (items ++ map PosWord (drop n words)) (then_some b (length items))
-line_by known words items n true e begun ends =
-    let below : n < length words = grind (arith, nat_tests) in
-    let at = ends below in
-    rw (drop_next words n (codes "--") at) (with_marker (take n words) (drop (n + 1) words) items
-    (cut_at words n (codes "--") at) begun.without_marker begun.spelled)
-line_by known words items n false e begun ends =
-    let past : length words ≤ n = grind (arith, nat_tests) in
-    let whole = take_whole words n past in
-    rw (drop_whole words n past, append-nil items)
-    (without_marker items (rw whole at begun.without_marker) (rw whole at begun.spelled))
-
 -- the line of words with a spelled front: its items, then the other words as PosWords
 pub line_of_front : (known : Known) (words : List (List ℕ)) (items : List Arg) (n : ℕ)
     → Begins known words items n → EndsFront words n
     → IsLine known words (items ++ map PosWord (drop n words))
     (then_some (nat_lt n (length words)) (length items))
-line_of_front known words items n begun ends =
-    line_by known words items n (nat_lt n (length words)) refl begun ends
+line_of_front known words items n begun ends = by (nat_lt n (length words)) refl
+  where
+    by : (b : Bool) → nat_lt n (length words) ≡ b
+        → IsLine known words (items ++ map PosWord (drop n words)) (then_some b (length items))
+    by true e =
+        let below : n < length words = grind (arith, nat_tests) in
+        let at = ends below in
+        rw (drop_next words n (codes "--") at) (with_marker (take n words) (drop (n + 1) words)
+        items (cut_at words n (codes "--") at) begun.without_marker begun.spelled)
+    by false e =
+        let past : length words ≤ n = grind (arith, nat_tests) in
+        let whole = take_all n words past in
+        rw (drop_all n words past, append-nil items)
+        (without_marker items (rw whole at begun.without_marker) (rw whole at begun.spelled))
 
 -- the same of an answer, whatever names are known
 pub line_found : (numbers : Bool) (words : List (List ℕ)) (items : List Arg) (n : ℕ)

@@ -1,13 +1,8 @@
 use Rattle.std.proofs.Common.{subst, sym, arith}
 use Rattle.bpaf_words.specs.{Arguments.words_in, Line.known_at, Splitting.Begins}
-use Rattle.bpaf_words.proofs.LineLemmas.{begins_none, begins_alone, not_marker}
+use Rattle.bpaf_words.proofs.LineLemmas.{begins_alone, not_marker}
 use Rattle.bpaf_words.proofs.SplitLemmas.{alone, with_names}
 use Rattle.bpaf_words.proofs.line.split_front.Goals as goal
-
-pub loop-index-init : goal.loop-index-init
-loop-index-init c names = subst
-    (λ items. Begins (known_at c.args.numbers names) (words_in c.args.words) items 0)
-    (sym c.requires) (begins_none (known_at c.args.numbers names) (words_in c.args.words))
 
 pub loop-index-preserved : goal.loop-index-preserved
 loop-index-preserved c = begins_alone c.args.numbers (words_in c.args.words) c.loop-index.index
