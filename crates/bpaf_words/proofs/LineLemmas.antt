@@ -2,7 +2,7 @@
 use Rattle.std.proofs.Common.{◌≡◌, ◌≢◌, ℕ, Bool, ◌+◌, List, [], ◌∷◌, ◌++◌, take, drop, map, refl}
 use Rattle.std.proofs.Common.{ap, sym, ◌∙◌, arith, append_assoc, append-nil, codes, Some, slice_get}
 use Rattle.std.proofs.Common.{bytes_eq, true, false, IsUtf8, ⊎_elim, subst, length, All, ◌<◌, ◌≤◌}
-use Rattle.std.proofs.Common.{Option, IfSome, IfOk, Result, Ok, Err, length-append, nat_lt, ◌==◌}
+use Rattle.std.proofs.Common.{Option, IfSome, length-append, nat_lt, ◌==◌}
 use Rattle.std.proofs.Common.{rules, if◌then◌else◌, encode_utf8, encode_utf8_all}
 use Rattle.std.proofs.lemmas.Option.{get_or_from_slice_get, slice_get_within}
 use Rattle.std.proofs.lemmas.List.Elements.{AllWithin-more, All-push}
@@ -12,14 +12,13 @@ use Rattle.std.proofs.lemmas.Str.{length-le-encodes, length-encode, len_utf8_bou
 use Rattle.std.proofs.lemmas.List.{nil_from_length, take_all, drop_all}
 use Rattle.std.proofs.{lemmas.Bool.cases_lt, lemmas.Bool.Decides.nat_tests}
 use Rattle.std.specs.List.{flat_map, AllWithin}
-use Rattle.std.specs.{Bool.then_some, declared.alloc.AllocError.AllocError}
+use Rattle.std.specs.{Bool.then_some}
 use Rattle.bpaf_base.specs.declared.arg.Arg.{Arg}
 use Rattle.bpaf_base.specs.declared.arg.Arg.TheVariants.{PosWord, Short, Word}
-use Rattle.bpaf_words.specs.Line.{Known, Items, Ambiguous, Spells, known_at, HasNoLine, IsLine}
+use Rattle.bpaf_words.specs.Line.{Known, Items, Ambiguous, Spells, HasNoLine, IsLine}
 use Rattle.bpaf_words.specs.Line.{without_marker, with_marker, ShortNames, IsKnownAs, flags_of}
 use Rattle.bpaf_words.specs.Line.{argument_of, SpellsJoined, flags, argument, neither, both}
-use Rattle.bpaf_words.specs.Splitting.{Begins, BeginsByAny, SpellsByAny, EndsFront, IsLineByAny}
-use Rattle.bpaf_words.specs.declared.line.Line.{Line as WordsLine}
+use Rattle.bpaf_words.specs.Splitting.{Begins, EndsFront}
 use Rattle.bpaf_words.proofs.OneSpelling.{AllZip_push, take_next, drop_next, cut_at}
 
 -- a word of the rest goes over to the items
@@ -67,15 +66,6 @@ begins_more known words i old new xs word begun at text other spells more = reco
   texts = texts_more words 0 i word begun.texts at text;
 }
 
--- the same of a word that spells its items whatever names are known
-pub begins_alone : (numbers : Bool) (words : List (List ℕ)) (i : ℕ) (old new : List Arg)
-    (word : List ℕ) → BeginsByAny numbers words old i → slice_get words i ≡ Some word → IsUtf8 word
-    → word ≢ codes "--" → SpellsByAny numbers word old new → BeginsByAny numbers words new (i + 1)
-begins_alone numbers words i old new word begun at text other spells names =
-    let spelled = spells names in
-    begins_more (known_at numbers names) words i old new spelled.0 word (begun names) at text other
-    spelled.1 spelled.2
-
 -- words with an ambiguous one behind their spelled front have no line
 pub no_line : (known : Known) (words : List (List ℕ)) (i : ℕ) (old : List Arg) (word : List ℕ)
     (number : ℕ) → Begins known words old i → slice_get words i ≡ Some word → word ≢ codes "--"
@@ -119,16 +109,6 @@ line_of_front known words items n begun ends = by (nat_lt n (length words)) refl
         let whole = take_all n words past in
         rw (drop_all n words past, append-nil items)
         (without_marker items (rw whole at begun.without_marker) (rw whole at begun.spelled))
-
--- the same of an answer, whatever names are known
-pub line_found : (numbers : Bool) (words : List (List ℕ)) (items : List Arg) (n : ℕ)
-    (result : Result WordsLine AllocError) → BeginsByAny numbers words items n → EndsFront words n
-    → IfOk result (λ line. line.items.items ≡ items ++ map PosWord (drop n words))
-    → IfOk result (λ line. line.marker ≡ then_some (nat_lt n (length words)) (length items))
-    → IfOk result (IsLineByAny numbers words)
-line_found numbers words items n (Ok line) begun ends are marker = λ names.
-    rw (are, marker) (line_of_front (known_at numbers names) words items n (begun names) ends)
-line_found numbers words items n (Err e) begun ends are marker = tt
 
 -- the marker of a line lies in it
 pub marker_of_line : (known : Known) (words : List (List ℕ)) (line : List Arg) (marker : Option ℕ)

@@ -12,7 +12,7 @@ use Rattle.bpaf_words.specs.Line.{ShortNames, Known, IsNumberWord, HasNoEquals, 
 use Rattle.bpaf_words.specs.Line.{SpellsJoined, short_value, short_long_value, joined}
 use Rattle.bpaf_words.specs.Line.{Ambiguous as NoItems, Spells, by_dash, SpellsByDash}
 use Rattle.bpaf_words.specs.Splitting.{Answers, Splits, SplitsJoined, AreJoined, SplitsDashed}
-use Rattle.bpaf_words.specs.Splitting.{SplitsAlone, SpellsByAny}
+use Rattle.bpaf_words.specs.Splitting.{SplitsAlone}
 use Rattle.std.specs.{Str.Pattern.FindsChar, Borrow.Bor, declared.alloc.AllocError.AllocError}
 
 -- a text in which no `=` was found has none
@@ -102,20 +102,6 @@ alone_by_any numbers word (Ok None) old new other spells = λ names.
     let spelled = spells names in (spelled.0, by_dash (Items spelled.0) other spelled.1, spelled.2)
 alone_by_any numbers word (Ok (Some letters)) old new other are = (other, are.0, are.1)
 alone_by_any numbers word (Err e) old new other none = tt
-
--- a word whose letters aren't answered spells the new items by any names
-pub alone : (numbers : Bool) (word : List ℕ) (letters : Option (Bor (List ℕ))) (old new : List Arg)
-    → letters ≡ None → SplitsAlone numbers word old letters new → SpellsByAny numbers word old new
-alone numbers word letters old new is answers =
-    subst (λ j. SplitsAlone numbers word old j new) is answers
-
--- letters that are answered are joined, and no item is new
-pub with_names : (numbers : Bool) (word : List ℕ) (letters : Option (Bor (List ℕ)))
-    (old new : List Arg) (found : Bor (List ℕ)) → letters ≡ Some found
-    → SplitsAlone numbers word old letters new
-    → ¬ (IsNumberWord numbers word) × AreJoined word found.now × (new ≡ old)
-with_names numbers word letters old new found is answers =
-    subst (λ j. SplitsAlone numbers word old j new) is answers
 
 -- letters begin with the one that was read off them
 pub first_letter : (letters all : List ℕ) (c : ℕ) (rest tail : List ℕ) → all ≡ letters

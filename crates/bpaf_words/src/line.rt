@@ -81,7 +81,8 @@ impl Front {
         requires whole { EndsFront (words_in words) self.read }
         ensures { IfOk result (IsLineByAny self.numbers (words_in words.entry)) }
     {
-        line_behind(alloc, words, self.read, self.items)
+        let line = line_behind(alloc, words, self.read, self.items)?;
+        Ok(line)
     }
 
     /// The line of the words by these known short names, by which joined words such as `-vn3` are
