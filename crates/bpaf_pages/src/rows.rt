@@ -12,6 +12,7 @@ use bpaf_doc::{Doc, Item, ShortLong, Style};
 use std::alloc::{AllocError, Global};
 
 /// How many characters a text has.
+#[tactic(auto, using(std::proofs::lemmas::Str::chars_from_encodes))]
 fn width_of(text: &str) -> usize
     ensures { result ≡ width_of text.now }
 {
