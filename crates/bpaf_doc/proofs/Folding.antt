@@ -1,17 +1,23 @@
--- Texts cut at their first empty line, folded line by line, and what prints nothing.
+-- Texts cut at their first empty line, folded line by line, what prints nothing, and the members of
+-- a shape.
 use Rattle.std.proofs.Common.{◌≡◌, ℕ, suc, ◌<◌, ◌≤◌, Bool, true, false, not, ◌&&◌, ◌||◌, ◌==◌, List}
 use Rattle.std.proofs.Common.{[], ◌∷◌, ◌++◌, length, drop, if◌then◌else◌, refl, ap, sym, ◌∙◌, arith}
 use Rattle.std.proofs.Common.{append-nil, subst, Some, None, option_map, get_or, drop-cons, ◌≢◌}
-use Rattle.std.proofs.Common.{slice_index, zero, append_assoc}
-use Rattle.std.proofs.lemmas.List.Concat.{flat_map-append}
-use Rattle.std.proofs.{lemmas.List.Elements.filter-append, lemmas.Bool.Decides.nat_tests}
-use Rattle.std.specs.{Prelude.filter, Prelude.flat_map, Str.Pattern.LacksTextAt}
+use Rattle.std.proofs.Common.{slice_index, zero, append_assoc, Vec, map}
+use Rattle.std.specs.Prelude.{filter, flat_map}
 use Rattle.bpaf_doc.specs.Print.{folded, empty_line, begins_with_empty_line, cut_at_empty_line}
 use Rattle.bpaf_doc.specs.Print.{folded_parts, folded_whole, TextPieces, whole, cut, printed}
 use Rattle.bpaf_doc.specs.Print.{is_nil, folded_after, keeps_break, break_or_space, break_between}
 use Rattle.bpaf_doc.specs.Print.{HasNoBreak, detail, whole_pieces, cut_pieces, shown_as}
-use Rattle.bpaf_doc.specs.declared.doc.Piece.{Piece}
+use Rattle.bpaf_doc.specs.Shape.{Part, shape_of, Shape, Or, alternatives, members, part_layer}
+use Rattle.bpaf_doc.specs.Shape.{shape_layer, shapes_of}
 use Rattle.bpaf_doc.specs.declared.doc.Style.TheVariants as style
+use Rattle.bpaf_doc.specs.declared.meta.Meta as meta
+use Rattle.std.proofs.{lemmas.List.Concat.flat_map-append, lemmas.List.Elements.filter-append}
+use Rattle.std.proofs.lemmas.Bool.Decides.{nat_tests}
+use Rattle.std.specs.{Str.Pattern.LacksTextAt, declared.alloc.Global.Global}
+use Rattle.bpaf_doc.specs.{declared.doc.Piece.Piece, declared.item.Item.TheFolds.fold-roll-Meta}
+use Rattle.bpaf_doc.specs.{declared.meta.Meta.Meta, declared.item.Item.TheOpen.Meta-F}
 
 -- where no empty line stands first, the test says so
 lacks_first : (text : List ℕ) → LacksTextAt empty_line text 0 → begins_with_empty_line text ≡ false
@@ -188,3 +194,22 @@ text_cut text before after shown shown_as_detail i none one pieces
     ∙ ap (λ x. shown_as style.Text x ∷ detail shown_as_detail ∷ []) is_folded
     ∙ ap (λ x. shown_as style.Text (folded before) ∷ detail x ∷ []) is_folded_too in
     subst (TextPieces text) (sym are) (cut before after is_cut (λ k within. lacks k (omega arith)))
+
+-- Members of a shape.
+
+-- the members that a list makes are those of the list
+shapes_of_members : (shapes : List Shape) → shapes_of (members shapes) ≡ shapes
+shapes_of_members [] = refl
+shapes_of_members (shape ∷ shapes) = ap (λ rest. shape ∷ rest) (shapes_of_members shapes)
+
+-- the shape of an Or
+or_shape : (all : Vec Meta Global) → shape_of (meta.Or all) ≡ Or (members (map shape_of all.items))
+unfolding meta.roll-Meta denote.Hole.Carrier.roll
+or_shape all = fold-roll-Meta Part Shape part_layer shape_layer (Meta-F.Or all)
+
+-- an Or adds its members to a choice
+pub or_adds : (all : Vec Meta Global) (of : Meta) → of ≡ meta.Or all
+    → map shape_of all.items ≡ alternatives (shape_of of)
+or_adds all of is =
+    sym (ap (λ m. alternatives (shape_of m))
+    is ∙ (ap alternatives (or_shape all) ∙ shapes_of_members (map shape_of all.items)))

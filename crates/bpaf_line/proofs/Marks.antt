@@ -3,7 +3,7 @@
 use Rattle.std.proofs.Common.{◌≡◌, ℕ, ◌+◌, ◌-◌, ◌<◌, ◌≤◌, List, ◌++◌, length, take, drop, refl, ap}
 use Rattle.std.proofs.Common.{sym, ◌∙◌, arith, length-drop, Option, [], ◌∷◌, length-append, ◌≢◌}
 use Rattle.std.proofs.Common.{◌==◌, Bool, true, false, not, ◌&&◌, Some, None, if◌then◌else◌}
-use Rattle.std.proofs.Common.{reverse, option_map, zero, suc, ◌*◌, ◌||◌, subst, ⊎_elim, nat_lt}
+use Rattle.std.proofs.Common.{reverse, option_map, zero, suc, ◌*◌, ◌||◌, ⊎_elim, nat_lt}
 use Rattle.std.proofs.Common.{slice_index, add-one, Result, Ok, Err, OnOk}
 use Rattle.std.proofs.lemmas.List.{length-take-le, take-append-le, take-append-drop, take-take}
 use Rattle.std.proofs.lemmas.List.{take_rest, drop-take, get_or-drop, reverse-append, take_more}

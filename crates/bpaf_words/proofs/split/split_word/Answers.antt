@@ -1,5 +1,5 @@
 use Rattle.bpaf_words.specs.Line.{known_at}
-use Rattle.bpaf_words.proofs.SplitLemmas.{joined_word}
+use Rattle.bpaf_words.proofs.LineLemmas.{joined_word}
 use Rattle.bpaf_words.proofs.split.split_word.Goals as goal
 
 pub returns-in-None : goal.returns-in-None

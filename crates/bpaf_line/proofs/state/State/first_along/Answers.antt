@@ -1,6 +1,6 @@
 use Rattle.std.proofs.Common.{◌∙◌, ap, sym, arith, not}
-use Rattle.bpaf_index.proofs.Chained.{walked_none, walked_more}
-use Rattle.bpaf_line.proofs.Finding.{first_along}
+use Rattle.bpaf_index.proofs.Chained.{walked_more}
+use Rattle.bpaf_line.proofs.Places.{first_along}
 use Rattle.bpaf_line.specs.Inside.{is_sought}
 use Rattle.bpaf_line.proofs.state.State.first_along.Goals as goal
 

@@ -1,8 +1,8 @@
-use Rattle.std.proofs.Common.{[], ◌∷◌, ◌++◌, take, ap, sym, ◌∙◌, arith, false, append-nil}
-use Rattle.std.proofs.lemmas.List.{take_more, take_all}
+use Rattle.std.proofs.Common.{[], ◌∷◌, ◌++◌, take, ap, sym, ◌∙◌, false, append-nil}
+use Rattle.std.proofs.lemmas.List.{take_more}
 use Rattle.bpaf_base.specs.declared.arg.Arg.TheVariants.{Short, Long}
 use Rattle.bpaf_line.specs.Inside.{is_sought}
-use Rattle.bpaf_line.proofs.Finding.{among_more}
+use Rattle.bpaf_line.proofs.Places.{among_more}
 use Rattle.bpaf_line.proofs.state.State.first_chained.Goals as goal
 
 pub loop-short-preserved : goal.loop-short-preserved

@@ -1,6 +1,6 @@
 use Rattle.std.proofs.Common.{◌<◌, ◌≤◌, ◌∙◌, ap, sym, subst, arith, min, ⊎_elim}
 use Rattle.std.proofs.lemmas.Bool.{cases_lt}
-use Rattle.bpaf_line.proofs.Finding.{none_in_front, none_up_to, none_past}
+use Rattle.bpaf_line.proofs.Places.{none_up_to, none_past}
 use Rattle.bpaf_line.specs.Inside.{IsSoundAt, is_sought, sought_names}
 use Rattle.bpaf_line.proofs.state.State.first_in_turn.Goals as goal
 

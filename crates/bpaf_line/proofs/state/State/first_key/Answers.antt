@@ -1,7 +1,6 @@
-use Rattle.std.proofs.Common.{◌∙◌, ap, sym, subst, min, length}
+use Rattle.std.proofs.Common.{◌∙◌, ap, min, length}
 use Rattle.bpaf_doc.specs.Names.{Names}
-use Rattle.bpaf_line.proofs.Finding.{key_found, first_at_front, none_past}
-use Rattle.bpaf_line.specs.Inside.{IsSoundAt}
+use Rattle.bpaf_line.proofs.Places.{key_found, none_past}
 use Rattle.bpaf_line.proofs.state.State.first_key.Goals as goal
 
 pub returns : goal.returns

@@ -1,7 +1,7 @@
 use Rattle.std.proofs.Common.{◌∙◌, ap, arith, not, sym}
 use Rattle.bpaf_base.specs.Items.{is_positional}
-use Rattle.bpaf_index.proofs.Chained.{walked_more, walked_none}
-use Rattle.bpaf_line.proofs.Finding.{no_word_passed, none_past_taken}
+use Rattle.bpaf_index.proofs.Chained.{walked_more}
+use Rattle.bpaf_line.proofs.Places.{no_word_passed, none_past_taken}
 use Rattle.bpaf_line.proofs.state.State.first_word_along.Goals as goal
 
 pub loop-place-preserved : goal.loop-place-preserved

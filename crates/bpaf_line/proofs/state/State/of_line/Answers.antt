@@ -1,11 +1,10 @@
-use Rattle.std.proofs.Common.{◌≡◌, ◌≤◌, length, ap, ◌∙◌, refl, None, ◌-◌, option_to_list, subst}
-use Rattle.std.proofs.Common.{is_some, arith, IfSome, false}
+use Rattle.std.proofs.Common.{◌≡◌, length, ap, ◌∙◌, refl, None, ◌-◌, option_to_list}
+use Rattle.std.proofs.Common.{is_some, arith}
 use Rattle.std.specs.Int.{from_bool}
 use Rattle.bpaf_words.specs.Arguments.{env_of, name_of}
 use Rattle.bpaf_line.specs.Situation.{Context, beginning}
-use Rattle.bpaf_index.specs.{Bits.IsFirstClear, Chained.AreBehind, Chained.HasNoKeyFrom}
 use Rattle.bpaf_line.specs.{declared.state.State.TheInside.Inside, Inside.situation_of}
-use Rattle.bpaf_line.proofs.Beginning.{sound_beginning, begins}
+use Rattle.bpaf_line.proofs.Sound.{sound_beginning, begins}
 use Rattle.bpaf_line.proofs.state.State.of_line.Goals.{After-nothing}
 use Rattle.bpaf_line.proofs.state.State.of_line.Goals as goal
 

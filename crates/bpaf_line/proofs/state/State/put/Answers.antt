@@ -1,6 +1,6 @@
-use Rattle.std.proofs.Common.{◌∙◌, ◌-◌, arith, ap, sym, subst, true, IfSome}
+use Rattle.std.proofs.Common.{◌∙◌, ◌-◌, arith, ap, true}
 use Rattle.std.specs.Int.{from_bool}
-use Rattle.bpaf_index.specs.{Bits.has_bit, Bits.IsFirstClear, Chained.AreBehind}
+use Rattle.bpaf_index.specs.{Bits.has_bit}
 use Rattle.bpaf_line.specs.{Inside.situation_of, Situation.is_taken, Situation.with_trail}
 use Rattle.bpaf_line.proofs.Places.{put}
 use Rattle.bpaf_line.proofs.Sound.{sound_put, behind_put, clear_first, left_enough, pushed_place}
