@@ -1,9 +1,8 @@
 //! Documents: texts in styles, one after another.
 ghost use Rattle.std.specs.Prelude.{◌≡◌, ◌==◌, Bool, true, IfOk, OnOk, OnErr, List, [], ◌∷◌, ◌++◌};
-ghost use Rattle.std.specs.Prelude.{map, string_bytes};
-ghost use Rattle.std.specs.List.{before_first};
 ghost use Rattle.bpaf_doc.specs.Print.{prints, is_empty, printed, shown_as, in_backticks};
 ghost use Rattle.bpaf_doc.specs.Print.{first_line, TextPieces, folded_whole};
+ghost use Rattle.std.specs.{Prelude.map, Prelude.string_bytes, List.before_first};
 
 use crate::fold::text_pieces;
 use bpaf_base::Text;

@@ -5,17 +5,16 @@ use Rattle.std.proofs.Common.{sym, ◌-◌, ◌/◌, ◌%◌, ◌^◌, not, min,
 use Rattle.std.proofs.Common.{length, slice_index, slice_set, get_or-set_same, get_or-set_other}
 use Rattle.std.proofs.Common.{nat_le, replicate, ◌&&◌, Option, Some}
 use Rattle.std.proofs.lemmas.Bool.{cases_lt, cases_eq, eq-eqb, and_left, le-leb, lt-leb}
-use Rattle.std.proofs.lemmas.Bool.Decides.{nat_tests}
-use Rattle.std.proofs.lemmas.List.Folds.{list_any-append, list_any_at}
 use Rattle.std.proofs.lemmas.Nat.{ones-le, ones_cat, shr-shr, mod_below, and_mask, shr_le}
 use Rattle.std.proofs.lemmas.Nat.Bits.{bit_at-zero, bit_at_not, bit_at-trailing_zeros, bit_at_above}
 use Rattle.std.proofs.lemmas.Nat.Bits.{ones_shr, bit_at-lt, bit_at_ones}
 use Rattle.std.proofs.lemmas.List.{get_or-replicate, get_or_past, length-replicate}
-use Rattle.std.proofs.Math.Bool.{beq}
-use Rattle.bpaf_index.specs.Bits.{count_below, is_on, clear_within, IsFirstWith, is_bit}
-use Rattle.bpaf_index.specs.Bits.{has_bit, is_clear_from, count_clear, ChangesBit, lesser_of}
-use Rattle.bpaf_index.specs.Bits.{is_on_as, ChangesBits, IsLeastIn}
+use Rattle.bpaf_index.specs.Bits.{count_below, is_on, clear_within, IsFirstWith, is_bit, has_bit}
+use Rattle.bpaf_index.specs.Bits.{is_clear_from, count_clear, ChangesBit, lesser_of, is_on_as}
 use Rattle.std.specs.Int.{bit_at, bit_not, trailing_zeros, w64}
+use Rattle.std.proofs.{lemmas.Bool.Decides.nat_tests, lemmas.List.Folds.list_any-append}
+use Rattle.std.proofs.{lemmas.List.Folds.list_any_at, Math.Bool.beq}
+use Rattle.bpaf_index.specs.Bits.{ChangesBits, IsLeastIn}
 use lib.Pow.{mod-pow-add}
 use lib.Count.{ones_step, trailing_of_zero}
 
@@ -284,25 +283,25 @@ changes_more old words new places p bit h change = grind (arith, nat_tests, is_o
 
 -- a place without the bit changes nothing
 pub least_skip : (words places : List ℕ) (p : ℕ) (bit : Bool) (found : Option ℕ)
-    → IsLeastIn (is_on_as words places bit) found → beq (has_bit words p) bit ≡ false
+    → IsLeastIn (is_on_as words places bit) found → not (beq (has_bit words p) bit) ≡ true
     → IsLeastIn (is_on_as words (places ++ p ∷ []) bit) found
 least_skip words places p bit found = skip (has_bit words)
   where
     skip : (has : ℕ → Bool)
         → IsLeastIn (λ q. is_on places q && (if bit then has q else not (has q))) found
-        → beq (has p) bit ≡ false
+        → not (beq (has p) bit) ≡ true
         → IsLeastIn (λ q. is_on (places ++ p ∷ []) q && (if bit then has q else not (has q))) found
     skip has h off = grind (arith, nat_tests, is_on_push)
 
 -- a place with it is the least, or the one that was
 pub least_take : (words places : List ℕ) (p : ℕ) (bit : Bool) (found : Option ℕ)
-    → IsLeastIn (is_on_as words places bit) found → beq (has_bit words p) bit ≡ true
+    → IsLeastIn (is_on_as words places bit) found → not (beq (has_bit words p) bit) ≡ false
     → IsLeastIn (is_on_as words (places ++ p ∷ []) bit) (Some (lesser_of found p))
 least_take words places p bit found = take_it (has_bit words)
   where
     take_it : (has : ℕ → Bool)
         → IsLeastIn (λ q. is_on places q && (if bit then has q else not (has q))) found
-        → beq (has p) bit ≡ true
+        → not (beq (has p) bit) ≡ false
         → IsLeastIn (λ q. is_on (places ++ p ∷ []) q && (if bit then has q else not (has q)))
         (Some (lesser_of found p))
     take_it has h on = grind (arith, nat_tests, is_on_push)

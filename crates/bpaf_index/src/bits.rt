@@ -156,9 +156,10 @@ fn least(words: &[u64], places: &[usize], bit: bool) -> Option<usize>
 {
     let mut least = None;
     for place in places {
-        if is_set(words, *place) == bit {
-            least = Some(lesser(least, *place));
+        if is_set(words, *place) != bit {
+            continue;
         }
+        least = Some(lesser(least, *place));
     }
     least
 }

@@ -1,13 +1,12 @@
 //! The places of a line, chained by the names of their items.
 ghost use Rattle.std.specs.Prelude.{ℕ, ◌≡◌, ◌*◌, ◌+◌, ◌<◌, ◌≤◌, IfOk, IfSome, [], Some, length};
 ghost use Rattle.std.specs.Prelude.{slice_get, slice_index, ◌-◌, false, true};
-ghost use Rattle.std.specs.Option.{option_map_or};
-ghost use Rattle.bpaf_base.specs.declared.arg.Arg.{Arg};
 ghost use Rattle.bpaf_base.specs.declared.arg.Arg.TheVariants.{Short, Long, Word};
-ghost use Rattle.bpaf_index.specs.Bits.{has_bit};
 ghost use Rattle.bpaf_index.specs.Chained.{class_of, is_key, IsNextOf, IsChainStart, HasWalked};
 ghost use Rattle.bpaf_index.specs.Chained.{AreBehind, IsChainStartOf, ReachBack, IfChained};
-ghost use Rattle.bpaf_index.specs.Chained.{HasNoKeyFrom};
+ghost use Rattle.std.specs.Option.{option_map_or};
+ghost use Rattle.bpaf_base.specs.declared.arg.Arg.{Arg};
+ghost use Rattle.bpaf_index.specs.{Bits.has_bit, Chained.HasNoKeyFrom};
 
 use crate::bits;
 use crate::classes::{NameClasses, OWN_CLASSES};

@@ -7,23 +7,20 @@ use Rattle.std.proofs.Common.{reverse, option_map, zero, suc, ◌*◌, ◌||◌,
 use Rattle.std.proofs.Common.{slice_index, add-one, Result, Ok, Err, OnOk}
 use Rattle.std.proofs.lemmas.List.{length-take-le, take-append-le, take-append-drop, take-take}
 use Rattle.std.proofs.lemmas.List.{take_rest, drop-take, get_or-drop, reverse-append, take_more}
-use Rattle.std.proofs.lemmas.List.{take_all}
-use Rattle.std.proofs.lemmas.Bool.{eq-eqb, ne_eqb, cases_eq, or_right}
-use Rattle.std.proofs.lemmas.Bool.{ltb-true, ltb-false}
-use Rattle.std.proofs.lemmas.List.Folds.{find-append, list_any-append}
+use Rattle.std.proofs.lemmas.Bool.{eq-eqb, ne_eqb, cases_eq, or_right, ltb-true, ltb-false}
 use Rattle.bpaf_line.specs.Situation.{Situation, cut_to, take_place, with_conflicts, with_scope}
 use Rattle.bpaf_line.specs.Situation.{with_path, with_current, TakenInTurn, is_taken, last_of}
 use Rattle.bpaf_line.specs.Situation.{is_on, is_marker, with_trail, PresentInTurn}
 use Rattle.bpaf_line.specs.Marks.{HasReached, undone, steps_since, redone, CanRedo, KeepsMarks}
-use Rattle.bpaf_line.specs.Marks.{Changes, Fits}
 use Rattle.bpaf_line.specs.Taking.{ConflictsSaved, IsWinner, leftmost_of}
-use Rattle.bpaf_line.specs.Inside.{IsSoundAt}
-use Rattle.bpaf_line.specs.{declared.mark.Mark.Mark, declared.state.State.TheInside.Inside}
-use Rattle.std.specs.{Option.option_or, List.find}
 use Rattle.bpaf_index.specs.Bits.{has_bit, is_in_first, AreWithin, IsLeastIn}
+use Rattle.std.proofs.{lemmas.List.take_all, lemmas.List.Folds.find-append}
+use Rattle.std.proofs.{lemmas.List.Folds.list_any-append, lemmas.Bool.Decides.nat_tests}
+use Rattle.bpaf_line.specs.{Marks.Changes, Marks.Fits, Inside.IsSoundAt, declared.mark.Mark.Mark}
+use Rattle.bpaf_line.specs.declared.state.State.TheInside.{Inside}
+use Rattle.std.specs.{Option.option_or, List.find}
 use Rattle.bpaf_index.proofs.BitSets.{is_on_push, on_others}
 use Rattle.bpaf_line.proofs.Places.{present_in_line}
-use Rattle.std.proofs.lemmas.Bool.Decides.{nat_tests}
 
 -- a part of a list, and a part of what is behind it
 take_on : (k n : ℕ) (xs : List ℕ) → take k xs ++ take n (drop k xs) ≡ take (k + n) xs
@@ -177,24 +174,6 @@ last_of-append xs ys p =
         → option_map (λ pair. pair.1) (option_or a b) ≡ option_or (option_map (λ pair. pair.1) a)
         (option_map (λ pair. pair.1) b)
     mapped a b = grind arith
-
--- a pair more at the end counts for its place
-last_of_here : (pairs : List (ℕ × ℕ)) (p winner : ℕ)
-    → last_of (pairs ++ (p, winner) ∷ []) p ≡ Some winner
-last_of_here pairs p winner = last_of-append pairs ((p, winner) ∷ []) p
-    ∙ ap (λ o. option_or o (last_of pairs p)) at
-  where
-    at : last_of ((p, winner) ∷ []) p ≡ Some winner
-    at = rw (eq-eqb p p refl) refl
-
--- and for no other
-last_of_other : (pairs : List (ℕ × ℕ)) (p q winner : ℕ) → q ≢ p
-    → last_of (pairs ++ (p, winner) ∷ []) q ≡ last_of pairs q
-last_of_other pairs p q winner other = last_of-append pairs ((p, winner) ∷ []) q
-    ∙ ap (λ o. option_or o (last_of pairs q)) at
-  where
-    at : last_of ((p, winner) ∷ []) q ≡ None
-    at = rw (ne_eqb p q (λ e. other (sym e))) refl
 
 -- what the pairs of excluded places say of one: the winner, where it is present here and taken in
 -- the loser's situation
@@ -404,33 +383,3 @@ where_ok (Err e) follows a = tt
 abbrev pub PairsOf : Situation → ℕ → List ℕ → List (ℕ × ℕ) → Type 0
 PairsOf s winner places pairs = (p : ℕ)
     → last_of pairs p ≡ (if not (is_taken s p) && is_on places p then Some winner else None)
-
--- a present place more has its pair
-pub pairs_more : (s : Situation) (winner : ℕ) (places : List ℕ) (pairs : List (ℕ × ℕ)) (n : ℕ)
-    → PairsOf s winner places pairs → is_taken s n ≡ false
-    → PairsOf s winner (places ++ n ∷ []) (pairs ++ (n, winner) ∷ [])
-pairs_more s winner places pairs n h free p = by_place (is_taken s) (h p) free
-  where
-    by_place : (taken : ℕ → Bool)
-        → last_of pairs p ≡ (if not (taken p) && is_on places p then Some winner else None)
-        → taken n ≡ false → last_of (pairs ++ (n, winner) ∷ []) p
-        ≡ (if not (taken p) && is_on (places ++ n ∷ []) p then Some winner else None)
-    by_place taken at free = grind (
-      arith,
-      nat_tests,
-      is_on_push places n p,
-      last_of_here pairs n winner,
-      last_of_other pairs n p winner,
-    )
-
--- and a taken one has none
-pub pairs_not : (s : Situation) (winner : ℕ) (places : List ℕ) (pairs : List (ℕ × ℕ)) (n : ℕ)
-    → PairsOf s winner places pairs → is_taken s n ≡ true
-    → PairsOf s winner (places ++ n ∷ []) pairs
-pairs_not s winner places pairs n h taken p = by_place (is_taken s) (h p) taken
-  where
-    by_place : (taken : ℕ → Bool)
-        → last_of pairs p ≡ (if not (taken p) && is_on places p then Some winner else None)
-        → taken n ≡ true → last_of pairs p
-        ≡ (if not (taken p) && is_on (places ++ n ∷ []) p then Some winner else None)
-    by_place taken at here = grind (arith, nat_tests, is_on_push places n p)

@@ -4,14 +4,12 @@
 use Rattle.std.proofs.Common.{◌≡◌, ◌≢◌, ℕ, zero, suc, ◌+◌, ◌-◌, ◌<◌, ◌≤◌, Bool, true, false, not}
 use Rattle.std.proofs.Common.{◌&&◌, ◌||◌, [], ◌∷◌, ◌++◌, length, take, refl, ap, sym, ◌∙◌, subst}
 use Rattle.std.proofs.Common.{arith, if◌then◌else◌, ⊎_elim, nat_lt, slice_index, add-one, min, List}
-use Rattle.std.proofs.Common.{Option, Some, None, option_and_then, slice_get, get_or, find}
-use Rattle.std.proofs.Common.{nat_le, MatchOption}
+use Rattle.std.proofs.Common.{Option, Some, None, option_and_then, slice_get, get_or, find, nat_le}
 use Rattle.std.proofs.lemmas.Bool.{cases_lt, cases_eq, eq-eqb, or_right, and_left, and_right}
-use Rattle.std.proofs.lemmas.Bool.{and_from, and_parts, not-true, cases_Bool, true≢false}
-use Rattle.std.proofs.lemmas.Bool.{ltb-true, ltb-false, le-ltb, lt-leb}
+use Rattle.std.proofs.lemmas.Bool.{and_from, and_parts, not-true, cases_Bool, true≢false, ltb-true}
+use Rattle.std.proofs.lemmas.Bool.{ltb-false, le-ltb, lt-leb}
 use Rattle.std.proofs.lemmas.List.{take_at, take-take, take-append-le, get_or_push}
 use Rattle.std.proofs.lemmas.List.{get_or_append_left, get_or-take, length_push, length-take-le}
-use Rattle.std.proofs.lemmas.List.{take_more, take_all}
 use Rattle.bpaf_line.specs.Situation.{Situation, is_on, is_taken, is_marker, in_scope, is_open}
 use Rattle.bpaf_line.specs.Situation.{count_below, open_count, take_place, with_trail, cut_to}
 use Rattle.bpaf_line.specs.Situation.{TakenInTurn, IsFirstPresent, item_at, IsNextOpen, HasNoneOpen}
@@ -23,14 +21,14 @@ use Rattle.bpaf_index.proofs.BitSets.{is_on_push, on_others, count_below-most}
 use Rattle.bpaf_base.specs.Items.{value_text, any_item, is_key_of, is_argument_key, is_positional}
 use Rattle.bpaf_base.specs.declared.arg.Arg.TheVariants.{ArgWord, Word, PosWord}
 use Rattle.bpaf_index.specs.Chained.{Chained, names_of, IsChainStart, IsChainStartOf, HasWalked}
-use Rattle.bpaf_index.specs.Chained.{HasNoKeyFrom, class_of}
-use Rattle.bpaf_index.proofs.Chained.{same_class, early_set}
+use Rattle.std.proofs.{Common.MatchOption, lemmas.List.take_more, lemmas.List.take_all}
 use Rattle.std.proofs.{lemmas.Bool.Decides.nat_tests, lemmas.Option.slice_get-get_or}
 use Rattle.std.proofs.lemmas.List.Folds.{list_any-append}
+use Rattle.bpaf_index.specs.{Chained.HasNoKeyFrom, Chained.class_of, Bits.IsFirstWith}
+use Rattle.bpaf_index.proofs.Chained.{same_class, early_set}
 use Rattle.std.specs.{Int.from_bool, Option.option_map_or, List.range_with_len, Prelude.cond}
 use Rattle.std.specs.Bool.{then_some}
 use Rattle.bpaf_base.specs.declared.arg.Arg.{Arg}
-use Rattle.bpaf_index.specs.Bits.{IsFirstWith}
 use Rattle.bpaf_doc.specs.Names.{Names}
 use Rattle.bpaf_line.specs.Inside.{AreChainsOf}
 
@@ -364,14 +362,6 @@ module _ (test : Arg → Bool) (s : Situation) where
   none_up_to p none here q below = ⊎_elim (λ (before : q < p). none q before)
       (λ (behind : p ≤ q). let at : q ≡ p = omega arith in ap (is_match test s) at ∙ here)
       (cases_lt q p)
-
--- that place has the first item that passes it, where its item does
-pub first_at_front : (test : Arg → Bool) (s : Situation) (p : ℕ) → IsFirstPresent s p
-    → is_match test s p ≡ true → IsFirst test s p
-first_at_front test s p front passes = record {
-  matches = passes;
-  first = none_in_front test s p front;
-}
 
 -- an open item is the one that the line has there
 item_of_line : (s : Situation) (p : ℕ) (item : Arg) → open_item s p ≡ Some item

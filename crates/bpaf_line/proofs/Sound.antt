@@ -96,16 +96,6 @@ survey_narrowed s start end left first counted is_first same later in_front = re
         ≡ ((nat_le start q && nat_lt q end) && not taken)
     narrowed low high start end first q taken passed same later in_front = grind (arith, nat_tests)
 
--- the scope that is left is remembered
-pub remembers_left : (s : Situation) (start end left first taken : ℕ) → left ≡ open_count s
-    → IsFirstPresent s first → taken ≡ length s.trail → IsRemembered (with_scope s start end)
-    (record { start = s.start; end = s.end; left = left; first = first; taken = taken })
-remembers_left s start end left first taken counted is_first all = record {
-  taken = omega arith;
-  survey = rw (take_all taken s.trail (omega arith))
-      (record { counted = counted; first = is_first });
-}
-
 -- what was taken when fewer places were is taken
 taken_since : (s : Situation) (n q : ℕ) → is_taken (cut_to s n) q ≡ true → is_taken s q ≡ true
 taken_since s n q = by_parts _ _ (is_on (take n s.trail) q) (is_on s.trail q) (λ on.
@@ -422,15 +412,6 @@ module _ (i : Inside) (s : Situation) (h : IsSoundAt i s) where
               (λ q lower upper. taken_since s i.aside.taken q
               (h.aside.survey.first.passed q (omega arith) upper)) clear;
         }
-
-  -- it is sound with another scope
-  pub sound_scope : (start end left first : ℕ) (aside : Aside) → start ≤ end
-      → end ≤ length s.context.line → IsSurvey s start end left first
-      → IsRemembered (with_scope s start end) aside
-      → IsSoundAt (record i { start = start; end = end; left = left; first = first; aside = aside })
-      (with_scope s start end)
-  sound_scope start end left first aside ordered inside survey kept =
-      assumption (ordered, inside, survey, kept, h)
 
   -- it is sound with other conflict notes, and another path that begins with the set name
   pub sound_path : (conflicts : Vec (ℕ × ℕ) Global) (path : Vec (String Global) Global)

@@ -1,6 +1,5 @@
--- What a `State` and its `Steps` are kept as, and what they then mean: what is kept of a left
--- scope and of taken places, and the chains of the line. No contract above this crate speaks of
--- these.
+-- What a `State` and its `Steps` are kept as, and what they then mean: what is kept of a left scope
+-- and of taken places, and the chains of the line. No contract above this crate speaks of these.
 use Rattle.std.specs.Prelude.{ℕ, Bool, ◌≡◌, ◌≤◌, ◌+◌, ◌&&◌, List, [], ◌∷◌, length, nat_le, nat_lt, ◌<◌}
 use Rattle.std.specs.Prelude.{◌*◌, map, string_bytes, IfSome, slice_get, Some, vec_capacity, Option}
 use Rattle.std.specs.{Int.from_bool, declared.alloc.Global.Global, Option.option_map_or}

@@ -1,10 +1,9 @@
 //! The first key with one of some names, and the first word, found along the chains of those.
 ghost use Rattle.std.specs.Prelude.{◌≡◌, ◌≤◌, IfSome, MatchOption, length};
-ghost use Rattle.bpaf_base.specs.Items.{is_argument_key, is_positional};
 ghost use Rattle.bpaf_line.specs.Taking.{HasNoneBefore, IsFirstAmong, IsFirstAlong, is_match};
-ghost use Rattle.bpaf_line.specs.Taking.{HasNone, IsFirst};
 ghost use Rattle.bpaf_line.specs.Inside.{AreChainsOf, is_sought, sought_names};
-ghost use Rattle.bpaf_line.specs.Situation.{AreTaken};
+ghost use Rattle.bpaf_base.specs.Items.{is_argument_key, is_positional};
+ghost use Rattle.bpaf_line.specs.{Taking.HasNone, Taking.IsFirst, Situation.AreTaken};
 
 use crate::state::State;
 use bpaf_doc::Text;
@@ -84,10 +83,7 @@ impl State {
     fn is_word_at(&self, place: usize) -> bool
         ensures { result ≡ is_match is_positional self.now place }
     {
-        match self.get(place) {
-            Some(item) => is_positional(item),
-            None => false,
-        }
+        self.get(place).is_some_and(is_positional)
     }
 
     /// The first key that is present, in scope, and has one of the names; under `adjacent` the

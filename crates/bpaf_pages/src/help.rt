@@ -190,12 +190,11 @@ impl<'a> Lines<'a> {
 
 /// The help page of the tree (bpaf's `render_help`); refused only for want of memory.
 ///
-/// `path` are the words before the usage text: the name of the program, and of each command.
-/// What `extra` shows, the items of help and of the version, stands behind what the tree shows,
-/// and not in the usage text. Paragraphs in this order, an empty line between two, empty ones
-/// left out: the description; the usage line, or the text in its place; the header; each
-/// [`Meta::Subsection`]; the lists of words, of options and of commands that
-/// stand outside of these; the footer.
+/// `path` are the words before the usage text: the name of the program, and of each command. What
+/// `extra` shows, the items of help and of the version, stands behind what the tree shows, and not
+/// in the usage text. Paragraphs in this order, an empty line between two, empty ones left out: the
+/// description; the usage line, or the text in its place; the header; each [`Meta::Subsection`];
+/// the lists of words, of options and of commands that stand outside of these; the footer.
 ///
 /// ```text
 /// Usage: FILE

@@ -2,8 +2,7 @@
 ghost use Rattle.std.specs.Prelude.{◌≡◌, ◌++◌, [], OnOk, length, drop, map};
 ghost use Rattle.bpaf_doc.specs.Shape.{shape_of, members_of, part_of, Subsection, Suffix, Shown};
 ghost use Rattle.bpaf_pages.specs.Help.{lines, lines_of_all, titles, titles_of_all, below_last};
-ghost use Rattle.bpaf_pages.specs.Help.{list_of, place_in};
-ghost use Rattle.bpaf_pages.specs.InsideLine.{line_of};
+ghost use Rattle.bpaf_pages.specs.{Help.list_of, Help.place_in, InsideLine.line_of};
 
 use bpaf_doc::{Doc, Item, Meta};
 use std::alloc::{AllocError, Global};

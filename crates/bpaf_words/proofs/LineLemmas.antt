@@ -45,15 +45,6 @@ texts_more words low i word h at u =
     AllWithin-more IsUtf8 words low i h
     (λ d. subst IsUtf8 (sym (get_or_from_slice_get words i word d at)) u)
 
--- no words in front, and no items
-pub begins_none : (known : Known) (words : List (List ℕ)) → Begins known words [] 0
-begins_none known words = record {
-  bound = omega arith;
-  without_marker = λ k d l. absurd (omega arith);
-  spelled = record { parts = []; spelled = tt; joined = refl };
-  texts = λ k d from below. absurd (omega arith);
-}
-
 -- one word more in front, and the items that it spells
 pub begins_more : (known : Known) (words : List (List ℕ)) (i : ℕ) (old new xs : List Arg)
     (word : List ℕ) → Begins known words old i → slice_get words i ≡ Some word → IsUtf8 word

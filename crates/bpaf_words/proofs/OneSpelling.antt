@@ -1,5 +1,4 @@
--- Each word but `--` has exactly one spelling: the one that a plain walk over its characters
--- finds.
+-- Each word but `--` has exactly one spelling: the one that a plain walk over its characters finds.
 use Rattle.std.proofs.Common.{◌≡◌, ◌∙◌, ℕ, ◌+◌, List, [], ◌∷◌, ◌++◌, take, drop, sym, ap, Some}
 use Rattle.std.proofs.Common.{slice_get, add-one, ◌==◌, zero, suc, Bool, true, false, refl, subst}
 use Rattle.std.proofs.Common.{arith, ◌⊎◌, inl, inr, ⊎_elim, EachIndex, slice_index, ◌≢◌}

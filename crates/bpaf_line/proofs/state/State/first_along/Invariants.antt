@@ -1,7 +1,6 @@
 use Rattle.std.proofs.Common.{◌-◌, not}
 use Rattle.bpaf_index.specs.Chained.{HasWalked}
-use Rattle.bpaf_line.specs.Taking.{is_match}
-use Rattle.bpaf_line.specs.Inside.{is_sought}
+use Rattle.bpaf_line.specs.{Taking.is_match, Inside.is_sought}
 use Rattle.bpaf_line.proofs.state.State.first_along.Given as goal
 
 abbrev pub invariant-loop-place : goal.invariant-loop-place

@@ -1,6 +1,5 @@
 use Rattle.std.proofs.Common.{◌-◌}
-use Rattle.bpaf_line.specs.Taking.{HasNoneBefore}
-use Rattle.bpaf_line.specs.Inside.{is_sought}
+use Rattle.bpaf_line.specs.{Taking.HasNoneBefore, Inside.is_sought}
 use Rattle.bpaf_line.proofs.state.State.first_in_turn.Given as goal
 
 abbrev pub invariant-loop-place : goal.invariant-loop-place

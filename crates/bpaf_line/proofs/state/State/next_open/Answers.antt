@@ -1,7 +1,6 @@
-use Rattle.std.proofs.Common.{ap, subst, ◌∙◌}
+use Rattle.std.proofs.Common.{ap, subst, ◌∙◌, get_or}
 use Rattle.bpaf_line.proofs.{Sound.open_item_is, Places.items_next, Places.items_none}
 use Rattle.bpaf_line.specs.Inside.{IsSoundAt}
-use Rattle.std.proofs.Common.{get_or}
 use Rattle.bpaf_line.proofs.state.State.next_open.Goals as goal
 
 pub returns-in_err-place-clause-items : goal.returns-in_err-place-clause-items

@@ -1,7 +1,6 @@
 use Rattle.std.proofs.Common.{◌∙◌, ap, sym, subst, refl}
-use Rattle.bpaf_line.specs.{Taking.IsWinner, Marks.undone, Marks.redone}
 use Rattle.bpaf_line.proofs.Marks.{rest_is, apart_as, winner_as}
-use Rattle.bpaf_line.specs.Inside.{IsSoundAt}
+use Rattle.bpaf_line.specs.{Taking.IsWinner, Marks.undone, Marks.redone, Inside.IsSoundAt}
 use Rattle.bpaf_line.proofs.state.State.pick_winner.Goals as goal
 
 pub least_apart-here-requires : goal.least_apart-here-requires

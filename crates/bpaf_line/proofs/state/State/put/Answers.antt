@@ -1,10 +1,9 @@
 use Rattle.std.proofs.Common.{◌∙◌, ◌-◌, arith, ap, true}
-use Rattle.std.specs.Int.{from_bool}
-use Rattle.bpaf_index.specs.{Bits.has_bit}
-use Rattle.bpaf_line.specs.{Inside.situation_of, Situation.is_taken, Situation.with_trail}
-use Rattle.bpaf_line.proofs.Places.{put}
 use Rattle.bpaf_line.proofs.Sound.{sound_put, behind_put, clear_first, left_enough, pushed_place}
-use Rattle.bpaf_line.proofs.Sound.{bit_written}
+use Rattle.std.specs.Int.{from_bool}
+use Rattle.bpaf_index.specs.Bits.{has_bit}
+use Rattle.bpaf_line.specs.{Inside.situation_of, Situation.is_taken, Situation.with_trail}
+use Rattle.bpaf_line.proofs.{Places.put, Sound.bit_written}
 use Rattle.bpaf_line.proofs.state.State.put.Goals as goal
 
 pub overflow_sub-self : goal.overflow_sub-self

@@ -1,8 +1,7 @@
-use Rattle.std.proofs.Common.{◌≡◌, ◌∙◌, ap, sym, map}
-use Rattle.std.proofs.{Common.string_bytes, Common.length, Common.arith, lemmas.List.take-map}
+use Rattle.std.proofs.Common.{◌≡◌, ◌∙◌, ap, sym, map, string_bytes, length, arith}
+use Rattle.std.proofs.lemmas.List.{take-map}
 use Rattle.bpaf_line.specs.{Situation.with_current, Inside.situation_of}
-use Rattle.bpaf_line.proofs.Sound.{sound_path, path_cut}
-use Rattle.bpaf_line.proofs.Marks.{undone_cut}
+use Rattle.bpaf_line.proofs.{Sound.sound_path, Sound.path_cut, Marks.undone_cut}
 use Rattle.bpaf_line.proofs.state.State.undo.Goals as goal
 
 pub invariant_of-self : goal.invariant_of-self

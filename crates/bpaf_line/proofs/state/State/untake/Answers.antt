@@ -1,7 +1,6 @@
-use Rattle.std.proofs.Common.{◌≡◌, ◌+◌, ◌-◌, ◌<◌, ◌∙◌, ap, arith, length, min}
-use Rattle.std.proofs.Common.{if◌then◌else◌}
-use Rattle.std.specs.Int.{from_bool}
+use Rattle.std.proofs.Common.{◌≡◌, ◌+◌, ◌-◌, ◌<◌, ◌∙◌, ap, arith, length, min, if◌then◌else◌}
 use Rattle.bpaf_line.proofs.Sound.{sound_untake, left_below_count, last_read}
+use Rattle.std.specs.Int.{from_bool}
 use Rattle.bpaf_line.proofs.state.State.untake.Goals as goal
 
 pub overflow_add-self : goal.overflow_add-self
