@@ -308,3 +308,6 @@ least_take words places p bit found = take_it (has_bit words)
 
 -- how many places are clear, word by word
 pub ruleset clear_counts = (count_clear-none, count_clear-word, count_clear-most)
+
+-- how many bits of a part of a word are clear
+pub ruleset clear_parts = (clear_all, clear_none, clear_counted)

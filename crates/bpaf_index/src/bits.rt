@@ -110,7 +110,7 @@ pub fn count_clear(words: &[u64], from: usize, end: usize) -> usize
 }
 
 /// How many of so many bits of a word, from one on, are clear.
-#[tactic(auto, using(crate::proofs::BitSets::clear_all, crate::proofs::BitSets::clear_none, crate::proofs::BitSets::clear_counted))]
+#[tactic(auto, using(crate::proofs::BitSets::clear_parts))]
 fn clear_within(word: u64, low: usize, wide: usize) -> usize
     requires some { 0 < wide }
     requires inside { low + wide ≤ 64 }

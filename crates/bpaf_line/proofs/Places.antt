@@ -1,6 +1,6 @@
 -- Places: what a place changes that is put on the trail, or taken off it, which present one is the
--- first that passes a test, and which is the first key or word along the chains of those. The layers
--- above cite the lemmas on a place that is taken.
+-- first that passes a test, and which is the first key or word along the chains of those. The
+-- layers above cite the lemmas on a place that is taken.
 use Rattle.std.proofs.Common.{◌≡◌, ◌≢◌, ℕ, zero, suc, ◌+◌, ◌-◌, ◌<◌, ◌≤◌, Bool, true, false, not}
 use Rattle.std.proofs.Common.{◌&&◌, ◌||◌, [], ◌∷◌, ◌++◌, length, take, refl, ap, sym, ◌∙◌, subst}
 use Rattle.std.proofs.Common.{arith, if◌then◌else◌, ⊎_elim, nat_lt, slice_index, add-one, min, List}
@@ -173,7 +173,8 @@ first_without s p first old free =
   where
     earlier : (f g : ℕ → Bool) → g p ≡ true → ((q : ℕ) → q ≢ p → g q ≡ f q) → f p ≡ false
         → (low high : ℕ) → IsFirstWith g false low high first
-        → IsFirstWith f false low high (if nat_le low p && nat_lt p high then min first p else first)
+        → IsFirstWith f false low high
+        (if nat_le low p && nat_lt p high then min first p else first)
     earlier f g here others free low high old = record {
       from = grind (arith, nat_tests, old.from);
       within = grind (arith, nat_tests, old.within);
@@ -435,7 +436,8 @@ module _ (s : Situation) (chains : Chained) (start p : ℕ) (h : AreChainsOf s c
           ∙ not-true _ (walked.passed (slice_index chains.classes q) q (begins.place _ at)
           (open_behind s chains _ start q item h begins inside at there) below refl)
 
-      by_item : (at : Option Arg) → open_item s q ≡ at → option_map_or is_positional at false ≡ false
+      by_item : (at : Option Arg) → open_item s q ≡ at
+          → option_map_or is_positional at false ≡ false
       by_item (Some (Word text)) e = word _ e refl
       by_item (Some (PosWord text)) e = word _ e refl
       by_item _ e = refl

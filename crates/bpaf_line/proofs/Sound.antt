@@ -38,12 +38,7 @@ remembers_nothing s = record {
   survey = record {
     counted = sym (count_below-none (is_open (with_scope (cut_to s 0) 0 0))
         (length s.context.line) (λ q _. and_left _ _ (and_right _ _ (le-ltb q 0 (omega arith)))));
-    first = record {
-      from = omega arith;
-      within = omega arith;
-      present = λ below. absurd (omega arith);
-      passed = λ q above below. absurd (omega arith);
-    };
+    first = grind arith;
   };
 }
 
@@ -131,11 +126,14 @@ count_since s start end turns (suc d) n all =
 -- the bits of a situation with one place more
 pub bits_put : (s : Situation) (old new : List ℕ) (p : ℕ) → BitsOf s old
     → ChangesBit old new p true → BitsOf (put s p) new
-bits_put s old new p bits change q within = ⊎_elim
-    (λ (at : q ≡ p). ap (has_bit new) at ∙ (change.here
-    ∙ sym (ap (is_taken (put s p)) at ∙ put_here s p)))
-    (λ (other : q ≢ p). change.others q other ∙ (bits q within ∙ sym (put_other s p q other)))
-    (cases_eq q p)
+bits_put s old new p bits change q within = grind (
+  arith,
+  bits q within,
+  change.here,
+  change.others q,
+  put_here s p,
+  put_other s p q,
+)
 
 -- the first present place is found by the bits, from a place up to which all are taken
 pub first_by_bits : (s : Situation) (words : List ℕ) (from p : ℕ) → s.end ≤ length s.context.line
@@ -146,7 +144,8 @@ first_by_bits s words from p inside bits above passed first = record {
   within = first.within;
   present = λ below. sym (bits p (omega arith)) ∙ first.present below;
   passed = λ q lower upper. ⊎_elim (λ (before : q < from). passed q lower before)
-      (λ (behind : from ≤ q). sym (bits q (omega (arith, first.within))) ∙ first.passed q behind upper)
+      (λ (behind : from ≤ q). sym (bits q (omega (arith, first.within)))
+      ∙ first.passed q behind upper)
       (cases_lt q from);
 }
 

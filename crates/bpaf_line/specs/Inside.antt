@@ -1,7 +1,8 @@
 -- What a `State` and its `Steps` are kept as, and what they then mean: what is kept of a left scope
 -- and of taken places, and the chains of the line. No contract above this crate speaks of these.
-use Rattle.std.specs.Prelude.{ℕ, Bool, ◌≡◌, ◌≤◌, ◌+◌, ◌&&◌, List, [], ◌∷◌, length, nat_le, nat_lt, ◌<◌}
-use Rattle.std.specs.Prelude.{◌*◌, map, string_bytes, IfSome, slice_get, Some, vec_capacity, Option}
+use Rattle.std.specs.Prelude.{ℕ, Bool, ◌≡◌, ◌≤◌, ◌+◌, ◌&&◌, List, [], ◌∷◌, length, nat_le, nat_lt}
+use Rattle.std.specs.Prelude.{◌<◌, ◌*◌, map, string_bytes, IfSome, slice_get, Some, vec_capacity}
+use Rattle.std.specs.Prelude.{Option}
 use Rattle.std.specs.{Int.from_bool, declared.alloc.Global.Global, Option.option_map_or}
 use Rattle.std.specs.{declared.rc.RcSlice.RcSlice, Rc.rc_slice_items}
 use Rattle.bpaf_line.specs.Situation.{Situation, with_scope, cut_to, open_count, IsFirstPresent}

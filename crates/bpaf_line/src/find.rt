@@ -83,7 +83,10 @@ impl State {
     fn is_word_at(&self, place: usize) -> bool
         ensures { result ≡ is_match is_positional self.now place }
     {
-        self.get(place).is_some_and(is_positional)
+        match self.get(place) {
+            Some(item) => is_positional(item),
+            None => false,
+        }
     }
 
     /// The first key that is present, in scope, and has one of the names; under `adjacent` the

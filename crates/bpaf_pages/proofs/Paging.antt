@@ -72,17 +72,6 @@ below_put all new text from last line within ends here put =
     (rw length-map within) (rw length-map ends)
     (ap line_of here ∙ sym (get_or-map line_of all last line (line_of line) (omega arith)))))
 
--- an item was put behind lines
-pub item_put :
-    (all new : List LineHere) (item : Bor Item) (place : ListPlace) (home : Option ℕ) (met : ℕ)
-    → place ≡ place_in home (part_of item.now)
-    → new ≡ all ++ record { place = place; told = told.Listed item } ∷ []
-    → map line_of new ≡ map line_of all ++ lines (Shown (part_of item.now)) home met
-item_put all new item place home met stands put =
-    ap (map line_of) put ∙ map-append line_of all _
-    ∙ ap (λ x. map line_of all ++ record { place = x; told = Listed (part_of item.now) } ∷ [])
-    stands
-
 -- The paragraphs of a help page.
 
 -- one section more

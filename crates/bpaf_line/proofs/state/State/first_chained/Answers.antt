@@ -25,4 +25,5 @@ loop-long-preserved c =
     ∙ ap (λ n. take i names ++ n ∷ []) (sym c.long-item.is))
     (rw (append-nil c.args.key.shorts.now) at (among_more (is_sought c.args.key) _
     (Long name false []) c.args.self.now c.args.chains.now _ c.args.end _ _ c.requires.chains
-    c.requires.inside c.first_long.ensures c.loop-long.invariant c.first_along-place-in-loop-long.ensures))
+    c.requires.inside c.first_long.ensures c.loop-long.invariant
+    c.first_along-place-in-loop-long.ensures))

@@ -31,8 +31,8 @@ invariant_of-self c =
     let s = c.self.inside in
     let free = ap (λ s. is_taken s c.args.place) c.self.view_is ∙ c.requires in
     let written = bit_written s c.args.place true _ _ c.deref_mut.ensures.value c.set.ensures in
-    sound_put s c.args.place c.set.new.words c.push.new.self _ _ _ c.pass.new.chains c.self.invariant
-    free written.0
+    sound_put s c.args.place c.set.new.words c.push.new.self _ _ _ c.pass.new.chains
+    c.self.invariant free written.0
     (pushed_place s c.args.place c.push.new.self _ c.self.invariant free c.push.ensures.succeeds
     c.push.ensures.items) c.push.ensures.capacity
     (ap (λ n. s.left - n) (c.from.ensures ∙ ap from_bool c.lies_within.ensures))
