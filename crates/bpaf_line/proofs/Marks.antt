@@ -7,7 +7,7 @@ use Rattle.std.proofs.Common.{reverse, option_map, zero, suc, ◌*◌, ◌||◌,
 use Rattle.std.proofs.Common.{slice_index, add-one, Result, Ok, Err, OnOk}
 use Rattle.std.proofs.lemmas.List.{length-take-le, take-append-le, take-append-drop, take-take}
 use Rattle.std.proofs.lemmas.List.{take_rest, drop-take, get_or-drop, reverse-append, take_more}
-use Rattle.std.proofs.lemmas.Bool.{eq-eqb, ne_eqb, cases_eq, or_right, ltb-true, ltb-false}
+use Rattle.std.proofs.lemmas.Bool.{cases_eq, or_right, ltb-true, ltb-false}
 use Rattle.bpaf_line.specs.Situation.{Situation, cut_to, take_place, with_conflicts, with_scope}
 use Rattle.bpaf_line.specs.Situation.{with_path, with_current, TakenInTurn, is_taken, last_of}
 use Rattle.bpaf_line.specs.Situation.{is_on, is_marker, with_trail, PresentInTurn}
@@ -15,11 +15,11 @@ use Rattle.bpaf_line.specs.Marks.{HasReached, undone, steps_since, redone, CanRe
 use Rattle.bpaf_line.specs.Taking.{ConflictsSaved, IsWinner, leftmost_of}
 use Rattle.bpaf_index.specs.Bits.{has_bit, is_in_first, AreWithin, IsLeastIn}
 use Rattle.std.proofs.{lemmas.List.take_all, lemmas.List.Folds.find-append}
-use Rattle.std.proofs.{lemmas.List.Folds.list_any-append, lemmas.Bool.Decides.nat_tests}
+use Rattle.std.proofs.{lemmas.List.Folds.list_any-append}
 use Rattle.bpaf_line.specs.{Marks.Changes, Marks.Fits, Inside.IsSoundAt, declared.mark.Mark.Mark}
 use Rattle.bpaf_line.specs.declared.state.State.TheInside.{Inside}
 use Rattle.std.specs.{Option.option_or, List.find}
-use Rattle.bpaf_index.proofs.BitSets.{is_on_push, on_others}
+use Rattle.bpaf_index.proofs.BitSets.{on_others}
 use Rattle.bpaf_line.proofs.Places.{present_in_line}
 
 -- a part of a list, and a part of what is behind it
