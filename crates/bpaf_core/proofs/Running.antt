@@ -29,7 +29,7 @@ use Rattle.bpaf_core.specs.Ending.{EndsRun, TellsNoLine, EndsRefused, PassesOrTe
 use Rattle.bpaf_core.specs.Ending.{Tells, is_shown, memory, passed_on, refused, usage, Shows}
 use Rattle.bpaf_core.specs.Ending.{shows_usage, leftover_is_told}
 use mathlib.Core.Path.{fun_ext}
-use Rattle.bpaf_line.proofs.Beginning.{taken_at_beginning}
+use Rattle.bpaf_line.proofs.Sound.{taken_at_beginning}
 use Rattle.bpaf_laws.proofs.Keeping.{none_below, name_of, shows_nothing}
 use Rattle.bpaf_line.specs.declared.failure.ParseFailure.TheVariants as failure
 use Rattle.bpaf_line.specs.declared.error.Message.TheVariants as message

@@ -1,34 +1,29 @@
--- Texts cut at their first empty line, folded line by line, and what prints nothing.
+-- Texts cut at their first empty line, folded line by line, what prints nothing, and the members of
+-- a shape.
 use Rattle.std.proofs.Common.{◌≡◌, ℕ, suc, ◌<◌, ◌≤◌, Bool, true, false, not, ◌&&◌, ◌||◌, ◌==◌, List}
 use Rattle.std.proofs.Common.{[], ◌∷◌, ◌++◌, length, drop, if◌then◌else◌, refl, ap, sym, ◌∙◌, arith}
 use Rattle.std.proofs.Common.{append-nil, subst, Some, None, option_map, get_or, drop-cons, ◌≢◌}
-use Rattle.std.proofs.Common.{slice_index, zero, append_assoc}
-use Rattle.std.proofs.lemmas.List.Concat.{flat_map-append}
-use Rattle.std.proofs.{lemmas.List.Elements.filter-append, lemmas.Bool.Decides.nat_tests}
-use Rattle.std.specs.{Prelude.filter, Prelude.flat_map, Str.Pattern.LacksTextAt}
+use Rattle.std.proofs.Common.{slice_index, zero, append_assoc, Vec, map}
+use Rattle.std.specs.Prelude.{filter, flat_map}
 use Rattle.bpaf_doc.specs.Print.{folded, empty_line, begins_with_empty_line, cut_at_empty_line}
 use Rattle.bpaf_doc.specs.Print.{folded_parts, folded_whole, TextPieces, whole, cut, printed}
 use Rattle.bpaf_doc.specs.Print.{is_nil, folded_after, keeps_break, break_or_space, break_between}
 use Rattle.bpaf_doc.specs.Print.{HasNoBreak, detail, whole_pieces, cut_pieces, shown_as}
-use Rattle.bpaf_doc.specs.declared.doc.Piece.{Piece}
+use Rattle.bpaf_doc.specs.Shape.{Part, shape_of, Shape, Or, alternatives, members, part_layer}
+use Rattle.bpaf_doc.specs.Shape.{shape_layer, shapes_of}
 use Rattle.bpaf_doc.specs.declared.doc.Style.TheVariants as style
+use Rattle.bpaf_doc.specs.declared.meta.Meta as meta
+use Rattle.std.proofs.{lemmas.List.Concat.flat_map-append, lemmas.List.Elements.filter-append}
+use Rattle.std.proofs.lemmas.Bool.Decides.{nat_tests}
+use Rattle.std.specs.{Str.Pattern.LacksTextAt, declared.alloc.Global.Global}
+use Rattle.bpaf_doc.specs.{declared.doc.Piece.Piece, declared.item.Item.TheFolds.fold-roll-Meta}
+use Rattle.bpaf_doc.specs.{declared.meta.Meta.Meta, declared.item.Item.TheOpen.Meta-F}
 
 -- where no empty line stands first, the test says so
 lacks_first : (text : List ℕ) → LacksTextAt empty_line text 0 → begins_with_empty_line text ≡ false
 lacks_first [] lacks = refl
 lacks_first (c ∷ []) lacks = refl
-lacks_first (c ∷ d ∷ rest) lacks = by_tests (c == 10) refl (d == 10) refl
-  where
-    by_tests : (first : Bool) → (c == 10) ≡ first → (second : Bool) → (d == 10) ≡ second
-        → (c == 10 && d == 10) ≡ false
-    by_tests false is_first second is_second = cc
-    by_tests true is_first false is_second = cc
-    by_tests true is_first true is_second =
-        let is_break : c ≡ 10 = grind (arith, nat_tests) in
-        let is_other : d ≡ 10 = grind (arith, nat_tests) in
-        let contrary = lacks rest (ap (λ x. x ∷ d ∷ rest) is_break
-        ∙ ap (λ x. 10 ∷ x ∷ rest) is_other) in
-        absurd contrary
+lacks_first (c ∷ d ∷ rest) lacks = let none = lacks rest in grind (arith, nat_tests)
 
 -- one character more, where no empty line stands first
 cut_later : (c : ℕ) (rest : List ℕ) → LacksTextAt empty_line (c ∷ rest) 0
@@ -120,32 +115,6 @@ folded_plain after (c ∷ rest) free =
     folded_character after c rest false (no_break_head c rest free)
     ∙ ap (λ x. c ∷ x) (folded_plain false rest (no_break_tail c rest free))
 
--- a line that no line break stands before, and the line break behind it
-later_line : (line more : List ℕ) → HasNoBreak line → folded_after false (line ++ 10 ∷ more)
-    ≡ line ++ break_or_space (keeps_break more) ∷ folded_after true more
-later_line [] more free = by_what_follows (keeps_break more)
-  where
-    by_what_follows : (keeps : Bool) → (if not keeps then 32 else 10) ∷ folded_after true more
-        ≡ break_or_space keeps ∷ folded_after true more
-    by_what_follows true = refl
-    by_what_follows false = refl
-later_line (c ∷ line) more free =
-    folded_character false c (line ++ 10 ∷ more) false (no_break_head c line free)
-    ∙ ap (λ x. c ∷ x) (later_line line more (no_break_tail c line free))
-
--- behind a line that isn't empty a line break stays by what follows it alone
-break_behind_line : (after : Bool) (c : ℕ) (line more : List ℕ)
-    → break_between after (c ∷ line) more ≡ break_or_space (keeps_break more)
-break_behind_line after c line more =
-    let some : (length (c ∷ line) == 0) ≡ false = grind (arith, nat_tests) in
-    ap (λ x. break_or_space ((after && x) || keeps_break more)) some
-    ∙ by_what_follows after (keeps_break more)
-  where
-    by_what_follows : (after keeps : Bool)
-        → break_or_space ((after && false) || keeps) ≡ break_or_space keeps
-    by_what_follows true keeps = refl
-    by_what_follows false keeps = refl
-
 -- a line and the line break behind it
 pub folded_line : (after : Bool) (line more : List ℕ) → HasNoBreak line
     → folded_after after (line ++ 10 ∷ more)
@@ -155,13 +124,16 @@ folded_line after [] more free = by_its_neighbours after (keeps_break more)
     by_its_neighbours : (after keeps : Bool)
         → (if not (after || keeps) then 32 else 10) ∷ folded_after true more
         ≡ break_or_space ((after && true) || keeps) ∷ folded_after true more
-    by_its_neighbours true keeps = refl
-    by_its_neighbours false true = refl
-    by_its_neighbours false false = refl
+    by_its_neighbours after keeps = grind arith
 folded_line after (c ∷ line) more free =
     folded_character after c (line ++ 10 ∷ more) false (no_break_head c line free)
-    ∙ ap (λ x. c ∷ x) (later_line line more (no_break_tail c line free))
-    ∙ ap (λ x. c ∷ (line ++ x ∷ folded_after true more)) (sym (break_behind_line after c line more))
+    ∙ ap (λ x. c ∷ x) (folded_line false line more (no_break_tail c line free)
+    ∙ ap (λ x. line ++ break_or_space x ∷ folded_after true more)
+    (by_its_length (length line) after (keeps_break more)))
+  where
+    by_its_length : (n : ℕ) (after keeps : Bool)
+        → ((false && (n == 0)) || keeps) ≡ ((after && (suc n == 0)) || keeps)
+    by_its_length n after keeps = grind (arith, nat_tests)
 
 -- one line more is printed
 pub folded_more : (out mid new full : List ℕ) (after : Bool) (rest line more : List ℕ)
@@ -222,3 +194,22 @@ text_cut text before after shown shown_as_detail i none one pieces
     ∙ ap (λ x. shown_as style.Text x ∷ detail shown_as_detail ∷ []) is_folded
     ∙ ap (λ x. shown_as style.Text (folded before) ∷ detail x ∷ []) is_folded_too in
     subst (TextPieces text) (sym are) (cut before after is_cut (λ k within. lacks k (omega arith)))
+
+-- Members of a shape.
+
+-- the members that a list makes are those of the list
+shapes_of_members : (shapes : List Shape) → shapes_of (members shapes) ≡ shapes
+shapes_of_members [] = refl
+shapes_of_members (shape ∷ shapes) = ap (λ rest. shape ∷ rest) (shapes_of_members shapes)
+
+-- the shape of an Or
+or_shape : (all : Vec Meta Global) → shape_of (meta.Or all) ≡ Or (members (map shape_of all.items))
+unfolding meta.roll-Meta denote.Hole.Carrier.roll
+or_shape all = fold-roll-Meta Part Shape part_layer shape_layer (Meta-F.Or all)
+
+-- an Or adds its members to a choice
+pub or_adds : (all : Vec Meta Global) (of : Meta) → of ≡ meta.Or all
+    → map shape_of all.items ≡ alternatives (shape_of of)
+or_adds all of is =
+    sym (ap (λ m. alternatives (shape_of m))
+    is ∙ (ap alternatives (or_shape all) ∙ shapes_of_members (map shape_of all.items)))

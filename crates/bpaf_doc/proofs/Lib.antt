@@ -1,2 +1,1 @@
 pub mod Folding
-pub mod Gathering

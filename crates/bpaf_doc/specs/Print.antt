@@ -1,5 +1,4 @@
--- What a document prints, in the two prints that it has, and how texts with line breaks are
--- folded.
+-- What a document prints, in the two prints that it has, and how texts with line breaks are folded.
 use Rattle.std.specs.Prelude.{ℕ, Bool, false, not, ◌||◌, ◌==◌, List, [], ◌∷◌, ◌++◌, Option, Some}
 use Rattle.std.specs.Prelude.{None, filter, ◌≡◌, true, ◌≢◌, ◌<◌, ◌≤◌, ◌&&◌, length, slice_index}
 use Rattle.std.specs.Prelude.{if◌then◌else◌, drop, option_map}

@@ -1,9 +1,8 @@
 //! Documents: texts in styles, one after another.
 ghost use Rattle.std.specs.Prelude.{◌≡◌, ◌==◌, Bool, true, IfOk, OnOk, OnErr, List, [], ◌∷◌, ◌++◌};
-ghost use Rattle.std.specs.Prelude.{map, string_bytes};
-ghost use Rattle.std.specs.List.{before_first};
 ghost use Rattle.bpaf_doc.specs.Print.{prints, is_empty, printed, shown_as, in_backticks};
 ghost use Rattle.bpaf_doc.specs.Print.{first_line, TextPieces, folded_whole};
+ghost use Rattle.std.specs.{Prelude.map, Prelude.string_bytes, List.before_first};
 
 use crate::fold::text_pieces;
 use bpaf_base::Text;
@@ -188,6 +187,7 @@ impl Doc {
     /// ```
     ///
     /// appends `Reads each file.`, and as detail a line break and `Files are read in order.`
+    #[tactic(auto, using(crate::proofs::Folding::printed_text))]
     pub fn text(&mut self, text: &str) -> Result<(), AllocError>
         ensures ok { OnOk result ((more : List Piece)
             × TextPieces text.now more
@@ -269,6 +269,7 @@ impl Doc {
     }
 
     /// Whether it prints nothing, also in full. It takes no memory.
+    #[tactic(auto, using(crate::proofs::Folding::not_empty))]
     pub fn is_empty(&self) -> bool
         ensures { result ≡ is_empty (prints self.now) }
     {

@@ -39,6 +39,7 @@ fn push_break(out: &mut String, after_break: bool, line: &str, more: &str) -> Re
 
 /// The text with its line breaks folded; refused only for want of memory. One without line breaks
 /// is copied as it is.
+#[tactic(auto, using(crate::proofs::Folding::folded_plain))]
 fn folded(alloc: Global, text: &str) -> Result<Text, AllocError>
     ensures { IfOk result (λ t. t ≡ folded text.now) }
 {

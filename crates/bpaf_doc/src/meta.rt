@@ -38,6 +38,7 @@ pub enum Meta {
 impl Meta {
     /// What it adds to a choice: the members of an `Or`, and else itself (bpaf's `Meta::or`, in
     /// `meta.rs`). Refused only for want of memory.
+    #[tactic(auto, using(crate::proofs::Folding::or_adds))]
     pub fn alternatives(self, alloc: Global) -> Result<Vec<Meta>, AllocError>
         ensures { IfOk result (λ all. map shape_of all.items ≡ alternatives (shape_of self)) }
     {

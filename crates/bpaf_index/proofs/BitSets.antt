@@ -3,19 +3,18 @@ use Rattle.std.proofs.Common.{◌≡◌, ◌≢◌, ℕ, zero, suc, ◌+◌, ◌
 use Rattle.std.proofs.Common.{◌∙◌, arith, if◌then◌else◌, ⊎_elim, ◌==◌, ◌||◌, List, [], ◌∷◌, ◌++◌}
 use Rattle.std.proofs.Common.{sym, ◌-◌, ◌/◌, ◌%◌, ◌^◌, not, min, count_ones, bit_and, pow_pos, ◌*◌}
 use Rattle.std.proofs.Common.{length, slice_index, slice_set, get_or-set_same, get_or-set_other}
-use Rattle.std.proofs.Common.{nat_le, replicate, ◌&&◌, Option, Some, None, true≢false}
-use Rattle.std.proofs.lemmas.Bool.{cases_lt, ne_eqb, cases_eq, eq-eqb, and_left, le-leb, lt-leb}
-use Rattle.std.proofs.lemmas.Bool.{or_right}
-use Rattle.std.proofs.lemmas.List.Folds.{list_any-append, list_any_at}
+use Rattle.std.proofs.Common.{nat_le, replicate, ◌&&◌, Option, Some}
+use Rattle.std.proofs.lemmas.Bool.{cases_lt, cases_eq, eq-eqb, and_left, le-leb, lt-leb}
 use Rattle.std.proofs.lemmas.Nat.{ones-le, ones_cat, shr-shr, mod_below, and_mask, shr_le}
 use Rattle.std.proofs.lemmas.Nat.Bits.{bit_at-zero, bit_at_not, bit_at-trailing_zeros, bit_at_above}
 use Rattle.std.proofs.lemmas.Nat.Bits.{ones_shr, bit_at-lt, bit_at_ones}
 use Rattle.std.proofs.lemmas.List.{get_or-replicate, get_or_past, length-replicate}
-use Rattle.std.proofs.Math.Bool.{beq}
-use Rattle.bpaf_index.specs.Bits.{count_below, is_on, clear_within, IsClearStretch, IsSetStretch}
-use Rattle.bpaf_index.specs.Bits.{has_bit, is_clear_from, count_clear, ChangesBit, lesser_of}
-use Rattle.bpaf_index.specs.Bits.{is_on_as, ChangesBits, IsLeastIn}
+use Rattle.bpaf_index.specs.Bits.{count_below, is_on, clear_within, IsFirstWith, is_bit, has_bit}
+use Rattle.bpaf_index.specs.Bits.{is_clear_from, count_clear, ChangesBit, lesser_of, is_on_as}
 use Rattle.std.specs.Int.{bit_at, bit_not, trailing_zeros, w64}
+use Rattle.std.proofs.{lemmas.Bool.Decides.nat_tests, lemmas.List.Folds.list_any-append}
+use Rattle.std.proofs.{lemmas.List.Folds.list_any_at, Math.Bool.beq}
+use Rattle.bpaf_index.specs.Bits.{ChangesBits, IsLeastIn}
 use lib.Pow.{mod-pow-add}
 use lib.Count.{ones_step, trailing_of_zero}
 
@@ -27,30 +26,16 @@ count_below-same f g (suc n) agree =
     let below = count_below-same f g n (λ q l. agree q (omega arith)) in
     rw (agree n (omega arith), below) refl
 
--- a count that is one fewer stays so where the next number is in both sets or in neither
-counted_one : (b : Bool) (m n : ℕ) → m + 1 ≡ n
-    → (if b then (m + 1) else m) + 1 ≡ (if b then (n + 1) else n)
-counted_one true m n e = omega arith
-counted_one false m n e = e
-
 -- a set that lacks one number of another has one fewer
 pub count_below-fewer : (f g : ℕ → Bool) (n p : ℕ) → p < n → f p ≡ true → g p ≡ false
     → ((q : ℕ) → q ≢ p → f q ≡ g q) → count_below g n + 1 ≡ count_below f n
 count_below-fewer f g zero p within has lacks agree = absurd (omega arith)
 count_below-fewer f g (suc n) p within has lacks agree =
-    ⊎_elim
-    (λ below.
-    let fewer = count_below-fewer f g n p below has lacks agree in
-    let same : f n ≡ g n = agree n (λ z. absurd (omega arith)) in
-    rw same (counted_one (g n) (count_below g n) (count_below f n) fewer))
-    (λ above.
-    let at : n ≡ p = omega arith in
-    let same : count_below f n ≡ count_below g n = count_below-same f g n
-    (λ q k. agree q (λ z. absurd (omega arith))) in
-    let there : f n ≡ true = ap f at ∙ has in
-    let lacking : g n ≡ false = ap g at ∙ lacks in
-    rw (there, lacking, same) refl)
-    (cases_lt p n)
+    let fewer = λ (below : p < n). count_below-fewer f g n p below has lacks agree in
+    let same = λ (past : n ≤ p).
+    count_below-same f g n (λ q k. agree q (λ z. absurd (omega arith))) in
+    let here = agree n in
+    grind arith
 
 -- a set without numbers below n has none of them
 pub count_below-none : (f : ℕ → Bool) (n : ℕ) → ((q : ℕ) → q < n → f q ≡ false)
@@ -73,22 +58,12 @@ count_below-cut f n (suc m) within lacks =
 pub count_below-some : (f : ℕ → Bool) (n p : ℕ) → p < n → f p ≡ true → 1 ≤ count_below f n
 count_below-some f zero p within has = absurd (omega arith)
 count_below-some f (suc n) p within has =
-    ⊎_elim (λ (below : p < n). at_least (f n) (count_below f n) (count_below-some f n p below has))
-    (λ (above : n ≤ p). let there : f n ≡ true = ap f (omega arith) ∙ has in rw there (omega arith))
-    (cases_lt p n)
-  where
-    at_least : (b : Bool) (m : ℕ) → 1 ≤ m → 1 ≤ (if b then (m + 1) else m)
-    at_least true m h = omega arith
-    at_least false m h = h
+    let before = λ (below : p < n). count_below-some f n p below has in grind arith
 
 -- no set has more than n numbers below n
 pub count_below-most : (f : ℕ → Bool) (n : ℕ) → count_below f n ≤ n
 count_below-most f zero = omega arith
-count_below-most f (suc n) = at_most (f n) (count_below f n) n (count_below-most f n)
-  where
-    at_most : (b : Bool) (m n : ℕ) → m ≤ n → (if b then (m + 1) else m) ≤ suc n
-    at_most true m n h = omega arith
-    at_most false m n h = omega arith
+count_below-most f (suc n) = let before = count_below-most f n in grind arith
 
 -- a set with all numbers below n has n of them
 pub count_below-all : (f : ℕ → Bool) (n : ℕ) → ((q : ℕ) → q < n → f q ≡ true) → count_below f n ≡ n
@@ -103,29 +78,16 @@ pub count_below-split : (f : ℕ → Bool) (n k : ℕ)
 count_below-split f n zero = let same : n + 0 ≡ n = omega arith in rw same (omega arith)
 count_below-split f n (suc k) =
     let later : n + suc k ≡ suc (n + k) = omega arith in
-    ap (count_below f) later ∙ counted_more (f (n + k)) (count_below f (n + k)) (count_below f n)
-    (count_below (λ i. f (n + i)) k) (count_below-split f n k)
-  where
-    counted_more : (b : Bool) (all low rest : ℕ) → all ≡ low + rest
-        → (if b then (all + 1) else all) ≡ low + (if b then (rest + 1) else rest)
-    counted_more true all low rest e = omega arith
-    counted_more false all low rest e = e
-
--- what is said of no place adds nothing
-or_none : (b : Bool) → (b || false) ≡ b
-or_none true = refl
-or_none false = refl
+    let before = count_below-split f n k in rw later (grind arith)
 
 -- a place is on a longer list where it was on the old one, or is the last
 pub is_on_push : (places : List ℕ) (p q : ℕ)
     → is_on (places ++ p ∷ []) q ≡ (is_on places q || (p == q))
-is_on_push places p q = list_any-append (λ x. x == q) places (p ∷ [])
-    ∙ ap (λ b. is_on places q || b) (or_none (p == q))
+is_on_push places p q = grind (arith, list_any-append {X = ℕ})
 
 -- the other places are on it where they were
 pub on_others : (places : List ℕ) (p q : ℕ) → q ≢ p → is_on (places ++ p ∷ []) q ≡ is_on places q
-on_others places p q other = is_on_push places p q
-    ∙ (ap (λ b. is_on places q || b) (ne_eqb p q (λ e. other (sym e))) ∙ or_none (is_on places q))
+on_others places p q other = grind (arith, nat_tests, is_on_push places p q)
 
 -- The clear bits of one word of 64: a stretch of them, and how many there are.
 
@@ -136,27 +98,25 @@ ones_bit (suc zero) below = omega (arith, ones_step 1, ones-le 0 0 (omega arith)
 ones_bit (suc (suc b)) below = absurd (omega arith)
 
 -- the ones among the lowest bits are as many as these bits that are set
-pub ones_low : (k n : ℕ) → count_ones (n % 2 ^ k) ≡ count_below (λ i. bit_at n i == 1) k
+ones_low : (k n : ℕ) → count_ones (n % 2 ^ k) ≡ count_below (is_bit n) k
 ones_low zero n = omega (arith, ones-le 0 (n % 2 ^ 0) (omega arith))
 ones_low (suc k) n =
     let above : suc k ≡ 1 + k = omega arith in
+    let low = ones_low k n in
+    let top = ones_bit (bit_at n k) (bit_at-lt n k) in
     ap (λ j. count_ones (n % 2 ^ j)) above
     ∙ (ap count_ones (mod-pow-add n 1 k)
-    ∙ (ones_cat k (bit_at n k) (n % 2 ^ k) (mod_below n (2 ^ k) (pow_pos k))
-    ∙ counted (bit_at n k == 1) (count_ones (bit_at n k)) (count_ones (n % 2 ^ k))
-    (count_below (λ i. bit_at n i == 1) k) (ones_bit (bit_at n k) (bit_at-lt n k))
-    (ones_low k n)))
-  where
-    counted : (b : Bool) (top low below : ℕ) → top ≡ (if b then 1 else 0) → low ≡ below
-        → top + low ≡ (if b then (below + 1) else below)
-    counted true top low below is same = omega arith
-    counted false top low below is same = omega arith
+    ∙ (ones_cat k (bit_at n k) (n % 2 ^ k) (mod_below n (2 ^ k) (pow_pos k)) ∙ grind arith))
 
 -- a bit that isn't set is set in the complement
-flipped : (b : ℕ) → b < 2 → (1 - b == 1) ≡ not (b == 1)
-flipped zero below = refl
-flipped (suc zero) below = refl
-flipped (suc (suc b)) below = absurd (omega arith)
+complement : (word i : ℕ) → word < 2 ^ 64 → i < 64
+    → is_bit (bit_not w64 word) i ≡ not (is_bit word i)
+complement word i fits within = grind (
+  arith,
+  nat_tests,
+  bit_at_not w64 word i fits within,
+  bit_at-lt word i,
+)
 
 -- a bit of a word that was shifted is one further up
 pub bit_shifted : (word low i : ℕ) → bit_at (word / 2 ^ low) i ≡ bit_at word (low + i)
@@ -175,10 +135,8 @@ clear_counted word low wide fits inside some =
     ap (λ m. count_ones (bit_and (bit_not w64 rest) m)) mask
     ∙ (ap count_ones (and_mask (bit_not w64 rest) wide)
     ∙ (ones_low wide (bit_not w64 rest)
-    ∙ count_below-same _ _ wide (λ i within.
-    ap (λ b. b == 1) (bit_at_not w64 rest i small (omega arith))
-    ∙ (flipped (bit_at rest i) (bit_at-lt rest i)
-    ∙ ap (λ b. not (b == 1)) (bit_shifted word low i)))))
+    ∙ count_below-same _ _ wide (λ i within. complement rest i small (omega arith)
+    ∙ ap (λ b. not (b == 1)) (bit_shifted word low i))))
 
 -- of a word without bits all are clear
 pub clear_all : (word low wide : ℕ) → word ≡ 0 → wide ≡ clear_within word low wide
@@ -193,75 +151,64 @@ clear_none word low wide full inside = sym (count_below-none _ wide (λ i within
     ap (λ w. not (bit_at w (low + i) == 1)) full
     ∙ ap (λ b. not (b == 1)) (bit_at_ones 64 (low + i) (omega arith))))
 
--- where the bits of the rest of a word are all clear, the stretch goes to its end
-stretch_whole : (word low n : ℕ) → low < 64 → word / 2 ^ low ≡ 0 → n ≡ 64 - low
-    → IsClearStretch word low n
-stretch_whole word low n inside none is = record {
-  within = omega arith;
-  clear = λ i above below.
-      let at : low + (i - low) ≡ i = omega arith in
-      ap (bit_at word) (sym at) ∙ (sym (bit_shifted word low (i - low))
-      ∙ (ap (λ x. bit_at x (i - low)) none ∙ bit_at-zero (i - low)));
-  set = λ below. absurd (omega arith);
-}
-
--- else it goes to the lowest that is set
-run_part : (word low zeros n : ℕ) → word < 2 ^ 64 → low < 64 → bit_at (word / 2 ^ low) zeros ≡ 1
-    → ((i : ℕ) → i < zeros → bit_at (word / 2 ^ low) i ≡ 0) → n ≡ min zeros (64 - low)
-    → IsClearStretch word low n
-run_part word low zeros n fits inside set clear is =
-    let there : bit_at word (low + zeros) ≡ 1 = sym (bit_shifted word low zeros) ∙ set in
+-- the zeros at the lower end of what is left of a word end at the first bit that is set
+pub zeros_first : (word low n : ℕ) → word < 2 ^ 64 → low < 64
+    → n ≡ min (trailing_zeros w64 (word / 2 ^ low)) (64 - low)
+    → IsFirstWith (is_bit word) true low 64 (low + n)
+zeros_first word low n fits inside is = ⊎_elim
+    (λ (none : word / 2 ^ low ≡ 0).
+    let all : trailing_zeros w64 (word / 2 ^ low) ≡ 64 = ap (trailing_zeros w64) none
+    ∙ trailing_of_zero 64 in
+    record {
+      from = omega arith;
+      within = omega arith;
+      present = λ below. absurd (omega arith);
+      passed = λ i above below. ap (λ b. b == 1) (in_rest i above
+          ∙ (ap (λ x. bit_at x (i - low)) none ∙ bit_at-zero (i - low)));
+    })
+    (λ (some : word / 2 ^ low ≢ 0).
+    let h = bit_at-trailing_zeros w64 (word / 2 ^ low) (omega arith)
+    (omega (arith, shr_le word low)) in
+    let zeros = trailing_zeros w64 (word / 2 ^ low) in
+    let there : bit_at word (low + zeros) ≡ 1 = sym (bit_shifted word low zeros) ∙ h.1 in
     let below : low + zeros < 64 = ⊎_elim (λ (within : low + zeros < 64). within)
     (λ (past : 64 ≤ low + zeros). absurd
     (omega (arith, there, bit_at_above word 64 (low + zeros) fits past)))
     (cases_lt (low + zeros) 64) in
     let same : n ≡ zeros = omega arith in
     record {
+      from = omega arith;
       within = omega arith;
-      clear = λ i above under.
-          let at : low + (i - low) ≡ i = omega arith in
-          ap (bit_at word) (sym at) ∙ (sym (bit_shifted word low (i - low))
-          ∙ clear (i - low) (omega arith));
-      set = λ _. ap (λ k. bit_at word (low + k)) same ∙ there;
-    }
-
--- the zeros at the lower end of what is left of a word are a stretch of its clear bits
-pub zeros_stretch : (word low n : ℕ) → word < 2 ^ 64 → low < 64
-    → n ≡ min (trailing_zeros w64 (word / 2 ^ low)) (64 - low) → IsClearStretch word low n
-zeros_stretch word low n fits inside is = ⊎_elim
-    (λ (none : word / 2 ^ low ≡ 0). stretch_whole word low n inside none
-    (let all : trailing_zeros w64 (word / 2 ^ low) ≡ 64 = ap (trailing_zeros w64) none
-    ∙ trailing_of_zero 64 in omega arith))
-    (λ (some : word / 2 ^ low ≢ 0).
-    let h = bit_at-trailing_zeros w64 (word / 2 ^ low) (omega arith)
-    (omega (arith, shr_le word low)) in
-    run_part word low (trailing_zeros w64 (word / 2 ^ low)) n fits inside h.1 h.2 is)
+      present = λ _. ap (λ k. is_bit word (low + k)) same ∙ ap (λ b. b == 1) there;
+      passed = λ i above under.
+          ap (λ b. b == 1) (in_rest i above ∙ h.2 (i - low) (omega arith));
+    })
     (cases_eq (word / 2 ^ low) 0)
+  where
+    in_rest : (i : ℕ) → low ≤ i → bit_at word i ≡ bit_at (word / 2 ^ low) (i - low)
+    in_rest i above = let at : low + (i - low) ≡ i = omega arith in
+        ap (bit_at word) (sym at) ∙ sym (bit_shifted word low (i - low))
 
--- what is clear in the complement of a word is set in it
-pub stretch_flipped : (word low n : ℕ) → word < 2 ^ 64 → IsClearStretch (bit_not w64 word) low n
-    → IsSetStretch word low n
-stretch_flipped word low n fits run = record {
-  within = run.within;
-  set = λ i above below. omega (
-    arith,
-    run.clear i above below,
-    bit_at_not w64 word i fits (omega (arith, run.within)),
-    bit_at-lt word i,
-  );
-  clear = λ below. omega (
-    arith,
-    run.set below,
-    bit_at_not w64 word (low + n) fits below,
-    bit_at-lt word (low + n),
-  );
+-- the first bit that is set in the complement of a word is the first that is clear in it
+pub first_flipped : (word low p : ℕ) → word < 2 ^ 64
+    → IsFirstWith (is_bit (bit_not w64 word)) true low 64 p
+    → IsFirstWith (is_bit word) false low 64 p
+first_flipped word low p fits first = record {
+  from = first.from;
+  within = first.within;
+  present = λ below. flip _ _ (complement word p fits below) (first.present below);
+  passed = λ q above below. flip _ _ (complement word q fits (omega (arith, first.within)))
+      (first.passed q above below);
 }
+  where
+    flip : (b c : Bool) {d : Bool} → c ≡ not b → c ≡ d → b ≡ not d
+    flip b c e f = grind arith
 
 -- Bits in words of 64: what a write of one word changes.
 
 -- the bit of the place whose word was written
 pub has_bit_written : (words : List ℕ) (p w : ℕ) → p < 64 * length words
-    → has_bit (slice_set words (p / 64) w) p ≡ (bit_at w (p % 64) == 1)
+    → has_bit (slice_set words (p / 64) w) p ≡ is_bit w (p % 64)
 has_bit_written words p w within =
     let inside : p / 64 < length words = omega arith in
     ap (λ x. bit_at x (p % 64) == 1) (get_or-set_same words (p / 64) w 0 inside)
@@ -270,18 +217,12 @@ has_bit_written words p w within =
 pub has_bit_others : (words : List ℕ) (p w : ℕ) → p < 64 * length words
     → ((i : ℕ) → i < 64 → i ≢ p % 64 → bit_at w i ≡ bit_at (slice_index words (p / 64)) i)
     → (q : ℕ) → q ≢ p → has_bit (slice_set words (p / 64) w) q ≡ has_bit words q
-has_bit_others words p w within same q other = ⊎_elim
-    (λ (here : q / 64 ≡ p / 64).
+has_bit_others words p w within same q other =
     let inside : p / 64 < length words = omega arith in
-    let apart : q % 64 ≢ p % 64 = λ e. other (omega arith) in
-    let there : slice_index (slice_set words (p / 64) w) (q / 64) ≡ w = ap
-    (slice_index (slice_set words (p / 64) w)) here ∙ get_or-set_same words (p / 64) w 0 inside in
-    ap (λ x. bit_at x (q % 64) == 1) there
-    ∙ (ap (λ b. b == 1) (same (q % 64) (omega arith) apart)
-    ∙ ap (λ k. bit_at (slice_index words k) (q % 64) == 1) (sym here)))
-    (λ (away : q / 64 ≢ p / 64). ap (λ x. bit_at x (q % 64) == 1)
-    (get_or-set_other words (p / 64) (q / 64) w 0 away))
-    (cases_eq (q / 64) (p / 64))
+    let here = λ (at : q / 64 ≡ p / 64). same (q % 64) (omega arith) (λ e. other (omega arith)) in
+    let written = get_or-set_same words (p / 64) w 0 inside in
+    let others = get_or-set_other words (p / 64) (q / 64) w 0 in
+    grind arith
 
 -- below the place from which they are counted none are
 pub count_clear-none : (words : List ℕ) (low : ℕ) → count_clear words low low ≡ 0
@@ -312,7 +253,7 @@ count_clear-most words low p = count_below-most (is_clear_from words low) p
 
 -- no bit of words that are 0 is set
 pub has_bit_zero : (n p : ℕ) → has_bit (replicate n 0) p ≡ false
-has_bit_zero n p = ap (λ x. bit_at x (p % 64) == 1) (zero_at (p / 64))
+has_bit_zero n p = ap (λ x. is_bit x (p % 64)) (zero_at (p / 64))
     ∙ ap (λ b. b == 1) (bit_at-zero (p % 64))
   where
     zero_at : (i : ℕ) → slice_index (replicate n 0) i ≡ 0
@@ -323,10 +264,8 @@ has_bit_zero n p = ap (λ x. bit_at x (p % 64) == 1) (zero_at (p / 64))
 -- in words that were 0 before one bit was set, that bit alone is set
 pub has_bit_one : (n m : ℕ) (words : List ℕ) → ChangesBit (replicate n 0) words m true → (p : ℕ)
     → has_bit words p ≡ (p == m)
-has_bit_one n m words change p = ⊎_elim
-    (λ (at : p ≡ m). ap (has_bit words) at ∙ (change.here ∙ sym (eq-eqb p m at)))
-    (λ (other : p ≢ m). change.others p other ∙ (has_bit_zero n p ∙ sym (ne_eqb p m other)))
-    (cases_eq p m)
+has_bit_one n m words change p =
+    grind (arith, nat_tests, change.here, change.others p, has_bit_zero n p)
 
 -- The bits of several places at once, and the least place of some.
 
@@ -340,88 +279,35 @@ on_at places i within = list_any_at (λ q. q == slice_index places i) places i 0
 pub changes_more : (old words new places : List ℕ) (p : ℕ) (bit : Bool)
     → ChangesBits old words places bit → ChangesBit words new p bit
     → ChangesBits old new (places ++ p ∷ []) bit
-changes_more old words new places p bit h change = record {
-  kept = change.kept ∙ h.kept;
-  here = λ q on. ⊎_elim (λ (at : q ≡ p). ap (has_bit new) at ∙ change.here)
-      (λ (other : q ≢ p). change.others q other ∙ h.here q (sym (on_others places p q other) ∙ on))
-      (cases_eq q p);
-  others = λ q off. ⊎_elim (λ (at : q ≡ p). absurd (true≢false (sym (on_itself q at) ∙ off)))
-      (λ (other : q ≢ p). change.others q other
-      ∙ h.others q (sym (on_others places p q other) ∙ off))
-      (cases_eq q p);
-}
-  where
-    on_itself : (q : ℕ) → q ≡ p → is_on (places ++ p ∷ []) q ≡ true
-    on_itself q at = is_on_push places p q ∙ or_right (is_on places q) _ (eq-eqb p q (sym at))
-
--- two bits are equal as the test says
-as_tested : (b bit : Bool) → (if bit then b else not b) ≡ beq b bit
-as_tested true true = refl
-as_tested true false = refl
-as_tested false true = refl
-as_tested false false = refl
-
--- one place more is one of these, or is it itself
-on_as_more : (words places : List ℕ) (p : ℕ) (bit : Bool) (q : ℕ) → q ≢ p
-    → is_on_as words (places ++ p ∷ []) bit q ≡ is_on_as words places bit q
-on_as_more words places p bit q other =
-    ap (λ b. b && (if bit then has_bit words q else not (has_bit words q)))
-    (on_others places p q other)
-
--- and it itself has the bit or not
-on_as_here : (words places : List ℕ) (p : ℕ) (bit : Bool)
-    → is_on_as words (places ++ p ∷ []) bit p ≡ beq (has_bit words p) bit
-on_as_here words places p bit =
-    ap (λ b. b && (if bit then has_bit words p else not (has_bit words p)))
-    (is_on_push places p p ∙ or_right (is_on places p) _ (eq-eqb p p refl))
-    ∙ as_tested (has_bit words p) bit
+changes_more old words new places p bit h change = grind (arith, nat_tests, is_on_push)
 
 -- a place without the bit changes nothing
 pub least_skip : (words places : List ℕ) (p : ℕ) (bit : Bool) (found : Option ℕ)
-    → IsLeastIn (is_on_as words places bit) found → beq (has_bit words p) bit ≡ false
+    → IsLeastIn (is_on_as words places bit) found → not (beq (has_bit words p) bit) ≡ true
     → IsLeastIn (is_on_as words (places ++ p ∷ []) bit) found
-least_skip words places p bit None h off = λ q. ⊎_elim
-    (λ (at : q ≡ p). ap (is_on_as words (places ++ p ∷ []) bit) at
-    ∙ (on_as_here words places p bit ∙ off))
-    (λ (other : q ≢ p). on_as_more words places p bit q other ∙ h q) (cases_eq q p)
-least_skip words places p bit (Some least) h off = (
-  ⊎_elim (λ (at : least ≡ p). absurd (true≢false (sym h.0 ∙ without least at)))
-      (λ (other : least ≢ p). on_as_more words places p bit least other ∙ h.0) (cases_eq least p),
-  λ q below. ⊎_elim
-      (λ (at : q ≡ p). ap (is_on_as words (places ++ p ∷ []) bit) at
-      ∙ (on_as_here words places p bit ∙ off))
-      (λ (other : q ≢ p). on_as_more words places p bit q other ∙ h.1 q below) (cases_eq q p),
-)
+least_skip words places p bit found = skip (has_bit words)
   where
-    and_false : (b : Bool) → (b && false) ≡ false
-    and_false true = refl
-    and_false false = refl
-
-    without : (q : ℕ) → q ≡ p → is_on_as words places bit q ≡ false
-    without q at = ap (is_on_as words places bit) at
-        ∙ (ap (λ b. is_on places p && b) (as_tested (has_bit words p) bit ∙ off)
-        ∙ and_false (is_on places p))
+    skip : (has : ℕ → Bool)
+        → IsLeastIn (λ q. is_on places q && (if bit then has q else not (has q))) found
+        → not (beq (has p) bit) ≡ true
+        → IsLeastIn (λ q. is_on (places ++ p ∷ []) q && (if bit then has q else not (has q))) found
+    skip has h off = grind (arith, nat_tests, is_on_push)
 
 -- a place with it is the least, or the one that was
 pub least_take : (words places : List ℕ) (p : ℕ) (bit : Bool) (found : Option ℕ)
-    → IsLeastIn (is_on_as words places bit) found → beq (has_bit words p) bit ≡ true
+    → IsLeastIn (is_on_as words places bit) found → not (beq (has_bit words p) bit) ≡ false
     → IsLeastIn (is_on_as words (places ++ p ∷ []) bit) (Some (lesser_of found p))
-least_take words places p bit None h on = (
-  on_as_here words places p bit ∙ on,
-  λ q below. on_as_more words places p bit q (λ at. absurd (omega arith)) ∙ h q,
-)
-least_take words places p bit (Some least) h on = ⊎_elim
-    (λ (before : least < p).
-    let at : min least p ≡ least = omega arith in
-    rw at (
-      on_as_more words places p bit least (λ same. absurd (omega arith)) ∙ h.0,
-      λ q below. on_as_more words places p bit q (λ same. absurd (omega arith)) ∙ h.1 q below,
-    ))
-    (λ (behind : p ≤ least).
-    let at : min least p ≡ p = omega arith in
-    rw at (
-      on_as_here words places p bit ∙ on,
-      λ q below. on_as_more words places p bit q (λ same. absurd (omega arith))
-          ∙ h.1 q (omega arith),
-    ))
-    (cases_lt least p)
+least_take words places p bit found = take_it (has_bit words)
+  where
+    take_it : (has : ℕ → Bool)
+        → IsLeastIn (λ q. is_on places q && (if bit then has q else not (has q))) found
+        → not (beq (has p) bit) ≡ false
+        → IsLeastIn (λ q. is_on (places ++ p ∷ []) q && (if bit then has q else not (has q)))
+        (Some (lesser_of found p))
+    take_it has h on = grind (arith, nat_tests, is_on_push)
+
+-- how many places are clear, word by word
+pub ruleset clear_counts = (count_clear-none, count_clear-word, count_clear-most)
+
+-- how many bits of a part of a word are clear
+pub ruleset clear_parts = (clear_all, clear_none, clear_counted)

@@ -1,21 +1,20 @@
 -- Chains: how classes are given out along a line, how its places are linked, and how a walk along
 -- the links goes.
 use Rattle.std.proofs.Common.{◌≡◌, ◌⊎◌, ℕ, ◌+◌, ◌<◌, ◌≤◌, List, Bool, true, false, Some, None}
-use Rattle.std.proofs.Common.{String, if◌then◌else◌, inl, inr, refl, ap, sym, ◌∙◌, subst, arith}
-use Rattle.std.proofs.Common.{length, take, slice_index, bytes_eq, string_bytes, ◌≢◌, [], ◌||◌}
-use Rattle.std.proofs.Common.{Option, ⊎_elim, get_or, slice_set, length-set, get_or-set_same}
-use Rattle.std.proofs.Common.{get_or-set_other}
-use Rattle.std.proofs.lemmas.List.{get_or-take, length-take-le}
-use Rattle.std.proofs.lemmas.Option.{slice_get_read, get_or_from_slice_get}
-use Rattle.std.proofs.lemmas.Bool.{cases_lt, cases_eq, eqb-true}
-use Rattle.std.proofs.{lemmas.Map.Text.btree_map_updates_text, lemmas.Slice.Eq.bytes_eq-Decides}
+use Rattle.std.proofs.Common.{String, if◌then◌else◌, inl, refl, ap, sym, ◌∙◌, subst, arith, length}
+use Rattle.std.proofs.Common.{take, slice_index, bytes_eq, string_bytes, Option, get_or, slice_set}
+use Rattle.std.proofs.Common.{length-set, get_or-set_same, get_or-set_other}
 use Rattle.std.specs.BTreeMap.{BTreeMap, get_by_text, Updates}
-use Rattle.std.specs.{declared.alloc.Global.Global, String.string_cmp, Option.option_map_or}
-use Rattle.bpaf_base.specs.declared.arg.Arg.TheVariants.{Short, Long, ArgWord, Word, PosWord}
-use Rattle.bpaf_base.specs.{declared.arg.Arg.Arg, Names.Names, Items.is_key_of}
 use Rattle.bpaf_index.specs.Chained.{Naming, class_of, IsNoted, AreClassesOf, Chained, IsNextOf}
 use Rattle.bpaf_index.specs.Chained.{IsPlaceOf, IsChainStartOf, HasWalked, AreBehind, head_of}
-use Rattle.bpaf_index.specs.Chained.{names_of, named_at, is_key, HasNoKeyFrom}
+use Rattle.bpaf_index.specs.Chained.{names_of, is_key, HasNoKeyFrom}
+use Rattle.std.proofs.lemmas.List.{get_or-take, length-take-le}
+use Rattle.std.proofs.lemmas.Option.{slice_get_read, get_or_from_slice_get}
+use Rattle.std.proofs.{lemmas.Bool.Decides.nat_tests, lemmas.Map.Text.btree_map_updates_text}
+use Rattle.std.proofs.lemmas.Slice.Eq.{bytes_eq-Decides}
+use Rattle.std.specs.{declared.alloc.Global.Global, String.string_cmp}
+use Rattle.bpaf_base.specs.{declared.arg.Arg.TheVariants.Long, declared.arg.Arg.Arg, Names.Names}
+use Rattle.bpaf_base.specs.Items.{is_key_of}
 use Rattle.bpaf_index.specs.InsideChains.{IsLinked}
 
 -- the classes of a line's first places, fewer than 128 and one for each of these
@@ -45,27 +44,17 @@ noted_long shorts old new kept next item {name = name} long is none updates = rw
     finds text =
         rw (← is) (btree_map_updates_text (string_bytes kept) old new (Some next) updates text)
 
-    of_test : (text : List ℕ) (b : Bool) → bytes_eq name text ≡ b
-        → (get_by_text new text ≡ get_by_text old text)
-        ⊎ ((get_by_text old text ≡ None) × (get_by_text new text ≡ Some next))
-    of_test text true e = inr (
-      subst (λ x. get_by_text old x ≡ None) ((bytes_eq-Decides name text).0 e)
-          (subst (λ i. class_of (record { shorts = shorts; longs = old.entries }) i ≡ None) long
-          none),
-      finds text ∙ ap (λ b. if b then Some next else get_by_text old text) e,
-    )
-    of_test text false e =
-        inl (finds text ∙ ap (λ b. if b then Some next else get_by_text old text) e)
-
     others : (other : Arg) → (class_of (record { shorts = shorts; longs = new.entries }) other
         ≡ class_of (record { shorts = shorts; longs = old.entries }) other)
         ⊎ ((class_of (record { shorts = shorts; longs = old.entries }) other ≡ None)
         × (class_of (record { shorts = shorts; longs = new.entries }) other ≡ Some next))
-    others (Short d _ _) = inl refl
-    others (Long text _ _) = of_test text (bytes_eq name text) refl
-    others (ArgWord text) = inl refl
-    others (Word text) = inl refl
-    others (PosWord text) = inl refl
+    others (Long text _ _) = by_text text (rw long at none)
+      where
+        by_text : (text : List ℕ) → get_by_text old name ≡ None
+            → (get_by_text new text ≡ get_by_text old text)
+            ⊎ ((get_by_text old text ≡ None) × (get_by_text new text ≡ Some next))
+        by_text text none = grind (arith, finds text, bytes_eq-Decides name text)
+    others _ = inl refl
 
 -- the classes of the front of a line are those of the line's first places
 pub classes_of_front : (names : Naming) (line : List Arg) (n : ℕ) (classes : List ℕ)
@@ -89,11 +78,7 @@ pub record IsLinkedFrom (classes next heads : List ℕ) (low : ℕ) : Type 0 whe
 -- at its start a walk has passed no place
 pub walked_none : (classes : List ℕ) (passes : ℕ → Bool) (from : ℕ)
     → HasWalked classes passes from from
-walked_none classes passes from = record {
-  above = omega arith;
-  same = λ k of. of;
-  passed = λ k q of above below. absurd (omega arith);
-}
+walked_none classes passes from = grind arith
 
 -- a place that is to be passed is passed
 pub walked_more : (classes : List ℕ) (passes : ℕ → Bool) (from p next : ℕ)
@@ -102,14 +87,12 @@ pub walked_more : (classes : List ℕ) (passes : ℕ → Bool) (from p next : �
 walked_more classes passes from p next walked below set link = record {
   above = omega (arith, walked.above, link.from);
   same = λ k of in_line. link.same in_line ∙ walked.same k of below;
-  passed = λ k q of above before mine. ⊎_elim
-      (λ (early : q < p). walked.passed k q of above early mine)
-      (λ (rest : p ≤ q). ⊎_elim
-      (λ (at : q ≡ p). ap passes at ∙ set)
-      (λ (behind : q ≢ p). absurd (link.between q (omega arith) before
-      (mine ∙ sym (walked.same k of below))))
-      (cases_eq q p))
-      (cases_lt q p);
+  passed = λ k q of above before mine. grind (
+    arith,
+    walked.passed k q of above,
+    walked.same k of below,
+    link.between q,
+  );
 }
 
 -- a beginning that is written is a place of its class, where the new one is
@@ -118,13 +101,8 @@ headed_set : (classes heads : List ℕ) (class head : ℕ)
     < length heads → IsPlaceOf classes class head
     → (k : ℕ) → k < length (slice_set heads class head)
     → IsPlaceOf classes k (slice_index (slice_set heads class head) k)
-headed_set classes heads class head headed inside there k within = ⊎_elim
-    (λ (at : k ≡ class). subst (λ x. IsPlaceOf classes x
-    (slice_index (slice_set heads class head) x)) (sym at)
-    (subst (IsPlaceOf classes class) (sym (get_or-set_same heads class head 0 inside)) there))
-    (λ (other : k ≢ class). subst (IsPlaceOf classes k)
-    (sym (get_or-set_other heads class k head 0 other))
-    (headed k (omega (arith, length-set heads class head)))) (cases_eq k class)
+headed_set classes heads class head headed inside there k within =
+    grind (arith, length-set {A = ℕ}, get_or-set_same {A = ℕ}, get_or-set_other {A = ℕ})
 
 -- the links stay right where the chain of a place's class begins at another of its places
 pub linked_passed : {classes next heads : List ℕ} {class place from head : ℕ}
@@ -144,56 +122,20 @@ linked_passed {classes} {next} {heads} {class} {place} {from} {head} h within of
 
 -- an item that is no key has none of the names
 no_key : (names : Names) (item : Arg) → is_key item ≡ false → is_key_of names item ≡ false
-no_key names (Short c _ _) e = cc
-no_key names (Long name _ _) e = cc
-no_key names (ArgWord _) e = refl
-no_key names (Word _) e = refl
-no_key names (PosWord _) e = refl
+no_key names item e = grind arith
 
 -- nor from a place on, where its item is none and no key stands behind it
 pub keyless_more : (line : List Arg) (p : ℕ) (item : Arg) → p < length line
     → item ≡ get_or line p item → is_key item ≡ false → HasNoKeyFrom line (p + 1)
     → HasNoKeyFrom line p
-keyless_more line p item within read other h = record {
-  none = λ names q above. ⊎_elim
-      (λ (at : q ≡ p). ap (named_at line names) at
-      ∙ (ap (λ found. option_map_or (is_key_of names) found false)
-      (slice_get_read line (length line) p item refl within read) ∙ no_key names item other))
-      (λ (behind : q ≢ p). h.none names q (omega (arith, behind))) (cases_eq q p);
-}
-
--- one of two is true, where the other isn't
-one_of : (b : Bool) → (b || false) ≡ true → b ≡ true
-one_of true e = refl
-one_of false e = e
-
--- an item that is no key has no name
-nameless : (item : Arg) → is_key_of (record { shorts = []; longs = [] }) item ≡ true → ⊥
-nameless (Short c _ _) e = cc
-nameless (Long name _ _) e = cc
-nameless (ArgWord _) e = cc
-nameless (Word _) e = cc
-nameless (PosWord _) e = cc
+keyless_more line p item within read other h =
+    let found = slice_get_read line (length line) p item refl within read in
+    record { none = λ names q above. grind (arith, no_key names item other, h.none names q) }
 
 -- a key with the name of an item has its class
 pub same_class : (names : Naming) (key item : Arg) → is_key_of (names_of key) item ≡ true
     → class_of names item ≡ class_of names key
-same_class names (Short d _ _) (Short c word attached) e =
-    ap (λ x. class_of names (Short x word attached)) (sym (eqb-true d c (one_of _ e)))
-same_class names (Short d _ _) (Long name _ _) e = cc
-same_class names (Short d _ _) (ArgWord _) e = cc
-same_class names (Short d _ _) (Word _) e = cc
-same_class names (Short d _ _) (PosWord _) e = cc
-same_class names (Long text _ _) (Long name word attached) e =
-    ap (λ x. class_of names (Long x word attached))
-    (sym ((bytes_eq-Decides text name).0 (one_of _ e)))
-same_class names (Long text _ _) (Short c _ _) e = cc
-same_class names (Long text _ _) (ArgWord _) e = cc
-same_class names (Long text _ _) (Word _) e = cc
-same_class names (Long text _ _) (PosWord _) e = cc
-same_class names (ArgWord _) item e = absurd (nameless item e)
-same_class names (Word _) item e = absurd (nameless item e)
-same_class names (PosWord _) item e = absurd (nameless item e)
+same_class names key item e = grind (arith, nat_tests, bytes_eq-Decides)
 
 -- what is passed stays so, where the chain of a place's class begins behind places of the set
 pub behind_passed : {line : List Arg} {set : ℕ → Bool} {old : Chained} {class from head : ℕ}
@@ -201,26 +143,18 @@ pub behind_passed : {line : List Arg} {set : ℕ → Bool} {old : Chained} {clas
     → IsPlaceOf old.classes class from → HasWalked old.classes set from head
     → AreBehind line set (record old { heads = slice_set old.heads class head })
 behind_passed {line} {set} {old} {class} {from} {head} h inside begins headed walked =
-    let heads = slice_set old.heads class head in
+    let same = get_or-set_same old.heads class head 0 inside in
+    let other = λ (k : ℕ). get_or-set_other old.heads class k head 0 in
     record {
       within = h.within;
       classes = h.classes;
       keyless = h.keyless;
-      passed = λ p below before. ⊎_elim
-          (λ (at : slice_index old.classes p ≡ class). ⊎_elim
-          (λ (early : p < from). h.passed p below
-          (omega (arith, early, begins, ap (slice_index old.heads) at)))
-          (λ (behind : from ≤ p). walked.passed class p headed behind
-          (omega (
-            arith,
-            before,
-            ap (slice_index heads) at,
-            get_or-set_same old.heads class head 0 inside,
-          )) at)
-          (cases_lt p from))
-          (λ (other : slice_index old.classes p ≢ class). h.passed p below (omega
-          (arith, before, get_or-set_other old.heads class (slice_index old.classes p) head 0 other)))
-          (cases_eq (slice_index old.classes p) class);
+      passed = λ p below before. grind (
+        arith,
+        h.passed p below,
+        walked.passed class p headed,
+        other (slice_index old.classes p),
+      );
     }
 
 -- what stands before the beginning of its chain is in the set

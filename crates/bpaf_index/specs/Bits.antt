@@ -15,9 +15,13 @@ count_below set (suc n) = if set n then (count_below set n + 1) else count_below
 
 -- A set of places, as bits in words of 64.
 
+-- the bit of a word of 64 at this number is set
+abbrev pub is_bit : ℕ → ℕ → Bool
+is_bit word i = bit_at word i == 1
+
 -- whether the bit of a place is set; past the words none is
 abbrev pub has_bit : List ℕ → ℕ → Bool
-has_bit words p = bit_at (slice_index words (p / 64)) (p % 64) == 1
+has_bit words p = is_bit (slice_index words (p / 64)) (p % 64)
 
 -- the bit of a place has this value now, and the others have theirs
 pub record ChangesBit (old new : List ℕ) (p : ℕ) (bit : Bool) : Type 0 where
@@ -25,35 +29,21 @@ pub record ChangesBit (old new : List ℕ) (p : ℕ) (bit : Bool) : Type 0 where
   pub here : has_bit new p ≡ bit
   pub others : (q : ℕ) → q ≢ p → has_bit new q ≡ has_bit old q
 
+-- the first number from one on, below another, for which a test has this answer; that other one,
+-- where there is none
+pub record IsFirstWith (test : ℕ → Bool) (answer : Bool) (low high p : ℕ) : Type 0 where
+  pub from : low ≤ p
+  pub within : p ≤ high
+  pub present : p < high → test p ≡ answer
+  pub passed : (q : ℕ) → low ≤ q → q < p → test q ≡ not answer
+
 -- the first place from one on, below another, whose bit is not set; that other, where there is none
-pub record IsFirstClear (words : List ℕ) (low high p : ℕ) : Type 0 where
-  pub from : low ≤ p
-  pub within : p ≤ high
-  pub clear : p < high → has_bit words p ≡ false
-  pub set : (q : ℕ) → low ≤ q → q < p → has_bit words q ≡ true
-
--- the first place from one on, below another, whose bit is set; that other, where there is none
-pub record IsFirstSet (words : List ℕ) (low high p : ℕ) : Type 0 where
-  pub from : low ≤ p
-  pub within : p ≤ high
-  pub set : p < high → has_bit words p ≡ true
-  pub clear : (q : ℕ) → low ≤ q → q < p → has_bit words q ≡ false
-
--- so many bits of a word of 64, from one on, are clear, and the next one isn't
-pub record IsClearStretch (word low n : ℕ) : Type 0 where
-  pub within : low + n ≤ 64
-  pub clear : (i : ℕ) → low ≤ i → i < low + n → bit_at word i ≡ 0
-  pub set : low + n < 64 → bit_at word (low + n) ≡ 1
-
--- so many bits of a word of 64, from one on, are set, and the next one isn't
-pub record IsSetStretch (word low n : ℕ) : Type 0 where
-  pub within : low + n ≤ 64
-  pub set : (i : ℕ) → low ≤ i → i < low + n → bit_at word i ≡ 1
-  pub clear : low + n < 64 → bit_at word (low + n) ≡ 0
+abbrev pub IsFirstClear : List ℕ → ℕ → ℕ → ℕ → Type 0
+IsFirstClear words low high p = IsFirstWith (has_bit words) false low high p
 
 -- how many of so many bits of a word, from one on, are clear
 abbrev pub clear_within : ℕ → ℕ → ℕ → ℕ
-clear_within word low wide = count_below (λ i. not (bit_at word (low + i) == 1)) wide
+clear_within word low wide = count_below (λ i. not (is_bit word (low + i))) wide
 
 -- a place is one from a place on, and its bit is not set
 abbrev pub is_clear_from : List ℕ → ℕ → ℕ → Bool

@@ -2,8 +2,7 @@
 ghost use Rattle.std.specs.Prelude.{ℕ, ◌≡◌, ◌+◌, ◌*◌, ◌<◌, ◌≤◌, length, true, false};
 ghost use Rattle.bpaf_index.specs.Bits.{has_bit, count_clear, clear_within, lesser_of, is_on_as};
 ghost use Rattle.bpaf_index.specs.Bits.{is_in_first, AreWithin, ChangesBit, ChangesBits};
-ghost use Rattle.bpaf_index.specs.Bits.{IsClearStretch, IsSetStretch, IsFirstClear, IsFirstSet};
-ghost use Rattle.bpaf_index.specs.Bits.{IsLeastIn, is_on};
+ghost use Rattle.bpaf_index.specs.Bits.{IsFirstClear, IsFirstWith, IsLeastIn, is_on, is_bit};
 
 /// Whether the bit of a place is set.
 pub fn is_set(words: &[u64], place: usize) -> bool
@@ -37,15 +36,7 @@ pub fn first_clear(words: &[u64], from: usize, end: usize) -> usize
     requires inside { end ≤ 64 * length words.now }
     ensures { IsFirstClear words.now from end result }
 {
-    let mut place = from;
-    while place < end {
-        let set = set_stretch(words[place / 64], place % 64);
-        if place % 64 + set < 64 {
-            return (place + set).min(end);
-        }
-        place += set.min(end - place);
-    }
-    end
+    first_with(words, from, end, false)
 }
 
 /// The first place from one on, below the end, whose bit is set; the end, where there is none.
@@ -54,39 +45,55 @@ pub fn first_clear(words: &[u64], from: usize, end: usize) -> usize
 pub fn first_set(words: &[u64], from: usize, end: usize) -> usize
     requires ordered { from ≤ end }
     requires inside { end ≤ 64 * length words.now }
-    ensures { IsFirstSet words.now from end result }
+    ensures { IsFirstWith (has_bit words.now) true from end result }
+{
+    first_with(words, from, end, true)
+}
+
+/// The first place from one on, below the end, whose bit has this value; the end, where there is
+/// none. It stands in its callers, each of which looks for one value.
+#[inline(always)]
+fn first_with(words: &[u64], from: usize, end: usize, bit: bool) -> usize
+    requires ordered { from ≤ end }
+    requires inside { end ≤ 64 * length words.now }
+    ensures { IsFirstWith (has_bit words.now) bit from end result }
 {
     let mut place = from;
     while place < end {
-        let clear = clear_stretch(words[place / 64], place % 64);
-        if place % 64 + clear < 64 {
-            return (place + clear).min(end);
+        let others = stretch(words[place / 64], place % 64, bit);
+        if place % 64 + others < 64 {
+            return (place + others).min(end);
         }
-        place += clear.min(end - place);
+        place += others.min(end - place);
     }
     end
 }
 
-/// How many bits of a word from one on are clear in a row.
-fn clear_stretch(word: u64, low: usize) -> usize
+/// How many bits of a word from one on have not this value in a row.
+#[inline(always)]
+fn stretch(word: u64, low: usize, bit: bool) -> usize
     requires { low < 64 }
-    ensures { IsClearStretch word low result }
+    ensures { IsFirstWith (is_bit word) bit low 64 (low + result) }
+{
+    if bit {
+        return zeros(word, low);
+    }
+    zeros(!word, low)
+}
+
+/// How many bits of a word from one on are clear in a row.
+fn zeros(word: u64, low: usize) -> usize
+    requires { low < 64 }
+    ensures { IsFirstWith (is_bit word) true low 64 (low + result) }
 {
     let clear = (word >> low).trailing_zeros() as usize;
     clear.min(64 - low)
 }
 
-/// How many bits of a word from one on are set in a row.
-fn set_stretch(word: u64, low: usize) -> usize
-    requires { low < 64 }
-    ensures { IsSetStretch word low result }
-{
-    clear_stretch(!word, low)
-}
-
 /// How many places from one on, below the end, have no bit set.
 ///
 /// A word of 64 places is one step.
+#[tactic(auto, using(crate::proofs::BitSets::clear_counts))]
 pub fn count_clear(words: &[u64], from: usize, end: usize) -> usize
     requires ordered { from ≤ end }
     requires inside { end ≤ 64 * length words.now }
@@ -103,6 +110,7 @@ pub fn count_clear(words: &[u64], from: usize, end: usize) -> usize
 }
 
 /// How many of so many bits of a word, from one on, are clear.
+#[tactic(auto, using(crate::proofs::BitSets::clear_parts))]
 fn clear_within(word: u64, low: usize, wide: usize) -> usize
     requires some { 0 < wide }
     requires inside { low + wide ≤ 64 }
@@ -131,6 +139,7 @@ fn write(words: &mut [u64], place: usize, bit: bool)
 }
 
 /// Gives the bits of some places this value.
+#[tactic(auto, using(crate::proofs::BitSets::changes_more))]
 fn write_all(words: &mut [u64], places: &[usize], bit: bool)
     requires { AreWithin words.old places.now }
     ensures { ChangesBits words.old words.new places.now bit }
@@ -147,9 +156,10 @@ fn least(words: &[u64], places: &[usize], bit: bool) -> Option<usize>
 {
     let mut least = None;
     for place in places {
-        if is_set(words, *place) == bit {
-            least = Some(lesser(least, *place));
+        if is_set(words, *place) != bit {
+            continue;
         }
+        least = Some(lesser(least, *place));
     }
     least
 }

@@ -1,13 +1,12 @@
 //! The places of a line, chained by the names of their items.
 ghost use Rattle.std.specs.Prelude.{ℕ, ◌≡◌, ◌*◌, ◌+◌, ◌<◌, ◌≤◌, IfOk, IfSome, [], Some, length};
 ghost use Rattle.std.specs.Prelude.{slice_get, slice_index, ◌-◌, false, true};
-ghost use Rattle.std.specs.Option.{option_map_or};
-ghost use Rattle.bpaf_base.specs.declared.arg.Arg.{Arg};
 ghost use Rattle.bpaf_base.specs.declared.arg.Arg.TheVariants.{Short, Long, Word};
-ghost use Rattle.bpaf_index.specs.Bits.{has_bit};
 ghost use Rattle.bpaf_index.specs.Chained.{class_of, is_key, IsNextOf, IsChainStart, HasWalked};
 ghost use Rattle.bpaf_index.specs.Chained.{AreBehind, IsChainStartOf, ReachBack, IfChained};
-ghost use Rattle.bpaf_index.specs.Chained.{HasNoKeyFrom};
+ghost use Rattle.std.specs.Option.{option_map_or};
+ghost use Rattle.bpaf_base.specs.declared.arg.Arg.{Arg};
+ghost use Rattle.bpaf_index.specs.{Bits.has_bit, Chained.HasNoKeyFrom};
 
 use crate::bits;
 use crate::classes::{NameClasses, OWN_CLASSES};
@@ -217,6 +216,7 @@ pub fn reach_back(chains: &mut Option<Chains>, place: usize)
 /// How many places there are up to a line's last key and with it; none, where it has no key. It
 /// stays a call, so that its loop keeps no count of its caller's.
 #[inline(never)]
+#[tactic(auto, using(crate::proofs::Chained::keyless_more))]
 pub fn count_to_last_key(items: &[Arg]) -> usize
     ensures within { result ≤ length items.now }
     ensures keyless { HasNoKeyFrom items.now result }

@@ -1,6 +1,4 @@
 pub use Rattle.bpaf_index.proofs.BitSets
 pub mod Places
-pub mod Finding
 pub mod Sound
 pub mod Marks
-pub mod Beginning

@@ -3,25 +3,23 @@
 use Rattle.std.proofs.Common.{◌≡◌, ℕ, ◌+◌, ◌-◌, ◌<◌, ◌≤◌, List, ◌++◌, length, take, drop, refl, ap}
 use Rattle.std.proofs.Common.{sym, ◌∙◌, arith, length-drop, Option, [], ◌∷◌, length-append, ◌≢◌}
 use Rattle.std.proofs.Common.{◌==◌, Bool, true, false, not, ◌&&◌, Some, None, if◌then◌else◌}
-use Rattle.std.proofs.Common.{reverse, option_map, zero, suc, ◌*◌, ◌||◌, subst, ⊎_elim, nat_lt}
-use Rattle.std.proofs.Common.{slice_index, add-one, true≢false, Result, Ok, Err, OnOk}
+use Rattle.std.proofs.Common.{reverse, option_map, zero, suc, ◌*◌, ◌||◌, ⊎_elim, nat_lt}
+use Rattle.std.proofs.Common.{slice_index, add-one, Result, Ok, Err, OnOk}
 use Rattle.std.proofs.lemmas.List.{length-take-le, take-append-le, take-append-drop, take-take}
 use Rattle.std.proofs.lemmas.List.{take_rest, drop-take, get_or-drop, reverse-append, take_more}
-use Rattle.std.proofs.lemmas.List.{take_all}
-use Rattle.std.proofs.lemmas.Bool.{eq-eqb, ne_eqb, cases_eq, not-true, and_parts, or_right, or_from}
-use Rattle.std.proofs.lemmas.Bool.{ltb-true, ltb-false}
-use Rattle.std.proofs.lemmas.List.Folds.{find-append, list_any-append}
+use Rattle.std.proofs.lemmas.Bool.{cases_eq, or_right, ltb-true, ltb-false}
 use Rattle.bpaf_line.specs.Situation.{Situation, cut_to, take_place, with_conflicts, with_scope}
 use Rattle.bpaf_line.specs.Situation.{with_path, with_current, TakenInTurn, is_taken, last_of}
 use Rattle.bpaf_line.specs.Situation.{is_on, is_marker, with_trail, PresentInTurn}
 use Rattle.bpaf_line.specs.Marks.{HasReached, undone, steps_since, redone, CanRedo, KeepsMarks}
-use Rattle.bpaf_line.specs.Marks.{Changes, Fits}
 use Rattle.bpaf_line.specs.Taking.{ConflictsSaved, IsWinner, leftmost_of}
-use Rattle.bpaf_line.specs.Inside.{situation_of, BitsOf, IsSound}
-use Rattle.bpaf_line.specs.{declared.mark.Mark.Mark, declared.state.State.TheInside.Inside}
-use Rattle.std.specs.{Option.option_or, List.find}
 use Rattle.bpaf_index.specs.Bits.{has_bit, is_in_first, AreWithin, IsLeastIn}
-use Rattle.bpaf_index.proofs.BitSets.{is_on_push, on_others}
+use Rattle.std.proofs.{lemmas.List.take_all, lemmas.List.Folds.find-append}
+use Rattle.std.proofs.{lemmas.List.Folds.list_any-append}
+use Rattle.bpaf_line.specs.{Marks.Changes, Marks.Fits, Inside.IsSoundAt, declared.mark.Mark.Mark}
+use Rattle.bpaf_line.specs.declared.state.State.TheInside.{Inside}
+use Rattle.std.specs.{Option.option_or, List.find}
+use Rattle.bpaf_index.proofs.BitSets.{on_others}
 use Rattle.bpaf_line.proofs.Places.{present_in_line}
 
 -- a part of a list, and a part of what is behind it
@@ -94,10 +92,6 @@ pub redone_parts : (s : Situation) (steps : Changes) (taken : List ℕ) (conflic
 redone_parts s steps taken conflicts path same_taken same_conflicts same_path = rw
     (same_taken, same_conflicts, same_path) refl
 
--- a part of a list is that of a longer one, where it isn't longer than the list
-front_is : {X : Type 0} (n : ℕ) (xs ys : List X) → n ≤ length xs → take n (xs ++ ys) ≡ take n xs
-front_is n xs ys within = take-append-le n xs ys within
-
 -- a longer list is no shorter
 longer : {X : Type 0} (n : ℕ) (xs ys : List X) → n ≤ length xs → n ≤ length (xs ++ ys)
 longer n xs ys within = omega (arith, length-append xs ys)
@@ -109,91 +103,39 @@ keeps_marks_refl s = record { fit = λ mark fits. fits; same = λ mark fits. ref
 -- a place that is taken keeps them
 pub keeps_marks_take : (s : Situation) (p : ℕ) → KeepsMarks s (take_place s p)
 keeps_marks_take s p = record {
-  fit = λ mark fits. record {
-    reached = record {
-      taken = longer mark.taken s.trail (p ∷ []) fits.reached.taken;
-      conflicts = fits.reached.conflicts;
-      depth = fits.reached.depth;
-    };
-    ordered = fits.ordered;
-    inside = fits.inside;
-    named = fits.named;
-  };
+  fit = λ mark fits. assumption (longer mark.taken s.trail (p ∷ []) fits.reached.taken, fits);
   same = λ mark fits. ap (λ trail. record (undone mark s) { trail = trail })
-      (front_is mark.taken s.trail (p ∷ []) fits.reached.taken);
+      (take-append-le mark.taken s.trail (p ∷ []) fits.reached.taken);
 }
 
 -- more conflict notes keep them
 pub keeps_marks_conflicts : (s : Situation) (pairs : List (ℕ × ℕ))
     → KeepsMarks s (with_conflicts s pairs)
 keeps_marks_conflicts s pairs = record {
-  fit = λ mark fits. record {
-    reached = record {
-      taken = fits.reached.taken;
-      conflicts = longer mark.conflicts s.conflicts pairs fits.reached.conflicts;
-      depth = fits.reached.depth;
-    };
-    ordered = fits.ordered;
-    inside = fits.inside;
-    named = fits.named;
-  };
+  fit = λ mark fits.
+      assumption (longer mark.conflicts s.conflicts pairs fits.reached.conflicts, fits);
   same = λ mark fits. ap (λ conflicts. record (undone mark s) { conflicts = conflicts })
-      (front_is mark.conflicts s.conflicts pairs fits.reached.conflicts);
+      (take-append-le mark.conflicts s.conflicts pairs fits.reached.conflicts);
 }
 
 -- what the current place is doesn't matter
 pub keeps_marks_current : (s t : Situation) (place : Option ℕ) → KeepsMarks s t
     → KeepsMarks s (with_current t place)
-keeps_marks_current s t place keeps = record {
-  fit = λ mark fits.
-      let there = keeps.fit mark fits in
-      record {
-        reached = record {
-          taken = there.reached.taken;
-          conflicts = there.reached.conflicts;
-          depth = there.reached.depth;
-        };
-        ordered = there.ordered;
-        inside = there.inside;
-        named = there.named;
-      };
-  same = λ mark fits. keeps.same mark fits;
-}
+keeps_marks_current s t place keeps =
+    record { fit = λ mark fits. assumption (keeps.fit mark fits); same = keeps.same }
 
 -- nor does the scope
 pub keeps_marks_scope : (s t : Situation) (start end : ℕ) → KeepsMarks s t
     → KeepsMarks s (with_scope t start end)
-keeps_marks_scope s t start end keeps = record {
-  fit = λ mark fits.
-      let there = keeps.fit mark fits in
-      record {
-        reached = record {
-          taken = there.reached.taken;
-          conflicts = there.reached.conflicts;
-          depth = there.reached.depth;
-        };
-        ordered = there.ordered;
-        inside = there.inside;
-        named = there.named;
-      };
-  same = λ mark fits. keeps.same mark fits;
-}
+keeps_marks_scope s t start end keeps =
+    record { fit = λ mark fits. assumption (keeps.fit mark fits); same = keeps.same }
 
 -- a name at the end of the path keeps them
 pub keeps_marks_path : (s : Situation) (entry : List ℕ) → KeepsMarks s (with_path s entry)
 keeps_marks_path s entry = record {
-  fit = λ mark fits. record {
-    reached = record {
-      taken = fits.reached.taken;
-      conflicts = fits.reached.conflicts;
-      depth = longer mark.depth s.path (entry ∷ []) fits.reached.depth;
-    };
-    ordered = fits.ordered;
-    inside = fits.inside;
-    named = fits.named;
-  };
+  fit = λ mark fits. assumption (longer mark.depth s.path (entry ∷ []) fits.reached.depth, fits);
   same = λ mark fits. ap (λ path. record (undone mark s) { path = path })
-      (front_is mark.depth s.path (entry ∷ []) fits.reached.depth);
+      (take-append-le mark.depth s.path (entry ∷ []) fits.reached.depth);
 }
 
 -- as far as a list was cut it reaches, where it did before
@@ -202,16 +144,11 @@ cut_reaches n xs within = omega (arith, length-take-le n xs within)
 
 -- a parse gone back to a mark can go back to it again
 pub fits_undone : (mark : Mark) (s : Situation) → Fits mark s → Fits mark (undone mark s)
-fits_undone mark s fits = record {
-  reached = record {
-    taken = cut_reaches mark.taken s.trail fits.reached.taken;
-    conflicts = cut_reaches mark.conflicts s.conflicts fits.reached.conflicts;
-    depth = cut_reaches mark.depth s.path fits.reached.depth;
-  };
-  ordered = fits.ordered;
-  inside = fits.inside;
-  named = fits.named;
-}
+fits_undone mark s fits = assumption (
+  cut_reaches mark.taken s.trail fits.reached.taken,
+  cut_reaches mark.conflicts s.conflicts fits.reached.conflicts,
+  cut_reaches mark.depth s.path fits.reached.depth,
+)
 
 -- and is there already
 pub undone_twice : (mark : Mark) (s : Situation) → undone mark (undone mark s) ≡ undone mark s
@@ -236,26 +173,7 @@ last_of-append xs ys p =
     mapped : (a b : Option (ℕ × ℕ))
         → option_map (λ pair. pair.1) (option_or a b) ≡ option_or (option_map (λ pair. pair.1) a)
         (option_map (λ pair. pair.1) b)
-    mapped None b = refl
-    mapped (Some pair) b = refl
-
--- a pair more at the end counts for its place
-pub last_of_here : (pairs : List (ℕ × ℕ)) (p winner : ℕ)
-    → last_of (pairs ++ (p, winner) ∷ []) p ≡ Some winner
-last_of_here pairs p winner = last_of-append pairs ((p, winner) ∷ []) p
-    ∙ ap (λ o. option_or o (last_of pairs p)) at
-  where
-    at : last_of ((p, winner) ∷ []) p ≡ Some winner
-    at = rw (eq-eqb p p refl) refl
-
--- and for no other
-pub last_of_other : (pairs : List (ℕ × ℕ)) (p q winner : ℕ) → q ≢ p
-    → last_of (pairs ++ (p, winner) ∷ []) q ≡ last_of pairs q
-last_of_other pairs p q winner other = last_of-append pairs ((p, winner) ∷ []) q
-    ∙ ap (λ o. option_or o (last_of pairs q)) at
-  where
-    at : last_of ((p, winner) ∷ []) q ≡ None
-    at = rw (ne_eqb p q (λ e. other (sym e))) refl
+    mapped a b = grind arith
 
 -- what the pairs of excluded places say of one: the winner, where it is present here and taken in
 -- the loser's situation
@@ -283,9 +201,7 @@ conflicts_saved s loser winner pairs excluded = record {
     by_cases : (x y : Bool) (was : Option ℕ)
         → (if x then None else option_or (if not x && y then Some winner else None) was) ≡
         (if not x && y then Some winner else (if x then None else was))
-    by_cases true y was = refl
-    by_cases false true was = refl
-    by_cases false false was = refl
+    by_cases x y was = grind arith
 
 -- Two parses that went on from one mark: what only one of them took.
 
@@ -299,137 +215,104 @@ taken_with s more q =
     (is_on s.trail q) (is_on more q)
   where
     moved : (x y a b : Bool) → (x || (y || (a || b))) ≡ ((x || (y || a)) || b)
-    moved true y a b = refl
-    moved false true a b = refl
-    moved false false a b = refl
-
--- neither of two tests holds where one of them doesn't
-neither : (a b : Bool) → (a || b) ≡ false → a ≡ false
-neither false b e = refl
-neither true b e = e
+    moved x y a b = grind arith
 
 -- places that are present in turn are present at first
 present_at_first : (s : Situation) (places : List ℕ) → PresentInTurn s places → (n : ℕ)
     → n ≤ length places → (q : ℕ) → is_on (take n places) q ≡ true → is_taken s q ≡ false
-present_at_first s places turns zero within q on = absurd (true≢false (sym on))
+present_at_first s places turns zero within q on = cc
 present_at_first s places turns (suc n) within q on =
     let p = slice_index places n in
     let next : take (suc n) places ≡ take n places ++ p ∷ [] = ap (λ k. take k places)
     (sym (add-one n)) ∙ take_more places n 0 (omega arith) in
-    let either : (is_on (take n places) q || (p == q)) ≡ true = sym
-    (ap (λ ps. is_on ps q) next ∙ is_on_push (take n places) p q) ∙ on in
     ⊎_elim
-    (λ (at : q ≡ p). ap (is_taken s) at
-    ∙ neither (is_taken s p) (is_on (take n places) p)
-    (sym (taken_with s (take n places) p) ∙ turns n (omega arith)))
+    (λ (at : q ≡ p). ap (is_taken s) at ∙ (or_parts (is_taken s p) (is_on (take n places) p)
+    (sym (taken_with s (take n places) p) ∙ turns n (omega arith))).0)
     (λ (other : q ≢ p). present_at_first s places turns n (omega arith) q
-    (first_of (is_on (take n places) q) (p == q) (ne_eqb p q (λ e. other (sym e))) either))
+    (sym (on_others (take n places) p q other) ∙ (ap (λ ps. is_on ps q) (sym next) ∙ on)))
     (cases_eq q p)
   where
-    first_of : (a b : Bool) → b ≡ false → (a || b) ≡ true → a ≡ true
-    first_of true b e f = refl
-    first_of false b e f = absurd (true≢false (sym f ∙ e))
+    or_parts : (a b : Bool) → (a || b) ≡ false → (a ≡ false) × (b ≡ false)
+    or_parts a b e = grind arith
 
 -- all of them are
 present_all : (s : Situation) (places : List ℕ) → PresentInTurn s places → (q : ℕ)
     → is_on places q ≡ true → is_taken s q ≡ false
 present_all s places turns q on =
-    let whole : take (length places) places ≡ places = take_all (length places) places (omega arith)
-    in
     present_at_first s places turns (length places) (omega arith) q
-    (ap (λ ps. is_on ps q) whole ∙ on)
+    (ap (λ ps. is_on ps q) (take_all (length places) places (omega arith)) ∙ on)
+
+-- two tests that each add one to a third agree, where neither adds what the other doesn't
+same_in : (base a b : Bool) → (a && not b) ≡ false → (b && not a) ≡ false
+    → (base || a) ≡ (base || b)
+same_in base a b e f = grind arith
+
+-- and where one adds what the other doesn't to what the third lacks, it holds alone
+alone_in : (base a b : Bool) → (a ≡ true → base ≡ false) → (a && not b) ≡ true
+    → ((base || a) ≡ true) × ((base || b) ≡ false)
+alone_in base a b free e = grind arith
 
 module _ (s : Situation) (mark : Mark) (steps : Changes) where
+  -- the places taken here since the mark
+  abbrev own : List ℕ
+  own = drop mark.taken s.trail
+
+  -- the situation to which the steps lead from there
+  abbrev other : Situation
+  other = redone steps (undone mark s)
+
   -- what is taken here was taken up to the mark, or since
-  taken_own : (q : ℕ) → is_taken s q ≡
-      (is_taken (undone mark s) q || is_on (drop mark.taken s.trail) q)
+  taken_own : (q : ℕ) → is_taken s q ≡ (is_taken (undone mark s) q || is_on own q)
   taken_own q =
       ap (λ trail. is_taken (with_trail s trail) q) (sym (take-append-drop mark.taken s.trail))
-      ∙ taken_with (undone mark s) (drop mark.taken s.trail) q
+      ∙ taken_with (undone mark s) own q
 
   -- what is taken there was taken up to the mark, or by the steps
-  taken_there : (q : ℕ) → is_taken (redone steps (undone mark s)) q ≡
-      (is_taken (undone mark s) q || is_on steps.taken q)
+  taken_there : (q : ℕ) → is_taken other q ≡ (is_taken (undone mark s) q || is_on steps.taken q)
   taken_there q = taken_with (undone mark s) steps.taken q
 
   -- a place that is present here is taken there where the steps took it
   pub excluded_there : (winner p : ℕ)
-      → (if not (is_taken s p) && is_on steps.taken p then Some winner else None) ≡ excluded_at s
-      (redone steps (undone mark s)) winner p
+      → (if not (is_taken s p) && is_on steps.taken p then Some winner else None)
+      ≡ excluded_at s other winner p
   excluded_there winner p =
       ap (λ b. if b then Some winner else None)
-      (either_way (is_taken s p) (is_taken (undone mark s) p) (is_on (drop mark.taken s.trail) p)
-      (is_on steps.taken p) (taken_own p)
-      ∙ ap (λ b. not (is_taken s p) && b) (sym (taken_there p)))
+      (either_way (is_taken s p) (is_taken (undone mark s) p) (is_on own p) (is_on steps.taken p)
+      (is_taken other p) (taken_own p) (taken_there p))
     where
-      either_way : (x base mine theirs : Bool) → x ≡ (base || mine)
-          → (not x && theirs) ≡ (not x && (base || theirs))
-      either_way true base mine theirs e = refl
-      either_way false false mine theirs e = refl
-      either_way false true mine theirs e = absurd (true≢false (sym e))
+      either_way : (x base mine theirs y : Bool) → x ≡ (base || mine) → y ≡ (base || theirs)
+          → (not x && theirs) ≡ (not x && y)
+      either_way x base mine theirs y e f = grind arith
 
-  module _ (turns : PresentInTurn (undone mark s) (drop mark.taken s.trail))
-      (redo : CanRedo steps (undone mark s)) where
+  module _ (turns : PresentInTurn (undone mark s) own) (redo : CanRedo steps (undone mark s)) where
     -- where both took the same it is taken in both or in none
-    same_both : (q : ℕ) → is_in_first (drop mark.taken s.trail) steps.taken q ≡ false
-        → is_in_first steps.taken (drop mark.taken s.trail) q ≡ false
-        → is_taken s q ≡ is_taken (redone steps (undone mark s)) q
+    same_both : (q : ℕ) → is_in_first own steps.taken q ≡ false
+        → is_in_first steps.taken own q ≡ false → is_taken s q ≡ is_taken other q
     same_both q mine theirs =
-        taken_own q ∙ (same_in (is_taken (undone mark s) q) (is_on (drop mark.taken s.trail) q)
-        (is_on steps.taken q) mine theirs ∙ sym (taken_there q))
-      where
-        same_in : (base a b : Bool) → (a && not b) ≡ false → (b && not a) ≡ false
-            → (base || a) ≡ (base || b)
-        same_in base true true e f = refl
-        same_in base false false e f = refl
-        same_in base true false e f = absurd (true≢false e)
-        same_in base false true e f = absurd (true≢false f)
+        taken_own q ∙ (same_in (is_taken (undone mark s) q) (is_on own q) (is_on steps.taken q)
+        mine theirs ∙ sym (taken_there q))
 
-    -- what only one of two trails from there has is taken with it alone
-    only_one : (own others : List ℕ) → PresentInTurn (undone mark s) own → (q : ℕ)
-        → is_in_first own others q ≡ true → ((is_taken (undone mark s) q || is_on own q) ≡ true)
-        × ((is_taken (undone mark s) q || is_on others q) ≡ false)
-    only_one own others turn q alone =
-        let parts = and_parts (is_on own q) (not (is_on others q)) alone in
-        let free = present_all (undone mark s) own turn q parts.0 in (
-          or_right (is_taken (undone mark s) q) (is_on own q) parts.0,
-          or_from (is_taken (undone mark s) q) (is_on others q) free
-              (not-true (is_on others q) parts.1),
-        )
-
-    -- what only this one took is taken in it alone
-    only_here : (q : ℕ) → is_in_first (drop mark.taken s.trail) steps.taken q ≡ true
-        → (is_taken s q ≡ true) × (is_taken (redone steps (undone mark s)) q ≡ false)
-    only_here q alone =
-        let parts = only_one (drop mark.taken s.trail) steps.taken turns q alone in
-        (taken_own q ∙ parts.0, taken_there q ∙ parts.1)
-
-    -- what only the steps took is taken there alone
-    only_there : (q : ℕ) → is_in_first steps.taken (drop mark.taken s.trail) q ≡ true
-        → (is_taken s q ≡ false) × (is_taken (redone steps (undone mark s)) q ≡ true)
-    only_there q alone =
-        let parts = only_one steps.taken (drop mark.taken s.trail) redo.present q alone in
-        (taken_own q ∙ parts.1, taken_there q ∙ parts.0)
-
-    -- the leftmost is the leftmost of the first of either's own places
-    leftmost_here : (p : ℕ) → is_in_first (drop mark.taken s.trail) steps.taken p ≡ true
-        → ((q : ℕ) → q < p → is_taken s q ≡ is_taken (redone steps (undone mark s)) q)
-        → IsWinner s (redone steps (undone mark s)) (true, Some p)
+    -- the first place that only this one took is the leftmost, where both took the same before it
+    leftmost_here : (p : ℕ) → is_in_first own steps.taken p ≡ true
+        → ((q : ℕ) → q < p → is_taken s q ≡ is_taken other q) → IsWinner s other (true, Some p)
     leftmost_here p alone before =
-        let parts = only_here p alone in
-        (record { differs = parts.0 ∙ sym (ap not parts.1); first = before }, parts.0)
+        let parts = alone_in (is_taken (undone mark s) p) (is_on own p) (is_on steps.taken p)
+        (present_all (undone mark s) own turns p) alone in
+        let here : is_taken s p ≡ true = taken_own p ∙ parts.0 in
+        (record { differs = here ∙ sym (ap not (taken_there p ∙ parts.1)); first = before }, here)
 
-    leftmost_there : (p : ℕ) → is_in_first steps.taken (drop mark.taken s.trail) p ≡ true
-        → ((q : ℕ) → q < p → is_taken s q ≡ is_taken (redone steps (undone mark s)) q)
-        → IsWinner s (redone steps (undone mark s)) (false, Some p)
+    -- and so is one that only the steps took
+    leftmost_there : (p : ℕ) → is_in_first steps.taken own p ≡ true
+        → ((q : ℕ) → q < p → is_taken s q ≡ is_taken other q) → IsWinner s other (false, Some p)
     leftmost_there p alone before =
-        let parts = only_there p alone in
-        (record { differs = parts.0 ∙ sym (ap not parts.1); first = before }, parts.0)
+        let parts = alone_in (is_taken (undone mark s) p) (is_on steps.taken p) (is_on own p)
+        (present_all (undone mark s) steps.taken redo.present p) alone in
+        let here : is_taken s p ≡ false = taken_own p ∙ parts.1 in
+        (record { differs = here ∙ sym (ap not (taken_there p ∙ parts.0)); first = before }, here)
 
-    pub winner_is : (a b : Option ℕ)
-        → IsLeastIn (is_in_first (drop mark.taken s.trail) steps.taken) a
-        → IsLeastIn (is_in_first steps.taken (drop mark.taken s.trail)) b
-        → IsWinner s (redone steps (undone mark s)) (leftmost_of a b)
+    -- the winner is the lesser of the two places that only one took
+    pub winner_is : (a b : Option ℕ) → IsLeastIn (is_in_first own steps.taken) a
+        → IsLeastIn (is_in_first steps.taken own) b → IsWinner s other (leftmost_of a b)
     winner_is None None mine theirs = (λ q. same_both q (mine q) (theirs q), refl)
     winner_is (Some p) None mine theirs = leftmost_here p mine.0
         (λ q below. same_both q (mine.1 q below) (theirs q))
@@ -437,79 +320,59 @@ module _ (s : Situation) (mark : Mark) (steps : Changes) where
         (λ q below. same_both q (mine q) (theirs.1 q below))
     winner_is (Some p) (Some r) mine theirs = by_order (nat_lt p r) refl
       where
-        by_order : (b : Bool) → nat_lt p r ≡ b → IsWinner s (redone steps (undone mark s))
-            (if b then (true, Some p) else (false, Some r))
+        by_order : (b : Bool) → nat_lt p r ≡ b
+            → IsWinner s other (if b then (true, Some p) else (false, Some r))
         by_order true e = let order : p < r = ltb-true p r e in leftmost_here p mine.0
             (λ q below. same_both q (mine.1 q below) (theirs.1 q (omega arith)))
         by_order false e = let order : r ≤ p = ltb-false p r e in leftmost_there r theirs.0
             (λ q below. same_both q (mine.1 q (omega arith)) (theirs.1 q below))
 
 -- the bits tell what own places and the others' are
-pub record AreApart (words own theirs : List ℕ) : Type 0 where
-  pub own_within : AreWithin words own
-  pub within : AreWithin words theirs
-  pub set : (q : ℕ) → is_on own q ≡ true → has_bit words q ≡ true
-  pub clear : (q : ℕ) → is_on theirs q ≡ true → is_on own q ≡ false → has_bit words q ≡ false
+pub record AreApart (words mine theirs : List ℕ) : Type 0 where
+  pub own : AreWithin words mine
+  pub others : AreWithin words theirs
+  pub set : (q : ℕ) → is_on mine q ≡ true → has_bit words q ≡ true
+  pub clear : (q : ℕ) → is_on theirs q ≡ true → is_on mine q ≡ false → has_bit words q ≡ false
 
-module _ (i : Inside) (s : Situation) (mark : Mark) (steps : Changes) (sound : IsSound i)
-    (view : situation_of i ≡ s) (reached : HasReached mark s) (redo : CanRedo steps (undone mark s))
-  where
-    -- each place since the mark was present there in its turn
-    turns : PresentInTurn (undone mark s) (drop mark.taken s.trail)
-    turns = (can_redo mark s reached (subst TakenInTurn view sound.in_turn)
-        (subst (λ t. t.start ≤ t.end) view sound.ordered)
-        (subst (λ t. t.end ≤ length t.context.line) view sound.inside)).present
+module _ (i : Inside) (s : Situation) (mark : Mark) (steps : Changes) (sound : IsSoundAt i s)
+    (reached : HasReached mark s) (redo : CanRedo steps (undone mark s)) where
+  -- each place since the mark was present there in its turn
+  turns : PresentInTurn (undone mark s) (drop mark.taken s.trail)
+  turns = (can_redo mark s reached sound.in_turn sound.ordered sound.inside).present
 
-    -- the bits are those of the situation
-    bits : BitsOf s i.words.items
-    bits = subst (λ t. BitsOf t i.words.items) view sound.bits
-
-    -- a place that is present at the mark has a bit
-    in_words : (q : ℕ) → is_taken (undone mark s) q ≡ false → q < 64 * length i.words.items
-    in_words q free = omega (
-      arith,
-      present_in_line (undone mark s) q free,
-      ap (λ t. length t.context.line) view,
-      sound.worded,
-    )
-
+  module _ (own theirs : List ℕ) (same_own : own ≡ drop mark.taken s.trail)
+      (same_theirs : theirs ≡ steps.taken) where
     -- the bits tell the places since the mark and those of the steps
-    apart : AreApart i.words.items (drop mark.taken s.trail) steps.taken
-    apart = record {
-      own_within = λ q on. in_words q
-          (present_all (undone mark s) (drop mark.taken s.trail) turns q on);
-      within = λ q on. in_words q (present_all (undone mark s) steps.taken redo.present q on);
-      set = λ q on.
-          let free = present_all (undone mark s) (drop mark.taken s.trail) turns q on in
-          bits q (present_in_line (undone mark s) q free)
-          ∙ (taken_own s mark steps q ∙ or_right (is_taken (undone mark s) q) _ on);
-      clear = λ q on off.
-          let free = present_all (undone mark s) steps.taken redo.present q on in
-          bits q (present_in_line (undone mark s) q free)
-          ∙ (taken_own s mark steps q ∙ by_none (is_taken (undone mark s) q) _ free off);
-    }
+    pub apart_as : (words : List ℕ) → words ≡ i.words.items → AreApart words own theirs
+    apart_as words same = rw (same, same_own, same_theirs) (record {
+      own = λ q on. in_words q (mine q on);
+      others = λ q on. in_words q (theirs_free q on);
+      set = λ q on. in_bits q (mine q on) ∙ or_right (is_taken (undone mark s) q) _ on;
+      clear = λ q on off. in_bits q (theirs_free q on)
+          ∙ (ap (λ b. b || is_on (drop mark.taken s.trail) q) (theirs_free q on) ∙ off);
+    })
       where
-        by_none : (a b : Bool) → a ≡ false → b ≡ false → (a || b) ≡ false
-        by_none false b e f = f
-        by_none true b e f = e
+        mine : (q : ℕ) → is_on (drop mark.taken s.trail) q ≡ true
+            → is_taken (undone mark s) q ≡ false
+        mine = present_all (undone mark s) (drop mark.taken s.trail) turns
 
-    -- also where they are known by other names
-    pub apart_as : (words own theirs : List ℕ) → words ≡ i.words.items
-        → own ≡ drop mark.taken s.trail → theirs ≡ steps.taken → AreApart words own theirs
-    apart_as words own theirs same_words same_own same_theirs =
-        rw (same_words, same_own, same_theirs) apart
+        theirs_free : (q : ℕ) → is_on steps.taken q ≡ true → is_taken (undone mark s) q ≡ false
+        theirs_free = present_all (undone mark s) steps.taken redo.present
+
+        in_words : (q : ℕ) → is_taken (undone mark s) q ≡ false → q < 64 * length i.words.items
+        in_words q free = omega (arith, present_in_line (undone mark s) q free, sound.worded)
+
+        in_bits : (q : ℕ) → is_taken (undone mark s) q ≡ false → has_bit i.words.items q
+            ≡ (is_taken (undone mark s) q || is_on (drop mark.taken s.trail) q)
+        in_bits q free = sound.bits q (present_in_line (undone mark s) q free)
+            ∙ taken_own s mark steps q
 
     -- and the first of either tells the winner
-    pub winner_as : (own theirs : List ℕ) → own ≡ drop mark.taken s.trail → theirs ≡ steps.taken
-        → (a b : Option ℕ) → IsLeastIn (is_in_first own theirs) a
+    pub winner_as : (a b : Option ℕ) → IsLeastIn (is_in_first own theirs) a
         → IsLeastIn (is_in_first theirs own) b
         → IsWinner s (redone steps (undone mark s)) (leftmost_of a b)
-    winner_as own theirs same_own same_theirs a b mine other =
-        winner_is s mark steps turns redo a b
-        (subst (λ ps. IsLeastIn (is_in_first (drop mark.taken s.trail) ps) a) same_theirs
-        (subst (λ ps. IsLeastIn (is_in_first ps theirs) a) same_own mine))
-        (subst (λ ps. IsLeastIn (is_in_first ps (drop mark.taken s.trail)) b) same_theirs
-        (subst (λ ps. IsLeastIn (is_in_first theirs ps) b) same_own other))
+    winner_as a b mine other = winner_is s mark steps turns redo a b
+        (rw (same_own, same_theirs) at mine) (rw (same_own, same_theirs) at other)
 
 -- what follows from what holds where there is a value holds there too
 pub where_ok : {T E A B : Type 0} (r : Result T E) → (A → B) → OnOk r A → OnOk r B
@@ -520,34 +383,3 @@ where_ok (Err e) follows a = tt
 abbrev pub PairsOf : Situation → ℕ → List ℕ → List (ℕ × ℕ) → Type 0
 PairsOf s winner places pairs = (p : ℕ)
     → last_of pairs p ≡ (if not (is_taken s p) && is_on places p then Some winner else None)
-
--- a present place more has its pair
-pub pairs_more : (s : Situation) (winner : ℕ) (places : List ℕ) (pairs : List (ℕ × ℕ)) (n : ℕ)
-    → PairsOf s winner places pairs → is_taken s n ≡ false
-    → PairsOf s winner (places ++ n ∷ []) (pairs ++ (n, winner) ∷ [])
-pairs_more s winner places pairs n h free p = ⊎_elim
-    (λ (at : p ≡ n). subst (λ q. last_of (pairs ++ (n, winner) ∷ []) q ≡
-    (if not (is_taken s q) && is_on (places ++ n ∷ []) q then Some winner else None)) (sym at)
-    (last_of_here pairs n winner ∙ sym
-    (ap (λ b. if not b && is_on (places ++ n ∷ []) n then Some winner else None) free
-    ∙ ap (λ b. if b then Some winner else None)
-    (is_on_push places n n ∙ or_right (is_on places n) _ (eq-eqb n n refl)))))
-    (λ (other : p ≢ n). last_of_other pairs n p winner other
-    ∙ (h p ∙ ap (λ b. if not (is_taken s p) && b then Some winner else None)
-    (sym (on_others places n p other)))) (cases_eq p n)
-
--- and a taken one has none
-pub pairs_not : (s : Situation) (winner : ℕ) (places : List ℕ) (pairs : List (ℕ × ℕ)) (n : ℕ)
-    → PairsOf s winner places pairs → is_taken s n ≡ true
-    → PairsOf s winner (places ++ n ∷ []) pairs
-pairs_not s winner places pairs n h taken p = ⊎_elim
-    (λ (at : p ≡ n).
-    let none = taken_one p (ap (is_taken s) at ∙ taken) in
-    h p ∙ (none (is_on places p) ∙ sym (none (is_on (places ++ n ∷ []) p))))
-    (λ (other : p ≢ n). h p ∙ ap (λ b. if not (is_taken s p) && b then Some winner else None)
-    (sym (on_others places n p other)))
-    (cases_eq p n)
-  where
-    taken_one : (q : ℕ) → is_taken s q ≡ true → (b : Bool)
-        → (if not (is_taken s q) && b then Some winner else None) ≡ None
-    taken_one q e b = ap (λ t. if not t && b then Some winner else None) e

@@ -1,27 +1,36 @@
--- Places: what a place changes that is put on the trail, or taken off it, and which present one is
--- the first that passes a test. The layers above cite the lemmas on a place that is taken.
+-- Places: what a place changes that is put on the trail, or taken off it, which present one is the
+-- first that passes a test, and which is the first key or word along the chains of those. The
+-- layers above cite the lemmas on a place that is taken.
 use Rattle.std.proofs.Common.{◌≡◌, ◌≢◌, ℕ, zero, suc, ◌+◌, ◌-◌, ◌<◌, ◌≤◌, Bool, true, false, not}
 use Rattle.std.proofs.Common.{◌&&◌, ◌||◌, [], ◌∷◌, ◌++◌, length, take, refl, ap, sym, ◌∙◌, subst}
 use Rattle.std.proofs.Common.{arith, if◌then◌else◌, ⊎_elim, nat_lt, slice_index, add-one, min, List}
-use Rattle.std.proofs.Common.{Option, Some, None, option_and_then, slice_get, get_or, find, ◌⊎◌}
-use Rattle.std.proofs.Common.{inl, inr}
+use Rattle.std.proofs.Common.{Option, Some, None, option_and_then, slice_get, get_or, find, nat_le}
 use Rattle.std.proofs.lemmas.Bool.{cases_lt, cases_eq, eq-eqb, or_right, and_left, and_right}
-use Rattle.std.proofs.lemmas.Bool.{and_from, and_parts, not-true, cases_Bool, true≢false, le-leb}
-use Rattle.std.proofs.lemmas.Bool.{lt-ltb}
+use Rattle.std.proofs.lemmas.Bool.{and_from, and_parts, not-true, cases_Bool, true≢false, ltb-true}
+use Rattle.std.proofs.lemmas.Bool.{ltb-false, le-ltb, lt-leb}
 use Rattle.std.proofs.lemmas.List.{take_at, take-take, take-append-le, get_or_push}
 use Rattle.std.proofs.lemmas.List.{get_or_append_left, get_or-take, length_push, length-take-le}
-use Rattle.std.proofs.lemmas.List.{take_more, take_all}
-use Rattle.std.proofs.{lemmas.Bool.Decides.nat_tests, lemmas.Option.slice_get-get_or}
-use Rattle.std.specs.{Int.from_bool, Option.option_map_or, List.range_with_len, Prelude.cond}
 use Rattle.bpaf_line.specs.Situation.{Situation, is_on, is_taken, is_marker, in_scope, is_open}
 use Rattle.bpaf_line.specs.Situation.{count_below, open_count, take_place, with_trail, cut_to}
 use Rattle.bpaf_line.specs.Situation.{TakenInTurn, IsFirstPresent, item_at, IsNextOpen, HasNoneOpen}
-use Rattle.bpaf_line.specs.Situation.{first_present, IsFirstPresentWithin}
-use Rattle.bpaf_line.specs.Taking.{is_match, open_item, value_after, open_items_from}
+use Rattle.bpaf_line.specs.Situation.{first_present, IsFirstPresentWithin, AreTaken}
+use Rattle.bpaf_line.specs.Taking.{is_match, open_item, value_after, open_items_from, HasNoneBefore}
+use Rattle.bpaf_line.specs.Taking.{IsFirstAmong, IsFirstAlong, HasNone, IsFirst}
 use Rattle.bpaf_index.proofs.BitSets.{count_below-same, count_below-fewer, count_below-some}
 use Rattle.bpaf_index.proofs.BitSets.{is_on_push, on_others, count_below-most}
-use Rattle.bpaf_base.specs.Items.{value_text, any_item}
-use Rattle.bpaf_base.specs.{declared.arg.Arg.TheVariants.ArgWord, declared.arg.Arg.Arg}
+use Rattle.bpaf_base.specs.Items.{value_text, any_item, is_key_of, is_argument_key, is_positional}
+use Rattle.bpaf_base.specs.declared.arg.Arg.TheVariants.{ArgWord, Word, PosWord}
+use Rattle.bpaf_index.specs.Chained.{Chained, names_of, IsChainStart, IsChainStartOf, HasWalked}
+use Rattle.std.proofs.{Common.MatchOption, lemmas.List.take_more, lemmas.List.take_all}
+use Rattle.std.proofs.{lemmas.Bool.Decides.nat_tests, lemmas.Option.slice_get-get_or}
+use Rattle.std.proofs.lemmas.List.Folds.{list_any-append}
+use Rattle.bpaf_index.specs.{Chained.HasNoKeyFrom, Chained.class_of, Bits.IsFirstWith}
+use Rattle.bpaf_index.proofs.Chained.{same_class, early_set}
+use Rattle.std.specs.{Int.from_bool, Option.option_map_or, List.range_with_len, Prelude.cond}
+use Rattle.std.specs.Bool.{then_some}
+use Rattle.bpaf_base.specs.declared.arg.Arg.{Arg}
+use Rattle.bpaf_doc.specs.Names.{Names}
+use Rattle.bpaf_line.specs.Inside.{AreChainsOf}
 
 -- a present place of the scope lies in the scope
 pub open_in_scope : (s : Situation) (p : ℕ) → is_open s p ≡ true → (s.start ≤ p) × (p < s.end)
@@ -68,17 +77,18 @@ open_count-put s p free = by_scope (in_scope s p) refl
     closed : is_open (put s p) p ≡ false
     closed = and_right (in_scope s p) _ (ap not (put_here s p))
 
+    same_all : (f g : ℕ → Bool) (q : ℕ) → f p ≡ false → g p ≡ false → (q ≢ p → f q ≡ g q)
+        → g q ≡ f q
+    same_all f g q lacks lacking other = grind arith
+
     by_scope : (b : Bool) → in_scope s p ≡ b → open_count (put s p) + from_bool b ≡ open_count s
     by_scope true e =
         count_below-fewer (is_open s) (is_open (put s p)) (length s.context.line) p
         (present_in_line s p free) (and_from (in_scope s p) _ e (ap not free)) closed same_open
     by_scope false e =
-        let same : open_count (put s p) ≡ open_count s = count_below-same (is_open (put s p))
-        (is_open s) (length s.context.line) (λ q _. ⊎_elim
-        (λ (at : q ≡ p). subst (λ x. is_open (put s p) x ≡ is_open s x) (sym at)
-        (closed ∙ sym (and_left (in_scope s p) _ e)))
-        (λ (other : q ≢ p). sym (same_open q other))
-        (cases_eq q p)) in
+        let same = count_below-same (is_open (put s p)) (is_open s) (length s.context.line)
+        (λ q _. same_all (is_open s) (is_open (put s p)) q (and_left (in_scope s p) _ e) closed
+        (same_open q)) in
         omega arith
 
 -- each place of a longer trail was present in its turn, where those of the old one were, and the
@@ -155,42 +165,22 @@ in_turn_cut s n turns inside k within =
     rw (take-take k n s.trail (omega arith), get_or-take n s.trail k 0 below)
     (turns k (omega arith))
 
--- what isn't taken with one place more isn't taken without it
-pub present_still : (s : Situation) (p q : ℕ) → is_taken (put s p) q ≡ false → is_taken s q ≡ false
-present_still s p q free = ⊎_elim
-    (λ (taken : is_taken s q ≡ true). absurd (true≢false (sym (put_stays s p q taken) ∙ free)))
-    (λ (present : is_taken s q ≡ false). present) (cases_Bool (is_taken s q))
-
 -- without the place that was put, the first present one is it or the old one
 pub first_without : (s : Situation) (p first : ℕ) → IsFirstPresent (put s p) first
     → is_taken s p ≡ false → IsFirstPresent s (if in_scope s p then min first p else first)
-first_without s p first old free = by_scope (in_scope s p) refl
+first_without s p first old free =
+    earlier (is_taken s) (is_taken (put s p)) (put_here s p) (put_other s p) free s.start s.end old
   where
-    by_scope : (b : Bool) → in_scope s p ≡ b → IsFirstPresent s (if b then min first p else first)
-    by_scope true e =
-        let inside : (s.start ≤ p) × (p < s.end) = grind (arith, nat_tests) in
-        record {
-          from = omega (arith, old.from);
-          within = omega (arith, inside);
-          present = λ below. ⊎_elim
-              (λ (before : first < p). let at : min first p ≡ first = omega arith in rw at
-              (present_still s p first (old.present (omega arith))))
-              (λ (behind : p ≤ first). let at : min first p ≡ p = omega arith in rw at free)
-              (cases_lt first p);
-          passed = λ q lower upper. sym (put_other s p q (λ at. absurd (omega arith)))
-              ∙ old.passed q lower (omega arith);
-        }
-    by_scope false e = record {
-      from = old.from;
-      within = old.within;
-      present = λ below. present_still s p first (old.present below);
-      passed = λ q lower upper. sym (put_other s p q
-          (λ at. absurd (true≢false (sym (in_it q lower (omega (arith, old.within)))
-          ∙ (ap (in_scope s) at ∙ e))))) ∙ old.passed q lower upper;
+    earlier : (f g : ℕ → Bool) → g p ≡ true → ((q : ℕ) → q ≢ p → g q ≡ f q) → f p ≡ false
+        → (low high : ℕ) → IsFirstWith g false low high first
+        → IsFirstWith f false low high
+        (if nat_le low p && nat_lt p high then min first p else first)
+    earlier f g here others free low high old = record {
+      from = grind (arith, nat_tests, old.from);
+      within = grind (arith, nat_tests, old.within);
+      present = grind (arith, nat_tests, old.within, old.present, others first, here);
+      passed = λ q lower upper. grind (arith, nat_tests, old.within, old.passed q lower, others q);
     }
-      where
-        in_it : (q : ℕ) → s.start ≤ q → q < s.end → in_scope s q ≡ true
-        in_it q lower upper = and_from _ _ (le-leb s.start q lower) (lt-ltb q s.end upper)
 
 -- a place that was taken is taken
 pub taken_here : (s : Situation) (p : ℕ) → is_taken (take_place s p) p ≡ true
@@ -212,15 +202,13 @@ open_item_there s p item there = of_test (is_open s p) (item_at s p) there
   where
     of_test : (b : Bool) (at : Option Arg) → (if b then at else None) ≡ Some item
         → (b ≡ true) × (at ≡ Some item)
-    of_test true at e = (refl, e)
-    of_test false at e = cc
+    of_test b at e = grind arith
 
 module _ (test : Arg → Bool) (s : Situation) (p : ℕ) (matches : is_match test s p ≡ true) where
   -- both hold where an item under a condition passes the test
   both_of : (b : Bool) (at : Option Arg) → option_map_or test (if b then at else None) false ≡ true
       → (b ≡ true) × (option_map_or test at false ≡ true)
-  both_of true at e = (refl, e)
-  both_of false at e = cc
+  both_of b at e = grind arith
 
   -- a match is present, and in scope
   pub match_is_open : is_open s p ≡ true
@@ -233,24 +221,15 @@ module _ (test : Arg → Bool) (s : Situation) (p : ℕ) (matches : is_match tes
 -- a place that is present and in scope has an item
 pub open_has_item : (s : Situation) (p : ℕ) → is_open s p ≡ true → is_match any_item s p ≡ true
 open_has_item s p there =
-    has (is_open s p) (is_marker s.context.marker p) there
-    (not_marker (nat_lt p (length s.context.line)) (is_marker s.context.marker p)
-    (is_on s.trail p) (open_not_taken s p there))
+    has (is_open s p) (nat_lt p (length s.context.line)) (is_marker s.context.marker p)
+    (is_on s.trail p) there (open_not_taken s p there)
     (slice_get s.context.line p) (get_or s.context.line p (ArgWord []))
     (slice_get-get_or s.context.line p (ArgWord []) (open_in_line s p there))
   where
-    not_marker : (within marker on : Bool) → (not within || (marker || on)) ≡ false → marker ≡ false
-    not_marker within false on e = refl
-    not_marker true true on e = cc
-    not_marker false true on e = cc
-
-    has : (b marker : Bool) → b ≡ true → marker ≡ false → (at : Option Arg) (item : Arg)
-        → at ≡ Some item
+    has : (b within marker on : Bool) → b ≡ true → (not within || (marker || on)) ≡ false
+        → (at : Option Arg) (item : Arg) → at ≡ Some item
         → option_map_or any_item (if b then (if marker then None else at) else None) false ≡ true
-    has true false e f (Some x) item at = refl
-    has true false e f None item at = cc
-    has true true e f at item is = cc
-    has false marker e f at item is = cc
+    has b within marker on e free at item is = grind arith
 
 -- the place behind a key with a value is present and in scope, and has this text
 pub value_is_open : (s : Situation) (p : ℕ) (text : List ℕ) → value_after s p ≡ Some text
@@ -260,8 +239,7 @@ value_is_open s p text value = of_test (is_open s (p + 1)) (item_at s (p + 1)) v
     of_test : (b : Bool) (at : Option Arg)
         → option_and_then value_text (if b then at else None) ≡ Some text
         → (b ≡ true) × (option_and_then value_text at ≡ Some text)
-    of_test true at e = (refl, e)
-    of_test false at e = cc
+    of_test b at e = grind arith
 
 -- a place that is open is the first of those from it on
 pub items_from : (s : Situation) (p : ℕ) (item : Arg) → p < length s.context.line
@@ -332,25 +310,10 @@ first_found : (test : ℕ → Bool) (n low p : ℕ) → low ≤ p → p < low + 
     → ((q : ℕ) → low ≤ q → q < p → test q ≡ false) → find test (range_with_len low n) ≡ Some p
 first_found test zero low p from within passes fails = absurd (omega arith)
 first_found test (suc n) low p from within passes fails =
-    by_first (test low) refl
-    (λ above. first_found test n (low + 1) p above (omega arith) passes
-    (λ q later before. fails q (omega arith) before))
-  where
-    by_first : (here : Bool) → test low ≡ here
-        → (low + 1 ≤ p → find test (range_with_len (low + 1) n) ≡ Some p)
-        → cond here (Some low) (find test (range_with_len (low + 1) n)) ≡ Some p
-    by_first true is later = ap Some (is_low (cases_lt low p))
-      where
-        is_low : (low < p) ⊎ (p ≤ low) → low ≡ p
-        is_low (inl below) = absurd (true≢false (sym is ∙ fails low (omega arith) below))
-        is_low (inr past) = omega arith
-    by_first false is later = later (behind (cases_lt low p))
-      where
-        behind : (low < p) ⊎ (p ≤ low) → low + 1 ≤ p
-        behind (inl below) = omega arith
-        behind (inr past) =
-            let same : p ≡ low = omega arith in
-            absurd (true≢false (sym passes ∙ ap test same ∙ is))
+    let later = λ (above : low + 1 ≤ p). first_found test n (low + 1) p above (omega arith) passes
+    (λ q from before. fails q (omega arith) before) in
+    let here = fails low (omega arith) in
+    grind arith
 
 -- a place that isn't below the line's end is taken
 taken_past : (s : Situation) (q : ℕ) → length s.context.line ≤ q → is_taken s q ≡ true
@@ -361,12 +324,8 @@ pub none_present : (s : Situation) (low high top : ℕ) → top ≡ min high (le
     → ((q : ℕ) → low ≤ q → q < top → is_taken s q ≡ true) → first_present s low high ≡ None
 none_present s low high top is taken =
     none_found (λ q. not (is_taken s q)) (high - low) low
-    (λ q from within. ap not (by_end q from within (cases_lt q top)))
-  where
-    by_end : (q : ℕ) → low ≤ q → q < low + (high - low) → (q < top) ⊎ (top ≤ q)
-        → is_taken s q ≡ true
-    by_end q from within (inl below) = taken q from below
-    by_end q from within (inr past) = taken_past s q (omega arith)
+    (λ q from within. ap not (⊎_elim (λ (below : q < top). taken q from below)
+    (λ (past : top ≤ q). taken_past s q (omega arith)) (cases_lt q top)))
 
 -- the first present place of the line
 pub some_present : (s : Situation) (low high top p : ℕ) → top ≡ min high (length s.context.line)
@@ -374,3 +333,196 @@ pub some_present : (s : Situation) (low high top p : ℕ) → top ≡ min high (
 some_present s low high top p is below first =
     first_found (λ q. not (is_taken s q)) (high - low) low p first.from (omega arith)
     (ap not (first.present below)) (λ q from before. ap not (first.passed q from before))
+
+-- Finding: the first key with one of some names, and the first word, along the chains of those.
+
+module _ (test : Arg → Bool) (s : Situation) where
+  -- what isn't open passes no test
+  none_closed : (q : ℕ) → is_open s q ≡ false → is_match test s q ≡ false
+  none_closed q closed = ap (λ b. option_map_or test (if b then item_at s q else None) false) closed
+
+  -- nor does what is taken
+  none_taken : (q : ℕ) → is_taken s q ≡ true → is_match test s q ≡ false
+  none_taken q taken = none_closed q (and_right (in_scope s q) _ (ap not taken))
+
+  -- no item in front of the first present place of the scope passes a test
+  pub none_in_front : (p : ℕ) → IsFirstPresent s p → HasNoneBefore test s p
+  none_in_front p front q below = ⊎_elim
+      (λ (before : q < s.start).
+      none_closed q (and_left _ _ (and_left _ _ (lt-leb s.start q before))))
+      (λ (behind : s.start ≤ q). none_taken q (front.passed q behind below)) (cases_lt q s.start)
+
+  -- nor one before a place, where none passes it before another, and all between are taken
+  pub none_past_taken : (p r : ℕ) → HasNoneBefore test s p → AreTaken s p r → HasNoneBefore test s r
+  none_past_taken p r none taken q below = ⊎_elim (λ (before : q < p). none q before)
+      (λ (behind : p ≤ q). none_taken q (taken q behind below)) (cases_lt q p)
+
+  -- nor one before the next place, where none passes it up to here
+  pub none_up_to : (p : ℕ) → HasNoneBefore test s p → is_match test s p ≡ false
+      → HasNoneBefore test s (p + 1)
+  none_up_to p none here q below = ⊎_elim (λ (before : q < p). none q before)
+      (λ (behind : p ≤ q). let at : q ≡ p = omega arith in ap (is_match test s) at ∙ here)
+      (cases_lt q p)
+
+-- an open item is the one that the line has there
+item_of_line : (s : Situation) (p : ℕ) (item : Arg) → open_item s p ≡ Some item
+    → slice_get s.context.line p ≡ Some item
+item_of_line s p item there = of_test (is_marker s.context.marker p) (slice_get s.context.line p)
+    (open_item_there s p item there).1
+  where
+    of_test : (b : Bool) (at : Option Arg) → (if b then None else at) ≡ Some item → at ≡ Some item
+    of_test b at e = grind arith
+
+-- the class of an open item with the name of a key is that of the key
+class_named : (s : Situation) (chains : Chained) (key : Arg) (q : ℕ) (item : Arg)
+    → AreChainsOf s chains → q < length chains.classes → open_item s q ≡ Some item
+    → is_key_of (names_of key) item ≡ true
+    → class_of chains.names key ≡ Some (slice_index chains.classes q)
+class_named s chains key q item h inside there named =
+    sym (same_class chains.names key item named)
+    ∙ h.classes q item inside (item_of_line s q item there)
+
+-- no open item of a class stands before the beginning of its chain
+open_behind : (s : Situation) (chains : Chained) (class : Option ℕ) (start q : ℕ) (item : Arg)
+    → AreChainsOf s chains → IsChainStartOf chains class start → q < length chains.classes
+    → class ≡ Some (slice_index chains.classes q) → open_item s q ≡ Some item → start ≤ q
+open_behind s chains class start q item h begins inside at there = ⊎_elim
+    (λ (early : q < start). absurd (true≢false (sym (early_set h begins inside at early)
+    ∙ open_not_taken s q (open_item_there s q item there).0)))
+    (λ (behind : start ≤ q). behind) (cases_lt q start)
+
+-- the first along the chain from that start on is the first with the name
+first_named : (test : Arg → Bool) (s : Situation) (chains : Chained) (key : Arg)
+    (start end p : ℕ) → AreChainsOf s chains → end ≤ length chains.classes
+    → IsChainStart chains key start → IsFirstAlong test s chains.classes start end p
+    → IsFirstAmong test (names_of key) s end p
+first_named test s chains key start end p h inside begins along = record {
+  within = along.within;
+  matches = along.matches;
+  none = λ q item before there passes. ⊎_elim
+      (λ (named : is_key_of (names_of key) item ≡ true).
+      let within : q < length chains.classes = omega (arith, along.within) in
+      let class = class_named s chains key q item h within there named in
+      absurd (true≢false (sym (ap (λ found. option_map_or test found false) there ∙ passes)
+      ∙ along.none (slice_index chains.classes q) q (begins.place _ class)
+      (open_behind s chains _ start q item h begins within class there) before refl)))
+      (λ (other : is_key_of (names_of key) item ≡ false). other)
+      (cases_Bool (is_key_of (names_of key) item));
+}
+
+-- a walk along a chain that passed what doesn't match found the first, where it ends at the end
+pub first_along : (test : Arg → Bool) (s : Situation) (classes : List ℕ) (low end p q : ℕ)
+    → HasWalked classes (λ r. not (is_match test s r)) low p → q ≤ p → q ≤ end
+    → (q < end → is_match test s q ≡ true) → IsFirstAlong test s classes low end q
+first_along test s classes low end p q walked before within matches = record {
+  within = within;
+  matches = matches;
+  none = λ k r of above below mine. not-true _ (walked.passed k r of above (omega arith) mine);
+}
+
+module _ (s : Situation) (chains : Chained) (start p : ℕ) (h : AreChainsOf s chains)
+    (begins : IsChainStart chains (Word []) start)
+    (walked : HasWalked chains.classes (λ r. not (is_match is_positional s r)) start p) where
+  -- a walk along the chain of words passed no word
+  pub no_word_passed : (q : ℕ) → q < length chains.classes → q < p
+      → is_match is_positional s q ≡ false
+  no_word_passed q inside below = by_item (open_item s q) refl
+    where
+      word : (item : Arg) → open_item s q ≡ Some item → class_of chains.names item ≡ Some 0
+          → is_positional item ≡ false
+      word item there class =
+          let at = sym class ∙ h.classes q item inside (item_of_line s q item there) in
+          sym (ap (λ found. option_map_or is_positional found false) there)
+          ∙ not-true _ (walked.passed (slice_index chains.classes q) q (begins.place _ at)
+          (open_behind s chains _ start q item h begins inside at there) below refl)
+
+      by_item : (at : Option Arg) → open_item s q ≡ at
+          → option_map_or is_positional at false ≡ false
+      by_item (Some (Word text)) e = word _ e refl
+      by_item (Some (PosWord text)) e = word _ e refl
+      by_item _ e = refl
+
+-- a key with the names of two has those of one or of the other
+key_of_more : (a b : Names) (item : Arg)
+    → is_key_of (record { shorts = a.shorts ++ b.shorts; longs = a.longs ++ b.longs }) item
+    ≡ (is_key_of a item || is_key_of b item)
+key_of_more a b item = grind (arith, list_any-append {X = ℕ}, list_any-append {X = List ℕ})
+
+-- of one name more, whose chain was walked
+pub among_more : (test : Arg → Bool) (names : Names) (key : Arg) (s : Situation) (chains : Chained)
+    (start end p next : ℕ) → AreChainsOf s chains → end ≤ length chains.classes
+    → IsChainStart chains key start → IsFirstAmong test names s end p
+    → IsFirstAlong test s chains.classes start p next
+    → IsFirstAmong test (record {
+      shorts = names.shorts ++ (names_of key).shorts;
+      longs = names.longs ++ (names_of key).longs;
+    }) s end next
+among_more test names key s chains start end p next h inside begins old along =
+    let new = first_named test s chains key start p next h (omega (arith, old.within)) begins along
+    in record {
+      within = omega (arith, old.within, new.within);
+      matches = λ below. ⊎_elim
+          (λ (nearer : next < p). new.matches nearer)
+          (λ (past : p ≤ next). let at : next ≡ p = omega (arith, new.within) in
+          ap (is_match test s) at ∙ old.matches (omega arith))
+          (cases_lt next p);
+      none = λ q item before there passes. key_of_more names (names_of key) item
+          ∙ (ap (λ b. b || is_key_of (names_of key) item)
+          (old.none q item (omega (arith, new.within)) there passes)
+          ∙ new.none q item before there passes);
+    }
+
+-- what stands at a place from which on the line has no key is none
+pub no_key_there : (names : Names) (adjacent : Bool) (s : Situation) (low q : ℕ)
+    → HasNoKeyFrom s.context.line low → low ≤ q
+    → is_match (is_argument_key names adjacent) s q ≡ false
+no_key_there names adjacent s low q h above = by_item (open_item s q) refl
+  where
+    by_item : (at : Option Arg) → open_item s q ≡ at
+        → option_map_or (is_argument_key names adjacent) at false ≡ false
+    by_item None e = refl
+    by_item (Some item) e = and_left (is_key_of names item) _
+        (sym (ap (λ found. option_map_or (is_key_of names) found false) (item_of_line s q item e))
+        ∙ h.none names q above)
+
+-- no key is past the scope
+pub past_scope : (test : Arg → Bool) (s : Situation) (q : ℕ) → s.end ≤ q → is_match test s q ≡ false
+past_scope test s q past = ap (λ b. option_map_or test (if b then item_at s q else None) false)
+    (and_left (in_scope s q) _ (and_right _ _ (le-ltb q s.end past)))
+
+-- so none is from the lesser of those two places on
+pub none_past : (names : Names) (adjacent : Bool) (s : Situation) (low end q : ℕ)
+    → HasNoKeyFrom s.context.line low → end ≡ min s.end low → end ≤ q
+    → is_match (is_argument_key names adjacent) s q ≡ false
+none_past names adjacent s low end q h is past = ⊎_elim
+    (λ (before : q < s.end). no_key_there names adjacent s low q h (omega (arith, is)))
+    (λ (behind : s.end ≤ q). past_scope (is_argument_key names adjacent) s q behind)
+    (cases_lt q s.end)
+
+-- the first key of the names is the first key, where none is behind
+pub key_found : (names : Names) (adjacent : Bool) (s : Situation) (end place : ℕ)
+    (found : Option ℕ) → ((q : ℕ) → end ≤ q → is_match (is_argument_key names adjacent) s q ≡ false)
+    → IsFirstAmong (is_argument_key names adjacent) names s end place
+    → found ≡ then_some (nat_lt place end) place
+    → MatchOption found (HasNone (is_argument_key names adjacent) s)
+    (IsFirst (is_argument_key names adjacent) s)
+key_found names adjacent s end place found past_end among is =
+    rw is (by_test (nat_lt place end) refl)
+  where
+    lacks : (named fits : Bool) → ((named && fits) ≡ true → named ≡ false) → (named && fits) ≡ false
+    lacks named fits h = grind arith
+
+    none_at : (q : ℕ) → q < place → (at : Option Arg) → open_item s q ≡ at
+        → option_map_or (is_argument_key names adjacent) at false ≡ false
+    none_at q before None e = refl
+    none_at q before (Some item) e = lacks (is_key_of names item) _ (among.none q item before e)
+
+    by_test : (b : Bool) → nat_lt place end ≡ b → MatchOption (then_some b place)
+        (HasNone (is_argument_key names adjacent) s) (IsFirst (is_argument_key names adjacent) s)
+    by_test true e = record {
+      matches = among.matches (ltb-true place end e);
+      first = λ q before. none_at q before (open_item s q) refl;
+    }
+    by_test false e = λ q. ⊎_elim (λ (before : q < place). none_at q before (open_item s q) refl)
+        (λ (past : place ≤ q). past_end q (let far = ltb-false place end e in omega arith))
+        (cases_lt q place)

@@ -1,8 +1,8 @@
--- What a `State` and its `Steps` are kept as, and what they then mean: what is kept of a left
--- scope and of taken places, and the chains of the line. No contract above this crate speaks of
--- these.
-use Rattle.std.specs.Prelude.{ℕ, ◌≡◌, ◌≤◌, ◌+◌, ◌&&◌, List, [], ◌∷◌, length, nat_le, nat_lt, ◌<◌}
-use Rattle.std.specs.Prelude.{◌*◌, map, string_bytes, IfSome, slice_get, Some, vec_capacity, Option}
+-- What a `State` and its `Steps` are kept as, and what they then mean: what is kept of a left scope
+-- and of taken places, and the chains of the line. No contract above this crate speaks of these.
+use Rattle.std.specs.Prelude.{ℕ, Bool, ◌≡◌, ◌≤◌, ◌+◌, ◌&&◌, List, [], ◌∷◌, length, nat_le, nat_lt}
+use Rattle.std.specs.Prelude.{◌<◌, ◌*◌, map, string_bytes, IfSome, slice_get, Some, vec_capacity}
+use Rattle.std.specs.Prelude.{Option}
 use Rattle.std.specs.{Int.from_bool, declared.alloc.Global.Global, Option.option_map_or}
 use Rattle.std.specs.{declared.rc.RcSlice.RcSlice, Rc.rc_slice_items}
 use Rattle.bpaf_line.specs.Situation.{Situation, with_scope, cut_to, open_count, IsFirstPresent}
@@ -11,6 +11,8 @@ use Rattle.bpaf_line.specs.declared.taken.TakenPlaces.TheVariants.{Empty, One, M
 use Rattle.bpaf_line.specs.declared.mark.Steps.TheInside.{Inside as InsideSteps}
 use Rattle.bpaf_line.specs.{declared.aside.Aside.Aside, declared.taken.TakenPlaces.TakenPlaces}
 use Rattle.bpaf_line.specs.{declared.state.State.TheInside.Inside, Marks.Changes}
+use Rattle.bpaf_line.specs.declared.find.Sought.{Sought}
+use Rattle.bpaf_base.specs.{Names.Names, Items.is_argument_key, declared.arg.Arg.Arg}
 use Rattle.bpaf_index.specs.{Chained.Chained, Chained.AreBehind, Chained.HasNoKeyFrom, Bits.has_bit}
 
 -- a scope of no places
@@ -43,6 +45,14 @@ places_of (Many places) = places.items
 abbrev pub AreChainsOf : Situation → Chained → Type 0
 AreChainsOf s chains = AreBehind s.context.line (is_taken s) chains
 
+-- the names of a key that is looked for
+abbrev pub sought_names : Sought → Names
+sought_names key = record { shorts = key.shorts.now; longs = key.longs.now }
+
+-- an item is such a key
+abbrev pub is_sought : Sought → Arg → Bool
+is_sought key = is_argument_key (sought_names key) key.adjacent
+
 -- the entries of an environment that is kept where there is one
 abbrev pub shared_entries : Option (RcSlice (List ℕ × List ℕ) Global) → List (List ℕ × List ℕ)
 shared_entries env = option_map_or rc_slice_items env []
@@ -64,26 +74,30 @@ situation_of s = record {
 abbrev pub BitsOf : Situation → List ℕ → Type 0
 BitsOf s words = (p : ℕ) → p < length s.context.line → has_bit words p ≡ is_taken s p
 
--- each place has its bit, the trail has room for all places, each of which was present when it was
--- taken, the scope lies in the line, the count of the present ones and the first of them are right,
--- what is kept of a scope that was left was so there, what stands before the chains is taken, no
--- key stands from the kept place on, from there all is taken up to a place of the line, and the
--- path begins with the set name
-pub record IsSound (s : Inside) : Type 0 where
-  pub worded : length s.items.items ≤ 64 * length s.words.items
-  pub bits : BitsOf (situation_of s) s.words.items
-  pub room : length s.items.items ≤ vec_capacity s.trail
-  pub in_turn : TakenInTurn (situation_of s)
+-- for a situation each place has its bit, the trail has room for all places, each of which was
+-- present when it was taken, the scope lies in the line, the count of the present ones and the
+-- first of them are right, what is kept of a scope that was left was so there, what stands before
+-- the chains is taken, no key stands from the kept place on, from there all is taken up to a place
+-- of the line, and the path begins with the set name
+pub record IsSoundAt (kept : Inside) (s : Situation) : Type 0 where
+  pub worded : length s.context.line ≤ 64 * length kept.words.items
+  pub bits : BitsOf s kept.words.items
+  pub room : length s.context.line ≤ vec_capacity kept.trail
+  pub in_turn : TakenInTurn s
   pub ordered : s.start ≤ s.end
-  pub inside : s.end ≤ length s.items.items
-  pub counted : s.left ≡ open_count (situation_of s)
-  pub first : IsFirstPresent (situation_of s) s.first
-  pub aside : IsRemembered (situation_of s) s.aside
-  pub chained : IfSome s.chains (AreChainsOf (situation_of s))
-  pub keyless : HasNoKeyFrom s.items.items s.keys
-  pub behind : AreTaken (situation_of s) s.keys s.behind
-  pub behind_inside : s.behind ≤ length s.items.items
-  pub named : IfSome s.name (λ n. slice_get (map string_bytes s.path.items) 0 ≡ Some n)
+  pub inside : s.end ≤ length s.context.line
+  pub counted : kept.left ≡ open_count s
+  pub first : IsFirstPresent s kept.first
+  pub aside : IsRemembered s kept.aside
+  pub chained : IfSome kept.chains (AreChainsOf s)
+  pub keyless : HasNoKeyFrom s.context.line kept.keys
+  pub behind : AreTaken s kept.keys kept.behind
+  pub behind_inside : kept.behind ≤ length s.context.line
+  pub named : IfSome s.context.name (λ n. slice_get s.path 0 ≡ Some n)
+
+-- it is so for the situation that a kept state means
+abbrev pub IsSound : Inside → Type 0
+IsSound kept = IsSoundAt kept (situation_of kept)
 
 -- the changes that kept steps mean
 abbrev pub changes_of : InsideSteps → Changes

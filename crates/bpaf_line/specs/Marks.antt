@@ -31,8 +31,7 @@ pub record HasReached (mark : Mark) (s : Situation) : Type 0 where
   pub depth : mark.depth ≤ length s.path
 
 -- a parse can go back to the mark: it has reached it, the mark's scope lies in the line, and its
--- path
--- has the set name
+-- path has the set name
 pub record Fits (mark : Mark) (s : Situation) : Type 0 where
   pub reached : HasReached mark s
   pub ordered : mark.start ≤ mark.end

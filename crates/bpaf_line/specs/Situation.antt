@@ -9,6 +9,7 @@ use Rattle.std.specs.Prelude.{find, reverse, ◌-◌}
 use Rattle.std.specs.List.{range_with_len}
 use Rattle.bpaf_base.specs.declared.arg.Arg.{Arg}
 pub use Rattle.bpaf_index.specs.Bits.{is_on, count_below}
+use Rattle.bpaf_index.specs.Bits.{IsFirstWith}
 
 -- what no evaluation changes: the line, the place of its first `--`, where one stands there, the
 -- environment and the set name
@@ -131,11 +132,8 @@ abbrev pub AreTaken : Situation → ℕ → ℕ → Type 0
 AreTaken s low high = (q : ℕ) → low ≤ q → q < high → is_taken s q ≡ true
 
 -- the first present place from one on, below another; that other one, where there is none
-pub record IsFirstPresentWithin (s : Situation) (low high p : ℕ) : Type 0 where
-  pub from : low ≤ p
-  pub within : p ≤ high
-  pub present : p < high → is_taken s p ≡ false
-  pub passed : (q : ℕ) → low ≤ q → q < p → is_taken s q ≡ true
+abbrev pub IsFirstPresentWithin : Situation → ℕ → ℕ → ℕ → Type 0
+IsFirstPresentWithin s low high p = IsFirstWith (is_taken s) false low high p
 
 -- the first place that is present in scope; the scope's end, where there is none
 abbrev pub IsFirstPresent : Situation → ℕ → Type 0

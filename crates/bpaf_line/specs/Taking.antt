@@ -4,22 +4,20 @@ use Rattle.std.specs.Prelude.{◌≡◌, List, map, Option, option_map, option_t
 use Rattle.std.specs.Prelude.{true, false, Some, None, Result, Ok, Err, bytes_eq, string_bytes}
 use Rattle.std.specs.Prelude.{String, if◌then◌else◌, option_and_then, find, ⊤, ◌-◌, length}
 use Rattle.std.specs.Prelude.{filter_map, ◌≤◌, slice_index, not, nat_lt, ◌&&◌, [], ◌∷◌}
-use Rattle.std.specs.List.{range_with_len}
-use Rattle.std.specs.{Borrow.Bor, Option.option_map_or, declared.alloc.Global.Global}
-use Rattle.bpaf_doc.specs.{Shape.Part, Shape.Positional, Names.Names}
-use Rattle.bpaf_line.specs.declared.missing.MissingItem.{MissingItem}
-use Rattle.bpaf_line.specs.Missing.{Missed, missed_of}
 use Rattle.bpaf_line.specs.Situation.{Situation, item_at, is_open, take_place, with_current}
 use Rattle.bpaf_line.specs.Situation.{Context, beginning, is_taken, conflict_at}
 use Rattle.bpaf_line.specs.declared.error.Message.TheVariants.{Memory, Missing, NoArgument}
-use Rattle.bpaf_line.specs.declared.error.Message.TheVariants.{Ambiguity}
+use Rattle.bpaf_base.specs.Items.{is_key_of, is_argument_key, value_text, is_positional, word_text}
+use Rattle.bpaf_words.specs.Line.{Known, IsLine, HasNoLine}
+use Rattle.std.specs.{List.range_with_len, Borrow.Bor, Option.option_map_or}
+use Rattle.std.specs.declared.alloc.Global.{Global}
+use Rattle.bpaf_doc.specs.{Shape.Part, Shape.Positional, Names.Names}
+use Rattle.bpaf_line.specs.{declared.missing.MissingItem.MissingItem, Missing.Missed}
+use Rattle.bpaf_line.specs.{Missing.missed_of, declared.error.Message.TheVariants.Ambiguity}
 use Rattle.bpaf_line.specs.{declared.error.Message.Message, declared.error.Error.Error}
 use Rattle.bpaf_line.specs.{declared.iter.ArgsIter.ArgsIter, Marks.KeepsMarks}
-use Rattle.bpaf_base.specs.Items.{is_key_of, is_argument_key, value_text, is_positional, word_text}
-use Rattle.bpaf_base.specs.Items.{any_item, is_command_word}
-use Rattle.bpaf_base.specs.declared.arg.Arg.{Arg}
+use Rattle.bpaf_base.specs.{Items.any_item, Items.is_command_word, declared.arg.Arg.Arg}
 use Rattle.bpaf_index.specs.Chained.{IsPlaceOf}
-use Rattle.bpaf_words.specs.Line.{Known, IsLine, HasNoLine}
 use Rattle.bpaf_words.specs.{declared.line.LineFault.LineFault, Arguments.Given}
 use Rattle.bpaf_words.specs.declared.line.LineFault.TheVariants as fault
 
@@ -236,8 +234,7 @@ IsWinner s other (here, None) = TakeTheSame s other × (here ≡ true)
 IsWinner s other (here, Some p) = IsLeftmost s other p × (is_taken s p ≡ here)
 
 -- of a place of the one and a place of the other, where there are such, the leftmost, and whether
--- it
--- is that of the one
+-- it is that of the one
 abbrev pub leftmost_of : Option ℕ → Option ℕ → Bool × Option ℕ
 leftmost_of None None = (true, None)
 leftmost_of (Some p) None = (true, Some p)

@@ -185,6 +185,7 @@ fn copy_item(item: &Arg) -> Result<Arg, AllocError>
 }
 
 /// Words for that many places, in which only the bit of the marker is set.
+#[tactic(auto, using(bpaf_index::proofs::BitSets::has_bit_zero))]
 fn first_words(alloc: Global, marker: Option<usize>, count: usize) -> Result<Vec<u64>, AllocError>
     requires { IfSome marker (λ p. p < count) }
     ensures room { IfOk result (λ words. count ≤ 64 * length words.items) }
@@ -192,9 +193,10 @@ fn first_words(alloc: Global, marker: Option<usize>, count: usize) -> Result<Vec
         (p : ℕ) → has_bit words.items p ≡ is_marker marker p) }
 {
     let mut words = vec![in alloc; 0; count / 64 + 1]?;
-    if let Some(place) = marker {
-        bits::set(&mut words, place);
-    }
+    let Some(place) = marker else {
+        return Ok(words);
+    };
+    bits::set(&mut words, place);
     Ok(words)
 }
 

@@ -1,9 +1,9 @@
 //! The first key with one of some names, and the first word, found along the chains of those.
-ghost use Rattle.std.specs.Prelude.{◌≡◌, ◌≤◌, [], IfSome, MatchOption, length};
-ghost use Rattle.bpaf_base.specs.Items.{is_argument_key, is_positional};
+ghost use Rattle.std.specs.Prelude.{◌≡◌, ◌≤◌, IfSome, MatchOption, length};
 ghost use Rattle.bpaf_line.specs.Taking.{HasNoneBefore, IsFirstAmong, IsFirstAlong, is_match};
-ghost use Rattle.bpaf_line.specs.Taking.{HasNone, IsFirst};
-ghost use Rattle.bpaf_line.specs.{Inside.AreChainsOf, Situation.AreTaken};
+ghost use Rattle.bpaf_line.specs.Inside.{AreChainsOf, is_sought, sought_names};
+ghost use Rattle.bpaf_base.specs.Items.{is_argument_key, is_positional};
+ghost use Rattle.bpaf_line.specs.{Taking.HasNone, Taking.IsFirst, Situation.AreTaken};
 
 use crate::state::State;
 use bpaf_doc::Text;
@@ -13,6 +13,14 @@ use bpaf_words::{is_argument_key, is_positional};
 /// A scope with no more places from the first present one on, up to the line's last key, is
 /// narrow: to look at all of them costs less than a walk along chains that begin in front of it.
 const NARROW_SCOPE: usize = 8;
+
+/// A key that is looked for: one with one of these names, under `adjacent` an attached one.
+#[derive(Clone, Copy)]
+struct Sought<'a> {
+    shorts: &'a [char],
+    longs: &'a [Text],
+    adjacent: bool,
+}
 
 impl State {
     /// A place before which no word is present and in scope. Up to the line's last key it is the
@@ -94,15 +102,19 @@ impl State {
             (IsFirst (is_argument_key (record { shorts = shorts.now; longs = longs.now }) adjacent)
             self.now) }
     {
-        let Some(chains) = self.chains_of_scope() else {
-            return self.first_in_turn(shorts, longs, adjacent);
+        let key = Sought {
+            shorts,
+            longs,
+            adjacent,
         };
-        if self.is_key_at(self.first, shorts, longs, adjacent) {
+        let Some(chains) = self.chains_of_scope() else {
+            return self.first_in_turn(key);
+        };
+        if self.is_key_at(self.first, key) {
             return Some(self.first);
         }
         let end = self.end.min(chains.len());
-        let place = self.first_short_key(chains, end, shorts, longs, adjacent);
-        let place = self.first_long_key(chains, place, shorts, longs, adjacent);
+        let place = self.first_chained(chains, end, key);
         (place < end).then_some(place)
     }
 
@@ -117,17 +129,14 @@ impl State {
     }
 
     /// The first such key, looked for at each place from the first present one on.
-    fn first_in_turn(&self, shorts: &[char], longs: &[Text], adjacent: bool) -> Option<usize>
-        ensures { MatchOption result
-            (HasNone (is_argument_key (record { shorts = shorts.now; longs = longs.now }) adjacent)
-            self.now)
-            (IsFirst (is_argument_key (record { shorts = shorts.now; longs = longs.now }) adjacent)
-            self.now) }
+    fn first_in_turn(&self, key: Sought<'_>) -> Option<usize>
+        ensures { MatchOption result (HasNone (is_sought key.entry) self.now)
+            (IsFirst (is_sought key.entry) self.now) }
     {
         let end = self.end.min(self.keys);
         let mut place = self.first;
         while place < end {
-            if self.is_key_at(place, shorts, longs, adjacent) {
+            if self.is_key_at(place, key) {
                 return Some(place);
             }
             place += 1;
@@ -135,74 +144,33 @@ impl State {
         None
     }
 
-    /// The first such key below a place with one of the short names; that place, where there is
-    /// none.
-    fn first_short_key(
-        &self,
-        chains: &Chains,
-        end: usize,
-        shorts: &[char],
-        longs: &[Text],
-        adjacent: bool,
-    ) -> usize
+    /// The first such key below a place, looked for along the chain of each name; that place, where
+    /// there is none.
+    fn first_chained(&self, chains: &Chains, end: usize, key: Sought<'_>) -> usize
         requires chains { AreChainsOf self.now chains.now }
         requires inside { end ≤ length chains.now.classes }
-        ensures { IsFirstAmong
-            (is_argument_key (record { shorts = shorts.now; longs = longs.now }) adjacent)
-            (record { shorts = shorts.now; longs = [] }) self.now end result }
+        ensures { IsFirstAmong (is_sought key.entry) (sought_names key.entry) self.now end result }
     {
         let mut place = end;
-        for short in shorts {
-            let start = chains.first_short(*short);
-            place = self.first_along(chains, start, place, shorts, longs, adjacent);
+        for short in key.shorts {
+            place = self.first_along(chains, chains.first_short(*short), place, key);
         }
-        place
-    }
-
-    /// The first such key below a place with one of the long names; that place, where there is
-    /// none.
-    fn first_long_key(
-        &self,
-        chains: &Chains,
-        end: usize,
-        shorts: &[char],
-        longs: &[Text],
-        adjacent: bool,
-    ) -> usize
-        requires chains { AreChainsOf self.now chains.now }
-        requires inside { end ≤ length chains.now.classes }
-        ensures { IsFirstAmong
-            (is_argument_key (record { shorts = shorts.now; longs = longs.now }) adjacent)
-            (record { shorts = []; longs = longs.now }) self.now end result }
-    {
-        let mut place = end;
-        for long in longs {
-            let start = chains.first_long(long);
-            place = self.first_along(chains, start, place, shorts, longs, adjacent);
+        for long in key.longs {
+            place = self.first_along(chains, chains.first_long(long), place, key);
         }
         place
     }
 
     /// The first such key below a place, along the chain from another on; that place, where there
     /// is none.
-    fn first_along(
-        &self,
-        chains: &Chains,
-        start: usize,
-        end: usize,
-        shorts: &[char],
-        longs: &[Text],
-        adjacent: bool,
-    ) -> usize
+    fn first_along(&self, chains: &Chains, start: usize, end: usize, key: Sought<'_>) -> usize
         requires chains { AreChainsOf self.now chains.now }
         requires inside { end ≤ length chains.now.classes }
-        ensures { IsFirstAlong
-            (is_argument_key (record { shorts = shorts.now; longs = longs.now }) adjacent)
-            self.now chains.now.classes start end result }
+        ensures { IsFirstAlong (is_sought key.entry) self.now chains.now.classes start end result }
     {
         let mut place = start;
         while place < end {
-            if self.is_key_at(place, shorts, longs, adjacent) {
+            if self.is_key_at(place, key) {
                 return place;
             }
             place = chains.after(place);
@@ -211,13 +179,11 @@ impl State {
     }
 
     /// Whether such a key is at a place.
-    fn is_key_at(&self, place: usize, shorts: &[char], longs: &[Text], adjacent: bool) -> bool
-        ensures { result ≡ is_match
-            (is_argument_key (record { shorts = shorts.now; longs = longs.now }) adjacent)
-            self.now place }
+    fn is_key_at(&self, place: usize, key: Sought<'_>) -> bool
+        ensures { result ≡ is_match (is_sought key.entry) self.now place }
     {
         match self.get(place) {
-            Some(item) => is_argument_key(item, shorts, longs, adjacent),
+            Some(item) => is_argument_key(item, key.shorts, key.longs, key.adjacent),
             None => false,
         }
     }

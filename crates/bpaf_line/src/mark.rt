@@ -1,10 +1,9 @@
 //! Marks to which a parse goes back, and what it did since one, to be done again.
 ghost use Rattle.std.specs.Prelude.{◌≡◌, ◌++◌, ◌<◌, ◌≤◌, ◌-◌, length, min, if◌then◌else◌, IfOk};
-ghost use Rattle.std.specs.Prelude.{OnOk, OnErr};
 ghost use Rattle.bpaf_line.specs.Situation.{with_trail, with_scope, cut_to, PresentInTurn};
-ghost use Rattle.bpaf_line.specs.Inside.{IsSurvey};
 ghost use Rattle.bpaf_line.specs.Marks.{mark_of, HasReached, Fits, undone, KeepsMarks, steps_since};
-ghost use Rattle.bpaf_line.specs.Marks.{CanRedo, redone};
+ghost use Rattle.std.specs.Prelude.{OnOk, OnErr};
+ghost use Rattle.bpaf_line.specs.{Inside.IsSurvey, Marks.CanRedo, Marks.redone};
 
 use crate::aside::{Aside, count_within};
 use crate::construct::copy_path;

@@ -42,10 +42,9 @@ impl Drop for MissingItems {
 }
 
 impl Model for MissingItems {
-    ghost use Rattle.std.specs.Prelude.{List};
+    ghost use Rattle.std.specs.{Prelude.List, Coded.codes};
     ghost use Rattle.bpaf_line.specs.declared.missing.MissingItem.{MissingItem};
     ghost use Rattle.bpaf_doc.specs.contracts.item.Item as item;
-    ghost use Rattle.std.specs.Coded.{codes};
 
     ghost Value = { List MissingItem };
 

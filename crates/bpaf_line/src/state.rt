@@ -4,16 +4,15 @@ ghost use Rattle.std.specs.Prelude.{if◌then◌else◌, not, nat_lt, nat_le, le
 ghost use Rattle.std.specs.Prelude.{false, Bool, MatchOption, option_copied, option_map};
 ghost use Rattle.std.specs.Prelude.{option_and_then, Some, None, IfOk, OnOk, OnErr, IfSome};
 ghost use Rattle.std.specs.Prelude.{string_bytes, map, List, ℕ, ◌*◌, ◌≢◌};
+ghost use Rattle.bpaf_line.specs.Taking.{IsMissingIn, open_items, open_items_from, items_left};
+ghost use Rattle.bpaf_line.specs.Taking.{HasNoneBefore, HasNone, IsFirst, value_after, open_item};
+ghost use Rattle.bpaf_line.specs.Situation.{item_at, open_count, is_taken, is_open, take_place};
+ghost use Rattle.bpaf_line.specs.Situation.{with_trail, with_scope, with_path, with_current};
 ghost use Rattle.std.specs.Borrow.{Bor};
 ghost use Rattle.bpaf_index.specs.Bits.{has_bit, IsFirstClear};
 ghost use Rattle.bpaf_doc.specs.Shape.{part_of};
 ghost use Rattle.bpaf_base.specs.{declared.arg.Arg.Arg, Items.is_positional, Items.word_text};
-ghost use Rattle.bpaf_line.specs.Taking.{IsMissingIn, open_items, open_items_from, items_left};
-ghost use Rattle.bpaf_line.specs.Taking.{HasNoneBefore, HasNone, IsFirst, value_after, open_item};
-ghost use Rattle.bpaf_line.specs.Taking.{entry_of};
-ghost use Rattle.bpaf_line.specs.Situation.{item_at, open_count, is_taken, is_open, take_place};
-ghost use Rattle.bpaf_line.specs.Situation.{with_trail, with_scope, with_path, with_current};
-ghost use Rattle.bpaf_line.specs.Situation.{HasNoneOpen, IsNextOpen};
+ghost use Rattle.bpaf_line.specs.{Taking.entry_of, Situation.HasNoneOpen, Situation.IsNextOpen};
 ghost use Rattle.bpaf_line.specs.Marks.{KeepsMarks};
 
 use crate::aside::Aside;
@@ -120,10 +119,7 @@ impl State {
     pub fn name(&self) -> Option<&str>
         ensures { option_copied result ≡ self.now.context.name }
     {
-        match &self.name {
-            Some(name) => Some(name.as_str()),
-            None => None,
-        }
+        Some(self.name.as_ref()?.as_str())
     }
 
     /// The set name, where there is one, and then the names that were put on the path.

@@ -16,6 +16,7 @@ impl State {
     }
 
     /// The first present place from one on, below another, in scope or not. It takes no memory.
+    #[tactic(auto, using(crate::proofs::Places::none_present, crate::proofs::Places::some_present))]
     pub fn first_present(&self, low: usize, high: usize) -> Option<usize>
         ensures { result ≡ first_present self.now low high }
     {

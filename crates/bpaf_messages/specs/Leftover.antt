@@ -1,11 +1,10 @@
 -- What is told of items that are left, and of words that have no line.
 use Rattle.std.specs.Prelude.{ℕ, ◌≡◌, ◌<◌, Bool, true, false, ◌==◌, bytes_eq, Option, Some, ◌⊎◌}
 use Rattle.std.specs.Prelude.{List, [], None}
-use Rattle.bpaf_base.specs.declared.arg.Arg.{Arg}
-use Rattle.bpaf_base.specs.declared.arg.Arg.TheVariants.{Short, Long}
 use Rattle.bpaf_line.specs.Situation.{Situation, line_item, Context, beginning, IsNextOpen}
-use Rattle.bpaf_line.specs.Situation.{conflict_at}
-use Rattle.bpaf_line.specs.declared.failure.ParseFailure.{ParseFailure}
+use Rattle.bpaf_base.specs.{declared.arg.Arg.Arg, declared.arg.Arg.TheVariants.Short}
+use Rattle.bpaf_base.specs.declared.arg.Arg.TheVariants.{Long}
+use Rattle.bpaf_line.specs.{Situation.conflict_at, declared.failure.ParseFailure.ParseFailure}
 use Rattle.bpaf_line.specs.{declared.error.Message.Message, Rendering.Renders}
 use Rattle.bpaf_line.specs.declared.failure.ParseFailure.TheVariants as failure
 use Rattle.bpaf_line.specs.declared.error.Message.TheVariants as message

@@ -111,6 +111,7 @@ pub(crate) fn ambiguity(state: &State, word: &Text, number: usize) -> Result<Doc
 }
 
 /// The characters of a text; refused only for want of memory.
+#[tactic(auto, using(std::proofs::lemmas::Str::chars_from_encodes))]
 fn letters_of(alloc: Global, text: &str) -> Result<Vec<char>, AllocError>
     ensures { IfOk result (λ letters. letters.items ≡ chars text.now) }
 {

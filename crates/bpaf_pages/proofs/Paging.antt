@@ -1,17 +1,16 @@
 -- Joined documents, the lines that a walk gathers, and the paragraphs of a help page.
 use Rattle.std.proofs.Common.{◌≡◌, ℕ, List, [], ◌∷◌, ap, ◌∙◌, refl, zero, suc, ◌+◌, ◌<◌, ◌++◌}
-use Rattle.std.proofs.Common.{Option, map, sym, drop, length, get_or, arith, drop-cons, add-one}
-use Rattle.std.proofs.Common.{append_assoc, subst, codes}
+use Rattle.std.proofs.Common.{map, sym, drop, length, get_or, arith, drop-cons, add-one}
+use Rattle.std.proofs.Common.{append_assoc, codes}
 use Rattle.std.proofs.lemmas.List.{length-map, map-append, get_or-map}
 use Rattle.std.proofs.lemmas.Grind.{fold-append}
 use Rattle.bpaf_doc.specs.Print.{Print, Prints, prints}
-use Rattle.bpaf_doc.specs.Shape.{Shown, part_of}
-use Rattle.bpaf_doc.specs.{declared.doc.Piece.Piece, declared.doc.Doc.Doc, declared.item.Item.Item}
-use Rattle.bpaf_pages.specs.Help.{glued, joined_behind, Line, Listed, Below, place_in, lines}
+use Rattle.bpaf_doc.specs.{declared.doc.Piece.Piece, declared.doc.Doc.Doc}
+use Rattle.bpaf_pages.specs.Help.{glued, joined_behind, Line, Below, lines}
 use Rattle.bpaf_pages.specs.Help.{below_last, nothing, joined, PageTexts, section, sections}
 use Rattle.bpaf_pages.specs.Help.{opening, lists, widest, paragraph, paragraphs, page, prints_of}
-use Rattle.bpaf_pages.specs.{declared.lines.ListPlace.ListPlace, InsideLine.line_of}
-use Rattle.bpaf_pages.specs.{InsideLine.place_of, declared.lines.Line.Line as LineHere}
+use Rattle.bpaf_pages.specs.{InsideLine.line_of}
+use Rattle.bpaf_pages.specs.{declared.lines.Line.Line as LineHere}
 use denote.Bor.{Bor}
 use Rattle.bpaf_pages.specs.declared.lines.Told.TheVariants as told
 
@@ -72,17 +71,6 @@ below_put all new text from last line within ends here put =
     (rw length-map within) (rw length-map ends)
     (ap line_of here ∙ sym (get_or-map line_of all last line (line_of line) (omega arith)))))
 
--- an item was put behind lines
-pub item_put :
-    (all new : List LineHere) (item : Bor Item) (place : ListPlace) (home : Option ℕ) (met : ℕ)
-    → place_of place ≡ place_in home (part_of item.now)
-    → new ≡ all ++ record { place = place; told = told.Listed item } ∷ []
-    → map line_of new ≡ map line_of all ++ lines (Shown (part_of item.now)) home met
-item_put all new item place home met stands put =
-    ap (map line_of) put ∙ map-append line_of all _
-    ∙ ap (λ x. map line_of all ++ record { place = x; told = Listed (part_of item.now) } ∷ [])
-    stands
-
 -- The paragraphs of a help page.
 
 -- one section more
@@ -94,16 +82,11 @@ pub section_step : (width : ℕ) (all : List Line) (titles items : List (List Pi
     → joined_behind (codes "\n") (prints new) (sections width all (i + 1) (drop (i + 1) titles))
     ≡ whole
 section_step width all titles items i title before more new whole same within here told put kept =
-    let rest = drop (suc i) items in
-    let opened : drop i titles ≡ title ∷ rest =
-    ap (drop i) (sym same) ∙ drop-cons items i title within ∙ ap (λ x. x ∷ rest) (sym here) in
-    let left : drop (i + 1) titles ≡ rest =
-    ap (drop (i + 1)) (sym same) ∙ ap (λ n. drop n items) (add-one i) in
+    let opened : drop i items ≡ title ∷ drop (i + 1) items =
+    drop-cons items i title within ∙ (ap (λ x. x ∷ drop (suc i) items) (sym here)
+    ∙ ap (λ n. title ∷ drop n items) (sym (add-one i))) in
     let stands = glued_behind (codes "\n") (prints before) _ before more new refl told put in
-    ap (λ x. joined_behind (codes "\n") (prints new) (sections width all (i + 1) x)) left
-    ∙ ap (λ x. joined_behind (codes "\n") x (sections width all (i + 1) rest)) stands
-    ∙ ap (λ x. joined_behind (codes "\n") (prints before) (sections width all i x)) (sym opened)
-    ∙ kept
+    rw (← same, stands) (rw (← same, opened) at kept)
 
 -- some texts were put behind others
 group_behind : (between : List ℕ) (before texts : List Print) (old new : List Piece)
@@ -145,14 +128,7 @@ pub page_put : (path : List (List ℕ)) (given : PageTexts) (usage : Print) (all
     → Prints (page (paragraphs path given usage lines titles)) whole
 page_put path given usage all lines names titles width empty one two three more whole
     same_lines same_titles is_width is_empty begins goes_on ends told put =
-    let same_sections : sections width all 0 names ≡ sections (widest lines) lines 0 titles =
-    ap (λ x. sections x all 0 names) is_width ∙ ap (λ x. sections (widest x) x 0 names) same_lines
-    ∙ ap (sections (widest lines) lines 0) same_titles in
-    let same_lists : lists width all ≡ lists (widest lines) lines =
-    ap (λ x. lists x all) is_width ∙ ap (λ x. lists (widest x) x) same_lines in
-    let groups = joined_groups (codes "\n") in
-    groups (opening path given usage) (sections (widest lines) lines 0 titles)
-    (lists (widest lines) lines) (paragraph (prints_of given.footer)) empty one two three more whole
-    is_empty begins
-    (subst (λ x. Prints (joined_behind (codes "\n") (prints one) x) two) same_sections goes_on)
-    (subst (λ x. Prints (joined_behind (codes "\n") (prints two) x) three) same_lists ends) told put
+    rw (← same_lines, ← same_titles, ← is_width)
+    (joined_groups (codes "\n") (opening path given usage) (sections width all 0 names)
+    (lists width all) (paragraph (prints_of given.footer)) empty one two three more whole is_empty
+    begins goes_on ends told put)

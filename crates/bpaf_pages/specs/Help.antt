@@ -8,6 +8,9 @@ use Rattle.bpaf_doc.specs.Shape.{Subsection, Suffix, CustomUsage, Shown, Skip, n
 use Rattle.bpaf_doc.specs.Shape.{part_text, Part, Any, Positional, Command, Flag, Argument, Name}
 use Rattle.bpaf_doc.specs.Shape.{Short, Long, Both}
 use Rattle.bpaf_doc.specs.declared.doc.Piece.{Piece}
+use Rattle.bpaf_pages.specs.declared.lines.ListPlace.{ListPlace}
+use Rattle.bpaf_pages.specs.declared.lines.ListPlace.TheVariants.{Positionals, Options, Commands}
+use Rattle.bpaf_pages.specs.declared.lines.ListPlace.TheVariants.{Section}
 
 -- no text
 abbrev pub nothing : Print
@@ -64,13 +67,6 @@ abbrev mutual
   usage_texts (first then rest) = usage_text first ∷ usage_texts rest
 
 -- The lines of a help page: the items that a shape shows, and the texts of its suffixes.
-
--- where a line stands: in a list of the whole page, or in the section of this number, from 0
-pub data ListPlace : Type 0 where
-  Positionals : ListPlace
-  Options : ListPlace
-  Commands : ListPlace
-  Section : ℕ → ListPlace
 
 -- what a line tells: an item, or a text below what stands before it
 pub data Told : Type 0 where

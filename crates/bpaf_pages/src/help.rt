@@ -6,7 +6,7 @@ ghost use Rattle.bpaf_doc.specs.Print.{Prints, prints};
 ghost use Rattle.bpaf_pages.specs.Help.{around, joined_behind, usage_text, lines, titles, lines_at};
 ghost use Rattle.bpaf_pages.specs.Help.{paragraph, prints_of, usage_line, usage_paragraph, rows};
 ghost use Rattle.bpaf_pages.specs.Help.{section, sections, opening, lists, help_text};
-ghost use Rattle.bpaf_pages.specs.{InsideLine.place_of, InsideLine.line_of, InsideHelp.given_by};
+ghost use Rattle.bpaf_pages.specs.{InsideLine.line_of, InsideHelp.given_by};
 
 use crate::joined::{around, glue};
 use crate::lines::{Lines, ListPlace, Title};
@@ -160,7 +160,7 @@ impl<'a> Lines<'a> {
         place: ListPlace,
     ) -> Result<Doc, AllocError>
         ensures { IfOk result (Prints (around heading.now []
-            (rows width (lines_at (place_of place) (map line_of self.now.all.items))))) }
+            (rows width (lines_at place (map line_of self.now.all.items))))) }
     {
         let rows = self.rows(alloc, width, place)?;
         around(alloc, heading, &rows, "")
@@ -190,12 +190,11 @@ impl<'a> Lines<'a> {
 
 /// The help page of the tree (bpaf's `render_help`); refused only for want of memory.
 ///
-/// `path` are the words before the usage text: the name of the program, and of each command.
-/// What `extra` shows, the items of help and of the version, stands behind what the tree shows,
-/// and not in the usage text. Paragraphs in this order, an empty line between two, empty ones
-/// left out: the description; the usage line, or the text in its place; the header; each
-/// [`Meta::Subsection`]; the lists of words, of options and of commands that
-/// stand outside of these; the footer.
+/// `path` are the words before the usage text: the name of the program, and of each command. What
+/// `extra` shows, the items of help and of the version, stands behind what the tree shows, and not
+/// in the usage text. Paragraphs in this order, an empty line between two, empty ones left out: the
+/// description; the usage line, or the text in its place; the header; each [`Meta::Subsection`];
+/// the lists of words, of options and of commands that stand outside of these; the footer.
 ///
 /// ```text
 /// Usage: FILE

@@ -2,14 +2,13 @@
 ghost use Rattle.std.specs.Prelude.{◌≡◌, ◌++◌, [], OnOk, length, drop, map};
 ghost use Rattle.bpaf_doc.specs.Shape.{shape_of, members_of, part_of, Subsection, Suffix, Shown};
 ghost use Rattle.bpaf_pages.specs.Help.{lines, lines_of_all, titles, titles_of_all, below_last};
-ghost use Rattle.bpaf_pages.specs.Help.{list_of, place_in};
-ghost use Rattle.bpaf_pages.specs.InsideLine.{place_of, line_of};
+ghost use Rattle.bpaf_pages.specs.{Help.list_of, Help.place_in, InsideLine.line_of};
 
 use bpaf_doc::{Doc, Item, Meta};
 use std::alloc::{AllocError, Global};
 use std::marker::Model;
 
-/// Where a line stands: in a list of the whole page, or in the section of this number.
+/// Where a line stands: in a list of the whole page, or in the section of this number, from 0.
 #[derive(Clone, Copy)]
 pub(crate) enum ListPlace {
     Positionals,
@@ -56,7 +55,7 @@ pub(crate) struct Lines<'a> {
 
 /// The list in which an item stands outside of all sections.
 fn list_of(item: &Item) -> ListPlace
-    ensures { place_of result ≡ list_of (part_of item.now) }
+    ensures { result ≡ list_of (part_of item.now) }
 {
     match item {
         Item::Any { anywhere, .. } => {
@@ -74,7 +73,7 @@ fn list_of(item: &Item) -> ListPlace
 
 /// Where an item stands, inside a section or outside.
 fn place_in(home: Option<usize>, item: &Item) -> ListPlace
-    ensures { place_of result ≡ place_in home (part_of item.now) }
+    ensures { result ≡ place_in home (part_of item.now) }
 {
     match home {
         None => list_of(item),

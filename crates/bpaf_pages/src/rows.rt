@@ -5,13 +5,14 @@ ghost use Rattle.bpaf_doc.specs.{Shape.part_of, Shape.name_of, Print.Prints, Pri
 ghost use Rattle.bpaf_pages.specs.Help.{Listed, same_place, lines_at, key_names, also_short};
 ghost use Rattle.bpaf_pages.specs.Help.{list_name, help_of, width_of, name_width, widest, column};
 ghost use Rattle.bpaf_pages.specs.Help.{line_text, rows};
-ghost use Rattle.bpaf_pages.specs.InsideLine.{place_of, told_of, line_of};
+ghost use Rattle.bpaf_pages.specs.InsideLine.{told_of, line_of};
 
 use crate::lines::{Lines, ListPlace, Told};
 use bpaf_doc::{Doc, Item, ShortLong, Style};
 use std::alloc::{AllocError, Global};
 
 /// How many characters a text has.
+#[tactic(auto, using(std::proofs::lemmas::Str::chars_from_encodes))]
 fn width_of(text: &str) -> usize
     ensures { result ≡ width_of text.now }
 {
@@ -179,7 +180,7 @@ impl<'a> Told<'a> {
 impl ListPlace {
     /// Whether the other place is the same one.
     fn is_same(&self, other: &ListPlace) -> bool
-        ensures { result ≡ same_place (place_of self.now) (place_of other.now) }
+        ensures { result ≡ same_place self.now other.now }
     {
         match (self, other) {
             (ListPlace::Positionals, ListPlace::Positionals) => true,
@@ -214,7 +215,7 @@ impl<'a> Lines<'a> {
         place: ListPlace,
     ) -> Result<Doc, AllocError>
         ensures { IfOk result (Prints
-            (rows width (lines_at (place_of place) (map line_of self.now.all.items)))) }
+            (rows width (lines_at place (map line_of self.now.all.items)))) }
     {
         let mut doc = Doc::new(alloc);
         for line in &self.all {

@@ -59,6 +59,7 @@ impl<T: Ord + Drop> FromList<T> for BTreeSet<T> {
 
     ghost fills = { λ items set. set.keys ≡ inserted T.cmp [] items };
 
+    #[tactic(auto, using(crate::proofs::Inserting::inserted_more))]
     fn from_list(items: Vec<T>) -> Result<BTreeSet<T>, AllocError>
         ensures { IfOk result (λ set. set.keys ≡ inserted T.cmp [] items.items) }
     {

@@ -1,12 +1,13 @@
 //! The types that are read off a text.
-ghost use Rattle.std.specs.Prelude.{◌≡◌, ℕ, List, IfOk, codes, string_bytes};
+ghost use Rattle.std.specs.Prelude.{◌≡◌, ℕ, List, MatchResult, Ok, IsErr, ⊤, string_bytes};
+ghost use Rattle.bpaf_text.specs.declared.fault.TextFault.TheVariants.{Fault, Memory};
 ghost use Rattle.std.specs.Int.{w8, w16, w32, w64, w128};
 ghost use Rattle.bpaf_text.specs.Meaning.{ReadsText};
 ghost use Rattle.bpaf_text.specs.Meaning.{SpellsUnsigned, SpellsSigned, SpellsBool, SpellsChar};
 
 use crate::fault::TextFault;
 use bpaf_doc::Text;
-use std::alloc::{AllocError, Global};
+use std::alloc::Global;
 
 /// A type whose values are read from words of the command line.
 ///
@@ -40,10 +41,22 @@ pub trait FromText: Sized {
 }
 
 /// What a user reads of a text that is no number of the wanted type.
-fn not_a_number(alloc: Global) -> Result<String, AllocError>
-    ensures { IfOk result (λ words. string_bytes words ≡ codes "not a whole number in range") }
+const NO_NUMBER: &str = "not a whole number in range";
+
+/// What was parsed; of a text that couldn't be, these words for the user.
+fn parsed_or<T: Drop, E: Drop>(
+    alloc: Global,
+    parsed: Result<T, E>,
+    words: &str,
+) -> Result<T, TextFault>
+    ensures { MatchResult result (λ value. parsed ≡ Ok value) (λ fault.
+        elim fault [ Fault message ↦ IsErr parsed × (string_bytes message ≡ words.now)
+            | Memory ↦ ⊤ ]) }
 {
-    String::from_str(alloc, "not a whole number in range")
+    match parsed {
+        Ok(value) => Ok(value),
+        Err(_) => Err(TextFault::Fault(String::from_str(alloc, words)?)),
+    }
 }
 
 /// An optional `+` and one or more digits, in the range of the type.
@@ -51,10 +64,7 @@ impl FromText for u8 {
     ghost means = { SpellsUnsigned 8 };
 
     fn from_text(alloc: Global, text: &str) -> Result<u8, TextFault> {
-        match text.parse::<u8>() {
-            Ok(value) => Ok(value),
-            Err(_) => Err(TextFault::Fault(not_a_number(alloc)?)),
-        }
+        parsed_or(alloc, text.parse::<u8>(), NO_NUMBER)
     }
 }
 
@@ -63,10 +73,7 @@ impl FromText for u16 {
     ghost means = { SpellsUnsigned 16 };
 
     fn from_text(alloc: Global, text: &str) -> Result<u16, TextFault> {
-        match text.parse::<u16>() {
-            Ok(value) => Ok(value),
-            Err(_) => Err(TextFault::Fault(not_a_number(alloc)?)),
-        }
+        parsed_or(alloc, text.parse::<u16>(), NO_NUMBER)
     }
 }
 
@@ -75,10 +82,7 @@ impl FromText for u32 {
     ghost means = { SpellsUnsigned 32 };
 
     fn from_text(alloc: Global, text: &str) -> Result<u32, TextFault> {
-        match text.parse::<u32>() {
-            Ok(value) => Ok(value),
-            Err(_) => Err(TextFault::Fault(not_a_number(alloc)?)),
-        }
+        parsed_or(alloc, text.parse::<u32>(), NO_NUMBER)
     }
 }
 
@@ -87,10 +91,7 @@ impl FromText for u64 {
     ghost means = { SpellsUnsigned 64 };
 
     fn from_text(alloc: Global, text: &str) -> Result<u64, TextFault> {
-        match text.parse::<u64>() {
-            Ok(value) => Ok(value),
-            Err(_) => Err(TextFault::Fault(not_a_number(alloc)?)),
-        }
+        parsed_or(alloc, text.parse::<u64>(), NO_NUMBER)
     }
 }
 
@@ -99,10 +100,7 @@ impl FromText for u128 {
     ghost means = { SpellsUnsigned 128 };
 
     fn from_text(alloc: Global, text: &str) -> Result<u128, TextFault> {
-        match text.parse::<u128>() {
-            Ok(value) => Ok(value),
-            Err(_) => Err(TextFault::Fault(not_a_number(alloc)?)),
-        }
+        parsed_or(alloc, text.parse::<u128>(), NO_NUMBER)
     }
 }
 
@@ -111,10 +109,7 @@ impl FromText for usize {
     ghost means = { SpellsUnsigned 64 };
 
     fn from_text(alloc: Global, text: &str) -> Result<usize, TextFault> {
-        match text.parse::<usize>() {
-            Ok(value) => Ok(value),
-            Err(_) => Err(TextFault::Fault(not_a_number(alloc)?)),
-        }
+        parsed_or(alloc, text.parse::<usize>(), NO_NUMBER)
     }
 }
 
@@ -123,10 +118,7 @@ impl FromText for i8 {
     ghost means = { SpellsSigned w8 };
 
     fn from_text(alloc: Global, text: &str) -> Result<i8, TextFault> {
-        match text.parse::<i8>() {
-            Ok(value) => Ok(value),
-            Err(_) => Err(TextFault::Fault(not_a_number(alloc)?)),
-        }
+        parsed_or(alloc, text.parse::<i8>(), NO_NUMBER)
     }
 }
 
@@ -135,10 +127,7 @@ impl FromText for i16 {
     ghost means = { SpellsSigned w16 };
 
     fn from_text(alloc: Global, text: &str) -> Result<i16, TextFault> {
-        match text.parse::<i16>() {
-            Ok(value) => Ok(value),
-            Err(_) => Err(TextFault::Fault(not_a_number(alloc)?)),
-        }
+        parsed_or(alloc, text.parse::<i16>(), NO_NUMBER)
     }
 }
 
@@ -147,10 +136,7 @@ impl FromText for i32 {
     ghost means = { SpellsSigned w32 };
 
     fn from_text(alloc: Global, text: &str) -> Result<i32, TextFault> {
-        match text.parse::<i32>() {
-            Ok(value) => Ok(value),
-            Err(_) => Err(TextFault::Fault(not_a_number(alloc)?)),
-        }
+        parsed_or(alloc, text.parse::<i32>(), NO_NUMBER)
     }
 }
 
@@ -159,10 +145,7 @@ impl FromText for i64 {
     ghost means = { SpellsSigned w64 };
 
     fn from_text(alloc: Global, text: &str) -> Result<i64, TextFault> {
-        match text.parse::<i64>() {
-            Ok(value) => Ok(value),
-            Err(_) => Err(TextFault::Fault(not_a_number(alloc)?)),
-        }
+        parsed_or(alloc, text.parse::<i64>(), NO_NUMBER)
     }
 }
 
@@ -171,10 +154,7 @@ impl FromText for i128 {
     ghost means = { SpellsSigned w128 };
 
     fn from_text(alloc: Global, text: &str) -> Result<i128, TextFault> {
-        match text.parse::<i128>() {
-            Ok(value) => Ok(value),
-            Err(_) => Err(TextFault::Fault(not_a_number(alloc)?)),
-        }
+        parsed_or(alloc, text.parse::<i128>(), NO_NUMBER)
     }
 }
 
@@ -183,10 +163,7 @@ impl FromText for isize {
     ghost means = { SpellsSigned w64 };
 
     fn from_text(alloc: Global, text: &str) -> Result<isize, TextFault> {
-        match text.parse::<isize>() {
-            Ok(value) => Ok(value),
-            Err(_) => Err(TextFault::Fault(not_a_number(alloc)?)),
-        }
+        parsed_or(alloc, text.parse::<isize>(), NO_NUMBER)
     }
 }
 
@@ -195,10 +172,7 @@ impl FromText for bool {
     ghost means = { SpellsBool };
 
     fn from_text(alloc: Global, text: &str) -> Result<bool, TextFault> {
-        match text.parse::<bool>() {
-            Ok(value) => Ok(value),
-            Err(_) => Err(TextFault::Fault(String::from_str(alloc, "neither true nor false")?)),
-        }
+        parsed_or(alloc, text.parse::<bool>(), "neither true nor false")
     }
 }
 
@@ -207,10 +181,7 @@ impl FromText for char {
     ghost means = { SpellsChar };
 
     fn from_text(alloc: Global, text: &str) -> Result<char, TextFault> {
-        match text.parse::<char>() {
-            Ok(value) => Ok(value),
-            Err(_) => Err(TextFault::Fault(String::from_str(alloc, "not one character")?)),
-        }
+        parsed_or(alloc, text.parse::<char>(), "not one character")
     }
 }
 

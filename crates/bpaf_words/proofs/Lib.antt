@@ -1,4 +1,3 @@
 pub mod OneSpelling
-pub mod SplitLemmas
 pub mod LineLemmas
 pub mod OneLine

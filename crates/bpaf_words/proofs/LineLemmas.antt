@@ -1,26 +1,33 @@
--- Lines with a word more, with a spelled front, and walks over joined letters.
+-- Lines with a word more, with a spelled front, walks over joined letters, and from what the calls
+-- on text say to the cases of a spelling.
 use Rattle.std.proofs.Common.{◌≡◌, ◌≢◌, ℕ, Bool, ◌+◌, List, [], ◌∷◌, ◌++◌, take, drop, map, refl}
 use Rattle.std.proofs.Common.{ap, sym, ◌∙◌, arith, append_assoc, append-nil, codes, Some, slice_get}
 use Rattle.std.proofs.Common.{bytes_eq, true, false, IsUtf8, ⊎_elim, subst, length, All, ◌<◌, ◌≤◌}
-use Rattle.std.proofs.Common.{Option, IfSome, IfOk, Result, Ok, Err, length-append, nat_lt, ◌==◌}
-use Rattle.std.proofs.Common.{rules, if◌then◌else◌, encode_utf8, encode_utf8_all}
+use Rattle.std.proofs.Common.{Option, IfSome, length-append, nat_lt, ◌==◌, rules, if◌then◌else◌}
+use Rattle.std.proofs.Common.{encode_utf8, encode_utf8_all, lit<, None, IfOk, Result, Ok, Err}
 use Rattle.std.proofs.lemmas.Option.{get_or_from_slice_get, slice_get_within}
 use Rattle.std.proofs.lemmas.List.Elements.{AllWithin-more, All-push}
 use Rattle.std.proofs.lemmas.Grind.{flat_map-append, common_steps}
 use Rattle.std.proofs.lemmas.Str.{cons_from_encodes, encodes_same, encodes-append}
-use Rattle.std.proofs.lemmas.Str.{length-le-encodes, length-encode, len_utf8_bounds}
-use Rattle.std.proofs.lemmas.List.{nil_from_length}
-use Rattle.std.proofs.{lemmas.Bool.cases_lt, lemmas.Bool.Decides.nat_tests}
+use Rattle.std.proofs.lemmas.Str.{length-le-encodes, length-encode, len_utf8_bounds, encode_ascii}
+use Rattle.std.proofs.lemmas.List.{nil_from_length, take_all, drop_all}
 use Rattle.std.specs.List.{flat_map, AllWithin}
-use Rattle.std.specs.{Bool.then_some, declared.alloc.AllocError.AllocError}
-use Rattle.bpaf_base.specs.declared.arg.Arg.{Arg}
-use Rattle.bpaf_base.specs.declared.arg.Arg.TheVariants.{PosWord, Short, Word}
-use Rattle.bpaf_words.specs.Line.{Known, Items, Ambiguous, Spells, known_at, HasNoLine, IsLine}
+use Rattle.bpaf_base.specs.declared.arg.Arg.TheVariants.{PosWord, Short, Word, ArgWord}
+use Rattle.bpaf_words.specs.Line.{Known, Items, Ambiguous, Spells, HasNoLine, IsLine}
 use Rattle.bpaf_words.specs.Line.{without_marker, with_marker, ShortNames, IsKnownAs, flags_of}
 use Rattle.bpaf_words.specs.Line.{argument_of, SpellsJoined, flags, argument, neither, both}
-use Rattle.bpaf_words.specs.Splitting.{Begins, BeginsByAny, SpellsByAny, EndsFront, IsLineByAny}
-use Rattle.bpaf_words.specs.declared.line.Line.{Line as WordsLine}
+use Rattle.bpaf_words.specs.Line.{IsNumberWord, HasNoEquals, Spelling, short_value}
+use Rattle.bpaf_words.specs.Line.{short_long_value, joined, Ambiguous as NoItems, by_dash}
+use Rattle.bpaf_words.specs.Splitting.{Begins, EndsFront, Answers, Splits, SplitsJoined, AreJoined}
+use Rattle.bpaf_words.specs.Splitting.{SplitsDashed, SplitsAlone}
 use Rattle.bpaf_words.proofs.OneSpelling.{AllZip_push, take_next, drop_next, cut_at}
+use Rattle.std.proofs.lemmas.Str.Pattern.{NoCharPasses-char, IsSplitOnceResult, split_parts}
+use Rattle.bpaf_words.specs.declared.split.SplitFault.TheVariants.{Ambiguous, Memory}
+use Rattle.std.proofs.{lemmas.Bool.cases_lt, lemmas.Bool.Decides.nat_tests}
+use Rattle.std.specs.{Bool.then_some, Str.Pattern.FindsChar, Borrow.Bor}
+use Rattle.std.specs.declared.alloc.AllocError.{AllocError}
+use Rattle.bpaf_base.specs.declared.arg.Arg.{Arg}
+use Rattle.bpaf_words.specs.{Line.SpellsByDash, declared.split.SplitFault.SplitFault}
 
 -- a word of the rest goes over to the items
 pub rest_moved : (words : List (List ℕ)) (i : ℕ) (word : List ℕ) (old new all : List Arg)
@@ -37,15 +44,6 @@ pub texts_more : (words : List (List ℕ)) (low i : ℕ) (word : List ℕ) → A
 texts_more words low i word h at u =
     AllWithin-more IsUtf8 words low i h
     (λ d. subst IsUtf8 (sym (get_or_from_slice_get words i word d at)) u)
-
--- no words in front, and no items
-pub begins_none : (known : Known) (words : List (List ℕ)) → Begins known words [] 0
-begins_none known words = record {
-  bound = omega arith;
-  without_marker = λ k d l. absurd (omega arith);
-  spelled = record { parts = []; spelled = tt; joined = refl };
-  texts = λ k d from below. absurd (omega arith);
-}
 
 -- one word more in front, and the items that it spells
 pub begins_more : (known : Known) (words : List (List ℕ)) (i : ℕ) (old new xs : List Arg)
@@ -66,15 +64,6 @@ begins_more known words i old new xs word begun at text other spells more = reco
   });
   texts = texts_more words 0 i word begun.texts at text;
 }
-
--- the same of a word that spells its items whatever names are known
-pub begins_alone : (numbers : Bool) (words : List (List ℕ)) (i : ℕ) (old new : List Arg)
-    (word : List ℕ) → BeginsByAny numbers words old i → slice_get words i ≡ Some word → IsUtf8 word
-    → word ≢ codes "--" → SpellsByAny numbers word old new → BeginsByAny numbers words new (i + 1)
-begins_alone numbers words i old new word begun at text other spells names =
-    let spelled = spells names in
-    begins_more (known_at numbers names) words i old new spelled.0 word (begun names) at text other
-    spelled.1 spelled.2
 
 -- words with an ambiguous one behind their spelled front have no line
 pub no_line : (known : Known) (words : List (List ℕ)) (i : ℕ) (old : List Arg) (word : List ℕ)
@@ -100,46 +89,25 @@ pub texts_all : (words : List (List ℕ)) (n : ℕ) → AllWithin IsUtf8 words 0
     → AllWithin IsUtf8 words n (length words) → All IsUtf8 words
 texts_all words n f r k d l = ⊎_elim (λ b. f k d (omega arith) b) (λ a. r k d a l) (cases_lt k n)
 
--- a front as long as the list, or longer, is the whole list
-take_whole : {X : Type 0} (xs : List X) (n : ℕ) → length xs ≤ n → take n xs ≡ xs
-take_whole xs n h = grind (arith, common_steps)
-
--- and nothing is behind it
-drop_whole : {X : Type 0} (xs : List X) (n : ℕ) → length xs ≤ n → drop n xs ≡ []
-drop_whole xs n h = grind (arith, common_steps)
-
--- the line of words with a spelled front, by whether words are left behind it
-line_by : (known : Known) (words : List (List ℕ)) (items : List Arg) (n : ℕ) (b : Bool)
-    → nat_lt n (length words) ≡ b → Begins known words items n → EndsFront words n
-    → IsLine known words (items ++ map PosWord (drop n words)) (then_some b (length items))
-line_by known words items n true e begun ends =
-    let below : n < length words = grind (arith, nat_tests) in
-    let at = ends below in
-    rw (drop_next words n (codes "--") at) (with_marker (take n words) (drop (n + 1) words) items
-    (cut_at words n (codes "--") at) begun.without_marker begun.spelled)
-line_by known words items n false e begun ends =
-    let past : length words ≤ n = grind (arith, nat_tests) in
-    let whole = take_whole words n past in
-    rw (drop_whole words n past, append-nil items)
-    (without_marker items (rw whole at begun.without_marker) (rw whole at begun.spelled))
-
 -- the line of words with a spelled front: its items, then the other words as PosWords
 pub line_of_front : (known : Known) (words : List (List ℕ)) (items : List Arg) (n : ℕ)
     → Begins known words items n → EndsFront words n
     → IsLine known words (items ++ map PosWord (drop n words))
     (then_some (nat_lt n (length words)) (length items))
-line_of_front known words items n begun ends =
-    line_by known words items n (nat_lt n (length words)) refl begun ends
-
--- the same of an answer, whatever names are known
-pub line_found : (numbers : Bool) (words : List (List ℕ)) (items : List Arg) (n : ℕ)
-    (result : Result WordsLine AllocError) → BeginsByAny numbers words items n → EndsFront words n
-    → IfOk result (λ line. line.items.items ≡ items ++ map PosWord (drop n words))
-    → IfOk result (λ line. line.marker ≡ then_some (nat_lt n (length words)) (length items))
-    → IfOk result (IsLineByAny numbers words)
-line_found numbers words items n (Ok line) begun ends are marker = λ names.
-    rw (are, marker) (line_of_front (known_at numbers names) words items n (begun names) ends)
-line_found numbers words items n (Err e) begun ends are marker = tt
+line_of_front known words items n begun ends = by (nat_lt n (length words)) refl
+  where
+    by : (b : Bool) → nat_lt n (length words) ≡ b
+        → IsLine known words (items ++ map PosWord (drop n words)) (then_some b (length items))
+    by true e =
+        let below : n < length words = grind (arith, nat_tests) in
+        let at = ends below in
+        rw (drop_next words n (codes "--") at) (with_marker (take n words) (drop (n + 1) words)
+        items (cut_at words n (codes "--") at) begun.without_marker begun.spelled)
+    by false e =
+        let past : length words ≤ n = grind (arith, nat_tests) in
+        let whole = take_all n words past in
+        rw (drop_all n words past, append-nil items)
+        (without_marker items (rw whole at begun.without_marker) (rw whole at begun.spelled))
 
 -- the marker of a line lies in it
 pub marker_of_line : (known : Known) (words : List (List ℕ)) (line : List Arg) (marker : Option ℕ)
@@ -281,3 +249,99 @@ taken_back old zs ys n h e = rw (e, h) (grind (arith, common_steps))
 pub first_text : (word text : List ℕ) (count : ℕ) → (count ≡ 0 → text ≡ word)
     → (count ≢ 0 → text ≡ []) → text ≡ (if count == 0 then word else [])
 first_text word text count f g = grind (arith, nat_tests)
+
+-- From what the calls on text say to the cases of a spelling.
+
+-- a text in which no `=` was found has none
+pub no_equals : (bs : List ℕ) → FindsChar 61 bs None → HasNoEquals bs
+no_equals bs h i l = NoCharPasses-char 61 bs i h (lit< tt) l
+
+-- `split_once` at `=`
+pub at_equals : (bs : List ℕ) (front value : Bor (List ℕ))
+    → IsSplitOnceResult 61 bs (Some (front, value)) → (bs ≡ front.now ++ 61 ∷ value.now)
+    × HasNoEquals front.now
+at_equals bs front value h = split_parts 61 bs (Some (front, value)) h (lit< tt)
+
+-- what does not begin with the byte `-` does not begin with the character
+pub other_than_dash : (rest tail : List ℕ) (c : ℕ) → ((r : List ℕ) → rest ≢ 45 ∷ r)
+    → rest ≡ encode_utf8 c ++ tail → c ≢ 45
+other_than_dash rest tail c none e d =
+    none tail (e ∙ ap (λ x. x ++ tail) (ap encode_utf8 d ∙ encode_ascii 45 (lit< tt)))
+
+-- a word `-c=v` or `-cr=v` spells its key and the value that was chosen
+pub with_value : (names : ShortNames) (word rest tail name value chosen : List ℕ) (c : ℕ)
+    → word ≡ 45 ∷ rest → rest ≡ encode_utf8 c ++ tail → c ≢ 45 → tail ≡ name ++ 61 ∷ value
+    → HasNoEquals name → (length name ≡ 0 → chosen ≡ value) → (length name ≢ 0 → chosen ≡ tail)
+    → SpellsByDash names word (Items (Short c true word ∷ ArgWord chosen ∷ []))
+with_value names word rest tail [] value chosen c w r d t n f g =
+    rw (f refl) (short_value c value
+    (w ∙ (ap (λ x. 45 ∷ x) r ∙ ap (λ x. 45 ∷ encode_utf8 c ++ x) t)) d)
+with_value names word rest tail (x ∷ xs) value chosen c w r d t n f g =
+    rw (g (λ h. absurd (omega arith)), t)
+    (short_long_value c (x ∷ xs) value
+    (w ∙ (ap (λ y. 45 ∷ y) r ∙ ap (λ y. 45 ∷ encode_utf8 c ++ y) t)) d (λ h. cc) n)
+
+-- an answer for what is spelled in one way holds for a way that follows from it
+answers_weaker : (P Q : Spelling → Type 0) → ((s : Spelling) → P s → Q s)
+    → (old : List Arg) (result : Result (Unit {0}) SplitFault) (new : List Arg)
+    → Answers P old result new → Answers Q old result new
+answers_weaker P Q f old (Ok u) new a = (a.0, f (Items a.0) a.1, a.2)
+answers_weaker P Q f old (Err (Ambiguous n)) new a = f (NoItems n) a
+answers_weaker P Q f old (Err Memory) new a = a
+
+-- letters behind a dash are joined, given the characters after the first
+joined_by : (word rest tail : List ℕ) (c : ℕ) (fs : List ℕ) → word ≡ 45 ∷ rest → c ≢ 45
+    → length tail ≢ 0 → HasNoEquals tail → encode_utf8_all fs ≡ tail
+    → rest ≡ encode_utf8_all (c ∷ fs) → AreJoined word rest
+joined_by word rest tail c [] whole other some none is starts = absurd (some (ap length (sym is)))
+joined_by word rest tail c (d ∷ ds) whole other some none is starts = record {
+  first = c;
+  second = d;
+  others = ds;
+  word_is = whole;
+  letters_are = starts;
+  no_dash = other;
+  no_equals = subst HasNoEquals (sym is) none;
+}
+
+-- two or more letters behind a dash, the first of them no dash, without an `=` behind it, are
+-- joined
+pub are_joined : (word rest tail : List ℕ) (c : ℕ) → IsUtf8 word → word ≡ 45 ∷ rest
+    → rest ≡ encode_utf8 c ++ tail → c ≢ 45 → length tail ≢ 0 → HasNoEquals tail
+    → AreJoined word rest
+are_joined word rest tail c text whole starts other some none =
+    let all = cons_from_encodes text.0 rest 45
+    (text.1.1 ∙ (whole ∙ ap (λ x. x ++ rest) (sym (encode_ascii 45 (lit< tt))))) in
+    let parts = cons_from_encodes all.0 tail c (all.2 ∙ starts) in
+    joined_by word rest tail c parts.0 whole other some none parts.2
+    (starts ∙ ap (λ x. encode_utf8 c ++ x) (sym parts.2))
+
+-- an answer for joined letters is one for their word
+pub joined_word : (known : Known) (word letters : List ℕ) (old between : List Arg)
+    (result : Result (Unit {0}) SplitFault) (new : List Arg) → ¬ (IsNumberWord known.numbers word)
+    → AreJoined word letters → between ≡ old
+    → SplitsJoined known.names word letters between result new → Splits known word old result new
+joined_word known word letters old between result new other are same answers =
+    let characters = are.first ∷ are.second ∷ are.others in
+    answers_weaker (SpellsJoined known.names word characters) (Spells known word)
+    (λ s spelled. by_dash s other (joined are.first are.second are.others s
+    (are.word_is ∙ ap (λ x. 45 ∷ x) are.letters_are) are.no_dash are.no_equals spelled))
+    old result new
+    (subst (λ xs. Answers (SpellsJoined known.names word characters) xs result new) same
+    (answers characters are.letters_are))
+
+-- what is answered of a word behind a dash that isn't a number is answered of it by any setting
+pub alone_by_any : (numbers : Bool) (word : List ℕ)
+    (result : Result (Option (Bor (List ℕ))) AllocError) (old new : List Arg)
+    → ¬ (IsNumberWord numbers word) → IfOk result (λ joined. SplitsDashed word old joined new)
+    → IfOk result (λ joined. SplitsAlone numbers word old joined new)
+alone_by_any numbers word (Ok None) old new other spells = λ names.
+    let spelled = spells names in (spelled.0, by_dash (Items spelled.0) other spelled.1, spelled.2)
+alone_by_any numbers word (Ok (Some letters)) old new other are = (other, are.0, are.1)
+alone_by_any numbers word (Err e) old new other none = tt
+
+-- letters begin with the one that was read off them
+pub first_letter : (letters all : List ℕ) (c : ℕ) (rest tail : List ℕ) → all ≡ letters
+    → all ≡ encode_utf8 c ++ rest → tail ≡ rest → letters ≡ encode_utf8 c ++ tail
+first_letter letters all c rest tail from is left =
+    sym from ∙ (is ∙ ap (λ x. encode_utf8 c ++ x) (sym left))

@@ -106,13 +106,12 @@ module _ (known : Known) (word : List ℕ) (words : List (List ℕ)) (other : wo
         without_marker (xs ++ items) (All-cons (λ w. w ≢ codes "--") word words other none)
         (spell_more words items all)
     line_more line marker (with_marker before after items cut none all) =
-        subst (λ line. IsLine known (word ∷ words) line (Some (length xs + length items)))
-        (append_assoc xs items (PosWord (codes "--") ∷ map PosWord after))
-        (subst (λ n. IsLine known (word ∷ words)
-        ((xs ++ items) ++ PosWord (codes "--") ∷ map PosWord after) (Some n))
-        (length-append xs items)
+        rw (
+          ← append_assoc xs items (PosWord (codes "--") ∷ map PosWord after),
+          ← length-append xs items,
+        )
         (with_marker (word ∷ before) after (xs ++ items) (ap (λ ws. word ∷ ws) cut)
-        (All-cons (λ w. w ≢ codes "--") word before other none) (spell_more before items all)))
+        (All-cons (λ w. w ≢ codes "--") word before other none) (spell_more before items all))
 
     -- and with what is said
     said_more : (v : Verdict) → IsSaid known words v → IsSaid known (word ∷ words) (in_front xs v)
@@ -150,11 +149,9 @@ module _ (known : Known) (word : List ℕ) (words : List (List ℕ)) (other : wo
 -- what words come to is said of them
 said_of : (known : Known) (words : List (List ℕ)) (v : Verdict) → ComeTo known words v
     → IsSaid known words v
-said_of known [] v is =
-    subst (IsSaid known []) (sym is) (without_marker [] none_marked (no_items known))
+said_of known [] v is = rw is (without_marker [] none_marked (no_items known))
 said_of known (w ∷ ws) v (inl (marker, is)) =
-    subst (IsSaid known (w ∷ ws)) (sym is)
-    (with_marker [] ws [] (ap (λ w. w ∷ ws) marker) none_marked (no_items known))
+    rw is (with_marker [] ws [] (ap (λ w. w ∷ ws) marker) none_marked (no_items known))
 said_of known (w ∷ ws) v (inr (other, s, spells, on)) =
     said_on known w ws other s spells (ComeTo known ws) (said_of known ws) v on
 
@@ -195,27 +192,20 @@ line_comes known words line marker (without_marker items none all) =
     let come = spelled_in_front known words all.parts [] (inl ([], None)) none all.spelled refl in
     let joined : flat_map (λ xs. xs) all.parts ++ [] ≡ items =
     append-nil (flat_map (λ xs. xs) all.parts) ∙ sym all.joined in
-    subst (λ items. ComeTo known words (inl (items, None))) joined
-    (subst (λ ws. ComeTo known ws (inl (flat_map (λ xs. xs) all.parts ++ [], None)))
-    (append-nil words) come)
+    rw (append-nil words, joined) at come
 line_comes known words line marker (with_marker before after items cut none all) =
     let behind = PosWord (codes "--") ∷ map PosWord after in
     let come = spelled_in_front known before all.parts (codes "--" ∷ after)
     (inl (behind, Some 0)) none all.spelled (inl (refl, refl)) in
     let place : length (flat_map (λ xs. xs) all.parts) + 0 ≡ length items =
     let same = ap length all.joined in omega arith in
-    rw cut (subst (λ n. ComeTo known (before ++ codes "--" ∷ after)
-    (inl (items ++ behind, Some n))) place
-    (subst (λ items. ComeTo known (before ++ codes "--" ∷ after)
-    (inl (items ++ behind, Some (length (flat_map (λ xs. xs) all.parts) + 0)))) (sym all.joined)
-    come))
+    rw cut (rw (place, ← all.joined) at come)
 
 -- words without a line come to their first ambiguous word
 none_comes : (known : Known) (words : List (List ℕ)) (word : List ℕ) (number : ℕ)
     → HasNoLine known words word number → ComeTo known words (inr (word, number))
 none_comes known words word number none =
-    subst (λ ws. ComeTo known ws (inr (word, number))) (sym none.cut)
-    (spelled_in_front known none.before none.spelled.parts (word ∷ none.after)
+    rw none.cut (spelled_in_front known none.before none.spelled.parts (word ∷ none.after)
     (inr (word, number)) none.without_marker none.spelled.spelled
     (inr (none.not_marker, Ambiguous number, none.ambiguous, refl)))
 

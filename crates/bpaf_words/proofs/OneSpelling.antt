@@ -1,5 +1,4 @@
--- Each word but `--` has exactly one spelling: the one that a plain walk over its characters
--- finds.
+-- Each word but `--` has exactly one spelling: the one that a plain walk over its characters finds.
 use Rattle.std.proofs.Common.{◌≡◌, ◌∙◌, ℕ, ◌+◌, List, [], ◌∷◌, ◌++◌, take, drop, sym, ap, Some}
 use Rattle.std.proofs.Common.{slice_get, add-one, ◌==◌, zero, suc, Bool, true, false, refl, subst}
 use Rattle.std.proofs.Common.{arith, ◌⊎◌, inl, inr, ⊎_elim, EachIndex, slice_index, ◌≢◌}
@@ -8,7 +7,7 @@ use Rattle.std.proofs.Common.{encode_utf8, encode_utf8_all, All, lit<, IsUtf8, c
 use Rattle.std.proofs.Math.Seq.{drop-cons, take-suc}
 use Rattle.std.proofs.lemmas.Option.{get_or_from_slice_get, slice_get_within}
 use Rattle.std.proofs.lemmas.Str.{encode_ascii, encode_same, cons_from_encodes, encodes_same}
-use Rattle.std.proofs.lemmas.Bool.{eqb-false, eqb-true, ne_eqb}
+use Rattle.std.proofs.lemmas.Bool.{eqb-false, eqb-true, ne_eqb, cases_eq}
 use Rattle.std.proofs.lemmas.List.Elements.{All-head, All-push, All-tail}
 use Rattle.std.proofs.{lemmas.List.take-append-drop, lemmas.Bool.Decides.nat_tests}
 use Rattle.std.specs.{List.AllZip, Char.IsAsciiDigit, Option.option_map}
@@ -51,57 +50,49 @@ module _ {X : Type 0} (xs : List X) (i : ℕ) (x : X) (at : slice_get xs i ≡ S
 abbrev AreDigits : List ℕ → Type 0
 AreDigits digits = EachIndex digits (λ k. IsAsciiDigit (slice_index digits k))
 
--- one digit more in front
-digits_more : (d : ℕ) (ds : List ℕ) → IsAsciiDigit d → AreDigits ds → AreDigits (d ∷ ds)
-digits_more d ds one more zero within = one
-digits_more d ds one more (suc k) within = more k (omega arith)
-
--- a byte is a digit or none
-digit_or_not : (d : ℕ) → IsAsciiDigit d ⊎ ¬ (IsAsciiDigit d)
-digit_or_not d = grind arith
-
 -- bytes are digits, or not all of them are
 digits_or_not : (ds : List ℕ) → AreDigits ds ⊎ ¬ (AreDigits ds)
 digits_or_not [] = inl (λ k within. absurd (omega arith))
 digits_or_not (d ∷ ds) = ⊎_elim
     (λ one. ⊎_elim
-    (λ more. inl (digits_more d ds one more))
+    (λ more. inl (digits_more one more))
     (λ none. inr (λ all. none (λ k within. all (suc k) (omega arith))))
-    (digits_or_not ds)) (λ none. inr (λ all. none (all 0 (omega arith)))) (digit_or_not d)
+    (digits_or_not ds)) (λ none. inr (λ all. none (all 0 (omega arith)))) digit_or_not
+  where
+    digit_or_not : IsAsciiDigit d ⊎ ¬ (IsAsciiDigit d)
+    digit_or_not = grind arith
 
--- a word of one byte and more is a number or none, by whether that byte is the dash
-number_by : (b : ℕ) (ds : List ℕ) (is_dash : Bool) → (b == 45) ≡ is_dash
-    → AreDigits ds ⊎ ¬ (AreDigits ds) → IsNumber (b ∷ ds) ⊎ ¬ (IsNumber (b ∷ ds))
-number_by b ds false e either = inr (λ n. let is : b ∷ ds ≡ 45 ∷ n.digits = n.is in
-    let same : b ≡ 45 = cc in let t : true ≡ false = sym (ap (λ x. x == 45) same) ∙ e in cc)
-number_by b [] true e either = inr (λ n. let is : b ∷ [] ≡ 45 ∷ n.digits = n.is in n.some cc)
-number_by b (d ∷ ds) true e either = ⊎_elim
-    (λ all. let same : b ≡ 45 = grind (arith, nat_tests) in inl (record {
-      digits = d ∷ ds;
-      is = ap (λ x. x ∷ d ∷ ds) same;
-      some = λ none. cc;
-      each = all;
-    }))
-    (λ none. inr (λ n. let is : b ∷ d ∷ ds ≡ 45 ∷ n.digits = n.is in
-    let same : n.digits ≡ d ∷ ds = cc in none (subst AreDigits same n.each)))
-    either
+    digits_more : IsAsciiDigit d → AreDigits ds → AreDigits (d ∷ ds)
+    digits_more one more zero within = one
+    digits_more one more (suc k) within = more k (omega arith)
+
+-- of a number the first byte is the dash, and the others are digits, of which there are some
+number_parts : (b : ℕ) (ds : List ℕ) → IsNumber (b ∷ ds)
+    → (b ≡ 45) × (ds ≢ []) × AreDigits ds
+number_parts b ds n = let is : b ∷ ds ≡ 45 ∷ n.digits = n.is in
+    let same : n.digits ≡ ds = cc in (cc, rw same at n.some, rw same at n.each)
 
 -- a word is a number or none
 is_or_not : (word : List ℕ) → IsNumber word ⊎ ¬ (IsNumber word)
 is_or_not [] = inr (λ n. let is : [] ≡ 45 ∷ n.digits = n.is in cc)
-is_or_not (b ∷ ds) = number_by b ds (b == 45) refl (digits_or_not ds)
-
--- a number is a word by the setting alone
-by_setting : (numbers b : Bool) (word : List ℕ) → numbers ≡ b → IsNumber word ⊎ ¬ (IsNumber word)
-    → IsNumberWord numbers word ⊎ ¬ (IsNumberWord numbers word)
-by_setting numbers true word e either =
-    ⊎_elim (λ is. inl (e, is)) (λ none. inr (λ both. none both.1)) either
-by_setting numbers false word e either = inr (λ both. let t : false ≡ true = sym e ∙ both.0 in cc)
+is_or_not (b ∷ []) = inr (λ n. (number_parts b [] n).1 refl)
+is_or_not (b ∷ d ∷ ds) = ⊎_elim
+    (λ dash. ⊎_elim
+    (λ all. inl (record {
+      digits = d ∷ ds;
+      is = ap (λ x. x ∷ d ∷ ds) dash;
+      some = λ none. cc;
+      each = all;
+    }))
+    (λ none. inr (λ n. none (number_parts b (d ∷ ds) n).2)) (digits_or_not (d ∷ ds)))
+    (λ other. inr (λ n. other (number_parts b (d ∷ ds) n).0)) (cases_eq b 45)
 
 -- a word is a number that is a word, or none
 pub number_or_not : (numbers : Bool) (word : List ℕ)
     → IsNumberWord numbers word ⊎ ¬ (IsNumberWord numbers word)
-number_or_not numbers word = by_setting numbers numbers word refl (is_or_not word)
+number_or_not true word =
+    ⊎_elim (λ is. inl (refl, is)) (λ none. inr (λ both. none both.1)) (is_or_not word)
+number_or_not false word = inr (λ both. let t : false ≡ true = both.0 in cc)
 
 -- Each word but `--` has exactly one spelling: the one that a plain walk over its characters finds.
 

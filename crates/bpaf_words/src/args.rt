@@ -1,8 +1,7 @@
 //! What a run is given.
 ghost use Rattle.std.specs.Prelude.{◌≡◌, ◌<◌, Some, length, slice_get, List, ℕ, map, option_map};
-ghost use Rattle.std.specs.Prelude.{[], string_bytes};
 ghost use Rattle.bpaf_words.specs.Arguments.{words_in, words_of, name_of, env_of, entries_of};
-ghost use Rattle.std.specs.Option.{option_map_or};
+ghost use Rattle.std.specs.{Prelude.[], Prelude.string_bytes, Option.option_map_or};
 
 use std::collections::BTreeMap;
 

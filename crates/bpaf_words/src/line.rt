@@ -1,9 +1,8 @@
 //! The line of all words.
 ghost use Rattle.std.specs.Prelude.{◌≡◌, ◌≤◌, [], ◌++◌, true, IfOk, OnOk, All, IsUtf8, drop, map};
-ghost use Rattle.std.specs.Prelude.{length, nat_lt};
-ghost use Rattle.std.specs.Bool.{then_some};
 ghost use Rattle.bpaf_words.specs.Splitting.{Begins, BeginsByAny, EndsFront, IsFront, IsLineByAny};
 ghost use Rattle.bpaf_words.specs.Splitting.{SplitsWords, ReadsLine, AreTexts};
+ghost use Rattle.std.specs.{Prelude.length, Prelude.nat_lt, Bool.then_some};
 ghost use Rattle.bpaf_words.specs.{Arguments.words_in, Line.known_at};
 
 use crate::args::Words;
@@ -81,7 +80,8 @@ impl Front {
         requires whole { EndsFront (words_in words) self.read }
         ensures { IfOk result (IsLineByAny self.numbers (words_in words.entry)) }
     {
-        line_behind(alloc, words, self.read, self.items)
+        let line = line_behind(alloc, words, self.read, self.items)?;
+        Ok(line)
     }
 
     /// The line of the words by these known short names, by which joined words such as `-vn3` are

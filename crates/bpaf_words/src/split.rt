@@ -1,10 +1,9 @@
 //! The items of one word.
 ghost use Rattle.std.specs.Prelude.{◌≡◌, ◌≢◌, ◌↔◌, [], ◌∷◌, ◌++◌, false, IsTrue, EachIndex, IfOk};
 ghost use Rattle.std.specs.Prelude.{OnOk, slice_index, codes, encode_utf8, encode_utf8_all, List};
-ghost use Rattle.std.specs.Prelude.{ℕ, MatchOption};
-ghost use Rattle.std.specs.{Bool.MatchBool, Char.IsAsciiDigit};
 ghost use Rattle.bpaf_words.specs.Line.{IsNumber, argument_of, known_at};
 ghost use Rattle.bpaf_words.specs.Splitting.{Splits, SplitsAlone, SplitsDashed, SplitsJoined};
+ghost use Rattle.std.specs.{Prelude.ℕ, Prelude.MatchOption, Bool.MatchBool, Char.IsAsciiDigit};
 ghost use Rattle.bpaf_words.specs.Splitting.{SpellsAs};
 
 use bpaf_base::{Arg, Text};

@@ -1,7 +1,7 @@
 use Rattle.std.proofs.Common.{◌≡◌, [], ◌∷◌, true, false, sym, subst, ◌∙◌}
 use Rattle.bpaf_base.specs.declared.arg.Arg.TheVariants.{Word}
 use Rattle.bpaf_words.specs.Line.{IsNumber, number_word}
-use Rattle.bpaf_words.proofs.SplitLemmas.{alone_by_any}
+use Rattle.bpaf_words.proofs.LineLemmas.{alone_by_any}
 use Rattle.bpaf_words.proofs.split.split_behind_dash.Goals.{else-numbers-via-then-numbers+else-is_number}
 use Rattle.bpaf_words.proofs.split.split_behind_dash.Goals.{else-numbers-via-else-numbers}
 use Rattle.bpaf_words.proofs.split.split_behind_dash.Goals as goal

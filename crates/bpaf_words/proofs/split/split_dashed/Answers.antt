@@ -3,8 +3,8 @@ use Rattle.std.proofs.Common.{append-nil, length}
 use Rattle.std.proofs.{lemmas.List.nil_from_length, lemmas.Bool.eqb-false, lemmas.Bool.eqb-true}
 use Rattle.bpaf_base.specs.declared.arg.Arg.TheVariants.{Short, Word, ArgWord}
 use Rattle.bpaf_words.specs.Line.{dash, short}
-use Rattle.bpaf_words.proofs.SplitLemmas.{other_than_dash, at_equals, no_equals, with_value}
-use Rattle.bpaf_words.proofs.SplitLemmas.{are_joined, first_letter}
+use Rattle.bpaf_words.proofs.LineLemmas.{other_than_dash, at_equals, no_equals, with_value}
+use Rattle.bpaf_words.proofs.LineLemmas.{are_joined, first_letter}
 use Rattle.bpaf_words.proofs.split.split_dashed.Goals.{then-is_empty-2, else-is_empty-2}
 use Rattle.bpaf_words.proofs.split.split_dashed.Goals as goal
 

@@ -1,12 +1,9 @@
 use Rattle.std.proofs.Common.{sym, ◌∙◌, ap, [], ◌∷◌, ◌++◌, arith}
-use Rattle.bpaf_words.proofs.LineLemmas.{walked_none, walked_more, walked_bound, ends, stops_both}
+use Rattle.bpaf_words.proofs.LineLemmas.{walked_more, walked_bound, ends, stops_both}
 use Rattle.bpaf_words.proofs.LineLemmas.{stops_neither, stops_argument, taken_back, first_text}
 use Rattle.bpaf_words.proofs.split.split_joined.Goals.{then-count-eq0, else-count-eq0}
 use Rattle.bpaf_base.specs.declared.arg.Arg.TheVariants.{Word}
 use Rattle.bpaf_words.proofs.split.split_joined.Goals as goal
-
-pub loop-c-init : goal.loop-c-init
-loop-c-init c = rw c.chars-rest.ensures.rest (walked_none _ _ _ _)
 
 pub overflow_add-result : goal.overflow_add-result
 overflow_add-result c =

@@ -2,7 +2,7 @@ use Rattle.std.proofs.Common.{rules, [], ◌∷◌, ◌++◌, codes, true, false
 use Rattle.std.proofs.lemmas.Result.{on_ok_weaker}
 use Rattle.bpaf_words.specs.Line.{long, long_value}
 use Rattle.bpaf_base.specs.declared.arg.Arg.TheVariants.{Long, ArgWord}
-use Rattle.bpaf_words.proofs.SplitLemmas.{no_equals, at_equals}
+use Rattle.bpaf_words.proofs.LineLemmas.{no_equals, at_equals}
 use Rattle.bpaf_words.proofs.split.split_long.Goals as goal
 
 pub returns-in_ok-push-in-None : goal.returns-in_ok-push-in-None

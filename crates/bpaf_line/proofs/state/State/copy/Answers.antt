@@ -1,6 +1,4 @@
-use Rattle.std.proofs.Common.{◌≡◌, ◌∙◌, ◌++◌, IfSome, ap, arith, false, map, string_bytes, refl}
-use Rattle.std.proofs.Common.{length, subst}
-use Rattle.bpaf_index.specs.Chained.{AreBehind}
+use Rattle.std.proofs.Common.{◌≡◌, ◌∙◌, ◌++◌, ap, arith, map, string_bytes, refl}
 use Rattle.bpaf_line.proofs.Sound.{sound_copy}
 use Rattle.bpaf_line.proofs.state.State.copy.Goals as goal
 
@@ -19,12 +17,10 @@ invariant_of-result c =
     c.in_ok-path.ensures ∙ ap (map string_bytes) c.as_slice-5.ensures.value in
     sound_copy _ s
     (rw (items, c.in_ok-env.ensures, trail, conflicts, path, c.in_ok-name.ensures) refl)
-    refl refl (subst (λ items. IfSome c.in_ok-chains.chains (AreBehind items (λ p. false)))
-    c.deref.ensures.value c.in_ok-chains.ensures) (c.in_ok-words.ensures.items ∙ c.as_slice-2.ensures.value)
-    refl refl c.nothing.ensures
+    refl refl (rw (c.deref.ensures.value ∙ items) at c.in_ok-chains.ensures)
+    (c.in_ok-words.ensures.items ∙ c.as_slice-2.ensures.value) refl refl c.nothing.ensures
     (omega (
       arith,
-      ap length items,
       c.in_ok-trail.ensures.capacity,
       c.in_ok-extend_from_slice.ensures.capacity,
       c.len.ensures,

@@ -1,11 +1,8 @@
 use Rattle.std.proofs.Common.{◌∙◌, ap, sym, arith, not}
-use Rattle.bpaf_base.specs.Items.{is_argument_key}
-use Rattle.bpaf_index.proofs.Chained.{walked_none, walked_more}
-use Rattle.bpaf_line.proofs.Finding.{first_along}
+use Rattle.bpaf_index.proofs.Chained.{walked_more}
+use Rattle.bpaf_line.proofs.Places.{first_along}
+use Rattle.bpaf_line.specs.Inside.{is_sought}
 use Rattle.bpaf_line.proofs.state.State.first_along.Goals as goal
-
-pub loop-place-init : goal.loop-place-init
-loop-place-init c = walked_none c.args.chains.now.classes _ c.args.start
 
 pub loop-place-preserved : goal.loop-place-preserved
 loop-place-preserved c =
@@ -16,9 +13,6 @@ loop-place-preserved c =
 
 pub returns-then-is_key_at : goal.returns-then-is_key_at
 returns-then-is_key_at c =
-    first_along (is_argument_key (record {
-      shorts = c.args.shorts.now;
-      longs = c.args.longs.now;
-    }) c.args.adjacent) c.args.self.now c.args.chains.now.classes c.args.start c.args.end
-    c.loop-place.place c.loop-place.place c.loop-place.invariant (omega arith)
+    first_along (is_sought c.args.key) c.args.self.now c.args.chains.now.classes c.args.start
+    c.args.end c.loop-place.place c.loop-place.place c.loop-place.invariant (omega arith)
     (omega (arith, c.loop-place-test.true)) (λ below. sym c.is_key_at.ensures ∙ c.if-is_key_at.true)

@@ -1,11 +1,8 @@
 use Rattle.std.proofs.Common.{◌∙◌, ap, arith, not, sym}
 use Rattle.bpaf_base.specs.Items.{is_positional}
-use Rattle.bpaf_index.proofs.Chained.{walked_more, walked_none}
-use Rattle.bpaf_line.proofs.Finding.{no_word_passed, none_past_taken}
+use Rattle.bpaf_index.proofs.Chained.{walked_more}
+use Rattle.bpaf_line.proofs.Places.{no_word_passed, none_past_taken}
 use Rattle.bpaf_line.proofs.state.State.first_word_along.Goals as goal
-
-pub loop-place-init : goal.loop-place-init
-loop-place-init c = walked_none c.args.chains.now.classes _ c.first_word-start.result
 
 pub loop-place-preserved : goal.loop-place-preserved
 loop-place-preserved c =

@@ -1,11 +1,9 @@
-use Rattle.std.proofs.Common.{◌≡◌, ◌≤◌, length, ap, ◌∙◌, refl, None, ◌-◌, option_to_list, subst}
-use Rattle.std.proofs.Common.{is_some, arith, IfSome, false}
+use Rattle.std.proofs.Common.{◌≡◌, length, ap, ◌∙◌, refl, None, ◌-◌, option_to_list, is_some, arith}
 use Rattle.std.specs.Int.{from_bool}
 use Rattle.bpaf_words.specs.Arguments.{env_of, name_of}
 use Rattle.bpaf_line.specs.Situation.{Context, beginning}
-use Rattle.bpaf_index.specs.{Bits.IsFirstClear, Chained.AreBehind, Chained.HasNoKeyFrom}
 use Rattle.bpaf_line.specs.{declared.state.State.TheInside.Inside, Inside.situation_of}
-use Rattle.bpaf_line.proofs.Beginning.{sound_beginning, begins}
+use Rattle.bpaf_line.proofs.Sound.{sound_beginning, begins}
 use Rattle.bpaf_line.proofs.state.State.of_line.Goals.{After-nothing}
 use Rattle.bpaf_line.proofs.state.State.of_line.Goals as goal
 
@@ -55,21 +53,15 @@ start c = begins (inside c) (context_is c) refl refl (c.in_ok-env.ensures ∙ c.
 pub invariant_of-result : goal.invariant_of-result
 unfolding context_is inside
 invariant_of-result c =
-    let n = length c.args.line.items.items in
     sound_beginning (inside c) (context_is c) (start c) c.requires
     (omega (arith, size c, c.in_ok-words.ensures.room)) c.in_ok-words.ensures.bits
     (omega (arith, size c, c.in_ok-with_capacity.ensures.capacity))
     (ap (λ k. c.len-end.result - k) (c.from.ensures ∙ ap from_bool c.is_some.ensures)
     ∙ ap (λ m. m - from_bool (is_some c.args.line.marker)) (size c))
-    (subst (λ words. IsFirstClear words 0 n c.first_clear-first.result) c.deref.ensures.value
-    (subst (λ m. IsFirstClear c.deref.result.now 0 m c.first_clear-first.result)
-    (size c) c.first_clear-first.ensures))
-    (subst (λ items. HasNoKeyFrom items c.count_to_last_key-keys.result) c.deref-2.ensures.value
-    c.count_to_last_key-keys.ensures.keyless)
-    (subst (λ items. IfSome c.in_ok-chains.chains (AreBehind items (λ p. false)))
-    c.deref-3.ensures.value c.in_ok-chains.ensures) c.nothing.ensures refl
-    (subst (λ items. c.count_to_last_key-keys.result ≤ length items) c.deref-2.ensures.value
-    c.count_to_last_key-keys.ensures.within)
+    (rw (c.deref.ensures.value, size c) at c.first_clear-first.ensures)
+    (rw c.deref-2.ensures.value at c.count_to_last_key-keys.ensures.keyless)
+    (rw c.deref-3.ensures.value at c.in_ok-chains.ensures) c.nothing.ensures refl
+    (rw c.deref-2.ensures.value at c.count_to_last_key-keys.ensures.within)
 
 pub returns : goal.returns
 unfolding context_is inside

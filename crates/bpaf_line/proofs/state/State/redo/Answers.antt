@@ -1,5 +1,5 @@
-use Rattle.std.proofs.Common.{◌≡◌, ◌∙◌, ◌++◌, ap, sym, subst, map, string_bytes, slice_get, IfSome}
-use Rattle.std.proofs.{Common.Some, lemmas.List.map-append}
+use Rattle.std.proofs.Common.{◌∙◌, ◌++◌, ap, sym, subst, map, string_bytes}
+use Rattle.std.proofs.{lemmas.List.map-append}
 use Rattle.bpaf_line.specs.Situation.{with_current, with_scope, PresentInTurn}
 use Rattle.bpaf_line.specs.{Inside.situation_of, Inside.changes_of, Marks.redone}
 use Rattle.bpaf_line.proofs.{Marks.redone_parts, Sound.sound_path, Sound.path_longer}
@@ -7,14 +7,10 @@ use Rattle.bpaf_line.proofs.state.State.redo.Goals as goal
 
 pub invariant_of-self-2 : goal.invariant_of-self-2
 invariant_of-self-2 c =
-    let s = c.self.inside in
-    let path : map string_bytes c.append.new.self.items ≡ map string_bytes s.path.items ++ map
-    string_bytes c.steps.inside.path.items =
-    ap (map string_bytes) c.in_ok-append.ensures.items
-    ∙ map-append string_bytes s.path.items c.steps.inside.path.items in
-    sound_path s c.append-2.new.self c.append.new.self c.self.invariant
-    (subst (λ xs. IfSome s.name (λ n. slice_get xs 0 ≡ Some n)) (sym path)
-    (path_longer s.name (map string_bytes s.path.items) _ c.self.invariant.named))
+    let path = ap (map string_bytes) c.in_ok-append.ensures.items
+    ∙ map-append string_bytes c.self.inside.path.items c.steps.inside.path.items in
+    sound_path c.self.inside _ c.self.invariant c.append-2.new.self c.append.new.self
+    (rw path (path_longer c.self.inside.name _ _ c.self.invariant.named))
 
 pub put_all-requires : goal.put_all-requires
 put_all-requires c =

@@ -1,7 +1,7 @@
 use Rattle.std.proofs.Common.{◌≡◌, ◌∙◌, ap, sym, subst, refl, drop, map, string_bytes}
 use Rattle.std.proofs.lemmas.List.{drop-map}
-use Rattle.bpaf_line.specs.Inside.{places_of}
-use Rattle.bpaf_line.specs.Marks.{HasReached, undone, steps_since, redone, CanRedo}
+use Rattle.bpaf_line.specs.Inside.{places_of, IsSoundAt}
+use Rattle.bpaf_line.specs.Marks.{undone, steps_since, redone, CanRedo}
 use Rattle.bpaf_line.proofs.Marks.{rest_is, redone_undone, can_redo}
 use Rattle.bpaf_line.proofs.state.State.steps.Goals as goal
 
@@ -22,11 +22,10 @@ returns-clause-steps c =
 
 pub returns-clause-fit : goal.returns-clause-fit
 returns-clause-fit c =
+    let h = subst (IsSoundAt c.self.inside) c.self.view_is c.self.invariant in
     subst (λ steps. CanRedo steps (undone c.args.mark.now c.args.self.now))
     (sym (returns-clause-steps c))
-    (subst (λ s. CanRedo (steps_since c.args.mark.now s) (undone c.args.mark.now s)) c.self.view_is
-    (can_redo c.args.mark.now _ (subst (HasReached c.args.mark.now) (sym c.self.view_is)
-    c.requires) c.self.invariant.in_turn c.self.invariant.ordered c.self.invariant.inside))
+    (can_redo c.args.mark.now _ c.requires h.in_turn h.ordered h.inside)
 
 pub returns-clause-again : goal.returns-clause-again
 returns-clause-again c = ap (λ steps. redone steps (undone c.args.mark.now c.args.self.now))

@@ -1,8 +1,7 @@
-use Rattle.std.proofs.Common.{◌≡◌, ◌∙◌, ◌≤◌, ap, sym, subst, take, slice_get, IfSome, Some, map}
-use Rattle.std.proofs.{Common.string_bytes, Common.length, Common.arith, lemmas.List.take-map}
-use Rattle.bpaf_line.specs.{Marks.Fits, Marks.undone, Situation.with_current, Inside.situation_of}
-use Rattle.bpaf_line.proofs.Sound.{sound_path, path_cut}
-use Rattle.bpaf_line.proofs.Marks.{undone_cut, fits_undone, undone_twice}
+use Rattle.std.proofs.Common.{◌≡◌, ◌∙◌, ap, sym, map, string_bytes, length, arith}
+use Rattle.std.proofs.lemmas.List.{take-map}
+use Rattle.bpaf_line.specs.{Situation.with_current, Inside.situation_of}
+use Rattle.bpaf_line.proofs.{Sound.sound_path, Sound.path_cut, Marks.undone_cut}
 use Rattle.bpaf_line.proofs.state.State.undo.Goals as goal
 
 pub invariant_of-self : goal.invariant_of-self
@@ -10,14 +9,11 @@ invariant_of-self c =
     let s = c.self-2.inside in
     let name : s.name ≡ c.args.self.now.context.name = ap (λ t. t.context.name)
     (c.self-2.view_is ∙ c.loop-self.invariant.cut) in
-    let path : map string_bytes c.truncate-2.new.self.items ≡ take c.args.mark.depth
-    (map string_bytes s.path.items) =
-    ap (map string_bytes) c.truncate-2.ensures.items
+    let path = ap (map string_bytes) c.truncate-2.ensures.items
     ∙ sym (take-map string_bytes c.args.mark.depth s.path.items) in
-    sound_path s c.truncate.new.self c.truncate-2.new.self c.self-2.invariant
-    (subst (λ xs. IfSome s.name (λ n. slice_get xs 0 ≡ Some n)) (sym path)
-    (path_cut s.name (map string_bytes s.path.items) c.args.mark.depth c.self-2.invariant.named
-    (subst (λ n. IfSome n (λ _. 1 ≤ c.args.mark.depth)) (sym name) c.requires.named)))
+    sound_path s _ c.self-2.invariant c.truncate.new.self c.truncate-2.new.self
+    (rw path (path_cut s.name (map string_bytes s.path.items) c.args.mark.depth
+    c.self-2.invariant.named (rw name c.requires.named)))
 
 pub returns-clause-undone : goal.returns-clause-undone
 returns-clause-undone c =
@@ -36,11 +32,3 @@ returns-clause-undone c =
     (c.self-2.view_is ∙ c.loop-self.invariant.cut) all c.truncate.ensures.items
     (ap (map string_bytes) c.truncate-2.ensures.items
     ∙ sym (take-map string_bytes mark.depth c.self-2.inside.path.items))
-
-pub returns-clause-fits : goal.returns-clause-fits
-returns-clause-fits c = subst (Fits c.args.mark) (sym (returns-clause-undone c))
-    (fits_undone c.args.mark c.args.self.now c.requires)
-
-pub returns-clause-back : goal.returns-clause-back
-returns-clause-back c = ap (undone c.args.mark) (returns-clause-undone c)
-    ∙ (undone_twice c.args.mark c.args.self.now ∙ sym (returns-clause-undone c))

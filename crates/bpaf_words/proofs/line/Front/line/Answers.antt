@@ -1,8 +1,8 @@
-use Rattle.bpaf_words.specs.Arguments.{words_in}
-use Rattle.bpaf_words.proofs.LineLemmas.{line_found}
+use Rattle.bpaf_words.specs.{Arguments.words_in, Line.known_at}
+use Rattle.bpaf_words.proofs.LineLemmas.{line_of_front}
 use Rattle.bpaf_words.proofs.line.Front.line.Goals as goal
 
 pub returns : goal.returns
-returns c = line_found c.args.self.numbers (words_in c.args.words) c.args.self.items.items
-    c.args.self.read c.line_behind.result c.requires.front c.requires.whole
-    c.line_behind.ensures.items c.line_behind.ensures.marker
+returns c names = rw (c.in_ok-line.ensures.items, c.in_ok-line.ensures.marker)
+    (line_of_front (known_at c.args.self.numbers names) (words_in c.args.words) _ _
+    (c.requires.front names) c.requires.whole)
