@@ -535,8 +535,7 @@ module _ {env : Variables} {T : Type 0} {a b : Outcome T} {ra rb : Roles} {wa wb
   -- a value of the choice is one of the branch that was opened
   choice_took : {s t : Situation} {v : T} → IsWholeIn env s → BranchOk s v t
       → ProgramTook T values s v t
-  choice_took {s} {v} w (of_first {m} i e) = grind (arith, first_closed, u)
-  choice_took {s} {v} w (of_second {m} i e) = grind (arith, second_closed, u)
+  choice_took w x = grind (arith, first_closed, second_closed, u)
 
   -- a branch that found no command, of whose answer something else than want of memory is known
   abbrev Passed : Situation → Error → Situation → Type 0

@@ -103,9 +103,7 @@ module _ {T : Type 0} {k : FieldKind} {q : Roles} {gap : Gap T} {other : Type 0}
   pub first_err : {value : LinePiece → T → Type 0} {e : Error}
       → FirstRead T k q value gap other s (Err e) t
       → SingleErr T k q (FrontOf T value) gap s (class e) t
-  first_err (read_fault {o} {os} c path is some none) = grind arith
-  first_err (read_none p n) = none_err p n
-  first_err (read_memory c) = of_memory c
+  first_err x = grind (arith, none_err)
 
 module _ {T : Type 0} {q : Roles} {value : LinePiece → T → Type 0} {gap : Gap T} {other : Type 0}
     {s t : Situation} (has : gap.has ≡ false) where

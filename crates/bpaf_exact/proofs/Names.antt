@@ -347,8 +347,7 @@ all_front k {os} none =
 
 -- where a field takes none, nor does a repeat of it
 pub each_nil : (k : FieldKind) (os : List LinePiece) → front k os ≡ [] → front (repeated k) os ≡ []
-each_nil (OneWord b) os none = grind arith
-each_nil _ os none = none
+each_nil x os none = grind arith
 
 -- and the other way
 pub nil_each : (k : FieldKind) (os : List LinePiece) → front (repeated k) os ≡ [] → front k os ≡ []
