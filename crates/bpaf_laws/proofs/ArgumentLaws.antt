@@ -231,8 +231,7 @@ module _ (T : Type 0) (means : List ℕ → T → Type 0) (argument : KeyWithVal
     where
       answers : AnswersLawfully (ArgumentOutcome means argument) reads_argument
       answers s (Ok v) t (text, inl takes, meant) =
-          reads_as (got_text argument s text t argument.last takes)
-          (λ own. inl (text, own, meant))
+          grind (arith, got_text, reads_as, got_text argument s text t argument.last takes)
       answers s (Ok v) t (text, inr found, meant) =
           reads_unset reads_argument s t v found.left
           (inr (newly_none s, subst (λ set. IsSomeRelated means set v) (sym found.set) meant))

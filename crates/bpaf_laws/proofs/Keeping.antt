@@ -314,12 +314,7 @@ open_joins s t k c = record {
 -- the count of present places falls by the number of newly taken ones
 pub open_count-falls : (s t : Situation) → Keeps s t → Closes s t
     → open_count s ≡ open_count t + taken_count s t
-open_count-falls s t k c =
-    let joins = open_joins s t k c in
-    let same : length t.context.line ≡ length s.context.line = ap (λ context. length context.line)
-    k.context in
-    count_below-joined (is_open s) (is_open t) (newly s t) (length s.context.line) joins.all
-    joins.apart ∙ ap (λ n. count_below (is_open t) n + taken_count s t) (sym same)
+open_count-falls s t k c = grind (arith, count_below-joined, open_joins, open_joins s t k c)
 
 -- so it does for every parser that keeps to the laws
 pub lawful_falls : {T : Type 0} {outcome : Outcome T} {reads : Readings T} → Lawful T outcome reads
