@@ -1,27 +1,17 @@
 -- The classes of refusals, and of what two refusals together are.
-use Rattle.std.proofs.Common.{if◌then◌else◌, true≢false, arith, false, Bool, refl, true, inl, sym}
-use Rattle.std.proofs.Common.{◌∙◌, ◌≡◌, inr, ◌⊎◌, ap}
-use Rattle.std.proofs.lemmas.Bool.{eqb-true, eq-eqb}
+use Rattle.std.proofs.Common.{true≢false, arith, false, Bool, refl, true, inl, sym, ◌∙◌, ◌≡◌, inr}
+use Rattle.std.proofs.{lemmas.Bool.eqb-true, lemmas.Bool.eq-eqb, Common.◌⊎◌, Common.ap}
 use Rattle.bpaf_line.specs.declared.error.Message.TheVariants.{ParseFailure, Missing}
 use Rattle.bpaf_line.specs.Messages.{CombinesSpared, can_catch, is_memory, Combines}
 use Rattle.bpaf_line.specs.{declared.error.Message.Message, declared.error.Error.Error}
 use Rattle.bpaf_line.specs.Situation.{Situation}
-use Rattle.bpaf_laws.specs.Combinators.{is_untouched, stops_spared, stops_step}
+use Rattle.bpaf_laws.specs.Combinators.{is_untouched, stops_step}
 use Rattle.bpaf_exact.specs.Flat.{class_of_tests, ErrorClass, is_missing, OfMissing, OfMemory}
 use Rattle.bpaf_exact.specs.Flat.{CanCatch, class_of, Refused, Caught, Stops}
 
 -- want of memory is of its class
 pub memory_class : (m : Message) → is_memory m ≡ true → class_of m ≡ OfMemory
 memory_class m e = ap (λ b. class_of_tests b (is_missing m) (can_catch m)) e
-
--- what says that items are missing can be caught, and isn't want of memory
-missing_caught : (m : Message) → is_missing m ≡ true
-    → (is_memory m ≡ false) × (can_catch m ≡ true)
-missing_caught other e = grind arith
-
--- want of memory can't be caught
-memory_kept : (m : Message) → is_memory m ≡ true → can_catch m ≡ false
-memory_kept other e = grind arith
 
 -- what the three tests of a class answer: want of memory, a missing item, whether it can be caught
 abbrev tests_of : ErrorClass → Bool × Bool × Bool
@@ -33,7 +23,7 @@ tests_of Refused = (false, false, false)
 -- the tests of a message are those of its class
 tests_are : (m : Message) {c : ErrorClass} → class_of m ≡ c → (is_memory m ≡ (tests_of c).0)
     × (is_missing m ≡ (tests_of c).1) × (can_catch m ≡ (tests_of c).2)
-tests_are m e = grind (arith, memory_kept, missing_caught)
+tests_are m e = grind arith
 
 -- what isn't want of memory isn't of its class
 pub not_memory : (m : Message) → is_memory m ≡ false → class_of m ≡ OfMemory → ⊥
@@ -47,30 +37,20 @@ caught_class m e = grind (arith, tests_are)
 pub kept_class : (m : Message) → can_catch m ≡ false → CanCatch (class_of m) → ⊥
 kept_class m e x = grind (arith, tests_are)
 
--- which refusals stop a turn that doesn't catch
-stop_test : (m : Message) (untouched : Bool)
-    → stops_spared false m untouched ≡ (if is_missing m then untouched else can_catch m)
-stop_test other untouched = grind arith
-
 -- a turn stops at a missing item where nothing was taken, and at what can be caught otherwise
 abbrev stop_by : ErrorClass → Bool → Bool
 stop_by OfMissing untouched = untouched
 stop_by c untouched = (tests_of c).2
 
--- that is told by the class
-stop_is : (m : Message) (untouched : Bool) {c : ErrorClass} → class_of m ≡ c
-    → stops_step false m untouched ≡ stop_by c untouched
-stop_is m untouched e = grind (arith, stop_test)
-
 -- an error at which a turn stops
 pub stops_at : {e : Error} {s m : Situation} → stops_step false e.0 (is_untouched s m) ≡ true
     → Stops e s m
-stops_at h = grind (arith, eqb-true, stop_is)
+stops_at h = grind (arith, eqb-true)
 
 -- an error at which it doesn't
 pub goes_on : (e : Error) {s m : Situation} → stops_step false e.0 (is_untouched s m) ≡ false
     → Stops e s m → ⊥
-goes_on e h x = grind (arith, eq-eqb, stop_is)
+goes_on e h x = grind (arith, eq-eqb)
 
 -- a refusal of that class says that items are missing
 pub is_missing_of : (m : Message) → class_of m ≡ OfMissing → is_missing m ≡ true

@@ -2,15 +2,14 @@
 -- may be left out keep to the laws.
 use Rattle.std.proofs.Common.{true≢false, length, Option, Result, ⊎_elim, false, arith, subst, Bool}
 use Rattle.std.proofs.Common.{true, zero, List, None, Some, refl, ◌++◌, ◌||◌, Err, suc, ◌<◌, ◌∷◌, ℕ}
-use Rattle.std.proofs.Common.{◌≡◌, sym, ◌∙◌, inl, inr, ◌≤◌, ◌⊎◌, [], Ok, ap}
+use Rattle.std.proofs.Common.{◌≡◌, sym, ◌∙◌, inl, inr, ◌⊎◌, [], Ok, ap}
 use Rattle.std.proofs.lemmas.Bool.{and_parts, not-false, cases_lt, eqb-true, not-true, or_right}
 use Rattle.std.proofs.{lemmas.Bool.le-leb, lemmas.Bool.lt-ltb, lemmas.List.Folds.list_any-append}
 use Rattle.std.specs.Prelude.{MatchBool}
 use Rattle.bpaf_base.specs.{Items.is_command_word, Items.any_item, declared.arg.Arg.Arg}
 use Rattle.bpaf_line.specs.Messages.{is_wrong_input, is_memory, Combines}
 use Rattle.bpaf_line.specs.Taking.{ConflictsSaved, open_item, IsWinner}
-use Rattle.bpaf_line.specs.{Situation.Situation, Situation.is_taken, declared.error.Message.Message}
-use Rattle.bpaf_line.specs.declared.error.Error.{Error}
+use Rattle.bpaf_line.specs.{Situation.Situation, Situation.is_taken, declared.error.Error.Error}
 use Rattle.bpaf_line.proofs.Places.{present_in_line, open_has_item}
 use Rattle.bpaf_laws.proofs.ChoiceLaws.{chosen_at_equal, not_winner, of_chosen}
 use Rattle.bpaf_laws.specs.Choice.{ChoiceOutcome, BranchesEval, EqualDepths, branch_of, Winner}
@@ -24,12 +23,12 @@ use Rattle.bpaf_exact.proofs.Classes.{combined_missing, combined_refused, is_mis
 use Rattle.bpaf_exact.proofs.Cuts.{both_nil, not_left, Union, owner}
 use Rattle.bpaf_exact.proofs.{Names.apart_second, Names.apart_first, Places.match_of, Places.Match}
 use Rattle.bpaf_exact.proofs.{Wrappers.closed_keeps, Classes.memory_class}
-use Rattle.bpaf_exact.specs.Flat.{AlternativeOk, either_value, OptionalEval, FirstUnread, IsWholeIn}
-use Rattle.bpaf_exact.specs.Flat.{TakesFirst, ErrorClass, Variables, OfMissing, none_here, OfMemory}
-use Rattle.bpaf_exact.specs.Flat.{no_place, AgreesOn, Refused, Closure, Steady, cells, class, Stops}
-use Rattle.bpaf_exact.specs.Flat.{first_cells, NonePresent, ClosedValue, is_missing, ClosedEval}
+use Rattle.bpaf_exact.specs.Flat.{optional_none, either_value, OptionalEval, FirstUnread, IsWholeIn}
+use Rattle.bpaf_exact.specs.Flat.{ClosedEval, Variables, OfMissing, none_here, OfMemory, no_place}
+use Rattle.bpaf_exact.specs.Flat.{first_cells, NonePresent, ClosedValue, TakesFirst, ErrorClass}
 use Rattle.bpaf_exact.specs.Flat.{alternative_missing, alternative_refused, alternative_memory}
-use Rattle.bpaf_exact.specs.Flat.{AlternativeErr, AlternativeLaw, optional_some, optional_none}
+use Rattle.bpaf_exact.specs.Flat.{AlternativeErr, AlternativeLaw, AlternativeOk, optional_some}
+use Rattle.bpaf_exact.specs.Flat.{AgreesOn, Refused, Closure, Steady, cells, class, Stops}
 use Rattle.bpaf_exact.specs.Pieces.{is_own_role, takes_later, TakesPiece, LinePiece, takes_one}
 use Rattle.bpaf_exact.specs.Pieces.{takes_two, either, is_own, pieces, Cells, Apart, Roles}
 use Rattle.bpaf_exact.specs.ProgramForm.{OptionalCommands, FindsNoCommand, ChoiceValue, CommandsLaw}
@@ -203,31 +202,15 @@ module _ {env : Variables} {T : Type 0} {a b : Outcome T} {qa qb : Roles}
       → AlternativeOk T (either qa qb) vr s y t
   second_won {s} {n} {t} {y} o h st e = won T (swap_union u) vb vr same_second same_first o h st e
 
-  -- the other branch refused
-  err_other : {q : Roles} {v : LinePiece → T → Type 0} {s n : Situation} {cm : Cells} (e : Error)
-      → is_memory e.0 ≡ false → AlternativeErr T q v s (class e) n → Other T q v (cells s) cm
-  err_other e h x = grind (arith, not_memory, other_missing, other_unread)
-
   -- or took something further right
   ok_other : {q : Roles} {v : LinePiece → T → Type 0} {s n : Situation} {x : T} {cm : Cells}
       → AlternativeOk T q v s x n → TookLeft cm (cells n) → Other T q v (cells s) cm
   ok_other j l = ⊎_elim (λ f. other_first f l) (λ z. other_unread z) j.first
 
-  -- both branches leave the path as it was
-  err_path : {q : Roles} {v : LinePiece → T → Type 0} {s n : Situation} (e : Error)
-      → is_memory e.0 ≡ false → AlternativeErr T q v s (class e) n → n.path ≡ s.path
-  err_path e h x = grind (arith, not_memory)
-
-  -- an alternative leaves the path as it was
-  law_path : {z : Outcome T} {q : Roles} {v : LinePiece → T → Type 0} → AlternativeLaw env T z q v
-      → (s : Situation) {n : Situation} (r : Result T Error) → IsWholeIn env s → z s r n
-      → IsNotMemory r → n.path ≡ s.path
-  law_path l s x w o h = grind (arith, err_path)
-
   -- and both are equally deep
   equally_deep : {s t : Situation} {r : Result T Error} → IsWholeIn env s
       → (o : BranchesEval a b s r t) → EqualDepths s o.a o.sa o.b o.sb r t
-  equally_deep w o = grind (arith, chosen_at_equal, law_path)
+  equally_deep w o = grind (arith, chosen_at_equal, not_memory)
 
   -- an alternative that answered took something
   never_untouched : {q : Roles} {v : LinePiece → T → Type 0} {s m : Situation} {x : T}
@@ -255,11 +238,6 @@ module _ {env : Variables} {T : Type 0} {a b : Outcome T} {qa qb : Roles}
       (saved_steady sa k.1)
       (cells_same (same_scope (saved_steady sa k.1)) k.1.taken))
 
-  -- the value of one, where the other refused
-  alone_ok : {s m t : Situation} {x v : T} {e : Error} → AlternativeOk T (either qa qb) vr s x m
-      → OneOk s (branch_of x m) e (Ok v) t → AlternativeOk T (either qa qb) vr s v t
-  alone_ok i x = grind arith
-
   -- the value where both paths are equally deep
   equal_ok : (s sa sb : Situation) {t : Situation} {v : T} (x y : Result T Error) → IsWholeIn env s
       → a s x sa → b s y sb → IsNotMemory x → IsNotMemory y → EqualDepths s x sa y sb (Ok v) t
@@ -267,9 +245,9 @@ module _ {env : Variables} {T : Type 0} {a b : Outcome T} {qa qb : Roles}
   equal_ok s sa sb (Ok x) (Ok y) w f g hf hg (inl o) = grind (arith, and_parts, never_untouched)
   equal_ok s sa sb {t} {v} (Ok x) (Ok y) w f g hf hg (inr o) = grind (arith, winner_ok)
   equal_ok s sa sb (Ok x) (Err e) w f g hf hg o =
-      grind (arith, alone_ok, err_other, first_won, steady_refl)
+      grind (arith, not_memory, other_missing, other_unread, first_won, steady_refl)
   equal_ok s sa sb (Err e) (Ok y) w f g hf hg o =
-      grind (arith, alone_ok, err_other, second_won, steady_refl)
+      grind (arith, not_memory, other_missing, other_unread, second_won, steady_refl)
   equal_ok s sa sb (Err e) (Err d) w f g hf hg o = let i = o.0.2 in absurd cc
 
   -- where neither can read its first piece, if it has one, that of both can't be read
@@ -388,10 +366,6 @@ module _ {env : Variables} {T : Type 0} {inner : Outcome T} {r : Roles} {words :
   abbrev optional : CellsValue (Option T)
   optional = OptionalCommands T value
 
-  -- want of memory stops nothing
-  memory_goes_on : {e : Error} {s m : Situation} → class e ≡ OfMemory → Stops e s m → ⊥
-  memory_goes_on h x = grind arith
-
   -- where there is a value, that of a command is one
   some_all : {s t : Situation} {x : T} → ProgramTook T value s x t
       → (OpensNone words (cells s) → ⊥) → (u : Option T) → optional (cells s) u
@@ -402,7 +376,7 @@ module _ {env : Variables} {T : Type 0} {inner : Outcome T} {r : Roles} {words :
   none_all : {s m : Situation} {e : Error} → Stops e s m
       → ((w : T) → value (cells s) w → class e ≡ OfMemory) → (u : Option T) → optional (cells s) u
       → NonePresent (cells s) × NonePresent (cells s)
-  none_all stops want x h = grind (arith, memory_goes_on)
+  none_all stops want x h = grind arith
 
   -- a value is that of a command, or None, where nothing is present
   optional_took : (s t : Situation) (v : Option T) → IsWholeIn env s
@@ -456,10 +430,6 @@ pub opens_apart : (words others : List (List ℕ)) → WordsApart words others �
     → Opens words cs ds → Opens others cs es → ⊥
 opens_apart words others a (opens_here {k} h) (opens_here i) = true≢false (sym i ∙ a k h)
 opens_apart words others a (opens_later o) (opens_later p) = opens_apart words others a o p
-
--- a missing item is no wrong input
-missing_input : (m : Message) → is_missing m ≡ true → is_wrong_input m ≡ false
-missing_input x e = grind arith
 
 -- two situations with the same cells, equally deep
 record Alike (m t : Situation) : Type 0 where
@@ -535,8 +505,7 @@ module _ {env : Variables} {T : Type 0} {a b : Outcome T} {ra rb : Roles} {wa wb
   -- a value of the choice is one of the branch that was opened
   choice_took : {s t : Situation} {v : T} → IsWholeIn env s → BranchOk s v t
       → ProgramTook T values s v t
-  choice_took {s} {v} w (of_first {m} i e) = grind (arith, first_closed, u)
-  choice_took {s} {v} w (of_second {m} i e) = grind (arith, second_closed, u)
+  choice_took w x = grind (arith, first_closed, second_closed, u)
 
   -- a branch that found no command, of whose answer something else than want of memory is known
   abbrev Passed : Situation → Error → Situation → Type 0
@@ -547,24 +516,19 @@ module _ {env : Variables} {T : Type 0} {a b : Outcome T} {ra rb : Roles} {wa wb
       → FindsNoCommand s (class e) m → Passed s e m
   passed s m e h x = grind (arith, not_memory)
 
-  -- it is no wrong input beside a value, nor is its path longer, so no refusal is chosen
-  never_refused : {s m n t : Situation} {x : T} {e g : Error} → depth s ≤ depth m → Passed s e n
-      → Chosen s (Ok x) m (Err e) n (Err g) t → ⊥
-  never_refused less k x = grind (arith, and_parts, is_missing_of, missing_input)
-
   -- where the first has a value none is
   first_fails : (s : Situation) {sa sb t : Situation} (x y : Result T Error) {g : Error} {u : T}
       → IsWholeIn env s → a s x sa → b s y sb → IsNotMemory x → IsNotMemory y
       → Chosen s x sa y sb (Err g) t → va (cells s) u → ⊥
   first_fails s x y w i j hx hy chosen h =
-      grind (arith, never_refused, not_memory, passed, second_closed)
+      grind (arith, and_parts, is_missing_of, not_memory, passed, second_closed)
 
   -- nor where the second has
   second_fails : (s : Situation) {sa sb t : Situation} (x y : Result T Error) {g : Error} {u : T}
       → IsWholeIn env s → a s x sa → b s y sb → IsNotMemory x → IsNotMemory y
       → Chosen s x sa y sb (Err g) t → vb (cells s) u → ⊥
   second_fails s x y w i j hx hy chosen h =
-      grind (arith, first_closed, never_refused, not_memory, passed)
+      grind (arith, first_closed, and_parts, is_missing_of, not_memory, passed)
 
   -- so a refusal is want of memory there
   choice_refuses : (s t : Situation) (e : Error) → IsWholeIn env s

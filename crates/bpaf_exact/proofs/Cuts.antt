@@ -26,11 +26,6 @@ value_not_key x h = grind arith
 pub word_not_key : (w : Arg) → is_positional w ≡ true → is_key w ≡ false
 word_not_key x h = grind arith
 
--- an item of a named field is no value
-pub own_not_value : {q : Roles} (k : Arg) → IsNamed q → is_own_role (q k) ≡ true
-    → is_value k ≡ false
-own_not_value x n h = grind arith
-
 -- a value belongs to no named field
 pub value_foreign : {q : Roles} {w : Arg} → IsNamed q → is_value w ≡ true → q w ≡ Foreign
 value_foreign {w} n h = n.only_keys w (value_not_key w h)
@@ -62,7 +57,7 @@ nil_foreign x k cs os e = grind arith
 -- taking a piece leaves what a key before it has next to it
 pub same_next : {q : Roles} (k : Arg) {cs ds : Cells} {o : LinePiece} → IsNamed q
     → TakesPiece q cs o ds → with_next k ds ≡ with_next k cs
-same_next k n x = grind (arith, own_not_value)
+same_next k n x = grind arith
 
 -- What one takes of its own leaves the pieces of another as they are.
 pub keeps_other : {q r : Roles} {cs ds : Cells} {o : LinePiece} → IsNamed q → IsNamed r → Apart q r
@@ -406,12 +401,6 @@ takes_left u (takes_later t) = takes_later (takes_left u t)
 pub own_next : (q : Roles) (k : Arg) (cs : Cells) → is_own q (with_next k cs) ≡ is_own_role (q k)
 own_next q k xs = grind arith
 
--- the key of the piece that an item begins
-head_key : (q : Roles) (x : Role) (k : Arg) (cs : Cells) (os : List LinePiece) (o : LinePiece)
-    {ps : List LinePiece} → is_own_role x ≡ true → begin_piece x k cs os ≡ o ∷ ps
-    → is_own q o ≡ is_own_role (q k)
-head_key q x k cs os o h e = grind (arith, own_next)
-
 -- what an item is to each of two fields
 pub data Belongs (qa qb r : Roles) (k : Arg) : Type 0 where
   to_first : is_own_role (qa k) ≡ true → r k ≡ qa k → qb k ≡ Foreign → Belongs qa qb r k
@@ -458,7 +447,7 @@ owner {qa} {qb} {r} (Some k ∷ cs) {o} u e =
 not_either : {qa qb r : Roles} {k : Arg} (cs : Cells) {o : LinePiece} {os : List LinePiece}
     → Union qa qb r → qa k ≡ Foreign → is_own qa o ≡ true → pieces r (Some k ∷ cs) ≡ o ∷ os
     → (r k ≡ Foreign) × (pieces r cs ≡ o ∷ os)
-not_either cs u f h e = grind (arith, begin_at, belongs, head_key, to_first, to_none, to_second)
+not_either cs u f h e = grind (arith, begin_at, belongs, own_next, to_first, to_none, to_second)
 
 -- Where the first piece of both is the first field's, the first field's first is the first of both.
 pub first_mine : {qa qb r : Roles} {cs ds : Cells} {oa o : LinePiece} {os : List LinePiece}

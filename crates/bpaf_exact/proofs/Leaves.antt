@@ -17,7 +17,7 @@ use Rattle.bpaf_line.proofs.Places.{open_item_there}
 use Rattle.bpaf_laws.specs.Leaves.{TakesKeyWithText, ArgumentOutcome, ArgumentFails, ReadsVariable}
 use Rattle.bpaf_laws.specs.Leaves.{TakesOwnText, TakesBefore, FlagOutcome, IsNowhere, LacksText}
 use Rattle.bpaf_laws.specs.Leaves.{TakesKeysWithTexts, is_key_with_value, value_without_key}
-use Rattle.bpaf_laws.specs.Reading.{MissesItem, IsAbsence, first_set, Outcome, is_set}
+use Rattle.bpaf_laws.specs.Reading.{IsAbsence, first_set, Outcome, is_set}
 use Rattle.bpaf_laws.specs.Combinators.{PureOutcome, GivesClone, is_nil}
 use Rattle.bpaf_laws.specs.Leaves.{FlagFails, HasNoKey}
 use Rattle.bpaf_exact.proofs.Names.{of_front_more, of_front_one, each_front, front_more, back_more}
@@ -42,16 +42,11 @@ use Rattle.bpaf_exact.specs.Pieces.{word_roles, LinePiece, WithNext, IsNamed, pi
 use Rattle.bpaf_exact.specs.{Pieces.Roles, Pieces.Owns, Pieces.One, Pieces.Two, Flat.took, Flat.Gap}
 use Rattle.bpaf_exact.specs.{ProgramForm.FormLaw, ProgramForm.word_by, Says.of_kind, Says.Says}
 
--- a refusal that names a missing item says that items are missing
-misses : (s : Situation) (part : Option Part) (m : Message) → MissesItem s part m
-    → class_of m ≡ OfMissing
-misses s part other o = grind arith
-
 -- so does that of a key, or without a place on the line that no name in the environment is set
 pub absence_class : (s : Situation) (part : Option Part) (envs : List (List ℕ)) (m : Message)
     → IsAbsence s part envs m
     → (class_of m ≡ OfMissing) ⊎ ((class_of m ≡ Caught) × (envs ≡ [] → ⊥))
-absence_class s x envs m o = grind (arith, misses)
+absence_class s x envs m o = grind arith
 
 -- What a parser answers where no piece of its own is there: what stands for that; or it is refused;
 -- or an item is missing, where nothing was taken, or something else.
@@ -103,9 +98,7 @@ module _ {T : Type 0} {k : FieldKind} {q : Roles} {gap : Gap T} {other : Type 0}
   pub first_err : {value : LinePiece → T → Type 0} {e : Error}
       → FirstRead T k q value gap other s (Err e) t
       → SingleErr T k q (FrontOf T value) gap s (class e) t
-  first_err (read_fault {o} {os} c path is some none) = grind arith
-  first_err (read_none p n) = none_err p n
-  first_err (read_memory c) = of_memory c
+  first_err x = grind (arith, none_err)
 
 module _ {T : Type 0} {q : Roles} {value : LinePiece → T → Type 0} {gap : Gap T} {other : Type 0}
     {s t : Situation} (has : gap.has ≡ false) where

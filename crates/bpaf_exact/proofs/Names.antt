@@ -87,15 +87,6 @@ either_owns {q} {r} {keys} {others} a b = record {
 pub named_key : (names : Names) (k : Arg) → is_key_of names k ≡ true → is_key k ≡ true
 named_key names x h = grind arith
 
--- two tests that hold of the same are one
-same_truth : (a b : Bool) → (a ≡ true → b ≡ true) → (b ≡ true → a ≡ true) → a ≡ b
-same_truth b c f g = grind arith
-
--- of two tests of which each holds where one of two others does, that don't both hold, each is that
-shared : (a b x y : Bool) → (a || b) ≡ (x || y) → (a ≡ true → x ≡ true) → (b ≡ true → y ≡ true)
-    → (x ≡ true → y ≡ true → ⊥) → (a ≡ x) × (b ≡ y)
-shared b c x y e f g never = grind (arith, same_truth)
-
 -- Filters.
 
 -- of what a test keeps, a second keeps what a third does that holds where both do
@@ -103,11 +94,6 @@ kept_twice : (p q both : LinePiece → Bool) → ((o : LinePiece) → both o ≡
     → (os : List LinePiece) → filter p (filter q os) ≡ filter both os
 kept_twice p q both same [] = refl
 kept_twice p q both same (o ∷ os) = grind (arith, kept_twice p q both same os)
-
--- what both keep is what one does that never holds without the other
-kept_within : {p q : LinePiece → Bool} → ((o : LinePiece) → p o ≡ true → q o ≡ true)
-    → (os : List LinePiece) → filter p (filter q os) ≡ filter p os
-kept_within part = grind (arith, and_from, and_parts, kept_twice, same_truth)
 
 -- where a test never holds nothing is kept
 kept_none : {p : LinePiece → Bool} → ((o : LinePiece) → p o ≡ false) → (os : List LinePiece)
@@ -171,16 +157,12 @@ module _ (r : Roles) (names : List Names) where
 -- of two whose names are apart, each has the pieces that begin with its own
 module _ {q r : Roles} {own behind : List Names} (owned : Owns q own) (owned_behind : Owns r behind)
     (apart : are_all_apart own behind ≡ true) where
-  -- one of both is one of either
-  either_is : (o : LinePiece) → is_own (either q r) o ≡ (is_own q o || is_own r o)
-  either_is x = grind (arith, either_own)
-
   -- each has its own
   pub both_fits : (os : List LinePiece) → Fits (own ++ behind) (either q r) os
       → Fits own q os × Fits behind r os
   both_fits [] fits = (tt, tt)
   both_fits (o ∷ os) fits =
-      grind (arith, either_is, list_any-append, one_list, shared, both_fits os fits.1)
+      grind (arith, either_own, list_any-append, one_list, both_fits os fits.1)
 
 -- the own ones of pieces are all one's own
 pub each_own : (q : Roles) (os : List LinePiece) → EachOwn q (mine q os)
@@ -198,7 +180,7 @@ taken_own (takes_argument e v t) = (ap is_own_role e, taken_own t)
 -- where each own item of the one is one of the other, its pieces are among the other's
 pub mine_within : (q r : Roles) → ((k : Arg) → is_own_role (q k) ≡ true → is_own_role (r k) ≡ true)
     → (os : List LinePiece) → mine q (mine r os) ≡ mine q os
-mine_within q r part = grind (arith, kept_within, own_first)
+mine_within q r part = grind (arith, and_from, and_parts, kept_twice, own_first)
 
 -- an own item of the first is one of either, and so is one of the second
 pub first_within : (q r : Roles) (k : Arg) → is_own_role (q k) ≡ true
@@ -231,7 +213,7 @@ apart_second q {r} a = record {
 -- what is another's own isn't among one's own
 pub mine_of_others : (p q : Roles) → ((k : Arg) → is_own_role (q k) ≡ true → p k ≡ Foreign)
     → (os : List LinePiece) → mine q (others p os) ≡ mine q os
-mine_of_others p q apart = grind (arith, kept_within, own_first)
+mine_of_others p q apart = grind (arith, and_from, and_parts, kept_twice, own_first)
 
 module _ (q : Roles) (none : (k : Arg) → is_own_role (q k) ≡ false) where
   -- where no item is one's own, no piece is,
@@ -285,7 +267,7 @@ pub rest_fit : (r : Roles) (names : List Names) (whole os : List LinePiece) → 
     → Fits names r os → Fits names r (keyed names whole ++ others r os)
 rest_fit r names [] os fits fit = others_fit r r names os fit
 rest_fit r names (o ∷ whole) os fits fit =
-    grind (arith, rest_fit r names whole os fits.1 fit, rest_fit r names whole os fits.1 fit)
+    grind (arith, rest_fit r names whole os fits.1 fit)
 
 -- its own are those of the whole line
 pub mine_rest : (r : Roles) (names : List Names) (whole os : List LinePiece) → Fits names r whole
@@ -299,7 +281,7 @@ mine_rest r names whole os fits =
 pub others_rest : (r : Roles) (names : List Names) (whole os : List LinePiece) → Fits names r whole
     → others r (keyed names whole ++ others r os) ≡ others r os
 others_rest r names whole os fits =
-    grind (arith, filter-append, kept_neither, kept_within, mine_keyed)
+    grind (arith, filter-append, kept_neither, and_from, and_parts, kept_twice, mine_keyed)
 
 -- What a field takes of pieces, and what it leaves.
 
@@ -347,8 +329,7 @@ all_front k {os} none =
 
 -- where a field takes none, nor does a repeat of it
 pub each_nil : (k : FieldKind) (os : List LinePiece) → front k os ≡ [] → front (repeated k) os ≡ []
-each_nil (OneWord b) os none = grind arith
-each_nil _ os none = none
+each_nil x os none = grind arith
 
 -- and the other way
 pub nil_each : (k : FieldKind) (os : List LinePiece) → front (repeated k) os ≡ [] → front k os ≡ []

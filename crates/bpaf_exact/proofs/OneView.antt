@@ -12,11 +12,11 @@ use Rattle.bpaf_exact.proofs.{Cuts.one_take, Cuts.one_cut, Wrappers.alternative_
 use Rattle.bpaf_exact.proofs.{Commands.none_opens, Repeat.own_nil}
 use Rattle.bpaf_exact.specs.ProgramForm.{argument_field, argument_group, argument_roles, flag_field}
 use Rattle.bpaf_exact.specs.ProgramForm.{program_closed, ArgumentValue, program_field, program_both}
-use Rattle.bpaf_exact.specs.ProgramForm.{alternative, program_con, whole_value, is_program, word_by}
-use Rattle.bpaf_exact.specs.ProgramForm.{program_alone, whole_program, program_value, ProgramForm}
-use Rattle.bpaf_exact.specs.ProgramForm.{program_if, FlagValue, WordValue, key_field, completed}
-use Rattle.bpaf_exact.specs.ProgramForm.{commands, complete, product, FormLaw, single, Agrees}
+use Rattle.bpaf_exact.specs.ProgramForm.{program_con, whole_value, ProgramForm, is_program, word_by}
+use Rattle.bpaf_exact.specs.ProgramForm.{program_alone, whole_program, program_value, alternative}
+use Rattle.bpaf_exact.specs.ProgramForm.{program_if, WordValue, key_field, completed, commands}
 use Rattle.bpaf_exact.specs.ProgramForm.{program_optional, OptionalCommands, before_commands}
+use Rattle.bpaf_exact.specs.ProgramForm.{complete, product, FormLaw, single, Agrees}
 use Rattle.bpaf_exact.specs.Says.{HasOneView, RunsToOne, pair_view, OneGroup, Respects, Alike}
 use Rattle.bpaf_exact.specs.Pieces.{LinePiece, Cells, Roles, One, Two}
 use Rattle.bpaf_exact.specs.Flat.{SingleValue, only_absent, ClosedValue, SingleLaw, FieldKind, Gap}
@@ -59,11 +59,6 @@ front_view : {T X : Type 0} {see : T → X} (value : LinePiece → T → Type 0)
     → ((o : LinePiece) → Alike see (value o)) → OneGroup see (FrontOf T value)
 front_view value u os rest others v w a b = grind arith
 
--- a present value
-flag_piece : {T X : Type 0} {see : T → X} {present : T → Type 0} → Alike see present
-    → (o : LinePiece) → Alike see (FlagValue present o)
-flag_piece u x v w a b = grind arith
-
 -- a key, where its pieces, its groups and what stands for none look alike
 key_view : {T X : Type 0} {see : T → X} (wide may_choose : Bool) (q : Roles)
     {each : LinePiece → T → Type 0} {group : Groups T} (gap : Gap T)
@@ -81,7 +76,7 @@ pub flag_view : (T X : Type 0) (see : T → X) (clones : T → T → Type 0)
     → ((kept : T) → Alike see (clones kept)) → (key : Key) (present : T) (absent : Option T)
     (variables : Variables) → HasOneView see (flag_field clones key present absent variables)
 flag_view x y see clones u key present absent variables =
-    grind (arith, flag_piece, front_view, key_view, meant_view)
+    grind (arith, front_view, key_view, meant_view)
 
 -- a key and its value
 argument_piece : {T X : Type 0} {see : T → X} {means : List ℕ → T → Type 0}
@@ -160,20 +155,15 @@ module _ {env : Variables} {T X : Type 0} {see : T → X} {inner : Outcome T} (k
   pub value_view : (os : List LinePiece) → Alike see (SingleValue T group gap os)
   value_view os v w x y = grind arith
 
-  -- where there is no piece there is none
-  none_single : {os : List LinePiece} {v : T} → os ≡ [] → gap.has ≡ false
-      → SingleValue T group gap os v → ⊥
-  none_single e h x = grind arith
-
   -- what may be left out
   pub optional_value_view : (os : List LinePiece)
       → Alike (option_map see) (OptionalValue T group gap os)
-  optional_value_view os x y g h = grind (arith, none_single, value_view)
+  optional_value_view os x y g h = grind (arith, value_view)
 
   -- what has a default
   pub fallback_value_view : (f : Closure (Unit {0}) T) → Alike see (λ v. f.yes tt v)
       → (os : List LinePiece) → Alike see (FallbackValue T group gap f os)
-  fallback_value_view f given os v w x y = grind (arith, none_single, value_view)
+  fallback_value_view f given os v w x y = grind (arith, value_view)
 
 module _ {env : Variables} {T X : Type 0} {inner : Outcome T} {names : List Names}
     {words : List (List ℕ)} (see : T → X) where

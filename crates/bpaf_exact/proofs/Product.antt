@@ -1,17 +1,16 @@
 -- Products: a field before other fields, the last field, and the constructor; and that a product of
 -- named fields keeps to the laws of a named field, so it may stand in another product.
-use Rattle.std.proofs.Common.{if◌then◌else◌, Result, filter, length, arith, false, subst, Bool, Err}
-use Rattle.std.proofs.Common.{List, None, Some, refl, true, inl, inr, not, sym, ◌∙◌, ◌∷◌, ◌≡◌, Ok}
-use Rattle.std.proofs.Common.{[], ap}
+use Rattle.std.proofs.Common.{Result, filter, length, arith, false, subst, Bool, List, None, Some}
+use Rattle.std.proofs.Common.{refl, true, Err, inl, inr, not, sym, ◌∙◌, ◌∷◌, ◌≡◌, Ok, [], ap}
 use Rattle.bpaf_base.specs.declared.arg.Arg.{Arg}
 use Rattle.bpaf_line.specs.{Situation.with_current, Situation.Situation, declared.error.Error.Error}
 use Rattle.bpaf_laws.specs.Product.{ProductOutcome, BothOutcome, joined}
 use Rattle.bpaf_laws.specs.Reading.{Outcome}
-use Rattle.bpaf_exact.proofs.Cuts.{either_right, word_foreign, nil_foreign, union_named, named_cuts}
+use Rattle.bpaf_exact.proofs.Cuts.{words_of_cut, either_union, nil_foreign, union_named, named_cuts}
 use Rattle.bpaf_exact.proofs.Cuts.{keeps_other_some, others_foreign, take_some_from, pieces_of_cut}
-use Rattle.bpaf_exact.proofs.Cuts.{put_back_some, value_foreign, words_of_cut, either_union, Union}
-use Rattle.bpaf_exact.proofs.Cuts.{cut_empty, to_second, begin_at, nil_rest, both_nil, own_next}
-use Rattle.bpaf_exact.proofs.Cuts.{swap_union, takes_left, some_trans, empty_cut, words_cut}
+use Rattle.bpaf_exact.proofs.Cuts.{put_back_some, value_foreign, either_right, word_foreign, Union}
+use Rattle.bpaf_exact.proofs.Cuts.{empty_cut, words_cut, begin_at, nil_rest, both_nil, own_next}
+use Rattle.bpaf_exact.proofs.Cuts.{swap_union, takes_left, some_trans, cut_empty, to_second}
 use Rattle.bpaf_exact.proofs.Cuts.{to_first, Belongs, belongs, to_none}
 use Rattle.bpaf_exact.proofs.Classes.{memory_class}
 use Rattle.bpaf_exact.specs.Flat.{FieldsReading, present_count, both_reading, NonePresent, FieldLaw}
@@ -19,10 +18,10 @@ use Rattle.bpaf_exact.specs.Flat.{ClosedValue, map_closure, ErrorClass, NoKeysLe
 use Rattle.bpaf_exact.specs.Flat.{FieldTook, FieldsLaw, IsWholeIn, Variables, none_here, HasValue}
 use Rattle.bpaf_exact.specs.Flat.{OfMemory, OwnItems, no_place, KeepsTo, portion, Before, ByName}
 use Rattle.bpaf_exact.specs.Flat.{Steady, cells, class, front, keys, left}
-use Rattle.bpaf_exact.specs.Pieces.{LinePiece, argument, no_roles, IsNamed, Foreign, at_end, either}
-use Rattle.bpaf_exact.specs.Pieces.{is_own, others, passed, pieces, Apart, Cells, Roles, Role, flag}
-use Rattle.bpaf_exact.specs.Pieces.{TakesPieces, begin_piece, is_own_role, takes_more, takes_none}
-use Rattle.bpaf_exact.specs.{Pieces.mine, Pieces.word, Pieces.Cut, ProgramForm.last_reading}
+use Rattle.bpaf_exact.specs.Pieces.{others, passed, pieces, Apart, Cells, Roles, flag, mine, word}
+use Rattle.bpaf_exact.specs.Pieces.{argument, no_roles, IsNamed, Foreign, at_end, either, is_own}
+use Rattle.bpaf_exact.specs.Pieces.{TakesPieces, is_own_role, takes_more, takes_none, LinePiece}
+use Rattle.bpaf_exact.specs.{ProgramForm.last_reading, Pieces.Cut}
 
 -- what isn't taken stays in the scope
 pub none_outside_after : {env : Variables} {s t : Situation} → IsWholeIn env s → Steady s t
@@ -325,18 +324,11 @@ module _ (p q r : Roles) (test : LinePiece → Bool) where
     passed_by : q k ≡ Foreign → ((o : LinePiece) → is_own p o ≡ is_own_role (p k) → test o ≡ false)
         → Kept k
 
-  -- the pieces from an item on
-  kept_begin : (x : Role) (k : Arg) (cs : Cells) (os : List LinePiece) (b : Bool)
-      → ((o : LinePiece) → is_own p o ≡ is_own_role (p k) → test o ≡ b)
-      → filter test (begin_piece x k cs os)
-      ≡ (if b then begin_piece x k cs (filter test os) else filter test os)
-  kept_begin x k cs os b h = grind (arith, own_next)
-
   -- and all
   kept_pieces : ((k : Arg) → Kept k) → (cs : Cells) → filter test (pieces r cs) ≡ pieces q cs
   kept_pieces each [] = refl
   kept_pieces each (None ∷ cs) = kept_pieces each cs
-  kept_pieces each (Some k ∷ cs) = grind (arith, begin_at, kept_begin, kept_pieces each cs)
+  kept_pieces each (Some k ∷ cs) = grind (arith, begin_at, own_next, kept_pieces each cs)
 
 module _ {p q r : Roles} (u : Union p q r) where
   -- of the pieces of both the first one's are its own,

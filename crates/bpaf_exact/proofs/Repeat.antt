@@ -297,14 +297,10 @@ module _ {env : Variables} {T : Type 0} {inner : Outcome T} {k : FieldKind} {q :
   data Nothing (os : List LinePiece) : Type 0 where
     nothing : gap.has ≡ false → os ≡ [] → Nothing os
 
-  -- an empty own list has no pieces
-  own_empty : {os : List LinePiece} {vs : List T} → vs ≡ [] → Own T group os vs → os ≡ []
-  own_empty e x = grind arith
-
   -- an empty list under a repeat comes of no piece
   empty_list : {os : List LinePiece} {vs : List T} → vs ≡ [] → OwnList T group gap os vs
       → Nothing os
-  empty_list e x = grind (arith, own_empty)
+  empty_list e x = grind arith
 
   -- and no piece gives an empty list
   empty_nothing : {os : List LinePiece} {vs : List T} → Nothing os → OwnList T group gap os vs

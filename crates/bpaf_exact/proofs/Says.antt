@@ -246,13 +246,7 @@ made_needs needs = record { some = λ v made. needs.some made.from made.told }
 -- a repeat that has values where each of them does,
 pub repeat_needs : {T : Type 0} {said : Said T} → NeedsPiece said → (vs : List T) → vs ≢ []
     → ¬ (RepeatSays said [] vs)
-repeat_needs needs vs some (says_alone a none e told) = needs.some a told
-repeat_needs {T} {said} needs vs some (says_in_turn turns) = in_turn vs refl some turns
-  where
-    in_turn : {os : List LinePiece} (xs : List T) → os ≡ [] → xs ≢ []
-        → ¬ (Own T (FrontSays said) os xs)
-    in_turn [] none some turns = some refl
-    in_turn (x ∷ xs) none some (own_more {rest} front more) = grind (arith, no_part)
+repeat_needs needs vs some x = grind (arith, no_part)
 
 -- and a last value then.
 pub last_needs : {T : Type 0} {said : Said T} → NeedsPiece said → NeedsPiece (LastSays said)

@@ -39,27 +39,21 @@ pub closed_no_surplus : {A B : Type 0} (f : Closure A B) (s : ProgramForm A) →
     → HasNoSurplus (program_closed f s)
 closed_no_surplus f x h = grind arith
 
--- what a repeat or default makes of a field, where it leaves two without a value, has no surplus
-completed_once : {T B : Type 0} (value : Groups T → Gap T → List LinePiece → B → Type 0)
-    → ((group : Groups T) (gap : Gap T) → OneByOne group → AtMostOne (value group gap))
-    → (s : ProgramForm T) → HasNoSurplus s → HasNoSurplus (completed (λ k. k) value s)
-completed_once value once x h = grind (arith, front_one)
-
 -- a field without a repeat or default has no surplus
 pub field_no_surplus : {T : Type 0} (s : ProgramForm T) → HasNoSurplus s
     → HasNoSurplus (program_field s)
-field_no_surplus s h = grind (arith, completed_once, group_once, single_none)
+field_no_surplus s h = grind (arith, front_one, group_once, single_none)
 
 -- nor has what may be left out
 pub optional_no_surplus : {T : Type 0} (s : ProgramForm T) → HasNoSurplus s
     → HasNoSurplus (completed (λ k. k) (OptionalValue T) s)
-optional_no_surplus = grind (arith, completed_once, group_once, optional_none)
+optional_no_surplus = grind (arith, front_one, group_once, optional_none)
 
 -- nor what has a value that stands for it
 pub fallback_no_surplus : {T : Type 0} (f : Closure (Unit {0}) T) (s : ProgramForm T)
     → HasNoSurplus s
     → HasNoSurplus (completed (λ k. k) (λ group gap. FallbackValue T group gap f) s)
-fallback_no_surplus f = grind (arith, completed_once, fallback_none, group_once)
+fallback_no_surplus f = grind (arith, front_one, fallback_none, group_once)
 
 -- whether `catch` is set changes nothing there
 pub unless_no_surplus : {T : Type 0} (catch : Bool) (s : ProgramForm T) → HasNoSurplus s

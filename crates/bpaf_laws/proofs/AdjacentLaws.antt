@@ -11,13 +11,13 @@ use Rattle.bpaf_laws.specs.Laws.{NamesAnswer, IsNotMemory, Closes, Lawful, Spare
 use Rattle.bpaf_laws.specs.Command.{opening_words, CommandReads, IsOpenedAt, Called, inside}
 use Rattle.bpaf_laws.specs.Adjacent.{StretchReads, GroupOutcome, TriedInVain, none_tried, not_taken}
 use Rattle.bpaf_laws.specs.Adjacent.{all_failed, none_gave, IsStretch, Narrowed, answered, Searches}
-use Rattle.bpaf_laws.specs.Adjacent.{EndsWith, Failure, longest, refused, longer, wanted, Probe}
+use Rattle.bpaf_laws.specs.Adjacent.{EndsWith, Failure, longest, refused, wanted, Probe, whole}
 use Rattle.bpaf_laws.proofs.CommandLaws.{leaves_nothing, keeps_inside, word_is_open, word_read}
-use Rattle.bpaf_laws.proofs.Keeping.{keeps_trans, keeps_refl, newly_take, reads_both, keeps_same}
-use Rattle.bpaf_laws.proofs.Keeping.{AnswersLawfully, LawfulAnswer, newly_joins, keeps_scope}
+use Rattle.bpaf_laws.proofs.Keeping.{keeps_scope, keeps_refl, newly_take, reads_both, keeps_same}
+use Rattle.bpaf_laws.proofs.Keeping.{AnswersLawfully, LawfulAnswer, keeps_trans, newly_joins}
 use Rattle.bpaf_laws.proofs.Keeping.{names_same, names_want, lawful_by, reads_as, keeps_of}
-use Rattle.bpaf_laws.specs.Adjacent.{whole, again, Tries, gave}
 use Rattle.bpaf_laws.specs.{Reading.Readings, Reading.Outcome, Reading.Share, Laws.Reads}
+use Rattle.bpaf_laws.specs.Adjacent.{again, Tries, gave}
 
 module _ (s : Situation) (from end : ℕ)
     (present : (p : ℕ) → from ≤ p → p < end → is_open s p ≡ true) where
@@ -125,18 +125,13 @@ module _ {T : Type 0} {inner : Outcome T} {reads : Readings T} (law : Lawful T i
   BestKeeps None = Unit {0}
   BestKeeps (Some failure) = Keeps s failure.left × NamesAnswer failure.error.0
 
-  -- so does the one that took more
-  longer_keeps : (best : Option Failure) (other : Failure) → BestKeeps best
-      → BestKeeps (Some other) → BestKeeps (longer s best other)
-  longer_keeps best other before now = grind arith
-
   -- so does the longest failure of places that were tried in vain
   vain_keeps : {first : Part} {from : ℕ} {failures : List Failure}
       → TriedInVain T inner s first from failures → BestKeeps (longest s failures)
   vain_keeps none_tried = tt
   vain_keeps (not_taken from a failures before start probe) = vain_keeps before
   vain_keeps (all_failed from a failures e t before start probe tries spared) =
-      grind (arith, longer_keeps, tries_answer, vain_keeps before)
+      grind (arith, tries_answer, vain_keeps before)
 
   -- and the end of a search without a value
   end_keeps : (first : Part) (best : Option Failure) (e : Error) (t : Situation) → BestKeeps best

@@ -4,9 +4,9 @@ use Rattle.std.proofs.Common.{true≢false, Result, ⊎_elim, arith, false, subs
 use Rattle.std.proofs.Common.{◌++◌, Some, ◌≡◌, ◌+◌, ◌∷◌, sym, ◌∙◌, Err, inl, inr, ap, Ok, ℕ}
 use Rattle.std.proofs.lemmas.Bool.{cases_Bool, eqb-true, or_cases, or_right, or_left}
 use Rattle.std.proofs.lemmas.Bool.Decides.{nat_tests}
-use Rattle.std.specs.Prelude.{option_and_then, Option, ◌==◌, ◌||◌, None, ◌⊎◌, ◌<◌, ◌≤◌}
-use Rattle.std.specs.Option.{option_map_or, IsSomeRelated}
-use Rattle.bpaf_base.specs.{declared.arg.Arg.Arg, Items.value_text}
+use Rattle.std.specs.Prelude.{◌==◌, ◌||◌, None, ◌⊎◌, ◌<◌, ◌≤◌}
+use Rattle.std.specs.Option.{IsSomeRelated}
+use Rattle.bpaf_base.specs.declared.arg.Arg.{Arg}
 use Rattle.bpaf_text.specs.Named.{argument_part, KeyWithValue}
 use Rattle.bpaf_line.specs.Situation.{take_place, open_count, Situation, is_open}
 use Rattle.bpaf_line.specs.declared.error.Message.TheVariants.{ParseFailure, ParseFailed, Memory}
@@ -23,29 +23,18 @@ use Rattle.bpaf_laws.specs.Leaves.{ArgumentFails, ArgumentReads, ReadsVariable, 
 use Rattle.bpaf_laws.specs.Leaves.{IsOwnText, LacksText, GetsText, HasNoKey, behind, Counts}
 use Rattle.bpaf_laws.specs.Laws.{NamesAnswer, Lawful, Keeps, Reads, newly}
 use Rattle.bpaf_laws.proofs.Keeping.{closes_take_both, newly_take_both, AnswersLawfully, keeps_same}
-use Rattle.bpaf_laws.proofs.Keeping.{keeps_unset, keeps_take, reads_both, newly_none, lawful_by}
-use Rattle.bpaf_laws.proofs.Keeping.{same_took_none, names_absence, reads_unset, keeps_trans}
+use Rattle.bpaf_laws.proofs.Keeping.{keeps_trans, keeps_take, reads_both, newly_none, lawful_by}
+use Rattle.bpaf_laws.proofs.Keeping.{same_took_none, names_absence, keeps_unset, reads_unset}
 use Rattle.bpaf_laws.proofs.Keeping.{reads_as}
 
 module _ {T : Type 0} (means : List ℕ → T → Type 0) (argument : KeyWithValue) (s t : Situation)
     (text : List ℕ) where
-  -- a fault in the text of an argument is a refusal of the argument
-  fault_refused : (m : Message) → GetsText argument s text t → FaultsText means text t.current m
-      → ArgumentFails means argument s m t
-  fault_refused m gets fault = grind arith
-
   -- what reading the text of an argument answers
   pub value_read : (r : Result T Error) → GetsText argument s text t
       → ReadsValue means text t.current r → ArgumentOutcome means argument s r t
-  value_read r gets meant = grind (arith, fault_refused)
+  value_read r gets meant = grind arith
 
 -- What taking a key with the text behind it takes, and what taking all of them does.
-
--- a key is no value
-key_is_no_value : (argument : KeyWithValue) (item : Option Arg)
-    → option_map_or (is_key_with_value argument) item false ≡ true
-    → option_and_then value_text item ≡ None
-key_is_no_value argument item key = grind arith
 
 module _ (argument : KeyWithValue) (s : Situation) (text : List ℕ) (t : Situation)
     (takes : TakesKeyWithText argument s text t) where
@@ -107,11 +96,11 @@ module _ (argument : KeyWithValue) (s : Situation) (text : List ℕ) (t : Situat
 
   -- with the text behind it that it has
   pub value_before : (p : ℕ) → is_match test t p ≡ true → value_after s p ≡ value_after t p
-  value_before p there = grind (arith, is_left, key_is_no_value, none_left, one_of_two)
+  value_before p there = grind (arith, is_left, none_left, one_of_two)
 
   -- a key that is gone later is the one that was taken
   pub gone_key : (p : ℕ) → is_match test s p ≡ true → is_match test t p ≡ false → p ≡ takes.key
-  gone_key p there gone = grind (arith, key_is_no_value, one_of_two)
+  gone_key p there gone = grind (arith, one_of_two)
 
 -- one key more, behind those that were taken
 pub texts_more : (argument : KeyWithValue) (s m t : Situation) (texts : List (List ℕ))
@@ -242,8 +231,7 @@ module _ (T : Type 0) (means : List ℕ → T → Type 0) (argument : KeyWithVal
     where
       answers : AnswersLawfully (ArgumentOutcome means argument) reads_argument
       answers s (Ok v) t (text, inl takes, meant) =
-          reads_as (got_text argument s text t argument.last takes)
-          (λ own. inl (text, own, meant))
+          grind (arith, got_text, reads_as, got_text argument s text t argument.last takes)
       answers s (Ok v) t (text, inr found, meant) =
           reads_unset reads_argument s t v found.left
           (inr (newly_none s, subst (λ set. IsSomeRelated means set v) (sym found.set) meant))

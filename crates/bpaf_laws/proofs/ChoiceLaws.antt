@@ -44,17 +44,11 @@ module _ {T : Type 0} (s : Situation) (Holds : Result T Error → Situation → 
   of_winner x y sa sb (false, Some place) r t won one other =
       rw won.0 (noted y sb sa place t won.1 other)
 
-  -- what holds of two answers, also of an error put back and of two combined, holds at equal depths
-  of_equal : (a : Result T Error) (sa : Situation) (b : Result T Error) (sb : Situation)
-      (r : Result T Error) (t : Situation) → EqualDepths s a sa b sb r t → Holds a sa → Holds b sb
-      → Holds r t
-  of_equal x sa y sb r t o one other = grind (arith, of_winner)
-
   -- and at any
   pub of_chosen : (a : Result T Error) (sa : Situation) (b : Result T Error) (sb : Situation)
       (r : Result T Error) (t : Situation) → Chosen s a sa b sb r t → Holds a sa → Holds b sb
       → Holds r t
-  of_chosen a sa b sb r t x one other = grind (arith, of_equal)
+  of_chosen a sa b sb r t x one other = grind (arith, of_winner)
 
 -- where both paths are equally deep the table is that of equal depths
 pub chosen_at_equal : {T : Type 0} (s : Situation) (a : Result T Error) (sa : Situation)
@@ -112,27 +106,13 @@ choices_lawful outcome reads (p ∷ ps) each = grind (arith, from_lawful)
 
 -- A choice of two: what its evaluation shows, and that it catches no want of memory.
 
--- an answer that isn't want of memory
-spared_of : {T : Type 0} (r : Result T Error) → is_want r ≡ false → IsNotMemory r
-spared_of r e = grind arith
-
--- the answer of branches that ran is one of their choice
-choice_ran : {T : Type 0} (first second : Outcome T) (s : Situation) (r : Result T Error)
-    (t : Situation) → BranchesEval first second s r t → ChoiceOutcome first second s r t
-choice_ran first second s r t ran = grind arith
-
--- so is want of memory
-choice_wants : {T : Type 0} (first second : Outcome T) (s : Situation) (r : Result T Error)
-    (t : Situation) → IsWant s r t → ChoiceOutcome first second s r t
-choice_wants first second s r t want = grind arith
-
 -- where both branches ran and wanted no memory, the choice gives the chosen answer, or wants some
 pub ran_outcome : {T : Type 0} (first second : Outcome T) (s : Situation) (a : Result T Error)
     (sa : Situation) (b : Result T Error) (sb : Situation) (r : Result T Error) (t : Situation)
     → first s a sa → second s b sb → is_want a ≡ false → is_want b ≡ false
     → Chosen s a sa b sb r t ⊎ IsWant s r t → ChoiceOutcome first second s r t
 ran_outcome first second s a sa b sb r t f g p q answer =
-    grind (arith, choice_ran, choice_wants, spared_of)
+    grind arith
 
 module _ {T : Type 0} (first second less other : Outcome T) (fewer : Spares first less)
     (fewer_others : Spares second other) (s t : Situation) (r : Result T Error) where

@@ -195,8 +195,7 @@ module _ {T : Type 0} {inner : Outcome T} {reads : Readings T} (law : Lawful T i
     where
       answers : AnswersLawfully (ListOutcome inner catches) (ListReads reads)
       answers s (Ok []) t run =
-          subst (λ w. Reads (List T) (ListReads reads) w [] t) (sym run.steps)
-          (reads_as (stop_reads true run.last t run.stop) (λ none. none))
+          grind (arith, reads_as, stop_reads, stop_reads true run.last t run.stop)
       answers s (Ok (v ∷ vs)) t run =
           first_read s run.steps.0 run.last t v vs run.steps.1.0 run.steps.2
           (stop_reads false run.last t run.stop)
@@ -377,8 +376,7 @@ module _ {T : Type 0} {inner : Outcome T} {reads : Readings T} (law : Lawful T i
       by_values [] steps step =
           rests v refl (subst (λ w. inner w (Ok v) t) (sym steps) step.0)
           (let equal = ap open_count steps in omega arith)
-      by_values (x ∷ xs) steps step =
-          let fewer = took_item inner false m t v step in absurd (omega arith)
+      by_values (x ∷ xs) steps step = grind (arith, took_item, took_item inner false m t v step)
 
   -- else it took an item
   pub goes_on : open_count t ≢ open_count m

@@ -1,8 +1,8 @@
 -- How what evaluations keep is put together. No combinator builds a `Keeps` of its own: it goes
 -- through these lemmas and one for each call of a state, so that a clause can be added to the laws
 -- here.
-use Rattle.std.proofs.Common.{arith, false, true, ◌&&◌, ◌||◌, List, ◌++◌, refl, Bool, zero, ◌≡◌, []}
-use Rattle.std.proofs.Common.{append_assoc, append-nil, true≢false, Result, Option, length, subst}
+use Rattle.std.proofs.Common.{false, subst, true, ◌&&◌, ◌||◌, List, ◌++◌, refl, Bool, zero, ◌≡◌, []}
+use Rattle.std.proofs.Common.{append_assoc, append-nil, true≢false, Result, Option, length, arith}
 use Rattle.std.proofs.Common.{◌+◌, ◌∷◌, sym, ◌∙◌, suc, ◌<◌, ◌≤◌, map, ap, ℕ}
 use Rattle.std.proofs.{lemmas.Bool.Decides.nat_tests, lemmas.Bool.cases_cond}
 use Rattle.std.proofs.lemmas.List.{map-append}
@@ -13,14 +13,14 @@ use Rattle.bpaf_text.specs.{declared.fault.TextFault.TextFault, Meaning.ReadsTex
 use Rattle.bpaf_line.specs.Situation.{with_current, count_below, take_place, with_scope, open_count}
 use Rattle.bpaf_line.specs.Situation.{Situation, with_path, is_taken, in_scope, Context, is_open}
 use Rattle.bpaf_line.specs.declared.error.Message.TheVariants.{ParseFailure, Memory}
-use Rattle.bpaf_line.specs.Messages.{CombinesSpared, is_answer, is_memory, Combines}
 use Rattle.bpaf_line.proofs.Marks.{keeps_marks_current, keeps_marks_trans, keeps_marks_scope}
 use Rattle.bpaf_line.proofs.Places.{open_not_taken, open_in_line, taken_other, taken_stays}
-use Rattle.bpaf_line.proofs.Marks.{keeps_marks_refl, keeps_marks_take, keeps_marks_path}
-use Rattle.bpaf_line.proofs.Places.{taken_here}
+use Rattle.bpaf_line.specs.Messages.{is_answer, is_memory, Combines}
 use Rattle.bpaf_line.specs.declared.failure.ParseFailure.{ParseFailure as Failure}
 use Rattle.bpaf_line.specs.{declared.error.Message.Message, declared.error.Error.Error}
 use Rattle.bpaf_line.specs.{Taking.ConflictsSaved, Rendering.Renders}
+use Rattle.bpaf_line.proofs.Marks.{keeps_marks_refl, keeps_marks_take, keeps_marks_path}
+use Rattle.bpaf_line.proofs.Places.{taken_here}
 use Rattle.bpaf_laws.specs.Reading.{IsEmptyShare, TellsReading, ReadsValue, IsAbsence, Readings}
 use Rattle.bpaf_laws.specs.Reading.{HasPlace, Outcome, IsPlace, IsPair, IsKept, Share, Joins}
 use Rattle.bpaf_laws.specs.Laws.{no_memory, Extends, Refusal, wanting, Closes, Lawful, Keeps, Reads}
@@ -271,15 +271,10 @@ pub names_absence : (s : Situation) (part : Option Part) (envs : List (List ℕ)
     → IsAbsence s part envs m → NamesAnswer m
 names_absence s part envs m absent = grind arith
 
--- two refusals combined, neither of which is want of memory
-names_spared : (first second both : Message) → NamesAnswer first → NamesAnswer second
-    → CombinesSpared first second both → NamesAnswer both
-names_spared first second both one other o = grind (arith, cases_cond, names_same)
-
 -- two refusals combined
 pub names_combined : (first second both : Message) → NamesAnswer first → NamesAnswer second
     → Combines first second both → NamesAnswer both
-names_combined first second both one other o = grind (arith, names_same, names_spared)
+names_combined first second both one other o = grind (arith, names_same, cases_cond)
 
 -- each message but the answer of an inner run has a name
 pub name_of : (m : Message) → is_answer m ≡ false → (name : Refusal) × (refusal_of m ≡ Some name)
@@ -319,12 +314,7 @@ open_joins s t k c = record {
 -- the count of present places falls by the number of newly taken ones
 pub open_count-falls : (s t : Situation) → Keeps s t → Closes s t
     → open_count s ≡ open_count t + taken_count s t
-open_count-falls s t k c =
-    let joins = open_joins s t k c in
-    let same : length t.context.line ≡ length s.context.line = ap (λ context. length context.line)
-    k.context in
-    count_below-joined (is_open s) (is_open t) (newly s t) (length s.context.line) joins.all
-    joins.apart ∙ ap (λ n. count_below (is_open t) n + taken_count s t) (sym same)
+open_count-falls s t k c = grind (arith, count_below-joined, open_joins, open_joins s t k c)
 
 -- so it does for every parser that keeps to the laws
 pub lawful_falls : {T : Type 0} {outcome : Outcome T} {reads : Readings T} → Lawful T outcome reads

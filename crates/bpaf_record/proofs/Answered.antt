@@ -1,8 +1,8 @@
 -- What an answer says by the words: of one field, of those in front of commands, of a command, and
 -- of the words behind `--`.
 use Rattle.std.proofs.Common.{slice_index_or, slice_index, true≢false, length, IsUtf8, Option, zero}
-use Rattle.std.proofs.Common.{refl, cond, ◌==◌, ◌++◌, None, Some, IfOk, ◌≡◌, ◌≢◌, suc, ◌∷◌, ◌+◌, []}
-use Rattle.std.proofs.Common.{IsSome, Result, ⊎_elim, false, codes, subst, arith, Bool, true, List}
+use Rattle.std.proofs.Common.{◌++◌, None, Some, IfOk, Bool, true, List, ◌≡◌, ◌≢◌, suc, ◌∷◌, ◌+◌, []}
+use Rattle.std.proofs.Common.{IsSome, Result, ⊎_elim, false, codes, subst, arith, refl, cond, ◌==◌}
 use Rattle.std.proofs.Common.{map, sym, ◌∙◌, All, not, ◌<◌, ◌⊎◌, inl, inr, ap, ℕ}
 use Rattle.std.proofs.lemmas.List.Elements.{Contains-append_left, All-contains_itself, All-contains}
 use Rattle.std.proofs.lemmas.List.Elements.{Contains-append_right, Contains-append_cases, All-take}
@@ -29,9 +29,9 @@ use Rattle.bpaf.specs.Positional.{accepts}
 use Rattle.bpaf.proofs.Sides.{all_spelled, of_words}
 use Rattle.bpaf_exact.proofs.Says.{argument_needs, repeat_needs, word_values, NeedsPiece, no_values}
 use Rattle.bpaf_exact.proofs.{Names.of_front_one, Places.test_named}
-use Rattle.bpaf_exact.specs.Pieces.{takes_argument, stands_behind, empty_stays, other_stays, is_own}
+use Rattle.bpaf_exact.specs.Pieces.{takes_argument, stands_behind, empty_stays, other_stays, others}
 use Rattle.bpaf_exact.specs.Pieces.{is_own_role, takes_flag, LinePiece, is_value, no_cells, IsNamed}
-use Rattle.bpaf_exact.specs.Pieces.{others, Roles, Cells, Takes, Owns, Cut, One, Two}
+use Rattle.bpaf_exact.specs.Pieces.{Roles, Cells, Takes, Owns, Cut, One, Two}
 use Rattle.bpaf_exact.specs.ProgramForm.{ProgramForm, opens_later, line_cells, CellsValue, Opens}
 use Rattle.bpaf_exact.specs.Says.{says_variable, says_present, ArgumentSays, OptionalSays, FlagSays}
 use Rattle.bpaf_exact.specs.Says.{FallbackSays, says_absent, first_item, RepeatSays, says_some}
@@ -550,18 +550,10 @@ line_behind {known} {given} {context} is cut =
 -- What the fields leave.
 
 module _ (q : Roles) (named : IsNamed q) where
-  -- no item of a named field stands there
-  own_before : (k : Arg) → is_own_role (q k) ≡ true → stands_behind k ≡ false
-  own_before k h = grind arith
-
-  -- nor does one that begins a piece of its own
-  piece_before : (o : LinePiece) → is_own q o ≡ true → stands_behind (first_item o) ≡ false
-  piece_before x h = grind (arith, own_before)
-
   -- so it leaves all items that do,
   others_are : (os : List LinePiece) → items_behind (others q os) ≡ items_behind os
   others_are [] = refl
-  others_are (o ∷ os) = grind (arith, piece_before, others_are os)
+  others_are (o ∷ os) = grind (arith, others_are os)
 
   -- and all texts,
   pub others_behind : (os : List LinePiece) → pieces_behind (others q os) ≡ pieces_behind os

@@ -7,17 +7,17 @@ use Rattle.std.specs.List.{list_all}
 use Rattle.bpaf_doc.specs.Names.{Names}
 use Rattle.bpaf_laws.specs.{Command.opening_words, Command.Called, Choice.Nested}
 use Rattle.bpaf_exact.specs.Flat.{FallbackValue, FieldKind, repeated, OwnList, Closure, Groups, Gap}
-use Rattle.bpaf_exact.specs.ProgramForm.{program_dressed, program_closed, program_choice, completed}
-use Rattle.bpaf_exact.specs.ProgramForm.{choice_only, program_con, program_if, is_program, is_named}
-use Rattle.bpaf_exact.specs.ProgramForm.{program_alone, program_field, program_both, ProgramForm}
-use Rattle.bpaf_exact.specs.ProgramForm.{program_optional, are_words_apart, program_command}
+use Rattle.bpaf_exact.specs.ProgramForm.{program_command, program_closed, program_choice, completed}
+use Rattle.bpaf_exact.specs.ProgramForm.{program_alone, program_field, program_both, choice_only}
+use Rattle.bpaf_exact.specs.ProgramForm.{program_optional, program_dressed, are_words_apart}
+use Rattle.bpaf_exact.specs.ProgramForm.{program_con, ProgramForm, program_if, is_program}
 use Rattle.bpaf_exact.specs.ProgramForm.{may_follow, is_record, are_plain}
 use Rattle.bpaf_exact.specs.{Pieces.are_all_apart, Pieces.LinePiece, Flat.LastOf}
-use Rattle.bpaf_record.specs.Part.{optional_part, dressed_part, command_part, closed_part, kind_of}
-use Rattle.bpaf_record.specs.Part.{is_program_part, completed_part, is_record_part, is_named_kind}
-use Rattle.bpaf_record.specs.Part.{chosen_part, before_part, field_part, only_part, last_part}
+use Rattle.bpaf_record.specs.Part.{dressed_part, command_part, closed_part, chosen_part, field_part}
+use Rattle.bpaf_record.specs.Part.{before_part, only_part, last_part, made_part, may_stand, kind_of}
+use Rattle.bpaf_record.specs.Part.{is_program_part, completed_part, is_record_part, optional_part}
 use Rattle.bpaf_record.specs.Grammar.{command_words, choices_of, Grammar, keys_of, choice}
-use Rattle.bpaf_record.specs.Part.{made_part, may_stand, part_of, part_if}
+use Rattle.bpaf_record.specs.Part.{part_of, part_if}
 
 -- where a test holds
 if_is : {T : Type 0} (b : Bool) (s : ProgramForm T)
@@ -114,18 +114,10 @@ pub keys_entered : (test : Names → Bool) (deep : Bool) (names : List Names) (b
     → (if deep then b else true) ≡ list_all test (if deep then names else [])
 keys_entered test b names s e = grind arith
 
--- a field of a product
-field_part_is : {T : Type 0} (s : ProgramForm T) → field_part (part_of s) ≡ part_of (program_field s)
-field_part_is s = grind arith
-
--- a named one
-named_is : (k : FieldKind) → is_named_kind (kind_of k) ≡ is_named k
-named_is s = grind arith
-
 -- the last field
 pub alone_part_is : {T : Type 0} (s : ProgramForm T)
     → last_part (field_part (part_of s)) ≡ part_of (program_alone (program_field s))
-alone_part_is s = grind (arith, field_part_is, named_is)
+alone_part_is s = grind arith
 
 -- keys may stand after a field
 stands : (k : FieldKind) (own others : List Names)
@@ -137,7 +129,7 @@ stands s own others = grind arith
 pub both_part_is : {A B : Type 0} (own others : List Names) (s : ProgramForm A) (t : ProgramForm B)
     → before_part (field_part (part_of s)) (part_of t) (are_all_apart own others)
     (list_all (λ names. false) others) ≡ part_of (program_both own others (program_field s) t)
-both_part_is own others s t = grind (arith, field_part_is, if_is, named_is, stands)
+both_part_is own others s t = grind (arith, if_is, stands)
 
 -- a constructor
 pub con_part_is : {A B : Type 0} (f : Closure A B) (s : ProgramForm A)

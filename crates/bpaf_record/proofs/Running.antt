@@ -68,14 +68,7 @@ from_cut : {known : Known} {words : List (List ℕ)} {items here : List Arg}
     → SpellAll known before items → here ≡ items ++ map PosWord (drop 1 rest)
     → ArePresent known words here
 from_cut {known} {words} {items} {here} before rest cut none first spells are =
-    let sides = two_sides before rest none first in
-    let left = sym (ap words_before cut ∙ sides.0) in
-    record {
-      items = items;
-      none = subst HasNoMarker left none;
-      spells = subst (λ those. SpellAll known those items) left spells;
-      are = are ∙ ap (λ texts. items ++ map PosWord texts) (sym (ap words_behind cut ∙ sides.1));
-    }
+    grind (arith, two_sides, two_sides before rest none first)
 
 -- so it is on the line of words
 pub on_line : (known : Known) (words : List (List ℕ)) (line : List Arg) (marker : Option ℕ)
@@ -159,10 +152,7 @@ same_fields l m p q e f n o lines markers envs names a b is also = cc
 pub same_context : (given : Given) → All IsUtf8 given.words → (known : Known) (a b : Context)
     → IsContext known given a → IsContext known given b → a ≡ b
 same_context given texts known a b first second =
-    let lines = (one_lines known given.words texts).one_line a.line b.line a.marker b.marker
-    first.is_line second.is_line in
-    same_fields a.line b.line a.marker b.marker a.env b.env a.name b.name lines.0 lines.1
-    (first.env ∙ sym second.env) (first.name ∙ sym second.name) a b refl refl
+    grind (arith, one_lines, same_fields, one_lines known given.words texts)
 
 -- words with a line aren't without one
 pub never_without : (known : Known) (given : Given) → All IsUtf8 given.words
