@@ -85,6 +85,7 @@ impl<T: Drop, P: Parser<T>> Parser<usize> for ParseCount<P, T> {
 
     ghost outcome = { λ p. CountOutcome (P.outcome p.inner) };
 
+    #[tactic(auto, using(bpaf_laws::proofs::Sparing::spared_count))]
     fn eval(&self, state: &mut State) -> Result<usize, Error>
         requires { P.can_eval self.now.inner }
         ensures outcome { CountOutcome (P.outcome self.now.inner) state.old result state.new }
@@ -124,6 +125,7 @@ impl<T: Drop, P: Parser<T>> Parser<T> for ParseLast<P> {
 
     ghost outcome = { λ p. LastOutcome (P.outcome p.inner) };
 
+    #[tactic(auto, using(bpaf_laws::proofs::Sparing::spared_last))]
     fn eval(&self, state: &mut State) -> Result<T, Error>
         requires { P.can_eval self.now.inner }
         ensures outcome { LastOutcome (P.outcome self.now.inner) state.old result state.new }

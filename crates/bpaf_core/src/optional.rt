@@ -15,6 +15,7 @@ use std::alloc::{AllocError, Global};
 ///
 /// `catches` tells that it stops at every error but those of wrong input and want of memory,
 /// `first` that no value came before it.
+#[tactic(auto, using(bpaf_laws::proofs::Keeping::keeps_of))]
 pub(crate) fn parse_option<T: Drop, P: Parser<T>>(
     parser: &P,
     state: &mut State,
@@ -83,6 +84,7 @@ impl<T: Drop, P: Parser<T>> Parser<Option<T>> for ParseOptional<P> {
 
     ghost outcome = { λ p. TurnOutcome (P.outcome p.inner) p.catch true };
 
+    #[tactic(auto, using(bpaf_laws::proofs::Sparing::none_takes_nothing, bpaf_laws::proofs::Sparing::spared_step))]
     fn eval(&self, state: &mut State) -> Result<Option<T>, Error>
         requires { P.can_eval self.now.inner }
         ensures outcome { TurnOutcome (P.outcome self.now.inner) self.now.catch true

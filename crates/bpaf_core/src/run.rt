@@ -49,6 +49,7 @@ impl<T: Drop, P: Parser<T>> Run<'_, T, P> {
 
     /// How a run ends whose parser refused; the flag tells whether help is shown in place of a
     /// message.
+    #[tactic(auto, using(crate::proofs::Running::memory_ends, crate::proofs::Running::others_end, crate::proofs::Running::usage_ends))]
     fn end_refused(&self, usage: bool, message: Message, state: &mut State) -> ParseFailure
         requires { P.can_eval self.now.inner.now }
         ensures { EndsRefused (P.describes self.now.inner.now) self.now.info.now usage message

@@ -65,6 +65,7 @@ impl<T: Drop, P: Parser<T>> ParseCommand<T, P> {
 
     /// The run over all that is in scope; of an adjacent command the attempts behind its word,
     /// which stands where the scope begins.
+    #[tactic(auto, using(crate::proofs::Commanding::runs_plain))]
     fn run_inside(&self, state: &mut State) -> Result<T, ParseFailure>
         requires can { P.can_eval self.now.inner }
         requires word { state.old.start < state.old.end }
