@@ -4,7 +4,7 @@ use Rattle.std.proofs.Common.{◌≡◌, ℕ, ◌+◌, ◌-◌, ◌<◌, ◌≤�
 use Rattle.std.proofs.Common.{sym, ◌∙◌, arith, length-drop, Option, [], ◌∷◌, length-append, ◌≢◌}
 use Rattle.std.proofs.Common.{◌==◌, Bool, true, false, not, ◌&&◌, Some, None, if◌then◌else◌}
 use Rattle.std.proofs.Common.{reverse, option_map, zero, suc, ◌*◌, ◌||◌, ⊎_elim, nat_lt}
-use Rattle.std.proofs.Common.{slice_index, add-one, Result, Ok, Err, OnOk}
+use Rattle.std.proofs.Common.{slice_index, add-one}
 use Rattle.std.proofs.lemmas.List.{length-take-le, take-append-le, take-append-drop, take-take}
 use Rattle.std.proofs.lemmas.List.{take_rest, drop-take, get_or-drop, reverse-append, take_more}
 use Rattle.std.proofs.lemmas.Bool.{cases_eq, or_right, ltb-true, ltb-false}
@@ -373,11 +373,6 @@ module _ (i : Inside) (s : Situation) (mark : Mark) (steps : Changes) (sound : I
         → IsWinner s (redone steps (undone mark s)) (leftmost_of a b)
     winner_as a b mine other = winner_is s mark steps turns redo a b
         (rw (same_own, same_theirs) at mine) (rw (same_own, same_theirs) at other)
-
--- what follows from what holds where there is a value holds there too
-pub where_ok : {T E A B : Type 0} (r : Result T E) → (A → B) → OnOk r A → OnOk r B
-where_ok (Ok v) follows a = follows a
-where_ok (Err e) follows a = tt
 
 -- the pairs of those of some places that are present
 abbrev pub PairsOf : Situation → ℕ → List ℕ → List (ℕ × ℕ) → Type 0

@@ -126,14 +126,11 @@ count_since s start end turns (suc d) n all =
 -- the bits of a situation with one place more
 pub bits_put : (s : Situation) (old new : List ℕ) (p : ℕ) → BitsOf s old
     → ChangesBit old new p true → BitsOf (put s p) new
-bits_put s old new p bits change q within = grind (
-  arith,
-  bits q within,
-  change.here,
-  change.others q,
-  put_here s p,
-  put_other s p q,
-)
+bits_put s old new p bits change q within = ⊎_elim
+    (λ (at : q ≡ p). ap (has_bit new) at ∙ (change.here
+    ∙ sym (ap (is_taken (put s p)) at ∙ put_here s p)))
+    (λ (other : q ≢ p). change.others q other ∙ (bits q within ∙ sym (put_other s p q other)))
+    (cases_eq q p)
 
 -- the first present place is found by the bits, from a place up to which all are taken
 pub first_by_bits : (s : Situation) (words : List ℕ) (from p : ℕ) → s.end ≤ length s.context.line

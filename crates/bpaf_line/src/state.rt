@@ -219,6 +219,7 @@ impl State {
     }
 
     /// The first present item in scope from a place on, with its place. It takes no memory.
+    #[tactic(auto, using(crate::proofs::Places::items_none))]
     pub fn next_open(&self, from: usize) -> Option<(usize, &Arg)>
         ensures next { MatchOption result (HasNoneOpen self.now from) (λ r.
             IsNextOpen self.now from r.0 × (open_item self.now r.0 ≡ Some r.1.now)) }

@@ -50,8 +50,10 @@ fn parsed_or<T: Drop, E: Drop>(
     words: &str,
 ) -> Result<T, TextFault>
     ensures { MatchResult result (λ value. parsed ≡ Ok value) (λ fault.
-        elim fault [ Fault message ↦ IsErr parsed × (string_bytes message ≡ words.now)
-            | Memory ↦ ⊤ ]) }
+        elim fault [
+          | Fault message ↦ IsErr parsed × (string_bytes message ≡ words.now)
+          | Memory ↦ ⊤
+        ]) }
 {
     match parsed {
         Ok(value) => Ok(value),

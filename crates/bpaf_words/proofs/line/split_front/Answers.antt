@@ -1,11 +1,12 @@
-use Rattle.std.proofs.Common.{◌≡◌, arith}
+use Rattle.std.proofs.Common.{◌≡◌, arith, None}
 use Rattle.bpaf_words.specs.{Arguments.words_in, Line.known_at}
 use Rattle.bpaf_words.proofs.LineLemmas.{begins_more, not_marker}
 use Rattle.bpaf_words.proofs.line.split_front.Goals as goal
 
 pub loop-index-preserved : goal.loop-index-preserved
 loop-index-preserved c names =
-    let spelled = (rw c.in_default.is at c.in_ok-_letters.ensures) names in
+    let none : c.in_ok-_letters.field-0 ≡ None = search in
+    let spelled = (rw none at c.in_ok-_letters.ensures) names in
     begins_more (known_at c.args.numbers names) (words_in c.args.words) c.loop-index.index _ _ _
     c.at-word.result.now (c.loop-index.invariant names) c.at-word.ensures c.at-word.utf8
     (not_marker _ c.if-eq.ensures) spelled.1 spelled.2

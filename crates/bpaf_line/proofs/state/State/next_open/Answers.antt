@@ -1,11 +1,7 @@
 use Rattle.std.proofs.Common.{ap, subst, ◌∙◌, get_or}
-use Rattle.bpaf_line.proofs.{Sound.open_item_is, Places.items_next, Places.items_none}
+use Rattle.bpaf_line.proofs.{Sound.open_item_is, Places.items_next}
 use Rattle.bpaf_line.specs.Inside.{IsSoundAt}
 use Rattle.bpaf_line.proofs.state.State.next_open.Goals as goal
-
-pub returns-in_err-place-clause-items : goal.returns-in_err-place-clause-items
-returns-in_err-place-clause-items c =
-    rw c.from_residual.ensures (items_none c.args.self.now c.args.from c.in_err-place.ensures)
 
 pub returns-clause-next : goal.returns-clause-next
 returns-clause-next c = (

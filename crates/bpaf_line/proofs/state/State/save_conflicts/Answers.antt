@@ -1,11 +1,12 @@
 use Rattle.std.proofs.Common.{◌∙◌, ◌++◌, ap, sym, subst, not, ◌&&◌, if◌then◌else◌, Some, None}
 use Rattle.bpaf_line.specs.Situation.{is_on, is_taken, with_conflicts}
 use Rattle.bpaf_line.specs.{Marks.undone, Marks.redone, Taking.ConflictsSaved, Inside.situation_of}
-use Rattle.bpaf_line.proofs.Marks.{conflicts_saved, excluded_there, where_ok}
+use Rattle.bpaf_line.proofs.Marks.{conflicts_saved, excluded_there}
+use Rattle.std.proofs.lemmas.Result.{on_ok_weaker}
 use Rattle.bpaf_line.proofs.state.State.save_conflicts.Goals as goal
 
 pub returns-clause-ok : goal.returns-clause-ok
-returns-clause-ok c = where_ok c.exclude-saved.result (λ made mark.
+returns-clause-ok c = on_ok_weaker c.exclude-saved.result (λ made mark.
     let s = c.args.self.now in
     let pairs = made.0 in
     let taken = c.as_slice.ensures ∙ ap (λ steps. steps.taken) c.loser.view_is in
