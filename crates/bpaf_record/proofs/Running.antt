@@ -1,5 +1,5 @@
--- Each answer that the table of a run allows to a program is exact, and to a flat record keeps to its
--- fields: what is present on the line of the words, and what it is read as.
+-- Each answer that the table of a run allows to a program is exact, and to a flat record keeps to
+-- its fields: what is present on the line of the words, and what it is read as.
 use Rattle.std.proofs.Common.{if◌then◌else◌, append-nil, slice_get, Option, length, IsUtf8, Result}
 use Rattle.std.proofs.Common.{false, arith, subst, codes, zero, Bool, true, List, ◌++◌, ◌==◌, Some}
 use Rattle.std.proofs.Common.{None, refl, cond, drop, IfOk, ◌≡◌, ◌<◌, suc, ◌∷◌, map, sym, ◌∙◌, All}
@@ -159,8 +159,8 @@ pub never_without : (known : Known) (given : Given) → All IsUtf8 given.words
     → (context : Context) → IsContext known given context → (at_word : List ℕ) (number : ℕ)
     → ¬ (HasNoLine known given.words at_word number)
 never_without known given texts context is at_word number none =
-    (one_lines known given.words texts).not_both context.line context.marker at_word number is.is_line
-    none
+    (one_lines known given.words texts).not_both context.line context.marker at_word number
+    is.is_line none
 
 -- Each answer that the table of a run allows is exact.
 
@@ -222,7 +222,8 @@ module _ {T : Type 0} {outcome : Outcome T} (describes : Shape → Type 0) (info
   pub answers_as_program : is_program form ≡ true → (r : Result T ParseFailure)
       → RunsWords T outcome describes info known given r → AnswersAsProgram T known form given r
   answers_as_program program r (ran context answer t is run) =
-      let exact = runs_as_program program context (law_on is) (answer_of r) (run_ran T outcome describes info (beginning context) t r run) in
+      let exact = runs_as_program program context (law_on is) (answer_of r)
+      (run_ran T outcome describes info (beginning context) t r run) in
       record {
         sound = sound_on r (λ v e. record {
           context = context;
@@ -260,7 +261,8 @@ is_program_form form names info e = (and_parts (is_program form) _ e).0
 -- a value of an exact answer says what its parser says
 pub tells_of_words : {P T : Type 0} {known : Known} {form : ProgramForm T} {kind : SaidKind}
     {names : List Names} {given : Given} {env : Variables} {outcome : Outcome T}
-    {words : List (List ℕ)} (said : ProgramSaid P T) (p : P) → FormLaw env outcome names words form → ProgramSays names form kind said p
+    {words : List (List ℕ)} (said : ProgramSaid P T) (p : P)
+    → FormLaw env outcome names words form → ProgramSays names form kind said p
     → (r : Result T ParseFailure) → AnswersAsProgram T known form given r
     → IfOk r (TellsOfWords known form (cells_said form said p) given)
 tells_of_words said p law says (Ok v) exact = record {

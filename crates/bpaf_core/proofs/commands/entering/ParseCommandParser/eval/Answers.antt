@@ -6,12 +6,14 @@ use Rattle.bpaf_core.proofs.commands.entering.ParseCommandParser.eval.Goals as g
 
 pub returns-in_err-enter-clause-outcome : goal.returns-in_err-enter-clause-outcome
 returns-in_err-enter-clause-outcome g c =
-    refused_inside _ _ _ _ _ c.args.self.now.adjacent _ c.from_residual.ensures c.in_err-enter.ensures
+    refused_inside _ _ _ _ _ c.args.self.now.adjacent _ c.from_residual.ensures
+    c.in_err-enter.ensures
 
 pub returns-in_err-enter-clause-memory_is_never_caught :
     goal.returns-in_err-enter-clause-memory_is_never_caught
 returns-in_err-enter-clause-memory_is_never_caught g c =
-    spared_either _ (run_ending _ _) _ _ c.args.self.now.adjacent _ _ _ (returns-in_err-enter-clause-outcome g c)
+    spared_either _ (run_ending _ _) _ _ c.args.self.now.adjacent _ _ _
+    (returns-in_err-enter-clause-outcome g c)
 
 pub returns-in-Ok-clause-outcome : goal.returns-in-Ok-clause-outcome
 returns-in-Ok-clause-outcome g c =
@@ -30,7 +32,8 @@ returns-in-Ok-clause-takes_one_stretch g c =
 
 pub returns-in-Ok-clause-memory_is_never_caught : goal.returns-in-Ok-clause-memory_is_never_caught
 returns-in-Ok-clause-memory_is_never_caught g c =
-    spared_either _ (run_ending _ _) _ _ c.args.self.now.adjacent _ _ _ (returns-in-Ok-clause-outcome g c)
+    spared_either _ (run_ending _ _) _ _ c.args.self.now.adjacent _ _ _
+    (returns-in-Ok-clause-outcome g c)
 
 pub returns-in-Err-clause-outcome : goal.returns-in-Err-clause-outcome
 returns-in-Err-clause-outcome g c =
@@ -39,4 +42,5 @@ returns-in-Err-clause-outcome g c =
 
 pub returns-in-Err-clause-memory_is_never_caught : goal.returns-in-Err-clause-memory_is_never_caught
 returns-in-Err-clause-memory_is_never_caught g c =
-    spared_either _ (run_ending _ _) _ _ c.args.self.now.adjacent _ _ _ (returns-in-Err-clause-outcome g c)
+    spared_either _ (run_ending _ _) _ _ c.args.self.now.adjacent _ _ _
+    (returns-in-Err-clause-outcome g c)
