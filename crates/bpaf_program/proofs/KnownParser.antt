@@ -1,9 +1,9 @@
 -- The parsers of a program, and their fields, are known where what they are made of is.
-use Rattle.std.proofs.Common.{All, Err, IsUtf8, List, Ok, Result, [], ap, ap₂, refl, true, ◌∙◌, ◌≡◌}
+use Rattle.std.proofs.Common.{arith}
+use Rattle.std.proofs.Common.{All, IsUtf8, List, Result, [], ap, ap₂, refl, true, ◌∙◌, ◌≡◌}
 use Rattle.std.proofs.Common.{ℕ, Bool, Option, Some, false}
 use Rattle.bpaf_doc.specs.{Shape.Shape, Names.Names, declared.doc.Piece.Piece}
 use Rattle.bpaf_line.specs.declared.failure.ParseFailure.{ParseFailure}
-use Rattle.bpaf_line.specs.{declared.error.Error.Error, Situation.Situation}
 use Rattle.bpaf_laws.specs.Laws.{joined_shorts, no_shorts, of_arguments, of_flags}
 use Rattle.bpaf_laws.specs.Combinators.{MapOutcome, FallbackOutcome, GivesClone, ManyOutcome}
 use Rattle.bpaf_laws.specs.Combinators.{TurnOutcome}
@@ -38,21 +38,11 @@ module _ {A B : Type 0} (inner : Outcome A) {answers wanted : A → B → Type 0
     (only : (x : A) (v : B) → answers x v → wanted x v) where
   -- a constructor that answers less
   con_within : AllowsNoMore B (ProductOutcome inner wanted) (ProductOutcome inner answers)
-  con_within = no_more by_answer
-    where
-      by_answer : (s t : Situation) (r : Result B Error) → ProductOutcome inner answers s r t
-          → ProductOutcome inner wanted s r t
-      by_answer s t (Ok v) o = (o.0, o.1, o.2, only o.1 v o.3, o.4)
-      by_answer s t (Err e) o = o
+  con_within = grind (arith, no_more)
 
   -- a closure that does
   map_within : AllowsNoMore B (MapOutcome inner wanted) (MapOutcome inner answers)
-  map_within = no_more by_answer
-    where
-      by_answer : (s t : Situation) (r : Result B Error) → MapOutcome inner answers s r t
-          → MapOutcome inner wanted s r t
-      by_answer s t (Ok v) o = (o.0, o.1, only o.0 v o.2)
-      by_answer s t (Err e) o = o
+  map_within = grind (arith, no_more)
 
 -- a command over a program, which is one that was made by its word alone
 pub command_known : {T P : Type 0} (called : List ℕ) (known : Grammar T)
