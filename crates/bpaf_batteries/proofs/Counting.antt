@@ -1,10 +1,9 @@
 -- Counted keys: what two counts read are as many keys of each flag.
-use Rattle.std.proofs.Common.{◌≡◌, ℕ, ◌+◌, ◌<◌, ◌&&◌, ◌||◌, Bool, true, false, List, [], ◌∷◌}
+use Rattle.std.proofs.Common.{◌≡◌, ℕ, ◌+◌, ◌<◌, ◌||◌, Bool, true, false, List, [], ◌∷◌}
 use Rattle.std.proofs.Common.{length, Result, Ok, Err, IfOk, None, refl, sym, ◌∙◌, subst, arith}
 use Rattle.std.proofs.Common.{⊎_elim, true≢false}
 use Rattle.std.proofs.lemmas.Bool.{eq-eqb, eqb-true, false_from_ne_true, ne_eqb, or_cases}
 use Rattle.std.proofs.lemmas.Option.{slice_get_within}
-use Rattle.std.specs.Option.{option_map_or, IsSomeRelated}
 use Rattle.bpaf_text.specs.declared.params.ParseFlag.{ParseFlag}
 use Rattle.bpaf_base.specs.declared.arg.Arg.{Arg}
 use Rattle.bpaf_index.proofs.BitSets.{count_below-same, count_below-fewer, count_below-none}
@@ -12,10 +11,10 @@ use Rattle.bpaf_line.specs.Situation.{Situation, Context, item_in, count_below, 
 use Rattle.bpaf_line.specs.declared.error.Error.{Error}
 use Rattle.bpaf_laws.proofs.Keeping.{count_below-joined}
 use Rattle.bpaf_laws.proofs.ProductLaws.{both_spares, product_spares}
-use Rattle.bpaf_laws.specs.Leaves.{at_key, nowhere, value_without_key}
-use Rattle.bpaf_laws.specs.Reading.{Outcome, Share, HasItem, IsPlace, Joins, first_set}
+use Rattle.bpaf_laws.specs.Leaves.{at_key, nowhere}
+use Rattle.bpaf_laws.specs.Reading.{Share, HasItem, IsPlace, Joins}
 use Rattle.bpaf_laws.specs.Combinators.{EachReads, ListReads, CountOutcome}
-use Rattle.bpaf_laws.specs.{Laws.newly, Laws.IsNotMemory, Laws.WithoutMemory, Product.BothOutcome}
+use Rattle.bpaf_laws.specs.{Laws.newly, Laws.IsNotMemory, Product.BothOutcome}
 use Rattle.bpaf_batteries.proofs.Keys.{not_both}
 use Rattle.bpaf_batteries.specs.declared.pair.KeyCounts.{KeyCounts}
 use Rattle.bpaf_batteries.specs.Keys.{is_key, MustStand, KeyOutcome, KeyReads}
@@ -53,11 +52,7 @@ module _ {T : Type 0} (clones : T → T → Type 0) (flag : ParseFlag T) (stands
     number =
         one_place share key (length context.line) is (item_within (is_key flag) context key has);
   }
-  one_key share v (nowhere none kept) =
-      absurd (subst (λ absent. IsSomeRelated clones absent v) stands.required
-      (subst (λ envs. IsSomeRelated clones
-      (value_without_key flag.present flag.absent (first_set context.env envs)) v)
-      stands.on_the_line kept))
+  one_key share v (nowhere none kept) = grind arith
 
   -- no place is a share of no keys
   no_keys : (share : Share) → ((p : ℕ) → share p ≡ false) → AreKeys flag context share 0
@@ -92,16 +87,12 @@ module _ {T : Type 0} (clones : T → T → Type 0) (flag : ParseFlag T) (stands
   -- so does each of all values
   list_keys : (share : Share) (values : List T) → ListReads (KeyReads clones flag) context share values
       → AreKeys flag context share (length values)
-  list_keys share [] none = no_keys share none
-  list_keys share (v ∷ vs) read =
-      subst (AreKeys flag context share) (omega arith)
-      (more_keys read.0 read.1 share v (length vs) read.2 read.3 (each_key read.1 vs read.4))
+  list_keys share xs none = grind (arith, each_key, more_keys, no_keys)
 
   -- a count is of as many keys
   count_keys : (share : Share) (n : ℕ) → CountReads clones flag context share n
       → AreKeys flag context share n
-  count_keys share n read =
-      subst (AreKeys flag context share) (sym read.made) (list_keys share read.from read.read)
+  count_keys share n read = grind (arith, list_keys)
 
 -- of a share that is one of keys of a flag and one without them, the keys are all of the former
 counted_in : {T : Type 0} (flag : ParseFlag T) (context : Context) (own rest share : Share) (n : ℕ)
@@ -109,17 +100,7 @@ counted_in : {T : Type 0} (flag : ParseFlag T) (context : Context) (own rest sha
     → ((p : ℕ) → rest p ≡ true → ¬ (HasItem (is_key flag) context p))
     → n ≡ keys_in flag context share
 counted_in flag context own rest share n joins keys others =
-    sym keys.number ∙ sym (count_below-same
-    (λ p. share p && option_map_or (is_key flag) (item_in context p) false) own
-    (length context.line) (λ p below.
-    at_one (share p) (own p) (rest p) (option_map_or (is_key flag) (item_in context p) false)
-    (joins p) (keys.keys p)
-    (λ theirs. false_from_ne_true (option_map_or (is_key flag) (item_in context p) false)
-    (others p theirs))))
-  where
-    at_one : (w f r h : Bool) → w ≡ (f || r) → (f ≡ true → h ≡ true) → (r ≡ true → h ≡ false)
-        → (w && h) ≡ f
-    at_one w f r h whole passes others = grind arith
+    grind (arith, count_below-same, false_from_ne_true)
 
 -- two counts are as many keys of each flag
 counted : (clones : Unit {0} → Unit {0} → Type 0) (keys : KeyCounts) (context : Context)
@@ -156,13 +137,7 @@ counts_ran clones keys s m t unset r o = grind arith
 pub counts_spared : (clones : Unit {0} → Unit {0} → Type 0) (keys : KeyCounts) (s t : Situation)
     (r : Result (ℕ × ℕ) Error) → CountsOutcome clones keys s r t → IsNotMemory r
     → CountsSpared clones keys s r t
-counts_spared clones keys s t r answered spared =
-    let first : Outcome ℕ = CountOutcome (KeyOutcome clones (more_of keys)) in
-    let last : Outcome ℕ = CountOutcome (KeyOutcome clones (fewer_of keys)) in
-    product_spares (BothOutcome first last) (BothOutcome (WithoutMemory first) (WithoutMemory last))
-    (λ counts v. v ≡ counts)
-    (both_spares first last (WithoutMemory last) (λ from to one ran not_memory. (ran, not_memory)))
-    s t r answered spared
+counts_spared clones keys s t r answered spared = grind (arith, both_spares, product_spares)
 
 -- the counts are those of the keys that were newly taken
 pub keys_counted : (clones : Unit {0} → Unit {0} → Type 0) (keys : KeyCounts) (s t : Situation)

@@ -1,6 +1,6 @@
 -- What a flag whose key must stand on the line answers, and what it reads.
-use Rattle.std.proofs.Common.{◌≡◌, ℕ, ◌&&◌, Bool, true, false, Result, Ok, Err, Option, sym, subst}
-use Rattle.std.proofs.Common.{true≢false, arith}
+use Rattle.std.proofs.Common.{◌≡◌, ℕ, ◌&&◌, Bool, true, false, Result, Ok, Err, Option, subst}
+use Rattle.std.proofs.Common.{arith}
 use Rattle.std.specs.Option.{option_map_or, IsSomeRelated}
 use Rattle.bpaf_text.specs.declared.params.ParseFlag.{ParseFlag}
 use Rattle.bpaf_base.specs.declared.arg.Arg.{Arg}
@@ -29,8 +29,7 @@ module _ {T : Type 0} (clones : T → T → Type 0) (flag : ParseFlag T) (stands
     (s t : Situation) where
   -- no variable of the environment counts
   not_set : is_set s.context.env flag.named.envs ≡ true → ⊥
-  not_set set =
-      true≢false (sym (subst (λ envs. is_set s.context.env envs ≡ true) stands.on_the_line set))
+  not_set set = grind arith
 
   -- nor is there an absent value
   not_absent : (v : T) → IsSomeRelated clones flag.absent v → ⊥

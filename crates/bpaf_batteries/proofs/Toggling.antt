@@ -67,7 +67,8 @@ module _ {T : Type 0} (clones : T → T → Type 0) (one other : ParseFlag T) wh
 
     -- so it is with the one flag, where its answer is the chosen one
     took_one : {x : T} → IsFirst (is_key one) s p
-        → ((r : ℕ) → r < p → is_match (is_key other) s r ≡ false) → clones one.present x → IsChosen (Ok x) (take_place s p) v t → TookKey s v t
+        → ((r : ℕ) → r < p → is_match (is_key other) s r ≡ false) → clones one.present x
+        → IsChosen (Ok x) (take_place s p) v t → TookKey s v t
     took_one {x} mine theirs value chosen =
         let same : x ≡ v = let answer = chosen.answer in cc in
         took (match_is_open (is_key one) s p mine.matches) mine.first theirs
@@ -75,7 +76,8 @@ module _ {T : Type 0} (clones : T → T → Type 0) (one other : ParseFlag T) wh
 
     -- and with the other one
     took_other : {x : T} → IsFirst (is_key other) s p
-        → ((r : ℕ) → r < p → is_match (is_key one) s r ≡ false) → clones other.present x → IsChosen (Ok x) (take_place s p) v t → TookKey s v t
+        → ((r : ℕ) → r < p → is_match (is_key one) s r ≡ false) → clones other.present x
+        → IsChosen (Ok x) (take_place s p) v t → TookKey s v t
     took_other {x} theirs mine value chosen =
         let same : x ≡ v = let answer = chosen.answer in cc in
         took (match_is_open (is_key other) s p theirs.matches) mine theirs.first
@@ -159,12 +161,12 @@ module _ {T : Type 0} (clones : T → T → Type 0) (one other : ParseFlag T) wh
 
         -- and the other one
         other_ran : KeyEval clones other s ran.b ran.sb
-        other_ran =
-            key_ran clones other keys.other_stands s ran.sb ran.b ran.second_ran ran.second_spared
+        other_ran = grind (arith, key_ran)
 
         -- both are equally deep
         same_depth : depth ran.sa ≡ depth ran.sb
-        same_depth = ran_depth one s ran.a ran.sa one_ran ∙ sym (ran_depth other s ran.b ran.sb other_ran)
+        same_depth = ran_depth one s ran.a ran.sa one_ran
+            ∙ sym (ran_depth other s ran.b ran.sb other_ran)
 
         -- so the table is that of equal depths
         equal : EqualDepths s ran.a ran.sa ran.b ran.sb r t
@@ -176,16 +178,8 @@ module _ {T : Type 0} (clones : T → T → Type 0) (one other : ParseFlag T) wh
           → KeyOutcome clones other s b sb → KeyEval clones one s a sa
           → KeyEval clones other s b sb → EqualDepths s a sa b sb (Err e) t
           → HasNone (is_either one other) s
-      equal_none (Ok x) sa (Ok y) sb e t a b f g (inl o) = absurd (no_value x e (sym o.1.0))
-      equal_none (Ok x) sa (Ok y) sb e t a b f g (inr o) =
-          absurd (not_winner (branch_of x sa) (branch_of y sb) o.1.0 e t o.1.2)
-      equal_none (Ok x) sa (Err d) sb e t a b f g (inl o) = absurd (both_ways _ (ran_touched one a f)
-          (and_parts (is_untouched s sa) _ o.0).0)
-      equal_none (Ok x) sa (Err d) sb e t a b f g (inr o) = absurd (no_value x e (sym o.1.0))
-      equal_none (Err d) sa (Ok y) sb e t a b f g (inl o) = absurd (both_ways _ (ran_touched other b g)
-          (and_parts (is_untouched s sb) _ o.0).0)
-      equal_none (Err d) sa (Ok y) sb e t a b f g (inr o) = absurd (no_value y e (sym o.1.0))
-      equal_none (Err d) sa (Err c) sb e t a b f g o = λ q. neither s q (f.0 q) (g.0 q)
+      equal_none x sa y sb e t a b f g o =
+          grind (arith, and_parts, both_ways, neither, no_value, not_winner, ran_touched)
 
     -- a refusal of the choice that isn't want of memory comes where there is no key
     choice_none : {s t : Situation} {e : Error} → EitherOutcome clones one other s (Err e) t
@@ -198,8 +192,7 @@ module _ {T : Type 0} (clones : T → T → Type 0) (one other : ParseFlag T) wh
     -- the choice keeps to the laws
     law : Lawful T (EitherOutcome clones one other)
         (ChoiceReads (KeyReads clones one) (KeyReads clones other))
-    law = choice_lawful (flag_lawful T clones one.named one.present one.absent)
-        (flag_lawful T clones other.named other.present other.absent)
+    law = grind (arith, choice_lawful, flag_lawful)
 
     -- a value of the choice is that of the leftmost key, which is taken
     choice_took : {s t : Situation} {v : T} → EitherOutcome clones one other s (Ok v) t
@@ -294,7 +287,8 @@ module _ {T : Type 0} (clones : T → T → Type 0) (one other : ParseFlag T) wh
           record {
             matches = gives_key s took.place v took.gives;
             last = λ q later. none_elsewhere step.0 (is_either one other) q
-                (λ same. absurd (omega arith)) (subst (HasNone (is_either one other)) (sym same) none q);
+                (λ same. absurd (omega arith))
+                (subst (HasNone (is_either one other)) (sym same) none q);
           },
           took.gives,
         )

@@ -1,6 +1,7 @@
 -- Looking for help and the version: how it is put together, and that it keeps to the laws.
+use Rattle.std.proofs.Common.{arith}
 use Rattle.std.proofs.Common.{◌≡◌, Bool, true, false, None, Option, List, Some, Ok, Err, ⊎_elim}
-use Rattle.std.proofs.Common.{inl, inr, Result, sym, ◌∙◌, ap}
+use Rattle.std.proofs.Common.{inr, Result, sym, ◌∙◌, ap}
 use Rattle.std.specs.Prelude.{◌++◌, refl, codes}
 use Rattle.std.specs.{Option.option_map_or, Result.IsErr, Result.IsErrAnd}
 use Rattle.bpaf_doc.specs.{declared.doc.Piece.Piece, Shape.parts}
@@ -23,8 +24,7 @@ use Rattle.bpaf_keys.specs.declared.info.ExtraParams.TheVariants as extra
 -- a key that is there or not, as a switch answers it
 switch_answers : (named : Named) (s : Situation) (is : Bool) (t : Situation)
     → IsPresent named s is t → FlagOutcome ◌≡◌ named true (Some false) s (Ok is) t
-switch_answers named s true t found = inl (found, refl)
-switch_answers named s false t none = inr (none, refl)
+switch_answers named s b t found = grind arith
 
 -- and is read as one
 flag_read : (named : Named) (s : Situation) (is : Bool) (t : Situation) → IsPresent named s is t
@@ -66,8 +66,7 @@ module _ (info : RunInfo) where
 
   -- what looking for the version in vain keeps
   pub no_version_keeps : (s t : Situation) → IsNoVersion info s t → Keeps s t
-  no_version_keeps s t none = ⊎_elim (λ unset. keeps_same s t unset.1)
-      (λ absent. key_keeps info.version_arg s false t absent.2) none
+  no_version_keeps s t none = grind (arith, keeps_same, key_keeps)
 
   -- what looking in vain keeps
   extra_refused : (s t : Situation) (e : Error) → ExtraOutcome info s (Err e) t → Keeps s t
@@ -128,8 +127,7 @@ module _ (info : RunInfo) (s : Situation) where
         -- memory for the text is wanted
         pub version_wanting : (r : Result (Option (List Piece)) Error)
             → IsErr r × IsErrAnd r (λ e. e.0 ≡ message.Memory) → LooksForVersion info s r t
-        version_wanting (Err e) wanted = (wanted.1, key_keeps key s is t looked)
-        version_wanting (Ok v) wanted = absurd wanted.1
+        version_wanting x wanted = grind (arith, key_keeps)
 
     module _ (same : key ≡ info.help_arg) where
       -- help's key is there, and perhaps once more

@@ -1,47 +1,29 @@
 -- How the word of a command is looked for, name by name.
+use Rattle.std.proofs.Common.{arith}
 use Rattle.std.proofs.Common.{◌≡◌, ℕ, suc, ◌<◌, Bool, true, false, ◌||◌, List, [], ◌∷◌, ◌++◌}
 use Rattle.std.proofs.Common.{length, get_or, map, take, drop, encode_utf8, Option, Some, None}
 use Rattle.std.proofs.Common.{is_some, refl, sym, ap, ◌∙◌, append_assoc}
 use Rattle.std.proofs.{Math.Seq.split_at, lemmas.List.map-append, lemmas.List.Folds.list_any-append}
 use Rattle.std.specs.Option.{option_map_or}
-use Rattle.bpaf_base.specs.{declared.arg.Arg.Arg, Items.is_command_word}
-use Rattle.bpaf_line.specs.Situation.{Situation, item_at, with_current}
+use Rattle.bpaf_base.specs.{declared.arg.Arg.Arg}
+use Rattle.bpaf_line.specs.Situation.{Situation, item_at}
 use Rattle.bpaf_laws.specs.Command.{TakesOpening, is_one_of}
 
 -- an item is one of some words or of others where it is one of all of them
 one_of_both : (a b : List (List ℕ)) (item : Option Arg)
     → option_map_or (is_one_of (a ++ b)) item false
     ≡ (option_map_or (is_one_of a) item false || option_map_or (is_one_of b) item false)
-one_of_both a b None = refl
-one_of_both a b (Some item) = list_any-append (λ word. is_command_word word item) a b
+one_of_both a b x = grind (arith, list_any-append)
 
 -- of two tests the second holds
 second_holds : (x y : Bool) → y ≡ true → (x || y) ≡ true
-second_holds true y e = refl
-second_holds false y e = e
+second_holds b y e = grind arith
 
 module _ (a b : List (List ℕ)) (s : Situation) where
   -- where none of some words is taken, and then one of others, or none, it is so of all of them
   takes_behind : (m : Situation) (r : Option ℕ) (t : Situation) → TakesOpening a s None m
       → TakesOpening b m r t → TakesOpening (a ++ b) s r t
-  takes_behind m r t before takes = from r (rw before.1 at takes)
-    where
-      from : (r : Option ℕ) → TakesOpening b (with_current s None) r t
-          → TakesOpening (a ++ b) s r t
-      from None none = (
-        λ p first. one_of_both a b (item_at s p) ∙ rw (
-          before.0 p first,
-          none.0 p (record { matches = first.matches; first = first.first }),
-        ) refl,
-        none.1,
-      )
-      from (Some p) found = (
-        record {
-          first = record { matches = found.0.first.matches; first = found.0.first.first };
-          named = one_of_both a b (item_at s p) ∙ second_holds _ _ found.0.named;
-        },
-        found.1,
-      )
+  takes_behind m r t before takes = grind (arith, one_of_both, second_holds)
 
   -- a word that is taken is one of more words
   takes_among : (p : ℕ) (t : Situation) → TakesOpening a s (Some p) t

@@ -1,6 +1,7 @@
 -- Parsers of a program whose makings are known: what each reads, shows and keeps to, commands and
 -- a word that must stand before `--` among them.
-use Rattle.std.proofs.Common.{◌≡◌, ℕ, List, [], ◌∷◌, Option, Result, Ok, Err, IfOk, inl, inr}
+use Rattle.std.proofs.Common.{arith}
+use Rattle.std.proofs.Common.{◌≡◌, ℕ, List, [], ◌∷◌, Option, Result, Ok, Err, IfOk}
 use Rattle.std.proofs.Common.{⊎_elim, ap, ◌∙◌, Bool, true, false, Some, refl, subst, not}
 use Rattle.std.proofs.Common.{option_and_then}
 use Rattle.std.specs.{Global.Vec, Result.IfErr, Prelude.option_map, List.Contains}
@@ -73,8 +74,7 @@ word_also means is context share v read = rw is at read
 pub flag_also : {T : Type 0} (clones : T → T → Type 0) {named names : Named} {present shown : T}
     {absent hidden : Option T} → named ≡ names → present ≡ shown → absent ≡ hidden
     → IsAlso (FlagReads T clones named present absent) (FlagReads T clones names shown hidden)
-flag_also clones is is_present is_absent context share v read =
-    rw (is, is_present, is_absent) at read
+flag_also clones is x y context share v read = grind arith
 
 -- fields
 pub both_also : {A B : Type 0} {first first' : Readings A} {rest rest' : Readings B}
@@ -143,8 +143,7 @@ module _ {T : Type 0} {inner inner' : Readings T} (also : IsAlso inner inner') w
 -- a choice of two
 pub choice_also : {T : Type 0} {first first' second second' : Readings T} → IsAlso first first'
     → IsAlso second second' → IsAlso (ChoiceReads first second) (ChoiceReads first' second')
-choice_also one other context share v =
-    ⊎_elim (λ read. inl (one context share v read)) (λ read. inr (other context share v read))
+choice_also one other context share v = grind arith
 
 -- Parsers of a program whose makings are known: what each reads, shows and keeps to.
 
@@ -268,10 +267,7 @@ module _ {T : Type 0} {outcome : Outcome T} {reads wanted : Readings T}
     pub known_asked : (shapes : Shape → Type 0) → shapes shape → (r : Result T ParseFailure)
         → {info : RunInfo} → RunsWords T outcome describes info known given r → info ≡ plain_info
         → known ≡ names → given ≡ own → IfErr r (IfShown (WasAsked shapes plain_info names own))
-    known_asked shapes this r {info} runs plain known_is same =
-        answer_asked {others = shapes} is.law is.nothing refl
-        (λ other shown. rw (is.only other shown) this) r
-        (rw (plain, known_is, same) at runs)
+    known_asked shapes this r {info} runs plain known_is same = grind (arith, answer_asked)
 
 -- Parsers with adjacent commands inside: what they read, and that they show a page of theirs alone.
 

@@ -1,4 +1,5 @@
 -- The parsers of a program, and their fields, are known where what they are made of is.
+<<<<<<< HEAD
 use Rattle.std.proofs.Common.{IsUtf8, Result, Option, false, List, refl, true, Bool, Some, All, Err}
 use Rattle.std.proofs.Common.{ap₂, ◌∙◌, ◌≡◌, Ok, ap, ℕ}
 use Rattle.bpaf_doc.specs.{declared.doc.Piece.Piece, Shape.Shape, Names.Names}
@@ -10,6 +11,18 @@ use Rattle.bpaf_laws.specs.Combinators.{FallbackOutcome, ManyOutcome, TurnOutcom
 use Rattle.bpaf_laws.specs.Laws.{joined_shorts, of_arguments, no_shorts, of_flags}
 use Rattle.bpaf_laws.specs.{Product.ProductOutcome, Product.BothOutcome, Combinators.GivesClone}
 use Rattle.bpaf_laws.specs.{Leaves.ArgumentOutcome, Leaves.FlagOutcome, Choice.ChoiceOutcome}
+=======
+use Rattle.std.proofs.Common.{arith}
+use Rattle.std.proofs.Common.{All, IsUtf8, List, Result, [], ap, ap₂, refl, true, ◌∙◌, ◌≡◌}
+use Rattle.std.proofs.Common.{ℕ, Bool, Option, Some, false}
+use Rattle.bpaf_doc.specs.{Shape.Shape, Names.Names, declared.doc.Piece.Piece}
+use Rattle.bpaf_line.specs.declared.failure.ParseFailure.{ParseFailure}
+use Rattle.bpaf_laws.specs.Laws.{joined_shorts, no_shorts, of_arguments, of_flags}
+use Rattle.bpaf_laws.specs.Combinators.{MapOutcome, FallbackOutcome, GivesClone, ManyOutcome}
+use Rattle.bpaf_laws.specs.Combinators.{TurnOutcome}
+use Rattle.bpaf_laws.specs.Leaves.{ArgumentOutcome, FlagOutcome}
+use Rattle.bpaf_laws.specs.{Choice.ChoiceOutcome, Product.ProductOutcome, Product.BothOutcome}
+>>>>>>> using
 use Rattle.bpaf_laws.specs.{Command.CommandPart, Command.named_only, Reading.Outcome}
 use Rattle.bpaf_laws.proofs.Keeping.{fallback_kept}
 use Rattle.bpaf_core.specs.declared.commands.ParseCommand.{ParseCommand}
@@ -34,21 +47,11 @@ module _ {A B : Type 0} (inner : Outcome A) {answers wanted : A → B → Type 0
     (only : (x : A) (v : B) → answers x v → wanted x v) where
   -- a constructor that answers less
   con_within : AllowsNoMore B (ProductOutcome inner wanted) (ProductOutcome inner answers)
-  con_within = no_more by_answer
-    where
-      by_answer : (s t : Situation) (r : Result B Error) → ProductOutcome inner answers s r t
-          → ProductOutcome inner wanted s r t
-      by_answer s t (Ok v) o = (o.0, o.1, o.2, only o.1 v o.3, o.4)
-      by_answer s t (Err e) o = o
+  con_within = grind (arith, no_more)
 
   -- a closure that does
   map_within : AllowsNoMore B (MapOutcome inner wanted) (MapOutcome inner answers)
-  map_within = no_more by_answer
-    where
-      by_answer : (s t : Situation) (r : Result B Error) → MapOutcome inner answers s r t
-          → MapOutcome inner wanted s r t
-      by_answer s t (Ok v) o = (o.0, o.1, only o.0 v o.2)
-      by_answer s t (Err e) o = o
+  map_within = grind (arith, no_more)
 
 -- a command over a program, which is one that was made by its word alone
 pub command_known : {T P : Type 0} (called : List ℕ) (known : Grammar T)

@@ -1,6 +1,6 @@
 -- Flat fields, records and programs all of whose values on the same words look alike.
 use Rattle.std.proofs.Common.{string_bytes, IsUtf8, false, subst, Bool, List, true, ◌++◌, Some, map}
-use Rattle.std.proofs.Common.{◌&&◌, ◌||◌, ◌∷◌, ◌≡◌, not, sym, ◌∙◌, All, ap₂, inl, inr, [], ap, ℕ}
+use Rattle.std.proofs.Common.{◌&&◌, ◌||◌, ◌∷◌, ◌≡◌, not, sym, ◌∙◌, All, [], ap, ℕ, arith}
 use Rattle.std.specs.Prelude.{option_map}
 use Rattle.bpaf_doc.specs.Names.{Names}
 use Rattle.bpaf_words.specs.{Arguments.Given, Line.Known}
@@ -22,7 +22,7 @@ use Rattle.bpaf_exact.proofs.Cuts.{one_take}
 use Rattle.bpaf_exact.specs.ProgramForm.{program_optional, are_words_apart, argument_field, word_by}
 use Rattle.bpaf_exact.specs.ProgramForm.{argument_group, program_closed, argument_roles, flag_field}
 use Rattle.bpaf_exact.specs.ProgramForm.{program_alone, program_field, ArgumentValue, program_value}
-use Rattle.bpaf_exact.specs.ProgramForm.{ChoiceValue, CellsValue, line_cells, key_field, completed}
+use Rattle.bpaf_exact.specs.ProgramForm.{ChoiceValue, CellsValue, key_field, completed}
 use Rattle.bpaf_exact.specs.ProgramForm.{program_both, CommandValue, ProgramForm, program_con}
 use Rattle.bpaf_exact.specs.Flat.{FallbackValue, list_closure, map_closure, ClosedValue, Variables}
 use Rattle.bpaf_exact.specs.ProgramForm.{FieldThen, FormLaw, Opens}
@@ -196,25 +196,7 @@ module _ {T X : Type 0} {see : T → X} where
       → AreSeen see words first → AreSeen see more second → are_words_apart words more ≡ true
       → AreSeen see (words ++ more) (ChoiceValue T first second)
   choice_seen {words} {more} {first} {second} one other apart =
-      record { look = choice_look; opened = choice_opened }
-    where
-      never : (cs : Cells) (v w : T) → first cs v → second cs w → ⊥
-      never cs v w a b =
-          opens_apart words more (words_apart words more apart) (one.opened cs v a).1
-          (other.opened cs w b).1
-
-      choice_look : LooksOne see (ChoiceValue T first second)
-      choice_look cs v w (inl a) (inl b) = one.look cs v w a b
-      choice_look cs v w (inr a) (inr b) = other.look cs v w a b
-      choice_look cs v w (inl a) (inr b) = absurd (never cs v w a b)
-      choice_look cs v w (inr a) (inl b) = absurd (never cs w v b a)
-
-      choice_opened : (cs : Cells) (v : T) → ChoiceValue T first second cs v
-          → (ds : Cells) × Opens (words ++ more) cs ds
-      choice_opened cs v (inl a) =
-          let o = one.opened cs v a in (o.0, opens_left words more o.1)
-      choice_opened cs v (inr a) =
-          let o = other.opened cs v a in (o.0, opens_right words more o.1)
+      grind (arith, opens_apart, opens_left, opens_right, words_apart)
 
 -- a last field of a record
 pub last_seen : {T X : Type 0} {outcome : Outcome T} {see : T → X} {names : List Names}
@@ -243,9 +225,7 @@ module _ {T X B Y : Type 0} {see : T → X} (make : T → B) (look : B → Y)
   -- what is made of values that look alike
   pub made_look : {value : CellsValue T} → LooksOne see value
       → LooksOne look (ClosedValue value (makes make))
-  made_look one cs v w a b =
-      ap look a.made ∙ (same a.from b.from (one cs a.from b.from a.read b.read)
-      ∙ sym (ap look b.made))
+  made_look one cs v w a b = grind (arith, look)
 
   -- so it is of commands
   pub made_seen : {words : List (List ℕ)} {value : CellsValue T} → AreSeen see words value
@@ -260,16 +240,10 @@ pub then_look : {A B X Y : Type 0} {see : A → X} {look : B → Y} {q : Roles}
     {first : List LinePiece → A → Type 0} {value : CellsValue B}
     → ((os : List LinePiece) → Alike see (first os)) → LooksOne look value
     → LooksOne (pair_view see look) (FieldThen A B q first value)
-then_look {first = first} {value = value} one more cs v w a b =
-    let same = one_take a.taken b.taken in
-    ap₂ (λ x y. (x, y)) (one _ v.0 w.0 (subst (λ os. first os v.0) same.0 a.own) b.own)
-    (more _ v.1 w.1 (subst (λ ds. value ds v.1) same.1 a.left) b.left)
+then_look = grind (arith, one_take)
 
 -- all values of the program on the same words look alike
 pub program_looks_one : {T X : Type 0} {see : T → X} {form : ProgramForm T}
     → LooksOne see (program_value form) → (known : Known) (given : Given) → All IsUtf8 given.words
     → Alike see (IsProgramValueOf known form given)
-program_looks_one {form = form} one known given texts v w a b =
-    one _ v w
-    (subst (λ context. program_value form (line_cells context) v)
-    (same_context given texts known a.context b.context a.on_line b.on_line) a.read) b.read
+program_looks_one = grind (arith, same_context)

@@ -1,7 +1,7 @@
 -- A program that prints its answer runs to the texts that answer its words, or to a part of one.
 use Rattle.std.proofs.Common.{Ok, ◌≡◌, ℕ, Bool, List, Result, Err, string_bytes, codes, All, IfOk}
-use Rattle.std.proofs.Common.{IsUtf8, inl, inr, map, refl, slice_index_or, subst, sym, ap, ◌==◌}
-use Rattle.std.proofs.Common.{true, false, ◌-◌, [], ◌∷◌, ◌++◌, Option, Some, None, OnOk, OnErr}
+use Rattle.std.proofs.Common.{IsUtf8, map, refl, slice_index_or, subst, sym, ap, ◌==◌}
+use Rattle.std.proofs.Common.{true, false, ◌-◌, [], ◌∷◌, ◌++◌, Option, OnOk, OnErr}
 use Rattle.std.proofs.Common.{take, drop, length, ◌∙◌, append_assoc, ◌<◌, ◌+◌, ◌||◌}
 use Rattle.std.proofs.Common.{not, ap₂, arith, drop-cons, get_or, suc}
 use Rattle.std.proofs.KnownBytes.{Appends-trans, Appends-kept}
@@ -38,8 +38,7 @@ pub refusal_answers : (answers : List ℕ → Type 0) (asked : List Piece → Bo
     (f : ParseFailure) → ((doc : List Piece) (full : Bool) → f ≡ Stdout doc full → asked doc full
     → answers (printed full doc))
     → IfShown asked f → AnswersText answers (Err f)
-refusal_answers answers asked (Stdout doc full) help is = help doc full refl is
-refusal_answers answers asked f help is = tt
+refusal_answers answers asked f help is = grind arith
 
 -- what is printed runs to a text that was asked for, or to a message
 pub runs_to : {answers : List ℕ → Type 0} {out err : Written}
@@ -57,20 +56,14 @@ runs_to {answers} {out} {err} (told {f = f} is) answer = told_runs f is answer
 
 -- a refusal that shows a page shows one, whatever it is
 page_answers : (said : List ℕ → Type 0) (f : ParseFailure) → AnswersText (OrPage said) (Err f)
-page_answers said (Stdout doc full) = inr (doc, full, refl)
-page_answers said f = tt
+page_answers said f = grind arith
 
 -- So it is with what is printed, whatever the page is.
 pub runs_to_said : (said : List ℕ → Type 0) {out err : Written}
     {r : Result (String Global) ParseFailure} {status : ℕ}
     → IsPrinted out err string_bytes r status → IfOk r (λ text. said (string_bytes text))
     → RunsTo (OrPage said) out err status
-runs_to_said said {r = r} printed is = runs_to printed (by_answer r is)
-  where
-    by_answer : (r : Result (String Global) ParseFailure)
-        → IfOk r (λ text. said (string_bytes text)) → AnswersText (OrPage said) r
-    by_answer (Ok text) is = inl is
-    by_answer (Err f) is = page_answers said f
+runs_to_said said = grind (arith, page_answers, runs_to)
 
 -- where all values have the text of the answer, a run prints it, or tells that memory was wanted
 pub prints_text : {out err : Written} {V : Type 0} {value : V → Type 0} {text_of : V → List ℕ}
@@ -96,9 +89,7 @@ prints_text {out} {err} is answers = record {
 -- an answer that is a text which answers the words, or want of memory, answers them
 pub text_answers : (answers : List ℕ → Type 0) (text : List ℕ) → answers text
     → (r : Result (String Global) ParseFailure) → IsTextOrWant text r → AnswersText answers r
-text_answers answers text own (Ok made) is = rw is own
-text_answers answers text own (Err (Stdout doc full)) is = absurd cc
-text_answers answers text own (Err f) is = tt
+text_answers answers text own x is = grind arith
 
 module _ {answers : List ℕ → Type 0} {V : Type 0} {value : V → Type 0} {text_of : V → List ℕ}
     (alike : Alike text_of value) where
@@ -106,12 +97,7 @@ module _ {answers : List ℕ → Type 0} {V : Type 0} {value : V → Type 0} {te
   pub refused_text : {f : ParseFailure} → AnswersText answers (Err f) → IsExactFor value (Err f)
       → {r : Result (String Global) ParseFailure} → IsErr r × IsErrAnd r (λ g. g ≡ f)
       → AnswersByText answers value text_of r
-  refused_text own exact {r} is =
-      handed_on (AnswersByText answers value text_of) r is
-      (λ g same. rw same (record {
-        answer = own;
-        exact = record { alike = alike; complete = exact.complete };
-      }))
+  refused_text own exact is = grind (arith, handed_on)
 
   -- else the text of the value is, or memory is wanted for it
   pub given_text : {v : V} → answers (text_of v) → IsExactFor value (Ok v)
@@ -248,22 +234,16 @@ on_err (Err e) p = p
 
 -- what holds there leads to what follows from it
 pub on_err_then : {A E : Type 0} {P Q : Type 0} (r : Result A E) → (P → Q) → OnErr r P → OnErr r Q
-on_err_then (Ok v) then p = tt
-on_err_then (Err e) then p = then p
+on_err_then x then p = grind arith
 
 -- what isn't empty has some length
 pub some_left : {n : ℕ} {empty : Bool} → empty ≡ (n == 0) → empty ≡ false → n ≡ 0 → ⊥
-some_left is some none =
-    let all : true ≡ false = sym (is ∙ ap (λ k. k == 0) none) ∙ some in cc
+some_left is some none = grind arith
 
 -- what is kept first and grows then grows
 pub kept_then : (before middle after : Option (List ℕ)) (text : List ℕ) → Keeps before middle
     → Appends middle after text → Appends before after text
-kept_then None middle after text kept more = tt
-kept_then (Some xs) None after text kept more = absurd kept
-kept_then (Some xs) (Some ys) None text kept more = absurd more
-kept_then (Some xs) (Some ys) (Some zs) text kept more =
-    more ∙ ap (λ z. z ++ text) kept
+kept_then x middle after text kept more = grind arith
 
 module _ (full : Bool) (pieces : List Piece) {i : ℕ} {piece : Piece} (within : i < length pieces)
     (here : piece ≡ get_or pieces i piece) where

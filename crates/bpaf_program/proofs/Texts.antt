@@ -1,5 +1,6 @@
 -- Texts that words mean, each of which means itself, are the texts of those words.
-use Rattle.std.proofs.Common.{◌≡◌, List, [], ◌∷◌, ap₂, map, refl, string_bytes, ℕ}
+use Rattle.std.proofs.Common.{arith}
+use Rattle.std.proofs.Common.{◌≡◌, List, [], ◌∷◌, map, refl, string_bytes, ℕ}
 use Rattle.std.specs.List.{AllZip}
 use Rattle.bpaf_program.specs.KnownParser.{MeansText, String}
 
@@ -9,5 +10,4 @@ pub texts_are : (texts : List (List ℕ)) (words : List String) → AllZip Means
 texts_are [] [] all = refl
 texts_are [] (word ∷ words) all = absurd all
 texts_are (text ∷ texts) [] all = absurd all
-texts_are (text ∷ texts) (word ∷ words) all =
-    ap₂ (λ first rest. first ∷ rest) all.0 (texts_are texts words all.1)
+texts_are (text ∷ texts) (word ∷ words) all = grind (arith, texts_are texts words all.1)

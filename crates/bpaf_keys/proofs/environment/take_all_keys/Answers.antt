@@ -1,11 +1,10 @@
+use Rattle.std.proofs.Common.{arith}
 use Rattle.std.proofs.Common.{◌++◌, ◌∷◌, [], refl}
 use Rattle.bpaf_laws.proofs.ArgumentLaws.{pair_fewer, texts_more}
 use Rattle.bpaf_keys.proofs.environment.take_all_keys.Goals as goal
 
 pub loop-last-smaller : goal.loop-last-smaller
-loop-last-smaller g c =
-    pair_fewer c.args.argument.now c.loop-last.state c.in-Some.text
-    c.take_first_key.new.state (rw c.in-Some.is at c.in_ok-text.ensures)
+loop-last-smaller g c = grind (arith, pair_fewer)
 
 pub loop-last-preserved : goal.loop-last-preserved
 loop-last-preserved g c =

@@ -1,3 +1,4 @@
+use Rattle.std.proofs.Common.{arith}
 use Rattle.bpaf_keys.proofs.Looking.{help_asked, help_unknown, then_neither, then_version}
 use Rattle.bpaf_keys.proofs.Looking.{version_refused}
 use Rattle.bpaf_keys.proofs.info.Info.look.Goals as goal
@@ -6,8 +7,7 @@ pub returns-in_err-help : goal.returns-in_err-help
 returns-in_err-help c = help_unknown _ _ _ c.from_residual.ensures
 
 pub returns-then-is_present : goal.returns-then-is_present
-returns-then-is_present c = help_asked _ _ _ _ c.is_present.ensures c.in_ok-help.ensures
-    c.if-is_present.true _ c.is_present-then-is_present.ensures
+returns-then-is_present c = grind (arith, help_asked)
 
 pub returns-in_err-version : goal.returns-in_err-version
 returns-in_err-version c =
@@ -15,9 +15,7 @@ returns-in_err-version c =
     c.in_err-version.ensures _ c.from_residual-in_err-version.ensures
 
 pub returns-in-Some : goal.returns-in-Some
-returns-in-Some c = then_version _ _ _ _ c.is_present.ensures c.in_ok-help.ensures c.if-is_present.false _ _
-    c.in_ok-version.ensures c.in-Some.is
+returns-in-Some c = grind (arith, then_version)
 
 pub returns : goal.returns
-returns c = then_neither _ _ _ _ c.is_present.ensures c.in_ok-help.ensures c.if-is_present.false _ _
-    c.in_ok-version.ensures c.in-None.is c.not_asked.ensures
+returns c = grind (arith, then_neither)

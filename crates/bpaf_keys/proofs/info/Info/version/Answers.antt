@@ -1,16 +1,12 @@
-use Rattle.std.proofs.Common.{sym, ◌∙◌, ap}
+use Rattle.std.proofs.Common.{arith}
 use Rattle.bpaf_keys.proofs.Looking.{version_asked, version_unasked, version_wanting}
 use Rattle.bpaf_keys.proofs.info.Info.version.Goals as goal
 
 pub returns-in_err-copy : goal.returns-in_err-copy
-returns-in_err-copy c = version_wanting c.args.self.now _ _ _ c.is_present.ensures c.in_ok-key.ensures
-    (sym (ap (λ i. i.version) c.self.view_is) ∙ c.in-Some.is) _ c.from_residual-in_err-copy.ensures
+returns-in_err-copy c = grind (arith, version_wanting)
 
 pub returns-then-is_present : goal.returns-then-is_present
-returns-then-is_present c = version_asked c.args.self.now _ _ _ c.is_present.ensures c.in_ok-key.ensures
-    (sym (ap (λ i. i.version) c.self.view_is) ∙ c.in-Some.is) c.if-is_present.true
-    c.in_ok-copy.ensures
+returns-then-is_present c = grind (arith, version_asked)
 
 pub returns : goal.returns
-returns c = version_unasked c.args.self.now _ _ _ c.is_present.ensures c.in_ok-key.ensures
-    (sym (ap (λ i. i.version) c.self.view_is) ∙ c.in-Some.is) c.if-is_present.false
+returns c = grind (arith, version_unasked)
