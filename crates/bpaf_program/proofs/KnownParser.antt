@@ -1,7 +1,6 @@
 -- The parsers of a program, and their fields, are known where what they are made of is.
-<<<<<<< HEAD
 use Rattle.std.proofs.Common.{IsUtf8, Result, Option, false, List, refl, true, Bool, Some, All, Err}
-use Rattle.std.proofs.Common.{ap₂, ◌∙◌, ◌≡◌, Ok, ap, ℕ}
+use Rattle.std.proofs.Common.{ap₂, ◌∙◌, ◌≡◌, Ok, ap, ℕ, arith}
 use Rattle.bpaf_doc.specs.{declared.doc.Piece.Piece, Shape.Shape, Names.Names}
 use Rattle.bpaf_words.specs.{Arguments.Given, Line.ShortNames}
 use Rattle.bpaf_text.specs.Named.{KeyWithValue, key_named, Named}
@@ -11,18 +10,6 @@ use Rattle.bpaf_laws.specs.Combinators.{FallbackOutcome, ManyOutcome, TurnOutcom
 use Rattle.bpaf_laws.specs.Laws.{joined_shorts, of_arguments, no_shorts, of_flags}
 use Rattle.bpaf_laws.specs.{Product.ProductOutcome, Product.BothOutcome, Combinators.GivesClone}
 use Rattle.bpaf_laws.specs.{Leaves.ArgumentOutcome, Leaves.FlagOutcome, Choice.ChoiceOutcome}
-=======
-use Rattle.std.proofs.Common.{arith}
-use Rattle.std.proofs.Common.{All, IsUtf8, List, Result, [], ap, ap₂, refl, true, ◌∙◌, ◌≡◌}
-use Rattle.std.proofs.Common.{ℕ, Bool, Option, Some, false}
-use Rattle.bpaf_doc.specs.{Shape.Shape, Names.Names, declared.doc.Piece.Piece}
-use Rattle.bpaf_line.specs.declared.failure.ParseFailure.{ParseFailure}
-use Rattle.bpaf_laws.specs.Laws.{joined_shorts, no_shorts, of_arguments, of_flags}
-use Rattle.bpaf_laws.specs.Combinators.{MapOutcome, FallbackOutcome, GivesClone, ManyOutcome}
-use Rattle.bpaf_laws.specs.Combinators.{TurnOutcome}
-use Rattle.bpaf_laws.specs.Leaves.{ArgumentOutcome, FlagOutcome}
-use Rattle.bpaf_laws.specs.{Choice.ChoiceOutcome, Product.ProductOutcome, Product.BothOutcome}
->>>>>>> using
 use Rattle.bpaf_laws.specs.{Command.CommandPart, Command.named_only, Reading.Outcome}
 use Rattle.bpaf_laws.proofs.Keeping.{fallback_kept}
 use Rattle.bpaf_core.specs.declared.commands.ParseCommand.{ParseCommand}
