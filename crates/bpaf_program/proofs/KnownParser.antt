@@ -1,11 +1,10 @@
 -- The parsers of a program, and their fields, are known where what they are made of is.
-use Rattle.std.proofs.Common.{IsUtf8, Result, Option, false, List, refl, true, Bool, Some, All, Err}
-use Rattle.std.proofs.Common.{ap₂, ◌∙◌, ◌≡◌, Ok, ap, ℕ, arith}
+use Rattle.std.proofs.Common.{IsUtf8, Result, Option, false, List, refl, true, Bool, Some, All}
+use Rattle.std.proofs.Common.{ap₂, ◌∙◌, ◌≡◌, ap, ℕ, arith}
 use Rattle.bpaf_doc.specs.{declared.doc.Piece.Piece, Shape.Shape, Names.Names}
 use Rattle.bpaf_words.specs.{Arguments.Given, Line.ShortNames}
 use Rattle.bpaf_text.specs.Named.{KeyWithValue, key_named, Named}
-use Rattle.bpaf_line.specs.{declared.failure.ParseFailure.ParseFailure, declared.error.Error.Error}
-use Rattle.bpaf_line.specs.Situation.{Situation}
+use Rattle.bpaf_line.specs.declared.failure.ParseFailure.{ParseFailure}
 use Rattle.bpaf_laws.specs.Combinators.{FallbackOutcome, ManyOutcome, TurnOutcome, MapOutcome}
 use Rattle.bpaf_laws.specs.Laws.{joined_shorts, of_arguments, no_shorts, of_flags}
 use Rattle.bpaf_laws.specs.{Product.ProductOutcome, Product.BothOutcome, Combinators.GivesClone}
