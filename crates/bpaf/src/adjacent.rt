@@ -149,7 +149,6 @@ impl<V, T: Drop, P: Fields<V>, F: Fn(V) -> T> Parser<T> for ParseAdjacent<ParseC
     ghost outcome = { λ p. GroupOutcome T (ProductOutcome (P.fast_outcome p.inner.fields)
         (λ x y. F.post p.inner.make x y)) (part_of p.first) };
 
-    #[tactic(auto, using(bpaf_laws::proofs::AdjacentLaws::group_takes_stretch, bpaf_laws::proofs::AdjacentLaws::spared_group, bpaf_laws::proofs::ProductLaws::product_lawful, bpaf_laws::proofs::ProductLaws::product_spares))]
     fn eval(&self, state: &mut State) -> Result<T, Error>
         requires fields { P.can_eval self.now.inner.fields }
         requires callable { F.IsAlwaysCallable self.now.inner.make }

@@ -69,7 +69,6 @@ impl<T: Drop, P: Parser<T>> Parser<T> for CargoHelper<P> {
         (⟦<Both<SkippedWord, Last<P>> as Fields<(Option<()>, T)>>⟧.outcome p.fields)
         (λ values v. v ≡ values.1) };
 
-    #[tactic(auto, using(bpaf_laws::proofs::ProductLaws::both_spares))]
     fn eval(&self, state: &mut State) -> Result<T, Error>
         requires { P.can_eval self.now.fields.rest.last }
         ensures outcome { ProductOutcome

@@ -35,7 +35,6 @@ pub fn choice<P>(parsers: Vec<P>) -> ParseChoice<P>
 }
 
 /// The answer of a parser and of the others after it, each of which may take its place.
-#[tactic(auto, using(std::proofs::lemmas::List::take_more, bpaf_laws::proofs::ChoiceLaws::from_lawful, bpaf_laws::proofs::ChoiceLaws::one_more, bpaf_laws::proofs::Keeping::keeps_of, bpaf_core::proofs::Branching::answered_choice, bpaf_core::proofs::Branching::start_kept))]
 fn choose_from<T: Drop, P: Parser<T>>(first: &P, rest: &[P], state: &mut State) -> Result<T, Error>
     requires first { P.can_eval first.now }
     requires rest { All P.can_eval rest.now }
@@ -66,7 +65,6 @@ fn choose<T: Drop, P: Parser<T>>(parsers: &[P], state: &mut State) -> Result<T, 
 }
 
 /// What a parser and the others after it show, as one choice.
-#[tactic(auto, using(std::proofs::lemmas::List::take_more, bpaf_laws::proofs::ChoiceLaws::one_more_shown))]
 fn meta_from<T, P: Parser<T>>(first: &P, rest: &[P], alloc: Global) -> Result<Meta, AllocError>
     requires first { P.can_eval first.now }
     requires rest { All P.can_eval rest.now }
@@ -95,7 +93,6 @@ impl<T: Drop, P: Parser<T> + Drop> Parser<T> for ParseChoice<P> {
 
     ghost outcome = { λ p. ChoicesOutcome P.outcome p.parsers.items };
 
-    #[tactic(auto, using(bpaf_laws::proofs::ChoiceLaws::choices_spared, bpaf_laws::proofs::ChoiceLaws::choices_leftmost))]
     fn eval(&self, state: &mut State) -> Result<T, Error>
         requires { All P.can_eval self.now.parsers.items }
         ensures outcome { ChoicesOutcome P.outcome self.now.parsers.items

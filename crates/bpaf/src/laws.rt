@@ -5,7 +5,6 @@ use bpaf_core::Parser;
 
 /// Whatever a parser's type: after an Ok the count of present items has fallen by the number of
 /// newly taken places.
-#[tactic(auto, using(bpaf_laws::proofs::Keeping::lawful_falls))]
 pub fn count_falls<T, P: Parser<T>>(parser: &P)
     ensures { CountFalls (P.outcome parser.now) }
 {

@@ -122,7 +122,6 @@ impl<T: Drop, A: Parser<T>> Fields<T> for Last<A> {
         }
     }
 
-    #[tactic(auto, using(bpaf_laws::proofs::Keeping::last_shape))]
     fn push_metas(&self, alloc: Global, metas: &mut Vec<Meta>) -> Result<(), AllocError> {
         metas.push(self.last.meta(alloc)?)?;
         Ok(())

@@ -92,7 +92,6 @@ enum AttemptEnd<T> {
 
 /// One attempt over the places from one on up to another. Where it leaves one of them present
 /// nothing changes; with a value the scope is as before.
-#[tactic(auto, using(bpaf_laws::proofs::Keeping::keeps_of))]
 fn attempt<T: Drop, P: Parser<T>>(
     parser: &P,
     state: &mut State,
@@ -126,7 +125,6 @@ fn attempt<T: Drop, P: Parser<T>>(
 ///
 /// Where that is the first present place, and all behind it in the scope are present, they are only
 /// counted, which the state has done already.
-#[tactic(auto, using(crate::proofs::Remembering::told_end))]
 fn stretch_end(state: &State, place: usize) -> usize
     ensures stretch { IsStretchFrom state.now place result }
     ensures inside { place ≤ length state.now.context.line

@@ -44,7 +44,6 @@ fn next_start(state: &State, from: usize, width: usize) -> Option<Range<usize>>
 /// What comes of a place with which those of a first item begin: None, where the parser takes no
 /// item there or its attempts fail, which may be remembered; nothing changes then. Want of memory
 /// is refused, and nothing changes.
-#[tactic(auto, using(crate::proofs::Remembering::attempts_gone, crate::proofs::Remembering::back_at, crate::proofs::Remembering::wanted_at, crate::proofs::Remembering::skipped_at, crate::proofs::Remembering::found_at, crate::proofs::Remembering::failed_at))]
 fn try_at<T: Drop, P: Parser<T>>(
     parser: &P,
     state: &mut State,

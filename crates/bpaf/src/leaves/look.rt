@@ -27,7 +27,6 @@ pub(crate) trait Look<T>: Sized {
 /// The first item that matches: its place, whether it is an attached key, and the value.
 ///
 /// Under `anywhere` each present item in scope is looked at, in order, else the first one alone.
-#[tactic(auto, using(crate::proofs::LeafLemmas::passed_more))]
 fn first_match<T: Drop, L: Look<T>>(
     look: &L,
     anywhere: bool,
@@ -64,7 +63,6 @@ fn take_item(state: &mut State, place: usize, attached: bool)
 ///
 /// None, and nothing changes, where no item matches; so it is where it is refused for want of
 /// memory.
-#[tactic(auto, using(crate::proofs::LeafLemmas::found_open))]
 pub(crate) fn take_match<T: Drop, L: Look<T>>(
     look: &L,
     anywhere: bool,
