@@ -141,8 +141,7 @@ tuple_lawful _ each = refusal_lawful wrong_number
 abbrev pub no_first_item : List ℕ
 no_first_item = codes "no first item"
 
--- a group of fields that begins with this item: their values stay nested pairs and are told as one
--- value
+-- a group of fields that begins with this item: their values are nested pairs, told as one value
 abbrev pub BegunOutcome : {V : Type 0} → Outcome V → (V → Value → Type 0) → Part → Outcome Value
 BegunOutcome {V} fast told first =
     ToldOutcome (GroupOutcome V (ProductOutcome fast (λ x v. v ≡ x)) first) told
@@ -213,8 +212,7 @@ together_lawful d _ each = refusal_lawful wrong_number
 
 -- A level: what its kind makes of the inner parsers.
 
--- what a level answers: a modifier and a command are over the choice of all its parsers, which
--- `or_else` writes one after the other
+-- what a level answers: a modifier and a command are over the choice of all its parsers, in order
 abbrev pub LevelOutcome : {P : Type 0} → (P → Outcome Value) → (P → Shape → Type 0) → Clones → Kind
     → List P → Outcome Value
 LevelOutcome outcome describes clones (kind.Over m) ps =

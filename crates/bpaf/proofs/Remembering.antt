@@ -314,8 +314,7 @@ closed_outside s q out = by_open (is_open s q) refl
         let inside = open_in_scope s q there in absurd (omega (arith, out inside.0 inside.1))
     by_open false there = refl
 
--- where from the first present place on as many are present as the scope has places, each is, and
--- the stretch ends with the scope
+-- where as many are present from the first one on as the scope has places, all are, to its end
 ends_with_scope : (s : Situation) (p : ℕ) → s.end ≤ length s.context.line
     → IsNextOpen s s.start p → open_count s ≡ s.end - p → IsStretchFrom s p s.end
 ends_with_scope s p inside first all =

@@ -23,8 +23,7 @@ not_marker word other =
     false_from_ne_true (is_marker_word word)
     (λ same. other ((bytes_eq-Decides word (codes "--")).0 same))
 
--- where none of the words in front is `--`, and behind them stands nothing or `--` first, these are
--- the words on its two sides
+-- words without `--`, behind which stands nothing or `--` first, are those on its two sides
 pub two_sides : (before rest : List (List ℕ)) → HasNoMarker before
     → (length before < length (before ++ rest)
     → is_marker_word (get_or (before ++ rest) (length before) []) ≡ true)

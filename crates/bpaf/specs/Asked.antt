@@ -15,8 +15,7 @@ use Rattle.bpaf_line.specs.declared.failure.ParseFailure.TheVariants as failure
 abbrev pub Showing : Type 1
 Showing = Situation → List Piece → Bool → Type 0
 
--- the key of help, or of the version, is there; and this is the help page of a shape that the
--- parser may show, or the version
+-- the key of help or version is there; and this is the page of a shape it may show, or the version
 pub record IsAskedAt (describes : Shape → Type 0) (info : RunInfo) (before : Situation)
     (doc : List Piece) (full : Bool) : Type 0 where
   pub after : Situation

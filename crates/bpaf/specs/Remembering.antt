@@ -34,8 +34,7 @@ pub data TriesAt (T : Type 0) (inner : Outcome T) (s : Situation) (place stop : 
       → Tries T inner s place (Ok v) t → TriesAt T inner s place stop best (Ok (Some v)) best t
   no_memory : (e : Error) → is_memory e.0 ≡ true → TriesAt T inner s place stop best (Err e) best s
 
--- the first item that is looked at and matches: its place, whether it is an attached key, and the
--- value; or none matches
+-- the first item looked at that matches: its place, whether it is attached, its value; or none does
 abbrev pub FindsMatch : {T : Type 0} → Looks T → Bool → Situation → Option (ℕ × Bool × T) → Type 0
 FindsMatch looks anywhere s (Some hit) =
     (item : Arg) × FirstMatch looks (looked_at anywhere s) hit.0 item hit.2
@@ -83,8 +82,7 @@ HasPlaceIf false = IsEmptyShare
 abbrev pub Takes : (T : Type 0) → Outcome T → Situation → ℕ → ℕ → Bool → Type 0
 Takes T inner s place stop takes = Probe T inner s place stop (HasPlaceIf takes)
 
--- an attempt over the places from one on up to another left none of them present, or this is the
--- first one; or it failed
+-- an attempt over places from one on up to another left none, or this as the first; or it failed
 abbrev pub EndsAttempt : (T : Type 0) → Outcome T → Situation → ℕ → ℕ → Result (AttemptEnd T) Error
     → Situation → Type 0
 EndsAttempt T inner s place stop (Ok (ending.Whole v)) u =
@@ -116,8 +114,7 @@ abbrev pub worse_error : {V : Type 0} → Error → Result V Error → Error
 worse_error e (Ok v) = e
 worse_error e (Err f) = if is_memory f.0 then f else e
 
--- what is told of a field's error: want of memory at once, and else the worse one of it and of
--- what the fields behind it answer
+-- what is told of a field's error: want of memory, else the worse of it and the rest's answer
 abbrev pub IsErrorBefore : {V : Type 0} → Outcome V → Error → Situation → Error → Situation → Type 0
 IsErrorBefore {V} rest e s told t =
     ((is_memory e.0 ≡ true) × (told ≡ e) × (t ≡ s))

@@ -54,8 +54,7 @@ item_text (ArgWord text) = text
 item_text (Word text) = text
 item_text (PosWord text) = text
 
--- the whole word by which an item may name a command: that of a Word, of a Short, or of a Long that
--- isn't attached
+-- the whole word by which an item may name a command: that of a Word, Short, or Long not attached
 abbrev pub command_word : Arg → Option (List ℕ)
 command_word (Short c attached word) = Some word
 command_word (Long name false word) = Some word

@@ -17,8 +17,7 @@ pub not_both : (one other : Arg → Bool) (at : Option Arg)
     → option_map_or other at false ≡ true → ⊥
 not_both one other at apart e f = grind (arith, apart)
 
--- what such a flag answers but want of memory: a value for its first key, which is taken; or there
--- is no key, and nothing changes
+-- what such a flag answers but want of memory: a value, its first key taken; or no key, as before
 abbrev pub KeyEval : {T : Type 0} → (T → T → Type 0) → ParseFlag T → Situation → Result T Error
     → Situation → Type 0
 KeyEval clones flag s (Ok v) t =

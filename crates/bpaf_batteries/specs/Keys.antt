@@ -16,8 +16,7 @@ is_key flag item = is_key_of flag.named.names item
 abbrev pub is_either : {T : Type 0} → ParseFlag T → ParseFlag T → Arg → Bool
 is_either one other item = is_key one item || is_key other item
 
--- a key of a flag must stand on the line: the flag has no absent value, and no names in the
--- environment
+-- a key of a flag must stand on the line: no absent value, and no names in the environment
 pub record MustStand {T : Type 0} (flag : ParseFlag T) : Type 0 where
   pub required : flag.absent ≡ None
   pub on_the_line : flag.named.envs ≡ []
@@ -54,8 +53,7 @@ letter_v = 118
 abbrev pub letter_q : ℕ
 letter_q = 113
 
--- the level of two counts: an offset plus the first one minus the second one; or the bound that
--- this passes
+-- the level of two counts: an offset plus the first minus the second, or the bound that it passes
 abbrev pub IsLevelOf : (offset min max : ℤ) → ℕ × ℕ → ℤ → Type 0
 IsLevelOf offset min max counts v =
     v ≡ int_max min (int_min ((offset +ℤ pos counts.0) -ℤ pos counts.1) max)

@@ -110,8 +110,7 @@ VerbosityPicks keys clones offset items s t v =
     PicksItem clones offset items
     (keys_taken (more_of keys) s t, keys_taken (fewer_of keys) s t) v
 
--- an item that is picked by the inner value; an inner refusal is passed on, or memory for the item
--- is wanted
+-- an item picked by the inner value; an inner refusal is passed on, or memory for it is wanted
 abbrev pub PickOutcome : {C T : Type 0} → Outcome C → (C → T → Type 0) → Outcome T
 PickOutcome {C} inner picks s (Ok v) t = (x : C) × inner s (Ok x) t × picks x v
 PickOutcome {C} inner picks s (Err e) t =

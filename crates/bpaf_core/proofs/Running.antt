@@ -292,8 +292,7 @@ module _ {T : Type 0} (inner : Outcome T) (describes : Shape → Type 0) (info :
   want_named known given (Ok v) wanted = absurd wanted
   want_named known given (Err f) wanted = rw wanted without_memory
 
--- what is shown of one shape, where memory for it isn't refused, is shown of a parser that may show
--- that shape
+-- what is shown of one shape, memory for it aside, is shown of a parser that may show that shape
 pub default_shown : {E : Type 0} (describes : Shape → Type 0) {inner : Shape}
     (text : Option (List Piece)) (shown : Result Meta E) → describes inner
     → IfOk shown (λ meta. DefaultDescribes (λ s. s ≡ inner) text (shape_of meta))

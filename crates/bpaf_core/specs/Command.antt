@@ -61,8 +61,7 @@ pub data Retry (T : Type 0) (inner : Outcome T) (ending : Ending) (s : Situation
       → Retry T inner ending s from end f t (Err f) t
   wants_memory : Retry T inner ending s from end f t (Err failure.Memory) s
 
--- the attempts from a place on: one over the stretch of present places; where that fails, what
--- follows
+-- the attempts from a place on: one over the stretch of present places; if it fails, what follows
 pub data Attempts (T : Type 0) (inner : Outcome T) (ending : Ending) (s : Situation) (from : ℕ)
     : Result T ParseFailure → Situation → Type 0 where
   first_counts : (v : T) (end : ℕ) (t : Situation) → IsStretchFrom s from end

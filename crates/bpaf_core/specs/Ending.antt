@@ -60,8 +60,7 @@ pub data Tells (describes : Shape → Type 0) (info : RunInfo) (m : Message) (s 
   wanting : (e : Error) (t : Situation) → ExtraOutcome info s (Err e) t → is_memory e.0 ≡ true
       → Tells describes info m s failure.Memory t
 
--- help is shown in place of a refusal: nothing was there to read, the program wants it so then, and
--- nothing else is shown
+-- help in place of a refusal: nothing to read, the program wants it so, and nothing else is shown
 abbrev pub shows_usage : RunInfo → Message → Situation → Bool
 shows_usage info m s = (info.help_if_no_args && (open_count s == 0)) && not (is_shown m)
 

@@ -21,8 +21,7 @@ abbrev pub IsNotWant : {T : Type 0} → Result T ParseFailure → Type 0
 IsNotWant (Ok v) = Unit {0}
 IsNotWant (Err f) = is_memory (end_message f) ≡ false
 
--- a run from a situation on, and the situation that it leaves: a value, and no item is left; a
--- value that left some; a refusal
+-- a run from a situation on, and what it leaves: a value and no item; a value and some; a refusal
 pub data Runs (T : Type 0) (inner : Outcome T) (ending : Ending) (s : Situation)
     : Result T ParseFailure → Situation → Type 0 where
   value : (v : T) (t : Situation) → inner s (Ok v) t → open_count t ≡ 0
@@ -46,8 +45,7 @@ pub data RunsWords (T : Type 0) (inner : Outcome T) (describes : Shape → Type 
       → RunsWords T inner describes info known given (Err f)
   no_memory : RunsWords T inner describes info known given (Err failure.Memory)
 
--- how a run over words starts: at the beginning of their line; or they have none; or memory is
--- wanted
+-- how a run over words starts: at the beginning of their line; they have none; or memory is wanted
 abbrev pub Starts : Known → Given → Result Situation Message → Type 0
 Starts known given (Ok s) =
     (context : Context) × IsContext known given context × (s ≡ beginning context)
@@ -59,8 +57,7 @@ Starts known given (Err other) = ⊥
 abbrev pub TellsOrder : (Shape → Type 0) → Bool → Type 0
 TellsOrder describes good = (shape : Shape) × describes shape × (good ≡ in_order shape false)
 
--- v is read off all places of the words' line but that of the marker; the line is that by these
--- known short names
+-- v is read off all places of the words' line by these short names, but that of the marker
 pub record IsDealtOut (T : Type 0) (reads : Readings T) (known : Known) (given : Given) (v : T)
     : Type 0 where
   pub context : Context

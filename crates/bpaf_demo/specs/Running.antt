@@ -35,8 +35,7 @@ number_key = record {
   last = true;
 }
 
--- the known short names: those of the switch, of help and of version as flags, and that of the
--- number
+-- the known short names: the switch's, help's and version's as flags, and the number's
 abbrev pub program_known : Known
 program_known = knowing (record { flags = codes "vhV"; arguments = codes "n" })
 
@@ -69,8 +68,7 @@ OptionsReads =
     (BothReads Bool (ℕ × Vec String) (NamedSwitchReads verbose_names)
     (BothReads ℕ (Vec String) NumReads FilesReads)) (λ x v. v ≡ options_of x)
 
--- all places of the words' line but the first `--` are dealt out to the switch, the number and the
--- files, each used once
+-- all places of the words' line but the first `--` are dealt out to the fields, each used once
 abbrev pub IsDealtOptions : List (List ℕ) → Options → Type 0
 IsDealtOptions words = IsDealtOut Options OptionsReads program_known (program_given words)
 

@@ -223,8 +223,7 @@ abbrev mutual
   any_has_word none = false
   any_has_word (first then rest) = has_word first || any_has_word rest
 
--- no part that takes no word stands behind one that does; the flag tells that one stands before the
--- shape
+-- no part that takes no word stands behind one that does; the flag: one stands before the shape
 abbrev mutual
   -- in a shape; the insides of a command and of an Adjacent are apart from what stands before them
   pub in_order : Shape → Bool → Bool

@@ -151,8 +151,7 @@ pub record FieldLaw (variables : Variables) (T : Type 0) (outcome : Outcome T) (
   pub keeps : KeepsTo variables T outcome (FieldTook T k q value)
       (λ s c t. (w : T) → value (front k (pieces q (cells s))) w → c ≡ OfMemory)
 
--- the values of a list of fields are read off the pieces that a line is cut into: their own, and
--- each word by itself; nothing is left
+-- the values of fields are read off the pieces of a cut: their own, and each word; nothing is left
 pub record ReadOff (V : Type 0) (r : Roles) (value : List LinePiece → V → Type 0) (cs : Cells)
     (v : V) : Type 0 where
   pub cut_into : List LinePiece
@@ -163,8 +162,7 @@ pub record ReadOff (V : Type 0) (r : Roles) (value : List LinePiece → V → Ty
 abbrev pub HasValue : {T : Type 0} → (List LinePiece → T → Type 0) → List LinePiece → Type 0
 HasValue {T = T} value os = (v : T) × value os v
 
--- how the fields of a record read the pieces: which values these have, and whether each field has
--- one on its portion, whatever a constructor makes of them
+-- how a record's fields read the pieces: which values they have, and whether each has its own
 pub record FieldsReading (V : Type 0) : Type 1 where
   pub value : List LinePiece → V → Type 0
   pub each : List LinePiece → Type 0

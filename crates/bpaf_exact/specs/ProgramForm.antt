@@ -418,8 +418,7 @@ is_record (complete wide k q value) = not wide
 is_record (product wide named q fields) = not wide
 is_record _ = false
 
--- a command over what is a program, whose own keys are apart from those of its help and version or
--- aren't; an adjacent one is none
+-- a command over a program whose keys are apart from its help's and version's; adjacent it is none
 abbrev pub program_command : {T : Type 0} → (adjacent apart : Bool) → Called → ProgramForm T
     → ProgramForm T
 program_command {T = T} adjacent apart called s =
@@ -442,8 +441,7 @@ product_reading _ = record { value = λ os v. ⊥; each = λ os. ⊥ }
 abbrev pub flag_roles : Names → Roles
 flag_roles names = roles_of (is_key_of names) Alone
 
--- the items of an argument: keys with one of its names, each with its value; of an adjacent one
--- those whose value is attached
+-- the items of an argument: keys with its names, each with its value; if adjacent, attached ones
 abbrev pub argument_roles : (adjacent : Bool) → Names → Roles
 argument_roles adjacent names = roles_of (is_argument_key names adjacent) WithNext
 

@@ -290,8 +290,7 @@ said_choices parsers said = record {
   cells = λ q. OneOfCells said.cells (parsers q);
 }
 
--- a named field before others: it says so of its own pieces, wherever they stand, and they do of
--- what is left without these
+-- a named field before others: it says so of its own pieces, and they do of what is left
 pub record FieldThenSays {A B : Type 0} (names : List Names) (said : Said A) (rest : CellsValue B)
     (cs : Cells) (v : A × B) : Type 0 where
   pub roles : Roles

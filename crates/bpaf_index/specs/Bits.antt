@@ -29,8 +29,7 @@ pub record ChangesBit (old new : List ℕ) (p : ℕ) (bit : Bool) : Type 0 where
   pub here : has_bit new p ≡ bit
   pub others : (q : ℕ) → q ≢ p → has_bit new q ≡ has_bit old q
 
--- the first number from one on, below another, for which a test has this answer; that other one,
--- where there is none
+-- the first number from one on with this answer of a test, below another; that, where there is none
 pub record IsFirstWith (test : ℕ → Bool) (answer : Bool) (low high p : ℕ) : Type 0 where
   pub from : low ≤ p
   pub within : p ≤ high

@@ -62,8 +62,7 @@ is_key (PosWord text) = false
 pub record HasNoKeyFrom (line : List Arg) (low : ℕ) : Type 0 where
   pub none : (names : Names) (p : ℕ) → low ≤ p → named_at line names p ≡ false
 
--- the class of each place, for each class the place at which its chain begins, and the names that
--- have classes
+-- the class of each place, for each class where its chain begins, and the names with classes
 pub record Chained : Type 0 where
   pub classes : List ℕ
   pub heads : List ℕ
@@ -84,8 +83,7 @@ pub record IsNextOf (classes : List ℕ) (class low p : ℕ) : Type 0 where
 abbrev pub IsPlaceOf : List ℕ → ℕ → ℕ → Type 0
 IsPlaceOf classes class p = p < length classes → slice_index classes p ≡ class
 
--- a chain was walked from one place to another, whose class is the same; all places of the class
--- that were passed are to be passed
+-- a chain was walked between two places of one class; those of the class passed are to be passed
 pub record HasWalked (classes : List ℕ) (passes : ℕ → Bool) (low p : ℕ) : Type 0 where
   pub above : low ≤ p
   pub same : (k : ℕ) → IsPlaceOf classes k low → IsPlaceOf classes k p

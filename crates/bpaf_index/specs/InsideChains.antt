@@ -11,8 +11,7 @@ chained_of s = record {
   names = s.links.value.names;
 }
 
--- each place has its next one, each class is one of those that have a beginning, and each chain
--- begins at one of its places
+-- each place has a next one, each class a beginning, and each chain begins at a place of its class
 pub record IsLinked (classes next heads : List ℕ) : Type 0 where
   pub whole : length next ≡ length classes
   pub linked : (p : ℕ) → p < length classes

@@ -93,8 +93,7 @@ LooksForVersion info s (Ok (Some text)) t =
 LooksForVersion info s (Ok None) t = IsNoVersion info s t
 LooksForVersion info s (Err e) t = (e.0 ≡ message.Memory) × Keeps s t
 
--- looking for them: help's key is there, perhaps once more; or it isn't, but a version is set and
--- its key is there; or neither; or memory is wanted
+-- looking for them: help's key, perhaps twice; else a set version's; neither; or memory is wanted
 pub data ExtraOutcome (info : RunInfo) (s : Situation) : Result ExtraParams Error → Situation
     → Type 0 where
   help : (more : Bool) (m t : Situation) → IsFlagPresent info.help_arg s m
@@ -111,8 +110,7 @@ pub data ExtraOutcome (info : RunInfo) (s : Situation) : Result ExtraParams Erro
 abbrev pub SwitchReads : Named → Readings Bool
 SwitchReads named = FlagReads Bool ◌≡◌ named true (Some false)
 
--- help is read off its key, which may be there once more; the version off its own key, and is the
--- one that is set
+-- help is read off its key, perhaps twice; the version off its own, and is the one that is set
 abbrev pub ExtraReads : RunInfo → Readings ExtraParams
 ExtraReads info context share (extra.Help more) =
     BothReads Bool Bool (SwitchReads info.help_arg) (SwitchReads info.help_arg) context share
@@ -135,8 +133,7 @@ extra_shape_of (Some text) first second = And (members (key_shape first ∷ key_
 abbrev pub extra_shape : RunInfo → Shape
 extra_shape info = extra_shape_of info.version info.help_arg info.version_arg
 
--- those that a parser shows, and as flags those of help and version; and whether the setting makes
--- a negative number a word
+-- those that a parser shows, help's and version's as flags; and whether a negative number is a word
 abbrev pub known_names : RunInfo → ShortNames → Known
 known_names info shorts = record {
   names = record shorts {

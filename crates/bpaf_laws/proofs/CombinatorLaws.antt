@@ -69,8 +69,7 @@ module _ {T : Type 0} {inner : Outcome T} {reads : Readings T} (law : Lawful T i
       answers s (Err e) t (inr fell) = (keeps_same s t fell.0.1, names e fell.1)
 
 module _ {T : Type 0} {inner : Outcome T} {reads : Readings T} (law : Lawful T inner reads) where
-  -- where each value is made of an inner one, and each refusal is an inner one or stands for a
-  -- value, a parser keeps to the laws
+  -- where values are made of inner ones and refusals are inner or stand for one, laws are kept
   pub made_lawful : {R : Type 0} {outcome : Outcome R} (makes : T → R → Type 0)
       → ((s t : Situation) (v : R) → outcome s (Ok v) t → (x : T) × inner s (Ok x) t × makes x v)
       → ((s t : Situation) (e : Error) → outcome s (Err e) t

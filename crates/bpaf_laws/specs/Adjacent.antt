@@ -93,8 +93,7 @@ module _ (T : Type 0) (inner : Outcome T) (s : Situation) where
         → inner (with_scope s place stop) (Ok v) t → IsNextOpen (with_scope t place stop) place left
         → Narrowed place left
 
-  -- the last attempt from a place on: it answered a value and left nothing present in its scope, so
-  -- that the scope is the group's again; or it failed
+  -- the last attempt from a place on: a value, and nothing present left in its scope; or it failed
   pub data Tries (place : ℕ) : Result T Error → Situation → Type 0 where
     answered : (stop : ℕ) (v : T) (t : Situation) → Narrowed place stop
         → inner (with_scope s place stop) (Ok v) t → HasNoneOpen (with_scope t place stop) place
@@ -116,8 +115,7 @@ module _ (T : Type 0) (inner : Outcome T) (s : Situation) where
         → is_memory e.0 ≡ false
         → TriedInVain first (place + 1) (record { error = e; left = t } ∷ failures)
 
-  -- what a search gives: the value of the first place that gives one; where none does, the longest
-  -- failure; or want of memory
+  -- what a search gives: the first place's value; else the longest failure; or want of memory
   pub data Searches (first : Part) : Result T Error → Situation → Type 0 where
     gave : (from place : ℕ) (failures : List Failure) (v : T) (t : Situation)
         → TriedInVain first from failures → IsGroupStart s (place_count first) from place

@@ -36,8 +36,7 @@ branch_of x s = record { value = x; left = s }
 abbrev pub Stands : {T : Type 0} → AnsweredBranch T → Result T Error → Situation → Type 0
 Stands branch r t = (r ≡ Ok branch.value) × (t ≡ branch.left)
 
--- a branch won against another by a place: its value is the answer, and what only the other one
--- took has a conflict note that names the place
+-- a branch won by a place: its value is the answer, what only the other took is noted with that
 abbrev pub WonBy : {T : Type 0} → AnsweredBranch T → AnsweredBranch T → ℕ → Result T Error
     → Situation → Type 0
 WonBy winner loser place r t = (r ≡ Ok winner.value) × ConflictsSaved winner.left loser.left place t

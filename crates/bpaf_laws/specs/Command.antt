@@ -48,8 +48,7 @@ abbrev pub IsNotOpened : List (List ℕ) → Situation → Type 0
 IsNotOpened words s = (p : ℕ) → IsFirst any_item s p
     → option_map_or (is_one_of words) (item_at s p) false ≡ false
 
--- the first item is one of these words, and is taken: its place; or it isn't, and then no place is
--- the current one
+-- the first item is one of these words and is taken: its place; or not, and no place is current
 abbrev pub TakesOpening : List (List ℕ) → Situation → Option ℕ → Situation → Type 0
 TakesOpening words s (Some p) t = IsOpenedAt words s p × (t ≡ take_place s p)
 TakesOpening words s None t = IsNotOpened words s × (t ≡ with_current s None)
@@ -71,16 +70,14 @@ OpensScope words s false t = IsNotOpened words s × (t ≡ with_current s None)
 abbrev pub LeavesNothing : Situation → Situation → Type 0
 LeavesNothing s t = (p : ℕ) → in_scope s p ≡ true → is_taken t p ≡ true
 
--- the place of a Word, of a Short, or of a Long that isn't attached, whose word is one of the
--- command's, and a reading of the inner parser
+-- the place of a Word, Short, or Long not attached, that is a command's, and an inner reading
 pub record CommandReads (T : Type 0) (words : List (List ℕ)) (inner : Readings T)
     (context : Context) (share : Share) (v : T) : Type 0 where
   pub name : ℕ
   pub read : BothReads ℕ T (λ line own p. HasItem (is_one_of words) line p × IsPlace p own) inner
       context share (name, v)
 
--- the part that a command may show: its first long and its first short name, its help, and what the
--- inner parser may show
+-- the part that a command may show: its first long and short name, its help, and what is inside
 abbrev pub CommandPart : Called → Option (List Piece) → (Shape → Type 0) → Part → Type 0
 CommandPart called help inner part =
     (within : Shape) × inner within

@@ -82,7 +82,6 @@ pub data IsPage (doc : List Piece) : Type 0 where
   version : (text : List Piece) → Prints (version_text text) doc → IsPage doc
 
 -- a failure of this name, of any run: want of memory; a page; or the text of a message of this name
--- in some situation
 pub data HasName : Refusal → ParseFailure → Type 0 where
   wanting : HasName no_memory failure.Memory
   shown : (doc : List Piece) (full : Bool) → IsPage doc
@@ -161,8 +160,7 @@ IsNotMemory (Err e) = is_memory e.0 ≡ false
 abbrev pub WithoutMemory : {T : Type 0} → Outcome T → Outcome T
 WithoutMemory outcome s r t = outcome s r t × IsNotMemory r
 
--- of an outcome, what is answered where nothing inside wanted memory: each answer that isn't want
--- of memory is one of these
+-- of an outcome, what is answered where nothing inside wanted memory: each other answer is one
 abbrev pub Spares : {T : Type 0} → Outcome T → Outcome T → Type 0
 Spares {T} outcome without = (s t : Situation) (r : Result T Error) → outcome s r t → IsNotMemory r
     → without s r t

@@ -66,8 +66,7 @@ TakesMatch looks anywhere s (Some v) t =
     × (t ≡ take_item s place (is_attached item))
 TakesMatch looks anywhere s None t = ArePassed looks (looked_at anywhere s) × (t ≡ s)
 
--- one place, where that is an attached key perhaps the next one too; and what a look at its item's
--- text may answer
+-- one place, of an attached key perhaps the next too; and what a look at its text may answer
 pub record AnyReads (T : Type 0) (looks : Looks T) (context : Context) (share : Share) (v : T)
     : Type 0 where
   pub place : ℕ
@@ -142,8 +141,7 @@ IsOwnText false argument context share text =
     (key : ℕ) × IsKeyBefore argument context key text × IsPair key share
 IsOwnText true argument context share text = AreKeysWithText argument context share text
 
--- what the text behind a key means; or no place, and what the text of the first environment name
--- that is set means
+-- what the text behind a key means; or no place, and what that of the first set variable means
 abbrev pub ArgumentReads : (T : Type 0) → (List ℕ → T → Type 0) → KeyWithValue → Readings T
 ArgumentReads T means argument context share v =
     ((text : List ℕ) × IsOwnText argument.last argument context share text × means text v)
@@ -187,8 +185,7 @@ pub record ReadsVariable (argument : KeyWithValue) (s : Situation) (text : List 
   pub set : first_set s.context.env argument.named.envs ≡ Some text
   pub left : t ≡ with_current s None
 
--- the text of an argument: that behind its key, which are taken; or where no key is there, that of
--- the environment
+-- an argument's text: that behind its key, both taken; or, with no key, that of the environment
 abbrev pub GetsText : KeyWithValue → Situation → List ℕ → Situation → Type 0
 GetsText argument s text t =
     TakesOwnText argument.last argument s text t ⊎ ReadsVariable argument s text t
@@ -204,8 +201,7 @@ RefusesKey last argument s (NoArgument key m) t =
 RefusesKey last argument s Memory t = TakesBefore last argument s t
 RefusesKey last argument s m t = ⊥
 
--- the text behind the first key, or behind the last of all keys; or there is no key, and nothing
--- changes; or a refusal
+-- the text behind the first key, or behind the last of all; no key, nothing changed; or a refusal
 abbrev pub TakesAtKey : Bool → KeyWithValue → Situation → Result (Option (List ℕ)) Error
     → Situation → Type 0
 TakesAtKey last argument s (Ok (Some text)) t = TakesOwnText last argument s text t
@@ -256,8 +252,7 @@ abbrev pub value_without_key : {T : Type 0} → T → Option T → Option (List 
 value_without_key present absent (Some text) = Some present
 value_without_key present absent None = absent
 
--- one key with one of the names, attached or not, and a clone of the present value; or no place,
--- and a clone of what stands for no key
+-- one key with one of the names and a clone of the present value; or no place, and one for no key
 pub data FlagReads (T : Type 0) (clones : T → T → Type 0) (named : Named) (present : T)
     (absent : Option T) (context : Context) (share : Share) (v : T) : Type 0 where
   at_key : (key : ℕ) → HasItem (is_key_of named.names) context key → IsPlace key share

@@ -16,8 +16,7 @@ pub record BothReads (A B : Type 0) (first : Readings A) (rest : Readings B) (co
   pub first_read : first context first_share v.0
   pub rest_read : rest context rest_share v.1
 
--- the answer of fields that were all evaluated: want of memory, else the first failing field's
--- error, else the values
+-- the answer of evaluated fields: want of memory, else the first one's error, else the values
 abbrev pub joined : {A B : Type 0} → Result A Error → Result B Error → Result (A × B) Error
 joined (Ok a) (Ok b) = Ok (a, b)
 joined (Ok a) (Err f) = Err f

@@ -94,8 +94,7 @@ abbrev pub LacksVariable : List ℕ → Message → Type 0
 LacksVariable name (NoEnv m) = m ≡ name
 LacksVariable name m = ⊥
 
--- the refusal of a key that is nowhere: its item is missing; of one that shows none, the first of
--- its names is not set
+-- the refusal of a key that is nowhere: its item is missing, or if it shows none its name isn't set
 abbrev pub IsAbsence : Situation → Option Part → List (List ℕ) → Message → Type 0
 IsAbsence s (Some part) envs = MissesItem s (Some part)
 IsAbsence s None [] = MissesItem s None

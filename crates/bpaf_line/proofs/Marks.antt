@@ -55,8 +55,7 @@ can_redo mark s fits turns ordered inside = record {
   inside = inside;
 }
 
--- a parse cut to a mark's places, conflicts and names, with its scope and current place, is gone
--- back to it
+-- a parse cut to a mark's places, conflicts and names, with its scope and place, is back at it
 pub undone_cut : (mark : Mark) (s t : Situation) (n : ℕ) (conflicts : List (ℕ × ℕ))
     (path : List (List ℕ)) → t ≡ cut_to s n → n ≡ mark.taken
     → conflicts ≡ take mark.conflicts t.conflicts → path ≡ take mark.depth t.path
@@ -175,8 +174,7 @@ last_of-append xs ys p =
         (option_map (λ pair. pair.1) b)
     mapped a b = grind arith
 
--- what the pairs of excluded places say of one: the winner, where it is present here and taken in
--- the loser's situation
+-- what the pairs of excluded places say of one: the winner, where present here and taken there
 abbrev pub excluded_at : Situation → Situation → ℕ → ℕ → Option ℕ
 excluded_at s loser winner p = if not (is_taken s p) && is_taken loser p then Some winner else None
 

@@ -91,8 +91,7 @@ open_count-put s p free = by_scope (in_scope s p) refl
         (same_open q)) in
         omega arith
 
--- each place of a longer trail was present in its turn, where those of the old one were, and the
--- last is
+-- each place of a longer trail was present in its turn, where the old ones were, and the last is
 pub in_turn_put : (s : Situation) (p : ℕ) → TakenInTurn s → is_taken s p ≡ false
     → TakenInTurn (put s p)
 in_turn_put s p turns free n within =

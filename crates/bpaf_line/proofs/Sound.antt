@@ -546,8 +546,7 @@ path_begins : (name : Option (List ℕ)) → IfSome name
 path_begins None = tt
 path_begins (Some n) = refl
 
--- a state at the beginning is sound, where its bits, its count of open places and the first are
--- right
+-- a state at the beginning is sound, with right bits, count of open places and first one
 pub sound_beginning : (i : Inside) (context : Context) → situation_of i ≡ beginning context
     → IfSome context.marker (λ p. p < length context.line)
     → length context.line ≤ 64 * length i.words.items

@@ -30,8 +30,7 @@ pub record HasReached (mark : Mark) (s : Situation) : Type 0 where
   pub conflicts : mark.conflicts ≤ length s.conflicts
   pub depth : mark.depth ≤ length s.path
 
--- a parse can go back to the mark: it has reached it, the mark's scope lies in the line, and its
--- path has the set name
+-- a parse can go back to the mark: it reached it, its scope lies in the line, its path has the name
 pub record Fits (mark : Mark) (s : Situation) : Type 0 where
   pub reached : HasReached mark s
   pub ordered : mark.start ≤ mark.end
@@ -65,8 +64,7 @@ steps_since mark s = record {
   current = s.current;
 }
 
--- the steps can be done: each place that they take is present when its turn comes, and their scope
--- lies in the line
+-- the steps can be done: each place is present in its turn, and their scope lies in the line
 pub record CanRedo (steps : Changes) (s : Situation) : Type 0 where
   pub present : PresentInTurn s steps.taken
   pub ordered : steps.start ≤ steps.end

@@ -20,8 +20,7 @@ use Rattle.bpaf_base.specs.declared.arg.Arg.TheVariants.{Short, Long, ArgWord, W
 use Rattle.bpaf_base.specs.{declared.arg.Arg.Arg, Items.display}
 use Rattle.bpaf_line.specs.declared.failure.ParseFailure.TheVariants as failure
 
--- one item was looked for no less far on than another: from a later place, or from the same one in
--- a scope that begins no earlier
+-- an item was looked for no less far on: from a later place, or the same in a scope no earlier
 abbrev pub reaches : Missed → Missed → Bool
 reaches m n = nat_lt n.position m.position || (m.position == n.position && nat_le n.start m.start)
 

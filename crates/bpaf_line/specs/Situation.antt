@@ -11,8 +11,7 @@ use Rattle.bpaf_base.specs.declared.arg.Arg.{Arg}
 pub use Rattle.bpaf_index.specs.Bits.{is_on, count_below}
 use Rattle.bpaf_index.specs.Bits.{IsFirstWith}
 
--- what no evaluation changes: the line, the place of its first `--`, where one stands there, the
--- environment and the set name
+-- what no evaluation changes: the line, the place of its first `--`, the environment, the set name
 pub record Context : Type 0 where
   pub line : List Arg
   pub marker : Option ℕ

@@ -76,8 +76,7 @@ RefusesArgument names adjacent metavar s (NoArgument p m) = IsFirst (is_argument
 RefusesArgument names adjacent metavar s Memory = ⊤
 RefusesArgument names adjacent metavar s m = ⊥
 
--- `take_arg`: the first key and its value are taken; or there is no key; or a refusal; then nothing
--- changes
+-- `take_arg`: the first key and its value are taken; or no key, or a refusal, and nothing changes
 abbrev pub TakesArgument : Names → Bool → List ℕ → Situation → Result (Option (String Global)) Error
     → Situation → Type 0
 TakesArgument names adjacent metavar s (Ok (Some text)) t = TakesValue names adjacent s
@@ -124,8 +123,7 @@ FindsWord metavar s (Ok r) =
     IsFirst is_positional s r.0 × (option_and_then word_text (item_at s r.0) ≡ Some (r.1, r.2.now))
 FindsWord metavar s (Err e) = RefusesWord metavar s e.0
 
--- `take_positional_word`: the first word is taken: its place, whether it is a PosWord, its text; or
--- a refusal; then nothing changes
+-- `take_positional_word`: the first word is taken: place, kind, text; or a refusal changes nothing
 abbrev pub TakesWord : List ℕ → Situation → Result (ℕ × Bool × String Global) Error → Situation
     → Type 0
 TakesWord metavar s (Ok r) t = TakesText s r.0 r.1 (string_bytes r.2) t
@@ -141,8 +139,7 @@ abbrev pub HasNoCommand : List ℕ → Situation → Type 0
 HasNoCommand word s = (p : ℕ) → IsFirst any_item s p
     → option_map_or (is_command_word word) (item_at s p) false ≡ false
 
--- `take_cmd`: the first item is the word of the command, and is taken; or it isn't, and then no
--- place is the current one
+-- `take_cmd`: the first item is the command's word and is taken; or not, and no place is current
 abbrev pub TakesCommand : List ℕ → Situation → Bool → Situation → Type 0
 TakesCommand word s true t = (p : ℕ) × IsCommandAt word s p × (t ≡ take_place s p)
 TakesCommand word s false t = HasNoCommand word s × (t ≡ with_current s None)
@@ -212,8 +209,7 @@ RefusesLine known words (Ambiguity word number) = HasNoLine known words word num
 RefusesLine known words Memory = ⊤
 RefusesLine known words m = ⊥
 
--- `construct`: the state at the beginning of the words' line; or they have none; or memory is
--- wanted
+-- `construct`: the state at the beginning of the words' line; they have none; or memory is wanted
 abbrev pub Constructs : Known → Given → Result Situation Message → Type 0
 Constructs known given (Ok s) = (context : Context) × IsContext known given context ×
     (s ≡ beginning context)
@@ -233,8 +229,7 @@ abbrev pub IsWinner : Situation → Situation → Bool × Option ℕ → Type 0
 IsWinner s other (here, None) = TakeTheSame s other × (here ≡ true)
 IsWinner s other (here, Some p) = IsLeftmost s other p × (is_taken s p ≡ here)
 
--- of a place of the one and a place of the other, where there are such, the leftmost, and whether
--- it is that of the one
+-- of a place of the one and one of the other the leftmost, and whether it is that of the one
 abbrev pub leftmost_of : Option ℕ → Option ℕ → Bool × Option ℕ
 leftmost_of None None = (true, None)
 leftmost_of (Some p) None = (true, Some p)

@@ -40,8 +40,7 @@ pub record IsEarlierKey (s : Situation) (place earlier : ℕ) : Type 0 where
 abbrev pub HasNoEarlierKey : Situation → ℕ → Type 0
 HasNoEarlierKey s place = (q : ℕ) → q < place → repeats_key s place q ≡ false
 
--- what is told of words without a line: the message, where nothing is known but the set name; or
--- want of memory
+-- what is told of words without a line: the message, with the set name alone; or want of memory
 abbrev pub TellsNoLine : Option (List ℕ) → Message → ParseFailure → Type 0
 TellsNoLine name m f =
     (f ≡ failure.Memory)

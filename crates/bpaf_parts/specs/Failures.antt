@@ -5,8 +5,7 @@ use Rattle.bpaf_line.specs.{declared.error.Message.Message, Messages.is_memory, 
 use Rattle.bpaf_line.specs.declared.error.Message.TheVariants as message
 use Rattle.bpaf_line.specs.declared.failure.ParseFailure.TheVariants as failure
 
--- the end of an inner run as a refusal, which nothing but `catch` catches; want of memory stays
--- that
+-- the end of an inner run as a refusal, which only `catch` catches; want of memory stays that
 abbrev pub end_message : ParseFailure → Message
 end_message failure.Memory = message.Memory
 end_message (failure.Stdout text full) = message.ParseFailure (failure.Stdout text full)

@@ -147,8 +147,7 @@ choice_also one other context share v = grind arith
 
 -- Parsers of a program whose makings are known: what each reads, shows and keeps to.
 
--- a parser, or fields, keep to the laws, show nothing by themselves, read what is wanted, and show
--- this alone
+-- a parser, or fields, keep to the laws, read what is wanted, and show this alone
 pub record IsKnown {T S : Type 0} (outcome : Outcome T) (reads : Readings T)
     (describes : S → Type 0) (wanted : Readings T) (shape : S) : Type 0 where
   pub law : Lawful T outcome reads
@@ -271,8 +270,7 @@ module _ {T : Type 0} {outcome : Outcome T} {reads wanted : Readings T}
 
 -- Parsers with adjacent commands inside: what they read, and that they show a page of theirs alone.
 
--- a parser keeps to the laws, hands on what may be shown, reads what is wanted, and shows these
--- shapes alone
+-- a parser keeps to the laws, hands on what may be shown, reads what is wanted, shows only these
 pub record Hands {T : Type 0} (showing : Showing) (outcome : Outcome T) (reads : Readings T)
     (describes : Shape → Type 0) (wanted : Readings T) (shapes : Shape → Type 0) : Type 0 where
   pub law : Lawful T outcome reads

@@ -105,8 +105,7 @@ con_known make known {outcome} fields only = record {
   shown = fields.shown;
 }
 
--- an answer that is exact by the names and the form of a grammar is exact for its values, where
--- words are texts
+-- an answer exact by a grammar's names and form is exact for its values, where words are texts
 pub exact_for : {T : Type 0} (known : Grammar T) {own : Given} {info : RunInfo} {given : Given}
     {r : Result T ParseFailure} → AnswersAsProgram T (known_names info (shown_shorts known))
     (program_form known given.env) given r

@@ -86,8 +86,7 @@ TellsFailure out err (Stderr doc) status =
     IsUntouched out × TellsLine err (error_line (printed true doc)) status
 TellsFailure out err Memory status = IsUntouched out × TellsLine err memory_line status
 
--- how a run ends by an answer: with its value and nothing written, or with the status of what is
--- told
+-- how a run ends by an answer: its value and nothing written, or the status of what is told
 pub data EndsBy {T : Type 0} (out err : Written) : Result T ParseFailure → Result T ℕ → Type 0
   where
     with_value : {v : T} → IsUntouched out → IsUntouched err → EndsBy out err (Ok v) (Ok v)
@@ -101,8 +100,7 @@ pub record Ends {T : Type 0} (answers : Result T ParseFailure → Type 0) (out e
   pub is : answers answer
   pub ends : EndsBy out err answer r
 
--- how a program ends that prints the text of an answer: with that, or a beginning of it where a
--- write failed, or with what is told where there is none
+-- how a program ends that prints an answer's text: with it, a beginning of it, or what is told
 pub data IsPrinted (out err : Written) {A : Type 0} (text_of : A → List ℕ)
     : Result A ParseFailure → ℕ → Type 0 where
   given : {v : A} {status : ℕ} → IsShown out (text_of v) status → IsUntouched err
@@ -135,8 +133,7 @@ abbrev pub IsTextOrWant : List ℕ → Result (String Global) ParseFailure → T
 IsTextOrWant text (Ok answer) = string_bytes answer ≡ text
 IsTextOrWant text (Err f) = f ≡ Memory
 
--- all these values have the same text; and where there is one, the answer is its text, or want of
--- memory
+-- all these values have one text; where there is a value, the answer is that, or want of memory
 pub record AnswersTextOf {V : Type 0} (value : V → Type 0) (text_of : V → List ℕ)
     (r : Result (String Global) ParseFailure) : Type 0 where
   pub alike : (v w : V) → value v → value w → text_of v ≡ text_of w
@@ -146,8 +143,7 @@ pub record AnswersTextOf {V : Type 0} (value : V → Type 0) (text_of : V → Li
 abbrev pub IsTextOf : {V : Type 0} → (V → Type 0) → (V → List ℕ) → List ℕ → Type 0
 IsTextOf {V = V} value text_of text = (v : V) × value v × (text ≡ text_of v)
 
--- an answer gives or shows a text that answers the words, or refuses; and where there is one of
--- these values, it is exact
+-- an answer gives or shows a text that answers the words, or refuses; and is exact for these values
 pub record AnswersByText {V : Type 0} (answers : List ℕ → Type 0) (value : V → Type 0)
     (text_of : V → List ℕ) (r : Result (String Global) ParseFailure) : Type 0 where
   pub answer : AnswersText answers r

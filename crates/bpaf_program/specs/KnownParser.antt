@@ -46,8 +46,7 @@ shown_shorts (both g h) = joined_shorts (shown_shorts g) (shown_shorts h)
 shown_shorts (product f g) = shown_shorts g
 shown_shorts _ = no_shorts
 
--- the names by which the words of a program that is made so are read, without keys or settings of
--- its own
+-- the names by which words are read for a program made so, without keys or settings of its own
 abbrev pub program_names : {T : Type 0} → Grammar T → Known
 program_names g = known_names plain_info (shown_shorts g)
 
@@ -55,8 +54,7 @@ program_names g = known_names plain_info (shown_shorts g)
 abbrev pub IsValueBy : {T : Type 0} → Grammar T → Given → T → Type 0
 IsValueBy g given = IsProgramValueOf (program_names g) (program_form g given.env) given
 
--- an answer is exact for these values: a value only where it is one of them; and where there is
--- one, one of them, or want of memory
+-- an answer is exact: only one of these values, and where there is one, that or want of memory
 pub record IsExactFor {T : Type 0} (value : T → Type 0) (r : Result T ParseFailure) : Type 0 where
   pub sound : IfOk r value
   pub complete : (v : T) → value v → IsValueOrWant value r

@@ -245,8 +245,7 @@ pub answer_says : {T : Type 0} {P Q : T → Type 0} (r : Result T ParseFailure) 
     → ((v : T) → P v → Q v) → IfOk r Q
 answer_says x holds so = grind arith
 
--- pieces that are a key's own on the line of words: where there is one, one of the words before the
--- first `--` spells the key
+-- pieces that are a key's own on the words' line: with one, a word before the first `--` spells it
 pub record OwnOf (words : List (List ℕ)) (key : Names) (os : List LinePiece) : Type 0 where
   pub spelled : os ≢ [] → WasSpelled key words
 

@@ -96,8 +96,7 @@ at_place at (suc n) (suc p) item within is =
 module _ (P : Arg → Type 0) {known : Known} {given : Given} {context : Context}
     (is : IsContext known given context) (each : EachOf known P (words_before given.words))
     (behind : (text : List ℕ) → P (PosWord text)) where
-  -- What holds of each item of the words before the first `--`, and of each word behind it, holds
-  -- of all that is present,
+  -- What holds of each item before the first `--`, and of each word behind, holds of all present,
   pub each_present : All P (present (line_cells context))
   each_present =
       let there = on_line known given.words context.line context.marker is.is_line in

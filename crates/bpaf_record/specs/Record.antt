@@ -70,8 +70,7 @@ pub record AnswersByFields (T : Type 0) (known : Known) (form : ProgramForm T) (
     (r : Result T ParseFailure) : Type 0 where
   -- it is a value only where that is one of the record's, on a line that holds together
   pub whole : IfOk r (HasWholeLine known form given)
-  -- where each field has a value on its portion of the pieces, it is one of the record's, made of
-  -- such, or want of memory
+  -- where each field has a value on its portion, one made of such is answered, or want of memory
   pub complete : All IsUtf8 given.words → (line : PiecesOf known form given)
       → EachHasValue form line.cut_into → IsValueOrWant (IsValueOf known form given) r
   -- where a field has none, it is no value

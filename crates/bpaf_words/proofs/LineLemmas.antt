@@ -118,8 +118,7 @@ marker_of_line known words line marker (with_marker before after items cut none 
 
 -- A walk over joined letters: the flags at the front, and what stands where they end.
 
--- the letters are those of the flags fs and the rest, and the items of fs stand at the end of the
--- old ones
+-- the letters are those of the flags fs and the rest, and the items of fs are the last ones
 pub record Walked (names : ShortNames) (word letters : List ℕ) (old new : List Arg) (count : ℕ)
     (rest : List ℕ) : Type 0 where
   pub fs : List ℕ
@@ -304,8 +303,7 @@ joined_by word rest tail c (d ∷ ds) whole other some none is starts = record {
   no_equals = subst HasNoEquals (sym is) none;
 }
 
--- two or more letters behind a dash, the first of them no dash, without an `=` behind it, are
--- joined
+-- letters behind a dash, two or more, the first of them no dash, without `=` behind it, are joined
 pub are_joined : (word rest tail : List ℕ) (c : ℕ) → IsUtf8 word → word ≡ 45 ∷ rest
     → rest ≡ encode_utf8 c ++ tail → c ≢ 45 → length tail ≢ 0 → HasNoEquals tail
     → AreJoined word rest

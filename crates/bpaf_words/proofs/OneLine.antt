@@ -10,8 +10,7 @@ use Rattle.bpaf_words.specs.Line.{Known, Spelling, Items, Ambiguous, Spells, Spe
 use Rattle.bpaf_words.specs.Line.{IsLine, HasNoLine, without_marker, with_marker, LinesAreUnique}
 use Rattle.bpaf_words.proofs.OneSpelling.{one_spelling}
 
--- what words come to: a line and the place of its marker; or a first ambiguous word and the number
--- of its ambiguous character
+-- what words come to: a line and its marker's place; or a first ambiguous word and its character
 abbrev Verdict : Type 0
 Verdict = (List Arg × Option ℕ) ⊎ (List ℕ × ℕ)
 

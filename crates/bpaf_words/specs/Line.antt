@@ -12,8 +12,7 @@ pub record ShortNames : Type 0 where
   pub flags : List ℕ
   pub arguments : List ℕ
 
--- what the spelling of a word depends on: the known short names, and whether a negative number is a
--- word
+-- what a word's spelling depends on: the known short names, and whether a negative number is a word
 pub record Known : Type 0 where
   pub names : ShortNames
   pub numbers : Bool
@@ -111,8 +110,7 @@ pub record IsNumber (word : List ℕ) : Type 0 where
 abbrev pub IsNumberWord : Bool → List ℕ → Type 0
 IsNumberWord numbers word = (numbers ≡ true) × IsNumber word
 
--- what a word other than `--` spells: itself, where it is a number that is a word; else what it
--- spells by the known names
+-- what a word but `--` spells: itself, where it is a number as a word; else by the known names
 pub data Spells (known : Known) (word : List ℕ) : Spelling → Type 0 where
   number_word : IsNumberWord known.numbers word → Spells known word (Items (Word word ∷ []))
   by_dash : (spelling : Spelling) → ¬ (IsNumberWord known.numbers word)
@@ -188,8 +186,7 @@ pub data IsLine (known : Known) (words : List (List ℕ)) : List Arg → Option 
       → words ≡ before ++ codes "--" ∷ after → HasNoMarker before → SpellAll known before items
       → IsLine known words (items ++ PosWord (codes "--") ∷ map PosWord after) (Some (length items))
 
--- words without a line: the first ambiguous one before a `--`, and the number of its ambiguous
--- character
+-- words without a line: the first ambiguous one before a `--`, and its ambiguous character's number
 pub record HasNoLine (known : Known) (words : List (List ℕ)) (word : List ℕ) (number : ℕ) : Type 0
   where
     pub before : List (List ℕ)

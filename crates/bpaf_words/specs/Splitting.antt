@@ -12,8 +12,7 @@ use Rattle.bpaf_words.specs.{declared.split.SplitFault.SplitFault, declared.line
 use Rattle.bpaf_words.specs.{declared.line.Line.Line, declared.line.LineFault.LineFault}
 use Rattle.bpaf_words.specs.declared.line.LineFault.TheVariants as fault
 
--- items that are spelled stand at the end of the old ones; or the ambiguous character is named; or
--- memory is wanted
+-- spelled items stand at the end of the old; the ambiguous character is named; or memory is wanted
 abbrev pub Answers : (Spelling → Type 0) → List Arg → Result (Unit {0}) SplitFault → List Arg
     → Type 0
 Answers spells old (Ok u) new = (xs : List Arg) × spells (Items xs) × (new ≡ old ++ xs)

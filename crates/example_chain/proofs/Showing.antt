@@ -22,8 +22,7 @@ pub record IsTitled {P : Type 0} (title : Titled) (parser : P) (command : ParseC
 
 module _ {P : Type 0} (outcome : P → Outcome Step) (reads : P → Readings Step)
     (describes : P → ShownShapes) where
-  -- what such a command does, where its parser keeps to the laws and shows as it should: it shows
-  -- its help page alone
+  -- such a command shows its page alone, where its parser keeps to the laws and shows as it should
   abbrev pub Chained : Titled → P → ParseCommand Step P → Type 0
   Chained title parser command =
       Hands (IsCommandPage title)

@@ -194,8 +194,7 @@ pub data IsPage (s : Situation) (doc : List Piece) (full : Bool) : Type 0 where
 abbrev pub IsHelpAsked : List (List ℕ) → List Piece → Bool → Type 0
 IsHelpAsked words doc full = WordsShow program_known (program_given words) IsPage doc full
 
--- a text that answers the words: the lines of steps that are dealt out of them, or the text of a
--- help page that they ask for
+-- a text that answers the words: the lines of steps dealt out of them, or a help page they ask for
 pub data Answers (words : List (List ℕ)) : List ℕ → Type 0 where
   steps : (all : Vec Step) → AreDealtSteps words all → Answers words (step_lines all.items)
   help : (doc : List Piece) (full : Bool) → IsHelpAsked words doc full

@@ -20,8 +20,7 @@ ToggleReads on off context share (Some true) = IsKey on context share
 ToggleReads on off context share (Some false) = IsKey off context share
 ToggleReads on off context share None = IsEmptyShare share
 
--- what it answers: the first key of the one kind is taken, or that of the other, or nothing
--- changes; it refuses nothing
+-- what it answers: the first key of the one kind or of the other is taken, or nothing changes
 abbrev pub ToggleOutcome : (on off : Names) → Outcome (Option Bool)
 ToggleOutcome on off s (Ok (Some true)) t = TakesFlag on s true t
 ToggleOutcome on off s (Ok (Some false)) t = TakesFlag off s true t

@@ -66,13 +66,11 @@ LaunchReads =
     (BothReads String (Vec String) (WordReads NonStrict) PassedReads)))
     (λ x launch. launch ≡ launch_of x)
 
--- all places of the words' line but the first `--` are dealt out to the two switches, the name and
--- the words that are passed on, each used once
+-- all places of the words' line but the first `--` are dealt out to the parts, each used once
 abbrev pub IsDealtLaunch : List (List ℕ) → Launch → Type 0
 IsDealtLaunch words = IsDealtOut Launch LaunchReads program_known (program_given words)
 
--- the words ask for a launch: it is dealt out of them, its name stands before the first `--`, and
--- its words are those behind that
+-- the words ask for a launch: dealt out of them, its name before the first `--`, its words behind
 pub record IsLaunchOf (words : List (List ℕ)) (launch : Launch) : Type 0 where
   pub dealt : IsDealtLaunch words launch
   pub named : Contains (words_before words) (string_bytes launch.name)
@@ -92,8 +90,7 @@ launcher = known_con launch_of fields
 abbrev pub IsLaunchValue : List (List ℕ) → Launch → Type 0
 IsLaunchValue words = IsValueBy launcher (program_given words)
 
--- an answer to words is exact: a launch only where it is one that they have; and where they have
--- one, one of them, or want of memory
+-- an answer is exact: a launch only if they have it; where they have one, one, or want of memory
 abbrev pub AnswersLaunch : List (List ℕ) → Result Launch ParseFailure → Type 0
 AnswersLaunch words = IsExactFor (IsLaunchValue words)
 
@@ -136,8 +133,7 @@ IsHelpAsked words doc full =
 abbrev pub ShowsHelpAsked : List (List ℕ) → ParseFailure → Type 0
 ShowsHelpAsked words = IfShown (IsHelpAsked words)
 
--- a text that answers the words: the lines of a launch that they ask for, or the text of the help
--- page that they ask for
+-- a text that answers the words: the lines of a launch, or the help page, that they ask for
 pub data Answers (words : List (List ℕ)) : List ℕ → Type 0 where
   launch : (v : Launch) → IsLaunchOf words v → Answers words (lines v)
   help : (doc : List Piece) (full : Bool) → IsHelpAsked words doc full

@@ -159,8 +159,7 @@ program_given words = record { words = words; env = []; name = Some (codes "note
 abbrev pub IsNotesOf : List (List ℕ) → Notes → Type 0
 IsNotesOf words = IsValueBy notes_parser (program_given words)
 
--- an answer to words is exact: notes only where they are a value of the program on the words; and
--- where it has one there, one of them, or want of memory
+-- an answer is exact: notes only if a value there; where there is one, one, or want of memory
 abbrev pub AnswersNotes : List (List ℕ) → Result Notes ParseFailure → Type 0
 AnswersNotes words = IsExactFor (IsNotesOf words)
 
@@ -168,7 +167,6 @@ AnswersNotes words = IsExactFor (IsNotesOf words)
 abbrev pub AreLinesOf : (words : List (List ℕ)) (text : List ℕ) → Type 0
 AreLinesOf words = IsTextOf (IsNotesOf words) lines
 
--- an answer to words is the lines of a value, or a page; and where there is one, its lines, or want
--- of memory
+-- an answer is the lines of a value, or a page; where there is one, its lines, or want of memory
 abbrev pub AnswersLines : List (List ℕ) → Result String ParseFailure → Type 0
 AnswersLines words = AnswersByText (OrPage (AreLinesOf words)) (IsNotesOf words) lines
