@@ -1,7 +1,7 @@
 -- How the answers of a command and of the attempts of an adjacent one are put together, what they
 -- leave, and that they catch no want of memory.
-use Rattle.std.proofs.Common.{◌≡◌, ℕ, Bool, true, false, Result, Ok, Err, ⊎_elim, sym}
-use Rattle.std.proofs.Common.{true≢false, ◌≤◌, length, refl, ap, ◌∙◌}
+use Rattle.std.proofs.Common.{◌≡◌, ℕ, Bool, true, false, Result, Ok, Err, ⊎_elim, sym, true≢false}
+use Rattle.std.proofs.Common.{◌≤◌, length, refl, ap, ◌∙◌}
 use Rattle.std.specs.Result.{IsErr, IsErrAnd}
 use Rattle.bpaf_doc.specs.Shape.{Part}
 use Rattle.bpaf_line.specs.Situation.{Situation, IsStretchFrom, with_scope}
@@ -12,11 +12,10 @@ use Rattle.bpaf_laws.specs.Reading.{Outcome, Readings}
 use Rattle.bpaf_laws.specs.Command.{Called, LeavesNothing, inside}
 use Rattle.bpaf_laws.specs.Adjacent.{IsFirstLeft, IsStretch}
 use Rattle.bpaf_laws.specs.Laws.{Lawful, newly}
-use Rattle.bpaf_core.specs.Command.{ended, missing, no_memory, value}
-use Rattle.bpaf_core.specs.Command.{EitherCommandOutcome, Enters, RunsInside, StaysOutside, counted}
-use Rattle.bpaf_core.specs.Command.{failed, no_path, unnamed, Attempts, GivesBack, IsTold}
-use Rattle.bpaf_core.specs.Command.{Retry, first_fails, second_counts, second_fails, wants_memory}
-use Rattle.bpaf_core.specs.Command.{CommandOutcome}
+use Rattle.bpaf_core.specs.Command.{ended, missing, no_memory, value, EitherCommandOutcome, Enters}
+use Rattle.bpaf_core.specs.Command.{RunsInside, StaysOutside, counted, failed, no_path, unnamed}
+use Rattle.bpaf_core.specs.Command.{Attempts, GivesBack, IsTold, Retry, first_fails, second_fails}
+use Rattle.bpaf_core.specs.Command.{wants_memory, CommandOutcome}
 use Rattle.bpaf_core.specs.Ending.{Ending, LawfulEnding}
 use Rattle.bpaf_core.specs.Run.{Runs}
 use Rattle.bpaf_core.specs.CommandLaws.{runs_keeps, command_lawful, run_empty}
@@ -142,11 +141,6 @@ module _ {T : Type 0} {inner : Outcome T} {ending : Ending} {s : Situation} {fro
 
   module _ {stop : ℕ} {m u : Situation} (told : IsTold f) (left : IsFirstLeft t from end stop)
       (back : m ≡ s) where
-    -- the second attempt answers a value
-    pub second_answers : {v : T} → Runs T inner ending (with_scope m from stop) (Ok v) u
-        → Retry T inner ending s from end f t (Ok v) u
-    second_answers {v} ran = second_counts v stop u told left (rw back at ran)
-
     -- the second attempt fails too
     pub second_refuses : {g : ParseFailure} → Runs T inner ending (with_scope m from stop) (Err g) u
         → {there : Situation} {h : ParseFailure} {o w : Situation} → there ≡ t → o ≡ s

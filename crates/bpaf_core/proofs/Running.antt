@@ -1,14 +1,14 @@
 -- How the answers and the end of a run are put together: a value is dealt out of its words, a
 -- refusal is one of the twelve.
-use Rattle.std.proofs.Common.{◌≡◌, ◌==◌, ℕ, Bool, true, List, [], ap, Result, Ok, Err, ⊎_elim}
-use Rattle.std.proofs.Common.{subst, refl, IsErrAnd, arith, false, not, ◌&&◌, ◌<◌, length}
-use Rattle.std.proofs.Common.{IfOk, true≢false, nat_lt, Some, None, Option}
+use Rattle.std.proofs.Common.{◌≡◌, ◌==◌, ℕ, Bool, true, List, [], ap, Result, Ok, Err, ⊎_elim, refl}
+use Rattle.std.proofs.Common.{IsErrAnd, arith, false, not, ◌&&◌, ◌<◌, length, IfOk, true≢false}
+use Rattle.std.proofs.Common.{nat_lt, Some, None, Option}
 use Rattle.std.proofs.lemmas.Bool.Decides.{nat_tests}
 use Rattle.std.specs.Result.{IfErr}
 use Rattle.bpaf_line.specs.declared.error.Message.TheVariants.{Memory, Ambiguity}
 use Rattle.bpaf_line.specs.declared.failure.ParseFailure.{ParseFailure}
 use Rattle.bpaf_line.specs.Situation.{Situation, Context, beginning, is_taken, is_open, in_scope}
-use Rattle.bpaf_line.specs.Situation.{is_marker, is_dealt_place, open_count}
+use Rattle.bpaf_line.specs.Situation.{is_dealt_place, open_count}
 use Rattle.bpaf_line.specs.Messages.{is_memory, is_answer}
 use Rattle.bpaf_line.specs.{declared.error.Message.Message, Rendering.Renders}
 use Rattle.bpaf_line.specs.{declared.error.Error.Error}
@@ -52,11 +52,7 @@ pub read_by_shown : {describes : Shape → Type 0} {shorts : ShortNames}
     → arguments ≡ (known_names info (shorts_of (parts shape))).names.arguments
     → ReadsLine (known_at numbers (record { flags = flags; arguments = arguments })) words result
     → ReadsLine (known_names info shorts) words result
-read_by_shown shows info words {shape = shape} result setting shown flags_are arguments_are
-    reads =
-    let same = ap (known_names info) (shows.each shape shown) in
-    subst (λ known. ReadsLine known words result) same
-    (rw (setting, flags_are, arguments_are) at reads)
+read_by_shown shows info words result setting shown flags_are arguments_are reads = grind arith
 
 -- a run starts at the beginning of the line that was read
 pub starts_at : {known : Known} {given : Given} {words : List (List ℕ)} (line : Line)
@@ -76,12 +72,6 @@ starts_at {given = given} line same reads begun = (
 
 module _ {T : Type 0} {inner : Outcome T} {describes : Shape → Type 0} {info : RunInfo}
     {known : Known} {given : Given} where
-  -- a run from the state that the words made
-  pub started : {s : Situation} {r : Result T ParseFailure} {t : Situation}
-      → Starts known given (Ok s) → Runs T inner (EndsRun describes info) s r t
-      → RunsWords T inner describes info known given r
-  started {r = r} {t} starts run = ran starts.0 r t starts.1 (rw starts.2 at run)
-
   -- words without a line, or no memory for it
   pub line_refused : (m : Message) {f : ParseFailure} → Starts known given (Err m)
       → TellsNoLine given.name m f → RunsWords T inner describes info known given (Err f)
@@ -133,24 +123,6 @@ dealt_at taken before true e h = rw (e, h refl) refl
 dealt_at true before false e h = rw e refl
 dealt_at false before false e h = refl
 
--- at one place: what isn't open, and would be taken outside the scope, is taken
-taken_at : (inside taken : Bool) → (inside ≡ false → taken ≡ true) → (inside && not taken) ≡ false
-    → taken ≡ true
-taken_at true true closed none = refl
-taken_at true false closed none = absurd (true≢false none)
-taken_at false taken closed none = closed refl
-
--- a place that is dealt out lies in the line
-dealt_within : (context : Context) (p : ℕ) → is_dealt_place context p ≡ true
-    → p < length context.line
-dealt_within context p dealt = of_and (nat_lt p (length context.line))
-    (is_marker context.marker p) refl dealt
-  where
-    of_and : (x y : Bool) → nat_lt p (length context.line) ≡ x → (x && not y) ≡ true
-        → p < length context.line
-    of_and true y e both = grind (arith, nat_tests)
-    of_and false y e both = cc
-
 -- at the beginning each place of the line lies in the scope
 in_whole_line : (context : Context) (p : ℕ) → p < length context.line
     → in_scope (beginning context) p ≡ true
@@ -162,14 +134,18 @@ all_newly : (context : Context) (t : Situation) → Keeps (beginning context) t
     → newly (beginning context) t ≡ is_dealt_place context
 all_newly context t keeps closed none =
     fun_ext (λ p. dealt_at (is_taken t p) (is_taken (beginning context) p)
-    (is_dealt_place context p)
-    (taken_at_beginning context p)
-    (λ dealt.
-    let within : p < length context.line = dealt_within context p dealt in
-    let same : length t.context.line ≡ length context.line =
-    ap (λ c. length c.line) keeps.context in
-    taken_at (in_scope t p) (is_taken t p) (closed p (in_whole_line context p within))
-    (none_below (is_open t) (length t.context.line) none p (omega arith))))
+    (is_dealt_place context p) (taken_at_beginning context p)
+    (λ dealt. let within : p < length context.line = grind
+    (arith, nat_tests, nat_lt, length, Bool, not, true, false) in let same : length t.context.line
+    ≡ length context.line = ap (λ c. length c.line) keeps.context in (grind (
+      arith,
+      true,
+      false,
+      true≢false,
+      closed p (in_whole_line context p within),
+      none_below (is_open t)
+          (length t.context.line) none p (omega arith),
+    ))))
 
 module _ {T : Type 0} {inner : Outcome T} {reads : Readings T} {describes : Shape → Type 0}
     {info : RunInfo} {known : Known} {given : Given} (law : Lawful T inner reads) where
@@ -268,10 +244,7 @@ module _ {T : Type 0} (inner : Outcome T) (describes : Shape → Type 0) (info :
     -- a run from a situation on
     run_is_named : (s : Situation) (f : ParseFailure) (t : Situation)
         → Runs T inner (EndsRun describes info) s (Err f) t → IsAnyNamed s f
-    run_is_named s f t (run.leftover v left given after came ends) =
-        left_is_named s v left f t came ends
-    run_is_named s f t (run.refused e left given after came ends) =
-        refused_is_named s e.0 e left f t came refl (law.named s left e came) ends
+    run_is_named s f t x3 = grind (arith, left_is_named, refused_is_named)
 
     -- a run over words
     pub words_are_named : {known : Known} {given : Given} {r : Result T ParseFailure}
@@ -297,6 +270,4 @@ pub default_shown : {E : Type 0} (describes : Shape → Type 0) {inner : Shape}
     (text : Option (List Piece)) (shown : Result Meta E) → describes inner
     → IfOk shown (λ meta. DefaultDescribes (λ s. s ≡ inner) text (shape_of meta))
     → IfOk shown (λ meta. DefaultDescribes describes text (shape_of meta))
-default_shown describes None (Ok meta) of_it told = (told.0, rw told.1 of_it, told.2)
-default_shown describes (Some text) (Ok meta) of_it told = (told.0, rw told.1 of_it, told.2)
-default_shown describes text (Err e) of_it told = _
+default_shown describes text shown of_it told = grind (arith, None, Ok, Some, Err)

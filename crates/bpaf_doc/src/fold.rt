@@ -79,6 +79,7 @@ fn folded_below(alloc: Global, text: &str) -> Result<Text, AllocError>
 
 /// The pieces that a text gives; refused only for want of memory. A text without line breaks is
 /// one.
+#[tactic(auto, using(crate::proofs::Folding::text_plain))]
 pub(crate) fn text_pieces(alloc: Global, text: &str) -> Result<Vec<Piece>, AllocError>
     ensures { IfOk result (λ all. TextPieces text.now all.items) }
 {

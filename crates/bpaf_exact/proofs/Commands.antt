@@ -17,18 +17,18 @@ use Rattle.bpaf_laws.specs.{Choice.Chosen, Choice.depth, Choice.OneOk, Combinato
 use Rattle.bpaf_laws.specs.{Command.is_one_of, Laws.IsNotMemory, Reading.Outcome}
 use Rattle.bpaf_exact.proofs.Cuts.{takes_nonempty, either_union, union_named, first_mine, left_here}
 use Rattle.bpaf_exact.proofs.Cuts.{swap_union, left_later, never_same, takes_left, TookLeft, HeadOf}
+use Rattle.bpaf_exact.proofs.Cuts.{both_nil, not_left, Union, owner}
 use Rattle.bpaf_exact.proofs.Places.{open_present, closed_item, takes_fewer, same_cells, same_item}
 use Rattle.bpaf_exact.proofs.Product.{none_outside_after, mine_of_both, steady_trans, steady_refl}
 use Rattle.bpaf_exact.proofs.Classes.{combined_missing, combined_refused, is_missing_of, not_memory}
-use Rattle.bpaf_exact.proofs.Cuts.{both_nil, not_left, Union, owner}
 use Rattle.bpaf_exact.proofs.{Names.apart_second, Names.apart_first, Places.match_of, Places.Match}
 use Rattle.bpaf_exact.proofs.{Wrappers.closed_keeps, Classes.memory_class}
-use Rattle.bpaf_exact.specs.Flat.{optional_none, either_value, OptionalEval, FirstUnread, IsWholeIn}
-use Rattle.bpaf_exact.specs.Flat.{ClosedEval, Variables, OfMissing, none_here, OfMemory, no_place}
-use Rattle.bpaf_exact.specs.Flat.{first_cells, NonePresent, ClosedValue, TakesFirst, ErrorClass}
+use Rattle.bpaf_exact.specs.Flat.{either_value, OptionalEval, FirstUnread, IsWholeIn, ClosedEval}
+use Rattle.bpaf_exact.specs.Flat.{Variables, OfMissing, none_here, OfMemory, no_place, first_cells}
+use Rattle.bpaf_exact.specs.Flat.{NonePresent, ClosedValue, TakesFirst, ErrorClass}
 use Rattle.bpaf_exact.specs.Flat.{alternative_missing, alternative_refused, alternative_memory}
-use Rattle.bpaf_exact.specs.Flat.{AlternativeErr, AlternativeLaw, AlternativeOk, optional_some}
-use Rattle.bpaf_exact.specs.Flat.{AgreesOn, Refused, Closure, Steady, cells, class, Stops}
+use Rattle.bpaf_exact.specs.Flat.{AlternativeErr, AlternativeLaw, AlternativeOk, AgreesOn, Refused}
+use Rattle.bpaf_exact.specs.Flat.{Closure, Steady, cells, class}
 use Rattle.bpaf_exact.specs.Pieces.{is_own_role, takes_later, TakesPiece, LinePiece, takes_one}
 use Rattle.bpaf_exact.specs.Pieces.{takes_two, either, is_own, pieces, Cells, Apart, Roles}
 use Rattle.bpaf_exact.specs.ProgramForm.{OptionalCommands, FindsNoCommand, ChoiceValue, CommandsLaw}
@@ -47,11 +47,7 @@ same_scope a = record { context = a.context; start = a.start; end = a.end }
 
 -- so it is the same in two that began alike
 steady_both : {s m n : Situation} → Steady s m → Steady s n → SameScope n m
-steady_both a b = record {
-  context = a.context ∙ sym b.context;
-  start = a.start ∙ sym b.start;
-  end = a.end ∙ sym b.end;
-}
+steady_both a b = grind arith
 
 -- a place where as much is taken has the item that it had
 steady_item : {m n : Situation} → SameScope m n → (p : ℕ) → is_taken n p ≡ is_taken m p
@@ -96,13 +92,7 @@ left_of {m} {n} {p} w a b took free same =
 -- conflict notes change nothing that is taken
 pub saved_steady : {s : Situation} (other : Situation) {t : Situation} {place : ℕ}
     → ConflictsSaved s other place t → Steady s t
-saved_steady other c = record {
-  context = c.context;
-  start = c.start;
-  end = c.end;
-  path = c.path;
-  keeps = λ p h. c.taken p ∙ h;
-}
+saved_steady other c = grind arith
 
 -- a piece that was taken is one of the field's own
 pub takes_own : {q : Roles} {cs ds : Cells} {o : LinePiece} → TakesPiece q cs o ds
@@ -325,28 +315,13 @@ module _ {A B : Type 0} {inner : Outcome A} {r : Roles} {value : CellsValue A} {
   -- round a program
   pub closed_program : {env : Variables} → ProgramLaw env A inner r value
       → ProgramLaw env B (ClosedEval A B inner f c) r (ClosedValue value f)
-  closed_program l = record {
-    others = λ q n a cs v s h. l.others q n a cs h.from s h.read;
-    keeps = closed_keeps c l.keeps (λ s t x v i y. record {
-      deep = i.deep;
-      read = λ spelled n. record { from = x; read = i.read spelled n; made = y };
-      all = λ w h. let g = i.all h.from h.read in (record { from = x; read = g.0; made = y }, g.1);
-    }) (λ s t x i n w h.
-        absurd (agrees (cells s) h.from x w h.read (i.all h.from h.read).0 h.made n))
-        (λ s t w h. refl) (λ s t d refuses w h. refuses h.from h.read);
-  }
+  closed_program l = grind (arith, closed_keeps)
 
   -- round commands
   pub closed_commands : {env : Variables} {words : List (List ℕ)}
       → CommandsLaw env A inner r words value
       → CommandsLaw env B (ClosedEval A B inner f c) r words (ClosedValue value f)
-  closed_commands l = record {
-    program = closed_program l.program;
-    opened = λ cs v h. l.opened cs h.from h.read;
-    none = closed_keeps c l.none (λ s t x v never y. never)
-        (λ s t x never n none. absurd (never none)) (λ s t none. inl refl)
-        (λ s t d refuses. refuses);
-  }
+  closed_commands l = grind (arith, closed_program, closed_keeps, inl)
 
 -- Commands that may be left out.
 
@@ -366,29 +341,10 @@ module _ {env : Variables} {T : Type 0} {inner : Outcome T} {r : Roles} {words :
   abbrev optional : CellsValue (Option T)
   optional = OptionalCommands T value
 
-  -- where there is a value, that of a command is one
-  some_all : {s t : Situation} {x : T} → ProgramTook T value s x t
-      → (OpensNone words (cells s) → ⊥) → (u : Option T) → optional (cells s) u
-      → value (cells s) x × NonePresent (cells t)
-  some_all i never x h = grind (arith, none_opens)
-
-  -- and None is
-  none_all : {s m : Situation} {e : Error} → Stops e s m
-      → ((w : T) → value (cells s) w → class e ≡ OfMemory) → (u : Option T) → optional (cells s) u
-      → NonePresent (cells s) × NonePresent (cells s)
-  none_all stops want x h = grind arith
-
   -- a value is that of a command, or None, where nothing is present
   optional_took : (s t : Situation) (v : Option T) → IsWholeIn env s
       → OptionalEval T inner s (Ok v) t → ProgramTook (Option T) optional s v t
-  optional_took s t v w (optional_some {v = x} i) =
-      let a = l.program.keeps.ok s t x w i in
-      record { deep = a.deep; read = a.read; all = some_all a (l.none.ok s t x w i) }
-  optional_took s t v w (optional_none {e} {m} i stops) = record {
-    deep = omega arith;
-    read = λ spelled n. n;
-    all = none_all stops (l.program.keeps.err s m e w i);
-  }
+  optional_took s t v w x4 = grind (arith, none_opens)
 
   -- where there is a value, a refusal is want of memory
   optional_refuses : (s t : Situation) (e : Error) → IsWholeIn env s
@@ -398,14 +354,7 @@ module _ {env : Variables} {T : Type 0} {inner : Outcome T} {r : Roles} {words :
 
   -- the laws
   pub optional_commands : ProgramLaw env (Option T) (OptionalEval T inner) r optional
-  optional_commands = record {
-    others = λ q n a cs v s h. by_value q v (λ x g. l.program.others q n a cs x s g) h;
-    keeps = record { ok = optional_took; err = optional_refuses };
-  }
-    where
-      by_value : (q : Roles) {cs : Cells} (v : Option T)
-          → ((x : T) → value cs x → pieces q cs ≡ []) → optional cs v → pieces q cs ≡ []
-      by_value q x f h = grind (arith, none_own)
+  optional_commands = grind (arith, optional_took, optional_refuses, Option, none_own)
 
 -- A choice of commands.
 
@@ -442,18 +391,12 @@ alike_same e = record { cells_alike = ap cells e; depth_alike = ap depth e }
 
 -- and one after another
 alike_then : {l m t : Situation} → Alike l m → Alike m t → Alike l t
-alike_then e f = record {
-  cells_alike = f.cells_alike ∙ e.cells_alike;
-  depth_alike = f.depth_alike ∙ e.depth_alike;
-}
+alike_then e f = grind arith
 
 -- and where conflicts are saved
 alike_saved : {m : Situation} (other : Situation) {t : Situation} {place : ℕ}
     → ConflictsSaved m other place t → Alike m t
-alike_saved other c = record {
-  cells_alike = cells_same (same_scope (saved_steady other c)) c.taken;
-  depth_alike = ap length c.path;
-}
+alike_saved other c = grind (arith, cells_same, same_scope, saved_steady, length)
 
 module _ {env : Variables} {T : Type 0} {a b : Outcome T} {ra rb : Roles} {wa wb : List (List ℕ)}
     {va vb : CellsValue T} (la : CommandsLaw env T a ra wa va) (lb : CommandsLaw env T b rb wb vb)
@@ -502,11 +445,6 @@ module _ {env : Variables} {T : Type 0} {a b : Outcome T} {ra rb : Roles} {wa wb
   first_closed : {cs : Cells} {u : T} → vb cs u → OpensNone wa cs
   first_closed {cs} {u} h ds o = let i = lb.opened cs u h in opens_apart wa wb apart o i.1
 
-  -- a value of the choice is one of the branch that was opened
-  choice_took : {s t : Situation} {v : T} → IsWholeIn env s → BranchOk s v t
-      → ProgramTook T values s v t
-  choice_took w x = grind (arith, first_closed, second_closed, u)
-
   -- a branch that found no command, of whose answer something else than want of memory is known
   abbrev Passed : Situation → Error → Situation → Type 0
   Passed s e m = (class e ≡ OfMissing) × (cells m ≡ cells s) × (m.path ≡ s.path)
@@ -516,30 +454,38 @@ module _ {env : Variables} {T : Type 0} {a b : Outcome T} {ra rb : Roles} {wa wb
       → FindsNoCommand s (class e) m → Passed s e m
   passed s m e h x = grind (arith, not_memory)
 
-  -- where the first has a value none is
-  first_fails : (s : Situation) {sa sb t : Situation} (x y : Result T Error) {g : Error} {u : T}
-      → IsWholeIn env s → a s x sa → b s y sb → IsNotMemory x → IsNotMemory y
-      → Chosen s x sa y sb (Err g) t → va (cells s) u → ⊥
-  first_fails s x y w i j hx hy chosen h =
-      grind (arith, and_parts, is_missing_of, not_memory, passed, second_closed)
-
-  -- nor where the second has
-  second_fails : (s : Situation) {sa sb t : Situation} (x y : Result T Error) {g : Error} {u : T}
-      → IsWholeIn env s → a s x sa → b s y sb → IsNotMemory x → IsNotMemory y
-      → Chosen s x sa y sb (Err g) t → vb (cells s) u → ⊥
-  second_fails s x y w i j hx hy chosen h =
-      grind (arith, first_closed, and_parts, is_missing_of, not_memory, passed)
-
   -- so a refusal is want of memory there
   choice_refuses : (s t : Situation) (e : Error) → IsWholeIn env s
       → ChoiceOutcome a b s (Err e) t → (u : T) → values (cells s) u → class e ≡ OfMemory
   choice_refuses s t e w (inr o) u h = memory_class e.0 o.0
   choice_refuses s t e w (inl o) u (inl h) =
-      absurd (first_fails s o.a o.b w o.first_ran o.second_ran o.first_spared
-      o.second_spared o.chosen h)
+      absurd (grind (
+        arith,
+        and_parts,
+        is_missing_of,
+        not_memory,
+        passed,
+        second_closed,
+        o.first_ran,
+        o.second_ran,
+        o.first_spared,
+        o.second_spared,
+        o.chosen,
+      ))
   choice_refuses s t e w (inl o) u (inr h) =
-      absurd (second_fails s o.a o.b w o.first_ran o.second_ran o.first_spared
-      o.second_spared o.chosen h)
+      absurd (grind (
+        arith,
+        first_closed,
+        and_parts,
+        is_missing_of,
+        not_memory,
+        passed,
+        o.first_ran,
+        o.second_ran,
+        o.first_spared,
+        o.second_spared,
+        o.chosen,
+      ))
 
   -- where no word opens anything
   none_chosen : (s : Situation) {sa sb t : Situation} (x y : Result T Error) {g : Error}
@@ -571,7 +517,10 @@ module _ {env : Variables} {T : Type 0} {a b : Outcome T} {ra rb : Roles} {wa wb
     program = record {
       others = λ q n p cs v s h. ⊎_elim (λ g. la.program.others q n (apart_first rb p) cs v s g)
           (λ g. lb.program.others q n (apart_second ra p) cs v s g) h;
-      keeps = record { ok = λ s t v w o. choice_took w (branch_ok o); err = choice_refuses };
+      keeps = record {
+        ok = λ s t v w o. (grind (arith, first_closed, second_closed, u, branch_ok o));
+        err = choice_refuses;
+      };
     };
     opened = λ cs v h. ⊎_elim (λ g. let o = la.opened cs v g in (o.0, opens_left wa wb o.1))
         (λ g. let o = lb.opened cs v g in (o.0, opens_right wa wb o.1)) h;

@@ -34,11 +34,6 @@ value_foreign {w} n h = n.only_keys w (value_not_key w h)
 pub word_foreign : {q : Roles} {w : Arg} → IsNamed q → is_positional w ≡ true → q w ≡ Foreign
 word_foreign {w} n h = n.only_keys w (word_not_key w h)
 
--- alike pieces behind an item, and alike items next to it, make alike pieces
-begin_cong : (x : Role) (k : Arg) (cs ds : Cells) {os ps : List LinePiece}
-    → with_next k ds ≡ with_next k cs → ps ≡ os → begin_piece x k ds ps ≡ begin_piece x k cs os
-begin_cong x k cs ds h e = grind arith
-
 -- an item begins a piece by its role
 pub begin_at : {x y : Role} (k : Arg) (cs : Cells) (os : List LinePiece) → x ≡ y
     → begin_piece x k cs os ≡ begin_piece y k cs os
@@ -66,7 +61,7 @@ keeps_other {r} nq nr a (takes_one {k} {cs} e) = grind (arith, begin_at)
 keeps_other {r} nq nr a (takes_two {k} {w} {cs} e v) = grind (arith, begin_at, value_foreign)
 keeps_other nq nr a (takes_later {c = None} t) = keeps_other nq nr a t
 keeps_other {r} nq nr a (takes_later {c = Some k} {cs} {ds} t) =
-    begin_cong (r k) k cs ds (same_next k nq t) (keeps_other nq nr a t)
+    grind (arith, same_next k nq t, keeps_other nq nr a t)
 
 -- so do some pieces
 pub keeps_other_some : {q r : Roles} {cs ds : Cells} → IsNamed q → IsNamed r → Apart q r
@@ -129,11 +124,7 @@ pub record CutAlike (q r : Roles) (cs : Cells) (os : List LinePiece) : Type 0 wh
 -- with one piece more in front
 cut_more : {q r : Roles} {o : LinePiece} {cs ds : Cells} {os : List LinePiece} → CutAlike q r cs os
     → ((ps : List LinePiece) → Cut r cs ps → Cut r ds (o ∷ ps)) → CutAlike q r ds (o ∷ os)
-cut_more {q} {o} i on = record {
-  now = o ∷ i.now;
-  cut = on i.now i.cut;
-  alike = ap (λ z. if not (is_own q o) then (o ∷ z) else z) i.alike;
-}
+cut_more i on = grind (arith, not)
 
 -- a field's own pieces are ones of a cut by these keys: keys, or words
 pub record CutsOff (q r : Roles) : Type 0 where
@@ -144,14 +135,7 @@ pub record CutsOff (q r : Roles) : Type 0 where
 
 -- so are those of a named field
 pub named_cuts : {q : Roles} (r : Roles) → IsNamed q → CutsOff q (either q r)
-named_cuts {q} r n = record {
-  alone = λ k e. inl (either_own (q k) (r k) Alone e refl);
-  pair = λ k e. (
-    either_own (q k) (r k) WithNext e refl,
-    false_from_ne_true (is_positional k) (λ h. let f = word_foreign n h in cc),
-  );
-  value = λ k w e v. value_foreign n v;
-}
+named_cuts r n = grind (arith, inl, either_own, false_from_ne_true, word_foreign, value_foreign)
 
 -- a piece given back to its place is cut off there again
 pub put_back : {q r : Roles} {cs ds : Cells} {o : LinePiece} {os : List LinePiece} → CutsOff q r
@@ -262,11 +246,7 @@ never_two n e = grind arith
 
 -- its pieces are ones of a cut by no keys
 pub words_cut : {q r : Roles} → IsWords q → NoKeys r → CutsOff q r
-words_cut n f = record {
-  alone = λ k e. inr (word_of k n e, f k);
-  pair = λ k e. absurd (never_two n e);
-  value = λ k w e v. let g = f k in absurd cc;
-}
+words_cut n f = grind (arith, inr, word_of, never_two)
 
 -- Where no key is cut off, the pieces are the words that are present.
 pub words_of_cut : {q r : Roles} {cs : Cells} {os : List LinePiece} → IsWords q → NoKeys r
@@ -358,32 +338,16 @@ pub record Union (qa qb r : Roles) : Type 0 where
 
 -- the items of two fields, in the other order
 pub swap_union : {qa qb r : Roles} → Union qa qb r → Union qb qa r
-swap_union u = record {
-  apart = record { left = u.apart.right; right = u.apart.left };
-  named_left = u.named_right;
-  named_right = u.named_left;
-  left = u.right;
-  right = u.left;
-  none = λ k a b. u.none k b a;
-}
+swap_union u = grind arith
 
 -- the items of two fields that share none
 pub either_union : {qa qb : Roles} → IsNamed qa → IsNamed qb → Apart qa qb
     → Union qa qb (either qa qb)
-either_union {qa} {qb} na nb a = record {
-  apart = a;
-  named_left = na;
-  named_right = nb;
-  left = λ k e. either_own (qa k) (qb k) (qa k) refl e;
-  right = λ k e. either_right (qa k) (a.right k e);
-  none = λ k e f. either_right (qa k) e ∙ f;
-}
+either_union na nb a = grind (arith, either_own, either_right)
 
 -- they are keys
 pub union_named : {qa qb r : Roles} → Union qa qb r → IsNamed r
-union_named u = record {
-  only_keys = λ k h. u.none k (u.named_left.only_keys k h) (u.named_right.only_keys k h);
-}
+union_named u = grind arith
 
 -- an item of the first keeps its role
 left_role : {qa qb r : Roles} {k : Arg} {x : Role} → Union qa qb r → is_own_role x ≡ true → qa k ≡ x
@@ -507,29 +471,18 @@ not_left {qa} {qb} {r} u e h (takes_two {k} {w = j} {cs} x w) (first_later n s) 
     let g = d.0 in
     cc
 
--- Two fields never leave the same items.
-begin_length : (x : Role) (k : Arg) (cs ds : Cells) (os ps : List LinePiece) → length os < length ps
-    → length (begin_piece x k cs os) < length (begin_piece x k ds ps)
-begin_length x k cs ds os ps h = grind arith
-
 -- taking a piece leaves fewer
 takes_shorter : {q : Roles} {cs ds : Cells} {o : LinePiece} → IsNamed q → TakesPiece q cs o ds
     → length (pieces q ds) < length (pieces q cs)
 takes_shorter {q} n (takes_one {k} {cs} e) = grind (arith, begin_at)
 takes_shorter n (takes_two {cs} e v) = let d = ap length (pair_pieces cs n e v) in omega arith
 takes_shorter n (takes_later {c = None} t) = takes_shorter n t
-takes_shorter {q} n (takes_later {c = Some k} {cs} {ds} t) =
-    begin_length (q k) k ds cs (pieces q ds) (pieces q cs) (takes_shorter n t)
+takes_shorter {q} n (takes_later {c = Some k} {cs} {ds} t) = grind (arith, takes_shorter n t)
 
 -- two that share no item never leave the same cells
 pub never_same : {qa qb r : Roles} {cs ca cb : Cells} {oa ob : LinePiece} → Union qa qb r
     → TakesPiece qa cs oa ca → TakesPiece qb cs ob cb → ca ≡ cb → ⊥
-never_same {qa} u s t e =
-    let a = takes_shorter u.named_left s in
-    let b = ap length (keeps_other u.named_right u.named_left
-    (record { left = u.apart.right; right = u.apart.left }) t) in
-    let c = ap (λ z. length (pieces qa z)) e in
-    omega arith
+never_same u s t e = grind (arith, takes_shorter, length, keeps_other)
 
 -- A cut line holds together.
 module _ (r : Roles) (n : IsNamed r) where
@@ -538,19 +491,8 @@ module _ (r : Roles) (n : IsNamed r) where
       {behind : Cells} {earlier later : List LinePiece} → r k ≡ WithNext → is_value value ≡ true
       → after ≡ Some value ∷ behind → Cut r before earlier → Cut r behind later
       → os ≡ earlier ++ (Two k value ∷ later) → HasItsValue r before k after os
-  has_its_value {k} value {behind} {earlier} {later} e v next cut_before cut_behind is = record {
-    value = value;
-    may_be_one = v;
-    behind = behind;
-    next = next;
-    earlier = earlier;
-    later = later;
-    cut_before = cut_before;
-    cut_behind = cut_behind;
-    one_piece = is;
-    words = ap (others r) is ∙ (filter-append (λ o. not (is_own r o)) earlier (Two k value ∷ later)
-        ∙ ap (λ z. others r earlier ++ z) (others_own r (Two k value) later (ap is_own_role e)));
-  }
+  has_its_value value e v next cut_before cut_behind is =
+      grind (arith, filter-append, not, others_own)
 
   -- what an item of a cut line is: a flag's key, an argument's key, its value, or a word
   data Item (before : Cells) (k : Arg) (after : Cells) (os : List LinePiece) : Type 0 where
@@ -626,13 +568,5 @@ module _ (r : Roles) (n : IsNamed r) where
 
   -- a cut line holds together
   pub cut_holds_together : (cs : Cells) (os : List LinePiece) → Cut r cs os → HoldsTogether r cs os
-  cut_holds_together cs os c = record {
-    keys = λ before after k e. own_key (at e);
-    values = λ before after k e. own_value (at e);
-    attached = λ before after text e. behind_key (at e);
-    words = words_alone c;
-  }
-    where
-      at : {before after : Cells} {k : Arg} → cs ≡ before ++ (Some k ∷ after)
-          → Item before k after os
-      at {before} e = item_of before (rw (← e) c)
+  cut_holds_together cs os c =
+      grind (arith, own_key, own_value, behind_key, words_alone, Some, item_of)

@@ -3,8 +3,7 @@ use Rattle.std.proofs.Common.{option_and_then, add-one, Result, ⊎_elim, Option
 use Rattle.std.proofs.Common.{Bool, List, None, Some, refl, true, ◌&&◌, ◌++◌, ◌||◌, Err, inl, inr}
 use Rattle.std.proofs.Common.{map, not, sym, ◌∙◌, ◌∷◌, ◌≡◌, ◌⊎◌, Ok, [], ap, ℕ}
 use Rattle.std.proofs.lemmas.Bool.{and_parts}
-use Rattle.std.specs.Option.{IsSomeRelated, option_map_or, is_none, is_some}
-use Rattle.bpaf_base.specs.declared.arg.Arg.TheVariants.{PosWord, Word}
+use Rattle.std.specs.Option.{is_none, is_some}
 use Rattle.bpaf_base.specs.Items.{is_positional, is_key_of, item_text, word_text}
 use Rattle.bpaf_base.specs.declared.arg.Arg.{Arg}
 use Rattle.bpaf_doc.specs.{Names.Names, Shape.Part}
@@ -17,17 +16,17 @@ use Rattle.bpaf_line.proofs.Places.{open_item_there}
 use Rattle.bpaf_laws.specs.Leaves.{TakesKeyWithText, ArgumentOutcome, ArgumentFails, ReadsVariable}
 use Rattle.bpaf_laws.specs.Leaves.{TakesOwnText, TakesBefore, FlagOutcome, IsNowhere, LacksText}
 use Rattle.bpaf_laws.specs.Leaves.{TakesKeysWithTexts, is_key_with_value, value_without_key}
+use Rattle.bpaf_laws.specs.Leaves.{FlagFails, HasNoKey}
 use Rattle.bpaf_laws.specs.Reading.{IsAbsence, first_set, Outcome, is_set}
 use Rattle.bpaf_laws.specs.Combinators.{PureOutcome, GivesClone, is_nil}
-use Rattle.bpaf_laws.specs.Leaves.{FlagFails, HasNoKey}
 use Rattle.bpaf_exact.proofs.Names.{of_front_more, of_front_one, each_front, front_more, back_more}
+use Rattle.bpaf_exact.proofs.Names.{front_nil, front_one, never_nil, back_one}
 use Rattle.bpaf_exact.proofs.Places.{take_steady, bare_taken, test_named, behind_of, no_pieces}
 use Rattle.bpaf_exact.proofs.Places.{one_taken, test_owns, two_taken, match_of, by_test}
 use Rattle.bpaf_exact.proofs.Product.{none_of_nobody, current_cells, steady_trans, same_steady}
-use Rattle.bpaf_exact.proofs.Cuts.{first_pieces, first_takes, some_trans, never_two, begin_at}
-use Rattle.bpaf_exact.proofs.Names.{front_nil, front_one, never_nil, back_one}
-use Rattle.bpaf_exact.proofs.{Wrappers.took_front, Wrappers.gap_empty, Classes.memory_class}
 use Rattle.bpaf_exact.proofs.Product.{steady_refl}
+use Rattle.bpaf_exact.proofs.Cuts.{first_pieces, first_takes, some_trans, never_two, begin_at}
+use Rattle.bpaf_exact.proofs.{Wrappers.took_front, Wrappers.gap_empty, Classes.memory_class}
 use Rattle.bpaf_exact.specs.Flat.{AlternativeErr, AlternativeOk, first_later, gave_absent, EachWord}
 use Rattle.bpaf_exact.specs.Flat.{TakesFirst, WordByWord, first_one, first_two, FieldKind, OfMemory}
 use Rattle.bpaf_exact.specs.Flat.{class_of, SingleOk, TakesAny, of_piece, OneWord, FrontOf, Refused}
@@ -105,14 +104,7 @@ module _ {T : Type 0} {q : Roles} {value : LinePiece → T → Type 0} {gap : Ga
   -- where nothing stands for no piece, it is one of an alternative,
   alternative_ok : {v : T} → FirstRead T ByName q value gap other s (Ok v) t
       → AlternativeOk T q value s v t
-  alternative_ok (read_first {o} st f is some y) = record {
-    steady = st;
-    piece = o;
-    takes = first_takes f;
-    means = y;
-    first = inl f;
-  }
-  alternative_ok (read_none p (none_absent h a same st)) = absurd cc
+  alternative_ok x0 = grind (arith, first_takes, inl)
 
   -- and so is a refusal, where without a piece an item is missing
   alternative_err : {e : Error} → (other → ⊥) → FirstRead T ByName q value gap other s (Err e) t
@@ -171,16 +163,6 @@ module _ {T : Type 0} (clones : T → T → Type 0) (present : T) where
       let flag_gap = gap_of clones (value_without_key present absent set) in
       (flag_gap.has ≡ true) × flag_gap.absent v
 
-  -- where its variable is set, the present one
-  gap_set : (absent : Option T) (set : Option (List ℕ)) {v : T} → is_some set ≡ true
-      → clones present v → StandsForNone absent set v
-  gap_set absent x e y = grind arith
-
-  -- else the absent one
-  gap_unset : (absent : Option T) (set : Option (List ℕ)) (v : T) → is_some set ≡ false
-      → IsSomeRelated clones absent v → StandsForNone absent set v
-  gap_unset absent x v e y = grind arith
-
   -- without either none does
   gap_none : (absent : Option T) (set : Option (List ℕ)) → is_some set ≡ false → absent ≡ None
       → is_some (value_without_key present absent set) ≡ false
@@ -201,17 +183,14 @@ module _ {T : Type 0} (clones : T → T → Type 0) (key : Key) (present : T) (a
   abbrev FlagRead : Situation → Result T Error → Situation → Type 0
   FlagRead = FirstRead T ByName flag_items (FlagValue (clones present)) flag_gap (key.envs ≡ [] → ⊥)
 
-  -- they are keys
-  flag_named : IsNamed flag_items
-  flag_named = test_named (is_key_of key.names) key.names Alone (λ k e. e)
-
   -- a taken key is an answer
   key_read : (s : Situation) {t : Situation} {v : T} → TakesFlag key.names s true t
       → clones present v → FlagRead s (Ok v) t
   key_read s takes y =
       let m = match_of (is_key_of key.names) s takes.0 takes.1.matches in
       let h = one_taken by_test takes.1 m in
-      let is = first_pieces flag_items flag_named h in
+      let is = first_pieces flag_items (test_named (is_key_of key.names) key.names Alone (λ k e. e))
+      h in
       rw takes.2 (read_first take_steady h is (λ none. absurd cc) y)
 
   -- and so is what stands for none
@@ -237,15 +216,12 @@ module _ {T : Type 0} (clones : T → T → Type 0) (key : Key) (present : T) (a
   -- each answer
   flag_read : (s t : Situation) (r : Result T Error) → s.context.env ≡ variables
       → FlagOutcome clones key present absent s r t → FlagRead s r t
-  flag_read s t (Ok v) same o = ⊎_elim (λ here. ⊎_elim (λ takes. key_read s takes here.1)
-      (λ set. absent_read set.0.0 set.0.1 (gap_set clones present absent _
-      (set_here s same set.1) here.1)) here.0) (λ none. absent_read none.0.0.0 none.0.0.1
-      (gap_unset clones present absent _ v (set_here s same none.0.1) none.1)) o
+  flag_read s t (Ok v) same o =
+      ⊎_elim (λ here. ⊎_elim (λ takes. key_read s takes here.1)
+      (λ set. absent_read set.0.0 set.0.1 (grind (arith, set_here s same set.1, here.1))) here.0)
+      (λ none. absent_read none.0.0.0 none.0.0.1 (grind (arith, set_here s same none.0.1, none.1)))
+      o
   flag_read s t (Err e) same o = flag_fails e.0 refl same o
-
--- no value is none
-none_is : {T : Type 0} (absent : Option T) → is_none absent ≡ true → absent ≡ None
-none_is x e = grind arith
 
 -- a flag keeps to the laws of its form
 pub flag_field_law : (variables : Variables) (T : Type 0) (clones : T → T → Type 0) (key : Key)
@@ -253,13 +229,13 @@ pub flag_field_law : (variables : Variables) (T : Type 0) (clones : T → T → 
     → FormLaw variables (FlagOutcome clones key present absent) (key.names ∷ []) []
     (flag_field clones key present absent variables)
 flag_field_law variables T clones key present absent =
-    key_field_law (key.envs ≡ [] → ⊥) (not (is_nil key.envs))
-    (is_nil key.envs && is_none absent) (flag_named clones key present absent variables)
-    (test_owns Alone (λ k e. e)) (gap_empty clones _) (λ may.
+    key_field_law (key.envs ≡ [] → ⊥) (not (is_nil key.envs)) (is_nil key.envs && is_none absent)
+    (test_named (is_key_of key.names) key.names Alone (λ k e. e)) (test_owns Alone (λ k e. e))
+    (gap_empty clones _) (λ may.
     let both = and_parts (is_nil key.envs) (is_none absent) may in
     let none = none_named key.envs both.0 in (
       gap_none clones present absent _ (ap (λ z. is_some (first_set variables z)) none)
-          (none_is absent both.1),
+          (grind (arith, both.1)),
       λ some. some none,
     )) (flag_read clones key present absent variables)
 
@@ -556,15 +532,7 @@ argument_field_law variables T means argument =
 -- the text and the side of a word are those of its item
 pub word_is : (w : Arg) (strict : Bool) (text : List ℕ) → word_text w ≡ Some (strict, text)
     → (item_text w ≡ text) × (stands_behind w ≡ strict)
-word_is (Word own) strict text e = (
-  ap (λ z. option_map_or (λ word. word.1) z own) e,
-  ap (λ z. option_map_or (λ word. word.0) z false) e,
-)
-word_is (PosWord own) strict text e = (
-  ap (λ z. option_map_or (λ word. word.1) z own) e,
-  ap (λ z. option_map_or (λ word. word.0) z false) e,
-)
-word_is _ strict text e = absurd cc
+word_is w strict text e = grind (arith, false)
 
 -- a field that stops takes none behind `--`
 passed_by : (b : Bool) → b ≡ true → (o : LinePiece) (os : List LinePiece) → is_behind o ≡ true

@@ -15,12 +15,12 @@ use Rattle.bpaf_base.specs.Items.{is_positional, is_text_among, is_key_of, is_am
 use Rattle.bpaf_base.specs.declared.arg.Arg.{Arg}
 use Rattle.bpaf_doc.specs.Names.{Names}
 use Rattle.bpaf_exact.specs.Pieces.{takes_argument, are_all_apart, is_key_of_any, either_role, Role}
-use Rattle.bpaf_exact.specs.Pieces.{is_key, is_own, others, passed, Apart, Cells, Roles, Takes, Cut}
+use Rattle.bpaf_exact.specs.Pieces.{is_own, others, passed, Apart, Cells, Roles, Takes, Cut}
 use Rattle.bpaf_exact.specs.Pieces.{LinePiece, argument, no_cells, Foreign, pieces, at_end, either}
 use Rattle.bpaf_exact.specs.Pieces.{empty_stays, is_own_role, other_stays, takes_flag, are_apart}
+use Rattle.bpaf_exact.specs.Pieces.{flag, mine, word, Owns}
 use Rattle.bpaf_exact.specs.Says.{first_item, EachOwn, unkeyed, keyed, Fits}
 use Rattle.bpaf_exact.specs.Flat.{NoKeysLeft, FieldKind, is_behind, repeated, EachWord, OneWord}
-use Rattle.bpaf_exact.specs.Pieces.{flag, mine, word, Owns}
 use Rattle.bpaf_exact.specs.{Flat.ByName, Flat.front, Flat.back, ProgramForm.may_follow}
 
 -- where a test holds of each element of a list, and another of one, both hold of one
@@ -62,12 +62,7 @@ foreign_of x e = grind arith
 -- keys that are apart keep the fields apart
 pub apart_of_names : {q r : Roles} {keys others : List Names} → Owns q keys → Owns r others
     → are_all_apart keys others ≡ true → Apart q r
-apart_of_names {q} {r} {keys} {others} a b h = record {
-  left = λ k e. foreign_of (r k) (false_from_ne_true (is_own_role (r k))
-      (λ f. one_list keys others k h (a.own k e) (b.own k f)));
-  right = λ k e. foreign_of (q k) (false_from_ne_true (is_own_role (q k))
-      (λ f. one_list keys others k h (a.own k f) (b.own k e)));
-}
+apart_of_names a b h = grind (arith, foreign_of, false_from_ne_true, one_list)
 
 -- an item of both is one of either
 either_own : (x y : Role) → is_own_role (either_role x y) ≡ (is_own_role x || is_own_role y)
@@ -82,10 +77,6 @@ either_owns {q} {r} {keys} {others} a b = record {
       (λ (other : is_own_role (r k) ≡ true). or_right (is_key_of_any keys k) _ (b.own k other))
       (or_cases (is_own_role (q k)) (is_own_role (r k)) (sym (either_own (q k) (r k)) ∙ e));
 }
-
--- only keys have names
-pub named_key : (names : Names) (k : Arg) → is_key_of names k ≡ true → is_key k ≡ true
-named_key names x h = grind arith
 
 -- Filters.
 
@@ -137,14 +128,11 @@ module _ (r : Roles) (names : List Names) where
   others_unkeyed = fits_kept not
 
   module _ (owned : Owns r names) where
-    -- an own piece begins with one
-    own_keyed : (o : LinePiece) → is_own r o ≡ true → is_key_of_any names (first_item o) ≡ true
-    own_keyed o e = owned.own (first_item o) (sym (own_first r o) ∙ e)
-
     -- pieces that are all one's own do
     pub own_fit : (os : List LinePiece) → EachOwn r os → Fits names r os
     own_fit [] all = tt
-    own_fit (o ∷ os) all = (all.0 ∙ sym (own_keyed o all.0), own_fit os all.1)
+    own_fit (o ∷ os) all =
+        (all.0 ∙ sym (owned.own (first_item o) (sym (own_first r o) ∙ all.0)), own_fit os all.1)
 
     -- so do those of a cut by one's keys
     pub cut_fit : {cs : Cells} {os : List LinePiece} → Cut r cs os → Fits names r os
@@ -198,17 +186,11 @@ none_of_both x e = grind arith
 
 -- what is apart from two is apart from each
 pub apart_first : {p q : Roles} (r : Roles) → Apart p (either q r) → Apart p q
-apart_first {q} r a = record {
-  left = λ k own. (none_of_both (q k) (a.left k own)).0;
-  right = λ k own. a.right k (first_within q r k own);
-}
+apart_first r a = grind (arith, none_of_both, first_within)
 
 -- and from the other
 pub apart_second : {p : Roles} (q : Roles) {r : Roles} → Apart p (either q r) → Apart p r
-apart_second q {r} a = record {
-  left = λ k own. (none_of_both (q k) (a.left k own)).1;
-  right = λ k own. a.right k (second_within q r k own);
-}
+apart_second q a = grind (arith, none_of_both, second_within)
 
 -- what is another's own isn't among one's own
 pub mine_of_others : (p q : Roles) → ((k : Arg) → is_own_role (q k) ≡ true → p k ≡ Foreign)
@@ -326,10 +308,6 @@ back_all x none = grind arith
 pub all_front : (k : FieldKind) {os : List LinePiece} → back k os ≡ [] → front k os ≡ os
 all_front k {os} none =
     sym (append-nil (front k os)) ∙ (ap (λ z. front k os ++ z) (sym none) ∙ front_back k)
-
--- where a field takes none, nor does a repeat of it
-pub each_nil : (k : FieldKind) (os : List LinePiece) → front k os ≡ [] → front (repeated k) os ≡ []
-each_nil x os none = grind arith
 
 -- and the other way
 pub nil_each : (k : FieldKind) (os : List LinePiece) → front (repeated k) os ≡ [] → front k os ≡ []

@@ -1,28 +1,28 @@
 -- Where closures can't tell apart what looks alike they agree, and a line's values look alike.
-use Rattle.std.proofs.Common.{Option, arith, false, subst, Bool, List, None, Some, true, ◌&&◌, ◌||◌}
-use Rattle.std.proofs.Common.{refl, map, ◌∷◌, ◌≡◌, not, sym, ◌∙◌, [], ap, ℕ}
+use Rattle.std.proofs.Common.{Option, arith, false, subst, Bool, List, None, Some, true, refl, map}
+use Rattle.std.proofs.Common.{◌∷◌, ◌≡◌, not, sym, ◌∙◌, [], ap, ℕ}
 use Rattle.std.specs.{Option.IsSomeRelated, Prelude.option_map, Global.Vec}
 use Rattle.bpaf_base.specs.Items.{item_text}
 use Rattle.bpaf_doc.specs.Names.{Names}
 use Rattle.bpaf_text.specs.{Named.KeyWithValue, Named.Named as Key, Meaning.SpellsUnsigned}
 use Rattle.bpaf_line.specs.Situation.{Context}
-use Rattle.bpaf_laws.specs.{Reading.first_set, Reading.Outcome, Combinators.is_nil}
+use Rattle.bpaf_laws.specs.{Reading.Outcome}
 use Rattle.bpaf_exact.proofs.{ProgramForm.runs_as_program, ProgramForm.whole_law, Leaves.last_same}
 use Rattle.bpaf_exact.proofs.{Cuts.one_take, Cuts.one_cut, Wrappers.alternative_single}
 use Rattle.bpaf_exact.proofs.{Commands.none_opens, Repeat.own_nil}
-use Rattle.bpaf_exact.specs.ProgramForm.{argument_field, argument_group, argument_roles, flag_field}
-use Rattle.bpaf_exact.specs.ProgramForm.{program_closed, ArgumentValue, program_field, program_both}
-use Rattle.bpaf_exact.specs.ProgramForm.{program_con, whole_value, ProgramForm, is_program, word_by}
-use Rattle.bpaf_exact.specs.ProgramForm.{program_alone, whole_program, program_value, alternative}
-use Rattle.bpaf_exact.specs.ProgramForm.{program_if, WordValue, key_field, completed, commands}
-use Rattle.bpaf_exact.specs.ProgramForm.{program_optional, OptionalCommands, before_commands}
-use Rattle.bpaf_exact.specs.ProgramForm.{complete, product, FormLaw, single, Agrees}
+use Rattle.bpaf_exact.specs.ProgramForm.{argument_field, flag_field, program_closed, ArgumentValue}
+use Rattle.bpaf_exact.specs.ProgramForm.{program_field, program_both, program_con, whole_value}
+use Rattle.bpaf_exact.specs.ProgramForm.{ProgramForm, is_program, word_by, whole_program}
+use Rattle.bpaf_exact.specs.ProgramForm.{program_value, alternative, program_if, WordValue}
+use Rattle.bpaf_exact.specs.ProgramForm.{key_field, completed, commands, program_optional}
+use Rattle.bpaf_exact.specs.ProgramForm.{before_commands, complete, product, FormLaw, single}
+use Rattle.bpaf_exact.specs.ProgramForm.{Agrees}
 use Rattle.bpaf_exact.specs.Says.{HasOneView, RunsToOne, pair_view, OneGroup, Respects, Alike}
 use Rattle.bpaf_exact.specs.Pieces.{LinePiece, Cells, Roles, One, Two}
-use Rattle.bpaf_exact.specs.Flat.{SingleValue, only_absent, ClosedValue, SingleLaw, FieldKind, Gap}
-use Rattle.bpaf_exact.specs.Flat.{Variables, own_none, own_more, repeated, AgreesOn, FrontOf, Own}
-use Rattle.bpaf_exact.specs.Flat.{listed_and_absent, FallbackValue, OptionalValue, list_closure}
-use Rattle.bpaf_exact.specs.Flat.{OwnList, Closure, Decides, Groups, listed, ByName}
+use Rattle.bpaf_exact.specs.Flat.{SingleValue, ClosedValue, SingleLaw, FieldKind, Gap, Variables}
+use Rattle.bpaf_exact.specs.Flat.{own_none, own_more, repeated, AgreesOn, FrontOf, Own}
+use Rattle.bpaf_exact.specs.Flat.{FallbackValue, OptionalValue, list_closure, OwnList, Closure}
+use Rattle.bpaf_exact.specs.Flat.{Decides, Groups, ByName}
 
 -- Closures.
 
@@ -84,21 +84,12 @@ argument_piece : {T X : Type 0} {see : T → X} {means : List ℕ → T → Type
     → Alike see (ArgumentValue means o)
 argument_piece u x v w a b = grind arith
 
--- the pieces of one evaluation
-argument_group_view : {T X : Type 0} {see : T → X} {means : List ℕ → T → Type 0}
-    → ((text : List ℕ) → Alike see (means text)) → (last : Bool)
-    → OneGroup see (argument_group means last)
-argument_group_view u b = grind (arith, argument_piece, front_view, last_same)
-
 -- an argument, where what a text means looks alike
 pub argument_view : (T X : Type 0) (see : T → X) (means : List ℕ → T → Type 0)
     → ((text : List ℕ) → Alike see (means text)) → (argument : KeyWithValue)
     (variables : Variables) → HasOneView see (argument_field means argument variables)
 argument_view T X see means u argument variables =
-    key_view (argument.adjacent || not (is_nil argument.named.envs))
-    (is_nil argument.named.envs && not argument.last)
-    (argument_roles argument.adjacent argument.named.names) _ (argument_piece u)
-    (argument_group_view u argument.last) (meant_view u (first_set variables argument.named.envs))
+    grind (arith, key_view, not, argument_piece, front_view, last_same, meant_view)
 
 -- a word
 word_piece : {T X : Type 0} {see : T → X} (accepts : Bool → Bool) {means : List ℕ → T → Type 0}
@@ -140,16 +131,7 @@ module _ {env : Variables} {T X : Type 0} {see : T → X} {inner : Outcome T} (k
 
   -- so do they under a repeat
   pub list_view : (os : List LinePiece) → Alike (map see) (OwnList T group gap os)
-  list_view os vs ws (listed h o) (listed i p) = own_view o p
-  list_view os vs ws (listed h o) (listed_and_absent i a p) = absurd cc
-  list_view os vs ws (listed h o) (only_absent i a) = absurd cc
-  list_view os vs ws (listed_and_absent h a o) (listed i p) = absurd cc
-  list_view os vs ws (listed_and_absent h a o) (listed_and_absent i b p) = own_view o p
-  list_view os vs ws (listed_and_absent h a o) (only_absent i b) = absurd (own_never o)
-  list_view os vs ws (only_absent h a) (listed i p) = absurd cc
-  list_view os vs ws (only_absent h a) (listed_and_absent i b p) = absurd (own_never p)
-  list_view os vs ws (only_absent {a = x} h a) (only_absent {a = y} i b) =
-      ap (λ z. z ∷ []) (absent x y a b)
+  list_view os vs ws x3 x4 = grind (arith, own_view, own_never)
 
   -- the value of a single field
   pub value_view : (os : List LinePiece) → Alike see (SingleValue T group gap os)
@@ -183,14 +165,8 @@ module _ {env : Variables} {T X : Type 0} {inner : Outcome T} {names : List Name
   -- what may be left out
   pub optional_field_view : {s : ProgramForm T} → FormLaw env inner names words s
       → HasOneView see s → HasOneView (option_map see) (program_optional s)
-  optional_field_view {s = commands false value} l u = by_value
-    where
-      by_value : (cs : Cells) → Alike (option_map see) (OptionalCommands T value cs)
-      by_value cs (Some x) (Some y) a b = ap Some (u cs x y a b)
-      by_value cs None None a b = refl
-      by_value cs (Some x) None a none = grind (arith, none_opens)
-      by_value cs None (Some y) none b = grind (arith, none_opens)
-  optional_field_view l u = grind (arith, optional_value_view, whole_view)
+  optional_field_view l u =
+      grind (arith, false, Some, None, none_opens, optional_value_view, whole_view)
 
   -- a field with a default
   pub fallback_view : {s : ProgramForm T} (f : Closure (Unit {0}) T) → Alike see (λ v. f.yes tt v)
@@ -201,12 +177,7 @@ module _ {env : Variables} {T X : Type 0} {inner : Outcome T} {names : List Name
   -- any field of a record
   pub field_view : {s : ProgramForm T} → FormLaw env inner names words s → HasOneView see s
       → HasOneView see (program_field s)
-  field_view {s = complete wide k q value} l u = u
-  field_view {s = product wide true q fields} l u = u
-  field_view {s = product wide false q fields} l u = u
-  field_view {s = commands optional value} l u = u
-  field_view {s = before_commands value} l u = u
-  field_view l u = whole_view see (λ k. k) (SingleValue T) value_view l u
+  field_view l u = grind (arith, true, false, whole_view, value_view)
 
   -- many, as the program keeps it
   pub many_view : {s : ProgramForm T} → FormLaw env inner names words s → HasOneView see s
@@ -229,16 +200,12 @@ pub both_view : (A B X Y : Type 0) (see : A → X) (look : B → Y) (own others 
 both_view x y z u see look own others x1 x2 x3 n = grind (arith, if_view, one_take)
 
 module _ {T X : Type 0} (see : T → X) where
-  -- the last field
-  pub alone_view : (s : ProgramForm T) → HasOneView see s → HasOneView see (program_alone s)
-  alone_view x u = grind arith
-
   -- a whole program
   record_view : {env : Variables} {inner : Outcome T} {names : List Names}
       {words : List (List ℕ)} {s : ProgramForm T} → FormLaw env inner names words s
       → HasOneView see s → HasOneView see (whole_program s)
   record_view {s = product wide named q fields} l u = u
-  record_view {s} l u = alone_view (program_field s) (field_view see l u)
+  record_view {s} l u = grind (arith, field_view see l u)
 
   -- All values of a program on the same cells look alike.
   pub values_look_one : {env : Variables} {outcome : Outcome T} {names : List Names}
@@ -288,10 +255,7 @@ module _ {A B : Type 0} (f : Closure A B) (decides : Decides f) where
   -- Where it has one answer to each input, what it makes of one value is one.
   pub closed_one : ((x : A) (v w : B) → f.yes x v → f.yes x w → v ≡ w) → (s : ProgramForm A)
       → HasOneView (λ v. v) s → HasOneView (λ v. v) (program_closed f s)
-  closed_one once = closed_view A B A B (λ v. v) (λ v. v) f (record {
-    same = λ x y v w e a b. once x v w a (rw e b);
-    apart = λ x y v e a n. decides x v a (rw e n);
-  })
+  closed_one once = grind (arith, closed_view)
 
 -- an argument has one value where each text means one
 pub argument_one : {T : Type 0} {means : List ℕ → T → Type 0}

@@ -1,7 +1,7 @@
 -- From places to cells: the first wanted place, its piece, what is left; and how many are present.
 use Rattle.std.proofs.Common.{option_and_then, if◌then◌else◌, add-one, Option, length, arith, false}
-use Rattle.std.proofs.Common.{Bool, List, None, Some, refl, true, zero, ◌||◌, ap₂, suc, sym, ◌+◌, ℕ}
-use Rattle.std.proofs.Common.{◌<◌, ◌∙◌, ◌∷◌, ◌≡◌, ◌≢◌, ◌≤◌, [], ap}
+use Rattle.std.proofs.Common.{Bool, List, None, Some, refl, true, zero, ap₂, suc, sym, ◌+◌, ℕ, ◌<◌}
+use Rattle.std.proofs.Common.{◌∙◌, ◌∷◌, ◌≡◌, ◌≢◌, ◌≤◌, [], ap}
 use Rattle.std.proofs.lemmas.Bool.{false_from_ne_true, true_from_ne_false, and_right, both_ways}
 use Rattle.std.specs.Option.{option_map_or, is_some}
 use Rattle.bpaf_base.specs.Items.{value_text, is_key_of, item_text, any_item}
@@ -9,14 +9,14 @@ use Rattle.bpaf_base.specs.declared.arg.Arg.{Arg}
 use Rattle.bpaf_doc.specs.Names.{Names}
 use Rattle.bpaf_index.proofs.BitSets.{count_below-same, count_below-some}
 use Rattle.bpaf_line.proofs.Places.{open_item_there, open_has_item, open_in_line, taken_other}
-use Rattle.bpaf_line.specs.Situation.{count_below, open_count, take_place, Situation, in_scope}
-use Rattle.bpaf_line.specs.Taking.{value_after, open_item, is_match, HasNone, IsFirst}
 use Rattle.bpaf_line.proofs.Places.{taken_stays, taken_here}
+use Rattle.bpaf_line.specs.Situation.{count_below, open_count, take_place, Situation, in_scope}
 use Rattle.bpaf_line.specs.Situation.{is_taken, is_open, item_at}
-use Rattle.bpaf_exact.proofs.{Names.named_key, Cuts.begin_at}
-use Rattle.bpaf_exact.specs.Pieces.{TakesPieces, is_own_role, takes_later, TakesPiece, takes_more}
-use Rattle.bpaf_exact.specs.Pieces.{takes_none, LinePiece, with_next, WithNext, is_value, Foreign}
-use Rattle.bpaf_exact.specs.Pieces.{IsNamed, is_key, pieces, Alone, Cells, Roles, Role, Owns, One}
+use Rattle.bpaf_line.specs.Taking.{value_after, open_item, is_match, HasNone, IsFirst}
+use Rattle.bpaf_exact.proofs.{Cuts.begin_at}
+use Rattle.bpaf_exact.specs.Pieces.{TakesPieces, takes_later, TakesPiece, takes_more, takes_none}
+use Rattle.bpaf_exact.specs.Pieces.{LinePiece, with_next, WithNext, is_value, Foreign, IsNamed}
+use Rattle.bpaf_exact.specs.Pieces.{pieces, Alone, Cells, Roles, Role, Owns, One}
 use Rattle.bpaf_exact.specs.Flat.{present_count, first_later, first_cells, TakesFirst, first_one}
 use Rattle.bpaf_exact.specs.{Flat.first_two, Flat.NotOwn, Flat.Steady, Flat.cells, Pieces.Two}
 
@@ -52,23 +52,6 @@ tail_before : {r : Roles} {at : ℕ → Option Arg} {p : ℕ} → NoneBefore r a
     → NoneBefore r (λ q. at (suc q)) p
 tail_before none = record { before = λ q l. none.before (suc q) (omega arith) }
 
--- so is what was taken
-tail_one : {at left : ℕ → Option Arg} {p : ℕ} → TakenOne at left (suc p)
-    → TakenOne (λ q. at (suc q)) (λ q. left (suc q)) p
-tail_one taken = record {
-  gone = taken.gone;
-  others = λ q other. taken.others (suc q) (λ e. other (omega arith));
-}
-
--- and what was taken with the next
-tail_two : {at left : ℕ → Option Arg} {p : ℕ} → TakenTwo at left (suc p)
-    → TakenTwo (λ q. at (suc q)) (λ q. left (suc q)) p
-tail_two taken = record {
-  gone = taken.gone;
-  next_gone = taken.next_gone;
-  others = grind arith;
-}
-
 -- a later one is
 later : {r : Roles} {c d : Option Arg} {cs ds : Cells} {o : LinePiece} → d ≡ c → NotOwn r c
     → TakesFirst r cs o ds → TakesFirst r (c ∷ cs) o (d ∷ ds)
@@ -85,9 +68,11 @@ take_one {at} (suc n) zero l e h none taken =
       taken.gone,
       same_cells (λ q. at (suc q)) n (λ q i. taken.others (suc q) (λ f. absurd (omega arith))),
     ) (first_one h)
-take_one (suc n) (suc p) l e h none taken =
-    later (taken.others zero (λ f. absurd (omega arith))) (none.before zero (omega arith))
-    (take_one n p (omega arith) e h (tail_before none) (tail_one taken))
+take_one (suc n) (suc p) l e h none taken = later (taken.others zero (λ f. absurd (omega arith)))
+    (none.before zero (omega arith)) (take_one n p (omega arith) e h (tail_before none) (record {
+      gone = taken.gone;
+      others = λ q other. taken.others (suc q) (λ e. other (omega arith));
+    }))
 
 -- with the value after it
 pub take_two : {r : Roles} {at left : ℕ → Option Arg} (n p : ℕ) {k w : Arg} → suc p < n
@@ -107,8 +92,8 @@ take_two {at} (suc (suc n)) zero l e f h v none taken =
     ) (first_two h v)
 take_two (suc n) (suc p) l e f h v none taken =
     later (taken.others zero (λ g. absurd (omega arith)) (λ g. absurd (omega arith)))
-    (none.before zero (omega arith)) (take_two n p (omega arith) e f h v
-    (tail_before none) (tail_two taken))
+    (none.before zero (omega arith)) (take_two n p (omega arith) e f h v (tail_before none)
+    (record { gone = taken.gone; next_gone = taken.next_gone; others = grind arith }))
 
 -- an item that isn't the field's own heads no piece
 pub pass_head : (r : Roles) (c : Option Arg) (cs : Cells) → NotOwn r c
@@ -163,10 +148,7 @@ same_item s t p e f g = grind arith
 
 -- one place taken
 pub open_one : (s : Situation) (p : ℕ) → TakenOne (open_item s) (open_item (take_place s p)) p
-open_one s p = record {
-  gone = closed_item (take_place s p) p (taken_here s p);
-  others = λ q other. same_item s (take_place s p) q refl refl (taken_other s p q other);
-}
+open_one s p = grind (arith, closed_item, taken_here, same_item, taken_other)
 
 -- and the next
 pub open_two : (s : Situation) (p : ℕ)
@@ -213,19 +195,13 @@ pub record ByTest (test : Arg → Bool) (r : Roles) (own : Role) : Type 0 where
 -- the roles that a test gives
 pub by_test : {test : Arg → Bool} {own : Role}
     → ByTest test (λ k. if test k then own else Foreign) own
-by_test {own} = record {
-  yes = λ k e. ap (λ b. if b then own else Foreign) e;
-  no = λ k e. ap (λ b. if b then own else Foreign) e;
-}
+by_test = grind arith
 
 -- only keys have a role by a test that asks for names
 pub test_named : (test : Arg → Bool) (names : Names) (own : Role)
     → ((k : Arg) → test k ≡ true → is_key_of names k ≡ true)
     → IsNamed (λ k. if test k then own else Foreign)
-test_named test names own asks = record {
-  only_keys = λ k h. ap (λ b. if b then own else Foreign) (false_from_ne_true (test k)
-      (λ e. both_ways (is_key k) h (named_key names k (asks k e))));
-}
+test_named test names own asks = grind (arith, false_from_ne_true, both_ways)
 
 -- where a place has no match, nothing of the field's own is there
 not_own : {test : Arg → Bool} {r : Roles} {own : Role} (s : Situation) (p : ℕ) → ByTest test r own
@@ -311,10 +287,7 @@ bare_taken {s} {p} t f m e =
 pub test_owns : {test : Arg → Bool} {names : Names} (own : Role)
     → ((k : Arg) → test k ≡ true → is_key_of names k ≡ true)
     → Owns (λ k. if test k then own else Foreign) (names ∷ [])
-test_owns {test} own asks = record {
-  own = λ k e. ap (λ b. b || false) (asks k (true_from_ne_false (test k) (λ f.
-      let g = ap (λ b. is_own_role (if b then own else Foreign)) f in cc)));
-}
+test_owns own asks = grind (arith, false, true_from_ne_false)
 
 -- a piece taken leaves fewer items
 pub takes_fewer : {q : Roles} {cs ds : Cells} {o : LinePiece} → TakesPiece q cs o ds

@@ -26,11 +26,7 @@ use Rattle.bpaf_exact.specs.{ProgramForm.last_reading, Pieces.Cut}
 -- what isn't taken stays in the scope
 pub none_outside_after : {env : Variables} {s t : Situation} → IsWholeIn env s → Steady s t
     → IsWholeIn env t
-none_outside_after w k = record {
-  end = k.end ∙ (w.end ∙ ap (λ c. length c.line) (sym k.context));
-  front = λ p l. k.keeps p (w.front p (rw (← k.start) l));
-  environment = ap (λ c. c.env) k.context ∙ w.environment;
-}
+none_outside_after w k = grind (arith, length)
 
 -- nothing has changed
 pub steady_refl : {s : Situation} → Steady s s
@@ -38,13 +34,7 @@ steady_refl = record { context = refl; start = refl; end = refl; path = refl; ke
 
 -- nor in two steps
 pub steady_trans : {s m t : Situation} → Steady s m → Steady m t → Steady s t
-steady_trans a b = record {
-  context = b.context ∙ a.context;
-  start = b.start ∙ a.start;
-  end = b.end ∙ a.end;
-  path = b.path ∙ a.path;
-  keeps = λ p h. b.keeps p (a.keeps p h);
-}
+steady_trans a b = grind arith
 
 -- A cut by the keys of others holds no key of one's own.
 pub no_own_in_cut : {q r : Roles} {cs : Cells} {os : List LinePiece} → IsNamed q → Apart q r
@@ -165,15 +155,7 @@ module _ {env : Variables} {A B : Type 0} {first : Outcome A} {rest : Outcome B}
 
   -- the laws
   pub both_keeps : KeepsTo env (A × B) (BothOutcome first rest) gave (λ s c t. refused s c)
-  both_keeps = record {
-    ok = λ s t v w o. subst (λ r. follows gave refused s r t) (sym o.answer)
-        (of_joined o.a o.b w o.first_ran o.rest_ran);
-    err = λ s t e w. elim [
-      | inl o ↦ subst (λ r. follows gave refused s r t) (sym o.answer)
-          (of_joined o.a o.b w o.first_ran o.rest_ran)
-      | inr o ↦ of_first s (class e) (λ v i. memory_class e.0 o.1)
-    ];
-  }
+  both_keeps = grind (arith, of_joined, inl, inr, memory_class)
 
 module _ {env : Variables} {A B : Type 0} {first : Outcome A} {rest : Outcome B} {k : FieldKind}
     {q r : Roles} {fv : List LinePiece → A → Type 0} {others_read : FieldsReading B}
@@ -234,10 +216,6 @@ module _ {env : Variables} {T : Type 0} {outcome : Outcome T} {k : FieldKind} {q
   pub before_none : Before k q no_roles
   before_none = grind arith
 
-  -- its keys are keys
-  keys_named : IsNamed (either (keys k q) no_roles)
-  keys_named = both_named k q l.own (record { only_keys = λ a h. refl })
-
   -- where the field has a value on its pieces, it has one on those of the cells
   last_value : (s : Situation) {os : List LinePiece} → Cut (either (keys k q) no_roles) (cells s) os
       → (h : HasValue value (portion k q os)) → value (front k (pieces q (cells s))) h.0
@@ -246,7 +224,7 @@ module _ {env : Variables} {T : Type 0} {outcome : Outcome T} {k : FieldKind} {q
   -- a last field keeps to the laws of a list of fields
   pub last_law : FieldsLaw env T outcome (either (keys k q) no_roles) (last_reading k q value)
   last_law = record {
-    named = keys_named;
+    named = both_named k q l.own (record { only_keys = λ a h. refl });
     has_each = λ os v h. ((v, h.0), h.1);
     keeps = record {
       ok = λ s t v w o.
@@ -261,8 +239,9 @@ module _ {env : Variables} {T : Type 0} {outcome : Outcome T} {k : FieldKind} {q
                   cut = p.cut;
                   read = (rw (← p.own) (i.read (none_left k q l.own before_none c)), p.leaves);
                 };
-            all = λ os c h. cut_empty (step_on k l.own before_none i.takes
-                (i.rest (i.all h.0.0 (last_value s c h.0))) c) h.1;
+            all = λ os c h. cut_empty
+                (step_on k l.own before_none i.takes (i.rest (i.all h.0.0 (last_value s c h.0))) c)
+                h.1;
           };
       err = λ s t e w o os c h. l.keeps.err s t e w o h.0.0 (last_value s c h.0);
     };
@@ -287,10 +266,7 @@ pub con_keeps : {env : Variables} {A B : Type 0} {fields : Outcome A} {makes : A
     → makes x v → gave s v (with_current m None))
     → ((s m : Situation) (c : ErrorClass) → refuses s c m → refused s c (with_current m None))
     → KeepsTo env B (ProductOutcome fields makes) gave refused
-con_keeps l answers fails = record {
-  ok = λ s t v w o. rw o.4 (answers s o.0 o.1 v (l.ok s o.0 o.1 w o.2) o.3);
-  err = λ s t e w o. rw o.2 (fails s o.0 (class e) (l.err s o.0 e w o.1));
-}
+con_keeps l answers fails = grind arith
 
 -- a product with its constructor keeps to the laws of a list of fields
 pub con_law : {env : Variables} {A B : Type 0} {fields : Outcome A} (makes : A → B → Type 0)
@@ -370,10 +346,6 @@ module _ {env : Variables} {A B : Type 0} {first : Outcome A} {rest : Outcome B}
       → fv (pieces q cs) v.0 × read.value (pieces r cs) v.1
   each_value cs h = (rw (← mine_of_both together cs) h.0, rw (← others_of_both together cs) h.1)
 
-  -- and what they take leaves its own
-  first_kept : {cs ds : Cells} → TakesPieces r cs ds → pieces q ds ≡ pieces q cs
-  first_kept t = grind (arith, keeps_other_some)
-
   -- where both have a value, so have the others after the first
   rest_value : {s m : Situation} {x : A} {u : A × B} → FieldTook A ByName q fv s x m
       → value (pieces both (cells s)) u → read.value (pieces r (cells m)) u.1
@@ -389,16 +361,16 @@ module _ {env : Variables} {A B : Type 0} {first : Outcome A} {rest : Outcome B}
       takes = some_trans (takes_some_left together i.takes)
           (takes_some_left (swap_union together) j.takes);
       read = λ none. (
-        rw (mine_of_both together (cells s))
-            (i.read (sym (first_kept j.takes) ∙ (sym (mine_of_both together (cells t)) ∙ ap
-            (mine q) none))),
-        rw (others_of_both together (cells s))
-            (rw (← keeps_other_some lf.own lr.own apart i.takes)
+        rw (mine_of_both together (cells s)) (i.read (sym
+            (grind (arith, keeps_other_some, j.takes))
+            ∙ (sym (mine_of_both together (cells t)) ∙ ap (mine q) none))),
+        rw
+            (others_of_both together (cells s)) (rw (← keeps_other_some lf.own lr.own apart i.takes)
             (j.read (sym (others_of_both together (cells t)) ∙ ap (others q) none))),
       );
       rest = λ none. none;
       all = λ u h. both_nil (cells t) together
-          (first_kept j.takes ∙ i.all u.0 (each_value (cells s) h).0)
+          ((grind (arith, keeps_other_some, j.takes)) ∙ i.all u.0 (each_value (cells s) h).0)
           (j.all u.1 (rest_value i h));
     }) (λ s c no u h. no u.0 (each_value (cells s) h).0)
         (λ s m t x c i no u h. no u.1 (rest_value i h));
@@ -420,29 +392,27 @@ module _ {env : Variables} {T : Type 0} {outcome : Outcome T} {q : Roles}
   by_itself : Union q no_roles alone
   by_itself = either_union l.own (record { only_keys = λ k h. refl }) (before_none l)
 
-  -- and the other way
-  own_read : (cs : Cells) {v : T} → (last_reading ByName q value).value (pieces alone cs) v
-      → value (pieces q cs) v
-  own_read cs h = rw (← mine_of_both by_itself cs) h.0
-
   -- a last field keeps to the laws of a named one
   pub named_last_law : FieldLaw env T outcome ByName alone (last_reading ByName q value).value
   named_last_law = record {
     own = union_named by_itself;
     keeps = record {
-      ok = λ s t v w o. let i = l.keeps.ok s t v w o in record {
-        steady = i.steady;
-        takes = takes_some_left by_itself i.takes;
-        read = λ none. (
-          rw (mine_of_both by_itself (cells s))
-              (i.read (sym (mine_of_both by_itself (cells t)) ∙ ap (mine q) none)),
-          others_of_both by_itself (cells s) ∙ none_of_nobody (cells s),
-        );
-        rest = λ none. none;
-        all = λ u h. both_nil (cells t) by_itself (i.all u (own_read (cells s) h))
-            (none_of_nobody (cells t));
-      };
-      err = λ s t e w o u h. l.keeps.err s t e w o u (own_read (cells s) h);
+      ok = λ s t v w o.
+          let i = l.keeps.ok s t v w o in
+          record {
+            steady = i.steady;
+            takes = takes_some_left by_itself i.takes;
+            read = λ none. (
+              rw (mine_of_both by_itself (cells s))
+                  (i.read (sym (mine_of_both by_itself (cells t)) ∙ ap (mine q) none)),
+              others_of_both
+                  by_itself (cells s) ∙ none_of_nobody (cells s),
+            );
+            rest = λ none. none;
+            all = λ u h. both_nil (cells t) by_itself
+                (i.all u (rw (← mine_of_both by_itself (cells s)) h.0)) (none_of_nobody (cells t));
+          };
+      err = λ s t e w o u h. l.keeps.err s t e w o u (rw (← mine_of_both by_itself (cells s)) h.0);
     };
   }
 

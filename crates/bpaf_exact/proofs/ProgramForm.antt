@@ -1,19 +1,18 @@
 -- Each parser keeps to the laws of its form to a program, where its inner parsers do, by its table
 -- too; so does an outcome that allows no more; and the theorem of exactness.
 use Rattle.std.proofs.Common.{append-nil, true≢false, bytes_eq, Option, Result, length, ⊎_elim, Err}
-use Rattle.std.proofs.Common.{arith, false, subst, None, Some, refl, true, ◌&&◌, ◌++◌, Bool, List}
-use Rattle.std.proofs.Common.{inl, inr, not, sym, ◌<◌, ◌∙◌, ◌∷◌, ◌≡◌, ◌⊎◌, Ok, [], ap, ℕ}
+use Rattle.std.proofs.Common.{arith, false, None, Some, refl, true, ◌&&◌, ◌++◌, Bool, List, inl}
+use Rattle.std.proofs.Common.{inr, not, sym, ◌∙◌, ◌≡◌, ◌⊎◌, Ok, [], ap, ℕ}
 use Rattle.std.proofs.lemmas.Bool.{false_from_ne_true, and_parts, le-leb, lt-ltb}
 use Rattle.std.proofs.lemmas.Slice.Eq.{bytes_eq-Decides}
 use Rattle.std.specs.{List.list_all, Global.Vec}
 use Rattle.bpaf_base.specs.{Items.is_command_word, declared.arg.Arg.Arg}
 use Rattle.bpaf_doc.specs.Names.{Names}
 use Rattle.bpaf_line.specs.Situation.{Situation, beginning, Context, item_in}
-use Rattle.bpaf_line.specs.{declared.error.Message.Message, declared.error.Error.Error}
-use Rattle.bpaf_line.specs.Taking.{open_item}
+use Rattle.bpaf_line.specs.{declared.error.Error.Error}
 use Rattle.bpaf_laws.specs.Combinators.{FallbackOutcome, CollectOutcome, CountOutcome, GuardOutcome}
 use Rattle.bpaf_laws.specs.Combinators.{ParseOutcome, GivesAnswer, LastOutcome, ManyOutcome, is_nil}
-use Rattle.bpaf_laws.specs.Combinators.{SomeOutcome, HideOutcome, TurnOutcome, GivesClone, hidden}
+use Rattle.bpaf_laws.specs.Combinators.{SomeOutcome, HideOutcome, TurnOutcome, GivesClone}
 use Rattle.bpaf_laws.specs.Command.{opening_words, is_one_of, Called}
 use Rattle.bpaf_laws.specs.{Product.ProductOutcome, Product.BothOutcome, Choice.ChoiceOutcome}
 use Rattle.bpaf_laws.specs.{Combinators.MapOutcome, Combinators.Gives, Reading.Outcome}
@@ -42,15 +41,14 @@ use Rattle.bpaf_exact.specs.ProgramForm.{program_dressed, are_words_apart, befor
 use Rattle.bpaf_exact.specs.ProgramForm.{product_reading, program_choice, program_closed, completed}
 use Rattle.bpaf_exact.specs.ProgramForm.{product_roles, program_alone, program_field, program_value}
 use Rattle.bpaf_exact.specs.ProgramForm.{program_con, whole_value, CommandEval, RecordValue, Agrees}
-use Rattle.bpaf_exact.specs.ProgramForm.{run_refusal, RunsExactly, is_program, may_follow, NamedLaw}
-use Rattle.bpaf_exact.specs.ProgramForm.{no_program, program_if, CellsValue, ProgramLaw, WordsApart}
-use Rattle.bpaf_exact.specs.ProgramForm.{IsNoValue, RunAnswer, commands, complete, is_named, EndLaw}
-use Rattle.bpaf_exact.specs.ProgramForm.{whole_program, IsSpelledLine, program_both, last_reading}
-use Rattle.bpaf_exact.specs.ProgramForm.{line_cells, run_memory, run_value, is_record, are_plain}
-use Rattle.bpaf_exact.specs.ProgramForm.{program_optional, IsAcceptedOrWant, program_command}
-use Rattle.bpaf_exact.specs.ProgramForm.{run_leftover, ProgramForm, alternative, choice_only}
+use Rattle.bpaf_exact.specs.ProgramForm.{RunsExactly, is_program, may_follow, NamedLaw, no_program}
+use Rattle.bpaf_exact.specs.ProgramForm.{program_if, CellsValue, ProgramLaw, WordsApart, RunAnswer}
+use Rattle.bpaf_exact.specs.ProgramForm.{commands, complete, is_named, EndLaw, whole_program}
+use Rattle.bpaf_exact.specs.ProgramForm.{IsSpelledLine, program_both, line_cells, is_record}
+use Rattle.bpaf_exact.specs.ProgramForm.{are_plain, program_optional, IsAcceptedOrWant}
+use Rattle.bpaf_exact.specs.ProgramForm.{program_command, ProgramForm, alternative, choice_only}
 use Rattle.bpaf_exact.specs.ProgramForm.{Accepted, product, IsExact, single, RunRan}
-use Rattle.bpaf_exact.specs.Pieces.{are_all_apart, LinePiece, no_roles, either, Roles, Owns, Cut}
+use Rattle.bpaf_exact.specs.Pieces.{are_all_apart, LinePiece, either, Roles, Owns, Cut}
 
 -- what b allows a allows too, of a refusal one of the same class
 pub record AllowsNoMore (T : Type 0) (a b : Outcome T) : Type 0 where
@@ -69,29 +67,17 @@ pub narrower : {env : Variables} {T : Type 0} {a b : Outcome T}
     {gives : Situation → T → Situation → Type 0}
     {refuses : Situation → ErrorClass → Situation → Type 0} → AllowsNoMore T a b
     → KeepsTo env T a gives refuses → KeepsTo env T b gives refuses
-narrower {refuses} n l = record {
-  ok = λ s t v w o. l.ok s t v w (n.value s t v o);
-  err = λ s t e w o. let other = n.refusal s t e o in
-      subst (λ c. refuses s c t) other.2 (l.err s t other.0 w other.1);
-}
-
--- at the beginning each item is present, but for the marker
-open_at_first : (context : Context) (p : ℕ) → p < length context.line
-    → open_item (beginning context) p ≡ item_in context p
-open_at_first context p l = grind (arith, le-leb, lt-ltb)
+narrower n l = grind arith
 
 -- the cells with which parsing begins are those of the line
 pub first_cells_are : (context : Context) → cells (beginning context) ≡ line_cells context
 unfolding cells
-first_cells_are context = same_cells (item_in context) (length context.line) (open_at_first context)
+first_cells_are context =
+    same_cells (item_in context) (length context.line) (λ p l. grind (arith, le-leb, lt-ltb))
 
 -- at the beginning the scope is the whole line
 pub all_whole : {context : Context} → IsWholeIn context.env (beginning context)
 all_whole = record { end = refl; front = λ p l. absurd (omega arith); environment = refl }
-
--- no value is none
-pub no_value : {V : Type 0} (a : RunAnswer V) {v : V} → IsNoValue a → a ≡ Accepted v → ⊥
-no_value x n h = grind arith
 
 -- A run, by what the outcome answers at the beginning.
 module _ {V : Type 0} {outcome : Outcome V} {context : Context} (value : CellsValue V) where
@@ -100,13 +86,7 @@ module _ {V : Type 0} {outcome : Outcome V} {context : Context} (value : CellsVa
       (cells t)
       → value (cells (beginning context)) v) → {a : RunAnswer V} → RunRan V outcome
       (beginning context) a → (v : V) → a ≡ Accepted v → value (line_cells context) v
-  run_sound ok (run_value {v = x} {t} o e) v h =
-      let d : x ≡ v = cc in
-      rw (← first_cells_are context, ← d)
-      (ok t x o (none_counted (cells t) (sym (open_present t) ∙ e)))
-  run_sound ok {a} (run_leftover o e n) v h = absurd (no_value a n h)
-  run_sound ok (run_memory o e) v h = absurd cc
-  run_sound ok {a} (run_refusal o e n) v h = absurd (no_value a n h)
+  run_sound ok x1 v h = grind (arith, first_cells_are, none_counted, open_present)
 
   -- each answer is one where each of the outcome is one, with nothing left, or want of memory
   pub run_complete : ((t : Situation) (v : V) → outcome (beginning context) (Ok v) t
@@ -179,11 +159,6 @@ pub never_refuses : {A B : Type 0} (f : Closure A B) → ((x : A) → f.no x →
     → Agrees f s
 never_refuses f n x = grind arith
 
--- a repeat has the keys of the field
-repeated_keys : (k : FieldKind) (q : Roles) {names : List Names} → Owns (keys k q) names
-    → Owns (keys (repeated k) q) names
-repeated_keys x q o = grind arith
-
 -- a repeat or default round a field
 completed_law : {env : Variables} {T B : Type 0} {inner : Outcome T} {outer : Outcome B}
     {kind : FieldKind → FieldKind} {names : List Names} {words more : List (List ℕ)}
@@ -192,11 +167,7 @@ completed_law : {env : Variables} {T B : Type 0} {inner : Outcome T} {outer : Ou
     → ((k : FieldKind) (q : Roles) (group : Groups T) (gap : Gap T) → SingleLaw env T inner k q
     group gap → FieldLaw env B outer (kind k) q (value group gap))
     → FormLaw env inner names words s → FormLaw env outer names more (completed kind value s)
-completed_law {s = alternative wide q each} value owns law l =
-    record { by = (law ByName q _ _ (alternative_single l.by.0), owns ByName q l.by.1) }
-completed_law {s = single wide k q group gap} value owns law l =
-    record { by = (law k q group gap l.by.0, owns k q l.by.1) }
-completed_law value owns law l = record { by = tt }
+completed_law value owns law l = grind (arith, alternative_single)
 
 -- what some, collect and count make of the list; a refusal of theirs may be of any class
 listed_law : {env : Variables} {T B : Type 0} {inner : Outcome T} {names : List Names}
@@ -208,7 +179,7 @@ listed_law : {env : Variables} {T B : Type 0} {inner : Outcome T} {names : List 
 listed_law {s = alternative wide q value} idle f c g l =
     record { by = (closed_law (repeat_law (alternative_single l.by.0) idle) g c, l.by.1) }
 listed_law {s = single wide k q group gap} idle f c g l =
-    record { by = (closed_law (repeat_law l.by.0 idle) g c, repeated_keys k q l.by.1) }
+    record { by = (closed_law (repeat_law l.by.0 idle) g c, grind (arith, l.by.1)) }
 listed_law idle f c g l = record { by = tt }
 
 -- some needs no premise: of the lists that the same pieces give, all are empty or none is
@@ -271,10 +242,6 @@ program_choice_law {words} {more} {s = commands false x} {t = commands false y} 
     })
 program_choice_law la lb = record { by = tt }
 
--- no item without a key
-no_names : Owns no_roles []
-no_names = record { own = λ k e. absurd cc }
-
 -- a product of fields, or what ends in commands, keeps to the laws of a program
 end_law : {env : Variables} {T : Type 0} {outcome : Outcome T} {names : List Names}
     (s : ProgramForm T) → is_program (program_alone s) ≡ true
@@ -293,16 +260,12 @@ module _ {env : Variables} {T : Type 0} {outcome : Outcome T} {names : List Name
   -- another look
   pub program_dressed_law : {s : ProgramForm T} → FormLaw env outcome names words s
       → FormLaw env outcome names words (program_dressed s)
-  program_dressed_law {s = before_commands value} l = record { by = tt }
-  program_dressed_law {s = product wide named q fields} l = record { by = l.by }
-  program_dressed_law l = l
+  program_dressed_law l = grind arith
 
   -- one parser of a choice
   pub choice_only_law : {s : ProgramForm T} → FormLaw env outcome names words s
       → FormLaw env outcome names words (choice_only s)
-  choice_only_law {s = alternative wide q value} l = l
-  choice_only_law {s = commands false value} l = l
-  choice_only_law l = record { by = tt }
+  choice_only_law l = grind (arith, false)
 
   -- a field of a product, which may be a product of named fields
   pub program_field_law : {s : ProgramForm T} → FormLaw env outcome names words s
@@ -318,25 +281,8 @@ module _ {env : Variables} {T : Type 0} {outcome : Outcome T} {names : List Name
   -- the last field, or one alone
   pub program_alone_law : {s : ProgramForm T} → FormLaw env outcome names words s
       → FormLaw env outcome names [] (program_alone s)
-  program_alone_law {s = complete wide k q value} l = record {
-    by = (
-      last_law l.by.0,
-      rw (← append-nil names) (either_owns l.by.1 no_names),
-      by_name k l.by.0,
-    );
-  }
-    where
-      by_name : (j : FieldKind) → FieldLaw env T outcome j q value
-          → NamedLaw env (is_named j) outcome (either (keys j q) no_roles)
-          (last_reading j q value).value
-      by_name x l = grind (arith, named_last_law)
-  program_alone_law {s = product wide false q fields} l = record { by = l.by }
-  program_alone_law {s = commands false value} l = record {
-    by = record { roles = l.by.roles; program = l.by.commands.program; owns = l.by.owns };
-  }
-  program_alone_law {s = commands true value} l = record { by = l.by }
-  program_alone_law {s = before_commands value} l = record { by = l.by }
-  program_alone_law l = record { by = tt }
+  program_alone_law l =
+      grind (arith, last_law, append-nil, either_owns, named_last_law, false, true)
 
   -- a whole program
   pub whole_law : {s : ProgramForm T} → FormLaw env outcome names words s
@@ -348,10 +294,7 @@ module _ {env : Variables} {T : Type 0} {outcome : Outcome T} {names : List Name
   pub record_law : {s : ProgramForm T} → is_record s ≡ true → FormLaw env outcome names words s
       → FieldsLaw env T outcome (product_roles (whole_program s))
       (product_reading (whole_program s))
-  record_law {s = no_program} h l = absurd cc
-  record_law {s = commands optional value} h l = absurd cc
-  record_law {s = before_commands value} h l = absurd cc
-  record_law {s} h l = (whole_law {s = s} l).by.0
+  record_law h l = grind (arith, whole_law)
 
   -- each program keeps to those of one
   pub program_law : {s : ProgramForm T} → is_program s ≡ true → FormLaw env outcome names words s
@@ -382,10 +325,7 @@ program_command_law {s} apart called l =
 -- fields that may follow keep apart
 follows : (k : FieldKind) (q : Roles) {r : Roles} {own : List Names} (others : List Names)
     → Owns (keys k q) own → Owns r others → may_follow k own others ≡ true → Before k q r
-follows ByName q others a b h = apart_of_names a b h
-follows _ q {r} [] a b h =
-    λ i. foreign_of (r i) (false_from_ne_true _ (λ e. let none = b.own i e in cc))
-follows _ q (names ∷ others) a b h = absurd cc
+follows k q others a b h = grind (arith, apart_of_names, foreign_of, false_from_ne_true)
 
 -- a field before others
 pub program_both_law : {env : Variables} {A B : Type 0} {first : Outcome A} {rest : Outcome B}
@@ -475,56 +415,7 @@ narrower_program n l = record { others = l.others; keeps = narrower n l.keeps }
 pub narrower_form : {env : Variables} {T : Type 0} {a b : Outcome T} {names : List Names}
     {words : List (List ℕ)} {s : ProgramForm T} → AllowsNoMore T a b
     → FormLaw env a names words s → FormLaw env b names words s
-narrower_form {s = no_program} n l = record { by = tt }
-narrower_form {s = alternative wide q value} n l = record {
-  by = (record { named = l.by.0.named; keeps = narrower n l.by.0.keeps }, l.by.1);
-}
-narrower_form {s = single wide k q group gap} n l = record {
-  by = (
-    record {
-      own = l.by.0.own;
-      words = l.by.0.words;
-      starts = l.by.0.starts;
-      no_absent = l.by.0.no_absent;
-      keeps = narrower n l.by.0.keeps;
-    },
-    l.by.1,
-  );
-}
-narrower_form {s = complete wide k q value} n l = record {
-  by = (record { own = l.by.0.own; keeps = narrower n l.by.0.keeps }, l.by.1);
-}
-narrower_form {env} {a} {b} {s = product wide named q fields} n l = record {
-  by = (
-    record {
-      named = l.by.0.named;
-      has_each = l.by.0.has_each;
-      keeps = narrower n l.by.0.keeps;
-    },
-    l.by.1,
-    by_name named l.by.2,
-  );
-}
-  where
-    by_name : (all : Bool) → NamedLaw env all a q fields.value → NamedLaw env all b q fields.value
-    by_name b l = grind (arith, narrower)
-narrower_form {s = commands false value} n l = record {
-  by = record {
-    roles = l.by.roles;
-    commands = record {
-      program = narrower_program n l.by.commands.program;
-      opened = l.by.commands.opened;
-      none = narrower n l.by.commands.none;
-    };
-    owns = l.by.owns;
-  };
-}
-narrower_form {s = commands true value} n l = record {
-  by = record { roles = l.by.roles; program = narrower_program n l.by.program; owns = l.by.owns };
-}
-narrower_form {s = before_commands value} n l = record {
-  by = record { roles = l.by.roles; program = narrower_program n l.by.program; owns = l.by.owns };
-}
+narrower_form n l = grind (arith, narrower, Bool, false, narrower_program, true)
 
 -- By their tables.
 
@@ -537,10 +428,6 @@ repeated_form {T} catch f s =
 -- what has a value that stands for it
 abbrev pub fallback_form : {T : Type 0} → Closure (Unit {0}) T → ProgramForm T → ProgramForm T
 fallback_form {T} f = completed (λ k. k) (λ group gap. FallbackValue T group gap f)
-
--- a hidden refusal is one of the same class
-hidden_class : (m : Message) → class_of m ≡ class_of (hidden m)
-hidden_class m = grind arith
 
 module _ {env : Variables} {A : Type 0} {inner : Outcome A} {names : List Names}
     {words : List (List ℕ)} {s : ProgramForm A} (l : FormLaw env inner names words s) where
@@ -588,7 +475,7 @@ module _ {env : Variables} {A : Type 0} {inner : Outcome A} {names : List Names}
   pub hide_law : FormLaw env (HideOutcome inner) names words (program_dressed s)
   hide_law = program_dressed_law (narrower_form (record {
     value = λ s t v o. o;
-    refusal = λ s t e o. (o.0, o.1, hidden_class o.0.0 ∙ ap class_of (sym o.2));
+    refusal = λ s t e o. (o.0, o.1, (grind arith) ∙ ap class_of (sym o.2));
   }) l)
 
   -- optional
@@ -669,8 +556,8 @@ module _ {env : Variables} {A : Type 0} {inner : Outcome A} {names : List Names}
   -- last
   pub program_last_law : FormLaw env (LastOutcome inner) names []
       (completed repeated (LastOf A) s)
-  program_last_law = completed_law (LastOf A) (λ k q. repeated_keys k q)
-      (λ k q group gap l. last_of_law l) l
+  program_last_law =
+      completed_law (LastOf A) (λ k q. (λ o. grind arith)) (λ k q group gap l. last_of_law l) l
 
   -- what gives a value in place of an inner one, as a closure on nothing does, keeps to its laws
   fallback_form_law : (gives : Gives A) (f : Closure (Unit {0}) A) → Decides f

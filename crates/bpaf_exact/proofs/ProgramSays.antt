@@ -1,7 +1,7 @@
 -- Of each combinator: its values say what is told of them, where those of its inner parsers do.
-use Rattle.std.proofs.Common.{append-nil, arith, false, subst, Bool, List, refl, true, zero, ◌&&◌}
-use Rattle.std.proofs.Common.{◌++◌, None, Some, inl, inr, not, suc, sym, ◌∙◌, ◌∷◌, ◌≡◌, [], ap, ℕ}
-use Rattle.std.specs.{Prelude.MatchBool, List.Contains}
+use Rattle.std.proofs.Common.{append-nil, arith, false, subst, Bool, List, refl, true, zero, ◌++◌}
+use Rattle.std.proofs.Common.{None, Some, inl, inr, not, suc, sym, ◌∙◌, ◌∷◌, ◌≡◌, [], ap, ℕ}
+use Rattle.std.specs.{List.Contains}
 use Rattle.bpaf_doc.specs.Names.{Names}
 use Rattle.bpaf_laws.specs.{Command.opening_words, Command.Called, Product.BothOutcome}
 use Rattle.bpaf_laws.specs.Reading.{Outcome}
@@ -11,27 +11,26 @@ use Rattle.bpaf_exact.proofs.Names.{first_within, mine_within, none_behind, othe
 use Rattle.bpaf_exact.proofs.Names.{apart_of_names, mine_of_others, others_unkeyed, second_within}
 use Rattle.bpaf_exact.proofs.Names.{mine_rest, both_fits, taken_own, all_mine, each_own, rest_fit}
 use Rattle.bpaf_exact.proofs.Names.{others_none, others_rest, mine_keyed, others_fit, mine_none}
-use Rattle.bpaf_exact.proofs.{Names.own_fit, Names.no_fits, Names.cut_fit, ProgramForm.whole_law}
 use Rattle.bpaf_exact.proofs.Names.{all_front}
+use Rattle.bpaf_exact.proofs.{Names.own_fit, Names.no_fits, Names.cut_fit, ProgramForm.whole_law}
 use Rattle.bpaf_exact.specs.Flat.{FieldsReading, FallbackValue, OptionalValue, both_reading, ByName}
 use Rattle.bpaf_exact.specs.Flat.{SingleValue, ClosedValue, FieldKind, Variables, repeated, OwnList}
 use Rattle.bpaf_exact.specs.Flat.{Closure, Groups, gap_of, LastOf, front, back, keys, Gap}
-use Rattle.bpaf_exact.specs.Pieces.{are_all_apart, LinePiece, no_roles, either, is_own, others}
+use Rattle.bpaf_exact.specs.Pieces.{are_all_apart, LinePiece, no_roles, either, others, Roles, Owns}
+use Rattle.bpaf_exact.specs.Pieces.{mine}
 use Rattle.bpaf_exact.specs.ProgramForm.{before_commands, program_command, program_dressed, FormLaw}
 use Rattle.bpaf_exact.specs.ProgramForm.{program_choice, program_closed, product_roles, ProgramForm}
 use Rattle.bpaf_exact.specs.ProgramForm.{program_alone, program_field, program_value, whole_program}
 use Rattle.bpaf_exact.specs.ProgramForm.{choice_only, ChoiceValue, program_con, whole_value, single}
-use Rattle.bpaf_exact.specs.ProgramForm.{CellsValue, is_program, may_follow, no_program, program_if}
+use Rattle.bpaf_exact.specs.ProgramForm.{CellsValue, may_follow, no_program, program_if}
 use Rattle.bpaf_exact.specs.ProgramForm.{last_reading, CommandValue, program_both, alternative}
-use Rattle.bpaf_exact.specs.ProgramForm.{OptionalCommands, program_optional, are_words_apart}
-use Rattle.bpaf_exact.specs.ProgramForm.{completed, are_plain, commands, complete, product}
+use Rattle.bpaf_exact.specs.ProgramForm.{OptionalCommands, program_optional, completed, commands}
+use Rattle.bpaf_exact.specs.ProgramForm.{complete, product}
 use Rattle.bpaf_exact.specs.Says.{FieldThenSays, repeated_kind, FallbackSays, OptionalSays, BothSay}
 use Rattle.bpaf_exact.specs.Says.{RepeatSays, cells_said, its_pieces, EitherSays, AloneSays, AllOwn}
-use Rattle.bpaf_exact.specs.Says.{FieldsSay, FrontSays, form_kind, says_this, says_that, FormSays}
-use Rattle.bpaf_exact.specs.Says.{LastSays, MadeSays, SaidKind, CutSays, of_kind, IsSaid, keyed}
-use Rattle.bpaf_exact.specs.Says.{ProgramSaid, ProgramSays, FieldsKeep, FieldsSaid, RecordSays}
-use Rattle.bpaf_exact.specs.Pieces.{Roles, Owns, mine}
-use Rattle.bpaf_exact.specs.Says.{Fits, Said, Says}
+use Rattle.bpaf_exact.specs.Says.{FieldsSay, FrontSays, form_kind, FormSays, LastSays, MadeSays}
+use Rattle.bpaf_exact.specs.Says.{SaidKind, CutSays, of_kind, IsSaid, keyed, ProgramSaid}
+use Rattle.bpaf_exact.specs.Says.{ProgramSays, FieldsKeep, FieldsSaid, RecordSays, Fits, Said, Says}
 
 -- where a test holds
 if_says : {T : Type 0} (b : Bool) {s : ProgramForm T} {kind : SaidKind} {names : List Names}
@@ -50,36 +49,7 @@ pub program_closed_says : {A B : Type 0} {s : ProgramForm A} {kind : SaidKind} {
     {c : Bool} {said : Said A} {cells : CellsValue A} (f : Closure A B)
     → Says names s kind c said cells
     → Says names (program_closed f s) kind c (MadeSays said f) (ClosedValue cells f)
-program_closed_says {s = alternative wide q value} f h = record {
-  by = (
-    h.by.0,
-    h.by.1,
-    λ o v m. record { from = m.from; told = h.by.2 o m.from m.read; made = m.made },
-  );
-}
-program_closed_says {s = single wide k q group gap} f h = record {
-  by = (
-    h.by.0,
-    h.by.1,
-    λ os rest v g. let there = h.by.2 os rest g.from g.read in record {
-      part = there.part;
-      is = there.is;
-      some = there.some;
-      told = record { from = g.from; told = there.told; made = g.made };
-    },
-    λ v m. record { from = m.0; told = h.by.3 m.0 m.1; made = m.2 },
-  );
-}
-program_closed_says {s = complete wide k q value} f h = record {
-  by = (
-    h.by.0,
-    h.by.1,
-    λ os v all m. record { from = m.from; told = h.by.2 os m.from all m.read; made = m.made },
-  );
-}
-program_closed_says {s = commands optional value} f h =
-    record { by = (h.by.0, closed_said h.by.1) }
-program_closed_says f h = record { by = tt }
+program_closed_says f h = grind (arith, closed_said)
 
 -- a repeat or default round a field, of which each value says so
 whole_form_says : {T B : Type 0} {kind : FieldKind → FieldKind} (lift : SaidKind → SaidKind)
@@ -91,17 +61,7 @@ whole_form_says : {T B : Type 0} {kind : FieldKind → FieldKind} (lift : SaidKi
     → {names : List Names} {j : SaidKind} {c : Bool} {cells : CellsValue T} {others : CellsValue B}
     {s : ProgramForm T} → Says names s j c said cells
     → Says names (completed kind value s) (lift j) c whole others
-whole_form_says lift lifts value whole each {s = alternative wide q one} h = record {
-  by = (
-    h.by.0,
-    ap lift h.by.1 ∙ lifts ByName,
-    λ os v all. each _ _ (front_says one h.by.2) (λ v none. absurd none) os v,
-  );
-}
-whole_form_says lift lifts value whole each {s = single wide k q group gap} h = record {
-  by = (h.by.0, ap lift h.by.1 ∙ lifts k, λ os v all. each group gap h.by.2 h.by.3 os v);
-}
-whole_form_says lift lifts value whole each h = record { by = tt }
+whole_form_says lift lifts value whole each h = grind (arith, front_says)
 
 -- what may be left out
 optional_says : {T : Type 0} {s : ProgramForm T} {kind : SaidKind} {names : List Names} {c : Bool}
@@ -153,9 +113,7 @@ module _ {T : Type 0} {s : ProgramForm T} {kind : SaidKind} {names : List Names}
 pub program_dressed_says : {T : Type 0} {s : ProgramForm T} {kind : SaidKind} {names : List Names}
     {c : Bool} {said : Said T} {cells : CellsValue T} → Says names s kind c said cells
     → Says names (program_dressed s) kind c said cells
-program_dressed_says {s = product wide named q fields} h = record { by = h.by }
-program_dressed_says {s = before_commands value} h = record { by = tt }
-program_dressed_says h = h
+program_dressed_says h = grind arith
 
 -- own items are those with one of these names
 abbrev pub FormOwns : {T : Type 0} → List Names → ProgramForm T → Type 0
@@ -171,9 +129,7 @@ record OwnsKeys {T : Type 0} (names : List Names) (s : ProgramForm T) : Type 0 w
 owned : {env : Variables} {T : Type 0} {outcome : Outcome T} {names : List Names}
     {words : List (List ℕ)} {s : ProgramForm T} → FormLaw env outcome names words s
     → OwnsKeys names s
-owned {s = complete wide k q value} law = record { by = law.by.1 }
-owned {s = product wide named q fields} law = record { by = law.by.1 }
-owned law = record { by = tt }
+owned law = grind arith
 
 -- as a field
 field_says : {T : Type 0} {s : ProgramForm T} {kind : SaidKind} {names : List Names} {c : Bool}
@@ -259,10 +215,7 @@ pub program_command_says : {env : Variables} {P T : Type 0} {outcome : Outcome T
     → FormLaw env outcome names words s → ProgramSays names s kind said p
     → Says names (program_command adjacent apart called s) (of_kind ByName) true (λ os v. ⊥)
     (CommandValue T (opening_words called) (cells_said s said p))
-program_command_says {s} said p adjacent apart called law h =
-    if_says (((not adjacent && apart) && are_plain (opening_words called)) && is_program s) (record {
-      by = (refl, λ cs v m. (m.0, m.1, program_says said p law h m.0 v m.2));
-    })
+program_command_says said p adjacent apart called law h = grind (arith, if_says, not, program_says)
 
 -- Choices.
 
@@ -284,11 +237,7 @@ pub first_says : {T : Type 0} {s : ProgramForm T} {kind : SaidKind} {keys : List
     {one said : Said T} {these cells : CellsValue T} (names : List Names)
     → Into one said these cells → Says keys s kind c one these
     → Says names (choice_only s) (of_kind ByName) c said cells
-first_says {s = alternative wide q value} names into h =
-    record { by = (h.by.0, refl, λ o v m. into.by_pieces (o ∷ []) v (h.by.2 o v m)) }
-first_says {s = commands false value} names into h =
-    record { by = (h.by.0, λ cs v m. into.by_cells cs v (h.by.1 cs v m)) }
-first_says names into h = record { by = tt }
+first_says names into h = grind (arith, false)
 
 -- a choice of two, into what is said of both
 choice_into : {T : Type 0} {a b : ProgramForm T} {j k : SaidKind} {m n : List Names} {c d : Bool}
@@ -296,23 +245,8 @@ choice_into : {T : Type 0} {a b : ProgramForm T} {j k : SaidKind} {m n : List Na
     (words more : List (List ℕ)) → Into this said these cells → Into that said those cells
     → Says m a j c this these → Says n b k d that those
     → Says names (program_choice own others words more a b) (of_kind ByName) c said cells
-choice_into {T} {a = alternative wide q first} {b = alternative other r second} {said} names own
-    others words more from_this from_that h g = if_says (are_all_apart own others) (record {
-      by = (h.by.0, refl, λ o v m. piece o v (is_own q o) m);
-    })
-  where
-    piece : (o : LinePiece) (v : T) (b : Bool) → MatchBool b (first o v) (second o v)
-        → said (o ∷ []) v
-    piece o v true m = from_this.by_pieces (o ∷ []) v (h.by.2 o v m)
-    piece o v false m = from_that.by_pieces (o ∷ []) v (g.by.2 o v m)
-choice_into {T} {a = commands false x} {b = commands false y} {cells} names own others words more
-    from_this from_that h g =
-    if_says (are_words_apart words more) (record { by = (h.by.0, either_says) })
-  where
-    either_says : IsSaid (ChoiceValue T x y) cells
-    either_says cs v (inl m) = from_this.by_cells cs v (h.by.1 cs v m)
-    either_says cs v (inr m) = from_that.by_cells cs v (g.by.1 cs v m)
-choice_into names own others words more from_this from_that h g = record { by = tt }
+choice_into names own others words more from_this from_that h g =
+    grind (arith, if_says, Bool, true, false, inl, inr)
 
 -- one more parser, into what is said of all
 pub more_says : {T : Type 0} {s : ProgramForm T} {kind : SaidKind} {keys : List Names}
@@ -321,19 +255,8 @@ pub more_says : {T : Type 0} {s : ProgramForm T} {kind : SaidKind} {keys : List 
     → Says names (choice_only before) (of_kind ByName) c said cells → Says keys s kind d one these
     → Says names (choice_only (program_choice own others words more before s)) (of_kind ByName) c
     said cells
-more_says {T} {s} {c} {said} {cells} names own others words more before into h g =
-    by_form before h
-  where
-    all : Into said said cells cells
-    all = record { by_pieces = λ os v m. m; by_cells = λ cs v m. m }
-
-    by_form : (before : ProgramForm T)
-        → Says names (choice_only before) (of_kind ByName) c said cells
-        → Says names (choice_only (program_choice own others words more before s))
-        (of_kind ByName) c said cells
-    by_form (alternative wide q value) h = grind (arith, choice_into, first_says)
-    by_form (commands false value) h = grind (arith, choice_into, first_says)
-    by_form _ h = record { by = tt }
+more_says names own others words more before into h g =
+    grind (arith, choice_into, first_says, false)
 
 -- of two
 pub program_choice_says : {T : Type 0} {s t : ProgramForm T} {j k : SaidKind} {a b : Said T}
@@ -341,9 +264,7 @@ pub program_choice_says : {T : Type 0} {s t : ProgramForm T} {j k : SaidKind} {a
     → Says own s j c a x → Says others t k d b y
     → Says (own ++ others) (program_choice own others words more s t) (of_kind ByName) c
     (EitherSays a b) (ChoiceValue T x y)
-program_choice_says own others words more h g = choice_into (own ++ others) own others words more
-    (record { by_pieces = λ os v m. says_this m; by_cells = λ cs v m. inl m })
-    (record { by_pieces = λ os v m. says_that m; by_cells = λ cs v m. inr m }) h g
+program_choice_says own others words more h g = grind (arith, choice_into, inl, inr)
 
 -- Products.
 
@@ -470,20 +391,7 @@ both_say own_keys behind_keys h g = record { by = tt }
 pub program_con_says : {A B : Type 0} {names : List Names} {s : ProgramForm A} {c : Bool}
     {said : FieldsSaid A} {cells : CellsValue A} (f : Closure A B) → FieldsSay names s c said cells
     → Says names (program_con f s) (form_kind s) c (RecordSays said names f) (ClosedValue cells f)
-program_con_says {names} {s = product wide named q fields} {said} f g = record {
-  by = (
-    g.by.0,
-    refl,
-    λ whole os v fits fit m same other. record {
-      from = m.from;
-      fields = subst (λ z. said whole z m.from) (sym other ∙ others_unkeyed q names whole fits)
-          (g.by.1 whole os m.from fits fit m.read same);
-      made = m.made;
-    },
-  );
-}
-program_con_says {s = before_commands value} f g = record { by = (g.by.0, closed_said g.by.1) }
-program_con_says f g = record { by = tt }
+program_con_says f g = grind (arith, others_unkeyed, closed_said)
 
 -- the last field
 pub keep_last : {env : Variables} {A : Type 0} {outcome : Outcome A} {words : List (List ℕ)}
@@ -491,10 +399,8 @@ pub keep_last : {env : Variables} {A : Type 0} {outcome : Outcome A} {words : Li
     {cells : CellsValue A} → FormLaw env outcome names words s → Says names s kind c said cells
     → FieldsKeep env outcome names (program_alone (program_field s)) c (AloneSays kind names said)
     cells
-keep_last law says = let field = program_field_law law in record {
-  law = program_alone_law field;
-  says = alone_says (owned field) (field_says (owned law) says);
-}
+keep_last law says =
+    grind (arith, program_field_law, program_alone_law, alone_says, owned, field_says)
 
 -- a field before such fields
 pub keep_before : {env : Variables} {A B : Type 0} {outcome : Outcome A} {words : List (List ℕ)}

@@ -132,10 +132,6 @@ cells_spelled s all = grind (arith, first_spelled, open_item_there)
 
 -- A command's word in a situation.
 
--- where not any item is open none is
-not_any : (c : Option Arg) → option_map_or any_item c false ≡ false → c ≡ None
-not_any x e = grind arith
-
 module _ (called : Called) (s : Situation) (p : ℕ)
     (at : IsOpenedAt (opening_words called) s p) where
   -- behind the word
@@ -144,7 +140,7 @@ module _ (called : Called) (s : Situation) (p : ℕ)
 
   -- nothing is open before it
   none_before : (q : ℕ) → q < p → open_item s q ≡ None
-  none_before q l = not_any (open_item s q) (at.first.first q l)
+  none_before q l = grind (arith, at.first.first q l)
 
   -- what is open behind it
   behind_one : TakenOne (open_item s) (open_item behind) p
@@ -270,22 +266,7 @@ module _ {env : Variables} {V : Type 0} {outcome : Outcome V} {r : Roles}
     {reading : FieldsReading V} (l : FieldsLaw env V outcome r reading) where
   -- the laws
   pub record_program : ProgramLaw env V outcome r (ReadOff V r reading.value)
-  record_program = record {
-    others = λ q n a cs v s h. no_own_in_cut n a h.cut;
-    keeps = record {
-      ok = λ s t v w o.
-          let i = l.keeps.ok s t v w o in
-          record {
-            deep = let e = ap length i.steady.path in omega arith;
-            read = λ spelled. i.read;
-            all = λ u h.
-                let n = i.all h.cut_into h.cut (l.has_each h.cut_into u h.read) in
-                (i.read n, n);
-          };
-      err = λ s t e w o u h.
-          l.keeps.err s t e w o h.cut_into h.cut (l.has_each h.cut_into u h.read);
-    };
-  }
+  record_program = grind (arith, no_own_in_cut, length)
 
 -- What is taken, and what is left.
 

@@ -2,16 +2,16 @@
 use Rattle.std.proofs.Common.{true≢false, ⊎_elim, arith, false, subst, Bool, List, None, refl, true}
 use Rattle.std.proofs.Common.{◌++◌, Err, inl, inr, sym, ◌<◌, ◌∙◌, ◌∷◌, ◌≡◌, ◌≤◌, ◌⊎◌, Ok, [], ap}
 use Rattle.bpaf_line.specs.{Situation.open_count, Situation.Situation, declared.error.Error.Error}
-use Rattle.bpaf_laws.specs.Combinators.{LastOutcome, TurnOutcome, UntilRest, is_nil, Turns, rests}
+use Rattle.bpaf_laws.specs.Combinators.{LastOutcome, TurnOutcome, is_nil, Turns, rests}
 use Rattle.bpaf_laws.specs.{Combinators.stops, Reading.Outcome}
-use Rattle.bpaf_exact.proofs.Names.{no_keys_left, never_nil, back_all, each_nil, nil_each}
+use Rattle.bpaf_exact.proofs.Names.{no_keys_left, never_nil, back_all, nil_each}
 use Rattle.bpaf_exact.proofs.Product.{none_outside_after, steady_trans, steady_refl}
 use Rattle.bpaf_exact.proofs.Places.{takes_some_fewer, open_present, takes_fewer}
 use Rattle.bpaf_exact.proofs.Classes.{memory_class, stops_at, goes_on}
 use Rattle.bpaf_exact.proofs.Cuts.{some_trans}
 use Rattle.bpaf_exact.specs.Flat.{gave_absent, only_absent, ErrorClass, FieldKind, FieldTook, cells}
 use Rattle.bpaf_exact.specs.Flat.{FieldLaw, CanCatch, Readable, SingleOk, TakesAny, own_more, class}
-use Rattle.bpaf_exact.specs.Flat.{own_none, repeated, AgreesOn, OfMemory, OwnItems, OwnList, Steady}
+use Rattle.bpaf_exact.specs.Flat.{own_none, repeated, AgreesOn, OfMemory, OwnList, Steady}
 use Rattle.bpaf_exact.specs.Flat.{IsWholeIn, OfMissing, Variables, SingleErr, SingleLaw, TookGroup}
 use Rattle.bpaf_exact.specs.Flat.{listed_and_absent, present_count, RepeatOutcome, some_closure}
 use Rattle.bpaf_exact.specs.Flat.{Groups, listed, LastOf, front, Stops, back, took, Gap, Own}
@@ -64,7 +64,7 @@ module _ {env : Variables} {T : Type 0} {inner : Outcome T} {k : FieldKind} {q :
 
   -- where a turn takes none the repeat takes none
   own_none_left : (s : Situation) → front k (pieces q (cells s)) ≡ [] → own s ≡ []
-  own_none_left s none = each_nil k (pieces q (cells s)) none
+  own_none_left s none = grind arith
 
   -- a group at the front of all pieces is one at the front of those
   by_group : {os : List LinePiece} {v : T} {rest : List LinePiece} → group os v rest
@@ -100,12 +100,7 @@ module _ {env : Variables} {T : Type 0} {inner : Outcome T} {k : FieldKind} {q :
   -- a repeat that ends where there is no piece
   ended : (told : List LinePiece → Type 0) {s t : Situation} → Steady s t
       → front k (pieces q (cells s)) ≡ [] → cells t ≡ cells s → told [] → Took told s t
-  ended told {s} st p e list = record {
-    steady = st;
-    takes = same_takes e;
-    none = ap (pieces q) e ∙ sym (back_all (repeated k) (own_none_left s p));
-    list = rw (own_none_left s p) list;
-  }
+  ended told st p e list = grind (arith, same_takes, back_all, own_none_left)
 
   -- one value more
   took_more : {s m t : Situation} {v : T} {vs : List T} → TookGroup T k q group s v m
@@ -262,32 +257,10 @@ module _ {env : Variables} {T : Type 0} {inner : Outcome T} {k : FieldKind} {q :
   all_read {vs} (listed_and_absent {a} h ab o) = (λ i. (a, ab), vs, o)
   all_read (only_absent {a} h ab) = (λ i. (a, ab), [], own_none)
 
-  -- and so a repeat fails for want of memory alone
-  repeat_fails : (idle : Bool) {s : Situation} (t : Situation) (e : Error) {ws : List T}
-      → IsWholeIn env s → RepeatOutcome inner idle s (Err e) t → OwnList T group gap (own s) ws
-      → class e ≡ OfMemory
-  repeat_fails b t e w o x = grind (arith, all_read, turns_fail)
-
-  -- the items of a repeat are those of the field
-  own_repeated : OwnItems (repeated k) q
-  own_repeated = grind arith
-
   -- many, and what is built on it: the values of the own list
   pub repeat_law : (idle : Bool) → FieldLaw env (List T) (RepeatOutcome inner idle) (repeated k) q
       (OwnList T group gap)
-  repeat_law idle = record {
-    own = own_repeated;
-    keeps = record {
-      ok = λ s t vs w f. let i = repeat_took idle w f in record {
-        steady = i.steady;
-        takes = i.takes;
-        read = λ n. i.list;
-        rest = λ n. i.none;
-        all = λ ws o. no_keys_left (repeated k) q (cells t) _ i.none;
-      };
-      err = λ s t e w f ws o. repeat_fails idle t e w f o;
-    };
-  }
+  repeat_law idle = grind (arith, repeat_took, no_keys_left, all_read, turns_fail)
 
   -- the laws of the list
   rl : FieldLaw env (List T) (RepeatOutcome inner true) (repeated k) q (OwnList T group gap)
@@ -311,12 +284,6 @@ module _ {env : Variables} {T : Type 0} {inner : Outcome T} {k : FieldKind} {q :
   pub some_agrees_on : (os : List LinePiece) → AgreesOn (OwnList T group gap os) (some_closure T)
   some_agrees_on os x y v ox oy g n = g.1 (empty_nothing (empty_list n oy) ox)
 
-  -- so the evaluation after an empty list answers no value
-  again_ok : (s : Situation) {m : Situation} (t : Situation) (v : T) → IsWholeIn env s
-      → UntilRest inner s [] m → inner m (Ok v) t → ⊥
-  again_ok s t v w f g =
-      grind (arith, back_all, empty_list, nil_each, none_given, none_outside_after, repeat_took)
-
   -- a last value is that of the own list
   last_took : (s t : Situation) (v : T) → IsWholeIn env s → LastOutcome inner s (Ok v) t
       → FieldTook T (repeated k) q (LastOf T group gap) s v t
@@ -329,19 +296,25 @@ module _ {env : Variables} {T : Type 0} {inner : Outcome T} {k : FieldKind} {q :
         rest = i.rest;
         all = λ u h. i.all (h.0 ++ u ∷ []) h.1;
       }
-  last_took s t v w (inr o) = absurd (again_ok s t v w o.1 o.2)
-
-  -- where the list has a last value it isn't empty
-  never_empty : {s m : Situation} {v : T} → IsWholeIn env s → UntilRest inner s [] m
-      → LastOf T group gap (front (repeated k) (pieces q (cells s))) v → ⊥
-  never_empty {v} w f h = grind (arith, empty_list, empty_nothing, never_nil, repeat_took)
+  last_took s t v w (inr o) = absurd (grind (
+    arith,
+    back_all,
+    empty_list,
+    nil_each,
+    none_given,
+    none_outside_after,
+    repeat_took,
+    o.1,
+    o.2,
+  ))
 
   -- so a refusal is want of memory
   last_refuses : (s t : Situation) (e : Error) → IsWholeIn env s → LastOutcome inner s (Err e) t
       → (v : T) → LastOf T group gap (front (repeated k) (pieces q (cells s))) v
       → class e ≡ OfMemory
   last_refuses s t e w (inl o) v h = rl.keeps.err s t e w o (h.0 ++ v ∷ []) h.1
-  last_refuses s t e w (inr o) v h = absurd (never_empty w o.1 h)
+  last_refuses s t e w (inr o) v h =
+      absurd (grind (arith, empty_list, empty_nothing, never_nil, repeat_took, o.1))
 
   -- last keeps to the laws of a field
   pub last_of_law : FieldLaw env T (LastOutcome inner) (repeated k) q (LastOf T group gap)

@@ -112,14 +112,7 @@ pub word_by_says : {T : Type 0} {names : List Names} {cells : CellsValue T}
     (accepts : Bool → Bool) (means : List ℕ → T → Type 0)
     → Says names (word_by accepts means) (of_kind (OneWord (not (accepts true)))) false
     (WordSays accepts means) cells
-word_by_says accepts means = record {
-  by = (
-    refl,
-    refl,
-    front_says (WordValue accepts means) (word_says accepts means),
-    λ v none. absurd none,
-  );
-}
+word_by_says accepts means = grind (arith, front_says, word_says)
 
 -- Repeats and defaults.
 
@@ -128,9 +121,7 @@ module _ {T : Type 0} (said : Said T) (group : Groups T) (gap : Gap T)
     (absent : (v : T) → gap.absent v → said [] v) where
   -- a value of all pieces at once
   pub whole_says : (os : List LinePiece) (v : T) → SingleValue T group gap os v → said os v
-  whole_says os v (inl g) = let there = fronts os [] v g in
-      rw (there.is ∙ append-nil there.part) there.told
-  whole_says os v (inr e) = rw e.0 (absent v e.1)
+  whole_says os v x2 = grind (arith, inl, append-nil, inr)
 
   -- values in turn
   turns_say : {os : List LinePiece} {vs : List T} → Own T group os vs → Own T (FrontSays said) os vs
@@ -205,10 +196,7 @@ flag_values {T} {clones} {present} {absent} {set} {os} required unset told =
 pub word_values : {T : Type 0} {means : List ℕ → T → Type 0} {os : List LinePiece} {vs : List T}
     {accepts : Bool → Bool} → RepeatSays (WordSays accepts means) os vs
     → AllZip (WordValue accepts means) os vs
-word_values {means} {os} {accepts} told =
-    one_by_one (WordSays accepts means) (WordValue accepts means)
-    (λ os v said. record { piece = One said.word; is = said.is; said = (said.side, said.meant) })
-    told
+word_values told = grind (arith, one_by_one)
 
 -- no value says so of no piece
 pub record NeedsPiece {T : Type 0} (said : Said T) : Type 0 where
@@ -222,21 +210,13 @@ no_part (x ∷ xs) ys e = absurd cc
 -- An argument's value needs a piece, where no variable of its is set,
 pub argument_needs : {T : Type 0} {means : List ℕ → T → Type 0} {last : Bool}
     {set : Option (List ℕ)} → set ≡ None → NeedsPiece (ArgumentSays means last set)
-argument_needs {T} {means} {last} {set} unset = record { some = by_case }
-  where
-    by_case : (v : T) → ¬ (ArgumentSays means last set [] v)
-    by_case v (says_text k w e m) = cc
-    by_case v (says_last_text before k w all e m) = never_nil _ (Two k w) [] (sym e)
-    by_case v (says_variable_text text none is m) = cc
+argument_needs unset = grind (arith, never_nil)
 
 -- a required flag's then,
 pub flag_needs : {T : Type 0} {clones : T → T → Type 0} {present : T} {absent : Option T}
     {set : Option (List ℕ)} → absent ≡ None → set ≡ None
     → NeedsPiece (FlagSays clones present absent set)
-flag_needs {T} {clones} {present} {absent} {set} required unset = record { some = by_case }
-  where
-    by_case : (v : T) → ¬ (FlagSays clones present absent set [] v)
-    by_case v x = grind arith
+flag_needs required unset = grind arith
 
 -- with a closure round it one that does inside,
 pub made_needs : {A B : Type 0} {said : Said A} {f : Closure A B} → NeedsPiece said
@@ -250,9 +230,7 @@ repeat_needs needs vs some x = grind (arith, no_part)
 
 -- and a last value then.
 pub last_needs : {T : Type 0} {said : Said T} → NeedsPiece said → NeedsPiece (LastSays said)
-last_needs needs = record {
-  some = grind (arith, never_nil, repeat_needs);
-}
+last_needs needs = grind (arith, never_nil, repeat_needs)
 
 -- And a repeat without values has no piece.
 pub no_values : {T : Type 0} {said : Said T} {os : List LinePiece} → RepeatSays said os [] → os ≡ []

@@ -8,20 +8,19 @@ use Rattle.bpaf_laws.specs.Reading.{Outcome}
 use Rattle.bpaf_exact.proofs.Cuts.{takes_nonempty, first_pieces, first_takes, head_stays}
 use Rattle.bpaf_exact.proofs.Repeat.{same_takes, stopped_by, catch_none, none_given, stops_by}
 use Rattle.bpaf_exact.proofs.{Names.no_keys_left, Names.back_all, Product.steady_refl}
-use Rattle.bpaf_exact.specs.Flat.{alternative_refused, alternative_memory, fallback_memory, OneWord}
-use Rattle.bpaf_exact.specs.Flat.{AlternativeOk, FallbackValue, OptionalValue, closed_memory, cells}
-use Rattle.bpaf_exact.specs.Flat.{optional_none, optional_some, FallbackEval, OptionalEval, Refused}
-use Rattle.bpaf_exact.specs.Flat.{fallback_err, optional_err, fallback_ok, FirstUnread, SingleValue}
-use Rattle.bpaf_exact.specs.Flat.{NoKeysLeft, ReadsWords, ClosedEval, closed_err, closed_gap, class}
-use Rattle.bpaf_exact.specs.Flat.{closed_yes, bad_later, FieldKind, FieldTook, IsWholeIn, OfMissing}
-use Rattle.bpaf_exact.specs.Flat.{EachWord, FieldLaw, OfMemory, CanCatch, Readable, SingleOk, front}
-use Rattle.bpaf_exact.specs.Flat.{own_more, own_none, AgreesOn, bad_here, KeepsTo, FrontOf, Closure}
-use Rattle.bpaf_exact.specs.Flat.{Variables, SingleErr, SingleLaw, TookGroup, of_memory, closed_no}
-use Rattle.bpaf_exact.specs.Flat.{Decides, HasBad, ByName, Steady, Groups, gap_of, back, took, Gap}
-use Rattle.bpaf_exact.specs.Flat.{optional_memory, fallback_given, AlternativeErr, AlternativeLaw}
-use Rattle.bpaf_exact.specs.Flat.{gave_absent, ClosedValue, fallback_no, TakesFirst, ErrorClass}
+use Rattle.bpaf_exact.specs.Flat.{fallback_memory, OneWord, AlternativeOk, FallbackValue}
+use Rattle.bpaf_exact.specs.Flat.{OptionalValue, closed_memory, cells, optional_none, optional_some}
+use Rattle.bpaf_exact.specs.Flat.{FallbackEval, OptionalEval, Refused, fallback_err, optional_err}
+use Rattle.bpaf_exact.specs.Flat.{fallback_ok, FirstUnread, SingleValue, NoKeysLeft, ReadsWords}
+use Rattle.bpaf_exact.specs.Flat.{ClosedEval, closed_err, closed_gap, class, closed_yes, bad_later}
+use Rattle.bpaf_exact.specs.Flat.{FieldKind, FieldTook, IsWholeIn, OfMissing, EachWord, FieldLaw}
+use Rattle.bpaf_exact.specs.Flat.{OfMemory, CanCatch, Readable, SingleOk, front, own_more, own_none}
+use Rattle.bpaf_exact.specs.Flat.{AgreesOn, bad_here, KeepsTo, FrontOf, Closure, Variables}
+use Rattle.bpaf_exact.specs.Flat.{SingleErr, SingleLaw, TookGroup, closed_no, Decides, HasBad}
+use Rattle.bpaf_exact.specs.Flat.{ByName, Steady, Groups, gap_of, back, took, Gap, optional_memory}
+use Rattle.bpaf_exact.specs.Flat.{fallback_given, AlternativeErr, AlternativeLaw, gave_absent}
+use Rattle.bpaf_exact.specs.Flat.{ClosedValue, fallback_no, TakesFirst, ErrorClass, Own}
 use Rattle.bpaf_exact.specs.Pieces.{takes_more, takes_none, LinePiece, pieces, Cells, Roles}
-use Rattle.bpaf_exact.specs.Flat.{Own}
 
 -- what a closure makes of an outcome keeps to what follows of each answer inside
 pub closed_keeps : {env : Variables} {A B : Type 0} {inner : Outcome A} {f : Closure A B}
@@ -53,18 +52,7 @@ module _ {env : Variables} {A B : Type 0} {inner : Outcome A} {k : FieldKind} {q
     (agrees : (os : List LinePiece) → AgreesOn (value os) f) (c : ErrorClass) where
   -- a closure round a field is one
   pub closed_law : FieldLaw env B (ClosedEval A B inner f c) k q (ClosedValue value f)
-  closed_law = record {
-    own = l.own;
-    keeps = closed_keeps c l.keeps (λ s t x v a y. record {
-      steady = a.steady;
-      takes = a.takes;
-      read = λ n. record { from = x; read = a.read n; made = y };
-      rest = a.rest;
-      all = λ w h. a.all h.from h.read;
-    }) (λ s t x a n w h. absurd (agrees (front k (pieces q (cells s))) h.from x w h.read
-        (a.read (a.all h.from h.read)) h.made n)) (λ s t w h. refl)
-        (λ s t d r w h. r h.from h.read);
-  }
+  closed_law = grind (arith, closed_keeps)
 
 module _ {env : Variables} {T : Type 0} {inner : Outcome T} {k : FieldKind} {q : Roles}
     {group : Groups T} {gap : Gap T} (l : SingleLaw env T inner k q group gap) where
@@ -117,18 +105,13 @@ module _ {env : Variables} {T : Type 0} {inner : Outcome T} {k : FieldKind} {q :
     all = λ w g. no_keys_left k q (cells t) _ (took_takes h g);
   }
 
-  -- and a refusal is want of memory
-  err_gives : {s t : Situation} {c : ErrorClass} {w : T} → SingleErr T k q group gap s c t
-      → SingleValue T group gap (front k (pieces q (cells s))) w → c ≡ OfMemory
-  err_gives x v = grind (arith, not_empty, of_front)
-
   -- a field without a repeat or default keeps to the laws of a field
   pub single_law : FieldLaw env T inner k q (SingleValue T group gap)
   single_law = record {
     own = l.own;
     keeps = record {
       ok = λ s t v w i. single_took (l.keeps.ok s t v w i);
-      err = λ s t e w i v g. err_gives (l.keeps.err s t e w i) g;
+      err = λ s t e w i v g. (grind (arith, not_empty, of_front, l.keeps.err s t e w i));
     };
   }
 
@@ -181,7 +164,8 @@ module _ {env : Variables} {T : Type 0} {inner : Outcome T} {k : FieldKind} {q :
   optional_refuses : (s t : Situation) (e : Error) → IsWholeIn env s
       → OptionalEval T inner s (Err e) t → (v : Option T)
       → OptionalValue T group gap (front k (pieces q (cells s))) v → class e ≡ OfMemory
-  optional_refuses s t e w (optional_err i n) (Some y) g = err_gives (l.keeps.err s t e w i) g
+  optional_refuses s t e w (optional_err i n) (Some y) g =
+      grind (arith, not_empty, of_front, l.keeps.err s t e w i)
   optional_refuses s t e w (optional_err i n) None g =
       none_fails (λ c same. n (stops_by c same)) g.0 g.1 (l.keeps.err s t e w i)
   optional_refuses s t e w (optional_memory c) v g = c
@@ -210,7 +194,8 @@ module _ {env : Variables} {T : Type 0} {inner : Outcome T} {k : FieldKind} {q :
         grind (arith, catch_none, not_empty)
     fallback_refuses s t g w (fallback_no i h n c) v (inr p) = absurd (decides tt v p.2 n)
     fallback_refuses s t g w (fallback_memory c) v view = c
-    fallback_refuses s t g w (fallback_err {m} i n) v (inl o) = err_gives (l.keeps.err s m g w i) o
+    fallback_refuses s t g w (fallback_err {m} i n) v (inl o) =
+        grind (arith, not_empty, of_front, l.keeps.err s m g w i)
     fallback_refuses s t g w (fallback_err {m} i n) v (inr p) = grind (arith, none_fails)
 
     pub fallback_field : FieldLaw env T (FallbackEval T inner f) k q (FallbackValue T group gap f)
@@ -255,20 +240,6 @@ gap_empty means x v h a = grind arith
 -- An alternative is a field without a repeat or default.
 module _ {env : Variables} {T : Type 0} {outcome : Outcome T} {q : Roles}
     {value : LinePiece → T → Type 0} (l : AlternativeLaw env T outcome q value) where
-  -- its value is that of the first piece, where all others can be read
-  alternative_reads : {s t : Situation} {v : T} (a : AlternativeOk T q value s v t)
-      → TakesFirst q (cells s) a.piece (cells t) ⊎ FirstUnread T q value (cells s)
-      → (vs : List T) × Own T (FrontOf T value) (pieces q (cells t)) vs
-      → FrontOf T value (pieces q (cells s)) v (pieces q (cells t))
-  alternative_reads a x o = grind (arith, first_pieces, head_stays, own_bad)
-
-  -- a first piece that can be read is the one that was taken
-  alternative_readable : {s t : Situation} {v : T} (a : AlternativeOk T q value s v t)
-      → TakesFirst q (cells s) a.piece (cells t) ⊎ FirstUnread T q value (cells s) → (w : T)
-      (rest : List LinePiece) → FrontOf T value (pieces q (cells s)) w rest
-      → FrontOf T value (pieces q (cells s)) v rest × (pieces q (cells t) ≡ rest)
-  alternative_readable a x w rest g = grind (arith, first_pieces, front_alone)
-
   -- its refusal, as that of one evaluation
   alternative_err : {s t : Situation} {c : ErrorClass} → AlternativeErr T q value s c t
       → SingleErr T ByName q (FrontOf T value) (gap_of value None) s c t
@@ -288,8 +259,8 @@ module _ {env : Variables} {T : Type 0} {outcome : Outcome T} {q : Roles}
             steady = a.steady;
             takes = record { piece = a.piece; middle = cells t; one = a.takes; more = takes_none };
             found = takes_nonempty a.takes;
-            read = alternative_reads a a.first;
-            readable = alternative_readable a a.first;
+            read = λ o. grind (arith, first_pieces, head_stays, own_bad);
+            readable = λ w rest g. grind (arith, first_pieces, front_alone);
           });
       err = λ s t e w o. alternative_err (l.keeps.err s t e w o);
     };
@@ -307,33 +278,12 @@ module _ {env : Variables} {A B : Type 0} {inner : Outcome A} {q : Roles}
   no_unread : {s t : Situation} {x : A} (a : AlternativeOk A q value s x t) → f.no x
       → TakesFirst q (cells s) a.piece (cells t) ⊎ FirstUnread A q value (cells s)
       → FirstUnread B q (ClosedValue value f) (cells s)
-  no_unread {t} a n (inl h) = (
-    a.piece,
-    pieces q (cells t),
-    first_pieces q l.named h,
-    λ v c. agrees a.piece c.from _ v c.read a.means c.made n,
-  )
-  no_unread {s} a n (inr z) = closed_unread (cells s) z
-
-  -- an inner refusal is passed on
-  err_closed : {s t : Situation} {c : ErrorClass} → AlternativeErr A q value s c t
-      → AlternativeErr B q (ClosedValue value f) s c t
-  err_closed x = grind (arith, closed_unread)
+  no_unread a n x2 = grind (arith, inl, first_pieces, inr, closed_unread)
 
   -- a closure round an alternative is one
   pub closed_alternative : AlternativeLaw env B (ClosedEval A B inner f Refused) q
       (ClosedValue value f)
-  closed_alternative = record {
-    named = l.named;
-    keeps = closed_keeps Refused l.keeps (λ s t x v a y. record {
-      steady = a.steady;
-      piece = a.piece;
-      takes = a.takes;
-      means = record { from = x; read = a.means; made = y };
-      first = ⊎_elim (λ h. inl h) (λ z. inr (closed_unread (cells s) z)) a.first;
-    }) (λ s t x a n. alternative_refused refl a.steady.path (no_unread a n a.first))
-        (λ s t. alternative_memory refl) (λ s t c. err_closed);
-  }
+  closed_alternative = grind (arith, closed_keeps, ⊎_elim, inl, inr, closed_unread, no_unread)
 
 -- inner closures round a field without a repeat or default
 module _ {env : Variables} {A B : Type 0} {inner : Outcome A} {k : FieldKind} {q : Roles}
@@ -350,60 +300,16 @@ module _ {env : Variables} {A B : Type 0} {inner : Outcome A} {k : FieldKind} {q
   inner_list own_none = ([], own_none)
   inner_list (own_more g o) = let i = inner_list o in (g.from ∷ i.0, own_more g.read i.1)
 
-  -- the same, by the kind of the field
-  inner_readable : (z : FieldKind) (os : List LinePiece) → Readable z closed_group os
-      → Readable z group os
-  inner_readable x os r = grind (arith, inner_list)
-
   -- with a closure a field reads words as before
   closed_words : (z : FieldKind) → ReadsWords z group → ReadsWords z closed_group
-  closed_words ByName u = tt
-  closed_words (OneWord b) u = record {
-    by_front = λ os v rest g. let a = u.by_front os g.from rest g.read in
-        (record { from = g.from; read = a.0; made = g.made }, a.1);
-    of_front = λ os v g. record {
-      from = g.from;
-      read = u.of_front os g.from g.read;
-      made = g.made;
-    };
-    by_each = λ os v rest g. let a = u.by_each os g.from rest g.read in
-        (record { from = g.from; read = a.0; made = g.made }, a.1);
-    of_each = λ os v rest g. let a = u.of_each os g.from rest g.read in
-        (a.0, record { from = g.from; read = a.1; made = g.made }, a.2);
-  }
-  closed_words (EachWord b) u = u
+  closed_words z u = grind (arith, of_front)
 
   -- a value that the closure gave
   yes_single : {s t : Situation} (x : A) {v : B} → f.yes x v → SingleOk A k q group gap s x t
       → SingleOk B k q closed_group (closed_gap gap f) s v t
-  yes_single x y (gave_absent h p ab same st) = gave_absent h p (x, ab, y) same st
-  yes_single x y (took h) = took (record {
-    steady = h.steady;
-    takes = h.takes;
-    found = h.found;
-    read = λ r. record { from = x; read = h.read (inner_readable k _ r); made = y };
-    readable = λ w rest g. let d = h.readable g.from rest g.read in
-        (record { from = x; read = d.0; made = y }, d.1);
-  })
-
-  -- a value that the closure refused
-  no_single : {s t : Situation} (x : A) → f.no x → SingleOk A k q group gap s x t
-      → SingleErr B k q closed_group (closed_gap gap f) s Refused t
-  no_single x n y = grind arith
-
-  -- an inner refusal is passed on
-  err_single : {s t : Situation} {c : ErrorClass} → SingleErr A k q group gap s c t
-      → SingleErr B k q closed_group (closed_gap gap f) s c t
-  err_single x = grind arith
+  yes_single x y x2 = grind (arith, inner_list)
 
   -- a closure round a single field is one
   pub closed_single : SingleLaw env B (ClosedEval A B inner f Refused) k q closed_group
       (closed_gap gap f)
-  closed_single = record {
-    own = l.own;
-    words = closed_words k l.words;
-    starts = λ v rest g. l.starts g.from rest g.read;
-    no_absent = λ v h a. l.no_absent a.0 h a.1;
-    keeps = closed_keeps Refused l.keeps (λ s t x v a y. yes_single x y a)
-        (λ s t x a n. no_single x n a) (λ s t. of_memory refl) (λ s t c. err_single);
-  }
+  closed_single = grind (arith, closed_words, closed_keeps, yes_single)

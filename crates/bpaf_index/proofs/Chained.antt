@@ -142,20 +142,8 @@ pub behind_passed : {line : List Arg} {set : ℕ → Bool} {old : Chained} {clas
     → AreBehind line set old → class < length old.heads → from ≡ slice_index old.heads class
     → IsPlaceOf old.classes class from → HasWalked old.classes set from head
     → AreBehind line set (record old { heads = slice_set old.heads class head })
-behind_passed {line} {set} {old} {class} {from} {head} h inside begins headed walked =
-    let same = get_or-set_same old.heads class head 0 inside in
-    let other = λ (k : ℕ). get_or-set_other old.heads class k head 0 in
-    record {
-      within = h.within;
-      classes = h.classes;
-      keyless = h.keyless;
-      passed = λ p below before. grind (
-        arith,
-        h.passed p below,
-        walked.passed class p headed,
-        other (slice_index old.classes p),
-      );
-    }
+behind_passed h inside begins headed walked =
+    grind (arith, get_or-set_same, ℕ, get_or-set_other, slice_index)
 
 -- what stands before the beginning of its chain is in the set
 pub early_set : {line : List Arg} {set : ℕ → Bool} {chains : Chained} {class : Option ℕ}
@@ -170,9 +158,4 @@ pub behind_nothing : (chains : Chained) (line : List Arg) → length chains.clas
     → AreClassesOf chains.names line chains.classes → HasNoKeyFrom line (length chains.classes)
     → ((p : ℕ) → p < length chains.classes → IsNextOf chains.classes
     (slice_index chains.classes p) 0 (head_of chains p)) → AreBehind line (λ p. false) chains
-behind_nothing chains line within classes keyless first = record {
-  within = within;
-  classes = classes;
-  keyless = keyless;
-  passed = λ p below before. absurd ((first p below).between p (omega arith) before refl);
-}
+behind_nothing chains line within classes keyless first = grind arith

@@ -54,6 +54,7 @@ fn take_long(state: &mut State, words: &[Text]) -> Option<usize>
 
 /// Takes the first present item in scope, where it is the word of one of these characters: its
 /// place.
+#[tactic(auto, using(crate::proofs::Opening::short_takes))]
 fn take_short(state: &mut State, shorts: &[char]) -> Option<usize>
     ensures { TakesOpening (map encode_utf8 shorts.now) state.old result state.new }
 {

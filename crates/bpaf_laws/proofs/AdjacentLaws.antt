@@ -1,8 +1,8 @@
 -- Adjacent commands and groups keep to the laws where what is inside does, and read one stretch.
 use Rattle.std.proofs.Common.{true≢false, nat_le, nat_lt, arith, true, ◌&&◌, ◌==◌, ◌||◌, ◌≡◌, ◌<◌}
 use Rattle.std.proofs.Common.{◌≤◌, ◌+◌, ◌∙◌, sym, ℕ}
-use Rattle.std.proofs.{lemmas.Bool.Decides.nat_tests, lemmas.Bool.both_ways}
-use Rattle.std.specs.Prelude.{Result, Option, false, IfOk, List, Some, None, Err, Ok}
+use Rattle.std.proofs.{lemmas.Bool.Decides.nat_tests}
+use Rattle.std.specs.Prelude.{Result, Option, IfOk, List, Some, None, Err, Ok}
 use Rattle.bpaf_doc.specs.Shape.{Part}
 use Rattle.bpaf_line.specs.Situation.{open_count, with_scope, Situation, is_open}
 use Rattle.bpaf_line.specs.declared.error.Error.{Error}
@@ -12,12 +12,12 @@ use Rattle.bpaf_laws.specs.Command.{opening_words, CommandReads, IsOpenedAt, Cal
 use Rattle.bpaf_laws.specs.Adjacent.{StretchReads, GroupOutcome, TriedInVain, none_tried, not_taken}
 use Rattle.bpaf_laws.specs.Adjacent.{all_failed, none_gave, IsStretch, Narrowed, answered, Searches}
 use Rattle.bpaf_laws.specs.Adjacent.{EndsWith, Failure, longest, refused, wanted, Probe, whole}
+use Rattle.bpaf_laws.specs.Adjacent.{again, Tries, gave}
 use Rattle.bpaf_laws.proofs.CommandLaws.{leaves_nothing, keeps_inside, word_is_open, word_read}
 use Rattle.bpaf_laws.proofs.Keeping.{keeps_scope, keeps_refl, newly_take, reads_both, keeps_same}
 use Rattle.bpaf_laws.proofs.Keeping.{AnswersLawfully, LawfulAnswer, keeps_trans, newly_joins}
 use Rattle.bpaf_laws.proofs.Keeping.{names_same, names_want, lawful_by, reads_as, keeps_of}
 use Rattle.bpaf_laws.specs.{Reading.Readings, Reading.Outcome, Reading.Share, Laws.Reads}
-use Rattle.bpaf_laws.specs.Adjacent.{again, Tries, gave}
 
 module _ (s : Situation) (from end : ℕ)
     (present : (p : ℕ) → from ≤ p → p < end → is_open s p ≡ true) where
@@ -179,13 +179,7 @@ module _ {T : Type 0} (inner without : Outcome T) (spares : Spares inner without
   -- nor do probes
   probe_spared : {a stop : ℕ} {Takes : Share → Type 0} → Probe T inner s a stop Takes
       → Probe T without s a stop Takes
-  probe_spared {a} {stop} probe = record {
-    answer = probe.answer;
-    left = probe.left;
-    ran = spares (with_scope s a stop) probe.left probe.answer probe.ran probe.spared;
-    spared = probe.spared;
-    takes = probe.takes;
-  }
+  probe_spared probe = grind arith
 
   -- nor do places that were tried in vain
   vain_spared : {first : Part} {from : ℕ} {failures : List Failure}

@@ -7,14 +7,14 @@ use Rattle.std.proofs.lemmas.Bool.Decides.{nat_tests}
 use Rattle.std.specs.Prelude.{◌==◌, ◌||◌, None, ◌⊎◌, ◌<◌, ◌≤◌}
 use Rattle.std.specs.Option.{IsSomeRelated}
 use Rattle.bpaf_base.specs.declared.arg.Arg.{Arg}
-use Rattle.bpaf_text.specs.Named.{argument_part, KeyWithValue}
+use Rattle.bpaf_text.specs.Named.{KeyWithValue}
 use Rattle.bpaf_line.specs.Situation.{take_place, open_count, Situation, is_open}
 use Rattle.bpaf_line.specs.declared.error.Message.TheVariants.{ParseFailure, ParseFailed, Memory}
-use Rattle.bpaf_line.proofs.Places.{match_has_item, match_is_open, value_is_open, taken_other}
-use Rattle.bpaf_line.specs.Taking.{value_after, open_item, is_match}
 use Rattle.bpaf_line.specs.declared.error.Message.TheVariants.{NoArgument}
-use Rattle.bpaf_line.specs.{declared.error.Message.Message, declared.error.Error.Error}
+use Rattle.bpaf_line.proofs.Places.{match_has_item, match_is_open, value_is_open, taken_other}
 use Rattle.bpaf_line.proofs.Places.{taken_stays, taken_here}
+use Rattle.bpaf_line.specs.Taking.{value_after, open_item, is_match}
+use Rattle.bpaf_line.specs.{declared.error.Message.Message, declared.error.Error.Error}
 use Rattle.bpaf_laws.specs.Reading.{ReadsValue, FaultsText, Readings, IsPair, Share}
 use Rattle.bpaf_laws.specs.Leaves.{TakesKeyWithText, ArgumentOutcome, AreKeysWithText, TakesOwnText}
 use Rattle.bpaf_laws.specs.Leaves.{LacksOwnText, IsKeyBefore, TakesBefore, RefusesText, IsFirstBare}
@@ -24,8 +24,7 @@ use Rattle.bpaf_laws.specs.Leaves.{IsOwnText, LacksText, GetsText, HasNoKey, beh
 use Rattle.bpaf_laws.specs.Laws.{NamesAnswer, Lawful, Keeps, Reads, newly}
 use Rattle.bpaf_laws.proofs.Keeping.{closes_take_both, newly_take_both, AnswersLawfully, keeps_same}
 use Rattle.bpaf_laws.proofs.Keeping.{keeps_trans, keeps_take, reads_both, newly_none, lawful_by}
-use Rattle.bpaf_laws.proofs.Keeping.{same_took_none, names_absence, keeps_unset, reads_unset}
-use Rattle.bpaf_laws.proofs.Keeping.{reads_as}
+use Rattle.bpaf_laws.proofs.Keeping.{same_took_none, keeps_unset, reads_unset, reads_as}
 
 module _ {T : Type 0} (means : List ℕ → T → Type 0) (argument : KeyWithValue) (s t : Situation)
     (text : List ℕ) where
@@ -46,10 +45,6 @@ module _ (argument : KeyWithValue) (s : Situation) (text : List ℕ) (t : Situat
   key_open : is_open s takes.key ≡ true
   key_open = match_is_open test s takes.key takes.first.matches
 
-  -- so did the place behind it, also when the key is taken
-  value_open : is_open (take_place s takes.key) (takes.key + 1) ≡ true
-  value_open = grind (arith, taken_other, value_is_open)
-
   -- the key, behind which the text stands, and the place behind it are newly taken
   pub key_read : Reads (List ℕ) (λ context share own. IsKeyBefore argument context takes.key own
       × IsPair takes.key share) s text t
@@ -57,14 +52,14 @@ module _ (argument : KeyWithValue) (s : Situation) (text : List ℕ) (t : Situat
       let m = take_place s takes.key in
       rw takes.taken (record {
         keeps = keeps_trans s m (take_place m (takes.key + 1)) (keeps_take s takes.key key_open)
-            (keeps_take m (takes.key + 1) value_open);
+            (keeps_take m (takes.key + 1) (grind (arith, taken_other, value_is_open)));
         closed = closes_take_both s takes.key (takes.key + 1);
         reading = (
           record {
             is_key = match_has_item test s takes.key takes.first.matches;
             behind_it = (value_is_open s takes.key text takes.value).1;
           },
-          newly_take_both s takes.key key_open value_open,
+          newly_take_both s takes.key key_open (grind (arith, taken_other, value_is_open)),
         );
       })
 
@@ -110,10 +105,6 @@ texts_more argument s m t [] text same takes = grind arith
 texts_more argument s m t (x ∷ texts) text o takes =
     (o.0, o.1, texts_more argument o.0 m t texts text o.2 takes)
 
--- the place behind one place is the next one
-behind_one : (key p : ℕ) → behind (λ q. q == key) p ≡ (p == key + 1)
-behind_one key p = grind (arith, nat_tests)
-
 -- at one place: a pair and pairs of others are pairs of all of them
 pairs_joined : (key : ℕ) (keys : Share) (p : ℕ) (first rest : Bool)
     → first ≡ (p == key || p == key + 1) → rest ≡ (keys p || behind keys p)
@@ -128,9 +119,10 @@ module _ (argument : KeyWithValue) where
     keys = λ p. p == takes.key;
     are_keys = λ p key. (
       text,
-      subst (λ q. IsKeyBefore argument s.context q text) (sym (eqb-true p takes.key key)) own.0,
+      subst (λ q. IsKeyBefore argument s.context q text)
+          (sym (eqb-true p takes.key key)) own.0,
     );
-    places = λ p. own.1 p ∙ ap (λ next. p == takes.key || next) (sym (behind_one takes.key p));
+    places = λ p. own.1 p ∙ ap (λ next. p == takes.key || next) (sym (grind (arith, nat_tests)));
     greatest = takes.key;
     is_key = grind (arith, nat_tests);
     no_greater = λ p key. grind (arith, nat_tests);
@@ -219,10 +211,7 @@ module _ (T : Type 0) (means : List ℕ → T → Type 0) (argument : KeyWithVal
     ⊎_elim (before_keeps argument.last argument s t) (λ got. text_keeps s t got.0 got.1) fails,
     tt,
   )
-  argument_refused s t (ParseFailure f) fails = (
-    keeps_same s t fails.2,
-    names_absence s (argument_part argument) argument.named.envs (ParseFailure f) fails.1.1,
-  )
+  argument_refused s t (ParseFailure f) fails = (keeps_same s t fails.2, grind (arith, fails.1.1))
   argument_refused s t other fails = (keeps_same s t fails.2, tt)
 
   -- arguments keep to the laws
@@ -335,37 +324,12 @@ module _ {T : Type 0} (means : List ℕ → T → Type 0) (argument : KeyWithVal
   by_key : (text : List ℕ) → GetsText argument s text t → (A B : Type 0)
       → (TakesOwnText argument.last argument s text t → A) → (ReadsVariable argument s text t → B)
       → ((p : ℕ) → is_match (is_key_with_value argument) s p ≡ true → A) × (HasNoKey argument s → B)
-  by_key text gets A B of_key of_variable = (
-    (λ p here. ⊎_elim of_key
-        (λ variable. absurd (true≢false (sym here ∙ variable.no_key p))) gets),
-    (λ none. ⊎_elim (λ takes.
-        let that = counted argument s text t argument.last takes in
-        absurd (true≢false (sym that.matches ∙ none that.key)))
-        of_variable gets),
-  )
+  by_key text gets A B of_key of_variable = grind (arith, ⊎_elim, true≢false, counted)
 
   -- so it is with a text at fault
   fault_first : (text : List ℕ) (m : Message) → GetsText argument s text t
       → FaultsText means text t.current m → FailsKeyFirst means argument s m
-  fault_first text Memory gets fault = ((λ p here. tt), (λ none. tt))
-  fault_first text (ParseFailed place words) gets fault = by_key text gets _ _
-      (λ takes.
-      let that = counted argument s text t argument.last takes in
-      record {
-        key = that.key;
-        counts = that.counts;
-        text = text;
-        behind = that.behind;
-        nothing = fault.0;
-        is = fault.1 ∙ that.current;
-      })
-      (λ variable. (
-        text,
-        variable.set,
-        fault.0,
-        fault.1 ∙ ap (λ (after : Situation). after.current) variable.left,
-      ))
-  fault_first text other gets fault = absurd fault
+  fault_first text m gets fault = grind (arith, by_key, counted)
 
   -- with one that means a value
   pub key_first : (text : List ℕ) (r : Result T Error) → GetsText argument s text t

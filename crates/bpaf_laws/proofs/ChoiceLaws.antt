@@ -2,18 +2,18 @@
 use Rattle.std.proofs.Common.{true≢false, Result, Option, false, arith, Bool, true, Some, None, ◌≡◌}
 use Rattle.std.proofs.Common.{List, refl, ◌++◌, ◌&&◌, IsOk, Err, sym, inl, inr, ◌∷◌, not, ◌∙◌, ◌⊎◌}
 use Rattle.std.proofs.{Common.Ok, Common.[], Common.ap, Common.ℕ, lemmas.Bool.Decides.nat_tests}
-use Rattle.std.proofs.lemmas.Bool.{and_parts}
+use Rattle.std.proofs.lemmas.Bool.{and_parts, cases_cond}
 use Rattle.bpaf_doc.specs.Shape.{Shape}
 use Rattle.bpaf_line.specs.Taking.{ConflictsSaved, TakeTheSame, IsLeftmost, IsWinner}
-use Rattle.bpaf_line.specs.{Situation.Situation, Situation.is_taken, declared.error.Error.Error}
+use Rattle.bpaf_line.specs.{Situation.Situation, declared.error.Error.Error}
 use Rattle.bpaf_line.specs.Messages.{Combines}
-use Rattle.bpaf_laws.proofs.Keeping.{AnswersLawfully, reads_conflicts, names_combined, LawfulAnswer}
-use Rattle.bpaf_laws.proofs.Keeping.{same_took_none, lawful_answer, names_want, keeps_refl}
+use Rattle.bpaf_laws.proofs.Keeping.{AnswersLawfully, reads_conflicts, LawfulAnswer, same_took_none}
+use Rattle.bpaf_laws.proofs.Keeping.{lawful_answer, names_want, keeps_refl, keeps_same, lawful_by}
+use Rattle.bpaf_laws.proofs.Keeping.{reads_as, names_same}
 use Rattle.bpaf_laws.specs.Choice.{ChoiceDescribes, TookAndIsChosen, AnsweredBranch, ChoicesOutcome}
 use Rattle.bpaf_laws.specs.Choice.{ChoiceOutcome, ValueOfWinner, LeftmostOfAll, BranchesEval, depth}
 use Rattle.bpaf_laws.specs.Choice.{ChoicesReads, either_shape, LeftmostWins, EqualDepths, branch_of}
 use Rattle.bpaf_laws.specs.Choice.{ChoiceReads, no_choice, IsChosen, is_want, Winner, Chosen}
-use Rattle.bpaf_laws.proofs.Keeping.{keeps_same, lawful_by, reads_as}
 use Rattle.bpaf_laws.proofs.LeafLaws.{refusal_lawful}
 use Rattle.bpaf_laws.specs.Laws.{WithoutMemory, IsNotMemory, Lawful, Spares}
 use Rattle.bpaf_laws.specs.{Choice.Nested, Choice.IsWant, Choice.Stands, Combinators.is_untouched}
@@ -50,33 +50,16 @@ module _ {T : Type 0} (s : Situation) (Holds : Result T Error → Situation → 
       → Holds r t
   of_chosen a sa b sb r t x one other = grind (arith, of_winner)
 
--- where both paths are equally deep the table is that of equal depths
-pub chosen_at_equal : {T : Type 0} (s : Situation) (a : Result T Error) (sa : Situation)
-    (b : Result T Error) (sb : Situation) (r : Result T Error) (t : Situation)
-    → depth sa ≡ depth sb → Chosen s a sa b sb r t → EqualDepths s a sa b sb r t
-chosen_at_equal s a sa b sb r t same x = grind arith
-
 module _ {T : Type 0} {first second : Outcome T} {rf rs : Readings T} (lf : Lawful T first rf)
     (ls : Lawful T second rs) where
-  -- what the first branch may answer the choice may
-  of_first : AnswersLawfully first (ChoiceReads rf rs)
-  of_first s x t o = grind (arith, lawful_answer, reads_as)
-
-  -- so it is with the second
-  of_second : AnswersLawfully second (ChoiceReads rf rs)
-  of_second s x t o = grind (arith, lawful_answer, reads_as)
-
   -- so is the answer of branches that were evaluated
   evaluated : AnswersLawfully (BranchesEval first second) (ChoiceReads rf rs)
-  evaluated s r t o =
-      of_chosen s (LawfulAnswer T (ChoiceReads rf rs) s)
-      (λ v m loser place t saved read.
-      reads_conflicts (ChoiceReads rf rs) s m loser place v t saved read)
-      (λ e m refused. (keeps_refl s, refused.1))
+  evaluated s r t o = of_chosen s (LawfulAnswer T (ChoiceReads rf rs) s)
+      (λ v m loser place t saved read. reads_conflicts (ChoiceReads rf rs) s m loser place v t saved
+      read) (λ e m refused. (keeps_refl s, refused.1))
       (λ e f g m n combined one other.
-      (keeps_refl s, names_combined e.0 f.0 g.0 one.1 other.1 combined))
-      o.a o.sa o.b o.sb r t o.chosen (of_first s o.a o.sa o.first_ran)
-      (of_second s o.b o.sb o.second_ran)
+      (keeps_refl s, grind (arith, names_same, cases_cond, one.1, other.1))) o.a o.sa o.b o.sb r t
+      o.chosen (grind (arith, lawful_answer, reads_as)) (grind (arith, lawful_answer, reads_as))
 
   -- choices keep to the laws
   pub choice_lawful : Lawful T (ChoiceOutcome first second) (ChoiceReads rf rs)
@@ -145,13 +128,7 @@ choice_spared first second s t r ran spared = grind (arith, choice_within)
 
 -- of two situations the leftmost place of the one is that of the other
 pub leftmost_of_other : (s other : Situation) (p : ℕ) → IsLeftmost s other p → IsLeftmost other s p
-leftmost_of_other s other p h = record {
-  differs = turned (is_taken s p) (is_taken other p) h.differs;
-  first = λ q below. sym (h.first q below);
-}
-  where
-    turned : (a b : Bool) → a ≡ not b → b ≡ not a
-    turned a b e = grind arith
+leftmost_of_other s other p h = grind (arith, Bool, not)
 
 -- where the second branch doesn't win against the first, the first one does
 pub first_wins : {T : Type 0} (first second : AnsweredBranch T) (place : ℕ) (t : Situation)
@@ -227,10 +204,7 @@ module _ {T : Type 0} (v : T) (t : Situation) where
   -- a branch that stands is chosen
   pub stands : (branch : AnsweredBranch T) → Stands branch (Ok v) t
       → IsChosen (Ok branch.value) branch.left v t
-  stands branch answer = record {
-    answer = sym answer.0;
-    takes = λ p. ap (λ after. is_taken after p) answer.1;
-  }
+  stands branch answer = grind arith
 
   -- so it is with a winner
   winner_chosen : (first second : AnsweredBranch T) (winner : Bool × Option ℕ)
@@ -293,7 +267,7 @@ module _ {T : Type 0} {first second : Outcome T} {first_reads second_reads : Rea
   leftmost_is_chosen s t (Ok v) ran =
       let chosen = λ (one : IsOk ran.a) (other : IsOk ran.b) (depths : depth ran.sa ≡ depth ran.sb).
       equal_chosen s v t ran.a ran.sa ran.b ran.sb ran.first_ran ran.second_ran
-      (chosen_at_equal s ran.a ran.sa ran.b ran.sb (Ok v) t depths ran.chosen) one other in
+      (grind (arith, ran.chosen)) one other in
       record {
         ran = ran;
         leftmost = λ one other depths. (chosen one other depths).0;

@@ -11,20 +11,19 @@ use Rattle.bpaf_doc.specs.{declared.item.Item.TheOpen.Meta-F, declared.meta.Meta
 use Rattle.bpaf_doc.specs.declared.meta.Meta.{Meta}
 use Rattle.bpaf_line.specs.declared.error.Message.TheVariants.{PureFailed, Memory}
 use Rattle.bpaf_line.specs.{Situation.open_count, Situation.Situation, declared.error.Error.Error}
-use Rattle.bpaf_line.specs.declared.error.Message.{Message}
 use Rattle.bpaf_laws.specs.Combinators.{CollectIsBounded, FallbackOutcome, CollectOutcome, MapReads}
-use Rattle.bpaf_laws.specs.Combinators.{GivesAnswer, TurnOutcome, HideOutcome, ListOutcome, hidden}
+use Rattle.bpaf_laws.specs.Combinators.{GivesAnswer, TurnOutcome, HideOutcome, ListOutcome}
 use Rattle.bpaf_laws.specs.Combinators.{ManyOutcome, SomeOutcome, LastOutcome, NamesGiven, is_nil}
 use Rattle.bpaf_laws.specs.Combinators.{IsBounded, PureReads, UntilRest, EachReads, EndsIn, Gives}
 use Rattle.bpaf_laws.specs.Combinators.{OptionalReads, ParseOutcome, GuardOutcome, CountOutcome}
-use Rattle.bpaf_laws.specs.Combinators.{MapOutcome, UntilFault, ListReads, EachTakes, LaterTake}
+use Rattle.bpaf_laws.specs.Combinators.{MapOutcome, UntilFault, ListReads, EachTakes, Turns, stops}
+use Rattle.bpaf_laws.specs.Combinators.{rests}
 use Rattle.bpaf_laws.proofs.Keeping.{open_count-falls, AnswersLawfully, same_took_none, names_fault}
 use Rattle.bpaf_laws.proofs.Keeping.{lawful_answer, keeps_trans, keeps_same, newly_none, reads_same}
 use Rattle.bpaf_laws.proofs.Keeping.{names_want, names_same, keeps_refl, reads_both, fewer_took}
-use Rattle.bpaf_laws.specs.Combinators.{Turns, stops, rests}
+use Rattle.bpaf_laws.proofs.Keeping.{lawful_by, reads_as}
 use Rattle.bpaf_laws.specs.Laws.{NamesAnswer, Lawful, Keeps, Reads}
 use Rattle.bpaf_laws.specs.{Reading.Readings, Reading.HasPlace, Reading.Outcome, Choice.ChoiceReads}
-use Rattle.bpaf_laws.proofs.Keeping.{lawful_by, reads_as}
 use Rattle.bpaf_doc.specs.declared.meta.Meta as meta
 
 -- a refusal by a closure is the answer of no run inside
@@ -75,12 +74,7 @@ module _ {T : Type 0} {inner : Outcome T} {reads : Readings T} (law : Lawful T i
       → ((s t : Situation) (e : Error) → outcome s (Err e) t
       → inner s (Err e) t ⊎ ((x : T) × inner s (Ok x) t × NamesAnswer e.0))
       → Lawful R outcome (MapReads T R reads makes)
-  made_lawful makes values refusals = record {
-    ok = λ s t v o. let it = values s t v o in
-        reads_as (law.ok s t it.0 it.1) (λ read. record { from = it.0; read = read; made = it.2 });
-    err = λ s t e o. ⊎_elim (law.err s t e) (λ it. (law.ok s t it.0 it.1).keeps) (refusals s t e o);
-    named = λ s t e o. ⊎_elim (law.named s t e) (λ it. it.2) (refusals s t e o);
-  }
+  made_lawful makes values refusals = grind (arith, reads_as, ⊎_elim)
 
   -- so mapped parsers do
   pub map_lawful : {R : Type 0} (answers : T → R → Type 0)
@@ -99,18 +93,10 @@ module _ {T : Type 0} {inner : Outcome T} {reads : Readings T} (law : Lawful T i
       (MapReads T T reads (λ x v. (v ≡ x) × checks x true))
   guard_lawful checks message = grind (arith, made_lawful, names_same)
 
--- a refusal that names no missing item names its answer where it did
-names_hidden : (m : Message) → NamesAnswer m → NamesAnswer (hidden m)
-names_hidden m names = grind arith
-
 -- hidden parsers keep to the laws
 pub hide_lawful : {T : Type 0} {inner : Outcome T} {reads : Readings T} → Lawful T inner reads
     → Lawful T (HideOutcome inner) reads
-hide_lawful law = record {
-  ok = law.ok;
-  err = λ s t e o. law.err s t o.0 o.1;
-  named = λ s t e o. names_same e.0 _ (names_hidden o.0.0 (law.named s t o.0 o.1)) o.2;
-}
+hide_lawful law = grind (arith, names_same)
 
 -- the shape of a section
 section_shape : (inner : Box Meta Global) (title : List Piece)
@@ -242,18 +228,11 @@ module _ {T : Type 0} {inner : Outcome T} {reads : Readings T} (law : Lawful T i
   each_takes s [] t o = o
   each_takes s (v ∷ vs) t o = grind (arith, took_item, each_takes o.0 vs t o.2)
 
-  -- all but the first took an item
-  later_take : (s : Situation) (vs : List T) (t : Situation) → Turns inner catches true s vs t
-      → LaterTake inner s vs t
-  later_take s xs t o = grind (arith, each_takes)
-
   -- a repeat is bounded
   pub list_bounded : (s t : Situation) (values : List T) → ListOutcome inner catches s (Ok values) t
       → IsBounded inner s values
-  list_bounded s t values run = (
-    steps_bounded s values run.last run.steps,
-    (run.last, later_take s values run.last run.steps),
-  )
+  list_bounded s t values run =
+      (steps_bounded s values run.last run.steps, (run.last, grind (arith, each_takes, run.steps)))
 
   -- a turn that answers a value leaves fewer items present, or is the first
   pub step_falls : (first : Bool) (s : Situation) (v : T) (t : Situation)

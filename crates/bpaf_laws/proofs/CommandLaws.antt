@@ -36,19 +36,11 @@ module _ (called : Called) (s : Situation) (p : ℕ)
   pub keeps_inside : Keeps s (inside called s p)
   keeps_inside = keeps_path s (opened s p) called.name (keeps_opened (opening_words called) s p at)
 
-  -- a place that is left outside it is taken
-  closes_inside : Closes s (inside called s p)
-  closes_inside q within outside =
-      grind (arith, nat_tests, taken_stays s p q, open_has_item s q, at.first.first q)
-
   -- so the word is read
   pub word_read : Reads ℕ (λ line own q. HasItem (is_one_of (opening_words called)) line q
       × IsPlace q own) s p (inside called s p)
-  word_read = record {
-    keeps = keeps_inside;
-    closed = closes_inside;
-    reading = (at.named, newly_take s p (word_is_open (opening_words called) s p at));
-  }
+  word_read =
+      grind (arith, nat_tests, keeps_inside, taken_stays, open_has_item, newly_take, word_is_open)
 
   -- what is read inside a command is a reading of the command
   pub inside_read : {T : Type 0} {reads : Readings T} (v : T) (t : Situation)

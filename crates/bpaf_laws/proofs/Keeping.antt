@@ -4,26 +4,26 @@
 use Rattle.std.proofs.Common.{false, subst, true, ◌&&◌, ◌||◌, List, ◌++◌, refl, Bool, zero, ◌≡◌, []}
 use Rattle.std.proofs.Common.{append_assoc, append-nil, true≢false, Result, Option, length, arith}
 use Rattle.std.proofs.Common.{◌+◌, ◌∷◌, sym, ◌∙◌, suc, ◌<◌, ◌≤◌, map, ap, ℕ}
-use Rattle.std.proofs.{lemmas.Bool.Decides.nat_tests, lemmas.Bool.cases_cond}
+use Rattle.std.proofs.{lemmas.Bool.Decides.nat_tests}
 use Rattle.std.proofs.lemmas.List.{map-append}
 use Rattle.std.specs.Prelude.{◌==◌, None, Some, not, Err, Ok}
-use Rattle.bpaf_doc.specs.{Shape.shape_of, Shape.Shape, Shape.Part, declared.doc.Piece.Piece}
+use Rattle.bpaf_doc.specs.{Shape.shape_of, Shape.Shape, declared.doc.Piece.Piece}
 use Rattle.bpaf_doc.specs.declared.meta.Meta.{Meta}
 use Rattle.bpaf_text.specs.{declared.fault.TextFault.TextFault, Meaning.ReadsText, Named.Named}
 use Rattle.bpaf_line.specs.Situation.{with_current, count_below, take_place, with_scope, open_count}
 use Rattle.bpaf_line.specs.Situation.{Situation, with_path, is_taken, in_scope, Context, is_open}
 use Rattle.bpaf_line.specs.declared.error.Message.TheVariants.{ParseFailure, Memory}
 use Rattle.bpaf_line.proofs.Marks.{keeps_marks_current, keeps_marks_trans, keeps_marks_scope}
+use Rattle.bpaf_line.proofs.Marks.{keeps_marks_refl, keeps_marks_take, keeps_marks_path}
 use Rattle.bpaf_line.proofs.Places.{open_not_taken, open_in_line, taken_other, taken_stays}
-use Rattle.bpaf_line.specs.Messages.{is_answer, is_memory, Combines}
+use Rattle.bpaf_line.proofs.Places.{taken_here}
+use Rattle.bpaf_line.specs.Messages.{is_answer, is_memory}
 use Rattle.bpaf_line.specs.declared.failure.ParseFailure.{ParseFailure as Failure}
 use Rattle.bpaf_line.specs.{declared.error.Message.Message, declared.error.Error.Error}
 use Rattle.bpaf_line.specs.{Taking.ConflictsSaved, Rendering.Renders}
-use Rattle.bpaf_line.proofs.Marks.{keeps_marks_refl, keeps_marks_take, keeps_marks_path}
-use Rattle.bpaf_line.proofs.Places.{taken_here}
-use Rattle.bpaf_laws.specs.Reading.{IsEmptyShare, TellsReading, ReadsValue, IsAbsence, Readings}
-use Rattle.bpaf_laws.specs.Reading.{HasPlace, Outcome, IsPlace, IsPair, IsKept, Share, Joins}
-use Rattle.bpaf_laws.specs.Laws.{no_memory, Extends, Refusal, wanting, Closes, Lawful, Keeps, Reads}
+use Rattle.bpaf_laws.specs.Reading.{IsEmptyShare, TellsReading, ReadsValue, Readings, HasPlace}
+use Rattle.bpaf_laws.specs.Reading.{Outcome, IsPlace, IsPair, IsKept, Share, Joins}
+use Rattle.bpaf_laws.specs.Laws.{no_memory, Refusal, wanting, Closes, Lawful, Keeps, Reads}
 use Rattle.bpaf_laws.specs.Laws.{NamesAnswer, HasSomeName, taken_count, refusal_of, CountFalls}
 use Rattle.bpaf_laws.specs.Combinators.{FallbackOutcome, TellsFault, GivesClone}
 use Rattle.bpaf_laws.specs.Product.{AppendsShapes, LastDescribes, BothReads}
@@ -50,11 +50,7 @@ AnswersLawfully {T} outcome reads = (s : Situation) (r : Result T Error) (t : Si
 -- then they hold
 pub lawful_by : {T : Type 0} {outcome : Outcome T} {reads : Readings T}
     → AnswersLawfully outcome reads → Lawful T outcome reads
-lawful_by answers = record {
-  ok = λ s t v o. answers s (Ok v) t o;
-  err = λ s t e o. (answers s (Err e) t o).0;
-  named = λ s t e o. (answers s (Err e) t o).1;
-}
+lawful_by answers = grind arith
 
 -- and where they hold each answer is so
 pub lawful_answer : {T : Type 0} {outcome : Outcome T} {reads : Readings T}
@@ -65,22 +61,14 @@ lawful_answer law s x t o = grind arith
 pub reads_as : {A B : Type 0} {reads : Readings A} {others : Readings B} {s : Situation} {v : A}
     {w : B} {t : Situation} → Reads A reads s v t
     → (reads s.context (newly s t) v → others s.context (newly s t) w) → Reads B others s w t
-reads_as read also = record {
-  keeps = read.keeps;
-  closed = read.closed;
-  reading = also read.reading;
-}
+reads_as read also = grind arith
 
 -- a parser keeps to the laws with what it reads said in another way
 pub lawful_as : {T : Type 0} {outcome : Outcome T} {reads others : Readings T}
     → Lawful T outcome reads
     → ((context : Context) (share : Share) (v : T) → reads context share v → others context share v)
     → Lawful T outcome others
-lawful_as law also = record {
-  ok = λ s t v o. reads_as (law.ok s t v o) (also s.context (newly s t) v);
-  err = law.err;
-  named = law.named;
-}
+lawful_as law also = grind (arith, reads_as)
 
 -- nothing is newly taken since the same situation
 pub newly_none : (s : Situation) → IsEmptyShare (newly s s)
@@ -88,22 +76,11 @@ newly_none s p = grind arith
 
 -- nothing changes
 pub keeps_refl : (s : Situation) → Keeps s s
-keeps_refl s = record {
-  context = refl;
-  stays = λ p taken. taken;
-  fresh = λ p new. absurd (true≢false (sym new ∙ newly_none s p));
-  narrows = λ p within. within;
-  path = record { more = []; is = sym (append-nil s.path) };
-  marks = keeps_marks_refl s;
-}
+keeps_refl s = grind (arith, true≢false, newly_none, append-nil, keeps_marks_refl)
 
 -- no place is left outside
 pub closes_refl : (s : Situation) → Closes s s
 closes_refl s p within outside = absurd (true≢false (sym within ∙ outside))
-
--- taking places moves no scope
-pub closes_take : (s : Situation) (p : ℕ) → Closes s (take_place s p)
-closes_take s p q within outside = absurd (true≢false (sym within ∙ outside))
 
 -- nor does taking two places, one after the other
 pub closes_take_both : (s : Situation) (p q : ℕ) → Closes s (take_place (take_place s p) q)
@@ -111,25 +88,7 @@ closes_take_both s p q r within outside = absurd (true≢false (sym within ∙ o
 
 -- one evaluation after another
 pub keeps_trans : (s m t : Situation) → Keeps s m → Keeps m t → Keeps s t
-keeps_trans s m t a b = record {
-  context = b.context ∙ a.context;
-  stays = λ p taken. b.stays p (a.stays p taken);
-  fresh = λ p new. grind (arith, a.fresh p, b.fresh p, a.narrows p);
-  narrows = λ p within. a.narrows p (b.narrows p within);
-  path =
-      record {
-        more = a.path.more ++ b.path.more;
-        is =
-            b.path.is
-            ∙ (ap (λ path. path ++ b.path.more) a.path.is
-            ∙ append_assoc s.path a.path.more b.path.more);
-      };
-  marks = keeps_marks_trans s m t a.marks b.marks;
-}
-
--- a place left outside by either is taken after both
-pub closes_trans : (s m t : Situation) → Keeps m t → Closes s m → Closes m t → Closes s t
-closes_trans s m t k a b p inside outside = grind (arith, k.stays, a, b)
+keeps_trans s m t a b = grind (arith, append_assoc, keeps_marks_trans)
 
 -- what two evaluations take, one after the other, is what both take together
 pub newly_joins : (s m t : Situation) → Keeps s m → Keeps m t
@@ -140,17 +99,7 @@ newly_joins s m t a b = grind arith
 pub reads_both : {A B : Type 0} {first : Readings A} {rest : Readings B} {s m t : Situation} {x : A}
     {y : B} → Reads A first s x m → Reads B rest m y t
     → Reads (A × B) (BothReads A B first rest) s (x, y) t
-reads_both {rest = rest} {s = s} {m = m} {t = t} {y = y} one other = record {
-  keeps = keeps_trans s m t one.keeps other.keeps;
-  closed = closes_trans s m t other.keeps one.closed other.closed;
-  reading = record {
-    first_share = newly s m;
-    rest_share = newly m t;
-    joins = newly_joins s m t one.keeps other.keeps;
-    first_read = one.reading;
-    rest_read = subst (λ context. rest context (newly m t) y) one.keeps.context other.reading;
-  };
-}
+reads_both one other = grind (arith, keeps_trans, newly_joins)
 
 -- what the current place is doesn't matter
 pub keeps_current : (s t : Situation) (place : Option ℕ) → Keeps s t
@@ -165,14 +114,7 @@ keeps_scope s t start end k narrows = assumption (keeps_marks_scope s t start en
 
 -- so does a name at the end of the path
 pub keeps_path : (s t : Situation) (entry : List ℕ) → Keeps s t → Keeps s (with_path t entry)
-keeps_path s t entry k =
-    let marks = keeps_marks_trans s t (with_path t entry) k.marks (keeps_marks_path t entry) in
-    let path : Extends s.path (with_path t entry).path = record {
-      more = k.path.more ++ entry ∷ [];
-      is = ap (λ path. path ++ entry ∷ []) k.path.is
-          ∙ append_assoc s.path k.path.more (entry ∷ []);
-    } in
-    assumption
+keeps_path s t entry k = grind (arith, keeps_marks_trans, keeps_marks_path, append_assoc)
 
 -- where no place is current any more, all is kept
 pub keeps_unset : (s t : Situation) → t ≡ with_current s None → Keeps s t
@@ -202,14 +144,8 @@ newly_take s p there q = grind (arith, nat_tests, open_not_taken, taken_after)
 
 -- and all else is kept
 pub keeps_take : (s : Situation) (p : ℕ) → is_open s p ≡ true → Keeps s (take_place s p)
-keeps_take s p there = record {
-  context = refl;
-  stays = λ q taken. taken_stays s p q taken;
-  fresh = λ q new. grind (arith, nat_tests, taken_after s p q);
-  narrows = λ q within. within;
-  path = record { more = []; is = sym (append-nil s.path) };
-  marks = keeps_marks_take s p;
-}
+keeps_take s p there =
+    grind (arith, nat_tests, taken_stays, taken_after, append-nil, keeps_marks_take)
 
 -- a place is taken, and then the next one: both are newly taken, and no other
 pub newly_take_both : (s : Situation) (p : ℕ) → is_open s p ≡ true → is_open (take_place s p)
@@ -266,16 +202,6 @@ pub names_fault : {E : Type 0} (shown : E → Option (List ℕ)) (fault : E)
     → TellsFault shown fault refusal m → NamesAnswer m
 names_fault shown fault refusal m names tells = grind (arith, names_same)
 
--- the refusal of a key that is nowhere
-pub names_absence : (s : Situation) (part : Option Part) (envs : List (List ℕ)) (m : Message)
-    → IsAbsence s part envs m → NamesAnswer m
-names_absence s part envs m absent = grind arith
-
--- two refusals combined
-pub names_combined : (first second both : Message) → NamesAnswer first → NamesAnswer second
-    → Combines first second both → NamesAnswer both
-names_combined first second both one other o = grind (arith, names_same, cases_cond)
-
 -- each message but the answer of an inner run has a name
 pub name_of : (m : Message) → is_answer m ≡ false → (name : Refusal) × (refusal_of m ≡ Some name)
 name_of (ParseFailure inner) other = absurd (true≢false other)
@@ -306,10 +232,7 @@ count_below-joined whole f g (suc n) all apart =
 
 -- what is present at first is present still, or newly taken
 pub open_joins : (s t : Situation) → Keeps s t → Closes s t → Joins (is_open t) (newly s t) (is_open s)
-open_joins s t k c = record {
-  all = λ p. grind (arith, k.stays p, k.fresh p, k.narrows p, c p);
-  apart = λ p. grind arith;
-}
+open_joins s t k c = grind arith
 
 -- the count of present places falls by the number of newly taken ones
 pub open_count-falls : (s t : Situation) → Keeps s t → Closes s t

@@ -1,30 +1,29 @@
 -- Flags, items that a look matches, the program's name and leaves without items keep to the laws.
 use Rattle.std.proofs.Common.{if◌then◌else◌, option_map, Option, String, ⊎_elim, false, subst, Bool}
 use Rattle.std.proofs.Common.{arith, true, List, refl, Some, ◌≡◌, sym, inl, inr, ◌+◌, ◌∷◌, ◌⊎◌, []}
+use Rattle.std.proofs.Common.{true≢false, ◌∙◌}
 use Rattle.std.proofs.lemmas.List.Elements.{Contains-append_right, All-contains, All-cons, All-take}
 use Rattle.std.proofs.{lemmas.List.Elements.All-nil, Common.ℕ}
 use Rattle.std.specs.Prelude.{Contains, Err, All, Ok}
 use Rattle.std.specs.{List.cons_option, List.filter_map, declared.alloc.Global.Global}
 use Rattle.bpaf_base.specs.{Items.is_attached, Items.is_key_of, declared.arg.Arg.Arg}
 use Rattle.bpaf_doc.specs.{Names.Names, Shape.Part}
-use Rattle.bpaf_text.specs.Named.{flag_part, Named}
+use Rattle.bpaf_text.specs.Named.{Named}
 use Rattle.bpaf_line.specs.Situation.{take_place, Situation, is_open, item_at}
-use Rattle.bpaf_line.specs.declared.error.Message.TheVariants.{ParseFailure, ParseFail, Missing}
+use Rattle.bpaf_line.specs.declared.error.Message.TheVariants.{ParseFailure, ParseFail, Memory}
 use Rattle.bpaf_line.specs.Taking.{placed_item, TakesFlag, open_item}
-use Rattle.bpaf_line.specs.declared.error.Message.TheVariants.{Memory}
 use Rattle.bpaf_line.specs.declared.error.Message.{Message}
 use Rattle.bpaf_line.proofs.Places.{open_item_there, match_has_item, match_is_open}
 use Rattle.bpaf_laws.specs.Leaves.{AppnameOutcome, AppnameReads, FlagOutcome, AnyOutcome, FlagReads}
 use Rattle.bpaf_laws.specs.Leaves.{FirstMatch, FlagFails, IsPresent, looked_at, take_item, AnyReads}
+use Rattle.bpaf_laws.specs.Leaves.{AnyFails, nowhere, at_key, Looks}
 use Rattle.bpaf_laws.specs.Combinators.{PureWithOutcome, GivesRefusal, PureOutcome, NamesGiven}
+use Rattle.bpaf_laws.specs.Combinators.{PureReads, Gives}
 use Rattle.bpaf_laws.proofs.Keeping.{closes_take_both, AnswersLawfully, newly_take_both, keeps_same}
 use Rattle.bpaf_laws.proofs.Keeping.{reads_unset, keeps_take, reads_same, newly_none, newly_take}
-use Rattle.bpaf_laws.proofs.Keeping.{names_absence, closes_take, keeps_trans, keeps_unset}
+use Rattle.bpaf_laws.proofs.Keeping.{keeps_trans, keeps_unset, names_same, lawful_by}
 use Rattle.bpaf_laws.specs.Reading.{Readings, IsPlace, IsPair, Share}
-use Rattle.bpaf_laws.specs.Leaves.{AnyFails, nowhere, at_key, Looks}
 use Rattle.bpaf_laws.specs.Laws.{NamesAnswer, Lawful, Keeps, Reads}
-use Rattle.bpaf_laws.specs.Combinators.{PureReads, Gives}
-use Rattle.bpaf_laws.proofs.Keeping.{names_same, lawful_by}
 
 -- what looking for a flag keeps
 pub flag_keeps : (names : Names) (s : Situation) (found : Bool) (t : Situation)
@@ -48,9 +47,8 @@ module _ (T : Type 0) (clones : T → T → Type 0) (named : Named) (present : T
       takes.1.matches in
       rw takes.2 (record {
         keeps = keeps_take s takes.0 there;
-        closed = closes_take s takes.0;
-        reading =
-            at_key takes.0 (match_has_item (is_key_of named.names) s takes.0 takes.1.matches)
+        closed = λ q within outside. absurd (true≢false (sym within ∙ outside));
+        reading = at_key takes.0 (match_has_item (is_key_of named.names) s takes.0 takes.1.matches)
             (newly_take s takes.0 there) value;
       })
 
@@ -64,10 +62,8 @@ module _ (T : Type 0) (clones : T → T → Type 0) (named : Named) (present : T
   flag_refused : (s t : Situation) (m : Message) → FlagFails named absent s m t
       → Keeps s t × NamesAnswer m
   flag_refused s t Memory fails = (present_keeps s t fails.0 fails.1, tt)
-  flag_refused s t (ParseFailure f) fails = (
-    flag_keeps named.names s false t fails.0.0,
-    names_absence s (flag_part named) named.envs (ParseFailure f) fails.2,
-  )
+  flag_refused s t (ParseFailure f) fails =
+      (flag_keeps named.names s false t fails.0.0, grind (arith, fails.2))
   flag_refused s t other fails = (flag_keeps named.names s false t fails.0.0, tt)
 
   -- flags keep to the laws
@@ -123,19 +119,13 @@ module _ {T : Type 0} (looks : Looks T) (anywhere : Bool) (s : Situation) (place
   -- places that are taken are read
   is_read : {share : Share} → IsPlace place share ⊎ ((is_attached item ≡ true) × IsPair place share)
       → AnyReads T looks s.context share v
-  is_read places = record {
-    place = place;
-    item = item;
-    there = match_placed.1;
-    matched = found.matched;
-    places = places;
-  }
+  is_read places = grind (arith, match_placed)
 
   -- so is the place alone
   alone : Reads T (AnyReads T looks) s v m
   alone = record {
     keeps = keeps_take s place match_placed.0;
-    closed = closes_take s place;
+    closed = λ q within outside. absurd (true≢false (sym within ∙ outside));
     reading = is_read (inl (newly_take s place match_placed.0));
   }
 
@@ -159,9 +149,7 @@ module _ (T : Type 0) (looks : Looks T) (part : Part) (anywhere : Bool) where
   -- what a refusal keeps, and that it isn't the answer of a run inside
   any_refused : (s t : Situation) (m : Message) → AnyFails looks part anywhere s m t
       → Keeps s t × NamesAnswer m
-  any_refused s t (Missing items) fails = (keeps_same s t fails.0.1, tt)
-  any_refused s t Memory fails = (keeps_same s t fails, tt)
-  any_refused s t other fails = absurd fails
+  any_refused s t m fails = grind (arith, keeps_same)
 
   -- the parser of any item keeps to the laws
   pub any_lawful : Lawful T (AnyOutcome looks part anywhere) (AnyReads T looks)
@@ -173,30 +161,17 @@ module _ (T : Type 0) (looks : Looks T) (part : Part) (anywhere : Bool) where
 
 -- it keeps to the laws
 pub appname_lawful : Lawful (String Global) AppnameOutcome AppnameReads
-appname_lawful = record {
-  ok = λ s t v o. reads_same AppnameReads s t v o.2
-      (newly_none s, let is = o.0 in let begins = o.1 in grind arith);
-  err = λ s t e o. keeps_same s t o.1;
-  named = λ s t e o. names_same e.0 Memory tt o.0;
-}
+appname_lawful = grind (arith, reads_same, newly_none, keeps_same, names_same)
 
 -- leaves that look at no item keep to the laws
 pub pure_lawful : {T : Type 0} (gives : Gives T) → NamesGiven gives
     → Lawful T (PureOutcome gives) (PureReads (λ v. gives (Ok v)))
-pure_lawful gives names = record {
-  ok = λ s t v o. reads_unset (PureReads (λ w. gives (Ok w))) s t v o.1 (newly_none s, o.0);
-  err = λ s t e o. keeps_unset s t o.1;
-  named = λ s t e o. names e o.0;
-}
+pure_lawful gives names = grind (arith, reads_unset, newly_none, keeps_unset)
 
 -- so does one that answers what a closure does
 pub pure_with_lawful : {T : Type 0} (gives : Gives T) → NamesGiven gives
     → Lawful T (PureWithOutcome gives) (PureReads (λ v. gives (Ok v)))
-pure_with_lawful gives names = record {
-  ok = λ s t v o. reads_same (PureReads (λ w. gives (Ok w))) s t v o.1 (newly_none s, o.0);
-  err = λ s t e o. keeps_same s t o.1;
-  named = λ s t e o. names e o.0;
-}
+pure_with_lawful gives names = grind (arith, reads_same, newly_none, keeps_same)
 
 -- and one that refuses with a message
 pub refusal_lawful : {T : Type 0} (message : List ℕ)

@@ -1,13 +1,13 @@
 -- Products keep to the laws where their fields do, and catch no want of memory.
-use Rattle.std.proofs.Common.{subst, arith, inl, inr}
+use Rattle.std.proofs.Common.{arith, inl, inr}
 use Rattle.std.specs.Prelude.{if◌then◌else◌, Result, false, true, Err, Ok}
 use Rattle.bpaf_line.specs.{declared.error.Error.Error, Situation.Situation, Messages.is_memory}
 use Rattle.bpaf_laws.proofs.Keeping.{AnswersLawfully, lawful_answer, keeps_current, LawfulAnswer}
-use Rattle.bpaf_laws.specs.Product.{FailFastOutcome, ProductOutcome, BothOutcome, BothReads, joined}
 use Rattle.bpaf_laws.proofs.Keeping.{keeps_trans, reads_both, lawful_by}
+use Rattle.bpaf_laws.specs.Product.{FailFastOutcome, ProductOutcome, BothOutcome, BothReads, joined}
+use Rattle.bpaf_laws.specs.Product.{BothEval}
 use Rattle.bpaf_laws.specs.Laws.{WithoutMemory, IsNotMemory, Lawful, Spares}
 use Rattle.bpaf_laws.specs.{Reading.Readings, Reading.Outcome, Combinators.MapReads}
-use Rattle.bpaf_laws.specs.Product.{BothEval}
 
 module _ {A B : Type 0} {first : Outcome A} {rest : Outcome B} {rf : Readings A} {rr : Readings B}
     (la : Lawful A first rf) (lb : Lawful B rest rr) where
@@ -29,13 +29,9 @@ module _ {A B : Type 0} {first : Outcome A} {rest : Outcome B} {rf : Readings A}
   both_ran : AnswersLawfully (BothEval A B first rest) (BothReads A B rf rr)
   both_ran s r t o = rw o.answer (joined_answers s o.middle t o.a o.b o.first_ran o.rest_ran)
 
-  -- also where want of memory is the answer at once
-  both_answers : AnswersLawfully (BothOutcome first rest) (BothReads A B rf rr)
-  both_answers s x t o = grind (arith, both_ran, lawful_answer)
-
   -- fields that keep to the laws keep to them together
   pub both_lawful : Lawful (A × B) (BothOutcome first rest) (BothReads A B rf rr)
-  both_lawful = lawful_by both_answers
+  both_lawful = lawful_by (λ s x t o. grind (arith, both_ran, lawful_answer))
 
   -- an answer where a failing first field is the end
   fail_fast_answers : AnswersLawfully (FailFastOutcome first rest) (BothReads A B rf rr)
@@ -53,26 +49,12 @@ pub product_lawful : {V T : Type 0} {fields : Outcome V} {reads : Readings V}
     → Lawful T (ProductOutcome fields makes) (MapReads V T reads makes)
 product_lawful makes l = grind (arith, AnswersLawfully, keeps_current, lawful_by)
 
--- what isn't want of memory comes of others that isn't either
-rest_spared : {A B : Type 0} (a : Result A Error) (b : Result B Error) → IsNotMemory (joined a b)
-    → IsNotMemory b
-rest_spared a b spared = grind arith
-
 module _ {A B : Type 0} (first : Outcome A) (rest without : Outcome B)
     (rests : Spares rest without) where
   -- an evaluation of a field and those after it
   spared_both : (s t : Situation) (r : Result (A × B) Error) → BothEval A B first rest s r t
       → IsNotMemory r → BothEval A B (WithoutMemory first) without s r t
-  spared_both s t r ran spared = record {
-    a = ran.a;
-    middle = ran.middle;
-    b = ran.b;
-    first_ran = (ran.first_ran, ran.spared);
-    rest_ran = rests ran.middle t ran.b ran.rest_ran
-        (rest_spared ran.a ran.b (subst IsNotMemory ran.answer spared));
-    spared = ran.spared;
-    answer = ran.answer;
-  }
+  spared_both s t r ran spared = grind arith
 
   -- a field and those after it
   pub both_spares : Spares (BothOutcome first rest) (BothOutcome (WithoutMemory first) without)

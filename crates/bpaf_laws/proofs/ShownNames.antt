@@ -4,20 +4,19 @@ use Rattle.std.proofs.Common.{◌≡◌, ◌∷◌, ap₂, ◌∙◌, ap, ℕ}
 use Rattle.std.proofs.lemmas.List.Concat.{flat_map-append}
 use Rattle.std.specs.declared.alloc.AllocError.{AllocError}
 use Rattle.bpaf_doc.specs.Shape.{shorts_of_argument, shorts_of_flag, alternatives, parts_of_all, Or}
-use Rattle.bpaf_doc.specs.Shape.{shape_of, members, Shapes, ◌then◌, Shown, Shape, parts, Many, Part}
-use Rattle.bpaf_doc.specs.Shape.{CustomUsage, Subsection, shapes_of, Adjacent, Optional, Required}
+use Rattle.bpaf_doc.specs.Shape.{members, Shapes, ◌then◌, Shape, parts, Many, Part, CustomUsage}
+use Rattle.bpaf_doc.specs.Shape.{Subsection, shapes_of, Adjacent, Optional, Required}
 use Rattle.bpaf_doc.specs.{declared.meta.MetaInfo.MetaInfo, declared.doc.Piece.Piece, Shape.none}
 use Rattle.bpaf_words.specs.Line.{ShortNames}
 use Rattle.bpaf_text.specs.Named.{KeyWithValue, Named}
 use Rattle.bpaf_laws.specs.Choice.{ChoicesDescribes, ChoiceDescribes, either_shape, Nested}
-use Rattle.bpaf_laws.specs.Combinators.{OptionalDescribes, DefaultDescribes, SectionDescribes}
-use Rattle.bpaf_laws.specs.Combinators.{TitledDescribes, UsageDescribes, ManyDescribes}
+use Rattle.bpaf_laws.specs.Combinators.{DefaultDescribes, SectionDescribes, TitledDescribes}
+use Rattle.bpaf_laws.specs.Combinators.{UsageDescribes, ManyDescribes, SomeDescribes, usage_pieces}
 use Rattle.bpaf_laws.specs.Laws.{FieldsShowNames, joined_shorts, of_arguments, ShowsNames, of_flags}
+use Rattle.bpaf_laws.specs.Laws.{all_shorts, shorts_of}
 use Rattle.bpaf_laws.specs.Product.{ProductDescribes, BothDescribes, LastDescribes}
-use Rattle.bpaf_laws.specs.Combinators.{SomeDescribes, usage_pieces}
 use Rattle.bpaf_laws.specs.{Leaves.argument_shape, Leaves.flag_shape, Adjacent.GroupDescribes}
 use Rattle.bpaf_laws.specs.Command.{CommandDescribes, Called}
-use Rattle.bpaf_laws.specs.Laws.{all_shorts, shorts_of}
 
 -- a parser of one shape, of these names
 pub one_shape : {shape : Shape} {names : ShortNames} → shorts_of (parts shape) ≡ names
@@ -38,15 +37,7 @@ module _ {inner : Shape → Type 0} {names : ShortNames} (inside : ShowsNames in
   -- a wrapper whose parts are those inside it
   around : (wrap : Shape → Shape) → ((shape : Shape) → parts (wrap shape) ≡ parts shape)
       → ShowsNames (λ shape. (within : Shape) × inner within × (shape ≡ wrap within)) names
-  around wrap as_inside = record {
-    each = λ shape is.
-        ap (λ shape. shorts_of (parts shape)) is.2 ∙ (ap shorts_of (as_inside is.0)
-        ∙ inside.each is.0 is.1);
-  }
-
-  -- what may be left out
-  pub optional_shows : ShowsNames (OptionalDescribes inner) names
-  optional_shows = around (λ shape. Optional shape) (λ shape. refl)
+  around wrap as_inside = grind arith
 
   -- what may stand any number of times
   pub many_shows : ShowsNames (ManyDescribes inner) names
@@ -59,7 +50,7 @@ module _ {inner : Shape → Type 0} {names : ShortNames} (inside : ShowsNames in
   -- what has a default
   pub default_shows : (shown : Option (List Piece))
       → ShowsNames (DefaultDescribes inner shown) names
-  default_shows x = grind (arith, around, optional_shows)
+  default_shows x = grind (arith, around, around (λ shape. Optional shape) (λ shape. refl))
 
   -- what has a usage text of its own
   pub usage_shows : (usage : Option (List Piece)) → ShowsNames (UsageDescribes inner usage) names
@@ -72,10 +63,7 @@ module _ {inner : Shape → Type 0} {names : ShortNames} (inside : ShowsNames in
   -- what stands in a section of which a closure tells the title
   pub titled_shows : (answers : MetaInfo → Result (List Piece) AllocError → Type 0)
       → ShowsNames (TitledDescribes inner answers) names
-  titled_shows answers = record {
-    each = λ shape is. ap (λ shape. shorts_of (parts shape)) is.4
-        ∙ inside.each (shape_of is.0.0.now) is.2;
-  }
+  titled_shows answers = grind arith
 
   -- what stands together
   pub group_shows : ShowsNames (GroupDescribes inner) names
@@ -84,17 +72,11 @@ module _ {inner : Shape → Type 0} {names : ShortNames} (inside : ShowsNames in
   -- a command
   pub command_shows : (called : Called) (help : Option (List Piece))
       → ShowsNames (CommandDescribes called help inner) names
-  command_shows called help = record {
-    each = λ shape is. ap (λ shape. shorts_of (parts shape)) (is.2 ∙ ap (λ part. Shown part) is.1.2)
-        ∙ inside.each is.1.0 is.1.1;
-  }
+  command_shows called help = grind arith
 
   -- the last field
   pub last_shows : FieldsShowNames (LastDescribes inner) names
-  last_shows = record {
-    each = λ all is. ap (λ shapes. shorts_of (parts_of_all (members shapes))) is.2
-        ∙ (ap shorts_of (append-nil (parts is.0)) ∙ inside.each is.0 is.1);
-  }
+  last_shows = grind (arith, append-nil)
 
 -- the short names of two lists of parts
 of_joined : (first second : List Part)
@@ -106,18 +88,12 @@ of_joined first second =
 pub both_show : {first : Shape → Type 0} {rest : List Shape → Type 0} {own others : ShortNames}
     → ShowsNames first own → FieldsShowNames rest others
     → FieldsShowNames (BothDescribes first rest) (joined_shorts own others)
-both_show one more = record {
-  each = λ all is. ap (λ shapes. shorts_of (parts_of_all (members shapes))) is.4
-      ∙ (of_joined (parts is.0) (parts_of_all (members is.1))
-      ∙ ap₂ joined_shorts (one.each is.0 is.2) (more.each is.1 is.3));
-}
+both_show one more = grind (arith, of_joined, ap₂)
 
 -- a product
 pub product_shows : {fields : List Shape → Type 0} {names : ShortNames}
     → FieldsShowNames fields names → ShowsNames (ProductDescribes fields) names
-product_shows all = record {
-  each = λ shape is. ap (λ shape. shorts_of (parts shape)) is.2 ∙ all.each is.0 is.1;
-}
+product_shows all = grind arith
 
 -- the parts of two lists of members, one after the other
 parts_joined : (xs ys : List Shape)
@@ -145,12 +121,7 @@ either_parts a b =
 pub choice_shows : {first second : Shape → Type 0} {own others : ShortNames} → ShowsNames first own
     → ShowsNames second others
     → ShowsNames (ChoiceDescribes first second) (joined_shorts own others)
-choice_shows one other = record {
-  each = λ shape is. ap (λ shape. shorts_of (parts shape)) is.4
-      ∙ (ap shorts_of (either_parts is.0 is.1)
-      ∙ (of_joined (parts is.0) (parts is.1)
-      ∙ ap₂ joined_shorts (one.each is.0 is.2) (other.each is.1 is.3)));
-}
+choice_shows one other = grind (arith, either_parts, of_joined, ap₂)
 
 module _ {P : Type 0} (describes : P → Shape → Type 0) (names : P → ShortNames)
     (each : (p : P) → ShowsNames (describes p) (names p)) where

@@ -4,9 +4,9 @@ use Rattle.std.proofs.Common.{Err, None, inl, inr}
 use Rattle.std.proofs.lemmas.Bool.{both_ways}
 use Rattle.bpaf_line.specs.{declared.error.Message.Message, declared.error.Error.Error}
 use Rattle.bpaf_line.specs.{Messages.is_memory, Situation.Situation}
-use Rattle.bpaf_laws.specs.Combinators.{TurnOutcome, stops_step, is_nil, Turns, UntilStop}
-use Rattle.bpaf_laws.specs.Combinators.{UntilError, UntilRest, stops, rests, ManyOutcome}
-use Rattle.bpaf_laws.specs.Combinators.{SomeOutcome, CollectOutcome, CountOutcome, LastOutcome}
+use Rattle.bpaf_laws.specs.Combinators.{TurnOutcome, stops_step, Turns, UntilStop, UntilError}
+use Rattle.bpaf_laws.specs.Combinators.{UntilRest, stops, rests, ManyOutcome, SomeOutcome}
+use Rattle.bpaf_laws.specs.Combinators.{CollectOutcome, CountOutcome, LastOutcome}
 use Rattle.bpaf_laws.specs.{Laws.Spares, Laws.WithoutMemory, Laws.NoneTakesNothing, Reading.Outcome}
 
 -- what isn't want of memory comes of an inner answer that isn't want of memory either
@@ -41,22 +41,13 @@ module _ {T : Type 0} (inner : Outcome T) where
   -- so are those until one stops
   until_stop_spared : (catches first : Bool) (s : Situation) (vs : List T) (t : Situation)
       → UntilStop inner catches first s vs t → UntilStop (WithoutMemory inner) catches first s vs t
-  until_stop_spared catches first s vs t run = record {
-    last = run.last;
-    steps = steps_spared catches first s vs run.last run.steps;
-    stop = spared_step inner catches (is_nil vs) run.last t (Ok None) run.stop tt;
-  }
+  until_stop_spared catches first s vs t run = grind (arith, steps_spared, spared_step, Ok, None)
 
   -- and until one fails of another error
   until_error_spared : (catches first : Bool) (s : Situation) (e : Error) (t : Situation)
       → UntilError inner catches first s e t → is_memory e.0 ≡ false
       → UntilError (WithoutMemory inner) catches first s e t
-  until_error_spared catches first s e t run spared = record {
-    values = run.values;
-    last = run.last;
-    steps = steps_spared catches first s run.values run.last run.steps;
-    fails = spared_step inner catches (is_nil run.values) run.last t (Err e) run.fails spared;
-  }
+  until_error_spared catches first s e t run spared = grind (arith, steps_spared, spared_step, Err)
 
   -- many catches no want of memory
   pub spared_many : (catches : Bool)

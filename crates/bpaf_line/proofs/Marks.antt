@@ -2,15 +2,15 @@
 -- on from one mark.
 use Rattle.std.proofs.Common.{◌≡◌, ℕ, ◌+◌, ◌-◌, ◌<◌, ◌≤◌, List, ◌++◌, length, take, drop, refl, ap}
 use Rattle.std.proofs.Common.{sym, ◌∙◌, arith, length-drop, Option, [], ◌∷◌, length-append, ◌≢◌}
-use Rattle.std.proofs.Common.{◌==◌, Bool, true, false, not, ◌&&◌, Some, None, if◌then◌else◌}
-use Rattle.std.proofs.Common.{reverse, option_map, zero, suc, ◌*◌, ◌||◌, ⊎_elim, nat_lt}
-use Rattle.std.proofs.Common.{slice_index, add-one}
+use Rattle.std.proofs.Common.{Bool, true, false, not, ◌&&◌, Some, None, if◌then◌else◌, reverse}
+use Rattle.std.proofs.Common.{option_map, zero, suc, ◌*◌, ◌||◌, ⊎_elim, nat_lt, slice_index}
+use Rattle.std.proofs.Common.{add-one}
 use Rattle.std.proofs.lemmas.List.{length-take-le, take-append-le, take-append-drop, take-take}
 use Rattle.std.proofs.lemmas.List.{take_rest, drop-take, get_or-drop, reverse-append, take_more}
 use Rattle.std.proofs.lemmas.Bool.{cases_eq, or_right, ltb-true, ltb-false}
 use Rattle.bpaf_line.specs.Situation.{Situation, cut_to, take_place, with_conflicts, with_scope}
 use Rattle.bpaf_line.specs.Situation.{with_path, with_current, TakenInTurn, is_taken, last_of}
-use Rattle.bpaf_line.specs.Situation.{is_on, is_marker, with_trail, PresentInTurn}
+use Rattle.bpaf_line.specs.Situation.{is_on, with_trail, PresentInTurn}
 use Rattle.bpaf_line.specs.Marks.{HasReached, undone, steps_since, redone, CanRedo, KeepsMarks}
 use Rattle.bpaf_line.specs.Taking.{ConflictsSaved, IsWinner, leftmost_of}
 use Rattle.bpaf_index.specs.Bits.{has_bit, is_in_first, AreWithin, IsLeastIn}
@@ -18,7 +18,7 @@ use Rattle.std.proofs.{lemmas.List.take_all, lemmas.List.Folds.find-append}
 use Rattle.std.proofs.{lemmas.List.Folds.list_any-append}
 use Rattle.bpaf_line.specs.{Marks.Changes, Marks.Fits, Inside.IsSoundAt, declared.mark.Mark.Mark}
 use Rattle.bpaf_line.specs.declared.state.State.TheInside.{Inside}
-use Rattle.std.specs.{Option.option_or, List.find}
+use Rattle.std.specs.{Option.option_or}
 use Rattle.bpaf_index.proofs.BitSets.{on_others}
 use Rattle.bpaf_line.proofs.Places.{present_in_line}
 
@@ -36,11 +36,7 @@ rest_is k all xs ys is whole = is ∙ (take_rest xs k ∙ ap (drop k) whole)
 
 -- the steps since a mark, done again, leave everything as it was
 pub redone_undone : (mark : Mark) (s : Situation) → redone (steps_since mark s) (undone mark s) ≡ s
-redone_undone mark s = rw (
-  take-append-drop mark.taken s.trail,
-  take-append-drop mark.conflicts s.conflicts,
-  take-append-drop mark.depth s.path,
-) refl
+redone_undone mark s = grind (arith, take-append-drop)
 
 -- and can be done there, where each place was taken in turn
 pub can_redo : (mark : Mark) (s : Situation) → HasReached mark s → TakenInTurn s → s.start ≤ s.end
@@ -71,10 +67,7 @@ undone_cut mark s t n conflicts path cut at conflicts_cut path_cut = rw
 
 -- a step keeps the marks that those before it kept
 pub keeps_marks_trans : (s t u : Situation) → KeepsMarks s t → KeepsMarks t u → KeepsMarks s u
-keeps_marks_trans s t u first second = record {
-  fit = λ mark fits. second.fit mark (first.fit mark fits);
-  same = λ mark fits. second.same mark (first.fit mark fits) ∙ first.same mark fits;
-}
+keeps_marks_trans s t u first second = grind arith
 
 -- the places, conflicts and names of steps put behind those of a parse are the steps done again
 pub redone_parts : (s : Situation) (steps : Changes) (taken : List ℕ) (conflicts : List (ℕ × ℕ))
@@ -101,21 +94,12 @@ keeps_marks_refl s = record { fit = λ mark fits. fits; same = λ mark fits. ref
 
 -- a place that is taken keeps them
 pub keeps_marks_take : (s : Situation) (p : ℕ) → KeepsMarks s (take_place s p)
-keeps_marks_take s p = record {
-  fit = λ mark fits. assumption (longer mark.taken s.trail (p ∷ []) fits.reached.taken, fits);
-  same = λ mark fits. ap (λ trail. record (undone mark s) { trail = trail })
-      (take-append-le mark.taken s.trail (p ∷ []) fits.reached.taken);
-}
+keeps_marks_take s p = grind (arith, longer, take-append-le)
 
 -- more conflict notes keep them
 pub keeps_marks_conflicts : (s : Situation) (pairs : List (ℕ × ℕ))
     → KeepsMarks s (with_conflicts s pairs)
-keeps_marks_conflicts s pairs = record {
-  fit = λ mark fits.
-      assumption (longer mark.conflicts s.conflicts pairs fits.reached.conflicts, fits);
-  same = λ mark fits. ap (λ conflicts. record (undone mark s) { conflicts = conflicts })
-      (take-append-le mark.conflicts s.conflicts pairs fits.reached.conflicts);
-}
+keeps_marks_conflicts s pairs = grind (arith, longer, take-append-le)
 
 -- what the current place is doesn't matter
 pub keeps_marks_current : (s t : Situation) (place : Option ℕ) → KeepsMarks s t
@@ -131,11 +115,7 @@ keeps_marks_scope s t start end keeps =
 
 -- a name at the end of the path keeps them
 pub keeps_marks_path : (s : Situation) (entry : List ℕ) → KeepsMarks s (with_path s entry)
-keeps_marks_path s entry = record {
-  fit = λ mark fits. assumption (longer mark.depth s.path (entry ∷ []) fits.reached.depth, fits);
-  same = λ mark fits. ap (λ path. record (undone mark s) { path = path })
-      (take-append-le mark.depth s.path (entry ∷ []) fits.reached.depth);
-}
+keeps_marks_path s entry = grind (arith, longer, take-append-le)
 
 -- as far as a list was cut it reaches, where it did before
 cut_reaches : {X : Type 0} (n : ℕ) (xs : List X) → n ≤ length xs → n ≤ length (take n xs)
@@ -143,36 +123,18 @@ cut_reaches n xs within = omega (arith, length-take-le n xs within)
 
 -- a parse gone back to a mark can go back to it again
 pub fits_undone : (mark : Mark) (s : Situation) → Fits mark s → Fits mark (undone mark s)
-fits_undone mark s fits = assumption (
-  cut_reaches mark.taken s.trail fits.reached.taken,
-  cut_reaches mark.conflicts s.conflicts fits.reached.conflicts,
-  cut_reaches mark.depth s.path fits.reached.depth,
-)
+fits_undone mark s fits = grind (arith, cut_reaches)
 
 -- and is there already
 pub undone_twice : (mark : Mark) (s : Situation) → undone mark (undone mark s) ≡ undone mark s
-undone_twice mark s = rw (
-  take-take mark.taken mark.taken s.trail (omega arith),
-  take-take mark.conflicts mark.conflicts s.conflicts (omega arith),
-  take-take mark.depth mark.depth s.path (omega arith),
-) refl
+undone_twice mark s = grind (arith, take-take)
 
 -- Conflict notes: what they change, and what they leave.
 
 -- the last pair of a place in two lists is that of the second, where it has one there
 last_of-append : (xs ys : List (ℕ × ℕ)) (p : ℕ)
     → last_of (xs ++ ys) p ≡ option_or (last_of ys p) (last_of xs p)
-last_of-append xs ys p =
-    ap (λ pairs. option_map (λ pair. pair.1) (find (λ pair. pair.0 == p) pairs))
-    (reverse-append xs ys)
-    ∙ (ap (option_map (λ pair. pair.1))
-    (find-append (λ pair. pair.0 == p) (reverse ys) (reverse xs))
-    ∙ mapped (find (λ pair. pair.0 == p) (reverse ys)) (find (λ pair. pair.0 == p) (reverse xs)))
-  where
-    mapped : (a b : Option (ℕ × ℕ))
-        → option_map (λ pair. pair.1) (option_or a b) ≡ option_or (option_map (λ pair. pair.1) a)
-        (option_map (λ pair. pair.1) b)
-    mapped a b = grind arith
+last_of-append xs ys p = grind (arith, option_map, reverse-append, find-append, reverse, Option, ℕ)
 
 -- what the pairs of excluded places say of one: the winner, where present here and taken there
 abbrev pub excluded_at : Situation → Situation → ℕ → ℕ → Option ℕ
@@ -206,14 +168,7 @@ conflicts_saved s loser winner pairs excluded = record {
 -- what is taken with more places on the trail
 taken_with : (s : Situation) (more : List ℕ) (q : ℕ)
     → is_taken (with_trail s (s.trail ++ more)) q ≡ (is_taken s q || is_on more q)
-taken_with s more q =
-    ap (λ b. not (nat_lt q (length s.context.line)) || (is_marker s.context.marker q || b))
-    (list_any-append (λ x. x == q) s.trail more)
-    ∙ moved (not (nat_lt q (length s.context.line))) (is_marker s.context.marker q)
-    (is_on s.trail q) (is_on more q)
-  where
-    moved : (x y a b : Bool) → (x || (y || (a || b))) ≡ ((x || (y || a)) || b)
-    moved x y a b = grind arith
+taken_with s more q = grind (arith, not, nat_lt, length, list_any-append, Bool)
 
 -- places that are present in turn are present at first
 present_at_first : (s : Situation) (places : List ℕ) → PresentInTurn s places → (n : ℕ)
@@ -273,22 +228,13 @@ module _ (s : Situation) (mark : Mark) (steps : Changes) where
   pub excluded_there : (winner p : ℕ)
       → (if not (is_taken s p) && is_on steps.taken p then Some winner else None)
       ≡ excluded_at s other winner p
-  excluded_there winner p =
-      ap (λ b. if b then Some winner else None)
-      (either_way (is_taken s p) (is_taken (undone mark s) p) (is_on own p) (is_on steps.taken p)
-      (is_taken other p) (taken_own p) (taken_there p))
-    where
-      either_way : (x base mine theirs y : Bool) → x ≡ (base || mine) → y ≡ (base || theirs)
-          → (not x && theirs) ≡ (not x && y)
-      either_way x base mine theirs y e f = grind arith
+  excluded_there winner p = grind (arith, Some, None, taken_own, taken_there, Bool, not)
 
   module _ (turns : PresentInTurn (undone mark s) own) (redo : CanRedo steps (undone mark s)) where
     -- where both took the same it is taken in both or in none
     same_both : (q : ℕ) → is_in_first own steps.taken q ≡ false
         → is_in_first steps.taken own q ≡ false → is_taken s q ≡ is_taken other q
-    same_both q mine theirs =
-        taken_own q ∙ (same_in (is_taken (undone mark s) q) (is_on own q) (is_on steps.taken q)
-        mine theirs ∙ sym (taken_there q))
+    same_both q mine theirs = grind (arith, taken_own, same_in, taken_there)
 
     -- the first place that only this one took is the leftmost, where both took the same before it
     leftmost_here : (p : ℕ) → is_in_first own steps.taken p ≡ true

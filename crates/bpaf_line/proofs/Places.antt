@@ -51,16 +51,11 @@ put s p = with_trail s (s.trail ++ p ∷ [])
 
 -- a place that was put on the trail is taken
 pub put_here : (s : Situation) (p : ℕ) → is_taken (put s p) p ≡ true
-put_here s p =
-    or_right (not (nat_lt p (length s.context.line))) _
-    (or_right (is_marker s.context.marker p) _
-    (is_on_push s.trail p p ∙ or_right (is_on s.trail p) _ (eq-eqb p p refl)))
+put_here s p = grind (arith, or_right, not, nat_lt, length, is_on_push, eq-eqb)
 
 -- the other places are as they were
 pub put_other : (s : Situation) (p q : ℕ) → q ≢ p → is_taken (put s p) q ≡ is_taken s q
-put_other s p q other =
-    ap (λ b. not (nat_lt q (length s.context.line)) || (is_marker s.context.marker q || b))
-    (on_others s.trail p q other)
+put_other s p q other = grind (arith, not, nat_lt, length, on_others)
 
 -- a place that isn't taken lies in the line
 pub present_in_line : (s : Situation) (p : ℕ) → is_taken s p ≡ false → p < (length s.context.line)
@@ -150,19 +145,12 @@ put_stays s p q there = ⊎_elim (λ (at : q ≡ p). ap (is_taken (put s p)) at 
 -- without its last place the trail is that place's turn
 pub last_put : (s : Situation) → 0 < length s.trail
     → put (cut_to s (length s.trail - 1)) (slice_index s.trail (length s.trail - 1)) ≡ s
-last_put s some =
-    let n = length s.trail - 1 in
-    let next : n + 1 ≡ length s.trail = omega arith in
-    ap (with_trail s) (sym (take_more s.trail n 0 (omega arith))
-    ∙ (ap (λ k. take k s.trail) next ∙ take_all (length s.trail) s.trail (omega arith)))
+last_put s some = grind (arith, length, take_more, take, take_all)
 
 -- the places of a part of the trail were present in their turn too
 pub in_turn_cut : (s : Situation) (n : ℕ) → TakenInTurn s → n ≤ length s.trail
     → TakenInTurn (cut_to s n)
-in_turn_cut s n turns inside k within =
-    let below : k < n = omega (arith, length-take-le n s.trail inside) in
-    rw (take-take k n s.trail (omega arith), get_or-take n s.trail k 0 below)
-    (turns k (omega arith))
+in_turn_cut s n turns inside k within = grind (arith, length-take-le, take-take, get_or-take)
 
 -- without the place that was put, the first present one is it or the old one
 pub first_without : (s : Situation) (p first : ℕ) → IsFirstPresent (put s p) first
@@ -197,11 +185,7 @@ taken_stays s p q taken = put_stays s p q taken
 -- an open item is the item of its place, which is open
 pub open_item_there : (s : Situation) (p : ℕ) (item : Arg) → open_item s p ≡ Some item
     → (is_open s p ≡ true) × (item_at s p ≡ Some item)
-open_item_there s p item there = of_test (is_open s p) (item_at s p) there
-  where
-    of_test : (b : Bool) (at : Option Arg) → (if b then at else None) ≡ Some item
-        → (b ≡ true) × (at ≡ Some item)
-    of_test b at e = grind arith
+open_item_there s p item there = grind (arith, Bool, Option, None, Some, true)
 
 module _ (test : Arg → Bool) (s : Situation) (p : ℕ) (matches : is_match test s p ≡ true) where
   -- both hold where an item under a condition passes the test
@@ -233,26 +217,17 @@ open_has_item s p there =
 -- the place behind a key with a value is present and in scope, and has this text
 pub value_is_open : (s : Situation) (p : ℕ) (text : List ℕ) → value_after s p ≡ Some text
     → (is_open s (p + 1) ≡ true) × (option_and_then value_text (item_at s (p + 1)) ≡ Some text)
-value_is_open s p text value = of_test (is_open s (p + 1)) (item_at s (p + 1)) value
-  where
-    of_test : (b : Bool) (at : Option Arg)
-        → option_and_then value_text (if b then at else None) ≡ Some text
-        → (b ≡ true) × (option_and_then value_text at ≡ Some text)
-    of_test b at e = grind arith
+value_is_open s p text value = grind (arith, Bool, Option, option_and_then, None, Some, true)
 
 -- a place that is open is the first of those from it on
 pub items_from : (s : Situation) (p : ℕ) (item : Arg) → p < length s.context.line
     → open_item s p ≡ Some item → open_items_from s p ≡ (p, item) ∷ open_items_from s (p + 1)
-items_from s p item within there =
-    let more : length s.context.line - p ≡ suc (length s.context.line - (p + 1)) = omega arith in
-    rw (more, there) refl
+items_from s p item within there = grind (arith, length, suc)
 
 -- a place that isn't open is none of them
 pub items_past : (s : Situation) (p : ℕ) → p < length s.context.line → open_item s p ≡ None
     → open_items_from s p ≡ open_items_from s (p + 1)
-items_past s p within lacking =
-    let more : length s.context.line - p ≡ suc (length s.context.line - (p + 1)) = omega arith in
-    rw (more, lacking) refl
+items_past s p within lacking = grind (arith, length, suc)
 
 -- the line's end has none behind it
 none_past_line : (s : Situation) (p : ℕ) → length s.context.line ≤ p → open_items_from s p ≡ []
@@ -261,11 +236,8 @@ none_past_line s p past = let none : length s.context.line - p ≡ 0 = omega ari
 -- a place that isn't open is none of them, also past the line
 items_past_closed : (s : Situation) (p : ℕ) → is_open s p ≡ false
     → open_items_from s p ≡ open_items_from s (p + 1)
-items_past_closed s p closed = ⊎_elim
-    (λ (within : p < length s.context.line). items_past s p within
-    (ap (λ b. if b then item_at s p else None) closed))
-    (λ (past : length s.context.line ≤ p). none_past_line s p past
-    ∙ sym (none_past_line s (p + 1) (omega arith))) (cases_lt p (length s.context.line))
+items_past_closed s p closed =
+    grind (arith, ⊎_elim, length, items_past, None, none_past_line, cases_lt)
 
 -- nor are some places one after another that aren't
 items_past_all : (s : Situation) (n p : ℕ) → ((q : ℕ) → p ≤ q → q < p + n → is_open s q ≡ false)
@@ -321,10 +293,7 @@ taken_past s q past = grind (arith, nat_tests)
 -- no place is present, where all of the line are taken
 pub none_present : (s : Situation) (low high top : ℕ) → top ≡ min high (length s.context.line)
     → ((q : ℕ) → low ≤ q → q < top → is_taken s q ≡ true) → first_present s low high ≡ None
-none_present s low high top is taken =
-    none_found (λ q. not (is_taken s q)) (high - low) low
-    (λ q from within. ap not (⊎_elim (λ (below : q < top). taken q from below)
-    (λ (past : top ≤ q). taken_past s q (omega arith)) (cases_lt q top)))
+none_present s low high top is taken = grind (arith, none_found, not, ⊎_elim, taken_past, cases_lt)
 
 -- the first present place of the line
 pub some_present : (s : Situation) (low high top p : ℕ) → top ≡ min high (length s.context.line)
@@ -346,10 +315,8 @@ module _ (test : Arg → Bool) (s : Situation) where
 
   -- no item in front of the first present place of the scope passes a test
   pub none_in_front : (p : ℕ) → IsFirstPresent s p → HasNoneBefore test s p
-  none_in_front p front q below = ⊎_elim
-      (λ (before : q < s.start).
-      none_closed q (and_left _ _ (and_left _ _ (lt-leb s.start q before))))
-      (λ (behind : s.start ≤ q). none_taken q (front.passed q behind below)) (cases_lt q s.start)
+  none_in_front p front q below =
+      grind (arith, ⊎_elim, none_closed, and_left, lt-leb, none_taken, cases_lt)
 
   -- nor one before a place, where none passes it before another, and all between are taken
   pub none_past_taken : (p r : ℕ) → HasNoneBefore test s p → AreTaken s p r → HasNoneBefore test s r
@@ -359,18 +326,12 @@ module _ (test : Arg → Bool) (s : Situation) where
   -- nor one before the next place, where none passes it up to here
   pub none_up_to : (p : ℕ) → HasNoneBefore test s p → is_match test s p ≡ false
       → HasNoneBefore test s (p + 1)
-  none_up_to p none here q below = ⊎_elim (λ (before : q < p). none q before)
-      (λ (behind : p ≤ q). let at : q ≡ p = omega arith in ap (is_match test s) at ∙ here)
-      (cases_lt q p)
+  none_up_to p none here q below = grind (arith, ⊎_elim, cases_lt)
 
 -- an open item is the one that the line has there
 item_of_line : (s : Situation) (p : ℕ) (item : Arg) → open_item s p ≡ Some item
     → slice_get s.context.line p ≡ Some item
-item_of_line s p item there = of_test (is_marker s.context.marker p) (slice_get s.context.line p)
-    (open_item_there s p item there).1
-  where
-    of_test : (b : Bool) (at : Option Arg) → (if b then None else at) ≡ Some item → at ≡ Some item
-    of_test b at e = grind arith
+item_of_line s p item there = grind (arith, slice_get, open_item_there, Bool, Option, None, Some)
 
 -- the class of an open item with the name of a key is that of the key
 class_named : (s : Situation) (chains : Chained) (key : Arg) (q : ℕ) (item : Arg)
@@ -385,10 +346,8 @@ class_named s chains key q item h inside there named =
 open_behind : (s : Situation) (chains : Chained) (class : Option ℕ) (start q : ℕ) (item : Arg)
     → AreChainsOf s chains → IsChainStartOf chains class start → q < length chains.classes
     → class ≡ Some (slice_index chains.classes q) → open_item s q ≡ Some item → start ≤ q
-open_behind s chains class start q item h begins inside at there = ⊎_elim
-    (λ (early : q < start). absurd (true≢false (sym (early_set h begins inside at early)
-    ∙ open_not_taken s q (open_item_there s q item there).0)))
-    (λ (behind : start ≤ q). behind) (cases_lt q start)
+open_behind s chains class start q item h begins inside at there =
+    grind (arith, ⊎_elim, true≢false, early_set, open_not_taken, open_item_there, cases_lt)
 
 -- the first along the chain from that start on is the first with the name
 first_named : (test : Arg → Bool) (s : Situation) (chains : Chained) (key : Arg)
@@ -413,11 +372,7 @@ first_named test s chains key start end p h inside begins along = record {
 pub first_along : (test : Arg → Bool) (s : Situation) (classes : List ℕ) (low end p q : ℕ)
     → HasWalked classes (λ r. not (is_match test s r)) low p → q ≤ p → q ≤ end
     → (q < end → is_match test s q ≡ true) → IsFirstAlong test s classes low end q
-first_along test s classes low end p q walked before within matches = record {
-  within = within;
-  matches = matches;
-  none = λ k r of above below mine. not-true _ (walked.passed k r of above (omega arith) mine);
-}
+first_along test s classes low end p q walked before within matches = grind (arith, not-true)
 
 module _ (s : Situation) (chains : Chained) (start p : ℕ) (h : AreChainsOf s chains)
     (begins : IsChainStart chains (Word []) start)

@@ -21,7 +21,7 @@ use Rattle.bpaf_line.proofs.Places.{put, open_count-put, put_here, put_other, pu
 use Rattle.bpaf_line.proofs.Places.{in_turn_put, room_on_trail, last_put, in_turn_cut, open_in_line}
 use Rattle.bpaf_line.proofs.Places.{first_without, open_not_taken}
 use Rattle.bpaf_index.specs.Bits.{has_bit, is_clear_from, count_clear, ChangesBit, IsFirstClear}
-use Rattle.bpaf_index.specs.Chained.{Chained, head_of, AreBehind, ReachBack, IfChained}
+use Rattle.bpaf_index.specs.Chained.{Chained, AreBehind, ReachBack, IfChained, HasNoKeyFrom}
 use Rattle.std.proofs.{lemmas.Option.slice_get-get_or, lemmas.List.Folds.list_any-append}
 use Rattle.std.proofs.lemmas.Bool.Decides.{nat_tests}
 use Rattle.std.specs.{Int.from_bool, Vec.with_items, declared.alloc.Global.Global}
@@ -29,18 +29,10 @@ use Rattle.std.specs.Prelude.{string_bytes}
 use Rattle.bpaf_line.specs.{Taking.open_item, declared.aside.Aside.Aside}
 use Rattle.bpaf_line.specs.declared.state.State.TheInside.{Inside}
 use Rattle.bpaf_base.specs.declared.arg.Arg.{Arg}
-use Rattle.bpaf_index.specs.Chained.{HasNoKeyFrom}
 
 -- of a scope of no places all is known
 pub remembers_nothing : (s : Situation) → IsRemembered s no_aside
-remembers_nothing s = record {
-  taken = omega arith;
-  survey = record {
-    counted = sym (count_below-none (is_open (with_scope (cut_to s 0) 0 0))
-        (length s.context.line) (λ q _. and_left _ _ (and_right _ _ (le-ltb q 0 (omega arith)))));
-    first = grind arith;
-  };
-}
+remembers_nothing s = grind (arith, count_below-none, length, and_left, and_right, le-ltb)
 
 -- where the first taken places are the same
 remembers_front : (s t : Situation) (aside : Aside) → aside.taken ≤ length t.trail
@@ -50,9 +42,7 @@ remembers_front s t aside taken same h = record { taken = taken; survey = rw sam
 -- one place more may be taken
 pub remembers_put : (s : Situation) (p : ℕ) (aside : Aside) → IsRemembered s aside
     → IsRemembered (put s p) aside
-remembers_put s p aside h = remembers_front s (put s p) aside
-    (omega (arith, h.taken, length-append s.trail (p ∷ [])))
-    (ap (with_trail s) (take-append-le aside.taken s.trail (p ∷ []) h.taken)) h
+remembers_put s p aside h = grind (arith, remembers_front, put, length-append, take-append-le)
 
 -- and where fewer are, it is kept as long as no more were taken then
 pub remembers_cut : (s : Situation) (n : ℕ) (aside : Aside) → n ≤ length s.trail
@@ -126,37 +116,20 @@ count_since s start end turns (suc d) n all =
 -- the bits of a situation with one place more
 pub bits_put : (s : Situation) (old new : List ℕ) (p : ℕ) → BitsOf s old
     → ChangesBit old new p true → BitsOf (put s p) new
-bits_put s old new p bits change q within = ⊎_elim
-    (λ (at : q ≡ p). ap (has_bit new) at ∙ (change.here
-    ∙ sym (ap (is_taken (put s p)) at ∙ put_here s p)))
-    (λ (other : q ≢ p). change.others q other ∙ (bits q within ∙ sym (put_other s p q other)))
-    (cases_eq q p)
+bits_put s old new p bits change q within =
+    grind (arith, ⊎_elim, put, put_here, put_other, cases_eq)
 
 -- the first present place is found by the bits, from a place up to which all are taken
 pub first_by_bits : (s : Situation) (words : List ℕ) (from p : ℕ) → s.end ≤ length s.context.line
     → BitsOf s words → s.start ≤ from → ((q : ℕ) → s.start ≤ q → q < from → is_taken s q ≡ true)
     → IsFirstClear words from s.end p → IsFirstPresent s p
-first_by_bits s words from p inside bits above passed first = record {
-  from = omega (arith, first.from);
-  within = first.within;
-  present = λ below. sym (bits p (omega arith)) ∙ first.present below;
-  passed = λ q lower upper. ⊎_elim (λ (before : q < from). passed q lower before)
-      (λ (behind : from ≤ q). sym (bits q (omega (arith, first.within)))
-      ∙ first.passed q behind upper)
-      (cases_lt q from);
-}
+first_by_bits s words from p inside bits above passed first = grind (arith, ⊎_elim, cases_lt)
 
 -- what chains passed is in another set too, where that has all of the line that is in the first
 pub behind_since : (line : List Arg) (old new : ℕ → Bool) (chains : Option Chained)
     → ((q : ℕ) → q < length line → old q ≡ true → new q ≡ true)
     → IfSome chains (AreBehind line old) → IfSome chains (AreBehind line new)
-behind_since line old new None grown h = tt
-behind_since line old new (Some chains) grown h = record {
-  within = h.within;
-  classes = h.classes;
-  keyless = h.keyless;
-  passed = λ q inside before. grown q (omega (arith, inside, h.within)) (h.passed q inside before);
-}
+behind_since line old new chains grown h = grind (arith, None, Some)
 
 -- chains that stand behind nothing are those of any situation on the line
 pub chains_anew : (s : Situation) (chains : Option Chained)
@@ -168,21 +141,7 @@ chains_anew s chains h =
 pub chains_untake : (s : Situation) (p : ℕ) (old new : Option Chained)
     → IfSome old (AreChainsOf (put s p)) → IfChained (ReachBack p) old new
     → IfSome new (AreChainsOf s)
-chains_untake s p None None h back = tt
-chains_untake s p None (Some new) h back = absurd back
-chains_untake s p (Some old) None h back = tt
-chains_untake s p (Some old) (Some new) h back = record {
-  within = omega (arith, h.within, ap length back.classes);
-  classes = rw (back.classes, back.names) h.classes;
-  keyless = rw back.classes h.keyless;
-  passed = λ q within before. let inside : q < length old.classes = omega
-      (arith, ap length back.classes) in ⊎_elim
-      (λ (at : q ≡ p). absurd (let low : head_of new q ≤ q = subst (λ x. head_of new x ≤ x)
-      (sym at) (back.here (omega (arith, at, inside))) in omega arith))
-      (λ (other : q ≢ p). sym (put_other s p q other) ∙ h.passed q inside
-      (omega (arith, back.earlier q inside)))
-      (cases_eq q p);
-}
+chains_untake s p old new h back = grind (arith, None, Some, length, ⊎_elim, put_other, cases_eq)
 
 -- a state with other bits and another trail, counted anew, and what is kept of a left scope
 abbrev pub with_parts : Inside → List ℕ → Vec ℕ Global → ℕ → ℕ → ℕ → Option Chained → Aside
@@ -202,10 +161,7 @@ with_parts s words trail left first behind chains aside =
 pub bit_written : (s : Inside) (p : ℕ) (bit : Bool) (old new : List ℕ) → old ≡ s.words.items
     → ChangesBit old new p bit
     → ChangesBit s.words.items new p bit × ((with_items s.words new).items ≡ new)
-bit_written s p bit old new is change = (
-  rw is at change,
-  with_items_is s.words new (change.kept ∙ (ap length is ∙ sym s.words.ok.0)),
-)
+bit_written s p bit old new is change = grind (arith, with_items_is, length)
 
 -- it is sound with one place more
 pub sound_put : (s : Inside) (p : ℕ) (words : List ℕ) (trail : Vec ℕ Global)
@@ -259,10 +215,7 @@ pushed_place s p trail pushed h free succeeds is = is ∙ cond-true pushed _ _ (
 -- the bits of a situation with one place fewer
 bits_untake : (s : Situation) (old new : List ℕ) (p : ℕ) → BitsOf (put s p) old
     → ChangesBit old new p false → is_taken s p ≡ false → BitsOf s new
-bits_untake s old new p bits change free q within = ⊎_elim
-    (λ (at : q ≡ p). ap (has_bit new) at ∙ (change.here ∙ sym (ap (is_taken s) at ∙ free)))
-    (λ (other : q ≢ p). change.others q other ∙ (bits q within ∙ put_other s p q other))
-    (cases_eq q p)
+bits_untake s old new p bits change free q within = grind (arith, ⊎_elim, put_other, cases_eq)
 
 -- it is sound without the last place
 pub sound_untake : (s : Inside) (p : ℕ) (words : List ℕ) (trail : Vec ℕ Global)
@@ -342,9 +295,7 @@ module _ (i : Inside) (s : Situation) (h : IsSoundAt i s) where
   -- and the bits of what the chains passed are set then
   pub behind_put : (p : ℕ) (words : List ℕ) → ChangesBit i.words.items words p true
       → IfSome i.chains (AreBehind s.context.line (has_bit words))
-  behind_put p words change =
-      behind_since s.context.line (is_taken s) (has_bit words) i.chains (λ q within taken.
-      bits_put s i.words.items words p h.bits change q within ∙ put_stays s p q taken) h.chained
+  behind_put p words change = grind (arith, behind_since, bits_put, put_stays)
 
   -- what is subtracted from the count of those left is no more than they are
   pub left_enough : (p n : ℕ) → is_taken s p ≡ false → n ≡ from_bool (in_scope s p) → n ≤ i.left
@@ -370,11 +321,8 @@ module _ (i : Inside) (s : Situation) (h : IsSoundAt i s) where
   pub survey_counted : (start end left first : ℕ) → start ≤ end → end ≤ length s.context.line
       → left ≡ count_clear i.words.items start end
       → IsFirstClear i.words.items start end first → IsSurvey s start end left first
-  survey_counted start end left first ordered inside counted clear = record {
-    counted = counted ∙ count_clear-open s i.words.items start end h.bits inside;
-    first = first_by_bits (with_scope s start end) i.words.items start first inside h.bits
-        (omega arith) (λ q lower upper. absurd (omega arith)) clear;
-  }
+  survey_counted start end left first ordered inside counted clear =
+      grind (arith, count_clear-open, first_by_bits)
 
   module _ (start end gone : ℕ) (same : (i.aside.start == start && i.aside.end == end) ≡ true)
       (counted : gone ≡ count_within start end (drop i.aside.taken s.trail)) where
@@ -400,14 +348,7 @@ module _ (i : Inside) (s : Situation) (h : IsSoundAt i s) where
         → IsFirstClear i.words.items i.aside.first end first
         → IsSurvey s start end (i.aside.left - gone) first
     survey_recalled first inside clear =
-        let scope : (i.aside.start ≡ start) × (i.aside.end ≡ end) = grind (arith, nat_tests) in
-        record {
-          counted = omega (arith, left_then);
-          first = first_by_bits (with_scope s start end) i.words.items i.aside.first first inside
-              h.bits (omega (arith, h.aside.survey.first.from))
-              (λ q lower upper. taken_since s i.aside.taken q
-              (h.aside.survey.first.passed q (omega arith) upper)) clear;
-        }
+        grind (arith, nat_tests, left_then, first_by_bits, taken_since)
 
   -- it is sound with other conflict notes, and another path that begins with the set name
   pub sound_path : (conflicts : Vec (ℕ × ℕ) Global) (path : Vec (String Global) Global)
@@ -441,10 +382,7 @@ module _ (i : Inside) (s : Situation) (h : IsSoundAt i s) where
 -- what is read at the trail's end is its last place
 pub last_read : (s : Inside) (n p : ℕ) → n ≡ vec_len s.trail → 0 < length s.trail.items → p
     ≡ get_or s.trail.items (n - 1) p → p ≡ slice_index s.trail.items (length s.trail.items - 1)
-last_read s n p is some read =
-    let at : n - 1 ≡ length s.trail.items - 1 = omega (arith, is, s.trail.ok.0) in
-    get_or_read s.trail.items (length s.trail.items - 1) p (omega arith)
-    (read ∙ ap (λ i. get_or s.trail.items i p) at) 0
+last_read s n p is some read = grind (arith, length, get_or_read, get_or)
 
 -- a path that is cut begins with the set name, where it is not cut to nothing
 pub path_cut : (name : Option (List ℕ)) (path : List (List ℕ)) (n : ℕ)
@@ -492,21 +430,13 @@ sound_copy i j same keys behind chains words left first aside room h =
 -- at the beginning of a run all places of the line are present but that of the marker
 pub taken_at_beginning : (context : Context) (p : ℕ) → is_taken (beginning context) p
     ≡ not (is_dealt_place context p)
-taken_at_beginning context p = at_start (nat_lt p (length context.line))
-    (is_marker context.marker p)
-  where
-    at_start : (x y : Bool) → (not x || (y || false)) ≡ not (x && not y)
-    at_start x y = grind arith
+taken_at_beginning context p = grind (arith, nat_lt, length, Bool, not, false)
 
 -- the bits at the beginning are those of the marker
 bits_beginning : (context : Context) (words : List ℕ)
     → ((p : ℕ) → has_bit words p ≡ is_marker context.marker p) → BitsOf (beginning context) words
 bits_beginning context words bits p within =
-    by_place p (length context.line) _ _ within (bits p)
-  where
-    by_place : (p n : ℕ) (bit marker : Bool) → p < n → bit ≡ marker
-        → bit ≡ (not (nat_lt p n) || (marker || false))
-    by_place p n bit marker within same = grind (arith, nat_tests)
+    grind (arith, nat_tests, length, ℕ, Bool, not, nat_lt, false)
 
 -- how a run begins whose line has its marker at this place
 abbrev start_with : Context → Option ℕ → Situation

@@ -26,9 +26,10 @@ fn dashed(alloc: Global, letters: &[char], number: usize) -> Result<String, Allo
     ensures { IfOk result (λ text. string_bytes text ≡ dashed letters.now number) }
 {
     let mut text = String::from_str(alloc, "-")?;
-    if let Some(letter) = letters.get(number) {
-        text.push(*letter)?;
-    }
+    let Some(letter) = letters.get(number) else {
+        return Ok(text);
+    };
+    text.push(*letter)?;
     Ok(text)
 }
 
@@ -66,16 +67,29 @@ fn head(
     ensures { IfOk result (λ doc. printed true doc
         ≡ ambiguity_head name.now word.now letters.now number) }
 {
+    let option = dashed(alloc, letters, number)?;
     let mut doc = Doc::new(alloc);
     doc.write(Style::Text, name)?;
     doc.write(Style::Text, " supports ")?;
-    doc.term(Style::Literal, dashed(alloc, letters, number)?.as_str())?;
+    doc.term(Style::Literal, option.as_str())?;
     doc.write(
         Style::Text,
         " as both an option and an option-argument, try to split ",
     )?;
     doc.term(Style::Literal, word)?;
     Ok(doc)
+}
+
+/// Appends the options that the word may have been, behind these words, and others behind them.
+fn push_options(doc: &mut Doc, letters: &[char]) -> Result<(), AllocError>
+    ensures { OnOk result (printed true doc.new
+        ≡ printed true doc.old ++ codes " into individual options (" ++ split_options letters.now
+        ++ codes ") or use ") }
+{
+    let options = split_options(doc.alloc(), letters)?;
+    doc.write(Style::Text, " into individual options (")?;
+    doc.write(Style::Literal, options.as_str())?;
+    doc.write(Style::Text, ") or use ")
 }
 
 /// The same, and what to write in place of the word.
@@ -89,12 +103,9 @@ fn advised(
     ensures { IfOk result (λ doc. printed true doc
         ≡ ambiguity_text name.now word.now letters.now number) }
 {
-    let options = split_options(alloc, letters)?;
     let with_rest = dashed_with_rest(alloc, letters, number)?;
     let mut doc = head(alloc, name, word, letters, number)?;
-    doc.write(Style::Text, " into individual options (")?;
-    doc.write(Style::Literal, options.as_str())?;
-    doc.write(Style::Text, ") or use ")?;
+    push_options(&mut doc, letters)?;
     doc.term(Style::Literal, with_rest.as_str())?;
     doc.write(Style::Text, " syntax to disambiguate")?;
     Ok(doc)

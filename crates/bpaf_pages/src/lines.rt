@@ -94,6 +94,7 @@ impl<'a> Lines<'a> {
     }
 
     /// Appends a text below the last of the lines from this one on, none where there is no line.
+    #[tactic(auto, using(crate::proofs::Paging::below_put))]
     fn push_below(&mut self, from: usize, text: &'a Doc) -> Result<(), AllocError>
         ensures all { OnOk result (map line_of self.new.all.items
             ≡ map line_of self.old.all.items

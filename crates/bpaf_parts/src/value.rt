@@ -26,6 +26,7 @@ pub fn value_or_refusal<T>(state: &State, read: Result<T, TextFault>) -> Result<
 ///
 /// Refused with ParseFailed, which names the current place, where the text means none; or for want
 /// of memory.
+#[tactic(auto, using(bpaf_laws::proofs::Keeping::reading_told))]
 pub fn read_text<T: FromText>(state: &State, text: &str) -> Result<T, Error>
     ensures { ReadsValue T.means text.now state.now.current result }
 {

@@ -27,14 +27,13 @@ use Rattle.bpaf_exact.specs.Pieces.{LinePiece, argument, is_value, at_end, passe
 use Rattle.bpaf_exact.specs.ProgramForm.{IsAcceptedOrWant, IsSpelledLine, product_roles, is_spelled}
 use Rattle.bpaf_exact.specs.ProgramForm.{whole_program, program_value, ProgramForm, line_cells}
 use Rattle.bpaf_exact.specs.ProgramForm.{is_program, is_dashed, is_record, complete, Accepted}
+use Rattle.bpaf_exact.specs.ProgramForm.{FormLaw}
 use Rattle.bpaf_exact.specs.Says.{ProgramSaid, ProgramSays, first_item, cells_said, SaidKind}
 use Rattle.bpaf_exact.specs.{Pieces.flag, Pieces.word, Pieces.Cut, Flat.first_cells, Flat.Variables}
-use Rattle.bpaf_exact.specs.ProgramForm.{FormLaw}
 use Rattle.bpaf_record.specs.Record.{is_whole_program, AnswersAsProgram, AnswersByFields, answer_of}
 use Rattle.bpaf_record.specs.Record.{is_flat_record, IsValueOrWant, TellsOfWords, PiecesOf}
 use Rattle.bpaf_record.specs.Commands.{run_ran}
 use Prim.Native.Nat.compare
-use Rattle.bpaf_line.specs.declared.failure.ParseFailure.TheVariants as failure
 
 -- the items that are present
 abbrev pub present : Cells → List Arg

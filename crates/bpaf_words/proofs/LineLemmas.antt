@@ -17,12 +17,12 @@ use Rattle.bpaf_words.specs.Line.{Known, Items, Ambiguous, Spells, HasNoLine, Is
 use Rattle.bpaf_words.specs.Line.{without_marker, with_marker, ShortNames, IsKnownAs, flags_of}
 use Rattle.bpaf_words.specs.Line.{argument_of, SpellsJoined, flags, argument, neither, both}
 use Rattle.bpaf_words.specs.Line.{IsNumberWord, HasNoEquals, Spelling, short_value}
-use Rattle.bpaf_words.specs.Line.{short_long_value, joined, Ambiguous as NoItems, by_dash}
+use Rattle.bpaf_words.specs.Line.{short_long_value, joined, by_dash}
 use Rattle.bpaf_words.specs.Splitting.{Begins, EndsFront, Answers, Splits, SplitsJoined, AreJoined}
 use Rattle.bpaf_words.specs.Splitting.{SplitsDashed, SplitsAlone}
 use Rattle.bpaf_words.proofs.OneSpelling.{AllZip_push, take_next, drop_next, cut_at}
 use Rattle.std.proofs.lemmas.Str.Pattern.{NoCharPasses-char, IsSplitOnceResult, split_parts}
-use Rattle.bpaf_words.specs.declared.split.SplitFault.TheVariants.{Ambiguous, Memory}
+use Rattle.bpaf_words.specs.declared.split.SplitFault.TheVariants.{Ambiguous}
 use Rattle.std.proofs.{lemmas.Bool.cases_lt, lemmas.Bool.Decides.nat_tests}
 use Rattle.std.specs.{Bool.then_some, Str.Pattern.FindsChar, Borrow.Bor}
 use Rattle.std.specs.declared.alloc.AllocError.{AllocError}
@@ -33,10 +33,7 @@ use Rattle.bpaf_words.specs.{Line.SpellsByDash, declared.split.SplitFault.SplitF
 pub rest_moved : (words : List (List ℕ)) (i : ℕ) (word : List ℕ) (old new all : List Arg)
     → slice_get words i ≡ Some word → old ++ map PosWord (drop i words) ≡ all
     → new ≡ old ++ PosWord word ∷ [] → new ++ map PosWord (drop (i + 1) words) ≡ all
-rest_moved words i word old new all at e n =
-    ap (λ z. z ++ map PosWord (drop (i + 1) words)) n
-    ∙ (append_assoc old (PosWord word ∷ []) (map PosWord (drop (i + 1) words))
-    ∙ (ap (λ z. old ++ map PosWord z) (sym (drop_next words i word at)) ∙ e))
+rest_moved words i word old new all at e n = grind (arith, map, drop, append_assoc, drop_next)
 
 -- one text more
 pub texts_more : (words : List (List ℕ)) (low i : ℕ) (word : List ℕ) → AllWithin IsUtf8 words low i
@@ -112,9 +109,7 @@ line_of_front known words items n begun ends = by (nat_lt n (length words)) refl
 -- the marker of a line lies in it
 pub marker_of_line : (known : Known) (words : List (List ℕ)) (line : List Arg) (marker : Option ℕ)
     → IsLine known words line marker → IfSome marker (λ p. p < length line)
-marker_of_line known words line marker (without_marker items none s) = tt
-marker_of_line known words line marker (with_marker before after items cut none s) =
-    simp length-append (omega arith)
+marker_of_line known words line marker x4 = grind (arith, length-append)
 
 -- A walk over joined letters: the flags at the front, and what stands where they end.
 
@@ -149,14 +144,7 @@ text_after_is word fs count e = grind (arith, nat_tests)
 -- a walk that hasn't begun: no flags, and all letters are left
 pub walked_none : (names : ShortNames) (word letters : List ℕ) (old : List Arg)
     → Walked names word letters old old 0 letters
-walked_none names word letters old =
-    record {
-      fs = [];
-      cut = refl;
-      all_flags = λ k d l. absurd (omega arith);
-      items = sym (append-nil old);
-      counted = refl;
-    }
+walked_none names word letters old = grind (arith, append-nil)
 
 -- characters that begin with the letters of fs
 after_encodes : (fs cs r : List ℕ) → encode_utf8_all cs ≡ encode_utf8_all fs ++ r → (ds : List ℕ)
@@ -210,10 +198,7 @@ module _ {names : ShortNames} {word letters : List ℕ} {old new : List Arg} {co
     -- where a walk stops at c
     stopped : (cs : List ℕ) → letters ≡ encode_utf8_all cs → (ds : List ℕ)
         × (cs ≡ w.fs ++ c ∷ ds) × (encode_utf8_all ds ≡ after)
-    stopped cs l =
-        let h = after_encodes w.fs cs rest (sym l ∙ w.cut) in
-        let t = cons_from_encodes h.0 after c (h.2 ∙ e) in
-        (t.0, h.1 ∙ ap (λ x. w.fs ++ x) t.1, t.2)
+    stopped cs l = grind (arith, after_encodes, cons_from_encodes)
 
     -- at a character that is both the letters are ambiguous there
     pub stops_both : IsKnownAs true true names c → (cs : List ℕ) → letters ≡ encode_utf8_all cs
@@ -284,9 +269,7 @@ with_value names word rest tail (x ∷ xs) value chosen c w r d t n f g =
 answers_weaker : (P Q : Spelling → Type 0) → ((s : Spelling) → P s → Q s)
     → (old : List Arg) (result : Result (Unit {0}) SplitFault) (new : List Arg)
     → Answers P old result new → Answers Q old result new
-answers_weaker P Q f old (Ok u) new a = (a.0, f (Items a.0) a.1, a.2)
-answers_weaker P Q f old (Err (Ambiguous n)) new a = f (NoItems n) a
-answers_weaker P Q f old (Err Memory) new a = a
+answers_weaker P Q f old result new a = grind (arith, Ok, Err)
 
 -- letters behind a dash are joined, given the characters after the first
 joined_by : (word rest tail : List ℕ) (c : ℕ) (fs : List ℕ) → word ≡ 45 ∷ rest → c ≢ 45

@@ -35,9 +35,7 @@ ComeTo known (w ∷ ws) v =
 one_goes_on : (s : Spelling) (word : List ℕ) (later : Verdict → Type 0)
     → ((u v : Verdict) → later u → later v → u ≡ v) → (u v : Verdict) → GoesOn s word later u
     → GoesOn s word later v → u ≡ v
-one_goes_on (Items xs) word later one u v a b =
-    a.2 ∙ (ap (in_front xs) (one a.0 b.0 a.1 b.1) ∙ sym b.2)
-one_goes_on (Ambiguous n) word later one u v a b = a ∙ sym b
+one_goes_on s word later one u v a b = grind arith
 
 -- words come to one thing
 one_verdict : (known : Known) (words : List (List ℕ)) → All IsUtf8 words → (u v : Verdict)

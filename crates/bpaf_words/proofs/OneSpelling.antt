@@ -222,33 +222,18 @@ module _ (names : ShortNames) (word : List ℕ) where
   -- the walk over a word that doesn't begin with `-` finds the word itself
   walk_plain : (cs : List ℕ) → word ≡ encode_utf8_all cs → ((rest : List ℕ) → word ≢ 45 ∷ rest)
       → walk cs ≡ (PlainWord, Items (Word word ∷ []))
-  walk_plain [] w h = refl
-  walk_plain (c ∷ cs) w h =
-      rw (ne_eqb c 45 (λ d. h (encode_utf8_all cs)
-      (w ∙ ap (λ x. x ++ encode_utf8_all cs) (ap encode_utf8 d ∙ encode_ascii 45 (lit< tt)))))
-      refl
+  walk_plain cs w h = grind (arith, ne_eqb, encode_utf8_all, encode_utf8, encode_ascii, lit<)
 
   -- in a word that begins with `--` the walk comes to what is behind it
   to_long : (cs n : List ℕ) → word ≡ encode_utf8_all cs → word ≡ 45 ∷ 45 ∷ n
       → walk cs ≡ walk_long n (split_equals n)
-  to_long cs n w e =
-      let one = after_dash cs (45 ∷ n) (sym w ∙ e) in
-      let two = after_dash one.0 n one.2 in
-      ap (walk) (one.1 ∙ ap (λ x. 45 ∷ x) two.1)
-      ∙ ap (λ x. walk_long x (split_equals x)) two.2
+  to_long cs n w e = grind (arith, after_dash)
 
   -- in a word that begins with `-c` the walk comes to what is behind it
   to_short : (cs : List ℕ) (c : ℕ) (tail : List ℕ) → word ≡ encode_utf8_all cs
       → word ≡ 45 ∷ (encode_utf8 c ++ tail) → c ≢ 45 → (fs : List ℕ) × (encode_utf8_all fs ≡ tail)
       × (walk cs ≡ walk_short c fs (split_equals tail))
-  to_short cs c tail w e n =
-      let one = after_dash cs (encode_utf8 c ++ tail) (sym w ∙ e) in
-      let two = cons_from_encodes one.0 tail c one.2 in (
-        two.0,
-        two.2,
-        ap (walk) (one.1 ∙ ap (λ x. 45 ∷ x) two.1)
-            ∙ rw (ne_eqb c 45 n) (ap (λ x. walk_short c two.0 (split_equals x)) two.2),
-      )
+  to_short cs c tail w e n = grind (arith, after_dash, encode_utf8, cons_from_encodes, ne_eqb)
 
   -- behind `-c` a text before `=` that isn't empty belongs to the value
   long_value_of : (c : ℕ) (r v : List ℕ) → r ≢ []

@@ -1,9 +1,11 @@
-use Rattle.bpaf_core.proofs.Running.{started, line_refused, if_dealt, words_are_named}
+use Rattle.bpaf_core.proofs.Running.{line_refused, if_dealt, words_are_named}
 use Rattle.bpaf_core.proofs.Sparing.{words_spared}
+use Rattle.bpaf_core.specs.Run.{ran}
 use Rattle.bpaf_core.proofs.options.OptionParser.run_inner.Goals as goal
 
 pub returns-in-Ok-clause-outcome : goal.returns-in-Ok-clause-outcome
-returns-in-Ok-clause-outcome g c = started c.in-Ok.ensures c.run_from.ensures
+returns-in-Ok-clause-outcome g c =
+    ran c.in-Ok.ensures.0 _ _ c.in-Ok.ensures.1 (rw c.in-Ok.ensures.2 at c.run_from.ensures)
 
 pub returns-in-Err-clause-outcome : goal.returns-in-Err-clause-outcome
 returns-in-Err-clause-outcome g c = line_refused _ c.in-Err.ensures c.tell_fault.ensures

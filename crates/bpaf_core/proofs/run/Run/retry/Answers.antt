@@ -1,7 +1,7 @@
 use Rattle.std.proofs.Common.{sym, ◌∙◌}
-use Rattle.bpaf_core.specs.Command.{nothing_left}
+use Rattle.bpaf_core.specs.Command.{nothing_left, second_counts}
 use Rattle.bpaf_core.proofs.Commanding.{back_again, led_again, memory_end, memory_refused}
-use Rattle.bpaf_core.proofs.Commanding.{memory_wanted, second_answers, second_refuses}
+use Rattle.bpaf_core.proofs.Commanding.{memory_wanted, second_refuses}
 use Rattle.bpaf_core.proofs.run.Run.retry.Goals as goal
 
 pub returns-then-wants_memory : goal.returns-then-wants_memory
@@ -17,9 +17,8 @@ pub returns-in_err-steps : goal.returns-in_err-steps
 returns-in_err-steps g c = memory_refused c.from_residual.ensures c.undo-2.ensures.undone
 
 pub returns-in-Ok : goal.returns-in-Ok
-returns-in-Ok g c =
-    second_answers (sym c.wants_memory.ensures ∙ c.if-wants_memory.false) c.in-Some.ensures
-    c.undo-2.ensures.undone c.in-Ok.ensures.runs
+returns-in-Ok g c = second_counts _ _ _ (sym c.wants_memory.ensures ∙ c.if-wants_memory.false)
+    c.in-Some.ensures (rw c.undo-2.ensures.undone at c.in-Ok.ensures.runs)
 
 pub returns-in-Err : goal.returns-in-Err
 returns-in-Err g c =

@@ -1,7 +1,5 @@
-use Rattle.std.proofs.Common.{true}
 use Rattle.bpaf_words.specs.Arguments.{given_of}
 use Rattle.bpaf.specs.Run.{known_names}
-use Rattle.bpaf_record.specs.Grammar.{command_words, keys_of, program_form}
 use Rattle.bpaf_record.proofs.Running.{answers_as_program}
 use Rattle.bpaf_program.specs.KnownParser.{shown_shorts}
 use Rattle.bpaf_program.proofs.known_options.KnownOptionsCommandLine.run_program.Goals as goal
