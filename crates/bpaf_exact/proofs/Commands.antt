@@ -454,7 +454,7 @@ module _ {env : Variables} {T : Type 0} {a b : Outcome T} {ra rb : Roles} {wa wb
       → FindsNoCommand s (class e) m → Passed s e m
   passed s m e h x = grind (arith, not_memory)
 
-  -- so a refusal is want of memory there
+  -- where a branch has a value, a refusal of the choice is want of memory
   choice_refuses : (s t : Situation) (e : Error) → IsWholeIn env s
       → ChoiceOutcome a b s (Err e) t → (u : T) → values (cells s) u → class e ≡ OfMemory
   choice_refuses s t e w (inr o) u h = memory_class e.0 o.0

@@ -309,7 +309,7 @@ pub all_front : (k : FieldKind) {os : List LinePiece} → back k os ≡ [] → f
 all_front k {os} none =
     sym (append-nil (front k os)) ∙ (ap (λ z. front k os ++ z) (sym none) ∙ front_back k)
 
--- and the other way
+-- where a repeat of a field takes none, nor does the field
 pub nil_each : (k : FieldKind) (os : List LinePiece) → front (repeated k) os ≡ [] → front k os ≡ []
 nil_each x os none = grind arith
 

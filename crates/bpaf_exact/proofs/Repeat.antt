@@ -308,7 +308,7 @@ module _ {env : Variables} {T : Type 0} {inner : Outcome T} {k : FieldKind} {q :
     o.2,
   ))
 
-  -- so a refusal is want of memory
+  -- where a last value is there a refusal is want of memory
   last_refuses : (s t : Situation) (e : Error) → IsWholeIn env s → LastOutcome inner s (Err e) t
       → (v : T) → LastOf T group gap (front (repeated k) (pieces q (cells s))) v
       → class e ≡ OfMemory

@@ -44,7 +44,7 @@ module _ {T : Type 0} (s : Situation) (Holds : Result T Error → Situation → 
   of_winner x y sa sb (false, Some place) r t won one other =
       rw won.0 (noted y sb sa place t won.1 other)
 
-  -- and at any
+  -- and of the chosen one's, at any depths
   pub of_chosen : (a : Result T Error) (sa : Situation) (b : Result T Error) (sb : Situation)
       (r : Result T Error) (t : Situation) → Chosen s a sa b sb r t → Holds a sa → Holds b sb
       → Holds r t
@@ -52,7 +52,7 @@ module _ {T : Type 0} (s : Situation) (Holds : Result T Error → Situation → 
 
 module _ {T : Type 0} {first second : Outcome T} {rf rs : Readings T} (lf : Lawful T first rf)
     (ls : Lawful T second rs) where
-  -- so is the answer of branches that were evaluated
+  -- the answer of branches that were evaluated keeps to the laws
   evaluated : AnswersLawfully (BranchesEval first second) (ChoiceReads rf rs)
   evaluated s r t o = of_chosen s (LawfulAnswer T (ChoiceReads rf rs) s)
       (λ v m loser place t saved read. reads_conflicts (ChoiceReads rf rs) s m loser place v t saved

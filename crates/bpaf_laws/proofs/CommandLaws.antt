@@ -36,7 +36,7 @@ module _ (called : Called) (s : Situation) (p : ℕ)
   pub keeps_inside : Keeps s (inside called s p)
   keeps_inside = keeps_path s (opened s p) called.name (keeps_opened (opening_words called) s p at)
 
-  -- so the word is read
+  -- the command's word is read
   pub word_read : Reads ℕ (λ line own q. HasItem (is_one_of (opening_words called)) line q
       × IsPlace q own) s p (inside called s p)
   word_read =
