@@ -43,18 +43,14 @@ IsAlsoShown showing other =
 -- so it is where that was come to
 pub came_also : {showing other : Showing} → IsAlsoShown showing other → {s : Situation}
     {doc : List Piece} {full : Bool} → CameTo showing s doc full → CameTo other s doc full
-came_also also {doc = doc} {full} came = record {
-  there = came.there;
-  keeps = came.keeps;
-  shown = also came.there doc full came.shown;
-}
+came_also also {doc = doc} {full} came =
+    record { there = came.there; keeps = came.keeps; shown = also came.there doc full came.shown }
 
 -- so it is of what a parser hands on
 pub hands_also : {T : Type 0} {inner : Outcome T} {showing other : Showing}
     → IsAlsoShown showing other → HandsOn showing inner → HandsOn other inner
-hands_also also inside = record {
-  all = λ s e t doc full o is. came_also also (inside.all s e t doc full o is);
-}
+hands_also also inside =
+    record { all = λ s e t doc full o is. came_also also (inside.all s e t doc full o is) }
 
 -- that a key is nowhere shows nothing
 absence_hands_on : (s : Situation) (part : Option Part) (envs : List (List ℕ)) (doc : List Piece)
@@ -83,9 +79,8 @@ module _ {showing : Showing} where
   -- nor does a positional word
   pub positional_hands_on : {T : Type 0} (means : List ℕ → T → Type 0) (position : Position)
       (metavar : List ℕ) → HandsOn showing (PositionalOutcome means position metavar)
-  positional_hands_on means position metavar = record {
-    all = λ s e t doc full o is. absurd (rw is at o);
-  }
+  positional_hands_on means position metavar =
+      record { all = λ s e t doc full o is. absurd (rw is at o) }
 
   module _ {A B : Type 0} {first : Outcome A} {rest : Outcome B} {reads : Readings A}
       (law : Lawful A first reads) (one : HandsOn showing first) (others : HandsOn showing rest)
@@ -120,18 +115,15 @@ module _ {showing : Showing} where
       → HandsOn showing (BothOutcome first rest)
   both_hands_on law one others = record {
     all = λ s e t doc full o is. ⊎_elim
-        (λ each.
-        fields_hand_on law one others s each.middle t e doc full is each.a each.b each.first_ran
-        each.rest_ran each.answer)
-        (λ want. one.all s e t doc full want.0 is) o;
+        (λ each. fields_hand_on law one others s each.middle t e doc full is each.a each.b
+        each.first_ran each.rest_ran each.answer) (λ want. one.all s e t doc full want.0 is) o;
   }
 
   -- a product shows what its fields do
   pub product_hands_on : {V T : Type 0} {fields : Outcome V} {makes : V → T → Type 0}
       → HandsOn showing fields → HandsOn showing (ProductOutcome fields makes)
-  product_hands_on inside = record {
-    all = λ s e t doc full o is. inside.all s e o.0 doc full o.1 is;
-  }
+  product_hands_on inside =
+      record { all = λ s e t doc full o is. inside.all s e o.0 doc full o.1 is }
 
   module _ {T : Type 0} {inner : Outcome T} {reads : Readings T} (law : Lawful T inner reads)
       (inside : HandsOn showing inner) (catches : Bool) where
@@ -163,12 +155,8 @@ module _ {describes : Shape → Type 0} {info : RunInfo} where
   tells_asked : {m : Message} {s t : Situation} {doc : List Piece} {full : Bool}
       → is_answer m ≡ false → Tells describes info m s (failure.Stdout doc full) t
       → IsAskedAt describes info s doc full
-  tells_asked plain (shown asked g u looked shows) = record {
-    after = u;
-    asked = asked;
-    looked = looked;
-    shows = shows;
-  }
+  tells_asked plain (shown asked g u looked shows) =
+      record { after = u; asked = asked; looked = looked; shows = shows }
   tells_asked {m} plain (told e g u looked other renders) = absurd (renders_nothing m u _ _ plain renders)
 
   module _ {T : Type 0} {inner : Outcome T} {reads : Readings T} (law : Lawful T inner reads)
@@ -184,10 +172,8 @@ module _ {describes : Shape → Type 0} {info : RunInfo} where
 
     -- the end of a run shows what it was asked for, or what its parser does
     end_shows : {m : Option Message} {s left t : Situation} {doc : List Piece} {full : Bool}
-        → Keeps s left
-        → ((said : Message) → m ≡ Some said → said ≡ inner_answer doc full
-        → CameTo showing s doc full)
-        → EndsRun describes info m s left (failure.Stdout doc full) t
+        → Keeps s left → ((said : Message) → m ≡ Some said → said ≡ inner_answer doc full → CameTo
+        showing s doc full) → EndsRun describes info m s left (failure.Stdout doc full) t
         → CameTo (RunShows describes info showing) s doc full
     end_shows keeps handed (usage n before g u spared wanted shows) =
         absurd (no_usage n before wanted)

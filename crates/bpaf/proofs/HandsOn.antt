@@ -34,6 +34,11 @@ spared_shows first second both f o is = of_either (can_catch first) o
     of_either true same = inr (sym same ∙ is)
     of_either false same = inl (sym same ∙ is)
 
+-- want of memory shows nothing
+want_shows_nothing : {A : Type 0} {m : Message} {doc : List Piece} {full : Bool} → m ≡ Memory
+    → m ≡ inner_answer doc full → A
+want_shows_nothing want is = cc
+
 module _ {showing : Showing} {T : Type 0} {first second : Outcome T}
     (one : HandsOn showing first) (other : HandsOn showing second) where
   module _ (s : Situation) (doc : List Piece) (full : Bool) where
@@ -51,12 +56,11 @@ module _ {showing : Showing} {T : Type 0} {first second : Outcome T}
     -- so does the one chosen of two
     chosen_shows : (r : Result T Error) (t : Situation) → BranchesEval first second s r t
         → Shows r t
-    chosen_shows r t ran =
-        of_chosen s Shows (λ v m loser place t saved it. tt) (λ e m shows. shows)
-        (λ f g both m n combined here there is.
-        ⊎_elim (λ want. absurd cc) (λ spared. ⊎_elim here there
-        (spared_shows f.0 g.0 both.0 (failure.Stdout doc full) spared.1 is)) combined)
-        ran.a ran.sa ran.b ran.sb r t ran.chosen (branch_shows one ran.a ran.sa ran.first_ran)
+    chosen_shows r t ran = of_chosen s Shows (λ v m loser place t saved it. tt) (λ e m shows. shows)
+        (λ f g both m n combined here there is. ⊎_elim (λ want. want_shows_nothing want.1 is)
+        (λ spared. ⊎_elim here there
+        (spared_shows f.0 g.0 both.0 (failure.Stdout doc full) spared.1 is)) combined) ran.a ran.sa
+        ran.b ran.sb r t ran.chosen (branch_shows one ran.a ran.sa ran.first_ran)
         (branch_shows other ran.b ran.sb ran.second_ran)
 
   -- a choice of two shows what one of them does
@@ -78,11 +82,6 @@ missing_shows_nothing : {shows : Part → Type 0} (s : Situation) {m : Message} 
     {full : Bool} → IsMissingPart shows s m → ¬ (m ≡ inner_answer doc full)
 missing_shows_nothing s {m} lacks is =
     ⊎_elim (λ want. absurd cc) (λ part. let other : m ≡ Missing part.1 = part.3 in absurd cc) lacks
-
--- want of memory shows nothing
-want_shows_nothing : {A : Type 0} {m : Message} {doc : List Piece} {full : Bool} → m ≡ Memory
-    → m ≡ inner_answer doc full → A
-want_shows_nothing want is = cc
 
 module _ (describes : Shape → Type 0) (info : RunInfo) {T : Type 0} {inner : Outcome T}
     {reads : Readings T} (law : Lawful T inner reads) {showing : Showing}

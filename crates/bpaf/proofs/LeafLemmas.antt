@@ -1,11 +1,10 @@
 -- Leaves: how the answer of a positional word is put together, that want of memory is told as
 -- nothing else, and that a key reads the same without its help.
 use Rattle.std.proofs.Common.{◌≡◌, ℕ, Bool, true, false, List, Result, Ok, Err, inr, sym, refl}
-use Rattle.std.proofs.Common.{Option, true≢false, ◌∙◌, ap, inl, [], ◌∷◌, ◌++◌, append_assoc}
-use Rattle.std.proofs.Common.{Some, None}
+use Rattle.std.proofs.Common.{Option, true≢false, ◌∙◌, ap, inl, [], ◌∷◌, ◌++◌, append_assoc, None}
 use Rattle.std.proofs.lemmas.List.Elements.{All-push}
 use Rattle.bpaf_line.specs.declared.error.Message.TheVariants.{Memory, ParseFailed, Missing}
-use Rattle.bpaf_line.specs.Situation.{Situation, is_open, Context}
+use Rattle.bpaf_line.specs.Situation.{Situation, Context}
 use Rattle.bpaf_line.specs.{declared.error.Message.Message, declared.error.Error.Error}
 use Rattle.bpaf_line.specs.{Taking.TakesText, Taking.open_items, Messages.is_memory}
 use Rattle.bpaf_laws.specs.Reading.{ReadsValue, FaultsText, Share}
@@ -14,11 +13,10 @@ use Rattle.bpaf_laws.specs.Leaves.{IsOwnText, ArgumentReads, FlagReads, at_key, 
 use Rattle.bpaf_laws.specs.Combinators.{GivesAnswer, GivesRefusal}
 use Rattle.bpaf.specs.Positional.{PositionalOutcome, PositionalFails, accepts, misplaced}
 use Rattle.bpaf.specs.Positional.{FaultsWordAlone, PassesAll, TellsAnswer, TellsWhole}
-use Rattle.bpaf.specs.{declared.leaves.positional.Position.Position, Remembering.FindsMatch}
+use Rattle.bpaf.specs.{declared.leaves.positional.Position.Position}
 use Rattle.std.specs.Result.{IfErr}
 use Rattle.bpaf_doc.specs.{Shape.Part, declared.doc.Piece.Piece}
 use Rattle.bpaf_base.specs.{declared.arg.Arg.Arg, Items.item_text}
-use Rattle.bpaf_laws.proofs.LeafLaws.{match_placed}
 use Rattle.bpaf_text.specs.Named.{Named, KeyWithValue, with_help}
 
 module _ {T : Type 0} (means : List ℕ → T → Type 0) (position : Position) (metavar : List ℕ)
@@ -29,21 +27,15 @@ module _ {T : Type 0} (means : List ℕ → T → Type 0) (position : Position) 
       → FaultsText means text t.current m → PositionalFails means position metavar s m t
   fault_refused Memory accepted fault =
       inr (record { place = place; strict = strict; text = text; takes = takes })
-  fault_refused (ParseFailed at words) accepted fault = (
-    record { place = place; strict = strict; text = text; takes = takes },
-    accepted,
-    fault,
-  )
+  fault_refused (ParseFailed at words) accepted fault =
+      (record { place = place; strict = strict; text = text; takes = takes }, accepted, fault)
   fault_refused other accepted fault = absurd fault
 
   -- what reading the text of a taken word answers
   pub word_read : (r : Result T Error) → accepts position strict ≡ true
       → ReadsValue means text t.current r → PositionalOutcome means position metavar s r t
-  word_read (Ok v) accepted meant = (
-    record { place = place; strict = strict; text = text; takes = takes },
-    accepted,
-    meant,
-  )
+  word_read (Ok v) accepted meant =
+      (record { place = place; strict = strict; text = text; takes = takes }, accepted, meant)
   word_read (Err e) accepted fault = fault_refused e.0 accepted fault
 
   -- a word on the wrong side that was taken is a refusal of the positional
@@ -117,13 +109,6 @@ module _ {T : Type 0} (looks : Looks T) (s : Situation) (anywhere : Bool) where
         here;
     alone = λ first. absurd (true≢false (sym all ∙ first));
   }
-
-  -- the place of a match is present and in scope
-  pub found_open : {found : Option (ℕ × Bool × T)} {place : ℕ} {attached : Bool} {v : T}
-      → found ≡ Some (place, attached, v) → FindsMatch looks anywhere s found
-      → is_open s place ≡ true
-  found_open {place = place} {v = v} is finds =
-      let at = rw is at finds in (match_placed looks anywhere s place at.0 v at.1).0
 
 -- what a flag with a help reads it reads without
 pub flag_without_help : {T : Type 0} {clones : T → T → Type 0} (named : Named) (help : List Piece)

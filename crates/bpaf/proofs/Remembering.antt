@@ -1,9 +1,9 @@
 -- How the search of an adjacent group is put together: its attempts, its places, and where
 -- stretches end.
 use Rattle.std.proofs.Common.{◌≡◌, ℕ, ◌+◌, ◌≤◌, ◌<◌, Bool, true, false, nat_lt, if◌then◌else◌}
-use Rattle.std.proofs.Common.{Result, Ok, Err, MatchResult, Some, ap, sym, ◌∙◌, arith}
-use Rattle.std.proofs.Common.{true≢false, Option, None, List, [], ◌∷◌, refl, ⊎_elim, option_map}
-use Rattle.std.proofs.Common.{zero, suc, ◌-◌, length, inl}
+use Rattle.std.proofs.Common.{Result, Ok, Err, MatchResult, Some, ap, sym, ◌∙◌, arith, true≢false}
+use Rattle.std.proofs.Common.{Option, None, List, [], ◌∷◌, refl, ⊎_elim, option_map, zero, suc, ◌-◌}
+use Rattle.std.proofs.Common.{length, inl}
 use Rattle.std.proofs.{lemmas.Bool.lt-ltb, lemmas.Bool.cases_lt, lemmas.Bool.Decides.nat_tests}
 use Rattle.bpaf_line.specs.Situation.{Situation, open_count, with_scope, IsStretchFrom, count_below}
 use Rattle.bpaf_line.specs.Situation.{is_open, IsNextOpen}
@@ -11,10 +11,10 @@ use Rattle.bpaf_line.specs.Marks.{Changes, CanRedo, redone, undone, Fits}
 use Rattle.bpaf_line.specs.{declared.error.Error.Error, declared.mark.Mark.Mark, Messages.is_memory}
 use Rattle.bpaf_laws.specs.Laws.{Keeps, Closes, Lawful, newly, taken_count, IsNotMemory}
 use Rattle.bpaf_laws.specs.Reading.{Outcome, Readings, HasPlace}
-use Rattle.bpaf_laws.specs.Adjacent.{taken_by, Narrowed, again, Tries, answered, refused, Failure}
-use Rattle.bpaf_laws.specs.Adjacent.{Probe, longer, GroupOutcome, HasNoStart, IsGroupStart}
-use Rattle.bpaf_laws.specs.Adjacent.{TriedInVain, all_failed, gave, longest, none_gave}
-use Rattle.bpaf_laws.specs.Adjacent.{none_tried, not_taken, place_count, wanted}
+use Rattle.bpaf_laws.specs.Adjacent.{Narrowed, again, Tries, answered, Failure, Probe, longer}
+use Rattle.bpaf_laws.specs.Adjacent.{GroupOutcome, HasNoStart, IsGroupStart, TriedInVain}
+use Rattle.bpaf_laws.specs.Adjacent.{all_failed, gave, longest, none_gave, none_tried, not_taken}
+use Rattle.bpaf_laws.specs.Adjacent.{place_count, wanted}
 use Rattle.bpaf_laws.specs.Product.{BothOutcome}
 use Rattle.bpaf_laws.proofs.{Keeping.fewer_took, Keeping.same_took_none, Keeping.open_count-falls}
 use Rattle.bpaf_laws.proofs.{Keeping.keeps_of, Keeping.keeps_scope, AdjacentLaws.tries_keep}
@@ -38,14 +38,6 @@ closes_same s t p within outside = absurd (true≢false (sym within ∙ outside)
 keeps_same_scope : (s t : Situation) → Keeps s t → Keeps s (with_scope t s.start s.end)
 keeps_same_scope s t k = keeps_scope s t s.start s.end k (λ p within. within)
 
--- a test of numbers that holds
-lt_of : (m n : ℕ) → nat_lt m n ≡ true → m < n
-lt_of m n holds = grind (arith, nat_tests)
-
--- one that doesn't
-le_of : (m n : ℕ) → nat_lt m n ≡ false → n ≤ m
-le_of m n fails = grind (arith, nat_tests)
-
 -- and why it doesn't
 not_lt : (m n : ℕ) → n ≤ m → nat_lt m n ≡ false
 not_lt m n most = grind (arith, nat_tests)
@@ -54,20 +46,17 @@ not_lt m n most = grind (arith, nat_tests)
 takes_some : (s t : Situation) → Keeps s t → (takes : Bool)
     → takes ≡ nat_lt (open_count (with_scope t s.start s.end)) (open_count s)
     → HasPlaceIf takes (newly s t)
-takes_some s t k true fewer =
-    fewer_took s (with_scope t s.start s.end) (keeps_same_scope s t k) (closes_same s t)
-    (lt_of _ _ (sym fewer))
-takes_some s t k false same =
-    same_took_none s (with_scope t s.start s.end) (keeps_same_scope s t k) (closes_same s t)
-    (le_of _ _ (sym same))
+takes_some s t k true fewer = fewer_took s (with_scope t s.start s.end) (keeps_same_scope s t k)
+    (closes_same s t) (grind (arith, nat_tests, sym fewer))
+takes_some s t k false same = same_took_none s (with_scope t s.start s.end) (keeps_same_scope s t k)
+    (closes_same s t) (grind (arith, nat_tests, sym same))
 
 -- what is known of a probe whose answer isn't want of memory
 pub takes_from : {T : Type 0} {inner : Outcome T} {reads : Readings T} → Lawful T inner reads
     → (s : Situation) {w t : Situation} {a b present left : ℕ} {answer : Result T Error}
     (r : Result Bool Error) → w ≡ with_scope s a b → inner w answer t → present ≡ open_count w
-    → left ≡ open_count (with_scope t a b)
-    → MatchResult r (λ takes. (takes ≡ nat_lt left present) × IsNotMemory answer)
-    (λ e. is_memory e.0 ≡ true)
+    → left ≡ open_count (with_scope t a b) → MatchResult r
+    (λ takes. (takes ≡ nat_lt left present) × IsNotMemory answer) (λ e. is_memory e.0 ≡ true)
     → MatchResult r (λ takes. Takes T inner s a b takes) (λ e. is_memory e.0 ≡ true)
 takes_from law s (Err e) is ran some less memory = memory
 takes_from law s {t = t} {a} {b} {answer = answer} (Ok takes) is ran some less known =
@@ -92,26 +81,13 @@ module _ {s t : Situation} (keeps : Keeps s t) {best : Remembered} (e : Error)
 
   -- a failure that took no more places isn't remembered
   not_longer : best.left ≤ left → TriesFrom s best e t best
-  not_longer fewer =
-      let all = counts in
-      let before = sound.left in
-      let no : nat_lt (taken_by s (failure_of s best)) (taken_count s t) ≡ false =
-      not_lt _ _ (omega arith) in
-      record { longer = rw no refl; sound = sound }
+  not_longer fewer = grind (arith, counts, not_lt)
 
   -- one that took more is
   now_longer : (steps : Changes) → left < best.left → CanRedo steps s → redone steps s ≡ t
       → TriesFrom s best e t
       (record best { left = left; failed = Some (record { error = e; steps = steps }) })
-  now_longer steps more redo comes_back =
-      let all = counts in
-      let before = sound.left in
-      let yes : nat_lt (taken_by s (failure_of s best)) (taken_count s t) ≡ true =
-      lt-ltb _ _ (omega arith) in
-      record {
-        longer = rw (comes_back, yes) refl;
-        sound = record { left = ap (λ x. left + taken_count s x) comes_back ∙ all; redo = redo };
-      }
+  now_longer steps more redo comes_back = grind (arith, counts, lt-ltb)
 
 module _ (mark : Mark) {t : Situation} (k : Keeps (undone mark t) t) {best : Remembered} (e : Error)
     (sound : IsRemembered (undone mark t) best) {start stop left : ℕ}
@@ -122,9 +98,8 @@ module _ (mark : Mark) {t : Situation} (k : Keeps (undone mark t) t) {best : Rem
       → CanRedo steps (undone mark m) → redone steps (undone mark m) ≡ m → {after : Remembered}
       → after ≡ record best { left = left; failed = Some (record { error = e; steps = steps }) }
       → TriesFrom (undone mark t) best e t after
-  now_remembered same more {steps} fit comes_back after_is = rw after_is
-      (now_longer k e sound (rw (is_start, is_stop) at is) steps more (rw same at fit)
-      (rw same at comes_back))
+  now_remembered same more {steps} fit comes_back after_is = rw after_is (now_longer k e sound
+      (rw (is_start, is_stop) at is) steps more (rw same at fit) (rw same at comes_back))
 
   -- one that didn't isn't
   pub not_remembered : best.left ≤ left → TriesFrom (undone mark t) best e t best
@@ -138,11 +113,6 @@ module _ {T : Type 0} {inner : Outcome T} {s b u : Situation} {place stop : ℕ}
   whole_answers {v} is ends =
       let at : EndsAttempt T inner s place stop (Ok (ending.Whole v)) u = rw (same, is) at ends in
       rw at.3 (answered stop v at.0 narrowed at.1 at.2)
-
-  -- so is one that fails
-  pub error_answers : {e : Error} → r ≡ Err e → EndsAttempt T inner b place stop r u
-      → Tries T inner s place (Err e) u
-  error_answers {e} is ends = refused stop e u narrowed (rw (same, is) at ends)
 
   -- else the next one ends earlier
   pub left_narrows : {p : ℕ} → r ≡ Ok (ending.Left p) → EndsAttempt T inner b place stop r u
@@ -181,18 +151,8 @@ module _ {T : Type 0} {inner : Outcome T} {s : Situation} {place stop : ℕ} {be
     wanted_at {r = Err f} e same memory refuses kept =
         rw (kept, same) (no_memory f (ap (λ x. is_memory x.0) refuses.1 ∙ memory))
 
-    -- no item is taken
-    pub skipped_at : {t : Situation} {takes : Bool} → t ≡ s → takes ≡ false
-        → Takes T inner s place stop takes → TriesAt T inner s place stop best (Ok None) best t
-    skipped_at same left_it probed = rw same (skipped (rw left_it at probed))
-
     module _ {m t : Situation} {takes : Bool} {r : Result T Error} (same : m ≡ s)
         (taken : takes ≡ true) (probed : Takes T inner s place stop takes) where
-      -- an attempt gives a value
-      pub found_at : {v : T} → r ≡ Ok v → Tries T inner m place r t
-          → TriesAt T inner s place stop best (Ok (Some v)) best t
-      found_at {v} is tries = found v t (rw taken at probed) (rw (same, is) at tries)
-
       -- the attempts fail, and the failure that took more is remembered
       pub failed_at : {e : Error} → r ≡ Err e → Tries T inner m place r t → is_memory e.0 ≡ false
           → {after : Option Failure} → after ≡ longer s best (record { error = e; left = t })
@@ -274,9 +234,7 @@ module _ {T : Type 0} {inner : Outcome T} {s : Situation} {first : Part} where
 
       -- without one all is as before, and it is one more that was tried in vain
       pub vain_on : r ≡ Ok None → (t ≡ s) × InVain T inner s first (place + 1) after
-      vain_on is =
-          let more = one_more vain.tried vain.remembered starts (rw is at tried_here) in
-          (more.0, record { failures = more.1; tried = more.2; remembered = more.3 })
+      vain_on is = grind (arith, one_more, starts, tried_here)
 
       -- want of memory is the answer
       pub refused_at : {e : Error} → r ≡ Err e → GroupOutcome T inner first s (Err e) t
@@ -285,10 +243,9 @@ module _ {T : Type 0} {inner : Outcome T} {s : Situation} {first : Part} where
     -- the end, where no place is left
     pub search_ends : {e : Error} {t : Situation} → HasNoStart b width from
         → IsEnd b first best e t → GroupOutcome T inner first s (Err e) t
-    search_ends {e} {t} none ends = ⊎_elim
-        (λ over. none_gave from vain.failures e t vain.tried (rw (same, wide) at none)
-        (rw vain.remembered at over))
-        (λ memory. rw memory.1 (wanted e memory.0)) (rw same at ends)
+    search_ends {e} {t} none ends =
+        ⊎_elim (λ over. none_gave from vain.failures e t vain.tried (rw (same, wide) at none)
+        (rw vain.remembered at over)) (λ memory. rw memory.1 (wanted e memory.0)) (rw same at ends)
 
 -- Where a stretch of present places ends, told by how many places are present.
 
@@ -307,12 +264,7 @@ count_below-full f (suc n) full q l =
 
 -- a place outside of the scope isn't open
 closed_outside : (s : Situation) (q : ℕ) → (s.start ≤ q → q < s.end → 1 ≤ 0) → is_open s q ≡ false
-closed_outside s q out = by_open (is_open s q) refl
-  where
-    by_open : (b : Bool) → is_open s q ≡ b → b ≡ false
-    by_open true there =
-        let inside = open_in_scope s q there in absurd (omega (arith, out inside.0 inside.1))
-    by_open false there = refl
+closed_outside s q out = grind (arith, open_in_scope)
 
 -- where as many are present from the first one on as the scope has places, all are, to its end
 ends_with_scope : (s : Situation) (p : ℕ) → s.end ≤ length s.context.line
@@ -346,9 +298,7 @@ ends_with_scope s p inside first all =
 pub told_end : {s : Situation} {start stop place first count : ℕ} → start ≡ s.start
     → stop ≡ s.end → stop ≤ length s.context.line → IsNextOpen s start first → first ≡ place
     → count ≡ open_count s → count ≡ stop - first → IsStretchFrom s place stop
-told_end {s} {first = first} begins ends inside next here counted all =
-    rw (← here, ends) (ends_with_scope s first (omega (arith, ends)) (rw begins at next)
-    (sym counted ∙ (all ∙ ap (λ e. e - first) ends)))
+told_end begins ends inside next here counted all = grind (arith, ends_with_scope)
 
 -- behind a field that has a value, both answer what the fields behind it do
 pub rest_told : {A V : Type 0} (first : Outcome A) (rest : Outcome V) (s m t : Situation) (a : A)

@@ -1,6 +1,6 @@
 -- The words on the two sides of the first `--`, and what holds of each item that words spell.
-use Rattle.std.proofs.Common.{◌≡◌, ◌≢◌, ◌+◌, ℕ, Bool, true, false, List, [], ◌∷◌, ◌++◌, length}
-use Rattle.std.proofs.Common.{refl, ap, sym, subst, ◌∙◌, arith, take, drop, codes, All}
+use Rattle.std.proofs.Common.{◌≡◌, ◌+◌, ℕ, Bool, true, false, List, [], ◌∷◌, ◌++◌, length, refl, ap}
+use Rattle.std.proofs.Common.{sym, subst, ◌∙◌, arith, take, drop, codes, All}
 use Rattle.std.proofs.lemmas.List.{take_at, drop_at, drop-drop, get_or_append_left, length-append}
 use Rattle.std.proofs.lemmas.List.Elements.{All-append, All-from_recursion, All-nil}
 use Rattle.std.proofs.lemmas.List.Elements.{Contains-append_right, recursion_from_All}
@@ -17,12 +17,6 @@ use Rattle.bpaf_words.specs.Line.{short_long_value, joined, SpellsByDash, number
 use Rattle.bpaf_words.specs.Line.{SpellAll, HasNoMarker}
 use Rattle.bpaf.specs.Marker.{is_marker_word, words_before, words_behind}
 
--- a word other than `--` fails the test for it
-not_marker : (word : List ℕ) → word ≢ codes "--" → is_marker_word word ≡ false
-not_marker word other =
-    false_from_ne_true (is_marker_word word)
-    (λ same. other ((bytes_eq-Decides word (codes "--")).0 same))
-
 -- words without `--`, behind which stands nothing or `--` first, are those on its two sides
 pub two_sides : (before rest : List (List ℕ)) → HasNoMarker before
     → (length before < length (before ++ rest)
@@ -33,10 +27,10 @@ two_sides before rest none first =
     let count = position_or_len_is is_marker_word words (length before) []
     (let size = length-append before rest in omega arith)
     (λ k within. ap is_marker_word (get_or_append_left before rest [] k within)
-    ∙ not_marker _ (none k [] within)) first in (
+    ∙ (grind (arith, false_from_ne_true, bytes_eq-Decides, codes, none k [] within))) first in (
       ap (λ n. take n words) count ∙ take_at before rest (length before) refl,
-      ap (λ n. drop (n + 1) words) count ∙ (sym (drop-drop 1 (length before) words)
-          ∙ ap (drop 1) (drop_at before rest (length before) refl)),
+      ap (λ n. drop (n + 1) words) count ∙ (sym (drop-drop 1 (length before) words) ∙ ap (drop 1)
+          (drop_at before rest (length before) refl)),
     )
 
 -- a fact of each item that a word spells, where it spells items
@@ -111,9 +105,8 @@ module _ (known : Known) (P : Arg → Type 0) where
       → All P (flat_map (λ xs. xs) parts)
   of_parts words [] spelled each = All-nil P
   of_parts [] (xs ∷ parts) spelled each = absurd spelled
-  of_parts (word ∷ words) (xs ∷ parts) spelled each =
-      All-append P xs (flat_map (λ xs. xs) parts) (each word (0, omega arith, refl) xs spelled.0)
-      (of_parts words parts spelled.1
+  of_parts (word ∷ words) (xs ∷ parts) spelled each = All-append P xs (flat_map (λ xs. xs) parts)
+      (each word (0, omega arith, refl) xs spelled.0) (of_parts words parts spelled.1
       (λ other among. each other (Contains-append_right (word ∷ []) words other among)))
 
   -- so do all items

@@ -57,12 +57,10 @@ abbrev pub PositionalFails : {T : Type 0} → (List ℕ → T → Type 0) → Po
     → Situation → Message → Situation → Type 0
 PositionalFails means position metavar s (Missing items) t =
     HasNone is_positional s × (t ≡ s) × IsMissingIn s (Some (Positional metavar None)) items
-PositionalFails means position metavar s (StrictPos place m) t =
-    (accepts position false ≡ false) × (m ≡ metavar)
-    × ((text : List ℕ) × TakesText s place false text t)
-PositionalFails means position metavar s (NonStrictPos place m) t =
-    (accepts position true ≡ false) × (m ≡ metavar)
-    × ((text : List ℕ) × TakesText s place true text t)
+PositionalFails means position metavar s (StrictPos place m) t = (accepts position false ≡ false)
+    × (m ≡ metavar) × ((text : List ℕ) × TakesText s place false text t)
+PositionalFails means position metavar s (NonStrictPos place m) t = (accepts position true ≡ false)
+    × (m ≡ metavar) × ((text : List ℕ) × TakesText s place true text t)
 PositionalFails means position metavar s (ParseFailed place fault) t =
     (taken : TakesSome s t) × (accepts position taken.strict ≡ true)
     × FaultsText means taken.text t.current (ParseFailed place fault)

@@ -36,9 +36,8 @@ pub data TriesAt (T : Type 0) (inner : Outcome T) (s : Situation) (place stop : 
 
 -- the first item looked at that matches: its place, whether it is attached, its value; or none does
 abbrev pub FindsMatch : {T : Type 0} → Looks T → Bool → Situation → Option (ℕ × Bool × T) → Type 0
-FindsMatch looks anywhere s (Some hit) =
-    (item : Arg) × FirstMatch looks (looked_at anywhere s) hit.0 item hit.2
-    × (hit.1 ≡ is_attached item)
+FindsMatch looks anywhere s (Some hit) = (item : Arg)
+    × FirstMatch looks (looked_at anywhere s) hit.0 item hit.2 × (hit.1 ≡ is_attached item)
 FindsMatch looks anywhere s None = ArePassed looks (looked_at anywhere s)
 
 -- What the search of an adjacent group keeps of a failure, and what its steps answer.
@@ -116,7 +115,5 @@ worse_error e (Err f) = if is_memory f.0 then f else e
 
 -- what is told of a field's error: want of memory, else the worse of it and the rest's answer
 abbrev pub IsErrorBefore : {V : Type 0} → Outcome V → Error → Situation → Error → Situation → Type 0
-IsErrorBefore {V} rest e s told t =
-    ((is_memory e.0 ≡ true) × (told ≡ e) × (t ≡ s))
-    ⊎ ((is_memory e.0 ≡ false)
-    × ((b : Result V Error) × rest s b t × (told ≡ worse_error e b)))
+IsErrorBefore {V} rest e s told t = ((is_memory e.0 ≡ true) × (told ≡ e) × (t ≡ s))
+    ⊎ ((is_memory e.0 ≡ false) × ((b : Result V Error) × rest s b t × (told ≡ worse_error e b)))

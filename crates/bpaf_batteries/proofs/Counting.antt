@@ -80,8 +80,7 @@ module _ {T : Type 0} (clones : T → T → Type 0) (flag : ParseFlag T) (stands
   each_key : (share : Share) (values : List T) → EachReads (KeyReads clones flag) context share values
       → AreKeys flag context share (length values)
   each_key share [] none = no_keys share none
-  each_key share (v ∷ vs) read =
-      subst (AreKeys flag context share) (omega arith)
+  each_key share (v ∷ vs) read = subst (AreKeys flag context share) (omega arith)
       (more_keys read.0 read.1 share v (length vs) read.2 read.4 (each_key read.1 vs read.5))
 
   -- so does each of all values
@@ -142,7 +141,6 @@ counts_spared clones keys s t r answered spared = grind (arith, both_spares, pro
 -- the counts are those of the keys that were newly taken
 pub keys_counted : (clones : Unit {0} → Unit {0} → Type 0) (keys : KeyCounts) (s t : Situation)
     (r : Result (ℕ × ℕ) Error) → CountsOutcome clones keys s r t → IfOk r (KeysAreCounted keys s t)
-keys_counted clones keys s t (Ok counts) o =
-    counted clones keys s.context (newly s t) counts
+keys_counted clones keys s t (Ok counts) o = counted clones keys s.context (newly s t) counts
     ((counts_lawful clones keys).ok s t counts o).reading
 keys_counted clones keys s t (Err e) o = tt

@@ -110,47 +110,37 @@ module _ {T : Type 0} (clones : T → T → Type 0) (one other : ParseFlag T) wh
       -- of two values that of the leftmost key is the chosen one
       both_took : {p q : ℕ} {x y v : T} {t : Situation} → IsFirst (is_key one) s p
           → IsFirst (is_key other) s q → clones one.present x → clones other.present y
-          → ((r : ℕ) → IsLeftmost (take_place s p) (take_place s q) r
-          → TookAndIsChosen r (Ok x) (take_place s p) v t
-          ⊎ TookAndIsChosen r (Ok y) (take_place s q) v t)
-          → TookKey s v t
+          → ((r : ℕ) → IsLeftmost (take_place s p) (take_place s q) r → TookAndIsChosen r (Ok x)
+          (take_place s p) v t ⊎ TookAndIsChosen r (Ok y) (take_place s q) v t) → TookKey s v t
       both_took {p} {q} mine theirs value_one value_other wins =
           let apart = two_places s p q mine.matches theirs.matches in
-          ⊎_elim
-          (λ (before : p < q).
+          ⊎_elim (λ (before : p < q).
           let there = match_is_open (is_key one) s p mine.matches in
-          ⊎_elim
-          (λ won. took_one mine (λ r low. theirs.first r (omega arith)) value_one won.chosen)
-          (λ lost. absurd (both_ways _ (taken_other s q p apart ∙ open_not_taken s p there)
-          lost.took))
-          (wins p (before_is_leftmost s p q before there)))
-          (λ (behind : q ≤ p).
+          ⊎_elim (λ won. took_one mine (λ r low. theirs.first r (omega arith)) value_one won.chosen)
+          (λ lost. absurd
+          (both_ways _ (taken_other s q p apart ∙ open_not_taken s p there) lost.took))
+          (wins p (before_is_leftmost s p q before there))) (λ (behind : q ≤ p).
           let there = match_is_open (is_key other) s q theirs.matches in
           let turned : q ≢ p = (λ same. apart (sym same)) in
-          ⊎_elim
-          (λ lost. absurd (both_ways _ (taken_other s p q turned ∙ open_not_taken s q there)
-          lost.took))
+          ⊎_elim (λ lost. absurd
+          (both_ways _ (taken_other s p q turned ∙ open_not_taken s q there) lost.took))
           (λ won. took_other theirs (λ r low. mine.first r (omega arith)) value_other won.chosen)
           (wins q (leftmost_of_other (take_place s q) (take_place s p) q
-          (before_is_leftmost s q p (omega arith) there))))
-          (cases_lt p q)
+          (before_is_leftmost s q p (omega arith) there)))) (cases_lt p q)
 
       -- a value at equal depths
       equal_took : (a : Result T Error) {sa : Situation} (b : Result T Error) {sb : Situation}
           {v : T} {t : Situation} → KeyEval clones one s a sa → KeyEval clones other s b sb
           → EqualDepths s a sa b sb (Ok v) t → (IsOk a → IsOk b → (r : ℕ) → IsLeftmost sa sb r
-          → TookAndIsChosen r a sa v t ⊎ TookAndIsChosen r b sb v t)
-          → TookKey s v t
+          → TookAndIsChosen r a sa v t ⊎ TookAndIsChosen r b sb v t) → TookKey s v t
       equal_took (Ok x) (Ok y) f g equal wins =
           let chosen = rw (f.2, g.2) at wins in both_took f.1 g.1 f.3 g.3 (chosen refl refl)
       equal_took (Ok x) (Err e) {v = v} f g (inl wrong) wins = absurd (no_value v e wrong.1)
       equal_took (Ok x) {sa} (Err e) {v = v} {t} f g (inr right) wins =
-          took_one f.1 (λ r before. g.0 r) f.3
-          (rw f.2 at (stands v t (branch_of x sa) right.1))
+          took_one f.1 (λ r before. g.0 r) f.3 (rw f.2 at (stands v t (branch_of x sa) right.1))
       equal_took (Err e) (Ok y) {v = v} f g (inl wrong) wins = absurd (no_value v e wrong.1)
       equal_took (Err e) (Ok y) {sb} {v} {t} f g (inr right) wins =
-          took_other g.1 (λ r before. f.0 r) g.3
-          (rw g.2 at (stands v t (branch_of y sb) right.1))
+          took_other g.1 (λ r before. f.0 r) g.3 (rw g.2 at (stands v t (branch_of y sb) right.1))
       equal_took (Err e) (Err d) {v = v} f g o wins = absurd (no_value v o.0.0 o.0.2)
 
       module _ {r : Result T Error} {t : Situation}
@@ -175,18 +165,16 @@ module _ {T : Type 0} (clones : T → T → Type 0) (one other : ParseFlag T) wh
       -- a refusal at equal depths comes where neither has a key
       equal_none : (a : Result T Error) (sa : Situation) (b : Result T Error) (sb : Situation)
           (e : Error) (t : Situation) → KeyOutcome clones one s a sa
-          → KeyOutcome clones other s b sb → KeyEval clones one s a sa
-          → KeyEval clones other s b sb → EqualDepths s a sa b sb (Err e) t
-          → HasNone (is_either one other) s
+          → KeyOutcome clones other s b sb → KeyEval clones one s a sa → KeyEval clones other s b sb
+          → EqualDepths s a sa b sb (Err e) t → HasNone (is_either one other) s
       equal_none x sa y sb e t a b f g o =
           grind (arith, and_parts, both_ways, neither, no_value, not_winner, ran_touched)
 
     -- a refusal of the choice that isn't want of memory comes where there is no key
     choice_none : {s t : Situation} {e : Error} → EitherOutcome clones one other s (Err e) t
         → is_memory e.0 ≡ false → HasNone (is_either one other) s
-    choice_none {s} {t} {e} (inl ran) spared =
-        equal_none s ran.a ran.sa ran.b ran.sb e t ran.first_ran ran.second_ran (one_ran s ran)
-        (other_ran s ran) (equal s ran)
+    choice_none {s} {t} {e} (inl ran) spared = equal_none s ran.a ran.sa ran.b ran.sb e t
+        ran.first_ran ran.second_ran (one_ran s ran) (other_ran s ran) (equal s ran)
     choice_none {e = e} (inr want) spared = absurd (both_ways (is_memory e.0) spared want.0)
 
     -- the choice keeps to the laws
@@ -217,9 +205,8 @@ module _ {T : Type 0} (clones : T → T → Type 0) (one other : ParseFlag T) wh
           let read = law.ok s t v ran in
           let joins = open_joins s t read.keeps read.closed in
           ap (λ context. option_map_or test (if is_open t q then item_in context q else None) false)
-          read.keeps.context
-          ∙ passes (is_open t q) (is_open s q) (newly s t q) (q == place) (item_at s q)
-          (joins.all q) (joins.apart q) ((choice_took ran).taken q)
+          read.keeps.context ∙ passes (is_open t q) (is_open s q) (newly s t q) (q == place)
+          (item_at s q) (joins.all q) (joins.apart q) ((choice_took ran).taken q)
         where
           passes : (now before new here : Bool) (at : Option Arg) → before ≡ (now || new)
               → (now && new) ≡ false → new ≡ here
@@ -293,20 +280,16 @@ module _ {T : Type 0} (clones : T → T → Type 0) (one other : ParseFlag T) wh
           took.gives,
         )
     last_step catches first s (b ∷ bs) v t (m, step, later) none =
-        let last : RightmostGives clones one other m (Some v) =
-        last_step catches false m bs v t later none in (
-          last.0,
-          rightmost_behind step.0 last.0 last.1,
-          gives_before step.0 v last.0 last.2,
-        )
+        let last : RightmostGives clones one other m (Some v) = last_step catches false m bs v t
+        later none in
+        (last.0, rightmost_behind step.0 last.0 last.1, gives_before step.0 v last.0 last.2)
 
     -- the last of the values that a repeat of the choice answers is that of the rightmost key
     last_wins : (catches : Bool) {s t : Situation} {values : List T} (v : Option T)
         → UntilStop (EitherOutcome clones one other) catches true s values t → EndsIn values v
         → RightmostGives clones one other s v
-    last_wins catches {s} {values = values} (Some v) run last =
-        last_step catches true s last.0 v run.last (rw last.1 at run.steps)
-        (stopped_none catches (is_nil values) run.stop)
+    last_wins catches {s} {values = values} (Some v) run last = last_step catches true s last.0 v
+        run.last (rw last.1 at run.steps) (stopped_none catches (is_nil values) run.stop)
     last_wins catches {s} {values = values} None run last =
         let same : s ≡ run.last =
         subst (λ vs. Turns (EitherOutcome clones one other) catches true s vs run.last) last

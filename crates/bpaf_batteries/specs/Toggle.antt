@@ -19,8 +19,7 @@ use Rattle.bpaf_laws.proofs.{Keeping.lawful_as, ChoiceLaws.choice_lawful, LeafLa
 -- a value of the key at a place: a clone of that of its flag
 abbrev pub GivesValue : {T : Type 0} → (T → T → Type 0) → ParseFlag T → ParseFlag T → Situation → ℕ
     → T → Type 0
-GivesValue clones one other s p v =
-    ((is_match (is_key one) s p ≡ true) × clones one.present v)
+GivesValue clones one other s p v = ((is_match (is_key one) s p ≡ true) × clones one.present v)
     ⊎ ((is_match (is_key other) s p ≡ true) × clones other.present v)
 
 -- a value of the rightmost key of either flag that is present in scope; none where there is no key
@@ -42,9 +41,8 @@ EitherOutcome clones one other = ChoiceOutcome (KeyOutcome clones one) (KeyOutco
 -- what a toggle answers: the last value of a repeat of the choice
 abbrev pub ToggleOutcome : {T : Type 0} → (T → T → Type 0) → ParseFlag T → ParseFlag T → Bool
     → Outcome (Option T)
-ToggleOutcome clones one other catches =
-    MapOutcome (ManyOutcome (EitherOutcome clones one other) catches)
-    (λ values v. EndsIn values.items v)
+ToggleOutcome clones one other catches = MapOutcome
+    (ManyOutcome (EitherOutcome clones one other) catches) (λ values v. EndsIn values.items v)
 
 -- and where the repeat wanted no memory
 abbrev pub ToggleSpared : {T : Type 0} → (T → T → Type 0) → ParseFlag T → ParseFlag T → Bool
@@ -56,8 +54,7 @@ ToggleSpared clones one other catches =
 -- what it reads
 abbrev pub ToggleReads : {T : Type 0} → (T → T → Type 0) → ParseFlag T → ParseFlag T
     → Readings (Option T)
-ToggleReads {T} clones one other =
-    MapReads (List T) (Option T)
+ToggleReads {T} clones one other = MapReads (List T) (Option T)
     (ListReads (ChoiceReads (KeyReads clones one) (KeyReads clones other)))
     (λ values v. v ≡ last_or None values)
 
@@ -74,8 +71,7 @@ last_behind default [] v = refl
 last_behind default (x ∷ before) v = last_behind (Some x) before v
 
 -- the last of some values, or none without a value
-is_last : {T : Type 0} (values : List T) (v : Option T) → EndsIn values v
-    → v ≡ last_or None values
+is_last : {T : Type 0} (values : List T) (v : Option T) → EndsIn values v → v ≡ last_or None values
 is_last values None none = sym (ap (last_or None) none)
 is_last values (Some v) is = sym (ap (last_or None) is.1 ∙ last_behind None is.0 v)
 
@@ -84,20 +80,18 @@ pub toggle_lawful : {T : Type 0} (clones : T → T → Type 0) (one other : Pars
     (catches : Bool)
     → Lawful (Option T) (ToggleOutcome clones one other catches) (ToggleReads clones one other)
 toggle_lawful {T} clones one other catches =
-    let law = map_lawful
-    (many_lawful (choice_lawful (flag_lawful T clones one.named one.present one.absent)
+    let law = map_lawful (many_lawful (choice_lawful
+    (flag_lawful T clones one.named one.present one.absent)
     (flag_lawful T clones other.named other.present other.absent)) catches)
     (λ values v. EndsIn values.items v) in
     lawful_as law (λ context share v read. record {
       from = read.read.from;
       read = read.read.read;
-      made = is_last read.read.from v
-          (subst (λ values. EndsIn values v) read.read.made read.made);
+      made = is_last read.read.from v (subst (λ values. EndsIn values v) read.read.made read.made);
     })
 
 -- it shows the short names of both keys
 pub toggle_shows : {T : Type 0} (one other : ParseFlag T) → ShowsNames (ToggleDescribes one other)
     (of_flags (one.named.names.shorts ++ other.named.names.shorts))
-toggle_shows one other =
-    many_shows (choice_shows (flag_shows one.named one.absent)
-    (flag_shows other.named other.absent))
+toggle_shows one other = many_shows
+    (choice_shows (flag_shows one.named one.absent) (flag_shows other.named other.absent))

@@ -45,9 +45,8 @@ counted_shorts keys =
 
 -- how many places of a share have a key of a flag
 abbrev pub keys_in : {T : Type 0} → ParseFlag T → Context → Share → ℕ
-keys_in flag context share =
-    count_below (λ p. share p && option_map_or (is_key flag) (item_in context p) false)
-    (length context.line)
+keys_in flag context share = count_below
+    (λ p. share p && option_map_or (is_key flag) (item_in context p) false) (length context.line)
 
 -- how many keys of a flag were newly taken
 abbrev pub keys_taken : {T : Type 0} → ParseFlag T → Situation → Situation → ℕ
@@ -61,15 +60,13 @@ KeysAreCounted keys s t counts =
 -- what two counted keys answer: both counts
 abbrev pub CountsOutcome : (Unit {0} → Unit {0} → Type 0) → KeyCounts → Outcome (ℕ × ℕ)
 CountsOutcome clones keys =
-    ProductOutcome
-    (BothOutcome (CountOutcome (KeyOutcome clones (more_of keys)))
+    ProductOutcome (BothOutcome (CountOutcome (KeyOutcome clones (more_of keys)))
     (CountOutcome (KeyOutcome clones (fewer_of keys)))) (λ counts v. v ≡ counts)
 
 -- and where neither count wanted memory
 abbrev pub CountsSpared : (Unit {0} → Unit {0} → Type 0) → KeyCounts → Outcome (ℕ × ℕ)
 CountsSpared clones keys =
-    ProductOutcome
-    (BothOutcome (WithoutMemory (CountOutcome (KeyOutcome clones (more_of keys))))
+    ProductOutcome (BothOutcome (WithoutMemory (CountOutcome (KeyOutcome clones (more_of keys))))
     (WithoutMemory (CountOutcome (KeyOutcome clones (fewer_of keys))))) (λ counts v. v ≡ counts)
 
 -- what a counted key reads: so many values
@@ -98,8 +95,7 @@ VerbosityCounts keys offset min max s t v =
 
 -- a clone of the item at the level of two counts, from the first to the last
 abbrev pub PicksItem : {T : Type 0} → (T → T → Type 0) → ℕ → List T → ℕ × ℕ → T → Type 0
-PicksItem {T} clones offset items counts v =
-    (place : ℕ) × (item : T)
+PicksItem {T} clones offset items counts v = (place : ℕ) × (item : T)
     × IsLevelOf (pos offset) (pos 0) (pos (length items) -ℤ pos 1) counts (pos place)
     × (slice_get items place ≡ Some item) × clones item v
 
@@ -107,8 +103,7 @@ PicksItem {T} clones offset items counts v =
 abbrev pub VerbosityPicks : {T : Type 0} → KeyCounts → (T → T → Type 0) → ℕ → List T → Situation
     → Situation → T → Type 0
 VerbosityPicks keys clones offset items s t v =
-    PicksItem clones offset items
-    (keys_taken (more_of keys) s t, keys_taken (fewer_of keys) s t) v
+    PicksItem clones offset items (keys_taken (more_of keys) s t, keys_taken (fewer_of keys) s t) v
 
 -- an item picked by the inner value; an inner refusal is passed on, or memory for it is wanted
 abbrev pub PickOutcome : {C T : Type 0} → Outcome C → (C → T → Type 0) → Outcome T
@@ -131,11 +126,10 @@ count_key_lawful {T} clones flag =
 -- so do two
 pub counts_lawful : (clones : Unit {0} → Unit {0} → Type 0) (keys : KeyCounts)
     → Lawful (ℕ × ℕ) (CountsOutcome clones keys) (CountsReads clones keys)
-counts_lawful clones keys =
-    lawful_as (product_lawful (λ counts v. v ≡ counts)
-    (both_lawful (count_key_lawful clones (more_of keys))
-    (count_key_lawful clones (fewer_of keys))))
-    (λ context share v read. subst (CountsReads clones keys context share) (sym read.made) read.read)
+counts_lawful clones keys = lawful_as (product_lawful (λ counts v. v ≡ counts) (both_lawful
+    (count_key_lawful clones (more_of keys)) (count_key_lawful clones (fewer_of keys))))
+    (λ context share v read. subst (CountsReads clones keys context share) (sym read.made)
+    read.read)
 
 -- they show the short names of both keys
 pub counts_show : (keys : KeyCounts) → ShowsNames (CountsDescribe keys) (counted_shorts keys)

@@ -45,8 +45,7 @@ module _ {T : Type 0} (inner : Outcome T) (ending : Ending) (called : Called)
   pub refused_inside : (adjacent : Bool) {e : Error} (r : Result T Error) {t : Situation}
       → IsErr r × IsErrAnd r (λ given. given ≡ e) → StaysOutside called shows s e t
       → EitherCommandOutcome adjacent T inner ending called shows s r t
-  refused_inside adjacent (Err given) handed outside =
-      rw handed.1 (not_inside adjacent outside)
+  refused_inside adjacent (Err given) handed outside = rw handed.1 (not_inside adjacent outside)
   refused_inside adjacent (Ok v) handed outside = absurd (true≢false (sym handed.0))
 
   module _ {U : Type 0} (u : U) (m t : Situation) (enters : Enters called shows s (Ok u) m) where

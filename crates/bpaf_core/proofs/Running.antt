@@ -270,4 +270,4 @@ pub default_shown : {E : Type 0} (describes : Shape → Type 0) {inner : Shape}
     (text : Option (List Piece)) (shown : Result Meta E) → describes inner
     → IfOk shown (λ meta. DefaultDescribes (λ s. s ≡ inner) text (shape_of meta))
     → IfOk shown (λ meta. DefaultDescribes describes text (shape_of meta))
-default_shown describes text shown of_it told = grind (arith, None, Ok, Some, Err)
+default_shown describes text shown of_it told = grind arith

@@ -81,9 +81,8 @@ module _ {T : Type 0} {inner : Outcome T} {ending : Ending} (ends : LawfulEnding
   spared_retry wants_memory spared = absurd (true≢false spared)
 
   -- attempts whose end isn't want of memory rest on none
-  spared_attempts : {r : Result T ParseFailure} {u : Situation}
-      → Attempts T inner ending s from r u → IsNotWant r
-      → Attempts T (WithoutMemory inner) ending s from r u
+  spared_attempts : {r : Result T ParseFailure} {u : Situation} → Attempts T inner ending s from r u
+      → IsNotWant r → Attempts T (WithoutMemory inner) ending s from r u
   spared_attempts (first_counts v end t stretch run) spared =
       first_counts v end t stretch (spared_run ends run tt)
   spared_attempts (first_fails f end t q w stretch run retry) spared =

@@ -43,12 +43,8 @@ module _ {T : Type 0} {inner : Outcome T} {ending : Ending} (s : Situation) (fro
   -- a value comes of one of the attempts
   pub attempts_counted : (v : T) (u : Situation) → Attempts T inner ending s from (Ok v) u
       → Counted T inner ending s from v u
-  attempts_counted v u (first_counts w end t run ran) = record {
-    end = end;
-    ordered = run.ordered;
-    present = run.present;
-    ran = ran;
-  }
+  attempts_counted v u (first_counts w end t run ran) =
+      record { end = end; ordered = run.ordered; present = run.present; ran = ran }
   attempts_counted v u (first_fails f end t r w run ran retry) = retry_counted end f t v w run retry
 
 module _ {T : Type 0} {inner : Outcome T} {ending : Ending} {reads : Readings T}
@@ -56,9 +52,8 @@ module _ {T : Type 0} {inner : Outcome T} {ending : Ending} {reads : Readings T}
   -- what an attempt over present places keeps
   attempt_keeps : (s : Situation) (from end : ℕ) (r : Result T ParseFailure) (t : Situation)
       → IsStretchFrom s from end → Attempt T inner ending s from end r t → Keeps s t
-  attempt_keeps s from end r t run ran =
-      keeps_trans s (with_scope s from end) t (keeps_stretch s from end run.present)
-      (runs_keeps law ends (with_scope s from end) r t ran)
+  attempt_keeps s from end r t run ran = keeps_trans s (with_scope s from end) t
+      (keeps_stretch s from end run.present) (runs_keeps law ends (with_scope s from end) r t ran)
 
   -- what a retry that fails keeps
   retry_keeps : (s : Situation) (from end : ℕ) (f g : ParseFailure) (t u : Situation)
@@ -96,24 +91,21 @@ module _ {T : Type 0} {inner : Outcome T} {ending : Ending} {reads : Readings T}
         let count = attempts_counted m (p + 1) w runs.0 runs.1 in
         let run = with_scope m (p + 1) count.end in
         subst (Reads T (StretchReads T (CommandReads T (opening_words called) reads)) s w)
-        (sym runs.2)
-        (adjacent_read called s p at count.end count.ordered count.present w runs.0
+        (sym runs.2) (adjacent_read called s p at count.end count.ordered count.present w runs.0
         (run_read law ends run w runs.0 count.ran) (run_empty run w runs.0 count.ran))
 
     -- what its refusal keeps
     adjacent_refused : (s t : Situation) (e : Error)
         → AdjacentOutcome T inner ending called shows s (Err e) t → Keeps s t
-    adjacent_refused s t e (failed f told p u at runs is) =
-        keeps_trans s (inside called s p) u (keeps_inside called s p at)
-        (attempts_keep (inside called s p) (p + 1) f u runs)
+    adjacent_refused s t e (failed f told p u at runs is) = keeps_trans s (inside called s p) u
+        (keeps_inside called s p at) (attempts_keep (inside called s p) (p + 1) f u runs)
     adjacent_refused s t e (unnamed told none is) = keeps_unset s (with_current s None) refl
     adjacent_refused s t e (no_path told p at is) = keeps_opened (opening_words called) s p at
 
     -- what it hands on of the runs inside has a name
     adjacent_named : (s t : Situation) (e : Error)
         → AdjacentOutcome T inner ending called shows s (Err e) t → NamesAnswer e.0
-    adjacent_named s t e (failed f told p u at runs is) =
-        names_same e.0 (end_message f)
+    adjacent_named s t e (failed f told p u at runs is) = names_same e.0 (end_message f)
         (names_end f (attempts_has_name (inside called s p) (p + 1) f u runs)) is
     adjacent_named s t e (unnamed told none is) = names_missing shows s e.0 is
     adjacent_named s t e (no_path told p at is) = names_same e.0 Memory tt is

@@ -20,10 +20,8 @@ use Rattle.bpaf_line.specs.declared.failure.ParseFailure.TheVariants as failure
 
 -- a part that the command may show is missing; or memory for that is wanted
 abbrev pub IsMissingPart : (Part → Type 0) → Situation → Message → Type 0
-IsMissingPart shows s m =
-    (m ≡ message.Memory)
-    ⊎ ((part : Part) × (items : List MissingItem) × shows part × (m ≡ message.Missing items)
-    × IsMissingIn s (Some part) items)
+IsMissingPart shows s m = (m ≡ message.Memory) ⊎ ((part : Part) × (items : List MissingItem) × shows
+    part × (m ≡ message.Missing items) × IsMissingIn s (Some part) items)
 
 -- the word is there, and the inner run, from behind it on, answers a value, or refuses; or it isn't
 -- there, and the command's part is missing; or there is no memory for the path
@@ -73,9 +71,8 @@ pub data Attempts (T : Type 0) (inner : Outcome T) (ending : Ending) (s : Situat
 -- the attempts behind a word, from which on the scope runs; so it does again after a value
 abbrev pub AdjacentRuns : (T : Type 0) → Outcome T → Ending → Situation → Result T ParseFailure
     → Situation → Type 0
-AdjacentRuns T inner ending s (Ok v) t =
-    (left : Situation) × Attempts T inner ending s (s.start + 1) (Ok v) left
-    × (t ≡ with_scope left s.start s.end)
+AdjacentRuns T inner ending s (Ok v) t = (left : Situation)
+    × Attempts T inner ending s (s.start + 1) (Ok v) left × (t ≡ with_scope left s.start s.end)
 AdjacentRuns T inner ending s (Err f) t = Attempts T inner ending s (s.start + 1) (Err f) t
 
 -- the word is there, and the attempts behind it answer a value, or refuse; or it isn't there, and
@@ -123,8 +120,7 @@ RunsInside false T inner ending s = Runs T inner ending s
 abbrev pub StaysOutside : Called → (Part → Type 0) → Situation → Error → Situation → Type 0
 StaysOutside called shows s e t =
     (IsNotOpened (opening_words called) s × IsMissingPart shows s e.0 × (t ≡ with_current s None))
-    ⊎ ((p : ℕ) × IsOpenedAt (opening_words called) s p × (e.0 ≡ message.Memory)
-    × (t ≡ opened s p))
+    ⊎ ((p : ℕ) × IsOpenedAt (opening_words called) s p × (e.0 ≡ message.Memory) × (t ≡ opened s p))
 
 -- going inside: the word is there, and is taken
 abbrev pub Enters : {U : Type 0} → Called → (Part → Type 0) → Situation → Result U Error → Situation

@@ -31,9 +31,8 @@ names_end (failure.Stderr doc) named = named
 -- that a command's part is missing is the answer of no run inside
 pub names_missing : (shows : Part → Type 0) (s : Situation) (m : Message)
     → IsMissingPart shows s m → NamesAnswer m
-names_missing shows s m lacks =
-    ⊎_elim (λ want. names_same m Memory tt want) (λ part. names_same m (Missing part.1) tt part.3)
-    lacks
+names_missing shows s m lacks = ⊎_elim (λ want. names_same m Memory tt want)
+    (λ part. names_same m (Missing part.1) tt part.3) lacks
 
 module _ {T : Type 0} {inner : Outcome T} {ending : Ending} {reads : Readings T}
     (law : Lawful T inner reads) (ends : LawfulEnding ending) where
@@ -68,17 +67,15 @@ module _ {T : Type 0} {inner : Outcome T} {ending : Ending} {reads : Readings T}
     -- what a command's refusal keeps
     command_refused : (s t : Situation) (e : Error)
         → CommandOutcome T inner ending called shows s (Err e) t → Keeps s t
-    command_refused s t e (ended f told p left at run is) =
-        keeps_trans s (inside called s p) left (keeps_inside called s p at)
-        (runs_keeps (inside called s p) (Err f) left run)
+    command_refused s t e (ended f told p left at run is) = keeps_trans s (inside called s p) left
+        (keeps_inside called s p at) (runs_keeps (inside called s p) (Err f) left run)
     command_refused s t e (missing told none is) = keeps_unset s (with_current s None) refl
     command_refused s t e (no_memory told p at is) = keeps_opened (opening_words called) s p at
 
     -- what a command hands on of the run inside has a name
     command_named : (s t : Situation) (e : Error)
         → CommandOutcome T inner ending called shows s (Err e) t → NamesAnswer e.0
-    command_named s t e (ended f told p left at run is) =
-        names_same e.0 (end_message f)
+    command_named s t e (ended f told p left at run is) = names_same e.0 (end_message f)
         (names_end f (runs_has_name (inside called s p) f left run)) is
     command_named s t e (missing told none is) = names_missing shows s e.0 is
     command_named s t e (no_memory told p at is) = names_same e.0 Memory tt is

@@ -321,7 +321,7 @@ module _ {A B : Type 0} {inner : Outcome A} {r : Roles} {value : CellsValue A} {
   pub closed_commands : {env : Variables} {words : List (List ℕ)}
       → CommandsLaw env A inner r words value
       → CommandsLaw env B (ClosedEval A B inner f c) r words (ClosedValue value f)
-  closed_commands l = grind (arith, closed_program, closed_keeps, inl)
+  closed_commands l = grind (arith, closed_program, closed_keeps)
 
 -- Commands that may be left out.
 
@@ -354,7 +354,7 @@ module _ {env : Variables} {T : Type 0} {inner : Outcome T} {r : Roles} {words :
 
   -- the laws
   pub optional_commands : ProgramLaw env (Option T) (OptionalEval T inner) r optional
-  optional_commands = grind (arith, optional_took, optional_refuses, Option, none_own)
+  optional_commands = grind (arith, optional_took, optional_refuses, none_own)
 
 -- A choice of commands.
 
@@ -396,7 +396,7 @@ alike_then e f = grind arith
 -- and where conflicts are saved
 alike_saved : {m : Situation} (other : Situation) {t : Situation} {place : ℕ}
     → ConflictsSaved m other place t → Alike m t
-alike_saved other c = grind (arith, cells_same, same_scope, saved_steady, length)
+alike_saved other c = grind (arith, cells_same, same_scope, saved_steady)
 
 module _ {env : Variables} {T : Type 0} {a b : Outcome T} {ra rb : Roles} {wa wb : List (List ℕ)}
     {va vb : CellsValue T} (la : CommandsLaw env T a ra wa va) (lb : CommandsLaw env T b rb wb vb)

@@ -124,7 +124,7 @@ pub record CutAlike (q r : Roles) (cs : Cells) (os : List LinePiece) : Type 0 wh
 -- with one piece more in front
 cut_more : {q r : Roles} {o : LinePiece} {cs ds : Cells} {os : List LinePiece} → CutAlike q r cs os
     → ((ps : List LinePiece) → Cut r cs ps → Cut r ds (o ∷ ps)) → CutAlike q r ds (o ∷ os)
-cut_more i on = grind (arith, not)
+cut_more i on = grind arith
 
 -- a field's own pieces are ones of a cut by these keys: keys, or words
 pub record CutsOff (q r : Roles) : Type 0 where
@@ -135,7 +135,7 @@ pub record CutsOff (q r : Roles) : Type 0 where
 
 -- so are those of a named field
 pub named_cuts : {q : Roles} (r : Roles) → IsNamed q → CutsOff q (either q r)
-named_cuts r n = grind (arith, inl, either_own, false_from_ne_true, word_foreign, value_foreign)
+named_cuts r n = grind (arith, either_own, false_from_ne_true, word_foreign, value_foreign)
 
 -- a piece given back to its place is cut off there again
 pub put_back : {q r : Roles} {cs ds : Cells} {o : LinePiece} {os : List LinePiece} → CutsOff q r
@@ -246,7 +246,7 @@ never_two n e = grind arith
 
 -- its pieces are ones of a cut by no keys
 pub words_cut : {q r : Roles} → IsWords q → NoKeys r → CutsOff q r
-words_cut n f = grind (arith, inr, word_of, never_two)
+words_cut n f = grind (arith, word_of, never_two)
 
 -- Where no key is cut off, the pieces are the words that are present.
 pub words_of_cut : {q r : Roles} {cs : Cells} {os : List LinePiece} → IsWords q → NoKeys r
@@ -482,7 +482,7 @@ takes_shorter {q} n (takes_later {c = Some k} {cs} {ds} t) = grind (arith, takes
 -- two that share no item never leave the same cells
 pub never_same : {qa qb r : Roles} {cs ca cb : Cells} {oa ob : LinePiece} → Union qa qb r
     → TakesPiece qa cs oa ca → TakesPiece qb cs ob cb → ca ≡ cb → ⊥
-never_same u s t e = grind (arith, takes_shorter, length, keeps_other)
+never_same u s t e = grind (arith, takes_shorter, keeps_other)
 
 -- A cut line holds together.
 module _ (r : Roles) (n : IsNamed r) where
@@ -492,7 +492,7 @@ module _ (r : Roles) (n : IsNamed r) where
       → after ≡ Some value ∷ behind → Cut r before earlier → Cut r behind later
       → os ≡ earlier ++ (Two k value ∷ later) → HasItsValue r before k after os
   has_its_value value e v next cut_before cut_behind is =
-      grind (arith, filter-append, not, others_own)
+      grind (arith, filter-append, others_own)
 
   -- what an item of a cut line is: a flag's key, an argument's key, its value, or a word
   data Item (before : Cells) (k : Arg) (after : Cells) (os : List LinePiece) : Type 0 where
@@ -569,4 +569,4 @@ module _ (r : Roles) (n : IsNamed r) where
   -- a cut line holds together
   pub cut_holds_together : (cs : Cells) (os : List LinePiece) → Cut r cs os → HoldsTogether r cs os
   cut_holds_together cs os c =
-      grind (arith, own_key, own_value, behind_key, words_alone, Some, item_of)
+      grind (arith, own_key, own_value, behind_key, words_alone, item_of)

@@ -104,7 +104,7 @@ module _ {T : Type 0} {q : Roles} {value : LinePiece → T → Type 0} {gap : Ga
   -- where nothing stands for no piece, it is one of an alternative,
   alternative_ok : {v : T} → FirstRead T ByName q value gap other s (Ok v) t
       → AlternativeOk T q value s v t
-  alternative_ok x0 = grind (arith, first_takes, inl)
+  alternative_ok x0 = grind (arith, first_takes)
 
   -- and so is a refusal, where without a piece an item is missing
   alternative_err : {e : Error} → (other → ⊥) → FirstRead T ByName q value gap other s (Err e) t
@@ -532,7 +532,7 @@ argument_field_law variables T means argument =
 -- the text and the side of a word are those of its item
 pub word_is : (w : Arg) (strict : Bool) (text : List ℕ) → word_text w ≡ Some (strict, text)
     → (item_text w ≡ text) × (stands_behind w ≡ strict)
-word_is w strict text e = grind (arith, false)
+word_is w strict text e = grind arith
 
 -- a field that stops takes none behind `--`
 passed_by : (b : Bool) → b ≡ true → (o : LinePiece) (os : List LinePiece) → is_behind o ≡ true

@@ -1,6 +1,6 @@
 -- Where closures can't tell apart what looks alike they agree, and a line's values look alike.
-use Rattle.std.proofs.Common.{Option, arith, false, subst, Bool, List, None, Some, true, refl, map}
-use Rattle.std.proofs.Common.{◌∷◌, ◌≡◌, not, sym, ◌∙◌, [], ap, ℕ}
+use Rattle.std.proofs.Common.{Option, arith, subst, Bool, List, true, refl, map, ◌∷◌, ◌≡◌, sym, ◌∙◌}
+use Rattle.std.proofs.Common.{[], ap, ℕ}
 use Rattle.std.specs.{Option.IsSomeRelated, Prelude.option_map, Global.Vec}
 use Rattle.bpaf_base.specs.Items.{item_text}
 use Rattle.bpaf_doc.specs.Names.{Names}
@@ -89,7 +89,7 @@ pub argument_view : (T X : Type 0) (see : T → X) (means : List ℕ → T → T
     → ((text : List ℕ) → Alike see (means text)) → (argument : KeyWithValue)
     (variables : Variables) → HasOneView see (argument_field means argument variables)
 argument_view T X see means u argument variables =
-    grind (arith, key_view, not, argument_piece, front_view, last_same, meant_view)
+    grind (arith, key_view, argument_piece, front_view, last_same, meant_view)
 
 -- a word
 word_piece : {T X : Type 0} {see : T → X} (accepts : Bool → Bool) {means : List ℕ → T → Type 0}
@@ -166,7 +166,7 @@ module _ {env : Variables} {T X : Type 0} {inner : Outcome T} {names : List Name
   pub optional_field_view : {s : ProgramForm T} → FormLaw env inner names words s
       → HasOneView see s → HasOneView (option_map see) (program_optional s)
   optional_field_view l u =
-      grind (arith, false, Some, None, none_opens, optional_value_view, whole_view)
+      grind (arith, none_opens, optional_value_view, whole_view)
 
   -- a field with a default
   pub fallback_view : {s : ProgramForm T} (f : Closure (Unit {0}) T) → Alike see (λ v. f.yes tt v)
@@ -177,7 +177,7 @@ module _ {env : Variables} {T X : Type 0} {inner : Outcome T} {names : List Name
   -- any field of a record
   pub field_view : {s : ProgramForm T} → FormLaw env inner names words s → HasOneView see s
       → HasOneView see (program_field s)
-  field_view l u = grind (arith, true, false, whole_view, value_view)
+  field_view l u = grind (arith, whole_view, value_view)
 
   -- many, as the program keeps it
   pub many_view : {s : ProgramForm T} → FormLaw env inner names words s → HasOneView see s

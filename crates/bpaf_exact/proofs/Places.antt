@@ -287,7 +287,7 @@ bare_taken {s} {p} t f m e =
 pub test_owns : {test : Arg → Bool} {names : Names} (own : Role)
     → ((k : Arg) → test k ≡ true → is_key_of names k ≡ true)
     → Owns (λ k. if test k then own else Foreign) (names ∷ [])
-test_owns own asks = grind (arith, false, true_from_ne_false)
+test_owns own asks = grind (arith, true_from_ne_false)
 
 -- a piece taken leaves fewer items
 pub takes_fewer : {q : Roles} {cs ds : Cells} {o : LinePiece} → TakesPiece q cs o ds

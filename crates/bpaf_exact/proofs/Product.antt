@@ -1,7 +1,7 @@
 -- Products: a field before other fields, the last field, and the constructor; and that a product of
 -- named fields keeps to the laws of a named field, so it may stand in another product.
-use Rattle.std.proofs.Common.{Result, filter, length, arith, false, subst, Bool, List, None, Some}
-use Rattle.std.proofs.Common.{refl, true, Err, inl, inr, not, sym, ◌∙◌, ◌∷◌, ◌≡◌, Ok, [], ap}
+use Rattle.std.proofs.Common.{Result, filter, arith, false, subst, Bool, List, None, Some, refl}
+use Rattle.std.proofs.Common.{true, Err, not, sym, ◌∙◌, ◌∷◌, ◌≡◌, Ok, [], ap}
 use Rattle.bpaf_base.specs.declared.arg.Arg.{Arg}
 use Rattle.bpaf_line.specs.{Situation.with_current, Situation.Situation, declared.error.Error.Error}
 use Rattle.bpaf_laws.specs.Product.{ProductOutcome, BothOutcome, joined}
@@ -26,7 +26,7 @@ use Rattle.bpaf_exact.specs.{ProgramForm.last_reading, Pieces.Cut}
 -- what isn't taken stays in the scope
 pub none_outside_after : {env : Variables} {s t : Situation} → IsWholeIn env s → Steady s t
     → IsWholeIn env t
-none_outside_after w k = grind (arith, length)
+none_outside_after w k = grind arith
 
 -- nothing has changed
 pub steady_refl : {s : Situation} → Steady s s
@@ -155,7 +155,7 @@ module _ {env : Variables} {A B : Type 0} {first : Outcome A} {rest : Outcome B}
 
   -- the laws
   pub both_keeps : KeepsTo env (A × B) (BothOutcome first rest) gave (λ s c t. refused s c)
-  both_keeps = grind (arith, of_joined, inl, inr, memory_class)
+  both_keeps = grind (arith, of_joined, memory_class)
 
 module _ {env : Variables} {A B : Type 0} {first : Outcome A} {rest : Outcome B} {k : FieldKind}
     {q r : Roles} {fv : List LinePiece → A → Type 0} {others_read : FieldsReading B}

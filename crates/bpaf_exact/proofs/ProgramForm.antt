@@ -265,7 +265,7 @@ module _ {env : Variables} {T : Type 0} {outcome : Outcome T} {names : List Name
   -- one parser of a choice
   pub choice_only_law : {s : ProgramForm T} → FormLaw env outcome names words s
       → FormLaw env outcome names words (choice_only s)
-  choice_only_law l = grind (arith, false)
+  choice_only_law l = grind arith
 
   -- a field of a product, which may be a product of named fields
   pub program_field_law : {s : ProgramForm T} → FormLaw env outcome names words s
@@ -282,7 +282,7 @@ module _ {env : Variables} {T : Type 0} {outcome : Outcome T} {names : List Name
   pub program_alone_law : {s : ProgramForm T} → FormLaw env outcome names words s
       → FormLaw env outcome names [] (program_alone s)
   program_alone_law l =
-      grind (arith, last_law, append-nil, either_owns, named_last_law, false, true)
+      grind (arith, last_law, append-nil, either_owns, named_last_law)
 
   -- a whole program
   pub whole_law : {s : ProgramForm T} → FormLaw env outcome names words s
@@ -415,7 +415,7 @@ narrower_program n l = record { others = l.others; keeps = narrower n l.keeps }
 pub narrower_form : {env : Variables} {T : Type 0} {a b : Outcome T} {names : List Names}
     {words : List (List ℕ)} {s : ProgramForm T} → AllowsNoMore T a b
     → FormLaw env a names words s → FormLaw env b names words s
-narrower_form n l = grind (arith, narrower, Bool, false, narrower_program, true)
+narrower_form n l = grind (arith, narrower, narrower_program)
 
 -- By their tables.
 

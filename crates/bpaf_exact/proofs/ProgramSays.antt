@@ -1,6 +1,6 @@
 -- Of each combinator: its values say what is told of them, where those of its inner parsers do.
 use Rattle.std.proofs.Common.{append-nil, arith, false, subst, Bool, List, refl, true, zero, ◌++◌}
-use Rattle.std.proofs.Common.{None, Some, inl, inr, not, suc, sym, ◌∙◌, ◌∷◌, ◌≡◌, [], ap, ℕ}
+use Rattle.std.proofs.Common.{None, Some, not, suc, sym, ◌∙◌, ◌∷◌, ◌≡◌, [], ap, ℕ}
 use Rattle.std.specs.{List.Contains}
 use Rattle.bpaf_doc.specs.Names.{Names}
 use Rattle.bpaf_laws.specs.{Command.opening_words, Command.Called, Product.BothOutcome}
@@ -215,7 +215,7 @@ pub program_command_says : {env : Variables} {P T : Type 0} {outcome : Outcome T
     → FormLaw env outcome names words s → ProgramSays names s kind said p
     → Says names (program_command adjacent apart called s) (of_kind ByName) true (λ os v. ⊥)
     (CommandValue T (opening_words called) (cells_said s said p))
-program_command_says said p adjacent apart called law h = grind (arith, if_says, not, program_says)
+program_command_says said p adjacent apart called law h = grind (arith, if_says, program_says)
 
 -- Choices.
 
@@ -237,7 +237,7 @@ pub first_says : {T : Type 0} {s : ProgramForm T} {kind : SaidKind} {keys : List
     {one said : Said T} {these cells : CellsValue T} (names : List Names)
     → Into one said these cells → Says keys s kind c one these
     → Says names (choice_only s) (of_kind ByName) c said cells
-first_says names into h = grind (arith, false)
+first_says names into h = grind arith
 
 -- a choice of two, into what is said of both
 choice_into : {T : Type 0} {a b : ProgramForm T} {j k : SaidKind} {m n : List Names} {c d : Bool}
@@ -246,7 +246,7 @@ choice_into : {T : Type 0} {a b : ProgramForm T} {j k : SaidKind} {m n : List Na
     → Says m a j c this these → Says n b k d that those
     → Says names (program_choice own others words more a b) (of_kind ByName) c said cells
 choice_into names own others words more from_this from_that h g =
-    grind (arith, if_says, Bool, true, false, inl, inr)
+    grind (arith, if_says)
 
 -- one more parser, into what is said of all
 pub more_says : {T : Type 0} {s : ProgramForm T} {kind : SaidKind} {keys : List Names}
@@ -256,7 +256,7 @@ pub more_says : {T : Type 0} {s : ProgramForm T} {kind : SaidKind} {keys : List 
     → Says names (choice_only (program_choice own others words more before s)) (of_kind ByName) c
     said cells
 more_says names own others words more before into h g =
-    grind (arith, choice_into, first_says, false)
+    grind (arith, choice_into, first_says)
 
 -- of two
 pub program_choice_says : {T : Type 0} {s t : ProgramForm T} {j k : SaidKind} {a b : Said T}
@@ -264,7 +264,7 @@ pub program_choice_says : {T : Type 0} {s t : ProgramForm T} {j k : SaidKind} {a
     → Says own s j c a x → Says others t k d b y
     → Says (own ++ others) (program_choice own others words more s t) (of_kind ByName) c
     (EitherSays a b) (ChoiceValue T x y)
-program_choice_says own others words more h g = grind (arith, choice_into, inl, inr)
+program_choice_says own others words more h g = grind (arith, choice_into)
 
 -- Products.
 

@@ -266,7 +266,7 @@ module _ {env : Variables} {V : Type 0} {outcome : Outcome V} {r : Roles}
     {reading : FieldsReading V} (l : FieldsLaw env V outcome r reading) where
   -- the laws
   pub record_program : ProgramLaw env V outcome r (ReadOff V r reading.value)
-  record_program = grind (arith, no_own_in_cut, length)
+  record_program = grind (arith, no_own_in_cut)
 
 -- What is taken, and what is left.
 

@@ -121,7 +121,7 @@ module _ {T : Type 0} (said : Said T) (group : Groups T) (gap : Gap T)
     (absent : (v : T) → gap.absent v → said [] v) where
   -- a value of all pieces at once
   pub whole_says : (os : List LinePiece) (v : T) → SingleValue T group gap os v → said os v
-  whole_says os v x2 = grind (arith, inl, append-nil, inr)
+  whole_says os v x2 = grind (arith, append-nil)
 
   -- values in turn
   turns_say : {os : List LinePiece} {vs : List T} → Own T group os vs → Own T (FrontSays said) os vs

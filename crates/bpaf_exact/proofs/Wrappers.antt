@@ -278,12 +278,12 @@ module _ {env : Variables} {A B : Type 0} {inner : Outcome A} {q : Roles}
   no_unread : {s t : Situation} {x : A} (a : AlternativeOk A q value s x t) → f.no x
       → TakesFirst q (cells s) a.piece (cells t) ⊎ FirstUnread A q value (cells s)
       → FirstUnread B q (ClosedValue value f) (cells s)
-  no_unread a n x2 = grind (arith, inl, first_pieces, inr, closed_unread)
+  no_unread a n x2 = grind (arith, first_pieces, closed_unread)
 
   -- a closure round an alternative is one
   pub closed_alternative : AlternativeLaw env B (ClosedEval A B inner f Refused) q
       (ClosedValue value f)
-  closed_alternative = grind (arith, closed_keeps, ⊎_elim, inl, inr, closed_unread, no_unread)
+  closed_alternative = grind (arith, closed_keeps, closed_unread, no_unread)
 
 -- inner closures round a field without a repeat or default
 module _ {env : Variables} {A B : Type 0} {inner : Outcome A} {k : FieldKind} {q : Roles}

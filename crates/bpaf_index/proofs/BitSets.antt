@@ -140,7 +140,7 @@ clear_counted word low wide fits inside some =
 
 -- of a word without bits all are clear
 pub clear_all : (word low wide : ℕ) → word ≡ 0 → wide ≡ clear_within word low wide
-clear_all word low wide none = grind (arith, count_below-all, not, bit_at-zero)
+clear_all word low wide none = grind (arith, count_below-all, bit_at-zero)
 
 -- and of one whose bits are all set none
 pub clear_none : (word low wide : ℕ) → word ≡ 18446744073709551615 → low + wide ≤ 64
@@ -191,21 +191,21 @@ zeros_first word low n fits inside is = ⊎_elim
 pub first_flipped : (word low p : ℕ) → word < 2 ^ 64
     → IsFirstWith (is_bit (bit_not w64 word)) true low 64 p
     → IsFirstWith (is_bit word) false low 64 p
-first_flipped word low p fits first = grind (arith, complement, Bool, not)
+first_flipped word low p fits first = grind (arith, complement)
 
 -- Bits in words of 64: what a write of one word changes.
 
 -- the bit of the place whose word was written
 pub has_bit_written : (words : List ℕ) (p w : ℕ) → p < 64 * length words
     → has_bit (slice_set words (p / 64) w) p ≡ is_bit w (p % 64)
-has_bit_written words p w within = grind (arith, length, get_or-set_same)
+has_bit_written words p w within = grind (arith, get_or-set_same)
 
 -- the other bits, where the written word differs from the old one in that one bit at most
 pub has_bit_others : (words : List ℕ) (p w : ℕ) → p < 64 * length words
     → ((i : ℕ) → i < 64 → i ≢ p % 64 → bit_at w i ≡ bit_at (slice_index words (p / 64)) i)
     → (q : ℕ) → q ≢ p → has_bit (slice_set words (p / 64) w) q ≡ has_bit words q
 has_bit_others words p w within same q other =
-    grind (arith, length, get_or-set_same, get_or-set_other)
+    grind (arith, get_or-set_same, get_or-set_other)
 
 -- below the place from which they are counted none are
 pub count_clear-none : (words : List ℕ) (low : ℕ) → count_clear words low low ≡ 0
@@ -217,7 +217,7 @@ pub count_clear-word : (words : List ℕ) (low place wide : ℕ) → low ≤ pla
     → count_clear words low (place + wide) ≡ count_clear words low place
     + clear_within (slice_index words (place / 64)) (place % 64) wide
 count_clear-word words low place wide above inside =
-    grind (arith, count_below-split, count_below-same, not, le-leb, ℕ, slice_index)
+    grind (arith, count_below-split, count_below-same, le-leb)
 
 -- there are no more of them than places below
 pub count_clear-most : (words : List ℕ) (low p : ℕ) → count_clear words low p ≤ p
@@ -257,7 +257,7 @@ changes_more old words new places p bit h change = grind (arith, nat_tests, is_o
 pub least_skip : (words places : List ℕ) (p : ℕ) (bit : Bool) (found : Option ℕ)
     → IsLeastIn (is_on_as words places bit) found → not (beq (has_bit words p) bit) ≡ true
     → IsLeastIn (is_on_as words (places ++ p ∷ []) bit) found
-least_skip words places p bit found = grind (arith, nat_tests, ℕ, Bool, not, beq, true, is_on_push)
+least_skip words places p bit found = grind (arith, nat_tests, is_on_push)
 
 -- a place with it is the least, or the one that was
 pub least_take : (words places : List ℕ) (p : ℕ) (bit : Bool) (found : Option ℕ)

@@ -143,7 +143,7 @@ pub behind_passed : {line : List Arg} {set : ℕ → Bool} {old : Chained} {clas
     → IsPlaceOf old.classes class from → HasWalked old.classes set from head
     → AreBehind line set (record old { heads = slice_set old.heads class head })
 behind_passed h inside begins headed walked =
-    grind (arith, get_or-set_same, ℕ, get_or-set_other, slice_index)
+    grind (arith, get_or-set_same, get_or-set_other)
 
 -- what stands before the beginning of its chain is in the set
 pub early_set : {line : List Arg} {set : ℕ → Bool} {chains : Chained} {class : Option ℕ}

@@ -324,7 +324,7 @@ module _ {T : Type 0} (means : List ℕ → T → Type 0) (argument : KeyWithVal
   by_key : (text : List ℕ) → GetsText argument s text t → (A B : Type 0)
       → (TakesOwnText argument.last argument s text t → A) → (ReadsVariable argument s text t → B)
       → ((p : ℕ) → is_match (is_key_with_value argument) s p ≡ true → A) × (HasNoKey argument s → B)
-  by_key text gets A B of_key of_variable = grind (arith, ⊎_elim, true≢false, counted)
+  by_key text gets A B of_key of_variable = grind (arith, true≢false, counted)
 
   -- so it is with a text at fault
   fault_first : (text : List ℕ) (m : Message) → GetsText argument s text t

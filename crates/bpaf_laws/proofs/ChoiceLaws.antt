@@ -128,7 +128,7 @@ choice_spared first second s t r ran spared = grind (arith, choice_within)
 
 -- of two situations the leftmost place of the one is that of the other
 pub leftmost_of_other : (s other : Situation) (p : ℕ) → IsLeftmost s other p → IsLeftmost other s p
-leftmost_of_other s other p h = grind (arith, Bool, not)
+leftmost_of_other s other p h = grind arith
 
 -- where the second branch doesn't win against the first, the first one does
 pub first_wins : {T : Type 0} (first second : AnsweredBranch T) (place : ℕ) (t : Situation)

@@ -74,7 +74,7 @@ module _ {T : Type 0} {inner : Outcome T} {reads : Readings T} (law : Lawful T i
       → ((s t : Situation) (e : Error) → outcome s (Err e) t
       → inner s (Err e) t ⊎ ((x : T) × inner s (Ok x) t × NamesAnswer e.0))
       → Lawful R outcome (MapReads T R reads makes)
-  made_lawful makes values refusals = grind (arith, reads_as, ⊎_elim)
+  made_lawful makes values refusals = grind (arith, reads_as)
 
   -- so mapped parsers do
   pub map_lawful : {R : Type 0} (answers : T → R → Type 0)

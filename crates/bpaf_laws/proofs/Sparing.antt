@@ -1,6 +1,6 @@
 -- Want of memory is caught by no turn and no repeat.
 use Rattle.std.proofs.Common.{◌≡◌, Bool, true, false, Result, Option, arith, ℕ, List, [], ◌∷◌, Ok}
-use Rattle.std.proofs.Common.{Err, None, inl, inr}
+use Rattle.std.proofs.Common.{Err, inl, inr}
 use Rattle.std.proofs.lemmas.Bool.{both_ways}
 use Rattle.bpaf_line.specs.{declared.error.Message.Message, declared.error.Error.Error}
 use Rattle.bpaf_line.specs.{Messages.is_memory, Situation.Situation}
@@ -41,13 +41,13 @@ module _ {T : Type 0} (inner : Outcome T) where
   -- so are those until one stops
   until_stop_spared : (catches first : Bool) (s : Situation) (vs : List T) (t : Situation)
       → UntilStop inner catches first s vs t → UntilStop (WithoutMemory inner) catches first s vs t
-  until_stop_spared catches first s vs t run = grind (arith, steps_spared, spared_step, Ok, None)
+  until_stop_spared catches first s vs t run = grind (arith, steps_spared, spared_step)
 
   -- and until one fails of another error
   until_error_spared : (catches first : Bool) (s : Situation) (e : Error) (t : Situation)
       → UntilError inner catches first s e t → is_memory e.0 ≡ false
       → UntilError (WithoutMemory inner) catches first s e t
-  until_error_spared catches first s e t run spared = grind (arith, steps_spared, spared_step, Err)
+  until_error_spared catches first s e t run spared = grind (arith, steps_spared, spared_step)
 
   -- many catches no want of memory
   pub spared_many : (catches : Bool)

@@ -134,7 +134,7 @@ undone_twice mark s = grind (arith, take-take)
 -- the last pair of a place in two lists is that of the second, where it has one there
 last_of-append : (xs ys : List (ℕ × ℕ)) (p : ℕ)
     → last_of (xs ++ ys) p ≡ option_or (last_of ys p) (last_of xs p)
-last_of-append xs ys p = grind (arith, option_map, reverse-append, find-append, reverse, Option, ℕ)
+last_of-append xs ys p = grind (arith, option_map, reverse-append, find-append, reverse)
 
 -- what the pairs of excluded places say of one: the winner, where present here and taken there
 abbrev pub excluded_at : Situation → Situation → ℕ → ℕ → Option ℕ
@@ -168,7 +168,7 @@ conflicts_saved s loser winner pairs excluded = record {
 -- what is taken with more places on the trail
 taken_with : (s : Situation) (more : List ℕ) (q : ℕ)
     → is_taken (with_trail s (s.trail ++ more)) q ≡ (is_taken s q || is_on more q)
-taken_with s more q = grind (arith, not, nat_lt, length, list_any-append, Bool)
+taken_with s more q = grind (arith, list_any-append)
 
 -- places that are present in turn are present at first
 present_at_first : (s : Situation) (places : List ℕ) → PresentInTurn s places → (n : ℕ)
@@ -228,7 +228,7 @@ module _ (s : Situation) (mark : Mark) (steps : Changes) where
   pub excluded_there : (winner p : ℕ)
       → (if not (is_taken s p) && is_on steps.taken p then Some winner else None)
       ≡ excluded_at s other winner p
-  excluded_there winner p = grind (arith, Some, None, taken_own, taken_there, Bool, not)
+  excluded_there winner p = grind (arith, taken_own, taken_there)
 
   module _ (turns : PresentInTurn (undone mark s) own) (redo : CanRedo steps (undone mark s)) where
     -- where both took the same it is taken in both or in none

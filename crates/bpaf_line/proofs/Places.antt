@@ -51,11 +51,11 @@ put s p = with_trail s (s.trail ++ p ∷ [])
 
 -- a place that was put on the trail is taken
 pub put_here : (s : Situation) (p : ℕ) → is_taken (put s p) p ≡ true
-put_here s p = grind (arith, or_right, not, nat_lt, length, is_on_push, eq-eqb)
+put_here s p = grind (arith, or_right, is_on_push, eq-eqb)
 
 -- the other places are as they were
 pub put_other : (s : Situation) (p q : ℕ) → q ≢ p → is_taken (put s p) q ≡ is_taken s q
-put_other s p q other = grind (arith, not, nat_lt, length, on_others)
+put_other s p q other = grind (arith, on_others)
 
 -- a place that isn't taken lies in the line
 pub present_in_line : (s : Situation) (p : ℕ) → is_taken s p ≡ false → p < (length s.context.line)
@@ -145,7 +145,7 @@ put_stays s p q there = ⊎_elim (λ (at : q ≡ p). ap (is_taken (put s p)) at 
 -- without its last place the trail is that place's turn
 pub last_put : (s : Situation) → 0 < length s.trail
     → put (cut_to s (length s.trail - 1)) (slice_index s.trail (length s.trail - 1)) ≡ s
-last_put s some = grind (arith, length, take_more, take, take_all)
+last_put s some = grind (arith, take_more, take_all)
 
 -- the places of a part of the trail were present in their turn too
 pub in_turn_cut : (s : Situation) (n : ℕ) → TakenInTurn s → n ≤ length s.trail
@@ -185,7 +185,7 @@ taken_stays s p q taken = put_stays s p q taken
 -- an open item is the item of its place, which is open
 pub open_item_there : (s : Situation) (p : ℕ) (item : Arg) → open_item s p ≡ Some item
     → (is_open s p ≡ true) × (item_at s p ≡ Some item)
-open_item_there s p item there = grind (arith, Bool, Option, None, Some, true)
+open_item_there s p item there = grind arith
 
 module _ (test : Arg → Bool) (s : Situation) (p : ℕ) (matches : is_match test s p ≡ true) where
   -- both hold where an item under a condition passes the test
@@ -217,17 +217,17 @@ open_has_item s p there =
 -- the place behind a key with a value is present and in scope, and has this text
 pub value_is_open : (s : Situation) (p : ℕ) (text : List ℕ) → value_after s p ≡ Some text
     → (is_open s (p + 1) ≡ true) × (option_and_then value_text (item_at s (p + 1)) ≡ Some text)
-value_is_open s p text value = grind (arith, Bool, Option, option_and_then, None, Some, true)
+value_is_open s p text value = grind arith
 
 -- a place that is open is the first of those from it on
 pub items_from : (s : Situation) (p : ℕ) (item : Arg) → p < length s.context.line
     → open_item s p ≡ Some item → open_items_from s p ≡ (p, item) ∷ open_items_from s (p + 1)
-items_from s p item within there = grind (arith, length, suc)
+items_from s p item within there = grind arith
 
 -- a place that isn't open is none of them
 pub items_past : (s : Situation) (p : ℕ) → p < length s.context.line → open_item s p ≡ None
     → open_items_from s p ≡ open_items_from s (p + 1)
-items_past s p within lacking = grind (arith, length, suc)
+items_past s p within lacking = grind arith
 
 -- the line's end has none behind it
 none_past_line : (s : Situation) (p : ℕ) → length s.context.line ≤ p → open_items_from s p ≡ []
@@ -237,7 +237,7 @@ none_past_line s p past = let none : length s.context.line - p ≡ 0 = omega ari
 items_past_closed : (s : Situation) (p : ℕ) → is_open s p ≡ false
     → open_items_from s p ≡ open_items_from s (p + 1)
 items_past_closed s p closed =
-    grind (arith, ⊎_elim, length, items_past, None, none_past_line, cases_lt)
+    grind (arith, items_past, none_past_line, cases_lt)
 
 -- nor are some places one after another that aren't
 items_past_all : (s : Situation) (n p : ℕ) → ((q : ℕ) → p ≤ q → q < p + n → is_open s q ≡ false)
@@ -293,7 +293,7 @@ taken_past s q past = grind (arith, nat_tests)
 -- no place is present, where all of the line are taken
 pub none_present : (s : Situation) (low high top : ℕ) → top ≡ min high (length s.context.line)
     → ((q : ℕ) → low ≤ q → q < top → is_taken s q ≡ true) → first_present s low high ≡ None
-none_present s low high top is taken = grind (arith, none_found, not, ⊎_elim, taken_past, cases_lt)
+none_present s low high top is taken = grind (arith, none_found, taken_past, cases_lt)
 
 -- the first present place of the line
 pub some_present : (s : Situation) (low high top p : ℕ) → top ≡ min high (length s.context.line)
@@ -316,7 +316,7 @@ module _ (test : Arg → Bool) (s : Situation) where
   -- no item in front of the first present place of the scope passes a test
   pub none_in_front : (p : ℕ) → IsFirstPresent s p → HasNoneBefore test s p
   none_in_front p front q below =
-      grind (arith, ⊎_elim, none_closed, and_left, lt-leb, none_taken, cases_lt)
+      grind (arith, none_closed, and_left, lt-leb, none_taken, cases_lt)
 
   -- nor one before a place, where none passes it before another, and all between are taken
   pub none_past_taken : (p r : ℕ) → HasNoneBefore test s p → AreTaken s p r → HasNoneBefore test s r
@@ -326,12 +326,12 @@ module _ (test : Arg → Bool) (s : Situation) where
   -- nor one before the next place, where none passes it up to here
   pub none_up_to : (p : ℕ) → HasNoneBefore test s p → is_match test s p ≡ false
       → HasNoneBefore test s (p + 1)
-  none_up_to p none here q below = grind (arith, ⊎_elim, cases_lt)
+  none_up_to p none here q below = grind (arith, cases_lt)
 
 -- an open item is the one that the line has there
 item_of_line : (s : Situation) (p : ℕ) (item : Arg) → open_item s p ≡ Some item
     → slice_get s.context.line p ≡ Some item
-item_of_line s p item there = grind (arith, slice_get, open_item_there, Bool, Option, None, Some)
+item_of_line s p item there = grind (arith, slice_get, open_item_there)
 
 -- the class of an open item with the name of a key is that of the key
 class_named : (s : Situation) (chains : Chained) (key : Arg) (q : ℕ) (item : Arg)
@@ -347,7 +347,7 @@ open_behind : (s : Situation) (chains : Chained) (class : Option ℕ) (start q :
     → AreChainsOf s chains → IsChainStartOf chains class start → q < length chains.classes
     → class ≡ Some (slice_index chains.classes q) → open_item s q ≡ Some item → start ≤ q
 open_behind s chains class start q item h begins inside at there =
-    grind (arith, ⊎_elim, true≢false, early_set, open_not_taken, open_item_there, cases_lt)
+    grind (arith, true≢false, early_set, open_not_taken, open_item_there, cases_lt)
 
 -- the first along the chain from that start on is the first with the name
 first_named : (test : Arg → Bool) (s : Situation) (chains : Chained) (key : Arg)

@@ -32,7 +32,7 @@ use Rattle.bpaf_base.specs.declared.arg.Arg.{Arg}
 
 -- of a scope of no places all is known
 pub remembers_nothing : (s : Situation) → IsRemembered s no_aside
-remembers_nothing s = grind (arith, count_below-none, length, and_left, and_right, le-ltb)
+remembers_nothing s = grind (arith, count_below-none, and_left, and_right, le-ltb)
 
 -- where the first taken places are the same
 remembers_front : (s t : Situation) (aside : Aside) → aside.taken ≤ length t.trail
@@ -117,19 +117,19 @@ count_since s start end turns (suc d) n all =
 pub bits_put : (s : Situation) (old new : List ℕ) (p : ℕ) → BitsOf s old
     → ChangesBit old new p true → BitsOf (put s p) new
 bits_put s old new p bits change q within =
-    grind (arith, ⊎_elim, put, put_here, put_other, cases_eq)
+    grind (arith, put, put_here, put_other, cases_eq)
 
 -- the first present place is found by the bits, from a place up to which all are taken
 pub first_by_bits : (s : Situation) (words : List ℕ) (from p : ℕ) → s.end ≤ length s.context.line
     → BitsOf s words → s.start ≤ from → ((q : ℕ) → s.start ≤ q → q < from → is_taken s q ≡ true)
     → IsFirstClear words from s.end p → IsFirstPresent s p
-first_by_bits s words from p inside bits above passed first = grind (arith, ⊎_elim, cases_lt)
+first_by_bits s words from p inside bits above passed first = grind (arith, cases_lt)
 
 -- what chains passed is in another set too, where that has all of the line that is in the first
 pub behind_since : (line : List Arg) (old new : ℕ → Bool) (chains : Option Chained)
     → ((q : ℕ) → q < length line → old q ≡ true → new q ≡ true)
     → IfSome chains (AreBehind line old) → IfSome chains (AreBehind line new)
-behind_since line old new chains grown h = grind (arith, None, Some)
+behind_since line old new chains grown h = grind arith
 
 -- chains that stand behind nothing are those of any situation on the line
 pub chains_anew : (s : Situation) (chains : Option Chained)
@@ -141,7 +141,7 @@ chains_anew s chains h =
 pub chains_untake : (s : Situation) (p : ℕ) (old new : Option Chained)
     → IfSome old (AreChainsOf (put s p)) → IfChained (ReachBack p) old new
     → IfSome new (AreChainsOf s)
-chains_untake s p old new h back = grind (arith, None, Some, length, ⊎_elim, put_other, cases_eq)
+chains_untake s p old new h back = grind (arith, put_other, cases_eq)
 
 -- a state with other bits and another trail, counted anew, and what is kept of a left scope
 abbrev pub with_parts : Inside → List ℕ → Vec ℕ Global → ℕ → ℕ → ℕ → Option Chained → Aside
@@ -161,7 +161,7 @@ with_parts s words trail left first behind chains aside =
 pub bit_written : (s : Inside) (p : ℕ) (bit : Bool) (old new : List ℕ) → old ≡ s.words.items
     → ChangesBit old new p bit
     → ChangesBit s.words.items new p bit × ((with_items s.words new).items ≡ new)
-bit_written s p bit old new is change = grind (arith, with_items_is, length)
+bit_written s p bit old new is change = grind (arith, with_items_is)
 
 -- it is sound with one place more
 pub sound_put : (s : Inside) (p : ℕ) (words : List ℕ) (trail : Vec ℕ Global)
@@ -215,7 +215,7 @@ pushed_place s p trail pushed h free succeeds is = is ∙ cond-true pushed _ _ (
 -- the bits of a situation with one place fewer
 bits_untake : (s : Situation) (old new : List ℕ) (p : ℕ) → BitsOf (put s p) old
     → ChangesBit old new p false → is_taken s p ≡ false → BitsOf s new
-bits_untake s old new p bits change free q within = grind (arith, ⊎_elim, put_other, cases_eq)
+bits_untake s old new p bits change free q within = grind (arith, put_other, cases_eq)
 
 -- it is sound without the last place
 pub sound_untake : (s : Inside) (p : ℕ) (words : List ℕ) (trail : Vec ℕ Global)
@@ -382,7 +382,7 @@ module _ (i : Inside) (s : Situation) (h : IsSoundAt i s) where
 -- what is read at the trail's end is its last place
 pub last_read : (s : Inside) (n p : ℕ) → n ≡ vec_len s.trail → 0 < length s.trail.items → p
     ≡ get_or s.trail.items (n - 1) p → p ≡ slice_index s.trail.items (length s.trail.items - 1)
-last_read s n p is some read = grind (arith, length, get_or_read, get_or)
+last_read s n p is some read = grind (arith, get_or_read, get_or)
 
 -- a path that is cut begins with the set name, where it is not cut to nothing
 pub path_cut : (name : Option (List ℕ)) (path : List (List ℕ)) (n : ℕ)
@@ -430,13 +430,13 @@ sound_copy i j same keys behind chains words left first aside room h =
 -- at the beginning of a run all places of the line are present but that of the marker
 pub taken_at_beginning : (context : Context) (p : ℕ) → is_taken (beginning context) p
     ≡ not (is_dealt_place context p)
-taken_at_beginning context p = grind (arith, nat_lt, length, Bool, not, false)
+taken_at_beginning context p = grind arith
 
 -- the bits at the beginning are those of the marker
 bits_beginning : (context : Context) (words : List ℕ)
     → ((p : ℕ) → has_bit words p ≡ is_marker context.marker p) → BitsOf (beginning context) words
 bits_beginning context words bits p within =
-    grind (arith, nat_tests, length, ℕ, Bool, not, nat_lt, false)
+    grind (arith, nat_tests)
 
 -- how a run begins whose line has its marker at this place
 abbrev start_with : Context → Option ℕ → Situation

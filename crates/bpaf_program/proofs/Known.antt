@@ -114,13 +114,8 @@ module _ {T : Type 0} {inner inner' : Readings T} (also : IsAlso inner inner') w
   -- so it is where the first share may be empty
   list_also : IsAlso (ListReads inner) (ListReads inner')
   list_also context share [] none = none
-  list_also context share (v ∷ vs) read = (
-    read.0,
-    read.1,
-    read.2,
-    also context read.0 v read.3,
-    each_also context read.1 vs read.4,
-  )
+  list_also context share (v ∷ vs) read =
+      (read.0, read.1, read.2, also context read.0 v read.3, each_also context read.1 vs read.4)
 
   -- a repeat
   pub many_also : IsAlso (MapReads (List T) (Vec T) (ListReads inner)
@@ -171,9 +166,8 @@ switch_known {names} {text} {help} {switch} is = record {
 }
 
 -- so is an argument
-pub argument_known : {T : Type 0} (means : List ℕ → T → Type 0) {key : KeyWithValue}
-    {text : List ℕ} {help : List Piece} {argument : KeyWithValue}
-    → IsArgument key text help argument
+pub argument_known : {T : Type 0} (means : List ℕ → T → Type 0) {key : KeyWithValue} {text : List ℕ}
+    {help : List Piece} {argument : KeyWithValue} → IsArgument key text help argument
     → IsKnown (ArgumentOutcome means argument) (ArgumentReads T means argument)
     (λ shape. shape ≡ argument_shape argument) (ArgumentReads T means key)
     (argument_shape (key_with_help key help))
@@ -283,12 +277,8 @@ pub hands_as : {T : Type 0} {one other : Showing} {outcome : Outcome T} {reads w
     {describes shapes : Shape → Type 0} → IsAlsoShown one other
     → Hands one outcome reads describes wanted shapes
     → Hands other outcome reads describes wanted shapes
-hands_as also is = record {
-  law = is.law;
-  hands = hands_also also is.hands;
-  also = is.also;
-  shows = is.shows;
-}
+hands_as also is =
+    record { law = is.law; hands = hands_also also is.hands; also = is.also; shows = is.shows }
 
 module _ {T : Type 0} {inner : Outcome T} {reads wanted : Readings T}
     {describes shapes : Shape → Type 0} (law : Lawful T inner reads) (nothing : ShowsNothing inner)
@@ -322,21 +312,15 @@ module _ {T : Type 0} {inner : Outcome T} {reads wanted : Readings T}
 pub choice_hands : {T : Type 0} {showing : Showing} {first second : Outcome T}
     {reads reads' wanted wanted' : Readings T} {describes describes' : Shape → Type 0}
     {shapes shapes' : Shape → Type 0} → Hands showing first reads describes wanted shapes
-    → Hands showing second reads' describes' wanted' shapes'
-    → Hands showing (ChoiceOutcome first second) (ChoiceReads reads reads')
-    (ChoiceDescribes describes describes') (ChoiceReads wanted wanted')
-    (ChoiceDescribes shapes shapes')
+    → Hands showing second reads' describes' wanted' shapes' → Hands showing
+    (ChoiceOutcome first second) (ChoiceReads reads reads') (ChoiceDescribes describes describes')
+    (ChoiceReads wanted wanted') (ChoiceDescribes shapes shapes')
 choice_hands one other = record {
   law = choice_lawful one.law other.law;
   hands = choice_hands_on one.hands other.hands;
   also = choice_also one.also other.also;
-  shows = λ shape shown. (
-    shown.0,
-    shown.1,
-    one.shows shown.0 shown.2,
-    other.shows shown.1 shown.3,
-    shown.4,
-  );
+  shows = λ shape shown.
+      (shown.0, shown.1, one.shows shown.0 shown.2, other.shows shown.1 shown.3, shown.4);
 }
 
 -- so does a repeat

@@ -46,15 +46,14 @@ pub command_known : {T P : Type 0} (called : List ℕ) (known : Grammar T)
     → IsKnownParser known outcome shorts → IsKnownParser (known_command called known)
     (EitherCommandOutcome command.adjacent T outcome (EndsRun describes command.info)
     command.names (CommandPart command.names command.help describes)) shorts
-command_known {T} called known describes {command = command} same plain {outcome} is =
-    rw (
-      ap (λ c. c.names) same ∙ plain.names,
-      ap (λ c. c.adjacent) same ∙ plain.adjacent,
-      ap (λ c. c.info) same ∙ plain.info,
-    ) (record {
-      law = λ env. plain_command_law describes plain_info (named_only called) _ _ (is.law env);
-      shown = is.shown;
-    })
+command_known {T} called known describes {command = command} same plain {outcome} is = rw (
+  ap (λ c. c.names) same ∙ plain.names,
+  ap (λ c. c.adjacent) same ∙ plain.adjacent,
+  ap (λ c. c.info) same ∙ plain.info,
+) (record {
+  law = λ env. plain_command_law describes plain_info (named_only called) _ _ (is.law env);
+  shown = is.shown;
+})
 
 -- a choice of commands
 pub choice_known : {T : Type 0} (first second : Grammar T) {one two : Outcome T}
@@ -148,12 +147,11 @@ pub argument_known : {T : Type 0} (means : List ℕ → T → Type 0) (key : Key
     → own ≡ record key { named = record key.named { help = help } }
     → IsKnownParser (argument means key) (ArgumentOutcome means own)
     (of_arguments own.named.names.shorts)
-argument_known {T} means key help is =
-    rw is (record {
-      law = λ env. argument_field_law env T means
-          (record key { named = record key.named { help = help } });
-      shown = refl;
-    })
+argument_known {T} means key help is = rw is (record {
+  law = λ env. argument_field_law env T means
+      (record key { named = record key.named { help = help } });
+  shown = refl;
+})
 
 -- a word
 pub word_known : {T : Type 0} (means : List ℕ → T → Type 0) (place : Position)
@@ -167,30 +165,20 @@ module _ {T : Type 0} {known : Grammar T} {outcome : Outcome T} {shorts : ShortN
   -- a repeat
   pub many_known : {catch : Bool} → catch ≡ false
       → IsKnownParser (known_many known) (ManyOutcome outcome catch) shorts
-  many_known none =
-      rw none (record {
-        law = λ env. many_law (is.law env) false;
-        shown = is.shown;
-      })
+  many_known none = rw none (record { law = λ env. many_law (is.law env) false; shown = is.shown })
 
   -- what may be left out
   pub optional_known : {catch : Bool} → catch ≡ false
       → IsKnownParser (known_optional known) (TurnOutcome outcome catch true) shorts
   optional_known none =
-      rw none (record {
-        law = λ env. optional_law (is.law env) false;
-        shown = is.shown;
-      })
+      rw none (record { law = λ env. optional_law (is.law env) false; shown = is.shown })
 
   -- what is this value where it is left out
-  pub default_known : {clones : T → T → Type 0}
-      → ((own v : T) → clones own v → v ≡ own) → (value : T) {kept : T} → kept ≡ value
-      → IsKnownParser (known_default value known)
+  pub default_known : {clones : T → T → Type 0} → ((own v : T) → clones own v → v ≡ own)
+      → (value : T) {kept : T} → kept ≡ value → IsKnownParser (known_default value known)
       (FallbackOutcome outcome (GivesClone clones kept)) shorts
-  default_known {clones} equal value is_kept =
-      rw is_kept (record {
-        law = λ env. narrower_form
-            (no_more (λ s t r o. fallback_kept equal outcome value s r t o))
-            (fallback_law (is.law env) IsKept value);
-        shown = is.shown;
-      })
+  default_known {clones} equal value is_kept = rw is_kept (record {
+    law = λ env. narrower_form (no_more (λ s t r o. fallback_kept equal outcome value s r t o))
+        (fallback_law (is.law env) IsKept value);
+    shown = is.shown;
+  })

@@ -40,9 +40,8 @@ pub record IsSeen {T X : Type 0} (outcome : Outcome T) (see : T → X) (names : 
   pub view : HasOneView see form
 
 -- a switch
-pub switch_seen : (names : Names)
-    → IsSeen (FlagOutcome IsKept (key_named names) true (Some false)) (λ b. b) (names ∷ [])
-    (flag_field IsKept (key_named names) true (Some false) [])
+pub switch_seen : (names : Names) → IsSeen (FlagOutcome IsKept (key_named names) true (Some false))
+    (λ b. b) (names ∷ []) (flag_field IsKept (key_named names) true (Some false) [])
 switch_seen names = record {
   law = λ env. flag_field_law env Bool IsKept (key_named names) true (Some false);
   view = flag_view Bool Bool (λ b. b) IsKept (λ kept v w a b. a ∙ sym b) (key_named names) true
@@ -56,9 +55,8 @@ pub argument_seen : {T X : Type 0} (see : T → X) (means : List ℕ → T → T
 argument_seen {T} {X} see means one key bare = record {
   law = λ env. subst (λ set. FormLaw env (ArgumentOutcome means key) (key.named.names ∷ []) []
       (key_field (key.adjacent || not (is_nil key.named.envs))
-      (is_nil key.named.envs && not key.last)
-      (argument_roles key.adjacent key.named.names) (ArgumentValue means)
-      (argument_group means key.last) (gap_of means set)))
+      (is_nil key.named.envs && not key.last) (argument_roles key.adjacent key.named.names)
+      (ArgumentValue means) (argument_group means key.last) (gap_of means set)))
       (ap (first_set env) bare ∙ sym (ap (first_set []) bare)) (argument_field_law env T means key);
   view = argument_view T X see means one key [];
 }
@@ -68,9 +66,8 @@ pub one_text : (text : List ℕ) → Alike string_bytes (MeansText text)
 one_text text v w a b = a ∙ sym b
 
 -- an argument that is a text
-pub text_seen : (key : KeyWithValue) → key.named.envs ≡ []
-    → IsSeen (ArgumentOutcome MeansText key) string_bytes (key.named.names ∷ [])
-    (argument_field MeansText key [])
+pub text_seen : (key : KeyWithValue) → key.named.envs ≡ [] → IsSeen (ArgumentOutcome MeansText key)
+    string_bytes (key.named.names ∷ []) (argument_field MeansText key [])
 text_seen = argument_seen string_bytes MeansText one_text
 
 -- one that is a number of so many bits
@@ -94,10 +91,8 @@ module _ {T X : Type 0} {outcome : Outcome T} {see : T → X} {names : List Name
   -- a repeat
   pub many_seen : IsSeen (ManyOutcome outcome false) (λ values. map see values.items) names
       (program_closed (list_closure T) (completed repeated (OwnList T) form))
-  many_seen = record {
-    law = λ env. many_law (is.law env) false;
-    view = many_view see (is.law []) is.view;
-  }
+  many_seen =
+      record { law = λ env. many_law (is.law env) false; view = many_view see (is.law []) is.view }
 
   -- what may be left out
   pub optional_seen : IsSeen (TurnOutcome outcome false true) (option_map see) names
@@ -109,19 +104,17 @@ module _ {T X : Type 0} {outcome : Outcome T} {see : T → X} {names : List Name
 
   -- what has a default
   pub fallback_seen : (clones : T → T → Type 0) (kept : T) → Alike see (clones kept)
-      → IsSeen (FallbackOutcome outcome (GivesClone clones kept)) see names
-      (completed (λ k. k) (λ group gap. FallbackValue T group gap
-      (map_closure (λ u. clones kept))) form)
+      → IsSeen (FallbackOutcome outcome (GivesClone clones kept)) see names (completed (λ k. k)
+      (λ group gap. FallbackValue T group gap (map_closure (λ u. clones kept))) form)
   fallback_seen clones kept one = record {
     law = λ env. fallback_law (is.law env) clones kept;
     view = fallback_view see (map_closure (λ u. clones kept)) one (is.law []) is.view;
   }
 
   -- what is this value where it is left out
-  pub default_seen : (value : T)
-      → IsSeen (FallbackOutcome outcome (GivesClone (λ own v. v ≡ own) value)) see names
-      (completed (λ k. k) (λ group gap. FallbackValue T group gap
-      (map_closure (λ u v. v ≡ value))) form)
+  pub default_seen : (value : T) → IsSeen
+      (FallbackOutcome outcome (GivesClone (λ own v. v ≡ own) value)) see names (completed (λ k. k)
+      (λ group gap. FallbackValue T group gap (map_closure (λ u v. v ≡ value))) form)
   default_seen value = fallback_seen (λ own v. v ≡ own) value (λ v w a b. ap see (a ∙ sym b))
 
   -- a field
@@ -133,10 +126,8 @@ module _ {T X : Type 0} {outcome : Outcome T} {see : T → X} {names : List Name
 
   -- a last field
   pub alone_seen : IsSeen outcome see names (program_alone form)
-  alone_seen = record {
-    law = λ env. program_alone_law (is.law env);
-    view = alone_view see form is.view;
-  }
+  alone_seen =
+      record { law = λ env. program_alone_law (is.law env); view = alone_view see form is.view }
 
   -- what a constructor makes of values that look alike
   pub con_seen : {V Y : Type 0} (make : T → V) (look : V → Y)
@@ -145,12 +136,10 @@ module _ {T X : Type 0} {outcome : Outcome T} {see : T → X} {names : List Name
       (program_con (map_closure (λ x v. v ≡ make x)) form)
   con_seen {V} {Y} make look same = record {
     law = λ env. program_con_law (λ x v. v ≡ make x) (is.law env);
-    view = con_view T V X Y see look (map_closure (λ x v. v ≡ make x))
-        (record {
-          same = λ x y v w e f g. ap look f ∙ (same x y e ∙ sym (ap look g));
-          apart = λ x y v e f n. n;
-        })
-        form is.view;
+    view = con_view T V X Y see look (map_closure (λ x v. v ≡ make x)) (record {
+      same = λ x y v w e f g. ap look f ∙ (same x y e ∙ sym (ap look g));
+      apart = λ x y v e f n. n;
+    }) form is.view;
   }
 
 -- a field before others
@@ -230,10 +219,8 @@ module _ {T X B Y : Type 0} {see : T → X} (make : T → B) (look : B → Y)
   -- so it is of commands
   pub made_seen : {words : List (List ℕ)} {value : CellsValue T} → AreSeen see words value
       → AreSeen look words (ClosedValue value (makes make))
-  made_seen are = record {
-    look = made_look are.look;
-    opened = λ cs v a. are.opened cs a.from a.read;
-  }
+  made_seen are =
+      record { look = made_look are.look; opened = λ cs v a. are.opened cs a.from a.read }
 
 -- a named field before others
 pub then_look : {A B X Y : Type 0} {see : A → X} {look : B → Y} {q : Roles}

@@ -36,15 +36,13 @@ handed_on holds (Err f) is then = then f is.1
 -- a refusal answers the words, where the help that it shows does
 pub refusal_answers : (answers : List ℕ → Type 0) (asked : List Piece → Bool → Type 0)
     (f : ParseFailure) → ((doc : List Piece) (full : Bool) → f ≡ Stdout doc full → asked doc full
-    → answers (printed full doc))
-    → IfShown asked f → AnswersText answers (Err f)
+    → answers (printed full doc)) → IfShown asked f → AnswersText answers (Err f)
 refusal_answers answers asked f help is = grind arith
 
 -- what is printed runs to a text that was asked for, or to a message
 pub runs_to : {answers : List ℕ → Type 0} {out err : Written}
-    {r : Result (String Global) ParseFailure} {status : ℕ}
-    → IsPrinted out err string_bytes r status → AnswersText answers r
-    → RunsTo answers out err status
+    {r : Result (String Global) ParseFailure} {status : ℕ} → IsPrinted out err string_bytes r status
+    → AnswersText answers r → RunsTo answers out err status
 runs_to (given is quiet) answer = shows _ answer is quiet
 runs_to {answers} {out} {err} (told {f = f} is) answer = told_runs f is answer
   where
@@ -60,20 +58,16 @@ page_answers said f = grind arith
 
 -- So it is with what is printed, whatever the page is.
 pub runs_to_said : (said : List ℕ → Type 0) {out err : Written}
-    {r : Result (String Global) ParseFailure} {status : ℕ}
-    → IsPrinted out err string_bytes r status → IfOk r (λ text. said (string_bytes text))
-    → RunsTo (OrPage said) out err status
+    {r : Result (String Global) ParseFailure} {status : ℕ} → IsPrinted out err string_bytes r status
+    → IfOk r (λ text. said (string_bytes text)) → RunsTo (OrPage said) out err status
 runs_to_said said = grind (arith, page_answers, runs_to)
 
 -- where all values have the text of the answer, a run prints it, or tells that memory was wanted
 pub prints_text : {out err : Written} {V : Type 0} {value : V → Type 0} {text_of : V → List ℕ}
-    {r : Result (String Global) ParseFailure} {status : ℕ}
-    → IsPrinted out err string_bytes r status → AnswersTextOf value text_of r
-    → PrintsTextOf value text_of out err status
-prints_text {out} {err} is answers = record {
-  alike = answers.alike;
-  prints = λ v there. prints is (answers.complete v there);
-}
+    {r : Result (String Global) ParseFailure} {status : ℕ} → IsPrinted out err string_bytes r status
+    → AnswersTextOf value text_of r → PrintsTextOf value text_of out err status
+prints_text {out} {err} is answers =
+    record { alike = answers.alike; prints = λ v there. prints is (answers.complete v there) }
   where
     wants : (f : ParseFailure) {status : ℕ} {text : List ℕ} → TellsFailure out err f status
         → f ≡ Memory → Prints text out err status

@@ -13,11 +13,8 @@ use Rattle.bpaf_program.specs.KnownParser.{IsKept}
 
 -- a flag with these names, its present value and perhaps an absent one, and no help
 abbrev pub plain_flag : {T : Type 0} → Names → T → Option T → ParseFlag T
-plain_flag names present absent = record {
-  named = key_named names;
-  present = present;
-  absent = absent;
-}
+plain_flag names present absent =
+    record { named = key_named names; present = present; absent = absent }
 
 -- a switch with these names, and no help
 abbrev pub plain_switch : Names → ParseFlag Bool
@@ -25,12 +22,8 @@ plain_switch names = plain_flag names true (Some false)
 
 -- an argument with these names and this metavar, and no help
 abbrev pub plain_argument : Names → List ℕ → KeyWithValue
-plain_argument names metavar = record {
-  named = key_named names;
-  metavar = metavar;
-  adjacent = false;
-  last = false;
-}
+plain_argument names metavar =
+    record { named = key_named names; metavar = metavar; adjacent = false; last = false }
 
 -- what a switch with these names reads
 abbrev pub NamedSwitchReads : Names → Readings Bool

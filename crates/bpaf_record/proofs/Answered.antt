@@ -79,8 +79,7 @@ module _ (test : Arg → Bool) where
 
   -- what is kept of items passes,
   of_kept : (items : List Arg) → filter test items ≢ [] → HasPassing items
-  of_kept items some =
-      first (filter test items) some
+  of_kept items some = first (filter test items) some
       (All-filter test (Contains items) items (All-contains_itself items))
       (filter_passes test items)
     where
@@ -106,8 +105,8 @@ module _ (test : Arg → Bool) where
           → HasPassing (present (line_cells context)) → IsSpelledItem known test given.words
       item_spelled not_behind (item, among, passes) =
           All-contains (λ item. test item ≡ true → IsSpelledItem known test given.words)
-          (present (line_cells context)) item
-          (each_present (λ item. test item ≡ true → IsSpelledItem known test given.words) is
+          (present (line_cells context)) item (each_present
+          (λ item. test item ≡ true → IsSpelledItem known test given.words) is
           (λ word before items spells k d within passes. record {
             word = word;
             before = before;
@@ -118,9 +117,7 @@ module _ (test : Arg → Bool) where
               among = Contains-get_or items k d within;
               is_key = passes;
             };
-          })
-          (λ text passes. absurd (true≢false (sym passes ∙ not_behind text))))
-          among passes
+          }) (λ text passes. absurd (true≢false (sym passes ∙ not_behind text)))) among passes
 
       -- and one that one of these spells stands on it
       spelled_item : All IsUtf8 given.words → IsSpelledItem known test given.words
@@ -277,10 +274,9 @@ module _ {words : List (List ℕ)} {key : Names} {os : List LinePiece} (own : Ow
   switch_spelled x off unset names same switch value on = grind (arith, key_spelled)
 
   -- of a required flag that has its value then,
-  pub flag_spelled : {A : Type 0} {clones : A → A → Type 0} {present : A}
-      {absent : Option A} {set : Option (List ℕ)} {x : A}
-      → FlagSays clones present absent set os x → absent ≡ None → set ≡ None
-      → (names : Names) → key ≡ names → clones present x × WasSpelled names words
+  pub flag_spelled : {A : Type 0} {clones : A → A → Type 0} {present : A} {absent : Option A}
+      {set : Option (List ℕ)} {x : A} → FlagSays clones present absent set os x → absent ≡ None
+      → set ≡ None → (names : Names) → key ≡ names → clones present x × WasSpelled names words
   flag_spelled x required unset names same = grind (arith, key_spelled)
 
   -- of an optional value that is Some,
@@ -308,21 +304,18 @@ pub record AreOfLine (known : Known) (words : List (List ℕ)) (os : List LinePi
 -- What a value says of the pieces of the line of words is told of these.
 pub told_of_line : {T : Type 0} {known : Known} {form : ProgramForm T} {roles : Roles}
     {said : Said T} {given : Given} {v : T} {Q : Type 0}
-    → TellsOfWords known form (CutSays roles said) given v
-    → (words : List (List ℕ)) → given.words ≡ words
-    → ((os : List LinePiece) → AreOfLine known words os → said os v → Q) → Q
+    → TellsOfWords known form (CutSays roles said) given v → (words : List (List ℕ))
+    → given.words ≡ words → ((os : List LinePiece) → AreOfLine known words os → said os v → Q) → Q
 told_of_line {known = known} {given = given} told words same so =
     let line = told.is_value in
     let cut = told.told in
     so cut.cut_into (record {
       own = λ key. record {
-        spelled = λ some. subst (WasSpelled key) same
-            (piece_was_spelled key known given line.context line.on_line _ cut.cut_into cut.cut
-            some);
+        spelled = λ some. subst (WasSpelled key) same (piece_was_spelled key known given
+            line.context line.on_line _ cut.cut_into cut.cut some);
       };
-      spelled = λ key texts spelled.
-          spelled_has_piece key known given line.context line.on_line _ cut.cut_into cut.cut
-          (subst (All IsUtf8) (sym same) texts)
+      spelled = λ key texts spelled. spelled_has_piece key known given line.context line.on_line _
+          cut.cut_into cut.cut (subst (All IsUtf8) (sym same) texts)
           (subst (λ ws. IsSpelledByAny known.numbers key ws) (sym same) spelled);
     }) cut.told
 
@@ -334,9 +327,8 @@ module _ {known : Known} {words : List (List ℕ)} {os : List LinePiece}
 
   -- what follows where a word before the first `--` spells the key, whatever names are known
   abbrev IfKeySpelled : Names → Type 0 → Type 0
-  IfKeySpelled key A =
-      (names : Names) → key ≡ names → All IsUtf8 words → IsSpelledByAny known.numbers names words
-      → A
+  IfKeySpelled key A = (names : Names) → key ≡ names → All IsUtf8 words
+      → IsSpelledByAny known.numbers names words → A
 
   -- A key that was spelled has a piece of its own,
   pub spelled_key : {key : Names} → IfKeySpelled key (keyed (key ∷ []) os ≢ [])
@@ -344,13 +336,11 @@ module _ {known : Known} {words : List (List ℕ)} {os : List LinePiece}
       line.spelled key texts (subst (λ z. IsSpelledByAny known.numbers z words) (sym same) spelled)
 
   -- so its switch is true,
-  pub spelled_switch : {key : Names} {present : Bool} {absent : Option Bool}
-      {set : Option (List ℕ)} {b : Bool}
-      → FlagSays (λ kept x. x ≡ kept) present absent set (keyed (key ∷ []) os) b → present ≡ true
-      → (switch : Bool) → switch ≡ b → IfKeySpelled key (switch ≡ true)
+  pub spelled_switch : {key : Names} {present : Bool} {absent : Option Bool} {set : Option (List ℕ)}
+      {b : Bool} → FlagSays (λ kept x. x ≡ kept) present absent set (keyed (key ∷ []) os) b
+      → present ≡ true → (switch : Bool) → switch ≡ b → IfKeySpelled key (switch ≡ true)
   spelled_switch (says_present k one is) on switch value names same texts spelled = cc
-  spelled_switch (says_variable text none set is) on switch value names same texts
-      spelled = cc
+  spelled_switch (says_variable text none set is) on switch value names same texts spelled = cc
   spelled_switch (says_absent a none set kept is) on switch value names same texts
       spelled = absurd (spelled_key names same texts spelled none)
 
@@ -384,8 +374,7 @@ all_left = record { each = λ k there. there }
 -- so it is where a cell is there still,
 still_there : {left cs : Cells} (c : Option Arg) → IsLeft left cs → IsLeft (c ∷ left) (c ∷ cs)
 still_there {left} {cs} c l = record {
-  each = λ k there. ⊎_elim
-      (λ here. Contains-append_left (option_to_list c) (present cs) k here)
+  each = λ k there. ⊎_elim (λ here. Contains-append_left (option_to_list c) (present cs) k here)
       (λ behind. Contains-append_right (option_to_list c) (present cs) k (l.each k behind))
       (Contains-append_cases (option_to_list c) (present left) k there);
 }
@@ -491,8 +480,7 @@ module _ {known : Known} {given : Given} {words : List (List ℕ)} {cs : Cells}
   pub command_called : {opens : List (List ℕ)} {behind : Cells} → Opens opens cs behind
       → (names : List (List ℕ)) → opens ≡ names → WasCalled names words
   command_called {opens} opened names same =
-      subst (WasCalled names) line.are
-      (subst (λ those. WasCalled those given.words) same (
+      subst (WasCalled names) line.are (subst (λ those. WasCalled those given.words) same (
         known,
         item_spelled (is_one_of opens) known given line.context line.on_line (none_behind opens)
             (kept_on (is_one_of opens) line.left (opens_on opens opened)),

@@ -75,9 +75,8 @@ optional_part_is {T} catch s = grind (arith, if_is)
 
 -- a choice of two
 pub choice_part_is : {T : Type 0} (own others : List Names) (words more : List (List ℕ))
-    (s t : ProgramForm T)
-    → chosen_part (are_all_apart own others) (are_words_apart words more) (part_of s) (part_of t)
-    ≡ part_of (program_choice own others words more s t)
+    (s t : ProgramForm T) → chosen_part (are_all_apart own others) (are_words_apart words more)
+    (part_of s) (part_of t) ≡ part_of (program_choice own others words more s t)
 choice_part_is own others words more s t = grind (arith, if_is)
 
 -- one parser of a choice
@@ -120,9 +119,8 @@ pub alone_part_is : {T : Type 0} (s : ProgramForm T)
 alone_part_is s = grind arith
 
 -- keys may stand after a field
-stands : (k : FieldKind) (own others : List Names)
-    → may_stand (kind_of k) (are_all_apart own others) (list_all (λ names. false) others)
-    ≡ may_follow k own others
+stands : (k : FieldKind) (own others : List Names) → may_stand (kind_of k)
+    (are_all_apart own others) (list_all (λ names. false) others) ≡ may_follow k own others
 stands s own others = grind arith
 
 -- a field before others
@@ -149,8 +147,7 @@ module _ {P T : Type 0} (of : P → Grammar T) where
       (of (slice_index_or ps i d))
   one_more ps zero d some l = absurd (omega arith)
   one_more [] (suc i) d some l = absurd (omega arith)
-  one_more (p ∷ ps) (suc i) d some l =
-      ap (choices_of of) (take_more (p ∷ ps) (suc i) d l)
+  one_more (p ∷ ps) (suc i) d some l = ap (choices_of of) (take_more (p ∷ ps) (suc i) d l)
       ∙ nested_more (of p) (take i ps) (slice_index_or (p ∷ ps) (suc i) d)
 
   -- and of the first alone it is that one

@@ -62,17 +62,15 @@ pub record ArePresent (known : Known) (words : List (List ℕ)) (here : List Arg
 -- where words are cut at the first `--`
 from_cut : {known : Known} {words : List (List ℕ)} {items here : List Arg}
     → (before rest : List (List ℕ)) → words ≡ before ++ rest → HasNoMarker before
-    → (length before < length (before ++ rest)
-    → is_marker_word (get_or (before ++ rest) (length before) []) ≡ true)
-    → SpellAll known before items → here ≡ items ++ map PosWord (drop 1 rest)
-    → ArePresent known words here
+    → (length before < length (before ++ rest) → is_marker_word
+    (get_or (before ++ rest) (length before) []) ≡ true) → SpellAll known before items
+    → here ≡ items ++ map PosWord (drop 1 rest) → ArePresent known words here
 from_cut {known} {words} {items} {here} before rest cut none first spells are =
     grind (arith, two_sides, two_sides before rest none first)
 
 -- so it is on the line of words
 pub on_line : (known : Known) (words : List (List ℕ)) (line : List Arg) (marker : Option ℕ)
-    → IsLine known words line marker
-    → ArePresent known words (present
+    → IsLine known words line marker → ArePresent known words (present
     (first_cells (λ p. if is_marker marker p then None else slice_get line p) (length line)))
 on_line known words line marker (without_marker items none spells) =
     from_cut words [] (sym (append-nil words)) none
@@ -106,10 +104,8 @@ module _ (P : Arg → Type 0) {known : Known} {given : Given} {context : Context
 
   -- and of the item at a place.
   pub each_at : (p : ℕ) (item : Arg) → item_in context p ≡ Some item → P item
-  each_at p item at =
-      All-contains P (present (line_cells context)) item each_present
-      (at_place (item_in context) (length context.line) p item
-      (slice_get_within context.line p item
+  each_at p item at = All-contains P (present (line_cells context)) item each_present (at_place
+      (item_in context) (length context.line) p item (slice_get_within context.line p item
       (in_line (is_marker context.marker p) (slice_get context.line p) at)) at)
     where
       in_line : (b : Bool) (at : Option Arg) → (if b then None else at) ≡ Some item → at ≡ Some item
@@ -134,10 +130,9 @@ pub context_spelled : {known : Known} {given : Given} {context : Context}
     → IsContext known given context → IsSpelledLine context
 context_spelled is =
     let Is : Arg → Type 0 = λ item. is_spelled item ≡ true in
-    each_at Is is
-    (λ word among items. all_spelled Is _ word (λ c attached rest e. ap is_dashed e) (λ c. refl)
-    (λ name attached rest e. ap is_dashed e) (λ text. refl) refl (λ c text is. refl) items)
-    (λ text. refl)
+    each_at Is is (λ word among items. all_spelled Is _ word (λ c attached rest e. ap is_dashed e)
+    (λ c. refl) (λ name attached rest e. ap is_dashed e) (λ text. refl) refl (λ c text is. refl)
+    items) (λ text. refl)
 
 -- contexts of the same line, marker, environment and name are one
 same_fields : (l m : List Arg) (p q : Option ℕ) (e f : List (List ℕ × List ℕ))
@@ -187,21 +182,20 @@ module _ {T : Type 0} {outcome : Outcome T} (describes : Shape → Type 0) (info
       let roles : Roles = product_roles (whole_program form) in
       let exact = runs_exactly flat context (law_on is) (answer_of r)
       (run_ran T outcome describes info (beginning context) t r run) in
-      let here = λ (texts : All IsUtf8 given.words) (line : PiecesOf known form given).
-      subst (λ c. Cut roles (line_cells c) line.cut_into)
+      let here = λ (texts : All IsUtf8 given.words) (line : PiecesOf known form given). subst
+      (λ c. Cut roles (line_cells c) line.cut_into)
       (same_context given texts known line.context context line.on_line is) line.cut in
       record {
         whole = sound_on r (λ v e. let read = exact.sound v e in record {
           is_value = record { context = context; on_line = is; read = read };
-          together = cut_holds_together roles
-              (record_law flat law).named (line_cells context)
+          together = cut_holds_together roles (record_law flat law).named (line_cells context)
               read.cut_into read.cut;
         });
-        complete = λ texts line each.
-            want_on (λ v read. record { context = context; on_line = is; read = read }) r
+        complete = λ texts line each. want_on
+            (λ v read. record { context = context; on_line = is; read = read }) r
             (exact.complete line.cut_into (here texts line) each);
-        refused = λ texts line none.
-            sound_on r (exact.refused line.cut_into (here texts line) none);
+        refused = λ texts line none. sound_on r
+            (exact.refused line.cut_into (here texts line) none);
       }
   answers_by_fields flat (Err f) (none_there at_word number context told none line name renders) =
       record {

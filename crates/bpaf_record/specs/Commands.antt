@@ -153,8 +153,7 @@ module _ (T : Type 0) (means : List ℕ → T → Type 0) (position : Position) 
 
 -- a positional word keeps to the laws of its form
 pub positional_law : (env : Variables) (T : Type 0) (means : List ℕ → T → Type 0)
-    (position : Position) (metavar : List ℕ)
-    → FormLaw env (PositionalOutcome means position metavar) [] []
-    (word_by (accepts position) means)
+    (position : Position) (metavar : List ℕ) → FormLaw env
+    (PositionalOutcome means position metavar) [] [] (word_by (accepts position) means)
 positional_law env T means position metavar = narrower_form
     (no_more (word_within T means position metavar)) (word_by_law env T (accepts position) means)

@@ -94,16 +94,14 @@ program_form (fallback {T = T} f g) variables =
 program_form (repeat {A = A} catch f g) variables = program_if (not catch)
     (program_closed f (completed repeated (OwnList A) (program_form g variables)))
 program_form (last {T = T} g) variables = completed repeated (LastOf T) (program_form g variables)
-program_form (choice g h) variables =
-    program_choice (keys_of g true) (keys_of h true) (command_words g) (command_words h)
-    (program_form g variables) (program_form h variables)
+program_form (choice g h) variables = program_choice (keys_of g true) (keys_of h true)
+    (command_words g) (command_words h) (program_form g variables) (program_form h variables)
 program_form (only g) variables = choice_only (program_form g variables)
 program_form (command adjacent called info g) variables =
     program_command adjacent (are_unusual (keys_of g false) info) called (program_form g variables)
 program_form (alone g) variables = program_alone (program_field (program_form g variables))
-program_form (both g h) variables =
-    program_both (keys_of g true) (keys_of h true) (program_field (program_form g variables))
-    (program_form h variables)
+program_form (both g h) variables = program_both (keys_of g true) (keys_of h true)
+    (program_field (program_form g variables)) (program_form h variables)
 program_form (product f g) variables = program_con f (program_form g variables)
 
 -- whether its pieces are keys or words, and how many of the words it takes
@@ -125,8 +123,7 @@ module _ {P T : Type 0} (of : P → Grammar T) (variables : Variables) where
   -- it keeps to the laws of its form
   pub choices_law : (outcome : P → Outcome T) (agrees : P → Type 0)
       → ((p : P) → agrees p → FormLaw variables (outcome p) (keys_of (of p) true)
-      (command_words (of p)) (program_form (of p) variables))
-      → (ps : List P) → EachAgrees agrees ps
+      (command_words (of p)) (program_form (of p) variables)) → (ps : List P) → EachAgrees agrees ps
       → FormLaw variables (ChoicesOutcome outcome ps) (keys_of (only (choices_of of ps)) true)
       (command_words (only (choices_of of ps))) (program_form (only (choices_of of ps)) variables)
   choices_law outcome agrees law [] each = record { by = tt }
@@ -144,11 +141,10 @@ module _ {P T : Type 0} (of : P → Grammar T) (variables : Variables) where
 
   -- a value says so, where those of the parsers do
   pub choices_says : (names : List Names) (kind : P → SaidKind) (agrees : P → Type 0)
-      (said : ProgramSaid P T)
-      → ((p : P) → agrees p → ProgramSays (keys_of (of p) true) (program_form (of p) variables)
-      (kind p) said p) → (ps : List P) → EachAgrees agrees ps
-      → Says names (program_form (only (choices_of of ps)) variables) (of_kind ByName)
-      said.in_cells (OneOfSays said.pieces ps) (OneOfCells said.cells ps)
+      (said : ProgramSaid P T) → ((p : P) → agrees p → ProgramSays (keys_of (of p) true)
+      (program_form (of p) variables) (kind p) said p) → (ps : List P) → EachAgrees agrees ps
+      → Says names (program_form (only (choices_of of ps)) variables) (of_kind ByName) said.in_cells
+      (OneOfSays said.pieces ps) (OneOfCells said.cells ps)
   choices_says names kind agrees said each [] agree = record { by = tt }
   choices_says names kind agrees said each (first ∷ later) agree =
       nested (of first) later agree.1 (λ r there. in_rest first later there)

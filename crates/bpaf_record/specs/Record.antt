@@ -19,9 +19,8 @@ use Rattle.bpaf_line.specs.declared.failure.ParseFailure.TheVariants as failure
 
 -- none of these keys shares a name with those of help and version
 abbrev pub are_unusual : List Names → RunInfo → Bool
-are_unusual keys info =
-    list_all (are_apart info.help_arg.names) keys
-    && list_all (are_apart info.version_arg.names) keys
+are_unusual keys info = list_all (are_apart info.help_arg.names) keys && list_all
+    (are_apart info.version_arg.names) keys
 
 -- a flat record none of whose keys shares a name with those of help and version
 abbrev pub is_flat_record : {T : Type 0} → ProgramForm T → List Names → RunInfo → Bool

@@ -33,7 +33,7 @@ use Rattle.bpaf_words.specs.{Line.SpellsByDash, declared.split.SplitFault.SplitF
 pub rest_moved : (words : List (List ℕ)) (i : ℕ) (word : List ℕ) (old new all : List Arg)
     → slice_get words i ≡ Some word → old ++ map PosWord (drop i words) ≡ all
     → new ≡ old ++ PosWord word ∷ [] → new ++ map PosWord (drop (i + 1) words) ≡ all
-rest_moved words i word old new all at e n = grind (arith, map, drop, append_assoc, drop_next)
+rest_moved words i word old new all at e n = grind (arith, append_assoc, drop_next)
 
 -- one text more
 pub texts_more : (words : List (List ℕ)) (low i : ℕ) (word : List ℕ) → AllWithin IsUtf8 words low i
@@ -269,7 +269,7 @@ with_value names word rest tail (x ∷ xs) value chosen c w r d t n f g =
 answers_weaker : (P Q : Spelling → Type 0) → ((s : Spelling) → P s → Q s)
     → (old : List Arg) (result : Result (Unit {0}) SplitFault) (new : List Arg)
     → Answers P old result new → Answers Q old result new
-answers_weaker P Q f old result new a = grind (arith, Ok, Err)
+answers_weaker P Q f old result new a = grind arith
 
 -- letters behind a dash are joined, given the characters after the first
 joined_by : (word rest tail : List ℕ) (c : ℕ) (fs : List ℕ) → word ≡ 45 ∷ rest → c ≢ 45

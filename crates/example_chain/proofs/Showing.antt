@@ -24,8 +24,7 @@ module _ {P : Type 0} (outcome : P → Outcome Step) (reads : P → Readings Ste
     (describes : P → ShownShapes) where
   -- such a command shows its page alone, where its parser keeps to the laws and shows as it should
   abbrev pub Chained : Titled → P → ParseCommand Step P → Type 0
-  Chained title parser command =
-      Hands (IsCommandPage title)
+  Chained title parser command = Hands (IsCommandPage title)
       (OutcomeOfCommand command (outcome command.inner) (describes command.inner))
       (EitherCommandReads command.adjacent Step (opening_words command.names) (reads command.inner))
       (CommandDescribes command.names command.help (describes command.inner))
@@ -36,12 +35,11 @@ module _ {P : Type 0} (outcome : P → Outcome Step) (reads : P → Readings Ste
       → IsTitled title parser command → Lawful Step (outcome command.inner) (reads command.inner)
       → ShowsAs title.shapes (describes parser) (outcome parser) → Chained title parser command
   chained title parser command is law shows =
-      let inner : ShowsAs title.shapes (describes command.inner) (outcome command.inner) =
-      rw is.inner_is shows in
-      let hands = command_hands law inner.nothing
-      (λ context share v read. rw is.inner_is at read) inner.shapes_are command.info
-      (ap (λ info. info.help_if_no_args) is.described.is) title.name is.adjacent_is is.called_is
-      is.help_is in
+      let inner : ShowsAs title.shapes (describes command.inner) (outcome command.inner) = rw
+      is.inner_is shows in
+      let hands = command_hands law inner.nothing (λ context share v read. rw is.inner_is at read)
+      inner.shapes_are command.info (ap (λ info. info.help_if_no_args) is.described.is)
+      title.name is.adjacent_is is.called_is is.help_is in
       record {
         law = hands.law;
         hands = hands_also (λ s doc full behind. record {
@@ -50,9 +48,6 @@ module _ {P : Type 0} (outcome : P → Outcome Step) (reads : P → Readings Ste
           asked = behind;
         }) hands.hands;
         also = hands.also;
-        shows = λ shape shown. record {
-          info = command.info;
-          described = is.described;
-          is = hands.shows shape shown;
-        };
+        shows = λ shape shown.
+            record { info = command.info; described = is.described; is = hands.shows shape shown };
       }

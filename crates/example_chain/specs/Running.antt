@@ -74,9 +74,8 @@ StepReads move turn repeat =
 
 -- some steps, each of which is one of three kinds
 abbrev pub StepsRead : (move turn repeat : Readings Step) → Readings (Vec Step)
-StepsRead move turn repeat =
-    MapReads (List Step) (Vec Step) (ListReads (StepReads move turn repeat))
-    (λ values v. v.items ≡ values)
+StepsRead move turn repeat = MapReads (List Step) (Vec Step)
+    (ListReads (StepReads move turn repeat)) (λ values v. v.items ≡ values)
 
 -- all places of the words' line but the first `--` are dealt out to the steps, each used once
 abbrev pub AreDealt : (move turn repeat : Readings Step) → List (List ℕ) → Vec Step → Type 0

@@ -9,14 +9,11 @@ use Rattle.bpaf_program.proofs.process.behind_the_first.Goals as goal
 one_taken : {X A : Type 0} (s : IntoIter X A) (r : Option X) (t : IntoIter X A)
     → into_iter_steps s r t → into_iter_items t ≡ drop 1 (into_iter_items s)
 one_taken s (Some x) t step = ap (drop 1) (sym step.0)
-one_taken s None t step =
-    sym (All-taken t [] (t, (t, refl, (step.1, step.1))))
+one_taken s None t step = sym (All-taken t [] (t, (t, refl, (step.1, step.1))))
     ∙ ap (drop 1) (All-taken s [] (t, (s, refl, step)))
 
 pub returns : goal.returns
-returns c =
-    IfOk-weaker c.collect.result _ _
-    (λ words h. let end = h.1.2 tt in
-    h.2.0 ∙ (All-taken c.next.new.self h.0 (end.0, (h.1.0, h.1.1, end.1))
-    ∙ one_taken c.args.all c.next.result c.next.new.self c.next.ensures.cases))
-    c.collect.ensures.ran
+returns c = IfOk-weaker c.collect.result _ _ (λ words h.
+    let end = h.1.2 tt in
+    h.2.0 ∙ (All-taken c.next.new.self h.0 (end.0, (h.1.0, h.1.1, end.1)) ∙ one_taken c.args.all
+    c.next.result c.next.new.self c.next.ensures.cases)) c.collect.ensures.ran

@@ -6,9 +6,8 @@ use Rattle.bpaf_program.proofs.writing.write_text.Goals as goal
 pub returns-in-Ok-eq0-clause-part : goal.returns-in-Ok-eq0-clause-part
 returns-in-Ok-eq0-clause-part g c =
     let left = some_left c.is_empty.ensures (search rules) in
-    part_written (written_nothing c.loop-rest.invariant c.in-Ok-eq0.field-0-test
-    c.in-Ok-eq0.ensures.bytes)
-    left
+    part_written
+    (written_nothing c.loop-rest.invariant c.in-Ok-eq0.field-0-test c.in-Ok-eq0.ensures.bytes) left
     (record {
       before = _;
       bytes = _;
@@ -23,8 +22,7 @@ loop-rest-preserved g c = written_on c.loop-rest.invariant _ c.in-Ok.ensures.byt
 pub returns-in-Err-clause-part : goal.returns-in-Err-clause-part
 returns-in-Err-clause-part g c =
     part_written (written_still c.loop-rest.invariant c.in-Err.ensures.bytes)
-    (some_left c.is_empty.ensures (search rules))
-    (record {
+    (some_left c.is_empty.ensures (search rules)) (record {
       before = _;
       bytes = _;
       answer = _;

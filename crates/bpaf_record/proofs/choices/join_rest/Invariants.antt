@@ -4,8 +4,5 @@ use Rattle.bpaf_record.specs.{Grammar.choices_of, Grammar.program_form, Part.par
 use Rattle.bpaf_record.proofs.choices.join_rest.Given as goal
 
 abbrev pub invariant-loop-index : goal.invariant-loop-index
-invariant-loop-index g l =
-    (1 ≤ l.index)
-    × ((variables : Variables) → l.part
-    ≡ part_of (program_form (choices_of g.P.ProgramField.grammar (take l.index l.fn.parsers))
-    variables))
+invariant-loop-index g l = (1 ≤ l.index) × ((variables : Variables) → l.part ≡ part_of
+    (program_form (choices_of g.P.ProgramField.grammar (take l.index l.fn.parsers)) variables))

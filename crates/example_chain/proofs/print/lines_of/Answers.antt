@@ -12,7 +12,6 @@ returns-in_err-steps c =
     (λ doc full is. help doc full) c.in_err-steps.ensures.asked))
 
 pub returns : goal.returns
-returns c =
-    text_answers (Answers (map string_bytes c.args.words.now)) _
+returns c = text_answers (Answers (map string_bytes c.args.words.now)) _
     (steps c.in_ok-steps.steps c.in_ok-steps.ensures.dealt) _
     (rw c.as_slice.ensures.value at c.text_of.ensures)

@@ -4,8 +4,7 @@ use Rattle.bpaf_laws.proofs.ProductLaws.{product_lawful, product_spares}
 use Rattle.bpaf.proofs.adjacent.ParseAdjacentParseConParser.eval.Goals as goal
 
 pub returns-clause-takes_one_stretch : goal.returns-clause-takes_one_stretch
-returns-clause-takes_one_stretch g c =
-    group_takes_stretch (part_of c.args.self.now.first)
+returns-clause-takes_one_stretch g c = group_takes_stretch (part_of c.args.self.now.first)
     (product_lawful (λ x y. g.F.Fn.post c.args.self.now.inner.make (x, tt) y)
     (g.met.P.Fields.fast_lawful c.args.self.now.inner.fields)) c.args.state.now c.search.result
     c.search.new.state c.search.ensures

@@ -16,11 +16,9 @@ returns-in-None g c =
       t,
       rw c.set_scope.ensures.scope at c.in_ok-value.ensures,
       rw c.set_scope-2.ensures.scope at c.in-None.ensures,
-      c.set_scope-in-None.ensures.scope ∙ rw (
-        c.set_scope-2.ensures.scope,
-        c.scope-scope.ensures.start,
-        c.scope-scope.ensures.stop,
-      ) refl,
+      c.set_scope-in-None.ensures.scope ∙ rw
+          (c.set_scope-2.ensures.scope, c.scope-scope.ensures.start, c.scope-scope.ensures.stop)
+          refl,
     )
 
 pub returns-in-Some : goal.returns-in-Some

@@ -1,7 +1,7 @@
 use Rattle.std.proofs.Common.{refl, sym, ap, ◌∙◌}
 use Rattle.bpaf_line.specs.Situation.{Situation}
-use Rattle.bpaf.specs.Remembering.{failure_of}
-use Rattle.bpaf.proofs.Remembering.{attempts_gone, back_at, wanted_at, skipped_at, found_at}
+use Rattle.bpaf.specs.Remembering.{failure_of, skipped, found}
+use Rattle.bpaf.proofs.Remembering.{attempts_gone, back_at, wanted_at}
 use Rattle.bpaf.proofs.Remembering.{failed_at}
 use Rattle.bpaf.proofs.adjacent.search.try_at.Goals as goal
 
@@ -10,13 +10,13 @@ returns-in_err-takes_item-clause-tried g c =
     wanted_at _ c.takes_item.ensures.same c.in_err-takes_item.ensures.takes c.from_residual.ensures refl
 
 pub returns-then-not-branch-clause-tried : goal.returns-then-not-branch-clause-tried
-returns-then-not-branch-clause-tried g c =
-    skipped_at c.takes_item.ensures.same c.if-not-branch.true c.in_ok-takes_item.ensures.takes
+returns-then-not-branch-clause-tried g c = rw c.takes_item.ensures.same
+    (skipped (rw c.if-not-branch.true at c.in_ok-takes_item.ensures.takes))
 
 pub returns-in-Ok-clause-tried : goal.returns-in-Ok-clause-tried
 returns-in-Ok-clause-tried g c =
-    found_at c.takes_item.ensures.same c.if-not-branch.false c.in_ok-takes_item.ensures.takes
-    c.in-Ok.is c.attempts.ensures
+    found _ _ (rw c.if-not-branch.false at c.in_ok-takes_item.ensures.takes)
+    (rw (c.takes_item.ensures.same, c.in-Ok.is) at c.attempts.ensures)
 
 pub keep-kept-requires : goal.keep-kept-requires
 keep-kept-requires g c =
@@ -51,8 +51,7 @@ returns-in_ok-kept-in-Err g c =
     c.mark-mark.ensures.fits c.mark-mark.ensures.back c.attempts.ensures in
     let kept = rw back.back at c.in_ok-kept-in-Err.ensures.ok in
     record {
-      tried =
-          failed_at c.takes_item.ensures.same c.if-not-branch.false
+      tried = failed_at c.takes_item.ensures.same c.if-not-branch.false
           c.in_ok-takes_item.ensures.takes c.in-Err.is c.attempts.ensures
           c.in_ok-kept-in-Err.ensures.told kept.longer
           (back_at back c.keep-kept.ensures.same c.undo.ensures.undone);

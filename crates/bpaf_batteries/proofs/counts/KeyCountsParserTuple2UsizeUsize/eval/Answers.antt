@@ -7,9 +7,8 @@ pub returns-clause-outcome : goal.returns-clause-outcome
 returns-clause-outcome c = grind (arith, counts_ran)
 
 pub returns-clause-keys_are_counted : goal.returns-clause-keys_are_counted
-returns-clause-keys_are_counted c =
-    keys_counted is_clone-value.it c.args.self.now c.args.state.now c.set_current.new.self
-    c.eval_fields-counts.result (returns-clause-outcome c)
+returns-clause-keys_are_counted c = keys_counted is_clone-value.it c.args.self.now c.args.state.now
+    c.set_current.new.self c.eval_fields-counts.result (returns-clause-outcome c)
 
 pub returns-clause-memory_is_never_caught : goal.returns-clause-memory_is_never_caught
 returns-clause-memory_is_never_caught c = grind (arith, counts_spared, returns-clause-outcome)

@@ -8,7 +8,6 @@ returns-in-Ok g c =
     first_counts _ _ _ c.adjacently_available_from-end.ensures.stretch c.in-Ok.ensures.runs
 
 pub returns-in-Err : goal.returns-in-Err
-returns-in-Err g c =
-    then_retried c.adjacently_available_from-end.ensures.stretch c.in-Err.ensures.runs
-    (c.in-Err.ensures.marks.same c.mark-mark.result c.mark-mark.ensures.fits
+returns-in-Err g c = then_retried c.adjacently_available_from-end.ensures.stretch
+    c.in-Err.ensures.runs (c.in-Err.ensures.marks.same c.mark-mark.result c.mark-mark.ensures.fits
     ∙ c.mark-mark.ensures.back) c.retry.ensures

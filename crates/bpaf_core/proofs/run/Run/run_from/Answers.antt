@@ -9,6 +9,5 @@ returns-in-Some g c =
     left_over _ _ _ _ c.in-Ok.ensures (leftover _ _ _ _ _ c.in-Some.ensures c.tell.ensures)
 
 pub returns-in-Err : goal.returns-in-Err
-returns-in-Err g c =
-    refused _ _ _ _ c.in-Err.ensures
+returns-in-Err g c = refused _ _ _ _ c.in-Err.ensures
     (c.end_refused.ensures c.args.state.now c.wants_usage-usage.ensures)

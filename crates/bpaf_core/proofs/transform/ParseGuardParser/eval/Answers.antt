@@ -9,11 +9,10 @@ returns-then-check-clause-outcome g c = (
 
 pub returns-then-check-clause-memory_is_never_caught :
     goal.returns-then-check-clause-memory_is_never_caught
-returns-then-check-clause-memory_is_never_caught g c =
-    λ spared. (
-      (c.in_ok-value.ensures, tt),
-      record { shown = _; shows = refl; says = record { met = c.if-check.ensures } },
-    )
+returns-then-check-clause-memory_is_never_caught g c = λ spared. (
+  (c.in_ok-value.ensures, tt),
+  record { shown = _; shows = refl; says = record { met = c.if-check.ensures } },
+)
 
 pub returns-else-check-clause-outcome : goal.returns-else-check-clause-outcome
 returns-else-check-clause-outcome g c =
@@ -26,11 +25,9 @@ returns-else-check-clause-outcome g c =
 
 pub returns-else-check-clause-memory_is_never_caught :
     goal.returns-else-check-clause-memory_is_never_caught
-returns-else-check-clause-memory_is_never_caught g c =
-    λ spared.
-    inr (
-      c.in_ok-value.value,
-      (c.in_ok-value.ensures, tt),
-      record { shown = _; shows = refl; says = record { met = c.if-check.ensures } },
-      c.guard_failed.ensures,
-    )
+returns-else-check-clause-memory_is_never_caught g c = λ spared. inr (
+  c.in_ok-value.value,
+  (c.in_ok-value.ensures, tt),
+  record { shown = _; shows = refl; says = record { met = c.if-check.ensures } },
+  c.guard_failed.ensures,
+)
