@@ -10,6 +10,7 @@ use Rattle.bpaf_laws.specs.{Reading.Outcome}
 use Rattle.bpaf_exact.proofs.{ProgramForm.runs_as_program, ProgramForm.whole_law, Leaves.last_same}
 use Rattle.bpaf_exact.proofs.{Cuts.one_take, Cuts.one_cut, Wrappers.alternative_single}
 use Rattle.bpaf_exact.proofs.{Commands.none_opens, Repeat.own_nil}
+use Rattle.bpaf_exact.specs.ProgramForm.{program_alone}
 use Rattle.bpaf_exact.specs.ProgramForm.{argument_field, flag_field, program_closed, ArgumentValue}
 use Rattle.bpaf_exact.specs.ProgramForm.{program_field, program_both, program_con, whole_value}
 use Rattle.bpaf_exact.specs.ProgramForm.{ProgramForm, is_program, word_by, whole_program}
@@ -200,6 +201,10 @@ pub both_view : (A B X Y : Type 0) (see : A → X) (look : B → Y) (own others 
 both_view x y z u see look own others x1 x2 x3 n = grind (arith, if_view, one_take)
 
 module _ {T X : Type 0} (see : T → X) where
+  -- the last field
+  pub alone_view : (s : ProgramForm T) → HasOneView see s → HasOneView see (program_alone s)
+  alone_view x u = grind arith
+
   -- a whole program
   record_view : {env : Variables} {inner : Outcome T} {names : List Names}
       {words : List (List ℕ)} {s : ProgramForm T} → FormLaw env inner names words s

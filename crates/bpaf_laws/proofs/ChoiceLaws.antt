@@ -50,6 +50,12 @@ module _ {T : Type 0} (s : Situation) (Holds : Result T Error → Situation → 
       → Holds r t
   of_chosen a sa b sb r t x one other = grind (arith, of_winner)
 
+-- where both paths are equally deep the table is that of equal depths
+pub chosen_at_equal : {T : Type 0} (s : Situation) (a : Result T Error) (sa : Situation)
+    (b : Result T Error) (sb : Situation) (r : Result T Error) (t : Situation)
+    → depth sa ≡ depth sb → Chosen s a sa b sb r t → EqualDepths s a sa b sb r t
+chosen_at_equal s a sa b sb r t same x = grind arith
+
 module _ {T : Type 0} {first second : Outcome T} {rf rs : Readings T} (lf : Lawful T first rf)
     (ls : Lawful T second rs) where
   -- the answer of branches that were evaluated keeps to the laws

@@ -82,7 +82,11 @@ keeps_refl s = grind (arith, true≢false, newly_none, append-nil, keeps_marks_r
 pub closes_refl : (s : Situation) → Closes s s
 closes_refl s p within outside = absurd (true≢false (sym within ∙ outside))
 
--- taking two places, one after the other, leaves none outside
+-- taking a place moves no scope
+pub closes_take : (s : Situation) (p : ℕ) → Closes s (take_place s p)
+closes_take s p q within outside = absurd (true≢false (sym within ∙ outside))
+
+-- nor does taking two places, one after the other
 pub closes_take_both : (s : Situation) (p q : ℕ) → Closes s (take_place (take_place s p) q)
 closes_take_both s p q r within outside = absurd (true≢false (sym within ∙ outside))
 

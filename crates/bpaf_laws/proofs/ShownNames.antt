@@ -10,8 +10,9 @@ use Rattle.bpaf_doc.specs.{declared.meta.MetaInfo.MetaInfo, declared.doc.Piece.P
 use Rattle.bpaf_words.specs.Line.{ShortNames}
 use Rattle.bpaf_text.specs.Named.{KeyWithValue, Named}
 use Rattle.bpaf_laws.specs.Choice.{ChoicesDescribes, ChoiceDescribes, either_shape, Nested}
-use Rattle.bpaf_laws.specs.Combinators.{DefaultDescribes, SectionDescribes, TitledDescribes}
-use Rattle.bpaf_laws.specs.Combinators.{UsageDescribes, ManyDescribes, SomeDescribes, usage_pieces}
+use Rattle.bpaf_laws.specs.Combinators.{OptionalDescribes, DefaultDescribes, SectionDescribes}
+use Rattle.bpaf_laws.specs.Combinators.{TitledDescribes, UsageDescribes, ManyDescribes}
+use Rattle.bpaf_laws.specs.Combinators.{SomeDescribes, usage_pieces}
 use Rattle.bpaf_laws.specs.Laws.{FieldsShowNames, joined_shorts, of_arguments, ShowsNames, of_flags}
 use Rattle.bpaf_laws.specs.Laws.{all_shorts, shorts_of}
 use Rattle.bpaf_laws.specs.Product.{ProductDescribes, BothDescribes, LastDescribes}
@@ -39,6 +40,10 @@ module _ {inner : Shape → Type 0} {names : ShortNames} (inside : ShowsNames in
       → ShowsNames (λ shape. (within : Shape) × inner within × (shape ≡ wrap within)) names
   around wrap as_inside = grind arith
 
+  -- what may be left out
+  pub optional_shows : ShowsNames (OptionalDescribes inner) names
+  optional_shows = around (λ shape. Optional shape) (λ shape. refl)
+
   -- what may stand any number of times
   pub many_shows : ShowsNames (ManyDescribes inner) names
   many_shows = around (λ shape. Many (Optional shape)) (λ shape. refl)
@@ -50,7 +55,7 @@ module _ {inner : Shape → Type 0} {names : ShortNames} (inside : ShowsNames in
   -- what has a default
   pub default_shows : (shown : Option (List Piece))
       → ShowsNames (DefaultDescribes inner shown) names
-  default_shows x = grind (arith, around, around (λ shape. Optional shape) (λ shape. refl))
+  default_shows x = grind (arith, around, optional_shows)
 
   -- what has a usage text of its own
   pub usage_shows : (usage : Option (List Piece)) → ShowsNames (UsageDescribes inner usage) names
