@@ -20,7 +20,5 @@ pub fn read_options(alloc: Global, words: &[String]) -> Result<Options, ParseFai
         beginnings,
         files
     });
-    options
-        .to_options(alloc)?
-        .run_inner(Args::from(words).set_name("bench"))
+    options.run_once(alloc, Args::from(words).set_name("bench"))
 }

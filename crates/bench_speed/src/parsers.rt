@@ -21,9 +21,8 @@ pub fn record(alloc: Global, line: &[String]) -> Result<u64, ParseFailure> {
         verbose,
         num,
         files
-    })
-    .to_options(alloc)?;
-    let made = options.run_once(Args::from(line).set_name("bpaf_demo"))?;
+    });
+    let made = options.run_once(alloc, Args::from(line).set_name("bpaf_demo"))?;
     Ok(made.num.wrapping_add(made.files.len() as u64))
 }
 
@@ -31,26 +30,24 @@ pub fn record(alloc: Global, line: &[String]) -> Result<u64, ParseFailure> {
 pub fn flags(alloc: Global, line: &[String]) -> Result<u64, ParseFailure> {
     let a = short(alloc, 'a')?.req_flag(1u8);
     let b = short(alloc, 'b')?.req_flag(2u8);
-    let options = construct!([a, b]).many().to_options(alloc)?;
-    Ok(options.run_once(Args::from(line))?.len() as u64)
+    let flags = construct!([a, b]).many();
+    Ok(flags.run_once(alloc, Args::from(line))?.len() as u64)
 }
 
 /// How many switches there are.
 pub fn switches(alloc: Global, line: &[String]) -> Result<u64, ParseFailure> {
-    let options = short(alloc, 'v')?.switch().many().to_options(alloc)?;
-    Ok(options.run_once(Args::from(line))?.len() as u64)
+    let switches = short(alloc, 'v')?.switch().many();
+    Ok(switches.run_once(alloc, Args::from(line))?.len() as u64)
 }
 
 /// How many numbers there are.
 pub fn numbers(alloc: Global, line: &[String]) -> Result<u64, ParseFailure> {
     let number = short(alloc, 'n')?.argument::<u64>("NUM");
-    let options = number.many().to_options(alloc)?;
-    Ok(options.run_once(Args::from(line))?.len() as u64)
+    Ok(number.many().run_once(alloc, Args::from(line))?.len() as u64)
 }
 
 /// The last of all numbers.
 pub fn last_number(alloc: Global, line: &[String]) -> Result<u64, ParseFailure> {
     let number = short(alloc, 'n')?.argument::<u64>("NUM");
-    let options = number.take_last().to_options(alloc)?;
-    options.run_once(Args::from(line))
+    number.take_last().run_once(alloc, Args::from(line))
 }

@@ -34,7 +34,7 @@ impl<T: FromText> Parser<T> for ParseArgument<T> {
 
     ghost outcome = { λ p. ArgumentOutcome T.means p };
 
-    #[tactic(auto, using(bpaf_laws::proofs::ArgumentLaws::key_first, bpaf_laws::proofs::ArgumentLaws::refused_first, bpaf_laws::proofs::ArgumentLaws::value_read))]
+    #[tactic(auto, using(bpaf_laws::proofs::ArgumentLaws::refused_first))]
     fn eval(&self, state: &mut State) -> Result<T, Error>
         ensures outcome { ArgumentOutcome T.means self.now state.old result state.new }
         ensures key_before_environment { KeyBeforeEnvironment T.means self.now

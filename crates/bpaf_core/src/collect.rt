@@ -65,7 +65,6 @@ impl<T: Drop, C: FromList<T> + Drop, P: Parser<T>> Parser<C> for ParseCollect<P,
 
     ghost outcome = { λ p. CollectOutcome (P.outcome p.inner) p.catch C.fills };
 
-    #[tactic(auto, using(bpaf_laws::proofs::CombinatorLaws::collect_bounded, bpaf_laws::proofs::Sparing::spared_collect))]
     fn eval(&self, state: &mut State) -> Result<C, Error>
         requires { P.can_eval self.now.inner }
         ensures outcome { CollectOutcome (P.outcome self.now.inner) self.now.catch C.fills

@@ -132,7 +132,6 @@ impl<T: Clone, P: Parser<T>> Parser<T> for ParseFallback<P, T> {
         }
     }
 
-    #[tactic(auto, using(crate::proofs::Running::default_shown))]
     fn meta(&self, alloc: Global) -> Result<Meta, AllocError> {
         default_meta(alloc, self.inner.meta(alloc)?, &self.shown)
     }

@@ -15,7 +15,6 @@ use std::alloc::{AllocError, Global};
 ///
 /// `catches` tells that it stops at every error but those of wrong input and want of memory,
 /// `first` that no value came before it.
-#[tactic(auto, using(bpaf_laws::proofs::Keeping::keeps_of))]
 pub(crate) fn parse_option<T: Drop, P: Parser<T>>(
     parser: &P,
     state: &mut State,

@@ -3,14 +3,14 @@
 use Rattle.std.proofs.Common.{◌≡◌, ℕ, suc, ◌<◌, ◌≤◌, Bool, true, false, not, ◌&&◌, ◌||◌, ◌==◌, List}
 use Rattle.std.proofs.Common.{[], ◌∷◌, ◌++◌, length, drop, if◌then◌else◌, refl, ap, sym, ◌∙◌, arith}
 use Rattle.std.proofs.Common.{append-nil, subst, Some, None, option_map, get_or, drop-cons, ◌≢◌}
-use Rattle.std.proofs.Common.{slice_index, zero, append_assoc, Vec, map}
+use Rattle.std.proofs.Common.{slice_index, zero, append_assoc, Vec, map, ◌+◌, add-one}
 use Rattle.std.specs.Prelude.{filter, flat_map}
 use Rattle.bpaf_doc.specs.Print.{folded, empty_line, begins_with_empty_line, cut_at_empty_line}
 use Rattle.bpaf_doc.specs.Print.{folded_parts, folded_whole, TextPieces, whole, cut, printed}
 use Rattle.bpaf_doc.specs.Print.{is_nil, folded_after, keeps_break, break_or_space, break_between}
 use Rattle.bpaf_doc.specs.Print.{HasNoBreak, detail, whole_pieces, cut_pieces, shown_as}
 use Rattle.bpaf_doc.specs.Shape.{Part, shape_of, Shape, Or, alternatives, members, part_layer}
-use Rattle.bpaf_doc.specs.Shape.{shape_layer, shapes_of}
+use Rattle.bpaf_doc.specs.Shape.{shape_layer, shapes_of, members_of, ◌then◌}
 use Rattle.bpaf_doc.specs.declared.doc.Style.TheVariants as style
 use Rattle.bpaf_doc.specs.declared.meta.Meta as meta
 use Rattle.std.proofs.{lemmas.List.Concat.flat_map-append, lemmas.List.Elements.filter-append}
@@ -213,3 +213,11 @@ pub or_adds : (all : Vec Meta Global) (of : Meta) → of ≡ meta.Or all
 or_adds all of is =
     sym (ap (λ m. alternatives (shape_of m))
     is ∙ (ap alternatives (or_shape all) ∙ shapes_of_members (map shape_of all.items)))
+
+-- the members from a place on are the one there and those behind it
+pub members_from : (all : List Meta) (i : ℕ) (member : Meta) → i < length all
+    → member ≡ get_or all i member
+    → members_of (drop i all) ≡ (shape_of member then members_of (drop (i + 1) all))
+members_from all i member within here =
+    ap members_of (drop-cons all i member within ∙ ap (λ x. x ∷ drop (suc i) all) (sym here)
+    ∙ ap (λ n. member ∷ drop n all) (sym (add-one i)))

@@ -518,7 +518,7 @@ module _ {env : Variables} {T : Type 0} {a b : Outcome T} {ra rb : Roles} {wa wb
       others = λ q n p cs v s h. ⊎_elim (λ g. la.program.others q n (apart_first rb p) cs v s g)
           (λ g. lb.program.others q n (apart_second ra p) cs v s g) h;
       keeps = record {
-        ok = λ s t v w o. (grind (arith, first_closed, second_closed, u, branch_ok o));
+        ok = λ s t v w o. grind (arith, first_closed, second_closed, u, branch_ok o);
         err = choice_refuses;
       };
     };

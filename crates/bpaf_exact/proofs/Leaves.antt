@@ -157,12 +157,6 @@ none_named xs e = grind arith
 
 -- where no key of a flag is there
 module _ {T : Type 0} (clones : T → T → Type 0) (present : T) where
-  -- a value stands for that
-  abbrev StandsForNone : Option T → Option (List ℕ) → T → Type 0
-  StandsForNone absent set v =
-      let flag_gap = gap_of clones (value_without_key present absent set) in
-      (flag_gap.has ≡ true) × flag_gap.absent v
-
   -- without either none does
   gap_none : (absent : Option T) (set : Option (List ℕ)) → is_some set ≡ false → absent ≡ None
       → is_some (value_without_key present absent set) ≡ false

@@ -475,7 +475,7 @@ module _ {env : Variables} {A : Type 0} {inner : Outcome A} {names : List Names}
   pub hide_law : FormLaw env (HideOutcome inner) names words (program_dressed s)
   hide_law = program_dressed_law (narrower_form (record {
     value = λ s t v o. o;
-    refusal = λ s t e o. (o.0, o.1, (grind arith) ∙ ap class_of (sym o.2));
+    refusal = λ s t e o. (o.0, o.1, grind arith ∙ ap class_of (sym o.2));
   }) l)
 
   -- optional

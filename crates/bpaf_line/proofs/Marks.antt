@@ -132,7 +132,7 @@ undone_twice mark s = grind (arith, take-take)
 -- Conflict notes: what they change, and what they leave.
 
 -- the last pair of a place in two lists is that of the second, where it has one there
-last_of-append : (xs ys : List (ℕ × ℕ)) (p : ℕ)
+pub last_of-append : (xs ys : List (ℕ × ℕ)) (p : ℕ)
     → last_of (xs ++ ys) p ≡ option_or (last_of ys p) (last_of xs p)
 last_of-append xs ys p = grind (arith, option_map, reverse-append, find-append, reverse)
 

@@ -37,8 +37,8 @@ fn integer(alloc: Global) -> Result<ParseArgument<i64>, AllocError> {
 /// The command `a` over that, by whose own setting negative numbers are words.
 fn by_inner(alloc: Global, words: &[&str]) -> Result<Option<i64>, AllocError> {
     let inner = integer(alloc)?.to_options(alloc)?.numbers_as_words();
-    let options = inner.command("a")?.to_options(alloc)?;
-    Ok(options.run_once(Args::from(words)).ok())
+    let command = inner.command("a")?;
+    Ok(command.run_once(alloc, Args::from(words)).ok())
 }
 
 /// The same command without a setting of its own, in a parser with it.

@@ -1,0 +1,10 @@
+use Rattle.bpaf_laws.proofs.ArgumentLaws.{key_first, value_read}
+use Rattle.bpaf_core.proofs.argument.ParseArgumentParser.eval.Goals as goal
+
+pub returns-clause-outcome : goal.returns-clause-outcome
+returns-clause-outcome g c =
+    value_read _ _ _ _ _ _ c.in_ok-text.ensures (rw c.as_str.ensures at c.read_text.ensures)
+
+pub returns-clause-key_before_environment : goal.returns-clause-key_before_environment
+returns-clause-key_before_environment g c =
+    key_first _ _ _ _ _ _ c.in_ok-text.ensures (rw c.as_str.ensures at c.read_text.ensures)
