@@ -59,8 +59,7 @@ accepts_text : (accepted : String Global) (checks : String Global → Option Val
     → AcceptsText (string_bytes accepted) (string_bytes x) found)
     → (text : List ℕ) (found : Option Value) → ChecksText MeansText checks text found
     → AcceptsText (string_bytes accepted) text found
-accepts_text accepted checks by text (Some v) look =
-    rw look.1 at (by look.0 (Some v) look.2)
+accepts_text accepted checks by text (Some v) look = rw look.1 at (by look.0 (Some v) look.2)
 accepts_text accepted checks by text None look = ⊎_elim (λ unread. λ same. unread accepted (sym same))
     (λ seen. rw seen.1 at (by seen.0 None seen.2)) look
 

@@ -128,8 +128,7 @@ cut_more i on = grind arith
 
 -- a field's own pieces are ones of a cut by these keys: keys, or words
 pub record CutsOff (q r : Roles) : Type 0 where
-  pub alone : (k : Arg) → q k ≡ Alone
-      → (r k ≡ Alone) ⊎ ((is_positional k ≡ true) × (r k ≡ Foreign))
+  pub alone : (k : Arg) → q k ≡ Alone → (r k ≡ Alone) ⊎ ((is_positional k ≡ true) × (r k ≡ Foreign))
   pub pair : (k : Arg) → q k ≡ WithNext → (r k ≡ WithNext) × (is_positional k ≡ false)
   pub value : (k w : Arg) → r k ≡ WithNext → is_value w ≡ true → q w ≡ Foreign
 
@@ -491,8 +490,7 @@ module _ (r : Roles) (n : IsNamed r) where
       {behind : Cells} {earlier later : List LinePiece} → r k ≡ WithNext → is_value value ≡ true
       → after ≡ Some value ∷ behind → Cut r before earlier → Cut r behind later
       → os ≡ earlier ++ (Two k value ∷ later) → HasItsValue r before k after os
-  has_its_value value e v next cut_before cut_behind is =
-      grind (arith, filter-append, others_own)
+  has_its_value value e v next cut_before cut_behind is = grind (arith, filter-append, others_own)
 
   -- what an item of a cut line is: a flag's key, an argument's key, its value, or a word
   data Item (before : Cells) (k : Arg) (after : Cells) (os : List LinePiece) : Type 0 where
@@ -568,5 +566,4 @@ module _ (r : Roles) (n : IsNamed r) where
 
   -- a cut line holds together
   pub cut_holds_together : (cs : Cells) (os : List LinePiece) → Cut r cs os → HoldsTogether r cs os
-  cut_holds_together cs os c =
-      grind (arith, own_key, own_value, behind_key, words_alone, item_of)
+  cut_holds_together cs os c = grind (arith, own_key, own_value, behind_key, words_alone, item_of)

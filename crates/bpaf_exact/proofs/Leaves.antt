@@ -43,8 +43,7 @@ use Rattle.bpaf_exact.specs.{ProgramForm.FormLaw, ProgramForm.word_by, Says.of_k
 
 -- so does that of a key, or without a place on the line that no name in the environment is set
 pub absence_class : (s : Situation) (part : Option Part) (envs : List (List ℕ)) (m : Message)
-    → IsAbsence s part envs m
-    → (class_of m ≡ OfMissing) ⊎ ((class_of m ≡ Caught) × (envs ≡ [] → ⊥))
+    → IsAbsence s part envs m → (class_of m ≡ OfMissing) ⊎ ((class_of m ≡ Caught) × (envs ≡ [] → ⊥))
 absence_class s x envs m o = grind arith
 
 -- What a parser answers where no piece of its own is there: what stands for that; or it is refused;
@@ -114,8 +113,7 @@ module _ {T : Type 0} {q : Roles} {value : LinePiece → T → Type 0} {gap : Ga
 -- a key whose evaluation reads its first piece alone keeps to the laws of its form
 pub key_field_law : {env : Variables} {T : Type 0} {outcome : Outcome T} {q : Roles}
     {value : LinePiece → T → Type 0} {gap : Gap T} {names : List Names} (other : Type 0)
-    (wide may : Bool) → IsNamed q → Owns q names
-    → ((v : T) → gap.has ≡ false → gap.absent v → ⊥)
+    (wide may : Bool) → IsNamed q → Owns q names → ((v : T) → gap.has ≡ false → gap.absent v → ⊥)
     → (may ≡ true → (gap.has ≡ false) × (other → ⊥))
     → ((s t : Situation) (r : Result T Error) → s.context.env ≡ env → outcome s r t
     → FirstRead T ByName q value gap other s r t)

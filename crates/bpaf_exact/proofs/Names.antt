@@ -248,8 +248,7 @@ others_fit q r names (o ∷ os) fit =
 pub rest_fit : (r : Roles) (names : List Names) (whole os : List LinePiece) → Fits names r whole
     → Fits names r os → Fits names r (keyed names whole ++ others r os)
 rest_fit r names [] os fits fit = others_fit r r names os fit
-rest_fit r names (o ∷ whole) os fits fit =
-    grind (arith, rest_fit r names whole os fits.1 fit)
+rest_fit r names (o ∷ whole) os fits fit = grind (arith, rest_fit r names whole os fits.1 fit)
 
 -- its own are those of the whole line
 pub mine_rest : (r : Roles) (names : List Names) (whole os : List LinePiece) → Fits names r whole

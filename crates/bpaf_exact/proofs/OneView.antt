@@ -166,8 +166,7 @@ module _ {env : Variables} {T X : Type 0} {inner : Outcome T} {names : List Name
   -- what may be left out
   pub optional_field_view : {s : ProgramForm T} → FormLaw env inner names words s
       → HasOneView see s → HasOneView (option_map see) (program_optional s)
-  optional_field_view l u =
-      grind (arith, none_opens, optional_value_view, whole_view)
+  optional_field_view l u = grind (arith, none_opens, optional_value_view, whole_view)
 
   -- a field with a default
   pub fallback_view : {s : ProgramForm T} (f : Closure (Unit {0}) T) → Alike see (λ v. f.yes tt v)

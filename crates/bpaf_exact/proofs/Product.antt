@@ -349,8 +349,7 @@ module _ {env : Variables} {A B : Type 0} {first : Outcome A} {rest : Outcome B}
   -- where both have a value, so have the others after the first
   rest_value : {s m : Situation} {x : A} {u : A × B} → FieldTook A ByName q fv s x m
       → value (pieces both (cells s)) u → read.value (pieces r (cells m)) u.1
-  rest_value {s} i h =
-      rw (keeps_other_some lf.own lr.own apart i.takes) (each_value (cells s) h).1
+  rest_value {s} i h = rw (keeps_other_some lf.own lr.own apart i.takes) (each_value (cells s) h).1
 
   -- together they keep to the laws of a named field
   pub named_both_law : FieldLaw env (A × B) (BothOutcome first rest) ByName both value

@@ -83,8 +83,7 @@ all_whole = record { end = refl; front = λ p l. absurd (omega arith); environme
 module _ {V : Type 0} {outcome : Outcome V} {context : Context} (value : CellsValue V) where
   -- a value comes only where the outcome gives it and leaves nothing
   pub run_sound : ((t : Situation) (v : V) → outcome (beginning context) (Ok v) t → NonePresent
-      (cells t)
-      → value (cells (beginning context)) v) → {a : RunAnswer V} → RunRan V outcome
+      (cells t) → value (cells (beginning context)) v) → {a : RunAnswer V} → RunRan V outcome
       (beginning context) a → (v : V) → a ≡ Accepted v → value (line_cells context) v
   run_sound ok x1 v h = grind (arith, first_cells_are, none_counted, open_present)
 
@@ -172,8 +171,7 @@ completed_law value owns law l = grind (arith, alternative_single)
 -- what some, collect and count make of the list; a refusal of theirs may be of any class
 listed_law : {env : Variables} {T B : Type 0} {inner : Outcome T} {names : List Names}
     {words : List (List ℕ)} {s : ProgramForm T} (idle : Bool) (f : Closure (List T) B)
-    (c : ErrorClass) → Agrees f (completed repeated (OwnList T) s)
-    → FormLaw env inner names words s
+    (c : ErrorClass) → Agrees f (completed repeated (OwnList T) s) → FormLaw env inner names words s
     → FormLaw env (ClosedEval (List T) B (RepeatOutcome inner idle) f c) names []
     (program_closed f (completed repeated (OwnList T) s))
 listed_law {s = alternative wide q value} idle f c g l =
@@ -281,8 +279,7 @@ module _ {env : Variables} {T : Type 0} {outcome : Outcome T} {names : List Name
   -- the last field, or one alone
   pub program_alone_law : {s : ProgramForm T} → FormLaw env outcome names words s
       → FormLaw env outcome names [] (program_alone s)
-  program_alone_law l =
-      grind (arith, last_law, append-nil, either_owns, named_last_law)
+  program_alone_law l = grind (arith, last_law, append-nil, either_owns, named_last_law)
 
   -- a whole program
   pub whole_law : {s : ProgramForm T} → FormLaw env outcome names words s
@@ -554,8 +551,7 @@ module _ {env : Variables} {A : Type 0} {inner : Outcome A} {names : List Names}
       by_answer s t (Err e) o = closed_err o
 
   -- last
-  pub program_last_law : FormLaw env (LastOutcome inner) names []
-      (completed repeated (LastOf A) s)
+  pub program_last_law : FormLaw env (LastOutcome inner) names [] (completed repeated (LastOf A) s)
   program_last_law =
       completed_law (LastOf A) (λ k q. (λ o. grind arith)) (λ k q group gap l. last_of_law l) l
 

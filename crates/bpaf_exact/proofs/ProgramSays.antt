@@ -245,8 +245,7 @@ choice_into : {T : Type 0} {a b : ProgramForm T} {j k : SaidKind} {m n : List Na
     (words more : List (List ℕ)) → Into this said these cells → Into that said those cells
     → Says m a j c this these → Says n b k d that those
     → Says names (program_choice own others words more a b) (of_kind ByName) c said cells
-choice_into names own others words more from_this from_that h g =
-    grind (arith, if_says)
+choice_into names own others words more from_this from_that h g = grind (arith, if_says)
 
 -- one more parser, into what is said of all
 pub more_says : {T : Type 0} {s : ProgramForm T} {kind : SaidKind} {keys : List Names}
@@ -255,8 +254,7 @@ pub more_says : {T : Type 0} {s : ProgramForm T} {kind : SaidKind} {keys : List 
     → Says names (choice_only before) (of_kind ByName) c said cells → Says keys s kind d one these
     → Says names (choice_only (program_choice own others words more before s)) (of_kind ByName) c
     said cells
-more_says names own others words more before into h g =
-    grind (arith, choice_into, first_says)
+more_says names own others words more before into h g = grind (arith, choice_into, first_says)
 
 -- of two
 pub program_choice_says : {T : Type 0} {s t : ProgramForm T} {j k : SaidKind} {a b : Said T}

@@ -125,8 +125,7 @@ module _ {env : Variables} {T : Type 0} {inner : Outcome T} {k : FieldKind} {q :
   -- a value that took nothing ends it
   enough_took : {s t : Situation} {v : T} → open_count s ≤ open_count t
       → SingleOk T k q group gap s v t → Took (Later []) s t
-  enough_took {v} same (gave_absent h p ab e st) =
-      ended (Later []) st p e (own_none, λ i. (v, ab))
+  enough_took {v} same (gave_absent h p ab e st) = ended (Later []) st p e (own_none, λ i. (v, ab))
   enough_took {s} {t} same (took h) = let f = fewer_count s t h.takes in absurd (omega arith)
 
   -- a turn after a value that stops

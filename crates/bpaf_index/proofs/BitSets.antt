@@ -204,8 +204,7 @@ has_bit_written words p w within = grind (arith, get_or-set_same)
 pub has_bit_others : (words : List ℕ) (p w : ℕ) → p < 64 * length words
     → ((i : ℕ) → i < 64 → i ≢ p % 64 → bit_at w i ≡ bit_at (slice_index words (p / 64)) i)
     → (q : ℕ) → q ≢ p → has_bit (slice_set words (p / 64) w) q ≡ has_bit words q
-has_bit_others words p w within same q other =
-    grind (arith, get_or-set_same, get_or-set_other)
+has_bit_others words p w within same q other = grind (arith, get_or-set_same, get_or-set_other)
 
 -- below the place from which they are counted none are
 pub count_clear-none : (words : List ℕ) (low : ℕ) → count_clear words low low ≡ 0

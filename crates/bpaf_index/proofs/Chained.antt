@@ -142,8 +142,7 @@ pub behind_passed : {line : List Arg} {set : ℕ → Bool} {old : Chained} {clas
     → AreBehind line set old → class < length old.heads → from ≡ slice_index old.heads class
     → IsPlaceOf old.classes class from → HasWalked old.classes set from head
     → AreBehind line set (record old { heads = slice_set old.heads class head })
-behind_passed h inside begins headed walked =
-    grind (arith, get_or-set_same, get_or-set_other)
+behind_passed h inside begins headed walked = grind (arith, get_or-set_same, get_or-set_other)
 
 -- what stands before the beginning of its chain is in the set
 pub early_set : {line : List Arg} {set : ℕ → Bool} {chains : Chained} {class : Option ℕ}

@@ -168,8 +168,7 @@ module _ (argument : KeyWithValue) where
       → TakesKeysWithTexts argument s (before ++ text ∷ []) t
       → Reads (List ℕ) (AreKeysWithText argument) s text t
   keys_read s t text [] o = rw o.2 (one_key s text o.0 o.1)
-  keys_read s t text (x ∷ before) o =
-      more_keys s o.0 t x text o.1 (keys_read o.0 t text before o.2)
+  keys_read s t text (x ∷ before) o = more_keys s o.0 t x text o.1 (keys_read o.0 t text before o.2)
 
   -- what taking keys with their texts keeps
   pub keys_keep : (s t : Situation) (texts : List (List ℕ)) → TakesKeysWithTexts argument s texts t

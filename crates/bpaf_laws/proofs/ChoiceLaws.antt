@@ -100,8 +100,7 @@ pub ran_outcome : {T : Type 0} (first second : Outcome T) (s : Situation) (a : R
     (sa : Situation) (b : Result T Error) (sb : Situation) (r : Result T Error) (t : Situation)
     → first s a sa → second s b sb → is_want a ≡ false → is_want b ≡ false
     → Chosen s a sa b sb r t ⊎ IsWant s r t → ChoiceOutcome first second s r t
-ran_outcome first second s a sa b sb r t f g p q answer =
-    grind arith
+ran_outcome first second s a sa b sb r t f g p q answer = grind arith
 
 module _ {T : Type 0} (first second less other : Outcome T) (fewer : Spares first less)
     (fewer_others : Spares second other) (s t : Situation) (r : Result T Error) where

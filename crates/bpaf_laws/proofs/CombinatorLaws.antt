@@ -144,8 +144,7 @@ module _ {T : Type 0} {inner : Outcome T} {reads : Readings T} (law : Lawful T i
   stop_reads : (first : Bool) (s t : Situation) → TurnOutcome inner catches first s (Ok None) t
       → Reads (List T) (EachReads reads) s [] t
   stop_reads first s t (inl dropped) = grind (arith, same_took_none)
-  stop_reads first s t (inr stopped) =
-      reads_same (EachReads reads) s t [] stopped.1 (newly_none s)
+  stop_reads first s t (inr stopped) = reads_same (EachReads reads) s t [] stopped.1 (newly_none s)
 
   -- what turns keep
   steps_keep : (first : Bool) (s : Situation) (vs : List T) (t : Situation)

@@ -119,8 +119,7 @@ added shape = append-nil (parts shape)
 
 -- the parts of a choice are those of both
 either_parts : (a b : Shape) → parts (either_shape a b) ≡ parts a ++ parts b
-either_parts a b =
-    grind (arith, parts_joined (alternatives a) (alternatives b), added a, added b)
+either_parts a b = grind (arith, parts_joined (alternatives a) (alternatives b), added a, added b)
 
 -- a choice of two
 pub choice_shows : {first second : Shape → Type 0} {own others : ShortNames} → ShowsNames first own

@@ -159,8 +159,7 @@ first_without s p first old free =
     earlier (is_taken s) (is_taken (put s p)) (put_here s p) (put_other s p) free s.start s.end old
   where
     earlier : (f g : ℕ → Bool) → g p ≡ true → ((q : ℕ) → q ≢ p → g q ≡ f q) → f p ≡ false
-        → (low high : ℕ) → IsFirstWith g false low high first
-        → IsFirstWith f false low high
+        → (low high : ℕ) → IsFirstWith g false low high first → IsFirstWith f false low high
         (if nat_le low p && nat_lt p high then min first p else first)
     earlier f g here others free low high old = record {
       from = grind (arith, nat_tests, old.from);
@@ -236,8 +235,7 @@ none_past_line s p past = let none : length s.context.line - p ≡ 0 = omega ari
 -- a place that isn't open is none of them, also past the line
 items_past_closed : (s : Situation) (p : ℕ) → is_open s p ≡ false
     → open_items_from s p ≡ open_items_from s (p + 1)
-items_past_closed s p closed =
-    grind (arith, items_past, none_past_line, cases_lt)
+items_past_closed s p closed = grind (arith, items_past, none_past_line, cases_lt)
 
 -- nor are some places one after another that aren't
 items_past_all : (s : Situation) (n p : ℕ) → ((q : ℕ) → p ≤ q → q < p + n → is_open s q ≡ false)
@@ -315,8 +313,7 @@ module _ (test : Arg → Bool) (s : Situation) where
 
   -- no item in front of the first present place of the scope passes a test
   pub none_in_front : (p : ℕ) → IsFirstPresent s p → HasNoneBefore test s p
-  none_in_front p front q below =
-      grind (arith, none_closed, and_left, lt-leb, none_taken, cases_lt)
+  none_in_front p front q below = grind (arith, none_closed, and_left, lt-leb, none_taken, cases_lt)
 
   -- nor one before a place, where none passes it before another, and all between are taken
   pub none_past_taken : (p r : ℕ) → HasNoneBefore test s p → AreTaken s p r → HasNoneBefore test s r

@@ -92,8 +92,7 @@ taken_since s n q = by_parts _ _ (is_on (take n s.trail) q) (is_on s.trail q) (�
     by_parts past marker front on h e = grind arith
 
 -- the places of a scope that were taken since are present there no more
-count_since : (s : Situation) (start end : ℕ) → TakenInTurn s → (d n : ℕ)
-    → d + n ≡ length s.trail
+count_since : (s : Situation) (start end : ℕ) → TakenInTurn s → (d n : ℕ) → d + n ≡ length s.trail
     → open_count (with_scope s start end) + count_within start end (drop n s.trail)
     ≡ open_count (with_scope (cut_to s n) start end)
 count_since s start end turns zero n all =
@@ -116,8 +115,7 @@ count_since s start end turns (suc d) n all =
 -- the bits of a situation with one place more
 pub bits_put : (s : Situation) (old new : List ℕ) (p : ℕ) → BitsOf s old
     → ChangesBit old new p true → BitsOf (put s p) new
-bits_put s old new p bits change q within =
-    grind (arith, put, put_here, put_other, cases_eq)
+bits_put s old new p bits change q within = grind (arith, put, put_here, put_other, cases_eq)
 
 -- the first present place is found by the bits, from a place up to which all are taken
 pub first_by_bits : (s : Situation) (words : List ℕ) (from p : ℕ) → s.end ≤ length s.context.line
@@ -144,8 +142,7 @@ pub chains_untake : (s : Situation) (p : ℕ) (old new : Option Chained)
 chains_untake s p old new h back = grind (arith, put_other, cases_eq)
 
 -- a state with other bits and another trail, counted anew, and what is kept of a left scope
-abbrev pub with_parts : Inside → List ℕ → Vec ℕ Global → ℕ → ℕ → ℕ → Option Chained → Aside
-    → Inside
+abbrev pub with_parts : Inside → List ℕ → Vec ℕ Global → ℕ → ℕ → ℕ → Option Chained → Aside → Inside
 with_parts s words trail left first behind chains aside =
     record s {
       words = with_items s.words words;
@@ -435,8 +432,7 @@ taken_at_beginning context p = grind arith
 -- the bits at the beginning are those of the marker
 bits_beginning : (context : Context) (words : List ℕ)
     → ((p : ℕ) → has_bit words p ≡ is_marker context.marker p) → BitsOf (beginning context) words
-bits_beginning context words bits p within =
-    grind (arith, nat_tests)
+bits_beginning context words bits p within = grind (arith, nat_tests)
 
 -- how a run begins whose line has its marker at this place
 abbrev start_with : Context → Option ℕ → Situation

@@ -75,8 +75,7 @@ prints_text {out} {err} is answers =
     wants f is own = absurd cc
 
     prints : {text : List ℕ} {r : Result (String Global) ParseFailure} {status : ℕ}
-        → IsPrinted out err string_bytes r status → IsTextOrWant text r
-        → Prints text out err status
+        → IsPrinted out err string_bytes r status → IsTextOrWant text r → Prints text out err status
     prints (given is quiet) own = written (rw own at is) quiet
     prints (told {f = f} is) own = wants f is own
 

@@ -47,8 +47,7 @@ all_present (k ∷ items) = ap (λ ks. k ∷ ks) (all_present items)
 -- and all others, where one is
 others_present : (items : List Arg) (marker : Arg) (rest : List Arg)
     → present (first_cells (λ p. if p == length items then None else
-    slice_get (items ++ marker ∷ rest) p) (length (items ++ marker ∷ rest)))
-    ≡ items ++ rest
+    slice_get (items ++ marker ∷ rest) p) (length (items ++ marker ∷ rest))) ≡ items ++ rest
 others_present [] marker rest = simp (compare.suc-zero) (all_present rest)
 others_present (k ∷ items) marker rest = grind (arith, others_present items marker rest)
 

@@ -67,8 +67,7 @@ digits_or_not (d ∷ ds) = ⊎_elim
     digits_more one more (suc k) within = more k (omega arith)
 
 -- of a number the first byte is the dash, and the others are digits, of which there are some
-number_parts : (b : ℕ) (ds : List ℕ) → IsNumber (b ∷ ds)
-    → (b ≡ 45) × (ds ≢ []) × AreDigits ds
+number_parts : (b : ℕ) (ds : List ℕ) → IsNumber (b ∷ ds) → (b ≡ 45) × (ds ≢ []) × AreDigits ds
 number_parts b ds n = let is : b ∷ ds ≡ 45 ∷ n.digits = n.is in
     let same : n.digits ≡ ds = cc in (cc, rw same at n.some, rw same at n.each)
 
@@ -134,8 +133,7 @@ Splits bs (Some p) = (bs ≡ p.0 ++ 61 ∷ p.1) × HasNoEquals p.0
 splits_more : (b : ℕ) (bs : List ℕ) (t : Bool) (o : Option (List ℕ × List ℕ)) → (b == 61) ≡ t
     → Splits bs o
     → Splits (b ∷ bs) (if t then Some ([], bs) else option_map (λ p. (b ∷ p.0, p.1)) o)
-splits_more b bs true o e h =
-    (ap (λ x. x ∷ bs) (eqb-true b 61 e), λ i l. absurd (omega arith))
+splits_more b bs true o e h = (ap (λ x. x ∷ bs) (eqb-true b 61 e), λ i l. absurd (omega arith))
 splits_more b bs false None e h = no_equals_cons b bs e h
 splits_more b bs false (Some p) e h = (ap (λ x. b ∷ x) h.0, no_equals_cons b p.0 e h.1)
 
@@ -236,11 +234,10 @@ module _ (names : ShortNames) (word : List ℕ) where
   to_short cs c tail w e n = grind (arith, after_dash, encode_utf8, cons_from_encodes, ne_eqb)
 
   -- behind `-c` a text before `=` that isn't empty belongs to the value
-  long_value_of : (c : ℕ) (r v : List ℕ) → r ≢ []
-      → walk_value c r v ≡ (
-        ShortWithLongValue,
-        Items (Short c true word ∷ ArgWord (r ++ 61 ∷ v) ∷ []),
-      )
+  long_value_of : (c : ℕ) (r v : List ℕ) → r ≢ [] → walk_value c r v ≡ (
+    ShortWithLongValue,
+    Items (Short c true word ∷ ArgWord (r ++ 61 ∷ v) ∷ []),
+  )
   long_value_of c [] v n = absurd (n refl)
   long_value_of c (x ∷ xs) v n = refl
 
@@ -251,8 +248,7 @@ module _ (names : ShortNames) (word : List ℕ) where
   walk_finds cs s w (dash e) =
       let one = after_dash cs [] (sym w ∙ e) in
       ap (walk) (one.1 ∙ ap (λ x. 45 ∷ x) (encodes_same one.0 [] one.2))
-  walk_finds cs s w (long n e p h) =
-      to_long cs n w e ∙ ap (walk_long n) (split_none n h)
+  walk_finds cs s w (long n e p h) = to_long cs n w e ∙ ap (walk_long n) (split_none n h)
   walk_finds cs s w (long_value n v e h) =
       to_long cs (n ++ 61 ∷ v) w e
       ∙ ap (walk_long (n ++ 61 ∷ v)) (split_at n v h)
@@ -275,8 +271,7 @@ module _ (names : ShortNames) (word : List ℕ) where
   -- what the walk finds is a spelling
   joined_by : (all fs : List ℕ) (c : ℕ) (cs : List ℕ) (f a : Bool)
       → all ≡ fs ++ c ∷ cs → All (IsKnownAs true false names) fs → is_among names.flags c ≡ f
-      → is_among names.arguments c ≡ a
-      → (All (IsKnownAs true false names) (fs ++ c ∷ [])
+      → is_among names.arguments c ≡ a → (All (IsKnownAs true false names) (fs ++ c ∷ [])
       → SpellsJoined names word all (walk_joined (fs ++ c ∷ []) cs).1)
       → SpellsJoined names word all (walk_joined fs (c ∷ cs)).1
   joined_by all fs c cs true true e h p q more =
@@ -319,8 +314,7 @@ module _ (names : ShortNames) (word : List ℕ) where
       → Splits (encode_utf8_all cs) o → SpellsByDash names word (walk_short c cs o).1
   finds_short c cs (Some p) w n h =
       finds_value c p.0 p.1 (w ∙ ap (λ x. 45 ∷ (encode_utf8 c ++ x)) h.0) n h.1
-  finds_short c [] None w n h =
-      short c (w ∙ ap (λ x. 45 ∷ x) (append-nil (encode_utf8 c))) n
+  finds_short c [] None w n h = short c (w ∙ ap (λ x. 45 ∷ x) (append-nil (encode_utf8 c))) n
   finds_short c (d ∷ ds) None w n h =
       joined c d ds _ w n h (finds_joined (c ∷ d ∷ ds) [] (c ∷ d ∷ ds) refl
       (λ k e l. absurd (omega arith)))
@@ -354,8 +348,7 @@ module _ (names : ShortNames) (word : List ℕ) where
   finds_by : (c : ℕ) (cs : List ℕ) (b : Bool) → (c == 45) ≡ b
       → word ≡ encode_utf8 c ++ encode_utf8_all cs → word ≢ 45 ∷ 45 ∷ []
       → SpellsByDash names word (walk (c ∷ cs)).1
-  finds_by c cs true e w n =
-      rw e (finds_dash cs (w ∙ dash_encodes c cs (eqb-true c 45 e)) n)
+  finds_by c cs true e w n = rw e (finds_dash cs (w ∙ dash_encodes c cs (eqb-true c 45 e)) n)
   finds_by c cs false e w n =
       rw e (plain (λ rest h. eqb-false c 45 e
       (encode_same c 45 (encode_utf8_all cs) rest

@@ -1,4 +1,4 @@
-use Rattle.std.proofs.Common.{◌∙◌, inl, inr, rules, sym}
+use Rattle.std.proofs.Common.{◌∙◌, arith, inl, inr, rules, sym}
 use Rattle.bpaf_laws.proofs.Keeping.{keeps_of}
 use Rattle.bpaf_core.proofs.optional.parse_option.Goals.{then-first, else-first}
 use Rattle.bpaf_core.proofs.optional.parse_option.Goals as goal
@@ -34,3 +34,9 @@ returns-else-stops_step g c =
       sym (rw (c.len-in-Err.ensures, c.len-left.ensures) at c.stops_step.ensures)
           ∙ c.if-stops_step.false,
     )
+
+pub returns-else-len-left : goal.returns-else-len-left
+returns-else-len-left g c = grind arith
+
+pub undo-requires : goal.undo-requires
+undo-requires g c = grind (arith, keeps_of (g.met.P.Parser.lawful c.args.parser.now))

@@ -6,8 +6,7 @@ use Rattle.bpaf_base.specs.declared.arg.Arg.TheVariants.{Word}
 use Rattle.bpaf_words.proofs.split.split_joined.Goals as goal
 
 pub overflow_add-result : goal.overflow_add-result
-overflow_add-result c =
-    omega (arith, walked_bound c.loop-c.invariant _ _ c.in-Some.ensures.steps.0)
+overflow_add-result c = omega (arith, walked_bound c.loop-c.invariant _ _ c.in-Some.ensures.steps.0)
 
 pub returns-in-true-true : goal.returns-in-true-true
 returns-in-true-true c =
@@ -38,8 +37,7 @@ returns-in-false-false c = stops_neither c.loop-c.invariant _ _
     (c.len-before.ensures ∙ c.args.items.now.ok.0) c.loop-c.invariant.items))
 
 pub overflow_add-count : goal.overflow_add-count
-overflow_add-count c =
-    omega (arith, walked_bound c.loop-c.invariant _ _ c.in-Some.ensures.steps.0)
+overflow_add-count c = omega (arith, walked_bound c.loop-c.invariant _ _ c.in-Some.ensures.steps.0)
 
 pub loop-c-preserved : goal.loop-c-preserved
 loop-c-preserved c = walked_more c.loop-c.invariant _ _ c.in-Some.ensures.steps.0 _ _
