@@ -9,7 +9,7 @@ use bpaf_record::Record;
 use std::alloc::{AllocError, Global};
 
 /// What an archiver is told.
-#[derive(Drop)]
+#[derive(Debug, Drop)]
 pub struct Archive {
     pub agreed: bool,
     pub out: String,

@@ -6,7 +6,7 @@ use bpaf_record::{FlatField, ProgramField, Record};
 use std::alloc::{AllocError, Global};
 
 /// What a backup is told.
-#[derive(Drop)]
+#[derive(Debug, Drop)]
 pub struct Backup {
     pub force: bool,
     pub update: bool,

@@ -10,14 +10,14 @@ use bpaf_record::CommandLine;
 use std::alloc::Global;
 
 /// A task, and whether it is forced.
-#[derive(Drop)]
+#[derive(Debug, Drop)]
 pub struct Cleaning {
     pub force: bool,
     pub task: Task,
 }
 
 /// What is to be done.
-#[derive(Drop)]
+#[derive(Debug, Drop)]
 pub enum Task {
     /// All files are listed.
     List { long: bool },

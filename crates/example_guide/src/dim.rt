@@ -10,7 +10,7 @@ use bpaf_record::Record;
 use std::alloc::Global;
 
 /// How a lamp is dimmed.
-#[derive(Drop)]
+#[derive(Debug, Drop)]
 pub struct Dimming {
     pub percent: u64,
     pub lamp: u64,

@@ -5,14 +5,14 @@ use bpaf_program::plain_command;
 use std::alloc::Global;
 
 /// A command, and whether each step of it is told.
-#[derive(Drop)]
+#[derive(Debug, Drop)]
 pub struct Git {
     pub verbose: bool,
     pub command: Command,
 }
 
 /// A command, with its options and words.
-#[derive(Drop)]
+#[derive(Debug, Drop)]
 pub enum Command {
     Clone { url: String, dir: Option<String> },
     Commit { all: bool, message: String },
@@ -20,7 +20,7 @@ pub enum Command {
 }
 
 /// A command of the command `remote`.
-#[derive(Drop)]
+#[derive(Debug, Drop)]
 pub enum Remote {
     Add { name: String, url: String },
     Remove { name: String },

@@ -28,15 +28,12 @@ mod types;
 
 use bpaf::ParseFailure;
 use bpaf_program::{end, words};
-use clean::Task;
-use git::{Command, read_git};
 use options::{Options, read_options};
 use std::alloc::{AllocError, Global};
 use std::collections::BTreeMap;
+use std::fmt::Debug;
 use std::process::ExitCode;
 use std::{env, io};
-use sum::read_sum;
-use toggle::read_color;
 
 fn main(rt: HostRuntime) -> io::Result<ExitCode> {
     let mut out = rt.stdout();
@@ -78,9 +75,13 @@ fn show_all(rt: &HostRuntime, size: u128) -> io::Result<()> {
     show_archive(rt)?;
     show_dimming(rt)?;
     show_cleaning(rt)?;
-    show_row(rt)?;
-    show_sum(rt)?;
-    show_color(rt)?;
+    tell(rt, "row", row::read_seconds(rt.alloc(), &["-s", "5"]))?;
+    tell(
+        rt,
+        "sum",
+        sum::read_sum(rt.alloc(), &["-n", "-2", "-5", "3"]),
+    )?;
+    tell(rt, "color", toggle::read_color(rt.alloc(), &["--no-color"]))?;
     show_commit(rt)
 }
 
@@ -93,17 +94,22 @@ fn words_of(alloc: Global, words: &[&str]) -> Result<Vec<String>, AllocError> {
     Ok(owned)
 }
 
+/// Tells a value that words gave, or that they gave none.
+fn tell<T: Debug + Drop>(
+    rt: &HostRuntime,
+    name: &str,
+    answer: Result<T, ParseFailure>,
+) -> io::Result<()> {
+    match answer.ok() {
+        Some(value) => println!(rt; "{name}: {value:?}"),
+        None => println!(rt; "{name}: none"),
+    }
+}
+
 /// Tells what a backup reads off words of its own.
 fn show_backup(rt: &HostRuntime) -> io::Result<()> {
     let words = ["-j4", "a", "--depth=2", "-k1", "-v", "b", "-s", "5", "c"];
-    match backup::read_backup(rt.alloc(), &words).ok() {
-        Some(Some(backup)) => {
-            let verbose = backup.verbose;
-            let copies = backup.to.len();
-            println!(rt; "backup: verbose {verbose}, to {copies} places")
-        }
-        _ => Ok(()),
-    }
+    tell(rt, "backup", backup::read_backup(rt.alloc(), &words))
 }
 
 /// Runs the remover on words of its own.
@@ -123,90 +129,23 @@ fn show_head(rt: &HostRuntime) -> io::Result<()> {
 /// Tells what an archiver reads off words of its own.
 fn show_archive(rt: &HostRuntime) -> io::Result<()> {
     let words = words_of(rt.alloc(), &["-avv", "-oa.tar", "--root=b"])?;
-    match archive::read_archive(rt.alloc(), &words).ok() {
-        Some(archive) => {
-            let root = archive.root.as_str();
-            let jobs = archive.jobs;
-            let verbose = archive.verbose;
-            println!(rt; "archive: of {root}, {jobs} jobs, told {verbose} times")
-        }
-        None => Ok(()),
-    }
+    tell(rt, "archive", archive::read_archive(rt.alloc(), &words))
 }
 
 /// Tells what a dimmer reads off words of its own.
 fn show_dimming(rt: &HostRuntime) -> io::Result<()> {
     let words = words_of(rt.alloc(), &["--percent=40", "-l3"])?;
-    match dim::read_dimming(rt.alloc(), &words).ok() {
-        Some(dimming) => {
-            let percent = dimming.percent;
-            let lamp = dimming.lamp;
-            let seconds = dimming.seconds;
-            println!(rt; "dimming: lamp {lamp} to {percent} percent, in {seconds} s")
-        }
-        None => Ok(()),
-    }
+    tell(rt, "dimming", dim::read_dimming(rt.alloc(), &words))
 }
 
 /// Tells what the program with commands reads off words of its own.
 fn show_cleaning(rt: &HostRuntime) -> io::Result<()> {
     let words = words_of(rt.alloc(), &["remove", "-f", "a"])?;
-    match clean::read_cleaning(rt.alloc(), &words).ok() {
-        Some(cleaning) => {
-            let force = cleaning.force;
-            match cleaning.task {
-                Task::List { long } => println!(rt; "cleaning: list, long {long}"),
-                Task::Remove { files } => {
-                    let number = files.len();
-                    println!(rt; "cleaning: of {number} files, forced {force}")
-                }
-            }
-        }
-        None => Ok(()),
-    }
-}
-
-/// Tells what a row's words have of seconds.
-fn show_row(rt: &HostRuntime) -> io::Result<()> {
-    match row::read_seconds(rt.alloc(), &["-s", "5"]).ok() {
-        Some(seconds) => println!(rt; "row: {seconds} s"),
-        None => Ok(()),
-    }
-}
-
-/// Tells what a sum reads off words of its own.
-fn show_sum(rt: &HostRuntime) -> io::Result<()> {
-    match read_sum(rt.alloc(), &["-n", "-2", "-5", "3"]).ok() {
-        Some(sum) => {
-            let times = sum.times;
-            let terms = sum.terms.len();
-            println!(rt; "sum: {times} times {terms} terms")
-        }
-        None => Ok(()),
-    }
-}
-
-/// Tells what a parser of one's own reads off words of its own.
-fn show_color(rt: &HostRuntime) -> io::Result<()> {
-    match read_color(rt.alloc(), &["--no-color"]).ok() {
-        Some(color) => {
-            let on = color.unwrap_or(true);
-            println!(rt; "color: {on}")
-        }
-        None => Ok(()),
-    }
+    tell(rt, "cleaning", clean::read_cleaning(rt.alloc(), &words))
 }
 
 /// Tells what `git` reads off words of its own.
 fn show_commit(rt: &HostRuntime) -> io::Result<()> {
     let words = words_of(rt.alloc(), &["commit", "-mdone"])?;
-    match read_git(rt.alloc(), &words).ok() {
-        Some(git) => match git.command {
-            Command::Commit { all, message } => {
-                println!(rt; "git: commit, all {all}, message {message}")
-            }
-            _ => Ok(()),
-        },
-        None => Ok(()),
-    }
+    tell(rt, "git", git::read_git(rt.alloc(), &words))
 }

@@ -3,7 +3,7 @@ use bpaf::{Args, ParseFailure, Parser, construct, positional, short};
 use std::alloc::Global;
 
 /// What is summed up.
-#[derive(Drop)]
+#[derive(Debug, Drop)]
 pub struct Sum {
     pub times: i64,
     pub terms: Vec<i64>,

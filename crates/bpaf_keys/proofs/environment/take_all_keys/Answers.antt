@@ -1,7 +1,10 @@
-use Rattle.std.proofs.Common.{arith}
+use Rattle.std.proofs.Common.{arith, rules}
 use Rattle.std.proofs.Common.{◌++◌, ◌∷◌, [], refl}
 use Rattle.bpaf_laws.proofs.ArgumentLaws.{pair_fewer, texts_more}
 use Rattle.bpaf_keys.proofs.environment.take_all_keys.Goals as goal
+
+pub loop-last-init : goal.loop-last-init
+loop-last-init g c = search rules
 
 pub loop-last-smaller : goal.loop-last-smaller
 loop-last-smaller g c = grind (arith, pair_fewer)
