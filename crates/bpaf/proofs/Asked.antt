@@ -9,13 +9,13 @@ use Rattle.bpaf_words.specs.{Arguments.Given, Line.Known}
 use Rattle.bpaf_line.specs.{declared.error.Error.Error, declared.error.Message.Message}
 use Rattle.bpaf_line.specs.{declared.failure.ParseFailure.ParseFailure, Messages.is_memory}
 use Rattle.bpaf_line.specs.{Messages.is_answer, Situation.Situation, Situation.beginning}
-use Rattle.bpaf_laws.specs.Product.{BothOutcome, ProductOutcome, joined}
+use Rattle.bpaf_laws.specs.Product.{BothOutcome, ProductOutcome, both_answers}
 use Rattle.bpaf_laws.specs.Reading.{Readings, Outcome, IsAbsence}
 use Rattle.bpaf_laws.specs.Leaves.{ArgumentOutcome, FlagOutcome}
 use Rattle.bpaf_laws.specs.{Laws.Keeps, Laws.Lawful, Combinators.ManyOutcome, Combinators.Turns}
 use Rattle.bpaf_laws.proofs.Keeping.{keeps_same, keeps_trans}
 use Rattle.bpaf_core.specs.Ending.{EndsRun, Tells, leftover, passed_on, refused, shown}
-use Rattle.bpaf_core.specs.Ending.{told, usage, Shows, shows_usage, leftover_is_told}
+use Rattle.bpaf_core.specs.Ending.{told, usage, Shows, shows_help_page, leftover_is_told}
 use Rattle.bpaf_core.specs.Run.{Runs, RunsWords}
 use Rattle.bpaf_core.specs.{Rendering.Renders, ExtraParams.ExtraParams, Info.RunInfo}
 use Rattle.bpaf.specs.Asked.{CameTo, HandsOn, IfShown, IsAskedAt, RunShows, Showing, ShowsNothing}
@@ -92,7 +92,7 @@ module _ {showing : Showing} where
 
     -- fields that were all evaluated show what one of them does
     fields_hand_on : (a : Result A Error) (b : Result B Error) → first s a m → rest m b t
-        → Err e ≡ joined a b → CameTo showing s doc full
+        → Err e ≡ both_answers a b → CameTo showing s doc full
     fields_hand_on (Ok x) (Ok y) o later same = cc
     fields_hand_on (Ok x) (Err f) o later same =
         let that : f ≡ e = cc in rest_hands_on (law.ok s m x o).keeps (rw that at later)
@@ -178,7 +178,7 @@ module _ {describes : Shape → Type 0} {info : RunInfo} where
     end_shows keeps handed (usage n before g u spared wanted shows) =
         absurd (no_usage n before wanted)
       where
-        no_usage : (n : Message) (before : Situation) → ¬ (shows_usage info n before ≡ true)
+        no_usage : (n : Message) (before : Situation) → ¬ (shows_help_page info n before ≡ true)
         no_usage n before wanted = cc
     end_shows keeps handed (passed_on g before u spared unwanted) =
         came_also (λ x d u shown. inr shown) (handed (message.ParseFailure g) refl refl)

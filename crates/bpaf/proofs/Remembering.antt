@@ -19,7 +19,7 @@ use Rattle.bpaf_laws.specs.Product.{BothOutcome}
 use Rattle.bpaf_laws.proofs.{Keeping.fewer_took, Keeping.same_took_none, Keeping.open_count-falls}
 use Rattle.bpaf_laws.proofs.{Keeping.keeps_of, Keeping.keeps_scope, AdjacentLaws.tries_keep}
 use Rattle.bpaf.specs.declared.adjacent.failures.Remembered.{Remembered}
-use Rattle.bpaf.specs.Remembering.{IsRemembered, Takes, HasPlaceIf, TriesFrom, failure_of}
+use Rattle.bpaf.specs.Remembering.{IsRemembered, TakesOnePlace, HasPlaceIf, TriesFrom, failure_of}
 use Rattle.bpaf.specs.Remembering.{EndsAttempt, TriesAt, failed, found, no_memory, skipped, IsEnd}
 use Rattle.bpaf.specs.Remembering.{failure_from, WithoutValue}
 use Rattle.bpaf.specs.declared.adjacent.attempts.AttemptEnd.{AttemptEnd}
@@ -57,7 +57,7 @@ pub takes_from : {T : Type 0} {inner : Outcome T} {reads : Readings T} → Lawfu
     (r : Result Bool Error) → w ≡ with_scope s a b → inner w answer t → present ≡ open_count w
     → left ≡ open_count (with_scope t a b) → MatchResult r
     (λ takes. (takes ≡ nat_lt left present) × IsNotMemory answer) (λ e. is_memory e.0 ≡ true)
-    → MatchResult r (λ takes. Takes T inner s a b takes) (λ e. is_memory e.0 ≡ true)
+    → MatchResult r (λ takes. TakesOnePlace T inner s a b takes) (λ e. is_memory e.0 ≡ true)
 takes_from law s (Err e) is ran some less memory = memory
 takes_from law s {t = t} {a} {b} {answer = answer} (Ok takes) is ran some less known =
     let narrow = with_scope s a b in
@@ -152,7 +152,7 @@ module _ {T : Type 0} {inner : Outcome T} {s : Situation} {place stop : ℕ} {be
         rw (kept, same) (no_memory f (ap (λ x. is_memory x.0) refuses.1 ∙ memory))
 
     module _ {m t : Situation} {takes : Bool} {r : Result T Error} (same : m ≡ s)
-        (taken : takes ≡ true) (probed : Takes T inner s place stop takes) where
+        (taken : takes ≡ true) (probed : TakesOnePlace T inner s place stop takes) where
       -- the attempts fail, and the failure that took more is remembered
       pub failed_at : {e : Error} → r ≡ Err e → Tries T inner m place r t → is_memory e.0 ≡ false
           → {after : Option Failure} → after ≡ longer s best (record { error = e; left = t })

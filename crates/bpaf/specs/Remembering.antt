@@ -78,8 +78,8 @@ HasPlaceIf true = HasPlace
 HasPlaceIf false = IsEmptyShare
 
 -- whether an evaluation over the places from one on up to another takes one of them
-abbrev pub Takes : (T : Type 0) → Outcome T → Situation → ℕ → ℕ → Bool → Type 0
-Takes T inner s place stop takes = Probe T inner s place stop (HasPlaceIf takes)
+abbrev pub TakesOnePlace : (T : Type 0) → Outcome T → Situation → ℕ → ℕ → Bool → Type 0
+TakesOnePlace T inner s place stop takes = Probe T inner s place stop (HasPlaceIf takes)
 
 -- an attempt over places from one on up to another left none, or this as the first; or it failed
 abbrev pub EndsAttempt : (T : Type 0) → Outcome T → Situation → ℕ → ℕ → Result (AttemptEnd T) Error

@@ -9,7 +9,7 @@ abbrev pub front_of : Inside → List ℕ
 front_of s = take s.len s.bytes
 
 -- they are there, and are those of characters
-pub record IsFront (s : Inside) : Type 0 where
+pub record IsShortText (s : Inside) : Type 0 where
   pub within : s.len ≤ length s.bytes
   pub text : IsUtf8 (take s.len s.bytes)
 

@@ -13,6 +13,12 @@ is_among cs c = list_any (λ d. d == c) cs
 abbrev pub is_text_among : List (List ℕ) → List ℕ → Bool
 is_text_among texts text = list_any (λ other. bytes_eq other text) texts
 
+-- the key of a flag or an argument
+abbrev pub is_key : Arg → Bool
+is_key (Short c attached word) = true
+is_key (Long name attached word) = true
+is_key _ = false
+
 -- a key with one of the names
 abbrev pub is_key_of : Names → Arg → Bool
 is_key_of names (Short c attached word) = is_among names.shorts c

@@ -1,7 +1,7 @@
 //! The items of a line, and tests on one.
 ghost use Rattle.std.specs.Prelude.{◌≡◌, option_copied};
 ghost use Rattle.bpaf_base.specs.Items.{is_text_among, is_key_of, is_argument_key, is_attached};
-ghost use Rattle.bpaf_base.specs.Items.{is_positional, value_text, item_text, is_command_word};
+ghost use Rattle.bpaf_base.specs.Items.{is_key, is_positional, value_text, item_text, is_command_word};
 
 use crate::text::Text;
 use std::fmt;
@@ -75,6 +75,13 @@ pub fn is_attached(item: &Arg) -> bool
         Arg::Short(_, attached, _) | Arg::Long(_, attached, _) => *attached,
         Arg::ArgWord(_) | Arg::Word(_) | Arg::PosWord(_) => false,
     }
+}
+
+/// Whether the item is a key, of a flag or an argument.
+pub fn is_key(item: &Arg) -> bool
+    ensures { result ≡ is_key item.now }
+{
+    matches!(item, Arg::Short(..) | Arg::Long(..))
 }
 
 /// Whether the item is a Word or a PosWord.

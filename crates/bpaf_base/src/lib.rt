@@ -20,7 +20,7 @@ mod short;
 mod text;
 
 pub use arg::{
-    Arg, is_argument_key, is_attached, is_command_word, is_key_of, is_positional, item_text,
-    value_text,
+    Arg, is_argument_key, is_attached, is_command_word, is_key, is_key_of, is_positional,
+    item_text, value_text,
 };
 pub use text::Text;

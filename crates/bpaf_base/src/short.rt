@@ -19,11 +19,11 @@ impl Model for ShortText {
 
     ghost Value = { List ℕ };
 
-    ghost use Rattle.bpaf_base.specs.InsideText.{front_of, IsFront};
+    ghost use Rattle.bpaf_base.specs.InsideText.{front_of, IsShortText};
 
     ghost view = { front_of };
 
-    ghost invariant = { IsFront };
+    ghost invariant = { IsShortText };
 }
 
 impl ShortText {

@@ -17,7 +17,7 @@ use Rattle.bpaf_laws.specs.Combinators.{EachReads, ListReads, CountOutcome}
 use Rattle.bpaf_laws.specs.{Laws.newly, Laws.IsNotMemory, Product.BothOutcome}
 use Rattle.bpaf_batteries.proofs.Keys.{not_both}
 use Rattle.bpaf_batteries.specs.declared.pair.KeyCounts.{KeyCounts}
-use Rattle.bpaf_batteries.specs.Keys.{is_key, MustStand, KeyOutcome, KeyReads}
+use Rattle.bpaf_batteries.specs.Keys.{is_flag_key, MustStand, KeyOutcome, KeyReads}
 use Rattle.bpaf_batteries.specs.Verbosity.{CountReads, CountsSpared, CountsOutcome, CountsReads}
 use Rattle.bpaf_batteries.specs.Verbosity.{KeysAreCounted, fewer_of, keys_in, more_of}
 use Rattle.bpaf_batteries.specs.Verbosity.{counts_lawful}
@@ -25,7 +25,7 @@ use Rattle.bpaf_batteries.specs.Verbosity.{counts_lawful}
 -- a share of so many places, each with a key of a flag
 record AreKeys {T : Type 0} (flag : ParseFlag T) (context : Context) (share : Share) (n : ℕ)
     : Type 0 where
-  keys : (p : ℕ) → share p ≡ true → HasItem (is_key flag) context p
+  keys : (p : ℕ) → share p ≡ true → HasItem (is_flag_key flag) context p
   number : count_below share (length context.line) ≡ n
 
 -- a place with an item that passes a test lies in the line
@@ -47,10 +47,10 @@ module _ {T : Type 0} (clones : T → T → Type 0) (flag : ParseFlag T) (stands
   one_key : (share : Share) (v : T) → KeyReads clones flag context share v
       → AreKeys flag context share 1
   one_key share v (at_key key has is value) = record {
-    keys = λ p there. subst (HasItem (is_key flag) context)
+    keys = λ p there. subst (HasItem (is_flag_key flag) context)
         (sym (eqb-true p key (sym (is p) ∙ there))) has;
     number =
-        one_place share key (length context.line) is (item_within (is_key flag) context key has);
+        one_place share key (length context.line) is (item_within (is_flag_key flag) context key has);
   }
   one_key share v (nowhere none kept) = grind arith
 
@@ -96,7 +96,7 @@ module _ {T : Type 0} (clones : T → T → Type 0) (flag : ParseFlag T) (stands
 -- of a share that is one of keys of a flag and one without them, the keys are all of the former
 counted_in : {T : Type 0} (flag : ParseFlag T) (context : Context) (own rest share : Share) (n : ℕ)
     → ((p : ℕ) → share p ≡ (own p || rest p)) → AreKeys flag context own n
-    → ((p : ℕ) → rest p ≡ true → ¬ (HasItem (is_key flag) context p))
+    → ((p : ℕ) → rest p ≡ true → ¬ (HasItem (is_flag_key flag) context p))
     → n ≡ keys_in flag context share
 counted_in flag context own rest share n joins keys others =
     grind (arith, count_below-same, false_from_ne_true)
@@ -114,11 +114,11 @@ counted clones keys context share counts read =
     let other = count_keys clones fewer keys.apart.other_stands context read.rest_share counts.1
     read.rest_read in (
       counted_in more context read.first_share read.rest_share share counts.0 read.joins.all one
-          (λ p theirs mine. not_both (is_key more) (is_key fewer) (item_in context p)
+          (λ p theirs mine. not_both (is_flag_key more) (is_flag_key fewer) (item_in context p)
           keys.apart.apart mine (other.keys p theirs)),
       counted_in fewer context read.rest_share read.first_share share counts.1
           (λ p. read.joins.all p ∙ turned (read.first_share p) (read.rest_share p)) other
-          (λ p mine theirs. not_both (is_key more) (is_key fewer) (item_in context p)
+          (λ p mine theirs. not_both (is_flag_key more) (is_flag_key fewer) (item_in context p)
           keys.apart.apart (one.keys p mine) theirs),
     )
   where

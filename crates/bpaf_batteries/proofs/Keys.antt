@@ -9,7 +9,7 @@ use Rattle.bpaf_line.specs.{Messages.is_memory, Taking.IsFirst, Taking.HasNone}
 use Rattle.bpaf_line.specs.{declared.error.Error.Error, declared.error.Message.Message}
 use Rattle.bpaf_laws.specs.Leaves.{FlagOutcome, FlagFails, IsFlagPresent}
 use Rattle.bpaf_laws.specs.{Reading.is_set, Laws.IsNotMemory}
-use Rattle.bpaf_batteries.specs.Keys.{is_key, MustStand}
+use Rattle.bpaf_batteries.specs.Keys.{is_flag_key, MustStand}
 
 -- of two tests that no item passes both, an item passes not both
 pub not_both : (one other : Arg → Bool) (at : Option Arg)
@@ -21,8 +21,8 @@ not_both one other at apart e f = grind (arith, apart)
 abbrev pub KeyEval : {T : Type 0} → (T → T → Type 0) → ParseFlag T → Situation → Result T Error
     → Situation → Type 0
 KeyEval clones flag s (Ok v) t =
-    (p : ℕ) × IsFirst (is_key flag) s p × (t ≡ take_place s p) × clones flag.present v
-KeyEval clones flag s (Err e) t = HasNone (is_key flag) s × (t ≡ s)
+    (p : ℕ) × IsFirst (is_flag_key flag) s p × (t ≡ take_place s p) × clones flag.present v
+KeyEval clones flag s (Err e) t = HasNone (is_flag_key flag) s × (t ≡ s)
 
 module _ {T : Type 0} (clones : T → T → Type 0) (flag : ParseFlag T) (stands : MustStand flag)
     (s t : Situation) where
@@ -41,7 +41,7 @@ module _ {T : Type 0} (clones : T → T → Type 0) (flag : ParseFlag T) (stands
 
   -- a refusal that isn't want of memory comes where there is no key
   key_missed : (m : Message) → FlagFails flag.named flag.absent s m t → is_memory m ≡ false
-      → HasNone (is_key flag) s × (t ≡ s)
+      → HasNone (is_flag_key flag) s × (t ≡ s)
   key_missed m fails spared = grind arith
 
   -- so a flag answers

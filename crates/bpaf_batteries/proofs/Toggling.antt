@@ -14,7 +14,7 @@ use Rattle.bpaf_line.specs.Situation.{Situation, is_taken, is_open, item_at, ite
 use Rattle.bpaf_line.specs.Situation.{take_place}
 use Rattle.bpaf_line.specs.Taking.{IsFirst, HasNone, is_match, open_item, IsLeftmost, TakeTheSame}
 use Rattle.bpaf_line.specs.{Messages.is_memory, declared.error.Error.Error}
-use Rattle.bpaf_laws.proofs.ChoiceLaws.{chosen_at_equal, choice_lawful, no_value, not_winner}
+use Rattle.bpaf_laws.proofs.ChoiceLaws.{chosen_at_equal, choice_lawful, ok_is_not_err, not_winner}
 use Rattle.bpaf_laws.proofs.ChoiceLaws.{leftmost_is_chosen, stands, took_nothing, leftmost_of_other}
 use Rattle.bpaf_laws.proofs.Keeping.{open_joins, same_took_none, newly_take}
 use Rattle.bpaf_laws.proofs.{LeafLaws.flag_lawful, Sparing.stop_spared}
@@ -23,7 +23,7 @@ use Rattle.bpaf_laws.specs.Choice.{ChoiceReads, depth}
 use Rattle.bpaf_laws.specs.Combinators.{EndsIn, Turns, UntilStop, is_nil, TurnOutcome, is_untouched}
 use Rattle.bpaf_laws.specs.{Laws.Lawful, Laws.newly, Reading.IsPlace, Leaves.IsLast}
 use Rattle.bpaf_batteries.proofs.Keys.{KeyEval, key_ran, not_both}
-use Rattle.bpaf_batteries.specs.Keys.{is_key, is_either, AreKeysApart, KeyOutcome, KeyReads}
+use Rattle.bpaf_batteries.specs.Keys.{is_flag_key, is_either, AreKeysApart, KeyOutcome, KeyReads}
 use Rattle.bpaf_batteries.specs.Toggle.{EitherOutcome, GivesValue, LastToggleWins, RightmostGives}
 use Rattle.bpaf_batteries.specs.Toggle.{ToggleOutcome}
 
@@ -49,14 +49,14 @@ module _ {T : Type 0} (clones : T → T → Type 0) (one other : ParseFlag T) wh
   gives_key s p v gives = grind arith
 
   -- where neither flag has a key there is none of either
-  neither : (s : Situation) (p : ℕ) → is_match (is_key one) s p ≡ false
-      → is_match (is_key other) s p ≡ false → is_match (is_either one other) s p ≡ false
+  neither : (s : Situation) (p : ℕ) → is_match (is_flag_key one) s p ≡ false
+      → is_match (is_flag_key other) s p ≡ false → is_match (is_either one other) s p ≡ false
   neither s p mine theirs = grind arith
 
   module _ {s t : Situation} {p : ℕ} {v : T} where
     -- where a first key is taken, and none of the other flag stands before it, it is the leftmost
-    took : is_open s p ≡ true → ((r : ℕ) → r < p → is_match (is_key one) s r ≡ false)
-        → ((r : ℕ) → r < p → is_match (is_key other) s r ≡ false)
+    took : is_open s p ≡ true → ((r : ℕ) → r < p → is_match (is_flag_key one) s r ≡ false)
+        → ((r : ℕ) → r < p → is_match (is_flag_key other) s r ≡ false)
         → GivesValue clones one other s p v → TakeTheSame t (take_place s p) → TookKey s v t
     took there mine theirs gives same = record {
       place = p;
@@ -66,21 +66,21 @@ module _ {T : Type 0} (clones : T → T → Type 0) (one other : ParseFlag T) wh
     }
 
     -- so it is with the one flag, where its answer is the chosen one
-    took_one : {x : T} → IsFirst (is_key one) s p
-        → ((r : ℕ) → r < p → is_match (is_key other) s r ≡ false) → clones one.present x
+    took_one : {x : T} → IsFirst (is_flag_key one) s p
+        → ((r : ℕ) → r < p → is_match (is_flag_key other) s r ≡ false) → clones one.present x
         → IsChosen (Ok x) (take_place s p) v t → TookKey s v t
     took_one {x} mine theirs value chosen =
         let same : x ≡ v = let answer = chosen.answer in cc in
-        took (match_is_open (is_key one) s p mine.matches) mine.first theirs
+        took (match_is_open (is_flag_key one) s p mine.matches) mine.first theirs
         (inl (mine.matches, rw same at value)) chosen.takes
 
     -- and with the other one
-    took_other : {x : T} → IsFirst (is_key other) s p
-        → ((r : ℕ) → r < p → is_match (is_key one) s r ≡ false) → clones other.present x
+    took_other : {x : T} → IsFirst (is_flag_key other) s p
+        → ((r : ℕ) → r < p → is_match (is_flag_key one) s r ≡ false) → clones other.present x
         → IsChosen (Ok x) (take_place s p) v t → TookKey s v t
     took_other {x} theirs mine value chosen =
         let same : x ≡ v = let answer = chosen.answer in cc in
-        took (match_is_open (is_key other) s p theirs.matches) mine theirs.first
+        took (match_is_open (is_flag_key other) s p theirs.matches) mine theirs.first
         (inr (theirs.matches, rw same at value)) chosen.takes
 
   -- the answer of a flag leaves the path
@@ -95,32 +95,32 @@ module _ {T : Type 0} (clones : T → T → Type 0) (one other : ParseFlag T) wh
   ran_touched flag {s} {v} {t} ran key = false_from_ne_true (is_untouched s t) (λ same.
       let none = took_nothing (flag_lawful T clones flag.named flag.present flag.absent) s t v ran
       same key.0 in
-      let there = match_is_open (is_key flag) s key.0 key.1.matches in
+      let there = match_is_open (is_flag_key flag) s key.0 key.1.matches in
       true≢false (sym (ap (λ w. is_taken w key.0) key.2 ∙ taken_here s key.0)
       ∙ (none ∙ open_not_taken s key.0 there)))
 
   module _ (keys : AreKeysApart one other) where
     -- a place of either flag's key isn't one of the other's
-    two_places : (s : Situation) (p q : ℕ) → is_match (is_key one) s p ≡ true
-        → is_match (is_key other) s q ≡ true → p ≢ q
+    two_places : (s : Situation) (p q : ℕ) → is_match (is_flag_key one) s p ≡ true
+        → is_match (is_flag_key other) s q ≡ true → p ≢ q
     two_places s p q mine theirs same =
-        grind (arith, not_both (is_key one) (is_key other) (open_item s p) keys.apart)
+        grind (arith, not_both (is_flag_key one) (is_flag_key other) (open_item s p) keys.apart)
 
     module _ (s : Situation) where
       -- of two values that of the leftmost key is the chosen one
-      both_took : {p q : ℕ} {x y v : T} {t : Situation} → IsFirst (is_key one) s p
-          → IsFirst (is_key other) s q → clones one.present x → clones other.present y
+      both_took : {p q : ℕ} {x y v : T} {t : Situation} → IsFirst (is_flag_key one) s p
+          → IsFirst (is_flag_key other) s q → clones one.present x → clones other.present y
           → ((r : ℕ) → IsLeftmost (take_place s p) (take_place s q) r → TookAndIsChosen r (Ok x)
           (take_place s p) v t ⊎ TookAndIsChosen r (Ok y) (take_place s q) v t) → TookKey s v t
       both_took {p} {q} mine theirs value_one value_other wins =
           let apart = two_places s p q mine.matches theirs.matches in
           ⊎_elim (λ (before : p < q).
-          let there = match_is_open (is_key one) s p mine.matches in
+          let there = match_is_open (is_flag_key one) s p mine.matches in
           ⊎_elim (λ won. took_one mine (λ r low. theirs.first r (omega arith)) value_one won.chosen)
           (λ lost. absurd
           (both_ways _ (taken_other s q p apart ∙ open_not_taken s p there) lost.took))
           (wins p (before_is_leftmost s p q before there))) (λ (behind : q ≤ p).
-          let there = match_is_open (is_key other) s q theirs.matches in
+          let there = match_is_open (is_flag_key other) s q theirs.matches in
           let turned : q ≢ p = (λ same. apart (sym same)) in
           ⊎_elim (λ lost. absurd
           (both_ways _ (taken_other s p q turned ∙ open_not_taken s q there) lost.took))
@@ -135,13 +135,13 @@ module _ {T : Type 0} (clones : T → T → Type 0) (one other : ParseFlag T) wh
           → TookAndIsChosen r a sa v t ⊎ TookAndIsChosen r b sb v t) → TookKey s v t
       equal_took (Ok x) (Ok y) f g equal wins =
           let chosen = rw (f.2, g.2) at wins in both_took f.1 g.1 f.3 g.3 (chosen refl refl)
-      equal_took (Ok x) (Err e) {v = v} f g (inl wrong) wins = absurd (no_value v e wrong.1)
+      equal_took (Ok x) (Err e) {v = v} f g (inl wrong) wins = absurd (ok_is_not_err v e wrong.1)
       equal_took (Ok x) {sa} (Err e) {v = v} {t} f g (inr right) wins =
           took_one f.1 (λ r before. g.0 r) f.3 (rw f.2 at (stands v t (branch_of x sa) right.1))
-      equal_took (Err e) (Ok y) {v = v} f g (inl wrong) wins = absurd (no_value v e wrong.1)
+      equal_took (Err e) (Ok y) {v = v} f g (inl wrong) wins = absurd (ok_is_not_err v e wrong.1)
       equal_took (Err e) (Ok y) {sb} {v} {t} f g (inr right) wins =
           took_other g.1 (λ r before. f.0 r) g.3 (rw g.2 at (stands v t (branch_of y sb) right.1))
-      equal_took (Err e) (Err d) {v = v} f g o wins = absurd (no_value v o.0.0 o.0.2)
+      equal_took (Err e) (Err d) {v = v} f g o wins = absurd (ok_is_not_err v o.0.0 o.0.2)
 
       module _ {r : Result T Error} {t : Situation}
           (ran : BranchesEval (KeyOutcome clones one) (KeyOutcome clones other) s r t) where
@@ -168,7 +168,7 @@ module _ {T : Type 0} (clones : T → T → Type 0) (one other : ParseFlag T) wh
           → KeyOutcome clones other s b sb → KeyEval clones one s a sa → KeyEval clones other s b sb
           → EqualDepths s a sa b sb (Err e) t → HasNone (is_either one other) s
       equal_none x sa y sb e t a b f g o =
-          grind (arith, and_parts, both_ways, neither, no_value, not_winner, ran_touched)
+          grind (arith, and_parts, both_ways, neither, ok_is_not_err, not_winner, ran_touched)
 
     -- a refusal of the choice that isn't want of memory comes where there is no key
     choice_none : {s t : Situation} {e : Error} → EitherOutcome clones one other s (Err e) t
@@ -253,7 +253,7 @@ module _ {T : Type 0} (clones : T → T → Type 0) (one other : ParseFlag T) wh
       gives_before : (w : T) (r : ℕ) → GivesValue clones one other t r w
           → GivesValue clones one other s r w
       gives_before w r gives =
-          grind (arith, match_before (is_key one) r, match_before (is_key other) r)
+          grind (arith, match_before (is_flag_key one) r, match_before (is_flag_key other) r)
 
     -- where a step stops there is no key
     stopped_none : (catches first : Bool) {s t : Situation}

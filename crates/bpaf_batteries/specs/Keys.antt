@@ -9,12 +9,12 @@ use Rattle.bpaf_base.specs.{declared.arg.Arg.Arg, Items.is_key_of}
 use Rattle.bpaf_laws.specs.{Leaves.FlagOutcome, Leaves.FlagReads, Reading.Outcome, Reading.Readings}
 
 -- an item is a key of a flag
-abbrev pub is_key : {T : Type 0} → ParseFlag T → Arg → Bool
-is_key flag item = is_key_of flag.named.names item
+abbrev pub is_flag_key : {T : Type 0} → ParseFlag T → Arg → Bool
+is_flag_key flag item = is_key_of flag.named.names item
 
 -- an item is a key of one of two flags
 abbrev pub is_either : {T : Type 0} → ParseFlag T → ParseFlag T → Arg → Bool
-is_either one other item = is_key one item || is_key other item
+is_either one other item = is_flag_key one item || is_flag_key other item
 
 -- a key of a flag must stand on the line: no absent value, and no names in the environment
 pub record MustStand {T : Type 0} (flag : ParseFlag T) : Type 0 where
@@ -25,7 +25,7 @@ pub record MustStand {T : Type 0} (flag : ParseFlag T) : Type 0 where
 pub record AreKeysApart {T : Type 0} (one other : ParseFlag T) : Type 0 where
   pub one_stands : MustStand one
   pub other_stands : MustStand other
-  pub apart : (item : Arg) → (is_key one item && is_key other item) ≡ false
+  pub apart : (item : Arg) → (is_flag_key one item && is_flag_key other item) ≡ false
 
 -- what a flag answers
 abbrev pub KeyOutcome : {T : Type 0} → (T → T → Type 0) → ParseFlag T → Outcome T

@@ -10,7 +10,7 @@ use Rattle.bpaf_laws.specs.Combinators.{EndsIn, ListReads, ManyDescribes, ManyOu
 use Rattle.bpaf_laws.specs.Combinators.{MapReads}
 use Rattle.bpaf_laws.specs.Laws.{WithoutMemory, ShowsNames, of_flags, Lawful}
 use Rattle.bpaf_laws.specs.{Leaves.IsLast, Leaves.flag_shape, Reading.Outcome, Reading.Readings}
-use Rattle.bpaf_batteries.specs.Keys.{is_key, is_either, AreKeysApart, KeyOutcome, KeyReads}
+use Rattle.bpaf_batteries.specs.Keys.{is_flag_key, is_either, AreKeysApart, KeyOutcome, KeyReads}
 use Rattle.std.proofs.Common.{ap, subst, sym, ◌∙◌}
 use Rattle.bpaf_laws.proofs.ShownNames.{choice_shows, flag_shows, many_shows}
 use Rattle.bpaf_laws.proofs.CombinatorLaws.{map_lawful, many_lawful}
@@ -19,8 +19,8 @@ use Rattle.bpaf_laws.proofs.{Keeping.lawful_as, ChoiceLaws.choice_lawful, LeafLa
 -- a value of the key at a place: a clone of that of its flag
 abbrev pub GivesValue : {T : Type 0} → (T → T → Type 0) → ParseFlag T → ParseFlag T → Situation → ℕ
     → T → Type 0
-GivesValue clones one other s p v = ((is_match (is_key one) s p ≡ true) × clones one.present v)
-    ⊎ ((is_match (is_key other) s p ≡ true) × clones other.present v)
+GivesValue clones one other s p v = ((is_match (is_flag_key one) s p ≡ true) × clones one.present v)
+    ⊎ ((is_match (is_flag_key other) s p ≡ true) × clones other.present v)
 
 -- a value of the rightmost key of either flag that is present in scope; none where there is no key
 abbrev pub RightmostGives : {T : Type 0} → (T → T → Type 0) → ParseFlag T → ParseFlag T → Situation

@@ -12,7 +12,7 @@ use Rattle.bpaf_laws.specs.Combinators.{CountOutcome, ListReads, ManyDescribes, 
 use Rattle.bpaf_laws.specs.Laws.{newly, WithoutMemory, of_flags, ShowsNames, Lawful}
 use Rattle.bpaf_laws.specs.{Reading.Share, Reading.Outcome, Reading.Readings, Leaves.flag_shape}
 use Rattle.bpaf_words.specs.Line.{ShortNames}
-use Rattle.bpaf_batteries.specs.Keys.{IsCountedKey, KeyOutcome, KeyReads, is_key, letter_q}
+use Rattle.bpaf_batteries.specs.Keys.{IsCountedKey, KeyOutcome, KeyReads, is_flag_key, letter_q}
 use Rattle.bpaf_batteries.specs.Keys.{letter_v, IsLevelOf}
 use Rattle.bpaf_batteries.specs.declared.pair.KeyCounts.{KeyCounts}
 use Rattle.std.proofs.Common.{⊎_elim, inl, inr, subst, sym}
@@ -46,7 +46,7 @@ counted_shorts keys =
 -- how many places of a share have a key of a flag
 abbrev pub keys_in : {T : Type 0} → ParseFlag T → Context → Share → ℕ
 keys_in flag context share = count_below
-    (λ p. share p && option_map_or (is_key flag) (item_in context p) false) (length context.line)
+    (λ p. share p && option_map_or (is_flag_key flag) (item_in context p) false) (length context.line)
 
 -- how many keys of a flag were newly taken
 abbrev pub keys_taken : {T : Type 0} → ParseFlag T → Situation → Situation → ℕ

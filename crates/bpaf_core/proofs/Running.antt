@@ -24,10 +24,10 @@ use Rattle.bpaf_words.specs.{Arguments.Given, Splitting.ReadsLine, declared.line
 use Rattle.bpaf_words.specs.{declared.line.LineFault.LineFault}
 use Rattle.bpaf_core.specs.Run.{Runs, RunsWords, ran, no_line, no_memory, known_names, Starts}
 use Rattle.bpaf_core.specs.Run.{value, IsDealtOut}
-use Rattle.bpaf_core.specs.Refusals.{IsOneOfTwelve, without_memory, IsNamed, IsToldOf}
+use Rattle.bpaf_core.specs.Refusals.{IsOneOfTwelve, without_memory, FailsAs, IsToldOf}
 use Rattle.bpaf_core.specs.Ending.{EndsRun, TellsNoLine, EndsRefused, PassesOrTells, ShowsHelp}
 use Rattle.bpaf_core.specs.Ending.{Tells, is_shown, memory, passed_on, refused, usage, Shows}
-use Rattle.bpaf_core.specs.Ending.{shows_usage, leftover_is_told}
+use Rattle.bpaf_core.specs.Ending.{shows_help_page, leftover_is_told}
 use mathlib.Core.Path.{fun_ext}
 use Rattle.bpaf_line.proofs.Sound.{taken_at_beginning}
 use Rattle.bpaf_laws.proofs.Keeping.{none_below, name_of, shows_nothing}
@@ -171,7 +171,7 @@ module _ {T : Type 0} (inner : Outcome T) (describes : Shape → Type 0) (info :
   module _ (s : Situation) where
     -- a failure that has one of the twelve names
     abbrev IsAnyNamed : ParseFailure → Type 0
-    IsAnyNamed f = (name : Refusal) × IsNamed inner describes info s name f
+    IsAnyNamed f = (name : Refusal) × FailsAs inner describes info s name f
 
     -- want of memory has
     wanting_is_named : IsAnyNamed failure.Memory
@@ -191,7 +191,7 @@ module _ {T : Type 0} (inner : Outcome T) (describes : Shape → Type 0) (info :
 
     -- and help where nothing was there to read
     usage_is_named : (e : Error) (left : Situation) (f : ParseFailure) → inner s (Err e) left
-        → shows_usage info e.0 s ≡ true → ShowsHelp describes info false left f → IsAnyNamed f
+        → shows_help_page info e.0 s ≡ true → ShowsHelp describes info false left f → IsAnyNamed f
     usage_is_named e left failure.Memory came wanted shows = wanting_is_named
     usage_is_named e left (failure.Stdout doc full) came wanted shows =
         (names.help_or_version, name.nothing_to_read e left doc full came wanted shows)

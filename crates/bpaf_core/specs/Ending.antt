@@ -61,8 +61,8 @@ pub data Tells (describes : Shape → Type 0) (info : RunInfo) (m : Message) (s 
       → Tells describes info m s failure.Memory t
 
 -- help in place of a refusal: nothing to read, the program wants it so, and nothing else is shown
-abbrev pub shows_usage : RunInfo → Message → Situation → Bool
-shows_usage info m s = (info.help_if_no_args && (open_count s == 0)) && not (is_shown m)
+abbrev pub shows_help_page : RunInfo → Message → Situation → Bool
+shows_help_page info m s = (info.help_if_no_args && (open_count s == 0)) && not (is_shown m)
 
 -- how a run ends that has no value
 pub data EndsRun (describes : Shape → Type 0) (info : RunInfo) : Option Message → Situation
@@ -70,13 +70,13 @@ pub data EndsRun (describes : Shape → Type 0) (info : RunInfo) : Option Messag
   memory : (m : Message) (s t : Situation) → is_memory m ≡ true
       → EndsRun describes info (Some m) s t failure.Memory t
   usage : (m : Message) (s : Situation) (f : ParseFailure) (t : Situation) → is_memory m ≡ false
-      → shows_usage info m s ≡ true → ShowsHelp describes info false t f
+      → shows_help_page info m s ≡ true → ShowsHelp describes info false t f
       → EndsRun describes info (Some m) s t f t
   passed_on : (f : ParseFailure) (s t : Situation) → is_memory (message.ParseFailure f) ≡ false
-      → shows_usage info (message.ParseFailure f) s ≡ false
+      → shows_help_page info (message.ParseFailure f) s ≡ false
       → EndsRun describes info (Some (message.ParseFailure f)) s t f t
   refused : (m : Message) (s left : Situation) (f : ParseFailure) (t : Situation)
-      → is_memory m ≡ false → shows_usage info m s ≡ false → is_answer m ≡ false
+      → is_memory m ≡ false → shows_help_page info m s ≡ false → is_answer m ≡ false
       → Tells describes info m left f t → EndsRun describes info (Some m) s left f t
   leftover : (m : Message) (s left : Situation) (f : ParseFailure) (t : Situation)
       → IsLeftover left m → Tells describes info m left f t → EndsRun describes info None s left f t

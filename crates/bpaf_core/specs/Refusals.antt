@@ -9,7 +9,7 @@ use Rattle.bpaf_messages.specs.Leftover.{IsLeftover}
 use Rattle.bpaf_words.specs.{Arguments.Given, Line.HasNoLine, Line.Known}
 use Rattle.bpaf_laws.specs.Reading.{Outcome}
 use Rattle.bpaf_laws.specs.Laws.{HasName, Refusal, help_or_version, no_memory, refusal_of}
-use Rattle.bpaf_core.specs.Ending.{Shows, ShowsHelp, shows_usage}
+use Rattle.bpaf_core.specs.Ending.{Shows, ShowsHelp, shows_help_page}
 use Rattle.bpaf_keys.specs.{declared.info.ExtraParams.ExtraParams, Info.ExtraOutcome, Info.RunInfo}
 use Rattle.bpaf_line.specs.declared.error.Message.TheVariants as message
 use Rattle.bpaf_line.specs.declared.failure.ParseFailure.TheVariants as failure
@@ -26,31 +26,31 @@ pub data IsToldOf {T : Type 0} (inner : Outcome T) (s : Situation) (m : Message)
 -- a failure of this name, of a run from a situation on: want of memory; the page that was asked
 -- for, or that of help where nothing was there to read; the text of a message of this name that the
 -- run tells, once neither help nor the version was found there; or what a run inside ended with
-pub data IsNamed {T : Type 0} (inner : Outcome T) (describes : Shape → Type 0) (info : RunInfo)
+pub data FailsAs {T : Type 0} (inner : Outcome T) (describes : Shape → Type 0) (info : RunInfo)
     (s : Situation) : Refusal → ParseFailure → Type 0 where
-  wanting : IsNamed inner describes info s no_memory failure.Memory
+  wanting : FailsAs inner describes info s no_memory failure.Memory
   asked_for : (r : Result T Error) (asked : ExtraParams) (left t : Situation) (doc : List Piece)
       (full : Bool) → inner s r left → ExtraOutcome info left (Ok asked) t
       → Shows describes info asked t (failure.Stdout doc full)
-      → IsNamed inner describes info s help_or_version (failure.Stdout doc full)
+      → FailsAs inner describes info s help_or_version (failure.Stdout doc full)
   nothing_to_read : (e : Error) (left : Situation) (doc : List Piece) (full : Bool)
-      → inner s (Err e) left → shows_usage info e.0 s ≡ true
+      → inner s (Err e) left → shows_help_page info e.0 s ≡ true
       → ShowsHelp describes info false left (failure.Stdout doc full)
-      → IsNamed inner describes info s help_or_version (failure.Stdout doc full)
+      → FailsAs inner describes info s help_or_version (failure.Stdout doc full)
   told : (name : Refusal) (m : Message) (left t : Situation) (unasked : Error) (doc : List Piece)
       → IsToldOf inner s m left → ExtraOutcome info left (Err unasked) t
       → refusal_of m ≡ Some name → Renders m t (failure.Stderr doc)
-      → IsNamed inner describes info s name (failure.Stderr doc)
+      → FailsAs inner describes info s name (failure.Stderr doc)
   handed_on : (name : Refusal) (e : Error) (left : Situation) (f : ParseFailure)
       → inner s (Err e) left → e.0 ≡ message.ParseFailure f → HasName name f
-      → IsNamed inner describes info s name f
+      → FailsAs inner describes info s name f
 
 -- a failure of a run over words has one of the twelve names: that of the run from the beginning of
 -- their line, or of what is told where they have no line
 pub data IsOneOfTwelve {T : Type 0} (inner : Outcome T) (describes : Shape → Type 0)
     (info : RunInfo) (known : Known) (given : Given) : ParseFailure → Type 0 where
   named : (context : Context) (name : Refusal) (f : ParseFailure) → IsContext known given context
-      → IsNamed inner describes info (beginning context) name f
+      → FailsAs inner describes info (beginning context) name f
       → IsOneOfTwelve inner describes info known given f
   no_line : (word : List ℕ) (number : ℕ) (context : Context) (f : ParseFailure)
       → HasNoLine known given.words word number → context.line ≡ [] → context.name ≡ given.name

@@ -7,10 +7,10 @@ use Rattle.std.proofs.Common.{slice_index, zero, append_assoc, Vec, map, ◌+◌
 use Rattle.std.specs.Prelude.{filter, flat_map}
 use Rattle.bpaf_doc.specs.Print.{folded, empty_line, begins_with_empty_line, cut_at_empty_line}
 use Rattle.bpaf_doc.specs.Print.{folded_parts, folded_whole, TextPieces, whole, cut, printed}
-use Rattle.bpaf_doc.specs.Print.{is_nil, folded_after, keeps_break, break_or_space, break_between}
+use Rattle.bpaf_doc.specs.Print.{is_blank, folded_after, keeps_break, break_or_space, break_between}
 use Rattle.bpaf_doc.specs.Print.{HasNoBreak, detail, whole_pieces, cut_pieces, shown_as}
 use Rattle.bpaf_doc.specs.Shape.{Part, shape_of, Shape, Or, alternatives, members, part_layer}
-use Rattle.bpaf_doc.specs.Shape.{shape_layer, shapes_of, members_of, ◌then◌}
+use Rattle.bpaf_doc.specs.Shape.{shape_layer, shapes_of, member_shapes, ◌then◌}
 use Rattle.bpaf_doc.specs.declared.doc.Style.TheVariants as style
 use Rattle.bpaf_doc.specs.declared.meta.Meta as meta
 use Rattle.std.proofs.{lemmas.List.Concat.flat_map-append, lemmas.List.Elements.filter-append}
@@ -78,18 +78,18 @@ printed_text text old new more is put =
     ∙ ap (λ x. printed true old ++ x) (folded_pieces text more is)
 
 -- a text before another is not empty where it isn't
-not_nil : (text rest : List ℕ) → (length text == 0) ≡ false → is_nil (text ++ rest) ≡ false
+not_nil : (text rest : List ℕ) → (length text == 0) ≡ false → is_blank (text ++ rest) ≡ false
 not_nil [] rest some = cc
 not_nil (c ∷ text) rest some = refl
 
 -- a document that has a piece of some text is not empty
 pub not_empty : (pieces : List Piece) (i : ℕ) (piece : Piece) → i < length pieces
     → piece ≡ get_or pieces i piece → (length piece.text == 0) ≡ false
-    → is_nil (printed true (drop i pieces)) ≡ false
+    → is_blank (printed true (drop i pieces)) ≡ false
 not_empty pieces i piece within here some =
     let opened : drop i pieces ≡ piece ∷ drop (suc i) pieces =
     drop-cons pieces i piece within ∙ ap (λ x. x ∷ drop (suc i) pieces) (sym here) in
-    subst (λ x. is_nil (printed true x) ≡ false) (sym opened) (not_nil piece.text _ some)
+    subst (λ x. is_blank (printed true x) ≡ false) (sym opened) (not_nil piece.text _ some)
 
 -- Folded texts, line by line.
 
@@ -217,7 +217,7 @@ or_adds all of is =
 -- the members from a place on are the one there and those behind it
 pub members_from : (all : List Meta) (i : ℕ) (member : Meta) → i < length all
     → member ≡ get_or all i member
-    → members_of (drop i all) ≡ (shape_of member then members_of (drop (i + 1) all))
+    → member_shapes (drop i all) ≡ (shape_of member then member_shapes (drop (i + 1) all))
 members_from all i member within here =
-    ap members_of (drop-cons all i member within ∙ ap (λ x. x ∷ drop (suc i) all) (sym here)
+    ap member_shapes (drop-cons all i member within ∙ ap (λ x. x ∷ drop (suc i) all) (sym here)
     ∙ ap (λ n. member ∷ drop n all) (sym (add-one i)))

@@ -49,13 +49,13 @@ abbrev pub Prints : Print → List Piece → Type 0
 Prints text doc = (full : Bool) → printed full doc ≡ text full
 
 -- a list without elements
-abbrev pub is_nil : List ℕ → Bool
-is_nil [] = true
-is_nil (c ∷ rest) = false
+abbrev pub is_blank : List ℕ → Bool
+is_blank [] = true
+is_blank (c ∷ rest) = false
 
 -- a text is empty where its full print is
 abbrev pub is_empty : Print → Bool
-is_empty text = is_nil (text true)
+is_empty text = is_blank (text true)
 
 -- Texts with their line breaks folded.
 

@@ -90,8 +90,8 @@ abbrev pub shape_of : Meta → Shape
 shape_of = fold-Meta Part Shape part_layer shape_layer
 
 -- the members that metas of the program are in an And or an Or
-abbrev pub members_of : List Meta → Shapes
-members_of all = members (map shape_of all)
+abbrev pub member_shapes : List Meta → Shapes
+member_shapes all = members (map shape_of all)
 
 -- the first short and the first long name; none where there is neither
 abbrev pub first_names : List ℕ → List (List ℕ) → Option Name

@@ -1,6 +1,6 @@
 //! Whether a key stands behind a word in what is shown.
 ghost use Rattle.std.specs.Prelude.{◌≡◌, ◌||◌, false};
-ghost use Rattle.bpaf_doc.specs.Shape.{shape_of, part_of, members_of, Shown, in_order};
+ghost use Rattle.bpaf_doc.specs.Shape.{shape_of, part_of, member_shapes, Shown, in_order};
 ghost use Rattle.bpaf_doc.specs.Shape.{all_in_order, each_in_order, has_word, any_has_word};
 ghost use Rattle.bpaf_doc.specs.Shape.{takes_word};
 
@@ -11,8 +11,8 @@ use crate::meta::{Meta, MetaInfo};
 /// them, and then whether one was in them too.
 #[cycle(order)]
 fn all_in_order(all: &[Meta], seen: &mut bool) -> bool
-    ensures order { result ≡ all_in_order (members_of all.now) seen.old }
-    ensures seen { seen.new ≡ (seen.old || any_has_word (members_of all.now)) }
+    ensures order { result ≡ all_in_order (member_shapes all.now) seen.old }
+    ensures seen { seen.new ≡ (seen.old || any_has_word (member_shapes all.now)) }
 {
     let mut good = true;
     for member in all {
@@ -26,8 +26,8 @@ fn all_in_order(all: &[Meta], seen: &mut bool) -> bool
 /// one.
 #[cycle(order)]
 fn each_in_order(all: &[Meta], seen: bool) -> (bool, bool)
-    ensures order { result.0 ≡ each_in_order (members_of all.now) seen }
-    ensures seen { result.1 ≡ (seen || any_has_word (members_of all.now)) }
+    ensures order { result.0 ≡ each_in_order (member_shapes all.now) seen }
+    ensures seen { result.1 ≡ (seen || any_has_word (member_shapes all.now)) }
 {
     let mut good = true;
     let mut seen_in_any = seen;

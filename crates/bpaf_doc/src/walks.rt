@@ -1,6 +1,6 @@
 //! Walks over what is shown: its first item, and its short names.
 ghost use Rattle.std.specs.Prelude.{◌≡◌, ◌++◌, OnOk, MatchOption, Some, None};
-ghost use Rattle.bpaf_doc.specs.Shape.{shape_of, part_of, members_of, And, Shown, flag_shorts};
+ghost use Rattle.bpaf_doc.specs.Shape.{shape_of, part_of, member_shapes, And, Shown, flag_shorts};
 ghost use Rattle.bpaf_doc.specs.Shape.{argument_shorts, first_part};
 
 use crate::item::Item;
@@ -15,9 +15,9 @@ fn collect_all(
     arguments: &mut Vec<char>,
 ) -> Result<(), AllocError>
     ensures flags { OnOk result (flags.new.items
-        ≡ flags.old.items ++ flag_shorts (And (members_of all.now))) }
+        ≡ flags.old.items ++ flag_shorts (And (member_shapes all.now))) }
     ensures arguments { OnOk result (arguments.new.items
-        ≡ arguments.old.items ++ argument_shorts (And (members_of all.now))) }
+        ≡ arguments.old.items ++ argument_shorts (And (member_shapes all.now))) }
 {
     for member in all {
         member.collect_shorts(flags, arguments)?;

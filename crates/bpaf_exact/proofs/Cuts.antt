@@ -7,11 +7,11 @@ use Rattle.std.proofs.lemmas.List.Elements.{filter-append, All-cons, All-nil}
 use Rattle.std.proofs.{lemmas.Bool.false_from_ne_true, lemmas.List.append_assoc, Common.ℕ}
 use Rattle.std.specs.List.{AllPass}
 use Rattle.bpaf_base.specs.{declared.arg.Arg.TheVariants.ArgWord, declared.arg.Arg.Arg}
-use Rattle.bpaf_base.specs.Items.{is_positional}
+use Rattle.bpaf_base.specs.Items.{is_positional, is_key}
 use Rattle.bpaf_exact.specs.Flat.{NonePresent, first_later, TakesFirst, none_here, first_one}
 use Rattle.bpaf_exact.specs.Pieces.{takes_argument, TakesPieces, begin_piece, either_role, WithNext}
 use Rattle.bpaf_exact.specs.Pieces.{takes_none, TakesPiece, takes_flag, LinePiece, takes_one, Alone}
-use Rattle.bpaf_exact.specs.Pieces.{IsNamed, at_end, either, is_key, is_own, others, passed, pieces}
+use Rattle.bpaf_exact.specs.Pieces.{IsNamed, at_end, either, is_own, others, passed, pieces}
 use Rattle.bpaf_exact.specs.Pieces.{empty_stays, is_own_role, other_stays, takes_later, takes_more}
 use Rattle.bpaf_exact.specs.Pieces.{Apart, Cells, Roles, Takes, Role, flag, mine, word, Cut, One}
 use Rattle.bpaf_exact.specs.Pieces.{takes_two, with_next, argument, is_value, no_cells, Foreign}

@@ -29,7 +29,7 @@ use Rattle.bpaf_exact.proofs.Cuts.{first_pieces, first_takes, some_trans, never_
 use Rattle.bpaf_exact.proofs.{Wrappers.took_front, Wrappers.gap_empty, Classes.memory_class}
 use Rattle.bpaf_exact.specs.Flat.{AlternativeErr, AlternativeOk, first_later, gave_absent, EachWord}
 use Rattle.bpaf_exact.specs.Flat.{TakesFirst, WordByWord, first_one, first_two, FieldKind, OfMemory}
-use Rattle.bpaf_exact.specs.Flat.{class_of, SingleOk, TakesAny, of_piece, OneWord, FrontOf, Refused}
+use Rattle.bpaf_exact.specs.Flat.{error_class, SingleOk, TakesAny, of_piece, OneWord, FrontOf, Refused}
 use Rattle.bpaf_exact.specs.Flat.{ByName, Caught, Steady, Groups, gap_of, cells, class, front, back}
 use Rattle.bpaf_exact.specs.Flat.{OfMissing, Variables, is_behind, SingleErr, SingleLaw, of_memory}
 use Rattle.bpaf_exact.specs.ProgramForm.{argument_field, argument_group, argument_roles, flag_field}
@@ -43,7 +43,7 @@ use Rattle.bpaf_exact.specs.{ProgramForm.FormLaw, ProgramForm.word_by, Says.of_k
 
 -- so does that of a key, or without a place on the line that no name in the environment is set
 pub absence_class : (s : Situation) (part : Option Part) (envs : List (List ℕ)) (m : Message)
-    → IsAbsence s part envs m → (class_of m ≡ OfMissing) ⊎ ((class_of m ≡ Caught) × (envs ≡ [] → ⊥))
+    → IsAbsence s part envs m → (error_class m ≡ OfMissing) ⊎ ((error_class m ≡ Caught) × (envs ≡ [] → ⊥))
 absence_class s x envs m o = grind arith
 
 -- What a parser answers where no piece of its own is there: what stands for that; or it is refused;
@@ -197,7 +197,7 @@ module _ {T : Type 0} (clones : T → T → Type 0) (key : Key) (present : T) (a
   set_here s e f = rw (← e) f
 
   -- a refusal
-  flag_fails : {s t : Situation} {e : Error} (m : Message) → class e ≡ class_of m
+  flag_fails : {s t : Situation} {e : Error} (m : Message) → class e ≡ error_class m
       → s.context.env ≡ variables → FlagFails {T = T} key absent s m t → FlagRead s (Err e) t
   flag_fails Memory c same o = read_memory c
   flag_fails {s} other c same o =
@@ -329,7 +329,7 @@ module _ (argument : KeyWithValue) where
     variable_fault same read c none = grind (arith, named, none_refused)
 
     -- without one there is no value
-    pub nowhere : {s t : Situation} {e : Error} (m : Message) → class e ≡ class_of m
+    pub nowhere : {s t : Situation} {e : Error} (m : Message) → class e ≡ error_class m
         → s.context.env ≡ variables → IsNowhere argument s m → t ≡ s → Unread s (Err e) t
     nowhere m c same unset left = grind (arith, absence_class, named, none_missing)
 
@@ -418,7 +418,7 @@ module _ (argument : KeyWithValue) where
         })
 
     -- a refusal: no piece, one without a value, or a last one that means none
-    last_err : {s t : Situation} (e : Error) (m : Message) → class e ≡ class_of m
+    last_err : {s t : Situation} (e : Error) (m : Message) → class e ≡ error_class m
         → s.context.env ≡ variables → ArgumentFails means argument s m t
         → SingleErr T ByName q (LastGroup T means) (gap means variables) s (class e) t
     last_err e Memory c same o = of_memory c
@@ -467,7 +467,7 @@ module _ (argument : KeyWithValue) where
         (argument.named.envs ≡ [] → ⊥)
 
     -- a refusal: no piece, or a first one that can't be read
-    argument_fails : {s t : Situation} {e : Error} (m : Message) → class e ≡ class_of m
+    argument_fails : {s t : Situation} {e : Error} (m : Message) → class e ≡ error_class m
         → s.context.env ≡ variables → ArgumentFails means argument s m t → ArgumentRead s (Err e) t
     argument_fails Memory c same o = read_memory c
     argument_fails {s} (ParseFailed place fault) c same o = ⊎_elim

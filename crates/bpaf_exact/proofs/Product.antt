@@ -4,7 +4,7 @@ use Rattle.std.proofs.Common.{Result, filter, arith, false, subst, Bool, List, N
 use Rattle.std.proofs.Common.{true, Err, not, sym, ◌∙◌, ◌∷◌, ◌≡◌, Ok, [], ap}
 use Rattle.bpaf_base.specs.declared.arg.Arg.{Arg}
 use Rattle.bpaf_line.specs.{Situation.with_current, Situation.Situation, declared.error.Error.Error}
-use Rattle.bpaf_laws.specs.Product.{ProductOutcome, BothOutcome, joined}
+use Rattle.bpaf_laws.specs.Product.{ProductOutcome, BothOutcome, both_answers}
 use Rattle.bpaf_laws.specs.Reading.{Outcome}
 use Rattle.bpaf_exact.proofs.Cuts.{words_of_cut, either_union, nil_foreign, union_named, named_cuts}
 use Rattle.bpaf_exact.proofs.Cuts.{keeps_other_some, others_foreign, take_some_from, pieces_of_cut}
@@ -150,7 +150,7 @@ module _ {env : Variables} {A B : Type 0} {first : Outcome A} {rest : Outcome B}
     → refuses m c t → refused s c) where
   -- by the answers of both
   of_joined : {s m t : Situation} (a : Result A Error) (b : Result B Error) → IsWholeIn env s
-      → first s a m → rest m b t → follows gave refused s (joined a b) t
+      → first s a m → rest m b t → follows gave refused s (both_answers a b) t
   of_joined x y w f g = grind (arith, memory_class, none_outside_after)
 
   -- the laws

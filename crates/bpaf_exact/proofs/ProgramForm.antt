@@ -35,7 +35,7 @@ use Rattle.bpaf_exact.specs.Flat.{ClosedValue, ErrorClass, ClosedEval, closed_er
 use Rattle.bpaf_exact.specs.Flat.{fallback_memory, optional_memory, answer_closure, fallback_given}
 use Rattle.bpaf_exact.specs.Flat.{fallback_no, fallback_ok, map_closure, NonePresent, SingleValue}
 use Rattle.bpaf_exact.specs.Flat.{FieldsLaw, IsWholeIn, Variables, SingleLaw, closed_no, OfMemory}
-use Rattle.bpaf_exact.specs.Flat.{class_of, repeated, KeepsTo, ReadOff, Refused, OwnList, Closure}
+use Rattle.bpaf_exact.specs.Flat.{error_class, repeated, KeepsTo, ReadOff, Refused, OwnList, Closure}
 use Rattle.bpaf_exact.specs.Flat.{Decides, Before, ByName, Caught, Groups, LastOf, Gap}
 use Rattle.bpaf_exact.specs.ProgramForm.{program_dressed, are_words_apart, before_commands, FormLaw}
 use Rattle.bpaf_exact.specs.ProgramForm.{product_reading, program_choice, program_closed, completed}
@@ -451,8 +451,8 @@ module _ {env : Variables} {A : Type 0} {inner : Outcome A} {names : List Names}
           → ClosedEval A B inner (parse_closure answers) Refused s r t
       by_answer s t (Ok v) o = closed_yes o.1 o.2
       by_answer s t (Err e) (inl o) = closed_err o
-      by_answer s t (Err e) (inr o) = ⊎_elim (λ memory. closed_memory o.1 (ap class_of memory))
-          (λ told. closed_no o.1 (o.2, o.3) (ap class_of told.1)) o.4
+      by_answer s t (Err e) (inr o) = ⊎_elim (λ memory. closed_memory o.1 (ap error_class memory))
+          (λ told. closed_no o.1 (o.2, o.3) (ap error_class told.1)) o.4
 
   -- guard
   pub guard_law : (checks : A → Bool → Type 0) (message : List ℕ)
@@ -465,14 +465,14 @@ module _ {env : Variables} {A : Type 0} {inner : Outcome A} {names : List Names}
           → ClosedEval A A inner (guard_closure checks) Refused s r t
       by_answer s t (Ok v) o = closed_yes o.0 (refl, o.1)
       by_answer s t (Err e) (inl o) = closed_err o
-      by_answer s t (Err e) (inr o) = ⊎_elim (λ told. closed_no o.1 o.2 (ap class_of told))
-          (λ memory. closed_memory o.1 (ap class_of memory)) o.3
+      by_answer s t (Err e) (inr o) = ⊎_elim (λ told. closed_no o.1 o.2 (ap error_class told))
+          (λ memory. closed_memory o.1 (ap error_class memory)) o.3
 
   -- hide
   pub hide_law : FormLaw env (HideOutcome inner) names words (program_dressed s)
   hide_law = program_dressed_law (narrower_form (record {
     value = λ s t v o. o;
-    refusal = λ s t e o. (o.0, o.1, grind arith ∙ ap class_of (sym o.2));
+    refusal = λ s t e o. (o.0, o.1, grind arith ∙ ap error_class (sym o.2));
   }) l)
 
   -- optional
@@ -522,8 +522,8 @@ module _ {env : Variables} {A : Type 0} {inner : Outcome A} {names : List Names}
       by_answer s t (Ok v) o =
           closed_yes o.0 (refl, λ none. true≢false (sym (ap is_nil none) ∙ o.1))
       by_answer s t (Err e) (inl o) = closed_err o
-      by_answer s t (Err e) (inr o) = ⊎_elim (λ told. closed_no o.0 refl (ap class_of told))
-          (λ memory. closed_memory o.0 (ap class_of memory)) o.1
+      by_answer s t (Err e) (inr o) = ⊎_elim (λ told. closed_no o.0 refl (ap error_class told))
+          (λ memory. closed_memory o.0 (ap error_class memory)) o.1
 
   -- collect
   pub collect_law : {C : Type 0} (catch : Bool) (fills : List A → C → Type 0)
@@ -591,5 +591,5 @@ module _ {env : Variables} {A : Type 0} {inner : Outcome A} {names : List Names}
       (fallback_form (answer_closure answers) s)
   fallback_with_law answers shown decides =
       fallback_form_law (GivesAnswer answers shown) (answer_closure answers) decides
-      (λ v g. g) (λ e g. ⊎_elim (λ memory. inl (ap class_of memory))
-      (λ told. inr ((g.0, g.1), ap class_of told.1)) g.2)
+      (λ v g. g) (λ e g. ⊎_elim (λ memory. inl (ap error_class memory))
+      (λ told. inr ((g.0, g.1), ap error_class told.1)) g.2)

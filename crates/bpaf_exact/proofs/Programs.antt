@@ -7,7 +7,7 @@ use Rattle.std.proofs.{lemmas.Slice.Eq.bytes_eq-Decides, lemmas.Bool.Decides.nat
 use Rattle.std.proofs.lemmas.List.{length_push}
 use Rattle.std.specs.{Option.option_map_or, List.list_any}
 use Rattle.bpaf_base.specs.declared.arg.Arg.TheVariants.{Short, Long}
-use Rattle.bpaf_base.specs.{declared.arg.Arg.Arg, Items.any_item}
+use Rattle.bpaf_base.specs.{declared.arg.Arg.Arg, Items.any_item, Items.is_key}
 use Rattle.bpaf_line.proofs.Places.{open_item_there, match_is_open, open_in_scope, taken_other}
 use Rattle.bpaf_line.specs.Situation.{Situation, in_scope, is_taken, item_at}
 use Rattle.bpaf_line.proofs.Places.{taken_stays, taken_here}
@@ -24,7 +24,7 @@ use Rattle.bpaf_exact.specs.Flat.{FieldsReading, first_cells, ClosedValue, map_c
 use Rattle.bpaf_exact.specs.Flat.{TakesFirst, FieldTook, FieldsLaw, IsWholeIn, Variables, first_one}
 use Rattle.bpaf_exact.specs.Flat.{FieldLaw, OfMemory, ReadOff, ByName, NotOwn, cells, class}
 use Rattle.bpaf_exact.specs.Pieces.{takes_argument, TakesPieces, empty_stays, other_stays, no_cells}
-use Rattle.bpaf_exact.specs.Pieces.{LinePiece, takes_one, takes_two, IsNamed, either, is_key, Alone}
+use Rattle.bpaf_exact.specs.Pieces.{LinePiece, takes_one, takes_two, IsNamed, either, Alone}
 use Rattle.bpaf_exact.specs.Pieces.{takes_later, takes_more, takes_none, TakesPiece, takes_flag}
 use Rattle.bpaf_exact.specs.Pieces.{pieces, Apart, Cells, Roles, Takes, One, Two}
 use Rattle.bpaf_exact.specs.ProgramForm.{FindsNoCommand, command_memory, IsSpelledLine, CommandEval}

@@ -32,12 +32,12 @@ class_of_tests false false true = Caught
 class_of_tests false false false = Refused
 
 -- the class of a message
-abbrev pub class_of : Message → ErrorClass
-class_of m = class_of_tests (is_memory m) (is_missing m) (can_catch m)
+abbrev pub error_class : Message → ErrorClass
+error_class m = class_of_tests (is_memory m) (is_missing m) (can_catch m)
 
 -- the class of a refusal
 abbrev pub class : Error → ErrorClass
-class e = class_of e.0
+class e = error_class e.0
 
 -- what is at the first places, as many as a number says
 abbrev pub first_cells : (ℕ → Option Arg) → ℕ → Cells
@@ -438,7 +438,7 @@ abbrev pub some_closure : (T : Type 0) → Closure (List T) (Vec T)
 some_closure T = record { yes = λ xs v. (v.items ≡ xs) × (xs ≡ [] → ⊥); no = λ xs. xs ≡ [] }
 
 -- it is the last of a list
-pub record IsLast (T : Type 0) (vs : List T) (v : T) : Type 0 where
+pub record IsLastOf (T : Type 0) (vs : List T) (v : T) : Type 0 where
   pub before : List T
   pub is : vs ≡ before ++ (v ∷ [])
 

@@ -3,7 +3,7 @@ use Rattle.std.specs.Prelude.{Bool, List, Option, Some, [], false, filter, if◌
 use Rattle.std.specs.Prelude.{None, not, ◌∷◌, ◌&&◌}
 use Rattle.std.specs.{Option.is_some, List.list_all, List.list_any}
 use Rattle.bpaf_base.specs.declared.arg.Arg.TheVariants.{Long, PosWord, Short}
-use Rattle.bpaf_base.specs.Items.{is_positional, value_text, is_among, is_text_among, is_key_of}
+use Rattle.bpaf_base.specs.Items.{is_positional, value_text, is_among, is_text_among, is_key_of, is_key}
 use Rattle.bpaf_base.specs.declared.arg.Arg.{Arg}
 use Rattle.bpaf_doc.specs.Names.{Names}
 
@@ -27,12 +27,6 @@ pub data LinePiece : Type 0 where
 -- a key may take it as its value
 abbrev pub is_value : Arg → Bool
 is_value item = is_some (value_text item)
-
--- the key of a flag or an argument
-abbrev pub is_key : Arg → Bool
-is_key (Short c a t) = true
-is_key (Long n a t) = true
-is_key _ = false
 
 -- an item stands behind `--`
 abbrev pub stands_behind : Arg → Bool

@@ -16,7 +16,8 @@ use Rattle.bpaf_laws.specs.{Reading.first_set, Reading.Outcome, Leaves.value_wit
 use Rattle.bpaf_laws.specs.{Combinators.is_nil, Command.inside, Choice.depth}
 use Rattle.bpaf_exact.specs.Pieces.{are_all_apart, stands_behind, is_own_role, LinePiece, no_roles}
 use Rattle.bpaf_exact.specs.Pieces.{others, Cells, Roles, Apart, Takes, Alone, Owns, Cut, One, Two}
-use Rattle.bpaf_exact.specs.Pieces.{WithNext, roles_of, is_value, IsNamed, pieces, either, is_key}
+use Rattle.bpaf_exact.specs.Pieces.{WithNext, roles_of, is_value, IsNamed, pieces, either}
+use Rattle.bpaf_base.specs.Items.{is_key}
 use Rattle.bpaf_exact.specs.Flat.{AlternativeLaw, FieldsReading, OptionalValue, either_value, class}
 use Rattle.bpaf_exact.specs.Flat.{ErrorClass, closed_gap, OfMissing, Variables, FieldKind, OfMemory}
 use Rattle.bpaf_exact.specs.Flat.{FieldsLaw, SingleLaw, FieldLaw, AgreesOn, KeepsTo, ReadOff, cells}

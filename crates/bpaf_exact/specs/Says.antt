@@ -13,7 +13,7 @@ use Rattle.bpaf_exact.specs.ProgramForm.{product_roles, whole_program, program_v
 use Rattle.bpaf_exact.specs.ProgramForm.{CellsValue, line_cells, FieldThen, RunAnswer, complete}
 use Rattle.bpaf_exact.specs.ProgramForm.{OptionalCommands, IsAcceptedOrWant, before_commands}
 use Rattle.bpaf_exact.specs.ProgramForm.{commands, FormLaw, single, RunRan}
-use Rattle.bpaf_exact.specs.Flat.{IsLast, Groups, front, back}
+use Rattle.bpaf_exact.specs.Flat.{IsLastOf, Groups, front, back}
 
 -- The pieces of a field's own.
 
@@ -147,7 +147,7 @@ pub data RepeatSays {T : Type 0} (said : Said T) (os : List LinePiece) (vs : Lis
 pub record LastSays {T : Type 0} (said : Said T) (os : List LinePiece) (v : T) : Type 0 where
   pub values : List T
   pub told : RepeatSays said os values
-  pub is : IsLast T values v
+  pub is : IsLastOf T values v
 
 -- what the values of fields say of the pieces of a line, and of the words that are left to them
 abbrev pub FieldsSaid : Type 0 → Type 1
@@ -174,9 +174,9 @@ AllOwn ByName q os = EachOwn q os
 AllOwn k q os = Unit {0}
 
 -- the own ones of these pieces are those that begin with a key with one of the names
-abbrev pub Fits : List Names → Roles → List LinePiece → Type 0
-Fits names r [] = Unit {0}
-Fits names r (o ∷ os) = (is_own r o ≡ is_key_of_any names (first_item o)) × Fits names r os
+abbrev pub OwnsByNames : List Names → Roles → List LinePiece → Type 0
+OwnsByNames names r [] = Unit {0}
+OwnsByNames names r (o ∷ os) = (is_own r o ≡ is_key_of_any names (first_item o)) × OwnsByNames names r os
 
 -- What the values of a program with commands say: each named field of its own pieces, and the rest
 -- of what is left without these.
@@ -367,7 +367,7 @@ FormSays {T = T} names (complete wide k q value) kind in_cells said cells =
     × ((os : List LinePiece) (v : T) → AllOwn k q os → value os v → said os v)
 FormSays {T = T} names (product wide named r fields) kind in_cells said cells =
     (in_cells ≡ false) × (kind ≡ product_kind named)
-    × ((whole os : List LinePiece) (v : T) → Fits names r whole → Fits names r os
+    × ((whole os : List LinePiece) (v : T) → OwnsByNames names r whole → OwnsByNames names r os
     → fields.value os v → mine r whole ≡ mine r os → others r whole ≡ others r os → said whole v)
 FormSays names (commands optional value) kind in_cells said cells =
     (in_cells ≡ true) × IsSaid value cells
@@ -390,8 +390,8 @@ ProgramSays names form kind said p =
 abbrev pub FieldsFormSays : {V : Type 0} → List Names → ProgramForm V → (in_cells : Bool)
     → FieldsSaid V → CellsValue V → Type 0
 FieldsFormSays {V = V} names (product wide named r fields) in_cells said cells =
-    (in_cells ≡ false) × ((whole os : List LinePiece) (v : V) → Fits names r whole
-    → Fits names r os → fields.value os v → mine r whole ≡ mine r os → said whole (others r os) v)
+    (in_cells ≡ false) × ((whole os : List LinePiece) (v : V) → OwnsByNames names r whole
+    → OwnsByNames names r os → fields.value os v → mine r whole ≡ mine r os → said whole (others r os) v)
 FieldsFormSays names (before_commands value) in_cells said cells =
     (in_cells ≡ true) × IsSaid value cells
 FieldsFormSays names no_program in_cells said cells = Unit {0}

@@ -7,14 +7,14 @@ use Rattle.std.proofs.Common.{length-set, get_or-set_same, get_or-set_other}
 use Rattle.std.specs.BTreeMap.{BTreeMap, get_by_text, Updates}
 use Rattle.bpaf_index.specs.Chained.{Naming, class_of, IsNoted, AreClassesOf, Chained, IsNextOf}
 use Rattle.bpaf_index.specs.Chained.{IsPlaceOf, IsChainStartOf, HasWalked, AreBehind, head_of}
-use Rattle.bpaf_index.specs.Chained.{names_of, is_key, HasNoKeyFrom}
+use Rattle.bpaf_index.specs.Chained.{names_of, HasNoKeyFrom}
 use Rattle.std.proofs.lemmas.List.{get_or-take, length-take-le}
 use Rattle.std.proofs.lemmas.Option.{slice_get_read, get_or_from_slice_get}
 use Rattle.std.proofs.{lemmas.Bool.Decides.nat_tests, lemmas.Map.Text.btree_map_updates_text}
 use Rattle.std.proofs.lemmas.Slice.Eq.{bytes_eq-Decides}
 use Rattle.std.specs.{declared.alloc.Global.Global, String.string_cmp}
 use Rattle.bpaf_base.specs.{declared.arg.Arg.TheVariants.Long, declared.arg.Arg.Arg, Names.Names}
-use Rattle.bpaf_base.specs.Items.{is_key_of}
+use Rattle.bpaf_base.specs.Items.{is_key_of, is_key}
 use Rattle.bpaf_index.specs.InsideChains.{IsLinked}
 
 -- the classes of a line's first places, fewer than 128 and one for each of these

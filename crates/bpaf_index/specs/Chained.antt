@@ -50,14 +50,6 @@ names_of (ArgWord text) = record { shorts = []; longs = [] }
 names_of (Word text) = record { shorts = []; longs = [] }
 names_of (PosWord text) = record { shorts = []; longs = [] }
 
--- an item is a key
-abbrev pub is_key : Arg → Bool
-is_key (Short c attached word) = true
-is_key (Long name attached word) = true
-is_key (ArgWord text) = false
-is_key (Word text) = false
-is_key (PosWord text) = false
-
 -- no place of a line from one on has a key
 pub record HasNoKeyFrom (line : List Arg) (low : ℕ) : Type 0 where
   pub none : (names : Names) (p : ℕ) → low ≤ p → named_at line names p ≡ false

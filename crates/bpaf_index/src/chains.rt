@@ -2,15 +2,15 @@
 ghost use Rattle.std.specs.Prelude.{ℕ, ◌≡◌, ◌*◌, ◌+◌, ◌<◌, ◌≤◌, IfOk, IfSome, [], Some, length};
 ghost use Rattle.std.specs.Prelude.{slice_get, slice_index, ◌-◌, false, true};
 ghost use Rattle.bpaf_base.specs.declared.arg.Arg.TheVariants.{Short, Long, Word};
-ghost use Rattle.bpaf_index.specs.Chained.{class_of, is_key, IsNextOf, IsChainStart, HasWalked};
+ghost use Rattle.bpaf_index.specs.Chained.{class_of, IsNextOf, IsChainStart, HasWalked};
 ghost use Rattle.bpaf_index.specs.Chained.{AreBehind, IsChainStartOf, ReachBack, IfChained};
 ghost use Rattle.std.specs.Option.{option_map_or};
-ghost use Rattle.bpaf_base.specs.declared.arg.Arg.{Arg};
+ghost use Rattle.bpaf_base.specs.{declared.arg.Arg.Arg, Items.is_key};
 ghost use Rattle.bpaf_index.specs.{Bits.has_bit, Chained.HasNoKeyFrom};
 
 use crate::bits;
 use crate::classes::{NameClasses, OWN_CLASSES};
-use bpaf_base::{Arg, Text};
+use bpaf_base::{Arg, Text, is_key};
 use std::alloc::{AllocError, Global};
 use std::marker::Model;
 
@@ -248,15 +248,5 @@ fn link(classes: &[usize], next: &mut [usize], heads: &mut [usize])
         let class = classes[place];
         next[place] = heads[class];
         heads[class] = place;
-    }
-}
-
-/// Whether an item is a key.
-fn is_key(item: &Arg) -> bool
-    ensures { result ≡ is_key item.now }
-{
-    match item {
-        Arg::Short(..) | Arg::Long(..) => true,
-        Arg::ArgWord(_) | Arg::Word(_) | Arg::PosWord(_) => false,
     }
 }

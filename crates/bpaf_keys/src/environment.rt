@@ -1,7 +1,7 @@
 //! Keys and their names in the environment.
 ghost use Rattle.std.specs.Prelude.{◌≡◌, IfOk, false, option_copied, option_map, true};
 ghost use Rattle.bpaf_doc.specs.Shape.{part_of};
-ghost use Rattle.bpaf_laws.specs.Leaves.{TakesText, TakesAtKey, IsPresent};
+ghost use Rattle.bpaf_laws.specs.Leaves.{TextOutcome, TakesAtKey, IsPresent};
 ghost use Rattle.bpaf_laws.specs.Reading.{first_set, IsAbsence};
 
 use bpaf_doc::{Item, Text};
@@ -95,7 +95,7 @@ fn take_key<T>(argument: &ParseArgument<T>, state: &mut State) -> Result<Option<
 /// counts; or, where there is no key, that of the first name in the environment that is set (bpaf's
 /// `take_argument`, which knows no last key).
 pub fn take_argument<T>(argument: &ParseArgument<T>, state: &mut State) -> Result<Text, Error>
-    ensures { TakesText argument.now state.old result state.new }
+    ensures { TextOutcome argument.now state.old result state.new }
 {
     let named = &argument.named;
     if let Some(text) = take_key(argument, state)? {

@@ -20,13 +20,13 @@ use Rattle.bpaf_laws.specs.{Choice.Nested, Choice.IsWant, Choice.Stands, Combina
 use Rattle.bpaf_laws.specs.Reading.{Readings, Outcome}
 
 -- an error is no value
-pub no_value : {T : Type 0} (v : T) (e : Error) → ◌≡◌ {A = Result T Error} (Ok v) (Err e) → ⊥
-no_value v e same = cc
+pub ok_is_not_err : {T : Type 0} (v : T) (e : Error) → ◌≡◌ {A = Result T Error} (Ok v) (Err e) → ⊥
+ok_is_not_err v e same = cc
 
 -- the branch that won has a value
 pub not_winner : {T : Type 0} (first second : AnsweredBranch T) (winner : Bool × Option ℕ)
     (e : Error) (t : Situation) → Winner first second winner (Err e) t → ⊥
-not_winner first second x e t won = grind (arith, no_value)
+not_winner first second x e t won = grind (arith, ok_is_not_err)
 
 module _ {T : Type 0} (s : Situation) (Holds : Result T Error → Situation → Type 0)
     (noted : (v : T) (m loser : Situation) (place : ℕ) (t : Situation)

@@ -4,7 +4,7 @@ use Rattle.std.specs.Prelude.{if◌then◌else◌, Result, false, true, Err, Ok}
 use Rattle.bpaf_line.specs.{declared.error.Error.Error, Situation.Situation, Messages.is_memory}
 use Rattle.bpaf_laws.proofs.Keeping.{AnswersLawfully, lawful_answer, keeps_current, LawfulAnswer}
 use Rattle.bpaf_laws.proofs.Keeping.{keeps_trans, reads_both, lawful_by}
-use Rattle.bpaf_laws.specs.Product.{FailFastOutcome, ProductOutcome, BothOutcome, BothReads, joined}
+use Rattle.bpaf_laws.specs.Product.{FailFastOutcome, ProductOutcome, BothOutcome, BothReads, both_answers}
 use Rattle.bpaf_laws.specs.Product.{BothEval}
 use Rattle.bpaf_laws.specs.Laws.{WithoutMemory, IsNotMemory, Lawful, Spares}
 use Rattle.bpaf_laws.specs.{Reading.Readings, Reading.Outcome, Combinators.MapReads}
@@ -13,7 +13,7 @@ module _ {A B : Type 0} {first : Outcome A} {rest : Outcome B} {rf : Readings A}
     (la : Lawful A first rf) (lb : Lawful B rest rr) where
   -- the answers of fields that were evaluated one after the other are one of both
   joined_answers : (s m t : Situation) (a : Result A Error) (b : Result B Error) → first s a m
-      → rest m b t → LawfulAnswer (A × B) (BothReads A B rf rr) s (joined a b) t
+      → rest m b t → LawfulAnswer (A × B) (BothReads A B rf rr) s (both_answers a b) t
   joined_answers s m t (Ok x) (Ok y) f g = reads_both (la.ok s m x f) (lb.ok m t y g)
   joined_answers s m t (Ok x) (Err e) f g =
       (keeps_trans s m t (la.ok s m x f).keeps (lb.err m t e g), lb.named m t e g)

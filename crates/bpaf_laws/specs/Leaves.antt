@@ -223,9 +223,9 @@ RefusesText argument s Memory t = TakesBefore argument.last argument s t
 RefusesText argument s m t = HasNoKey argument s × IsNowhere argument s m × (t ≡ s)
 
 -- the text of an argument, or a refusal
-abbrev pub TakesText : KeyWithValue → Situation → Result (List ℕ) Error → Situation → Type 0
-TakesText argument s (Ok text) t = GetsText argument s text t
-TakesText argument s (Err e) t = RefusesText argument s e.0 t
+abbrev pub TextOutcome : KeyWithValue → Situation → Result (List ℕ) Error → Situation → Type 0
+TextOutcome argument s (Ok text) t = GetsText argument s text t
+TextOutcome argument s (Err e) t = RefusesText argument s e.0 t
 
 -- a refusal: no text; or one that means no value, its places taken; or want of memory for its value
 abbrev pub ArgumentFails : {T : Type 0} → (List ℕ → T → Type 0) → KeyWithValue → Situation → Message

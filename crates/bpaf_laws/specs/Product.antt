@@ -17,11 +17,11 @@ pub record BothReads (A B : Type 0) (first : Readings A) (rest : Readings B) (co
   pub rest_read : rest context rest_share v.1
 
 -- the answer of evaluated fields: want of memory, else the first one's error, else the values
-abbrev pub joined : {A B : Type 0} → Result A Error → Result B Error → Result (A × B) Error
-joined (Ok a) (Ok b) = Ok (a, b)
-joined (Ok a) (Err f) = Err f
-joined (Err e) (Ok b) = Err e
-joined (Err e) (Err f) = if is_memory f.0 then Err f else Err e
+abbrev pub both_answers : {A B : Type 0} → Result A Error → Result B Error → Result (A × B) Error
+both_answers (Ok a) (Ok b) = Ok (a, b)
+both_answers (Ok a) (Err f) = Err f
+both_answers (Err e) (Ok b) = Err e
+both_answers (Err e) (Err f) = if is_memory f.0 then Err f else Err e
 
 -- each field is evaluated, also after an error
 pub record BothEval (A B : Type 0) (first : Outcome A) (rest : Outcome B) (s : Situation)
@@ -32,7 +32,7 @@ pub record BothEval (A B : Type 0) (first : Outcome A) (rest : Outcome B) (s : S
   pub first_ran : first s a middle
   pub rest_ran : rest middle b t
   pub spared : IsNotMemory a
-  pub answer : r ≡ joined a b
+  pub answer : r ≡ both_answers a b
 
 -- but want of memory is the answer at once
 abbrev pub BothOutcome : {A B : Type 0} → Outcome A → Outcome B → Outcome (A × B)

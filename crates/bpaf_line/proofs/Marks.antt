@@ -287,7 +287,7 @@ module _ (i : Inside) (s : Situation) (mark : Mark) (steps : Changes) (sound : I
   module _ (own theirs : List ℕ) (same_own : own ≡ drop mark.taken s.trail)
       (same_theirs : theirs ≡ steps.taken) where
     -- the bits tell the places since the mark and those of the steps
-    pub apart_as : (words : List ℕ) → words ≡ i.words.items → AreApart words own theirs
+    pub apart_as : (words : List ℕ) → words ≡ i.bits.items → AreApart words own theirs
     apart_as words same = rw (same, same_own, same_theirs) (record {
       own = λ q on. in_words q (mine q on);
       others = λ q on. in_words q (theirs_free q on);
@@ -303,10 +303,10 @@ module _ (i : Inside) (s : Situation) (mark : Mark) (steps : Changes) (sound : I
         theirs_free : (q : ℕ) → is_on steps.taken q ≡ true → is_taken (undone mark s) q ≡ false
         theirs_free = present_all (undone mark s) steps.taken redo.present
 
-        in_words : (q : ℕ) → is_taken (undone mark s) q ≡ false → q < 64 * length i.words.items
-        in_words q free = omega (arith, present_in_line (undone mark s) q free, sound.worded)
+        in_words : (q : ℕ) → is_taken (undone mark s) q ≡ false → q < 64 * length i.bits.items
+        in_words q free = omega (arith, present_in_line (undone mark s) q free, sound.bit_for_each)
 
-        in_bits : (q : ℕ) → is_taken (undone mark s) q ≡ false → has_bit i.words.items q
+        in_bits : (q : ℕ) → is_taken (undone mark s) q ≡ false → has_bit i.bits.items q
             ≡ (is_taken (undone mark s) q || is_on (drop mark.taken s.trail) q)
         in_bits q free = sound.bits q (present_in_line (undone mark s) q free)
             ∙ taken_own s mark steps q

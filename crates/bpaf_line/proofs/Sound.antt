@@ -10,7 +10,7 @@ use Rattle.std.proofs.lemmas.Bool.{and_left, and_right, or_left, le-ltb, leb-tru
 use Rattle.std.proofs.lemmas.Bool.{cases_eq, cond-true, lt-ltb, or_right, eq-eqb}
 use Rattle.std.proofs.lemmas.List.{take-append-le, take-append-drop, take-take, take_all, take_more}
 use Rattle.std.proofs.lemmas.List.{drop_all, drop_more, length-take-le, with_items_is, get_or_read}
-use Rattle.bpaf_line.specs.Inside.{no_aside, count_within, IsSurvey, IsRemembered, situation_of}
+use Rattle.bpaf_line.specs.Inside.{no_aside, count_within, IsSurvey, IsAside, situation_of}
 use Rattle.bpaf_line.specs.Inside.{BitsOf, IsSound, AreChainsOf, IsSoundAt, shared_entries}
 use Rattle.bpaf_line.specs.Situation.{Situation, cut_to, with_trail, with_scope, is_on, is_open}
 use Rattle.bpaf_line.specs.Situation.{is_taken, in_scope, open_count, TakenInTurn, IsFirstPresent}
@@ -31,27 +31,27 @@ use Rattle.bpaf_line.specs.declared.state.State.TheInside.{Inside}
 use Rattle.bpaf_base.specs.declared.arg.Arg.{Arg}
 
 -- of a scope of no places all is known
-pub remembers_nothing : (s : Situation) → IsRemembered s no_aside
+pub remembers_nothing : (s : Situation) → IsAside s no_aside
 remembers_nothing s = grind (arith, count_below-none, and_left, and_right, le-ltb)
 
 -- where the first taken places are the same
 remembers_front : (s t : Situation) (aside : Aside) → aside.taken ≤ length t.trail
-    → cut_to t aside.taken ≡ cut_to s aside.taken → IsRemembered s aside → IsRemembered t aside
+    → cut_to t aside.taken ≡ cut_to s aside.taken → IsAside s aside → IsAside t aside
 remembers_front s t aside taken same h = record { taken = taken; survey = rw same h.survey }
 
 -- one place more may be taken
-pub remembers_put : (s : Situation) (p : ℕ) (aside : Aside) → IsRemembered s aside
-    → IsRemembered (put s p) aside
+pub remembers_put : (s : Situation) (p : ℕ) (aside : Aside) → IsAside s aside
+    → IsAside (put s p) aside
 remembers_put s p aside h = grind (arith, remembers_front, put, length-append, take-append-le)
 
 -- and where fewer are, it is kept as long as no more were taken then
 pub remembers_cut : (s : Situation) (n : ℕ) (aside : Aside) → n ≤ length s.trail
-    → IsRemembered s aside
-    → IsRemembered (cut_to s n) (if nat_le aside.taken n then aside else no_aside)
+    → IsAside s aside
+    → IsAside (cut_to s n) (if nat_le aside.taken n then aside else no_aside)
 remembers_cut s n aside within h = by_test (nat_le aside.taken n) refl
   where
     by_test : (b : Bool) → nat_le aside.taken n ≡ b
-        → IsRemembered (cut_to s n) (if b then aside else no_aside)
+        → IsAside (cut_to s n) (if b then aside else no_aside)
     by_test false e = remembers_nothing (cut_to s n)
     by_test true e =
         let fewer : aside.taken ≤ n = leb-true aside.taken n e in
@@ -145,7 +145,7 @@ chains_untake s p old new h back = grind (arith, put_other, cases_eq)
 abbrev pub with_parts : Inside → List ℕ → Vec ℕ Global → ℕ → ℕ → ℕ → Option Chained → Aside → Inside
 with_parts s words trail left first behind chains aside =
     record s {
-      words = with_items s.words words;
+      bits = with_items s.bits words;
       trail = trail;
       left = left;
       first = first;
@@ -155,15 +155,15 @@ with_parts s words trail left first behind chains aside =
     }
 
 -- the bit of a place that is changed in the words of a state, which have as many items then
-pub bit_written : (s : Inside) (p : ℕ) (bit : Bool) (old new : List ℕ) → old ≡ s.words.items
+pub bit_written : (s : Inside) (p : ℕ) (bit : Bool) (old new : List ℕ) → old ≡ s.bits.items
     → ChangesBit old new p bit
-    → ChangesBit s.words.items new p bit × ((with_items s.words new).items ≡ new)
+    → ChangesBit s.bits.items new p bit × ((with_items s.bits new).items ≡ new)
 bit_written s p bit old new is change = grind (arith, with_items_is)
 
 -- it is sound with one place more
 pub sound_put : (s : Inside) (p : ℕ) (words : List ℕ) (trail : Vec ℕ Global)
     (left first behind : ℕ) (chains : Option Chained) → IsSound s
-    → is_taken (situation_of s) p ≡ false → ChangesBit s.words.items words p true
+    → is_taken (situation_of s) p ≡ false → ChangesBit s.bits.items words p true
     → trail.items ≡ s.trail.items ++ p ∷ [] → vec_capacity s.trail ≤ vec_capacity trail
     → left ≡ s.left - from_bool (in_scope (situation_of s) p)
     → IsFirstClear words s.first s.end first → behind ≤ length s.items.items
@@ -174,13 +174,13 @@ sound_put s p words trail left first behind chains h free change pushed grown co
     set passed =
     let old = situation_of s in
     let new = put old p in
-    let written : (with_items s.words words).items ≡ words = with_items_is s.words words
-    (change.kept ∙ sym s.words.ok.0) in
-    let bits : BitsOf new words = bits_put old s.words.items words p h.bits change in
+    let written : (with_items s.bits words).items ≡ words = with_items_is s.bits words
+    (change.kept ∙ sym s.bits.ok.0) in
+    let bits : BitsOf new words = bits_put old s.bits.items words p h.bits change in
     let fewer = open_count-put old p free in
     subst (IsSoundAt (with_parts s words trail left first behind chains s.aside))
     (ap (with_trail old) (sym pushed)) (record {
-      worded = rw written (omega (arith, h.worded, change.kept));
+      bit_for_each = rw written (omega (arith, h.bit_for_each, change.kept));
       bits = rw written bits;
       room = omega (arith, h.room);
       in_turn = in_turn_put old p h.in_turn free;
@@ -218,12 +218,12 @@ bits_untake s old new p bits change free q within = grind (arith, put_other, cas
 pub sound_untake : (s : Inside) (p : ℕ) (words : List ℕ) (trail : Vec ℕ Global)
     (left first behind : ℕ) (aside : Aside) (chains : Option Chained) → IsSound s
     → 0 < length s.trail.items → p ≡ slice_index s.trail.items (length s.trail.items - 1)
-    → ChangesBit s.words.items words p false
+    → ChangesBit s.bits.items words p false
     → trail.items ≡ take (length s.trail.items - 1) s.trail.items
     → vec_capacity s.trail ≤ vec_capacity trail
     → left ≡ s.left + from_bool (in_scope (situation_of s) p)
     → first ≡ (if in_scope (situation_of s) p then min s.first p else s.first)
-    → behind ≡ (if nat_le s.keys p then min s.behind p else s.behind)
+    → behind ≡ (if nat_le s.keys_end p then min s.behind p else s.behind)
     → aside ≡ (if nat_le s.aside.taken (length s.trail.items - 1) then s.aside else no_aside)
     → IfChained (ReachBack p) s.chains chains
     → IsSound (with_parts s words trail left first behind chains aside)
@@ -235,13 +235,13 @@ sound_untake s p words trail left first behind aside chains h some last change s
     let was : IsSoundAt s (put new p) = subst (IsSoundAt s)
     (sym (ap (put new) last ∙ last_put old some)) h in
     let free : is_taken new p ≡ false = ap (is_taken new) last ∙ h.in_turn n (omega arith) in
-    let written : (with_items s.words words).items ≡ words = with_items_is s.words words
-    (change.kept ∙ sym s.words.ok.0) in
+    let written : (with_items s.bits words).items ≡ words = with_items_is s.bits words
+    (change.kept ∙ sym s.bits.ok.0) in
     let more = open_count-put new p free in
     subst (IsSoundAt (with_parts s words trail left first behind chains aside))
     (ap (with_trail old) (sym shorter)) (record {
-      worded = rw written (omega (arith, h.worded, change.kept));
-      bits = rw written (bits_untake new s.words.items words p was.bits change free);
+      bit_for_each = rw written (omega (arith, h.bit_for_each, change.kept));
+      bits = rw written (bits_untake new s.bits.items words p was.bits change free);
       room = omega (arith, h.room);
       in_turn = in_turn_cut old n h.in_turn (omega arith);
       ordered = h.ordered;
@@ -252,9 +252,9 @@ sound_untake s p words trail left first behind aside chains h some last change s
       chained = chains_untake new p s.chains chains was.chained back;
       keyless = h.keyless;
       behind = λ q low high.
-          let early = passed_early s.keys s.behind p behind q reached low high in
+          let early = passed_early s.keys_end s.behind p behind q reached low high in
           sym (put_other new p q early.1) ∙ was.behind q low early.0;
-      behind_inside = at_most s.keys s.behind p behind (length s.items.items) reached
+      behind_inside = at_most s.keys_end s.behind p behind (length s.items.items) reached
           h.behind_inside;
       named = h.named;
     })
@@ -284,13 +284,13 @@ count_clear-open s words start end bits inside =
 
 module _ (i : Inside) (s : Situation) (h : IsSoundAt i s) where
   -- the bit of the first place isn't set with one place more, where that isn't the place
-  pub clear_first : (p : ℕ) (words : List ℕ) → ChangesBit i.words.items words p true
+  pub clear_first : (p : ℕ) (words : List ℕ) → ChangesBit i.bits.items words p true
       → i.first < s.end → i.first ≢ p → has_bit words i.first ≡ false
   clear_first p words change below other = change.others i.first other
       ∙ (h.bits i.first (omega (arith, h.inside)) ∙ h.first.present below)
 
   -- and the bits of what the chains passed are set then
-  pub behind_put : (p : ℕ) (words : List ℕ) → ChangesBit i.words.items words p true
+  pub behind_put : (p : ℕ) (words : List ℕ) → ChangesBit i.bits.items words p true
       → IfSome i.chains (AreBehind s.context.line (has_bit words))
   behind_put p words change = grind (arith, behind_since, bits_put, put_stays)
 
@@ -316,8 +316,8 @@ module _ (i : Inside) (s : Situation) (h : IsSoundAt i s) where
 
   -- a count by the bits is that of another scope
   pub survey_counted : (start end left first : ℕ) → start ≤ end → end ≤ length s.context.line
-      → left ≡ count_clear i.words.items start end
-      → IsFirstClear i.words.items start end first → IsSurvey s start end left first
+      → left ≡ count_clear i.bits.items start end
+      → IsFirstClear i.bits.items start end first → IsSurvey s start end left first
   survey_counted start end left first ordered inside counted clear =
       grind (arith, count_clear-open, first_by_bits)
 
@@ -342,7 +342,7 @@ module _ (i : Inside) (s : Situation) (h : IsSoundAt i s) where
 
     -- what is remembered of it, without those, is so now
     pub survey_recalled : (first : ℕ) → end ≤ length s.context.line
-        → IsFirstClear i.words.items i.aside.first end first
+        → IsFirstClear i.bits.items i.aside.first end first
         → IsSurvey s start end (i.aside.left - gone) first
     survey_recalled first inside clear =
         grind (arith, nat_tests, left_then, first_by_bits, taken_since)
@@ -399,14 +399,14 @@ path_longer (Some set) [] more begins = cc
 path_longer (Some set) (entry ∷ path) more begins = begins
 
 -- a state of the same situation, with equal bits and first place, is sound too
-pub sound_copy : (i j : Inside) → situation_of i ≡ situation_of j → i.keys ≡ j.keys
+pub sound_copy : (i j : Inside) → situation_of i ≡ situation_of j → i.keys_end ≡ j.keys_end
     → i.behind ≡ j.behind → IfSome i.chains (AreBehind j.items.items (λ p. false))
-    → i.words.items ≡ j.words.items → i.left ≡ j.left → i.first ≡ j.first → i.aside ≡ no_aside
+    → i.bits.items ≡ j.bits.items → i.left ≡ j.left → i.first ≡ j.first → i.aside ≡ no_aside
     → length j.items.items ≤ vec_capacity i.trail → IsSound j → IsSound i
 sound_copy i j same keys behind chains words left first aside room h =
     let there = situation_of j in
     subst (IsSoundAt i) (sym same) (record {
-      worded = rw words h.worded;
+      bit_for_each = rw words h.bit_for_each;
       bits = rw words h.bits;
       room = room;
       in_turn = h.in_turn;
@@ -475,26 +475,26 @@ path_begins (Some n) = refl
 -- a state at the beginning is sound, with right bits, count of open places and first one
 pub sound_beginning : (i : Inside) (context : Context) → situation_of i ≡ beginning context
     → IfSome context.marker (λ p. p < length context.line)
-    → length context.line ≤ 64 * length i.words.items
-    → ((p : ℕ) → has_bit i.words.items p ≡ is_marker context.marker p)
+    → length context.line ≤ 64 * length i.bits.items
+    → ((p : ℕ) → has_bit i.bits.items p ≡ is_marker context.marker p)
     → length context.line ≤ vec_capacity i.trail
     → i.left ≡ length context.line - from_bool (is_some context.marker)
-    → IsFirstClear i.words.items 0 (length context.line) i.first → HasNoKeyFrom context.line i.keys
-    → IfSome i.chains (AreBehind context.line (λ p. false)) → i.aside ≡ no_aside → i.behind ≡ i.keys
-    → i.keys ≤ length context.line → IsSound i
-sound_beginning i context e marker_inside worded bits room left clear keyless behind aside none
+    → IsFirstClear i.bits.items 0 (length context.line) i.first → HasNoKeyFrom context.line i.keys_end
+    → IfSome i.chains (AreBehind context.line (λ p. false)) → i.aside ≡ no_aside → i.behind ≡ i.keys_end
+    → i.keys_end ≤ length context.line → IsSound i
+sound_beginning i context e marker_inside bit_for_each bits room left clear keyless behind aside none
     within =
     let start = beginning context in
-    let set : BitsOf start i.words.items = bits_beginning context i.words.items bits in
+    let set : BitsOf start i.bits.items = bits_beginning context i.bits.items bits in
     subst (IsSoundAt i) (sym e) (record {
-      worded = worded;
+      bit_for_each = bit_for_each;
       bits = set;
       room = room;
       in_turn = λ n within. absurd (omega arith);
       ordered = omega arith;
       inside = omega arith;
       counted = left ∙ sym (open_count-start context context.marker marker_inside);
-      first = first_by_bits start i.words.items 0 i.first (omega arith) set (omega arith)
+      first = first_by_bits start i.bits.items 0 i.first (omega arith) set (omega arith)
           (λ q lower upper. absurd (omega arith)) clear;
       aside = rw aside (remembers_nothing start);
       chained = chains_anew start i.chains behind;

@@ -31,7 +31,7 @@ pub record IsSurvey (s : Situation) (start end left place : ℕ) : Type 0 where
   pub first : IsFirstPresent (with_scope s start end) place
 
 -- the scope was so when only the first of the taken places were
-pub record IsRemembered (s : Situation) (aside : Aside) : Type 0 where
+pub record IsAside (s : Situation) (aside : Aside) : Type 0 where
   pub taken : aside.taken ≤ length s.trail
   pub survey : IsSurvey (cut_to s aside.taken) aside.start aside.end aside.left aside.first
 
@@ -80,18 +80,18 @@ BitsOf s words = (p : ℕ) → p < length s.context.line → has_bit words p ≡
 -- the chains is taken, no key stands from the kept place on, from there all is taken up to a place
 -- of the line, and the path begins with the set name
 pub record IsSoundAt (kept : Inside) (s : Situation) : Type 0 where
-  pub worded : length s.context.line ≤ 64 * length kept.words.items
-  pub bits : BitsOf s kept.words.items
+  pub bit_for_each : length s.context.line ≤ 64 * length kept.bits.items
+  pub bits : BitsOf s kept.bits.items
   pub room : length s.context.line ≤ vec_capacity kept.trail
   pub in_turn : TakenInTurn s
   pub ordered : s.start ≤ s.end
   pub inside : s.end ≤ length s.context.line
   pub counted : kept.left ≡ open_count s
   pub first : IsFirstPresent s kept.first
-  pub aside : IsRemembered s kept.aside
+  pub aside : IsAside s kept.aside
   pub chained : IfSome kept.chains (AreChainsOf s)
-  pub keyless : HasNoKeyFrom s.context.line kept.keys
-  pub behind : AreTaken s kept.keys kept.behind
+  pub keyless : HasNoKeyFrom s.context.line kept.keys_end
+  pub behind : AreTaken s kept.keys_end kept.behind
   pub behind_inside : kept.behind ≤ length s.context.line
   pub named : IfSome s.context.name (λ n. slice_get s.path 0 ≡ Some n)
 

@@ -169,11 +169,11 @@ ambiguity_text name word letters number =
     ++ codes " syntax to disambiguate"
 
 -- one of these texts
-abbrev pub alternatives : List (List ℕ) → List ℕ
-alternatives [] = codes "no arguments"
-alternatives (a ∷ []) = in_backticks a
-alternatives (a ∷ b ∷ []) = in_backticks a ++ codes " or " ++ in_backticks b
-alternatives (a ∷ b ∷ c ∷ more) =
+abbrev pub one_of_texts : List (List ℕ) → List ℕ
+one_of_texts [] = codes "no arguments"
+one_of_texts (a ∷ []) = in_backticks a
+one_of_texts (a ∷ b ∷ []) = in_backticks a ++ codes " or " ++ in_backticks b
+one_of_texts (a ∷ b ∷ c ∷ more) =
     in_backticks a ++ codes ", " ++ in_backticks b ++ codes ", or more"
 
 -- what was got in place of what was expected: the item at a place, or nothing
@@ -184,7 +184,7 @@ got_text s (Some p) = codes ", got " ++ in_backticks (shown_item s p) ++ codes "
 -- one of these texts was expected
 abbrev pub expected_of : Situation → List (List ℕ) → Option ℕ → List ℕ
 expected_of s texts got =
-    codes "expected " ++ alternatives texts ++ got_text s got
+    codes "expected " ++ one_of_texts texts ++ got_text s got
     ++ in_backticks (codes "--help") ++ codes " for usage information"
 
 -- one of these parts was expected

@@ -28,7 +28,7 @@ impl State {
         if !self.is_open(place) {
             return place;
         }
-        bits::first_set(&self.words, place, self.end)
+        bits::first_set(&self.bits, place, self.end)
     }
 
     /// The places from the scope's start to the first one in scope that is present here and in the

@@ -23,7 +23,7 @@ impl State {
         ensures same { self.new ≡ self.old }
     {
         let own = &self.trail[mark.taken..];
-        let (here, there) = bits::least_apart(&mut self.words, own, other.taken.as_slice());
+        let (here, there) = bits::least_apart(&mut self.bits, own, other.taken.as_slice());
         leftmost(here, there)
     }
 

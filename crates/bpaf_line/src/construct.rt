@@ -2,7 +2,7 @@
 ghost use Rattle.std.specs.Prelude.{ℕ, ◌≡◌, ◌*◌, ◌<◌, ◌≤◌, length, IfOk, OnOk, IfSome, All, IsUtf8};
 ghost use Rattle.std.specs.Prelude.{map, option_map, option_to_list, string_bytes, [], true};
 ghost use Rattle.std.specs.Option.{option_map_or};
-ghost use Rattle.bpaf_words.specs.Arguments.{words_of, given_of, name_of, env_of, entries_of};
+ghost use Rattle.bpaf_words.specs.Arguments.{words_of, given_of, given_name, env_of, entries_of};
 ghost use Rattle.bpaf_words.specs.Line.{knowing, known_at};
 ghost use Rattle.bpaf_line.specs.Situation.{is_marker, beginning};
 ghost use Rattle.bpaf_line.specs.{Taking.Constructs, Inside.shared_entries};
@@ -90,25 +90,25 @@ impl State {
           line = line.items.items;
           marker = line.marker;
           env = env_of args.entry;
-          name = name_of args.entry;
+          name = given_name args.entry;
         })) }
     {
         let env = copy_env(alloc, args.env())?;
         let end = line.items.len();
-        let words = first_words(alloc, line.marker, end)?;
+        let bits = first_bits(alloc, line.marker, end)?;
         let (path, name) = first_path(alloc, args.name())?;
         let left = end - usize::from(line.marker.is_some());
-        let first = bits::first_clear(&words, 0, end);
-        let keys = count_to_last_key(&line.items);
-        let chains = Chains::of_line(alloc, &line.items, keys)?;
+        let first = bits::first_clear(&bits, 0, end);
+        let keys_end = count_to_last_key(&line.items);
+        let chains = Chains::of_line(alloc, &line.items, keys_end)?;
         Ok(State {
             items: line.items,
             marker: line.marker,
             env,
-            keys,
-            behind: keys,
+            keys_end,
+            behind: keys_end,
             chains,
-            words,
+            bits,
             trail: Vec::with_capacity(alloc, end)?,
             conflicts: Vec::new(alloc),
             start: 0,
@@ -132,7 +132,7 @@ impl State {
         let items = copy_items(alloc, self.items.as_slice())?;
         let env = share_env(&self.env)?;
         let chains = Chains::of_line(alloc, &items, count_to_last_key(&items))?;
-        let words = Vec::from_slice(alloc, self.words.as_slice())?;
+        let bits = Vec::from_slice(alloc, self.bits.as_slice())?;
         let mut trail = Vec::with_capacity(alloc, self.items.len())?;
         trail.extend_from_slice(self.trail.as_slice())?;
         let conflicts = Vec::from_slice(alloc, self.conflicts.as_slice())?;
@@ -142,10 +142,10 @@ impl State {
             items,
             marker: self.marker,
             env,
-            keys: self.keys,
+            keys_end: self.keys_end,
             behind: self.behind,
             chains,
-            words,
+            bits,
             trail,
             conflicts,
             start: self.start,
@@ -186,7 +186,7 @@ fn copy_item(item: &Arg) -> Result<Arg, AllocError>
 
 /// Words for that many places, in which only the bit of the marker is set.
 #[tactic(auto, using(bpaf_index::proofs::BitSets::has_bit_zero))]
-fn first_words(alloc: Global, marker: Option<usize>, count: usize) -> Result<Vec<u64>, AllocError>
+fn first_bits(alloc: Global, marker: Option<usize>, count: usize) -> Result<Vec<u64>, AllocError>
     requires { IfSome marker (λ p. p < count) }
     ensures room { IfOk result (λ words. count ≤ 64 * length words.items) }
     ensures bits { IfOk result (λ words.

@@ -28,7 +28,7 @@ impl State {
     pub(crate) fn no_word_before(&self) -> usize
         ensures { HasNoneBefore is_positional self.now result }
     {
-        if self.keys <= self.first {
+        if self.keys_end <= self.first {
             return self.first;
         }
         match self.chains_of_scope() {
@@ -57,7 +57,7 @@ impl State {
     fn first_word_in_turn(&self) -> usize
         ensures { HasNoneBefore is_positional self.now result }
     {
-        let end = self.end.min(self.keys);
+        let end = self.end.min(self.keys_end);
         let mut place = self.first;
         while place < end {
             if self.is_word_at(place) {
@@ -73,7 +73,7 @@ impl State {
     fn past_taken(&self, place: usize) -> usize
         ensures { AreTaken self.now place result }
     {
-        if place < self.keys {
+        if place < self.keys_end {
             return place;
         }
         place.max(self.behind)
@@ -122,7 +122,7 @@ impl State {
     fn chains_of_scope(&self) -> Option<&Chains>
         ensures { IfSome result (λ chains. AreChainsOf self.now chains.now) }
     {
-        if self.end.min(self.keys).saturating_sub(self.first) <= NARROW_SCOPE {
+        if self.end.min(self.keys_end).saturating_sub(self.first) <= NARROW_SCOPE {
             return None;
         }
         self.chains.as_ref()
@@ -133,7 +133,7 @@ impl State {
         ensures { MatchOption result (HasNone (is_sought key.entry) self.now)
             (IsFirst (is_sought key.entry) self.now) }
     {
-        let end = self.end.min(self.keys);
+        let end = self.end.min(self.keys_end);
         let mut place = self.first;
         while place < end {
             if self.is_key_at(place, key) {

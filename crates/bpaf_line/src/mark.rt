@@ -90,7 +90,7 @@ impl State {
         }
         self.conflicts.truncate(mark.conflicts);
         self.path.truncate(mark.depth);
-        self.restore_scope(mark.start, mark.end);
+        self.set_scope(mark.start..mark.end);
         self.current = mark.current;
     }
 
@@ -126,7 +126,7 @@ impl State {
         self.path.append(&mut steps.path)?;
         self.conflicts.append(&mut steps.conflicts)?;
         self.put_all(steps.taken.as_slice());
-        self.restore_scope(steps.start, steps.end);
+        self.set_scope(steps.start..steps.end);
         self.current = steps.current;
         Ok(())
     }
@@ -149,28 +149,17 @@ impl State {
         let last = self.trail.len() - 1;
         let place = self.trail[last];
         self.trail.truncate(last);
-        bits::clear(&mut self.words, place);
+        bits::clear(&mut self.bits, place);
         let within = lies_within(place, self.start, self.end);
         self.left += usize::from(within);
         self.first = earlier(self.first, place, within);
-        self.behind = earlier(self.behind, place, self.keys <= place);
+        self.behind = earlier(self.behind, place, self.keys_end <= place);
         self.aside = self.aside.up_to(last);
         chains::reach_back(&mut self.chains, place);
     }
 
-    /// Makes other places the scope; where they are those of the scope already, nothing is done.
-    pub(crate) fn restore_scope(&mut self, start: usize, end: usize)
-        requires ordered { start ≤ end }
-        requires inside { end ≤ length self.old.context.line }
-        ensures { self.new ≡ with_scope self.old start end }
-    {
-        if self.start != start || self.end != end {
-            self.change_scope(start, end);
-        }
-    }
-
     /// Makes other places the scope, and keeps what is known of the one that is left.
-    fn change_scope(&mut self, start: usize, end: usize)
+    pub(crate) fn change_scope(&mut self, start: usize, end: usize)
         requires ordered { start ≤ end }
         requires inside { end ≤ length self.old.context.line }
         ensures { self.new ≡ with_scope self.old start end }
@@ -204,11 +193,11 @@ impl State {
         }
         if self.aside.is_of(start, end) {
             let gone = count_within(&self.trail[self.aside.taken..], start, end);
-            let first = bits::first_clear(&self.words, self.aside.first, end);
+            let first = bits::first_clear(&self.bits, self.aside.first, end);
             return (self.aside.left - gone, first);
         }
-        let left = bits::count_clear(&self.words, start, end);
-        let first = bits::first_clear(&self.words, start, end);
+        let left = bits::count_clear(&self.bits, start, end);
+        let first = bits::first_clear(&self.bits, start, end);
         (left, first)
     }
 }

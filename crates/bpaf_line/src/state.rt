@@ -37,10 +37,10 @@ pub struct State {
     pub(crate) items: Vec<Arg>,
     pub(crate) marker: Option<usize>,
     pub(crate) env: Option<RcSlice<(Text, Text)>>,
-    pub(crate) keys: usize,
+    pub(crate) keys_end: usize,
     pub(crate) behind: usize,
     pub(crate) chains: Option<Chains>,
-    pub(crate) words: Vec<u64>,
+    pub(crate) bits: Vec<u64>,
     pub(crate) trail: Vec<usize>,
     pub(crate) conflicts: Vec<(usize, usize)>,
     pub(crate) start: usize,
@@ -105,7 +105,9 @@ impl State {
         ensures scope { self.new ≡ with_scope self.old scope.start scope.end }
         ensures marks { KeepsMarks self.old self.new }
     {
-        self.restore_scope(scope.start, scope.end);
+        if self.start != scope.start || self.end != scope.end {
+            self.change_scope(scope.start, scope.end);
+        }
     }
 
     /// How many entries the path has.
@@ -214,7 +216,7 @@ impl State {
         if from >= self.end {
             return None;
         }
-        let place = bits::first_clear(&self.words, from, self.end);
+        let place = bits::first_clear(&self.bits, from, self.end);
         (place < self.end).then_some(place)
     }
 
@@ -269,14 +271,14 @@ impl State {
     pub(crate) fn is_taken(&self, place: usize) -> bool
         ensures { result ≡ is_taken self.now place }
     {
-        place >= self.items.len() || bits::is_set(&self.words, place)
+        place >= self.items.len() || bits::is_set(&self.bits, place)
     }
 
     /// Whether a place is present, and in scope.
     pub(crate) fn is_open(&self, place: usize) -> bool
         ensures { result ≡ is_open self.now place }
     {
-        self.start <= place && place < self.end && !bits::is_set(&self.words, place)
+        self.start <= place && place < self.end && !bits::is_set(&self.bits, place)
     }
 
     /// The first item that is present, in scope, and passes the test, with its place; none before a
@@ -338,13 +340,13 @@ impl State {
         requires { is_taken self.old place ≡ false }
         ensures { self.new ≡ with_trail self.old (self.old.trail ++ place ∷ []) }
     {
-        bits::set(&mut self.words, place);
+        bits::set(&mut self.bits, place);
         let _ = self.trail.push(place);
         self.left -= usize::from(lies_within(place, self.start, self.end));
-        let passes = self.first != place && self.keys <= place;
-        self.behind = pass_taken(&self.words, self.behind, self.items.len(), passes);
-        self.first = first_without(&self.words, self.first, self.end, place);
-        chains::pass(&mut self.chains, &self.items, &self.words, place);
+        let passes = self.first != place && self.keys_end <= place;
+        self.behind = pass_taken(&self.bits, self.behind, self.items.len(), passes);
+        self.first = first_without(&self.bits, self.first, self.end, place);
+        chains::pass(&mut self.chains, &self.items, &self.bits, place);
     }
 
     /// The text of the place after a key, where that is present, in scope, and a Word or an

@@ -34,6 +34,6 @@ impl State {
         requires inside { high ≤ length self.now.context.line }
         ensures { IsFirstPresentWithin self.now low high result }
     {
-        bits::first_clear(&self.words, low, high)
+        bits::first_clear(&self.bits, low, high)
     }
 }

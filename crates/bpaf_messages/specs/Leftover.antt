@@ -15,12 +15,6 @@ have_one_name (Short c attached word) (Short d joined other) = c == d
 have_one_name (Long name attached word) (Long same joined other) = bytes_eq name same
 have_one_name item other = false
 
--- an item is a key
-abbrev pub is_key : Arg → Bool
-is_key (Short c attached word) = true
-is_key (Long name attached word) = true
-is_key item = false
-
 -- two places have such items
 abbrev pub repeats : Option Arg → Option Arg → Bool
 repeats (Some item) (Some other) = have_one_name item other

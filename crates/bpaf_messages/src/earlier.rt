@@ -1,11 +1,10 @@
 //! The last earlier key of the same name.
 ghost use Rattle.std.specs.Prelude.{◌≡◌, MatchOption, Some};
 ghost use Rattle.bpaf_line.specs.Situation.{line_item};
-ghost use Rattle.bpaf_messages.specs.Leftover.{have_one_name, is_key, repeats, IsEarlierKey};
-ghost use Rattle.bpaf_messages.specs.Leftover.{HasNoEarlierKey};
+ghost use Rattle.bpaf_messages.specs.Leftover.{have_one_name, repeats, IsEarlierKey, HasNoEarlierKey};
 
 use bpaf_line::State;
-use bpaf_words::Arg;
+use bpaf_words::{Arg, is_key};
 
 /// Whether two items are keys of one kind and name.
 fn have_one_name(item: &Arg, other: &Arg) -> bool
@@ -16,13 +15,6 @@ fn have_one_name(item: &Arg, other: &Arg) -> bool
         (Arg::Long(name, _, _), Arg::Long(same, _, _)) => name.as_str() == same.as_str(),
         _ => false,
     }
-}
-
-/// Whether an item is a key.
-fn is_key(item: &Arg) -> bool
-    ensures { result ≡ is_key item.now }
-{
-    matches!(item, Arg::Short(..) | Arg::Long(..))
 }
 
 /// Where the item at a place of the line is a key, the last place before it whose item is a key of

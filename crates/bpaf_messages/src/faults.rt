@@ -1,5 +1,5 @@
 //! What is told of words that have no line.
-ghost use Rattle.bpaf_words.specs.Arguments.{name_of};
+ghost use Rattle.bpaf_words.specs.Arguments.{given_name};
 ghost use Rattle.bpaf_messages.specs.Leftover.{TellsNoLine};
 
 use crate::rendering::render;
@@ -10,7 +10,7 @@ use std::alloc::Global;
 /// What is told of words that have no line: there is no state, so that of a line without items
 /// stands for it, of the same set name. Or want of memory for that.
 pub fn tell_fault(alloc: Global, args: Args<'_>, message: Message) -> ParseFailure
-    ensures { TellsNoLine (name_of args.entry) message result }
+    ensures { TellsNoLine (given_name args.entry) message result }
 {
     let line = Line {
         items: Vec::new(alloc),

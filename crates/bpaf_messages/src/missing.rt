@@ -2,7 +2,7 @@
 ghost use Rattle.std.specs.Prelude.{◌≡◌, ◌++◌, true, IfOk, OnOk, map};
 ghost use Rattle.bpaf_doc.specs.{Shape.part_text, Shape.part_of, Print.printed, Print.in_backticks};
 ghost use Rattle.bpaf_line.specs.Rendering.{furthest, reaches, in_one_scope, is_command};
-ghost use Rattle.bpaf_line.specs.Rendering.{told_parts, alternatives, got_text, expected_of};
+ghost use Rattle.bpaf_line.specs.Rendering.{told_parts, one_of_texts, got_text, expected_of};
 ghost use Rattle.bpaf_line.specs.Rendering.{missing_text, hidden_text, message_text};
 ghost use Rattle.bpaf_line.specs.{declared.error.Message.TheVariants.Expected, Missing.missed_of};
 
@@ -106,7 +106,7 @@ fn push_term(doc: &mut Doc, inner: &Doc) -> Result<(), AllocError>
 /// Appends one of some documents.
 fn push_alternatives(doc: &mut Doc, docs: &[Doc]) -> Result<(), AllocError>
     ensures { OnOk result (printed true doc.new
-        ≡ printed true doc.old ++ alternatives (map (printed true) docs.now)) }
+        ≡ printed true doc.old ++ one_of_texts (map (printed true) docs.now)) }
 {
     match docs {
         [] => doc.write(Style::Text, "no arguments"),

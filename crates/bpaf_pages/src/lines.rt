@@ -1,6 +1,6 @@
 //! The lines of a help page: the items that a tree shows, and the texts of its suffixes.
 ghost use Rattle.std.specs.Prelude.{◌≡◌, ◌++◌, [], OnOk, length, drop, map};
-ghost use Rattle.bpaf_doc.specs.Shape.{shape_of, members_of, part_of, Subsection, Suffix, Shown};
+ghost use Rattle.bpaf_doc.specs.Shape.{shape_of, member_shapes, part_of, Subsection, Suffix, Shown};
 ghost use Rattle.bpaf_pages.specs.Help.{lines, lines_of_all, titles, titles_of_all, below_last};
 ghost use Rattle.bpaf_pages.specs.{Help.list_of, Help.place_in, InsideLine.line_of};
 
@@ -117,9 +117,9 @@ impl<'a> Lines<'a> {
     fn collect_all(&mut self, all: &'a [Meta], home: Option<usize>) -> Result<(), AllocError>
         ensures all { OnOk result (map line_of self.new.all.items
             ≡ map line_of self.old.all.items
-            ++ lines_of_all (members_of all.now) home (length self.old.titles.items)) }
+            ++ lines_of_all (member_shapes all.now) home (length self.old.titles.items)) }
         ensures titles { OnOk result (self.new.titles.items
-            ≡ self.old.titles.items ++ titles_of_all (members_of all.now)) }
+            ≡ self.old.titles.items ++ titles_of_all (member_shapes all.now)) }
     {
         for member in all {
             self.collect(member, home)?;

@@ -1,6 +1,6 @@
 //! The usage text of what a parser shows.
 ghost use Rattle.std.specs.Prelude.{◌≡◌, ◌++◌, IfOk, codes};
-ghost use Rattle.bpaf_doc.specs.{Shape.shape_of, Shape.members_of, Print.Prints, Print.prints};
+ghost use Rattle.bpaf_doc.specs.{Shape.shape_of, Shape.member_shapes, Print.Prints, Print.prints};
 ghost use Rattle.bpaf_pages.specs.Help.{joined, usage_text, usage_texts, how_many};
 
 use crate::joined::{around, glue};
@@ -11,9 +11,9 @@ use std::alloc::{AllocError, Global};
 #[cycle(usage)]
 fn usage_of_all(alloc: Global, between: &str, all: &[Meta]) -> Result<(Doc, usize), AllocError>
     ensures prints { IfOk result (λ (doc, shown).
-        Prints (joined between.now (usage_texts (members_of all.now))) doc) }
+        Prints (joined between.now (usage_texts (member_shapes all.now))) doc) }
     ensures count { IfOk result (λ (doc, shown).
-        shown ≡ how_many (usage_texts (members_of all.now))) }
+        shown ≡ how_many (usage_texts (member_shapes all.now))) }
 {
     let mut doc = Doc::new(alloc);
     let mut shown = 0;

@@ -15,7 +15,7 @@ use Rattle.bpaf_line.specs.declared.failure.ParseFailure.TheVariants.{Stdout, St
 use Rattle.bpaf.specs.Asked.{IfShown}
 use Rattle.bpaf_exact.specs.Says.{Alike}
 use Rattle.bpaf_program.specs.Ending.{IsPrinted, TellsFailure, given, told, AnswersByText}
-use Rattle.bpaf_program.specs.Ending.{AnswersText, AnswersTextOf, IsTextOrWant, OrPage, Prints}
+use Rattle.bpaf_program.specs.Ending.{AnswersText, AnswersTextOf, IsTextOrWant, OrPage, RunPrints}
 use Rattle.bpaf_program.specs.Ending.{PrintsTextOf, RunsTo, memory_wanted, shows, tells, written}
 use Rattle.bpaf_program.specs.Ending.{Written, EndsBy, with_status, with_value, IsUntouched, Failed}
 use Rattle.bpaf_program.specs.Ending.{KnownSink, Writes, WritesPart, wrote, TellsLine, told_in_part}
@@ -70,12 +70,12 @@ prints_text {out} {err} is answers =
     record { alike = answers.alike; prints = λ v there. prints is (answers.complete v there) }
   where
     wants : (f : ParseFailure) {status : ℕ} {text : List ℕ} → TellsFailure out err f status
-        → f ≡ Memory → Prints text out err status
+        → f ≡ Memory → RunPrints text out err status
     wants Memory is own = memory_wanted is.0 is.1
     wants f is own = absurd cc
 
     prints : {text : List ℕ} {r : Result (String Global) ParseFailure} {status : ℕ}
-        → IsPrinted out err string_bytes r status → IsTextOrWant text r → Prints text out err status
+        → IsPrinted out err string_bytes r status → IsTextOrWant text r → RunPrints text out err status
     prints (given is quiet) own = written (rw own at is) quiet
     prints (told {f = f} is) own = wants f is own
 

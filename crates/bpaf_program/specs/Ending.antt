@@ -151,16 +151,16 @@ pub record AnswersByText {V : Type 0} (answers : List ℕ → Type 0) (value : V
 
 -- a run prints a text: it is written, or a write failed, and a beginning of it is; or memory was
 -- wanted, which alone is told
-pub data Prints (text : List ℕ) (out err : Written) : ℕ → Type 0 where
-  written : {status : ℕ} → IsShown out text status → IsUntouched err → Prints text out err status
+pub data RunPrints (text : List ℕ) (out err : Written) : ℕ → Type 0 where
+  written : {status : ℕ} → IsShown out text status → IsUntouched err → RunPrints text out err status
   memory_wanted : {status : ℕ} → IsUntouched out → TellsLine err memory_line status
-      → Prints text out err status
+      → RunPrints text out err status
 
 -- all these values have the same text; and where there is one, a run prints its text
 pub record PrintsTextOf {V : Type 0} (value : V → Type 0) (text_of : V → List ℕ) (out err : Written)
     (status : ℕ) : Type 0 where
   pub alike : (v w : V) → value v → value w → text_of v ≡ text_of w
-  pub prints : (v : V) → value v → Prints (text_of v) out err status
+  pub prints : (v : V) → value v → RunPrints (text_of v) out err status
 
 -- memory was wanted, or it is told that one is no text
 abbrev pub IsUnread : ParseFailure → Type 0

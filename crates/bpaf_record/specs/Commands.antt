@@ -26,7 +26,7 @@ use Rattle.bpaf_exact.specs.ProgramForm.{program_command, command_memory, comman
 use Rattle.bpaf_exact.specs.ProgramForm.{word_memory, word_passed, run_refusal, run_memory, FormLaw}
 use Rattle.bpaf_exact.specs.ProgramForm.{word_missing, run_leftover, CommandEval, ProgramForm}
 use Rattle.bpaf_exact.specs.ProgramForm.{WordValue, word_read, IsNoValue, run_value, WordEval}
-use Rattle.bpaf_exact.specs.{Flat.Variables, Flat.class_of, Flat.class, ProgramForm.word_by}
+use Rattle.bpaf_exact.specs.{Flat.Variables, Flat.error_class, Flat.class, ProgramForm.word_by}
 use Rattle.bpaf_exact.specs.Pieces.{One}
 use Rattle.bpaf_record.specs.Record.{answer_of}
 use Rattle.bpaf_line.specs.declared.failure.ParseFailure.TheVariants as failure
@@ -38,10 +38,10 @@ left_over s m (only_once p earlier next is key) = open_counted s p next.present
 left_over s m (not_expected p next is key) = open_counted s p next.present
 
 -- what a run answers that gives no value is none
-no_value : (T : Type 0) (f : ParseFailure) → IsNoValue (answer_of {T = T} (Err f))
-no_value T (failure.Stdout doc full) = tt
-no_value T (failure.Stderr doc) = tt
-no_value T failure.Memory = tt
+failure_is_no_value : (T : Type 0) (f : ParseFailure) → IsNoValue (answer_of {T = T} (Err f))
+failure_is_no_value T (failure.Stdout doc full) = tt
+failure_is_no_value T (failure.Stderr doc) = tt
+failure_is_no_value T failure.Memory = tt
 
 module _ (T : Type 0) (inner : Outcome T) (describes : Shape → Type 0) (info : RunInfo) where
   -- what a run answers, as exactness sees it
@@ -49,15 +49,15 @@ module _ (T : Type 0) (inner : Outcome T) (describes : Shape → Type 0) (info :
       → Runs T inner (EndsRun describes info) s r t → RunRan T inner s (answer_of r)
   run_ran s t r (ran_value v left o none) = run_value o none
   run_ran s t r (leftover v left f after o (told_leftover m l before g u is tells)) =
-      run_leftover o (left_over left m is) (no_value T f)
+      run_leftover o (left_over left m is) (failure_is_no_value T f)
   run_ran s t r (refused e left f after o (memory m before u is)) =
       run_memory o (memory_class e.0 is)
   run_ran s t r (refused e left f after o (usage m before g u spared shows is)) =
-      run_refusal o (not_memory e.0 spared) (no_value T f)
+      run_refusal o (not_memory e.0 spared) (failure_is_no_value T f)
   run_ran s t r (refused e left f after o (passed_on g before u spared shows)) =
-      run_refusal o (not_memory e.0 spared) (no_value T f)
+      run_refusal o (not_memory e.0 spared) (failure_is_no_value T f)
   run_ran s t r (refused e left f after o (told_refusal m l before g u spared shows other tells)) =
-      run_refusal o (not_memory e.0 spared) (no_value T f)
+      run_refusal o (not_memory e.0 spared) (failure_is_no_value T f)
 
   module _ (called : Called) (shows : Part → Type 0) where
     -- any end but a value behind the word
@@ -65,7 +65,7 @@ module _ (T : Type 0) (inner : Outcome T) (describes : Shape → Type 0) (info :
         → IsOpenedAt (opening_words called) s p
         → RunRan T inner (inside called s p) (answer_of (Err f)) → e.0 ≡ end_message f
         → CommandEval T inner called s (Err e) t
-    ended_behind failure.Memory at ran h = command_memory (ap class_of h)
+    ended_behind failure.Memory at ran h = command_memory (ap error_class h)
     ended_behind (failure.Stdout doc full) at (run_leftover o left n) h = command_leftover at o left
     ended_behind (failure.Stdout doc full) at (run_refusal o other n) h = command_refused at o other
     ended_behind (failure.Stderr doc) at (run_leftover o left n) h = command_leftover at o left
@@ -78,9 +78,9 @@ module _ (T : Type 0) (inner : Outcome T) (describes : Shape → Type 0) (info :
     command_eval s t r (value v p u at (ran_value w after o none)) = command_value at o none
     command_eval s t r (ended f e p u at ran h) =
         ended_behind f at (run_ran (inside called s p) u (Err f) ran) h
-    command_eval s t r (missing e none (inl m)) = command_memory (ap class_of m)
-    command_eval s t r (missing e none (inr m)) = command_missing none (ap class_of m.3)
-    command_eval s t r (no_memory e p at h) = command_memory (ap class_of h)
+    command_eval s t r (missing e none (inl m)) = command_memory (ap error_class m)
+    command_eval s t r (missing e none (inr m)) = command_missing none (ap error_class m.3)
+    command_eval s t r (no_memory e p at h) = command_memory (ap error_class h)
 
 -- A plain command keeps to the law of its form, where what runs behind its word does.
 pub plain_command_law : {env : Variables} {T : Type 0} {inner : Outcome T} {names : List Names}
@@ -133,7 +133,7 @@ module _ (T : Type 0) (means : List ℕ → T → Type 0) (position : Position) 
       word_read o.0.takes (λ w is. has_value means w o.0.strict o.0.text is v position o.1 o.2)
 
   -- its refusals
-  refusals : (s t : Situation) (e : Error) (m : Message) → class e ≡ class_of m
+  refusals : (s t : Situation) (e : Error) (m : Message) → class e ≡ error_class m
       → PositionalFails means position metavar s m t → Reading s (Err e) t
   refusals s t e Memory c o = word_memory c
   refusals s t e (Missing items) c o = subst (Reading s (Err e)) (sym o.1) (word_missing o.0 c)

@@ -33,8 +33,8 @@ abbrev pub words_of : Args → List (List ℕ)
 words_of args = (given_of args).words
 
 -- the set name
-abbrev pub name_of : Args → Option (List ℕ)
-name_of args = (given_of args).name
+abbrev pub given_name : Args → Option (List ℕ)
+given_name args = (given_of args).name
 
 -- the environment
 abbrev pub env_of : Args → List (List ℕ × List ℕ)
@@ -43,5 +43,5 @@ env_of args = (given_of args).env
 -- these words, no name and no environment
 pub record AreWords (given : List (List ℕ)) (args : Args) : Type 0 where
   pub words : words_of args ≡ given
-  pub name : name_of args ≡ None
+  pub name : given_name args ≡ None
   pub env : env_of args ≡ []

@@ -1,6 +1,6 @@
 //! What a run is given.
 ghost use Rattle.std.specs.Prelude.{◌≡◌, ◌<◌, Some, length, slice_get, List, ℕ, map, option_map};
-ghost use Rattle.bpaf_words.specs.Arguments.{words_in, words_of, name_of, env_of, entries_of};
+ghost use Rattle.bpaf_words.specs.Arguments.{words_in, words_of, given_name, env_of, entries_of};
 ghost use Rattle.std.specs.{Prelude.[], Prelude.string_bytes, Option.option_map_or};
 
 use std::collections::BTreeMap;
@@ -126,7 +126,7 @@ impl<'a> Args<'a> {
 
     /// The set name, where there is one.
     pub fn name(self) -> Option<&'a str>
-        ensures { option_map (λ name. name.now) result ≡ name_of self.entry }
+        ensures { option_map (λ name. name.now) result ≡ given_name self.entry }
     {
         self.name
     }
@@ -142,7 +142,7 @@ impl<'a> Args<'a> {
     /// no memory.
     pub fn set_name(self, name: &'a str) -> Args<'a>
         ensures words { words_of result ≡ words_of self.entry }
-        ensures name { name_of result ≡ Some name.now }
+        ensures name { given_name result ≡ Some name.now }
         ensures env { env_of result ≡ env_of self.entry }
     {
         Args {
@@ -155,7 +155,7 @@ impl<'a> Args<'a> {
     /// reads the process's own.
     pub fn set_env(self, env: &'a BTreeMap<String, String>) -> Args<'a>
         ensures words { words_of result ≡ words_of self.entry }
-        ensures name { name_of result ≡ name_of self.entry }
+        ensures name { given_name result ≡ given_name self.entry }
         ensures env { env_of result ≡ entries_of env.now }
     {
         Args {

@@ -25,8 +25,8 @@ mod split;
 
 pub use args::{Args, LentWord, Words};
 pub use bpaf_base::{
-    Arg, is_argument_key, is_attached, is_command_word, is_key_of, is_positional, item_text,
-    value_text,
+    Arg, is_argument_key, is_attached, is_command_word, is_key, is_key_of, is_positional,
+    item_text, value_text,
 };
 pub use laws::{lines_are_unique, spellings_are_unique};
 pub use line::{Front, Line, LineFault, line_of};

@@ -183,15 +183,15 @@ pub record IsCommandPage (title : Titled) (s : Situation) (doc : List Piece) (fu
     pub asked : BehindWord (named_only title.name) (IsAskedAt title.shapes info) s doc full
 
 -- a help page that was asked for: that of the program, or of one of its commands
-pub data IsPage (s : Situation) (doc : List Piece) (full : Bool) : Type 0 where
-  of_program : IsAskedAt IsProgramShape plain_info s doc full → IsPage s doc full
-  of_move : IsCommandPage move_title s doc full → IsPage s doc full
-  of_turn : IsCommandPage turn_title s doc full → IsPage s doc full
-  of_repeat : IsCommandPage repeat_title s doc full → IsPage s doc full
+pub data IsAskedPage (s : Situation) (doc : List Piece) (full : Bool) : Type 0 where
+  of_program : IsAskedAt IsProgramShape plain_info s doc full → IsAskedPage s doc full
+  of_move : IsCommandPage move_title s doc full → IsAskedPage s doc full
+  of_turn : IsCommandPage turn_title s doc full → IsAskedPage s doc full
+  of_repeat : IsCommandPage repeat_title s doc full → IsAskedPage s doc full
 
 -- the words ask for this help page
 abbrev pub IsHelpAsked : List (List ℕ) → List Piece → Bool → Type 0
-IsHelpAsked words doc full = WordsShow program_known (program_given words) IsPage doc full
+IsHelpAsked words doc full = WordsShow program_known (program_given words) IsAskedPage doc full
 
 -- a text that answers the words: the lines of steps dealt out of them, or a help page they ask for
 pub data Answers (words : List (List ℕ)) : List ℕ → Type 0 where

@@ -5,7 +5,7 @@ ghost use Rattle.bpaf_line.specs.Messages.{is_memory};
 ghost use Rattle.bpaf_line.specs.Situation.{IsStretchFrom, open_count, with_scope, HasNoneOpen};
 ghost use Rattle.bpaf_line.specs.Situation.{IsNextOpen};
 ghost use Rattle.bpaf_laws.specs.{Laws.IsNotMemory, Adjacent.Tries};
-ghost use Rattle.bpaf.specs.Remembering.{EndsAttempt, Takes};
+ghost use Rattle.bpaf.specs.Remembering.{EndsAttempt, TakesOnePlace};
 
 use bpaf_core::Parser;
 use bpaf_line::{Error, State};
@@ -68,7 +68,7 @@ pub(super) fn takes_item<T: Drop, P: Parser<T>>(
     requires ordered { place ≤ end }
     requires inside { end ≤ length state.old.context.line }
     ensures takes { MatchResult result
-        (λ takes. Takes T (P.outcome parser.now) state.old place end takes)
+        (λ takes. TakesOnePlace T (P.outcome parser.now) state.old place end takes)
         (λ error. is_memory error.0 ≡ true) }
     ensures same { state.new ≡ state.old }
 {

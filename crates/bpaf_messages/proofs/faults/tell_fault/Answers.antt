@@ -1,5 +1,5 @@
 use Rattle.std.proofs.Common.{refl, subst, inr, None}
-use Rattle.bpaf_words.specs.Arguments.{env_of, name_of}
+use Rattle.bpaf_words.specs.Arguments.{env_of, given_name}
 use Rattle.bpaf_line.specs.Rendering.{Renders}
 use Rattle.bpaf_messages.proofs.faults.tell_fault.Goals as goal
 
@@ -9,7 +9,7 @@ returns-in-Ok c = inr (
     line = c.new.result.items;
     marker = None;
     env = env_of c.args.args;
-    name = name_of c.args.args;
+    name = given_name c.args.args;
   },
   c.new.ensures.items,
   refl,

@@ -4,7 +4,7 @@ use Rattle.bpaf_keys.specs.Info.{plain_info}
 use Rattle.bpaf_laws.specs.Laws.{joined_shorts, no_shorts}
 use Rattle.bpaf.specs.Run.{known_names}
 use Rattle.bpaf_program.proofs.Known.{choice_hands, hands_as, hands_asked, many_hands, also_dealt}
-use Rattle.example_chain.specs.Running.{IsPage, move_title, of_move, of_program, of_repeat, of_turn}
+use Rattle.example_chain.specs.Running.{IsAskedPage, move_title, of_move, of_program, of_repeat, of_turn}
 use Rattle.example_chain.specs.Running.{program_given, repeat_title, turn_title}
 use Rattle.example_chain.proofs.Showing.{IsTitled, chained}
 use Rattle.example_chain.proofs.steps.read_chain.Goals as goal
@@ -30,7 +30,7 @@ returns g c =
     let repeat = chained g.R.Parser.outcome g.R.Parser.reads g.R.Parser.describes repeat_title
     c.args.repeat the_repeat repeat_is (g.met.R.Parser.lawful the_repeat.inner)
     c.requires.repeat_shows in
-    let pages = many_hands {showing = IsPage} options.inner.catch (choice_hands (choice_hands
+    let pages = many_hands {showing = IsAskedPage} options.inner.catch (choice_hands (choice_hands
     (hands_as (λ s doc full page. of_move page) go)
     (hands_as (λ s doc full page. of_turn page) turn))
     (hands_as (λ s doc full page. of_repeat page) repeat)) in

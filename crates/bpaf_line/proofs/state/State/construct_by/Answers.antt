@@ -1,5 +1,5 @@
 use Rattle.std.proofs.Common.{refl, subst, All, IsUtf8}
-use Rattle.bpaf_words.specs.{Arguments.env_of, Arguments.name_of, Line.known_at, Line.IsLine}
+use Rattle.bpaf_words.specs.{Arguments.env_of, Arguments.given_name, Line.known_at, Line.IsLine}
 use Rattle.bpaf_words.proofs.LineLemmas.{marker_of_line}
 use Rattle.bpaf_line.specs.Situation.{Context}
 use Rattle.bpaf_line.proofs.state.State.construct_by.Goals.{In_ok-of_line}
@@ -11,7 +11,7 @@ context_is c = record {
   line = c.in_ok-line.line.items.items;
   marker = c.in_ok-line.line.marker;
   env = env_of c.args.args;
-  name = name_of c.args.args;
+  name = given_name c.args.args;
 }
 
 pub of_line-requires : goal.of_line-requires

@@ -18,7 +18,7 @@ invariant_of-result c =
     sound_copy _ s
     (rw (items, c.in_ok-env.ensures, trail, conflicts, path, c.in_ok-name.ensures) refl)
     refl refl (rw (c.deref.ensures.value ∙ items) at c.in_ok-chains.ensures)
-    (c.in_ok-words.ensures.items ∙ c.as_slice-2.ensures.value) refl refl c.nothing.ensures
+    (c.in_ok-bits.ensures.items ∙ c.as_slice-2.ensures.value) refl refl c.nothing.ensures
     (omega (
       arith,
       c.in_ok-trail.ensures.capacity,

@@ -12,8 +12,8 @@ pub returns : goal.returns
 returns c q = ⊎_elim
     (λ (before : q < c.loop-place.place). c.loop-place.invariant q before)
     (λ (behind : c.loop-place.place ≤ q).
-    none_past (sought_names c.args.key) c.args.key.adjacent c.args.self.now c.self.inside.keys
+    none_past (sought_names c.args.key) c.args.key.adjacent c.args.self.now c.self.inside.keys_end
     c.min-end.result q (subst (IsSoundAt c.self.inside) c.self.view_is c.self.invariant).keyless
-    (c.min-end.ensures ∙ ap (λ s. min s.end c.self.inside.keys) c.self.view_is)
+    (c.min-end.ensures ∙ ap (λ s. min s.end c.self.inside.keys_end) c.self.view_is)
     (omega (arith, behind, c.loop-place-test.false)))
     (cases_lt q c.loop-place.place)

@@ -1,6 +1,6 @@
 use Rattle.std.proofs.Common.{◌≡◌, length, ap, ◌∙◌, refl, None, ◌-◌, option_to_list, is_some, arith}
 use Rattle.std.specs.Int.{from_bool}
-use Rattle.bpaf_words.specs.Arguments.{env_of, name_of}
+use Rattle.bpaf_words.specs.Arguments.{env_of, given_name}
 use Rattle.bpaf_line.specs.Situation.{Context, beginning}
 use Rattle.bpaf_line.specs.{declared.state.State.TheInside.Inside, Inside.situation_of}
 use Rattle.bpaf_line.proofs.Sound.{sound_beginning, begins}
@@ -13,7 +13,7 @@ context_is c = record {
   line = c.args.line.items.items;
   marker = c.args.line.marker;
   env = env_of c.args.args;
-  name = name_of c.args.args;
+  name = given_name c.args.args;
 }
 
 -- what the state is made of
@@ -22,10 +22,10 @@ inside c = record {
   items = c.args.line.items;
   marker = c.args.line.marker;
   env = c.in_ok-env.env;
-  keys = c.count_to_last_key-keys.result;
-  behind = c.count_to_last_key-keys.result;
+  keys_end = c.count_to_last_key-keys_end.result;
+  behind = c.count_to_last_key-keys_end.result;
   chains = c.in_ok-chains.chains;
-  words = c.in_ok-words.words;
+  bits = c.in_ok-bits.bits;
   trail = c.in_ok-with_capacity.field-0;
   conflicts = c.new.result;
   start = 0;
@@ -54,14 +54,14 @@ pub invariant_of-result : goal.invariant_of-result
 unfolding context_is inside
 invariant_of-result c =
     sound_beginning (inside c) (context_is c) (start c) c.requires
-    (omega (arith, size c, c.in_ok-words.ensures.room)) c.in_ok-words.ensures.bits
+    (omega (arith, size c, c.in_ok-bits.ensures.room)) c.in_ok-bits.ensures.bits
     (omega (arith, size c, c.in_ok-with_capacity.ensures.capacity))
     (ap (λ k. c.len-end.result - k) (c.from.ensures ∙ ap from_bool c.is_some.ensures)
     ∙ ap (λ m. m - from_bool (is_some c.args.line.marker)) (size c))
     (rw (c.deref.ensures.value, size c) at c.first_clear-first.ensures)
-    (rw c.deref-2.ensures.value at c.count_to_last_key-keys.ensures.keyless)
+    (rw c.deref-2.ensures.value at c.count_to_last_key-keys_end.ensures.keyless)
     (rw c.deref-3.ensures.value at c.in_ok-chains.ensures) c.nothing.ensures refl
-    (rw c.deref-2.ensures.value at c.count_to_last_key-keys.ensures.within)
+    (rw c.deref-2.ensures.value at c.count_to_last_key-keys_end.ensures.within)
 
 pub returns : goal.returns
 unfolding context_is inside

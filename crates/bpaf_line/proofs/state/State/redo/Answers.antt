@@ -25,7 +25,7 @@ returns-clause-ok c =
     let path = ap (map string_bytes) c.in_ok-append.ensures.items
     ∙ map-append string_bytes c.self.inside.path.items c.steps.inside.path.items in
     ap (λ t. with_current t steps.current)
-    (c.self-2.view_is ∙ (c.restore_scope.ensures
+    (c.self-2.view_is ∙ (c.set_scope.ensures.scope
     ∙ ap (λ t. with_scope t steps.start steps.end) c.put_all.ensures))
     ∙ (redone_parts s steps c.as_slice.result.now c.append-2.new.self.items
     (map string_bytes c.append.new.self.items) c.as_slice.ensures

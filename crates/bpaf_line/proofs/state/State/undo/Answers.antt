@@ -27,7 +27,7 @@ returns-clause-undone c =
       c.loop-self-test.false,
       c.loop-self.invariant.kept,
     )) in
-    ap (λ s. with_current s mark.current) (c.self-3.view_is ∙ c.restore_scope.ensures)
+    ap (λ s. with_current s mark.current) (c.self-3.view_is ∙ c.set_scope.ensures.scope)
     ∙ undone_cut mark c.args.self.now (situation_of c.self-2.inside) _ c.truncate.new.self.items _
     (c.self-2.view_is ∙ c.loop-self.invariant.cut) all c.truncate.ensures.items
     (ap (map string_bytes) c.truncate-2.ensures.items

@@ -2,7 +2,7 @@ use Rattle.std.proofs.Common.{◌∙◌, ap, sym}
 use Rattle.std.proofs.lemmas.List.{with_items_is}
 use Rattle.bpaf_line.specs.Situation.{is_marker}
 use Rattle.bpaf_index.proofs.BitSets.{has_bit_one}
-use Rattle.bpaf_line.proofs.construct.first_words.Goals as goal
+use Rattle.bpaf_line.proofs.construct.first_bits.Goals as goal
 
 pub returns-clause-bits : goal.returns-clause-bits
 returns-clause-bits c p =
