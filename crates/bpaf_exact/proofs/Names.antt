@@ -19,7 +19,7 @@ use Rattle.bpaf_exact.specs.Pieces.{is_own, others, passed, Apart, Cells, Roles,
 use Rattle.bpaf_exact.specs.Pieces.{LinePiece, argument, no_cells, Foreign, pieces, at_end, either}
 use Rattle.bpaf_exact.specs.Pieces.{empty_stays, is_own_role, other_stays, takes_flag, are_apart}
 use Rattle.bpaf_exact.specs.Pieces.{flag, mine, word, Owns}
-use Rattle.bpaf_exact.specs.Says.{first_item, EachOwn, unkeyed, keyed, OwnsByNames}
+use Rattle.bpaf_exact.specs.Says.{first_item, EachOwn, unkeyed, keyed, OwnBy}
 use Rattle.bpaf_exact.specs.Flat.{NoKeysLeft, FieldKind, is_behind, repeated, EachWord, OneWord}
 use Rattle.bpaf_exact.specs.{Flat.ByName, Flat.front, Flat.back, ProgramForm.may_follow}
 
@@ -114,28 +114,28 @@ own_first r x = grind arith
 
 module _ (r : Roles) (names : List Names) where
   -- where own pieces are those that begin with a key of one's names, a test keeps the same of both
-  fits_kept : (f : Bool → Bool) (os : List LinePiece) → OwnsByNames names r os
+  fits_kept : (f : Bool → Bool) (os : List LinePiece) → OwnBy names r os
       → filter (λ o. f (is_own r o)) os ≡ filter (λ o. f (is_key_of_any names (first_item o))) os
   fits_kept f [] fits = refl
   fits_kept f (o ∷ os) fits = grind (arith, fits_kept f os fits.1)
 
   -- so they are those,
-  pub mine_keyed : (os : List LinePiece) → OwnsByNames names r os → mine r os ≡ keyed names os
+  pub mine_keyed : (os : List LinePiece) → OwnBy names r os → mine r os ≡ keyed names os
   mine_keyed = fits_kept (λ b. b)
 
   -- and those of others the rest
-  pub others_unkeyed : (os : List LinePiece) → OwnsByNames names r os → others r os ≡ unkeyed names os
+  pub others_unkeyed : (os : List LinePiece) → OwnBy names r os → others r os ≡ unkeyed names os
   others_unkeyed = fits_kept not
 
   module _ (owned : Owns r names) where
     -- pieces that are all one's own do
-    pub own_fit : (os : List LinePiece) → EachOwn r os → OwnsByNames names r os
+    pub own_fit : (os : List LinePiece) → EachOwn r os → OwnBy names r os
     own_fit [] all = tt
     own_fit (o ∷ os) all =
         (all.0 ∙ sym (owned.own (first_item o) (sym (own_first r o) ∙ all.0)), own_fit os all.1)
 
     -- so do those of a cut by one's keys
-    pub cut_fit : {cs : Cells} {os : List LinePiece} → Cut r cs os → OwnsByNames names r os
+    pub cut_fit : {cs : Cells} {os : List LinePiece} → Cut r cs os → OwnBy names r os
     cut_fit at_end = tt
     cut_fit (passed c) = cut_fit c
     cut_fit (flag {k} e c) = let own = ap is_own_role e in (own ∙ sym (owned.own k own), cut_fit c)
@@ -146,8 +146,8 @@ module _ (r : Roles) (names : List Names) where
 module _ {q r : Roles} {own behind : List Names} (owned : Owns q own) (owned_behind : Owns r behind)
     (apart : are_all_apart own behind ≡ true) where
   -- each has its own
-  pub both_fits : (os : List LinePiece) → OwnsByNames (own ++ behind) (either q r) os
-      → OwnsByNames own q os × OwnsByNames behind r os
+  pub both_fits : (os : List LinePiece) → OwnBy (own ++ behind) (either q r) os
+      → OwnBy own q os × OwnBy behind r os
   both_fits [] fits = (tt, tt)
   both_fits (o ∷ os) fits =
       grind (arith, either_own, list_any-append, one_list, both_fits os fits.1)
@@ -224,7 +224,7 @@ none_behind own xs owned e k = grind (arith, false_from_ne_true)
 
 -- behind a positional field nothing begins with another's key
 pub no_fits : (r : Roles) (own behind : List Names) → may_follow (OneWord false) own behind ≡ true
-    → ((k : Arg) → is_own_role (r k) ≡ false) → (os : List LinePiece) → OwnsByNames behind r os
+    → ((k : Arg) → is_own_role (r k) ≡ false) → (os : List LinePiece) → OwnBy behind r os
 no_fits r own [] may none [] = tt
 no_fits r own [] may none (o ∷ os) = grind (arith, own_first, no_fits r own [] may none os)
 no_fits r own (names ∷ behind) may none os = absurd cc
@@ -237,21 +237,21 @@ apart_none (own ∷ names) = apart_none names
 -- Of a product with words, which stands last in another: its keys' pieces, and words left to it.
 
 -- what is left of pieces without those of others fits as they do
-pub others_fit : (q r : Roles) (names : List Names) (os : List LinePiece) → OwnsByNames names r os
-    → OwnsByNames names r (others q os)
+pub others_fit : (q r : Roles) (names : List Names) (os : List LinePiece) → OwnBy names r os
+    → OwnBy names r (others q os)
 others_fit q r names [] fit = tt
 others_fit q r names (o ∷ os) fit =
-    elim (is_own q o) as (λ b. OwnsByNames names r (if not b then (o ∷ others q os) else others q os))
+    elim (is_own q o) as (λ b. OwnBy names r (if not b then (o ∷ others q os) else others q os))
     [ true ↦ others_fit q r names os fit.1 | false ↦ (fit.0, others_fit q r names os fit.1) ]
 
 -- so do those that it is told of
-pub rest_fit : (r : Roles) (names : List Names) (whole os : List LinePiece) → OwnsByNames names r whole
-    → OwnsByNames names r os → OwnsByNames names r (keyed names whole ++ others r os)
+pub rest_fit : (r : Roles) (names : List Names) (whole os : List LinePiece) → OwnBy names r whole
+    → OwnBy names r os → OwnBy names r (keyed names whole ++ others r os)
 rest_fit r names [] os fits fit = others_fit r r names os fit
 rest_fit r names (o ∷ whole) os fits fit = grind (arith, rest_fit r names whole os fits.1 fit)
 
 -- its own are those of the whole line
-pub mine_rest : (r : Roles) (names : List Names) (whole os : List LinePiece) → OwnsByNames names r whole
+pub mine_rest : (r : Roles) (names : List Names) (whole os : List LinePiece) → OwnBy names r whole
     → mine r (keyed names whole ++ others r os) ≡ mine r whole
 mine_rest r names whole os fits =
     filter-append (is_own r) (keyed names whole) (others r os)
@@ -259,7 +259,7 @@ mine_rest r names whole os fits =
     whole) (kept_neither (λ o. not-true (is_own r o)) os) ∙ append-nil (mine r whole)
 
 -- and those of others are the words that are left
-pub others_rest : (r : Roles) (names : List Names) (whole os : List LinePiece) → OwnsByNames names r whole
+pub others_rest : (r : Roles) (names : List Names) (whole os : List LinePiece) → OwnBy names r whole
     → others r (keyed names whole ++ others r os) ≡ others r os
 others_rest r names whole os fits =
     grind (arith, filter-append, kept_neither, and_from, and_parts, kept_twice, mine_keyed)

@@ -30,7 +30,7 @@ use Rattle.bpaf_exact.specs.Says.{FieldThenSays, repeated_kind, FallbackSays, Op
 use Rattle.bpaf_exact.specs.Says.{RepeatSays, cells_said, its_pieces, EitherSays, AloneSays, AllOwn}
 use Rattle.bpaf_exact.specs.Says.{FieldsSay, FrontSays, form_kind, FormSays, LastSays, MadeSays}
 use Rattle.bpaf_exact.specs.Says.{SaidKind, CutSays, of_kind, IsSaid, keyed, ProgramSaid}
-use Rattle.bpaf_exact.specs.Says.{ProgramSays, FieldsKeep, FieldsSaid, RecordSays, OwnsByNames, Said, Says}
+use Rattle.bpaf_exact.specs.Says.{ProgramSays, FieldsKeep, FieldsSaid, RecordSays, OwnBy, Said, Says}
 
 -- where a test holds
 if_says : {T : Type 0} (b : Bool) {s : ProgramForm T} {kind : SaidKind} {names : List Names}
@@ -153,7 +153,7 @@ field_says {T} {said} own h =
 -- each value of a whole program of this form says so of all pieces of a line, or of the cells
 abbrev WholeSays : {T : Type 0} → List Names → ProgramForm T → Bool → Said T → CellsValue T → Type 0
 WholeSays {T} names (product wide named r fields) c said cells =
-    (c ≡ false) × ((os : List LinePiece) (v : T) → OwnsByNames names r os → fields.value os v → said os v)
+    (c ≡ false) × ((os : List LinePiece) (v : T) → OwnBy names r os → fields.value os v → said os v)
 WholeSays names (before_commands value) c said cells = (c ≡ true) × IsSaid value cells
 WholeSays names _ c said cells = Unit {0}
 
@@ -289,7 +289,7 @@ alone_says {T} {names} {s = complete wide k q value} {said} own_keys h = record 
     own : (k : FieldKind) (q : Roles) (value : List LinePiece → T → Type 0) → Owns (keys k q) names
         → ((os : List LinePiece) (v : T) → AllOwn k q os → value os v → said os v)
         → (whole os : List LinePiece) (v : T)
-        → OwnsByNames names (either (keys k q) no_roles) whole → (last_reading k q value).value os v
+        → OwnBy names (either (keys k q) no_roles) whole → (last_reading k q value).value os v
         → mine (either (keys k q) no_roles) whole ≡ mine (either (keys k q) no_roles) os
         → said (its_pieces (of_kind k) names whole (others (either (keys k q) no_roles) os)) v
     own ByName q value owned each whole os v fits m same =
@@ -298,7 +298,7 @@ alone_says {T} {names} {s = complete wide k q value} {said} own_keys h = record 
         ∙ (mine_within q (either q no_roles) (first_within q no_roles) whole
         ∙ mine_keyed q names whole
         (both_fits owned (record { own = λ k e. absurd cc }) (apart_none names)
-        whole (subst (λ own. OwnsByNames own (either q no_roles) whole) (sym (append-nil names))
+        whole (subst (λ own. OwnBy own (either q no_roles) whole) (sym (append-nil names))
         fits)).0)))
         (each (mine q os) v (each_own q os) m.0)
     own k q value owned each whole os v fits m same = grind (arith, others_none)
@@ -310,14 +310,14 @@ alone_says own_keys h = record { by = tt }
 module _ {A B : Type 0} (own : List Names) {behind : List Names} (said : Said A)
     (rest_said : FieldsSaid B) (q : Roles) {r : Roles} (first : List LinePiece → A → Type 0)
     (fields : FieldsReading B) (owned_behind : Owns r behind)
-    (rest_each : (whole os : List LinePiece) (v : B) → OwnsByNames behind r whole → OwnsByNames behind r os
+    (rest_each : (whole os : List LinePiece) (v : B) → OwnBy behind r whole → OwnBy behind r os
     → fields.value os v → mine r whole ≡ mine r os → rest_said whole (others r os) v) where
   -- what it and those behind it say
   kind_says : (k : FieldKind)
       → ((os : List LinePiece) (v : A) → AllOwn k q os → first os v → said os v)
       → Owns (keys k q) own → may_follow k own behind ≡ true → (whole os : List LinePiece)
-      (v : A × B) → OwnsByNames (own ++ behind) (either (keys k q) r) whole
-      → OwnsByNames (own ++ behind) (either (keys k q) r) os → (both_reading k q first fields).value os v
+      (v : A × B) → OwnBy (own ++ behind) (either (keys k q) r) whole
+      → OwnBy (own ++ behind) (either (keys k q) r) os → (both_reading k q first fields).value os v
       → mine (either (keys k q) r) whole ≡ mine (either (keys k q) r) os
       → BothSay (of_kind k) own said rest_said whole (others (either (keys k q) r) os) v
   kind_says ByName each owned may whole os v fits fit m same =

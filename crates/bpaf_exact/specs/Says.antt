@@ -174,9 +174,9 @@ AllOwn ByName q os = EachOwn q os
 AllOwn k q os = Unit {0}
 
 -- the own ones of these pieces are those that begin with a key with one of the names
-abbrev pub OwnsByNames : List Names → Roles → List LinePiece → Type 0
-OwnsByNames names r [] = Unit {0}
-OwnsByNames names r (o ∷ os) = (is_own r o ≡ is_key_of_any names (first_item o)) × OwnsByNames names r os
+abbrev pub OwnBy : List Names → Roles → List LinePiece → Type 0
+OwnBy names r [] = Unit {0}
+OwnBy names r (o ∷ os) = (is_own r o ≡ is_key_of_any names (first_item o)) × OwnBy names r os
 
 -- What the values of a program with commands say: each named field of its own pieces, and the rest
 -- of what is left without these.
@@ -367,7 +367,7 @@ FormSays {T = T} names (complete wide k q value) kind in_cells said cells =
     × ((os : List LinePiece) (v : T) → AllOwn k q os → value os v → said os v)
 FormSays {T = T} names (product wide named r fields) kind in_cells said cells =
     (in_cells ≡ false) × (kind ≡ product_kind named)
-    × ((whole os : List LinePiece) (v : T) → OwnsByNames names r whole → OwnsByNames names r os
+    × ((whole os : List LinePiece) (v : T) → OwnBy names r whole → OwnBy names r os
     → fields.value os v → mine r whole ≡ mine r os → others r whole ≡ others r os → said whole v)
 FormSays names (commands optional value) kind in_cells said cells =
     (in_cells ≡ true) × IsSaid value cells
@@ -390,8 +390,8 @@ ProgramSays names form kind said p =
 abbrev pub FieldsFormSays : {V : Type 0} → List Names → ProgramForm V → (in_cells : Bool)
     → FieldsSaid V → CellsValue V → Type 0
 FieldsFormSays {V = V} names (product wide named r fields) in_cells said cells =
-    (in_cells ≡ false) × ((whole os : List LinePiece) (v : V) → OwnsByNames names r whole
-    → OwnsByNames names r os → fields.value os v → mine r whole ≡ mine r os → said whole (others r os) v)
+    (in_cells ≡ false) × ((whole os : List LinePiece) (v : V) → OwnBy names r whole
+    → OwnBy names r os → fields.value os v → mine r whole ≡ mine r os → said whole (others r os) v)
 FieldsFormSays names (before_commands value) in_cells said cells =
     (in_cells ≡ true) × IsSaid value cells
 FieldsFormSays names no_program in_cells said cells = Unit {0}

@@ -17,21 +17,21 @@ use Rattle.bpaf_record.specs.Part.{dressed_part, command_part, closed_part, chos
 use Rattle.bpaf_record.specs.Part.{before_part, only_part, last_part, made_part, may_stand, kind_of}
 use Rattle.bpaf_record.specs.Part.{is_program_part, completed_part, is_record_part, optional_part}
 use Rattle.bpaf_record.specs.Grammar.{command_words, choices_of, Grammar, keys_of, choice}
-use Rattle.bpaf_record.specs.Part.{program_part_of, part_if}
+use Rattle.bpaf_record.specs.Part.{form_part, part_if}
 
 -- where a test holds
 if_is : {T : Type 0} (b : Bool) (s : ProgramForm T)
-    → part_if b (program_part_of s) ≡ program_part_of (program_if b s)
+    → part_if b (form_part s) ≡ form_part (program_if b s)
 if_is b s = grind arith
 
 -- a closure
 pub closed_part_is : {A B : Type 0} (f : Closure A B) (s : ProgramForm A)
-    → closed_part (program_part_of s) ≡ program_part_of (program_closed f s)
+    → closed_part (form_part s) ≡ form_part (program_closed f s)
 closed_part_is f s = grind arith
 
 -- another look
 pub dressed_part_is : {T : Type 0} (s : ProgramForm T)
-    → dressed_part (program_part_of s) ≡ program_part_of (program_dressed s)
+    → dressed_part (form_part s) ≡ form_part (program_dressed s)
 dressed_part_is s = grind arith
 
 -- a repeated word is a word
@@ -42,60 +42,60 @@ repeated_is s = grind arith
 completed_is : {T B : Type 0} (kind : FieldKind → FieldKind)
     (value : Groups T → Gap T → List LinePiece → B → Type 0)
     → ((k : FieldKind) → kind_of k ≡ kind_of (kind k)) → (s : ProgramForm T)
-    → completed_part (program_part_of s) ≡ program_part_of (completed kind value s)
+    → completed_part (form_part s) ≡ form_part (completed kind value s)
 completed_is kind value same s = grind arith
 
 -- what is made of a repeat
 pub listed_part_is : {T B : Type 0} (f : Closure (List T) B) (s : ProgramForm T)
-    → completed_part (program_part_of s) ≡ program_part_of (program_closed f (completed repeated (OwnList T) s))
+    → completed_part (form_part s) ≡ form_part (program_closed f (completed repeated (OwnList T) s))
 listed_part_is f s = grind (arith, repeated_is)
 
 -- and of one that may catch
 pub repeat_part_is : {T B : Type 0} (catch : Bool) (f : Closure (List T) B) (s : ProgramForm T)
-    → part_if (not catch) (completed_part (program_part_of s))
-    ≡ program_part_of (program_if (not catch) (program_closed f (completed repeated (OwnList T) s)))
+    → part_if (not catch) (completed_part (form_part s))
+    ≡ form_part (program_if (not catch) (program_closed f (completed repeated (OwnList T) s)))
 repeat_part_is catch f s = ap (part_if (not catch)) (listed_part_is f s) ∙ if_is (not catch) _
 
 -- its last value
 pub last_part_is : {T : Type 0} (s : ProgramForm T)
-    → completed_part (program_part_of s) ≡ program_part_of (completed repeated (LastOf T) s)
+    → completed_part (form_part s) ≡ form_part (completed repeated (LastOf T) s)
 last_part_is {T} s = completed_is repeated (LastOf T) repeated_is s
 
 -- a default
 pub fallback_part_is : {T : Type 0} (f : Closure (Unit {0}) T) (s : ProgramForm T)
-    → completed_part (program_part_of s)
-    ≡ program_part_of (completed (λ k. k) (λ group gap. FallbackValue T group gap f) s)
+    → completed_part (form_part s)
+    ≡ form_part (completed (λ k. k) (λ group gap. FallbackValue T group gap f) s)
 fallback_part_is f s = grind (arith, completed_is)
 
 -- what may be left out, and may catch
 pub optional_part_is : {T : Type 0} (catch : Bool) (s : ProgramForm T)
-    → part_if (not catch) (optional_part (program_part_of s))
-    ≡ program_part_of (program_if (not catch) (program_optional s))
+    → part_if (not catch) (optional_part (form_part s))
+    ≡ form_part (program_if (not catch) (program_optional s))
 optional_part_is {T} catch s = grind (arith, if_is)
 
 -- a choice of two
 pub choice_part_is : {T : Type 0} (own others : List Names) (words more : List (List ℕ))
     (s t : ProgramForm T) → chosen_part (are_all_apart own others) (are_words_apart words more)
-    (program_part_of s) (program_part_of t) ≡ program_part_of (program_choice own others words more s t)
+    (form_part s) (form_part t) ≡ form_part (program_choice own others words more s t)
 choice_part_is own others words more s t = grind (arith, if_is)
 
 -- one parser of a choice
 pub only_part_is : {T : Type 0} (s : ProgramForm T)
-    → only_part (program_part_of s) ≡ program_part_of (choice_only s)
+    → only_part (form_part s) ≡ form_part (choice_only s)
 only_part_is s = grind arith
 
 -- a flat record
-pub record_part_is : {T : Type 0} (s : ProgramForm T) → is_record_part (program_part_of s) ≡ is_record s
+pub record_part_is : {T : Type 0} (s : ProgramForm T) → is_record_part (form_part s) ≡ is_record s
 record_part_is s = grind arith
 
 -- a program
-pub program_part_is : {T : Type 0} (s : ProgramForm T) → is_program_part (program_part_of s) ≡ is_program s
+pub program_part_is : {T : Type 0} (s : ProgramForm T) → is_program_part (form_part s) ≡ is_program s
 program_part_is s = grind arith
 
 -- a command
 pub command_part_is : {T : Type 0} (adjacent apart : Bool) (called : Called) (s : ProgramForm T)
-    → command_part ((not adjacent && apart) && are_plain (opening_words called)) (program_part_of s)
-    ≡ program_part_of (program_command adjacent apart called s)
+    → command_part ((not adjacent && apart) && are_plain (opening_words called)) (form_part s)
+    ≡ form_part (program_command adjacent apart called s)
 command_part_is adjacent apart called s = grind (arith, if_is, program_part_is)
 
 -- one test alone
@@ -115,7 +115,7 @@ keys_entered test b names s e = grind arith
 
 -- the last field
 pub alone_part_is : {T : Type 0} (s : ProgramForm T)
-    → last_part (field_part (program_part_of s)) ≡ program_part_of (program_alone (program_field s))
+    → last_part (field_part (form_part s)) ≡ form_part (program_alone (program_field s))
 alone_part_is s = grind arith
 
 -- keys may stand after a field
@@ -125,13 +125,13 @@ stands s own others = grind arith
 
 -- a field before others
 pub both_part_is : {A B : Type 0} (own others : List Names) (s : ProgramForm A) (t : ProgramForm B)
-    → before_part (field_part (program_part_of s)) (program_part_of t) (are_all_apart own others)
-    (list_all (λ names. false) others) ≡ program_part_of (program_both own others (program_field s) t)
+    → before_part (field_part (form_part s)) (form_part t) (are_all_apart own others)
+    (list_all (λ names. false) others) ≡ form_part (program_both own others (program_field s) t)
 both_part_is own others s t = grind (arith, if_is, stands)
 
 -- a constructor
 pub con_part_is : {A B : Type 0} (f : Closure A B) (s : ProgramForm A)
-    → made_part (program_part_of s) ≡ program_part_of (program_con f s)
+    → made_part (form_part s) ≡ form_part (program_con f s)
 con_part_is f s = grind arith
 
 module _ {P T : Type 0} (of : P → Grammar T) where

@@ -15,14 +15,14 @@ kind_of ByName = Named
 kind_of k = Word
 
 -- that of a form, without its items
-abbrev pub program_part_of : {T : Type 0} → ProgramForm T → ProgramPart
-program_part_of no_program = NoPart
-program_part_of (alternative wide q value) = Alternative wide
-program_part_of (single wide k q group gap) = Single wide (kind_of k)
-program_part_of (complete wide k q value) = Complete wide (kind_of k)
-program_part_of (product wide named q fields) = Product wide named
-program_part_of (commands optional value) = Commands optional
-program_part_of (before_commands value) = BeforeCommands
+abbrev pub form_part : {T : Type 0} → ProgramForm T → ProgramPart
+form_part no_program = NoPart
+form_part (alternative wide q value) = Alternative wide
+form_part (single wide k q group gap) = Single wide (kind_of k)
+form_part (complete wide k q value) = Complete wide (kind_of k)
+form_part (product wide named q fields) = Product wide named
+form_part (commands optional value) = Commands optional
+form_part (before_commands value) = BeforeCommands
 
 -- where a test holds
 abbrev pub part_if : Bool → ProgramPart → ProgramPart

@@ -5,7 +5,7 @@ ghost use Rattle.bpaf_exact.specs.Says.{said_choice, said_choices};
 ghost use Rattle.bpaf_exact.specs.{Flat.Variables, ProgramForm.EachAgrees};
 ghost use Rattle.bpaf_record.specs.Grammar.{choices_of, command_words, keys_of, program_form};
 ghost use Rattle.bpaf_record.specs.Grammar.{said_kind, choice, only, choices_law, choices_says};
-ghost use Rattle.bpaf_record.specs.Part.{program_part_of};
+ghost use Rattle.bpaf_record.specs.Part.{form_part};
 ghost use Rattle.bpaf_exact.proofs.ProgramForm.{program_choice_law};
 ghost use Rattle.bpaf_exact.proofs.ProgramSays.{program_choice_says};
 
@@ -102,9 +102,9 @@ fn all_words_of<T, P: ProgramField<T>, W: WordTest>(parsers: &[P], test: &W) -> 
 fn join_rest<T, P: ProgramField<T>>(parsers: &[P], first: ProgramPart) -> ProgramPart
     requires some { 1 ≤ length parsers.now }
     requires first { (variables : Variables) → first
-        ≡ program_part_of (program_form (choices_of P.grammar (take 1 parsers.now)) variables) }
+        ≡ form_part (program_form (choices_of P.grammar (take 1 parsers.now)) variables) }
     ensures { (variables : Variables) → result
-        ≡ program_part_of (program_form (choices_of P.grammar parsers.now) variables) }
+        ≡ form_part (program_form (choices_of P.grammar parsers.now) variables) }
 {
     let mut part = first;
     for index in 1..parsers.len() {
@@ -128,7 +128,7 @@ fn join_rest<T, P: ProgramField<T>>(parsers: &[P], first: ProgramPart) -> Progra
 #[tactic(auto, using(crate::proofs::Parts::first_is))]
 fn join_all<T, P: ProgramField<T>>(parsers: &[P]) -> ProgramPart
     ensures { (variables : Variables) →
-        result ≡ program_part_of (program_form (choices_of P.grammar parsers.now) variables) }
+        result ≡ form_part (program_form (choices_of P.grammar parsers.now) variables) }
 {
     match parsers {
         [] => ProgramPart::NoPart,

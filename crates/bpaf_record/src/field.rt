@@ -3,7 +3,7 @@ ghost use Rattle.std.specs.{Prelude.◌≡◌, Prelude.true, List.list_all};
 ghost use Rattle.bpaf_exact.specs.Says.{ProgramSaid, ProgramSays, FieldsKeep, ProgramFieldsSaid};
 ghost use Rattle.bpaf_exact.specs.{ProgramForm.FormLaw, Flat.Variables};
 ghost use Rattle.bpaf_record.specs.{Grammar.Grammar, Grammar.command_words, Grammar.keys_of};
-ghost use Rattle.bpaf_record.specs.{Grammar.program_form, Grammar.said_kind, Part.program_part_of};
+ghost use Rattle.bpaf_record.specs.{Grammar.program_form, Grammar.said_kind, Part.form_part};
 
 use crate::keys::KeyTest;
 use crate::part::ProgramPart;
@@ -25,7 +25,7 @@ pub trait ProgramField<T>: Parser<T> {
 
     /// What it is to a program, which is the same in each environment. It takes no memory.
     fn part(&self) -> ProgramPart
-        ensures { (variables : Variables) → result ≡ program_part_of
+        ensures { (variables : Variables) → result ≡ form_part
             (program_form (grammar self.now) variables) };
 
     /// Whether each of its keys passes a test, which may ask for those inside its commands too. It
@@ -67,7 +67,7 @@ pub trait ProgramFields<V>: Fields<V> {
 
     /// What they are to a program, which is the same in each environment. It takes no memory.
     fn fields_part(&self) -> ProgramPart
-        ensures { (variables : Variables) → result ≡ program_part_of
+        ensures { (variables : Variables) → result ≡ form_part
             (program_form (grammar self.now) variables) };
 
     /// Whether each of their keys passes a test, which may ask for those inside commands too. It

@@ -2,7 +2,7 @@ use Rattle.std.proofs.Common.{sym, arith, ◌∙◌, ap, ap₂, take, true}
 use Rattle.std.proofs.lemmas.List.{take_all}
 use Rattle.bpaf_exact.specs.{Pieces.are_all_apart, ProgramForm.are_words_apart}
 use Rattle.bpaf_record.specs.Grammar.{choice, choices_of, command_words, keys_of, program_form}
-use Rattle.bpaf_record.specs.Part.{chosen_part, program_part_of}
+use Rattle.bpaf_record.specs.Part.{chosen_part, form_part}
 use Rattle.bpaf_record.proofs.Parts.{choices_keys, choices_words, one_more, choice_part_is}
 use Rattle.bpaf_record.proofs.choices.join_rest.Goals as goal
 
@@ -21,7 +21,7 @@ loop-index-preserved g c = (
       (c.loop-index.invariant.1 variables) (c.part.ensures variables) ∙ (choice_part_is
       (keys_of before true) (keys_of (of d) true) (command_words before) (command_words (of d))
       (program_form before variables) (program_form (of d) variables) ∙ ap
-      (λ g. program_part_of (program_form g variables)) (ap (λ p. choice before (of p))
+      (λ g. form_part (program_form g variables)) (ap (λ p. choice before (of p))
       c.index-parsers-index.is ∙ sym
       (one_more of ps i d c.loop-index.invariant.0 c.loop-index-test.true))))),
 )
