@@ -20,11 +20,8 @@ pub fn lines_of(alloc: Global, words: &[String]) -> Result<String, ParseFailure>
 fn text_of(alloc: Global, options: &Options) -> Result<String, ParseFailure>
     ensures { IsTextOrWant (lines options.now) result }
 {
-    let verbose = options.verbose;
-    let num = options.num;
-    let mut text = String::new(alloc);
-    writeln!(text, "verbose: {verbose}")?;
-    writeln!(text, "num: {num}")?;
+    let (verbose, num) = (options.verbose, options.num);
+    let mut text = format!(in alloc; "verbose: {verbose}\nnum: {num}\n")?;
     push_lines(&mut text, "file: ", options.files.as_slice())?;
     Ok(text)
 }

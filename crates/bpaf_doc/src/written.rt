@@ -12,15 +12,10 @@ impl ShortLong {
     fn text(&self, alloc: Global) -> Result<String, AllocError>
         ensures { IfOk result (λ text. string_bytes text ≡ name_text (name_of self.now)) }
     {
-        let mut text = String::from_str(alloc, "-")?;
         match self {
-            ShortLong::Short(short) => text.push(*short)?,
-            ShortLong::Long(long) | ShortLong::Both(_, long) => {
-                text.push('-')?;
-                text.push_str(long.as_str())?;
-            }
+            ShortLong::Short(short) => format!(in alloc; "-{short}"),
+            ShortLong::Long(long) | ShortLong::Both(_, long) => format!(in alloc; "--{long}"),
         }
-        Ok(text)
     }
 }
 

@@ -154,19 +154,19 @@ dashed_with_rest letters number =
 abbrev pub split_options : List ℕ → List ℕ
 split_options letters = dashed letters 1 ++ codes " " ++ dashed letters 2 ++ codes " .."
 
--- for a program of this name the character of a word is an option and an argument
-abbrev pub ambiguity_head : List ℕ → List ℕ → List ℕ → ℕ → List ℕ
-ambiguity_head name word letters number =
-    name ++ codes " supports " ++ in_backticks (dashed letters number)
+-- for a program of this name an option of a word is an option-argument too: what to write in place
+-- of the word, either options by themselves or that one with a value
+abbrev pub advice_text : (name word option options with_value : List ℕ) → List ℕ
+advice_text name word option options with_value =
+    name ++ codes " supports " ++ in_backticks option
     ++ codes " as both an option and an option-argument, try to split " ++ in_backticks word
-
--- the same, and what to write in place of the word
-abbrev pub ambiguity_text : List ℕ → List ℕ → List ℕ → ℕ → List ℕ
-ambiguity_text name word letters number =
-    ambiguity_head name word letters number
-    ++ codes " into individual options (" ++ split_options letters
-    ++ codes ") or use " ++ in_backticks (dashed_with_rest letters number)
+    ++ codes " into individual options (" ++ options ++ codes ") or use " ++ in_backticks with_value
     ++ codes " syntax to disambiguate"
+
+-- the same where the option is a character of the word
+abbrev pub ambiguity_text : List ℕ → List ℕ → List ℕ → ℕ → List ℕ
+ambiguity_text name word letters number = advice_text name word (dashed letters number)
+    (split_options letters) (dashed_with_rest letters number)
 
 -- one of these texts
 abbrev pub one_of_texts : List (List ℕ) → List ℕ

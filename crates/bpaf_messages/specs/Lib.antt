@@ -1,1 +1,2 @@
 pub mod Leftover
+pub mod Phrases

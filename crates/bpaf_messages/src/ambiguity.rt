@@ -3,10 +3,12 @@ ghost use Rattle.std.specs.Prelude.{◌≡◌, ◌++◌, true, IfOk, OnOk, chars
 ghost use Rattle.std.specs.Prelude.{encode_utf8_all, codes, unwrap_or};
 ghost use Rattle.bpaf_doc.specs.Print.{printed};
 ghost use Rattle.bpaf_line.specs.declared.error.Message.TheVariants.{Ambiguity};
-ghost use Rattle.bpaf_line.specs.Rendering.{message_text, ambiguity_text, ambiguity_head};
+ghost use Rattle.bpaf_line.specs.Rendering.{message_text, advice_text};
 ghost use Rattle.bpaf_line.specs.Rendering.{dashed, dashed_with_rest, split_options};
 
-use bpaf_doc::{Doc, Style, Text};
+use crate::phrases::Phrase::{Literal, Plain, Term};
+use crate::phrases::of_phrases;
+use bpaf_doc::{Doc, Text};
 use bpaf_line::State;
 use std::alloc::{AllocError, Global};
 
@@ -25,12 +27,10 @@ fn push_letters(text: &mut String, letters: &[char]) -> Result<(), AllocError>
 fn dashed(alloc: Global, letters: &[char], number: usize) -> Result<String, AllocError>
     ensures { IfOk result (λ text. string_bytes text ≡ dashed letters.now number) }
 {
-    let mut text = String::from_str(alloc, "-")?;
-    let Some(letter) = letters.get(number) else {
-        return Ok(text);
-    };
-    text.push(*letter)?;
-    Ok(text)
+    match letters.get(number) {
+        Some(letter) => format!(in alloc; "-{letter}"),
+        None => String::from_str(alloc, "-"),
+    }
 }
 
 /// The same with a value: the characters behind it.
@@ -56,59 +56,32 @@ fn split_options(alloc: Global, letters: &[char]) -> Result<String, AllocError>
     Ok(text)
 }
 
-/// Which character of a word is an option and an argument.
-fn head(
+/// What to write in place of a word with an option that is an option-argument too: options by
+/// themselves, or that one with a value.
+fn advice<'a>(
     alloc: Global,
-    name: &str,
-    word: &str,
-    letters: &[char],
-    number: usize,
+    name: &'a str,
+    word: &'a str,
+    option: &'a str,
+    options: &'a str,
+    with_value: &'a str,
 ) -> Result<Doc, AllocError>
     ensures { IfOk result (λ doc. printed true doc
-        ≡ ambiguity_head name.now word.now letters.now number) }
+        ≡ advice_text name.now word.now option.now options.now with_value.now) }
 {
-    let option = dashed(alloc, letters, number)?;
-    let mut doc = Doc::new(alloc);
-    doc.write(Style::Text, name)?;
-    doc.write(Style::Text, " supports ")?;
-    doc.term(Style::Literal, option.as_str())?;
-    doc.write(
-        Style::Text,
-        " as both an option and an option-argument, try to split ",
-    )?;
-    doc.term(Style::Literal, word)?;
-    Ok(doc)
-}
-
-/// Appends the options that the word may have been, behind these words, and others behind them.
-fn push_options(doc: &mut Doc, letters: &[char]) -> Result<(), AllocError>
-    ensures { OnOk result (printed true doc.new
-        ≡ printed true doc.old ++ codes " into individual options (" ++ split_options letters.now
-        ++ codes ") or use ") }
-{
-    let options = split_options(doc.alloc(), letters)?;
-    doc.write(Style::Text, " into individual options (")?;
-    doc.write(Style::Literal, options.as_str())?;
-    doc.write(Style::Text, ") or use ")
-}
-
-/// The same, and what to write in place of the word.
-fn advised(
-    alloc: Global,
-    name: &str,
-    word: &str,
-    letters: &[char],
-    number: usize,
-) -> Result<Doc, AllocError>
-    ensures { IfOk result (λ doc. printed true doc
-        ≡ ambiguity_text name.now word.now letters.now number) }
-{
-    let with_rest = dashed_with_rest(alloc, letters, number)?;
-    let mut doc = head(alloc, name, word, letters, number)?;
-    push_options(&mut doc, letters)?;
-    doc.term(Style::Literal, with_rest.as_str())?;
-    doc.write(Style::Text, " syntax to disambiguate")?;
-    Ok(doc)
+    let phrases = [
+        Plain(name),
+        Plain(" supports "),
+        Term(option),
+        Plain(" as both an option and an option-argument, try to split "),
+        Term(word),
+        Plain(" into individual options ("),
+        Literal(options),
+        Plain(") or use "),
+        Term(with_value),
+        Plain(" syntax to disambiguate"),
+    ];
+    of_phrases(alloc, &phrases)
 }
 
 /// How a word with an ambiguous character is to be written.
@@ -118,7 +91,18 @@ pub(crate) fn ambiguity(state: &State, word: &Text, number: usize) -> Result<Doc
 {
     let alloc = state.alloc();
     let letters = letters_of(alloc, word.as_str())?;
-    advised(alloc, shown_name(state), word.as_str(), &letters, number)
+    let option = dashed(alloc, &letters, number)?;
+    let options = split_options(alloc, &letters)?;
+    let with_rest = dashed_with_rest(alloc, &letters, number)?;
+    let (option, options) = (option.as_str(), options.as_str());
+    advice(
+        alloc,
+        shown_name(state),
+        word.as_str(),
+        option,
+        options,
+        with_rest.as_str(),
+    )
 }
 
 /// The characters of a text; refused only for want of memory.

@@ -17,6 +17,7 @@ mod earlier;
 mod faults;
 mod leftovers;
 mod missing;
+mod phrases;
 mod rendering;
 mod shown;
 

@@ -1,11 +1,13 @@
 //! The texts of what was expected and is missing.
 ghost use Rattle.std.specs.Prelude.{◌≡◌, ◌++◌, true, IfOk, OnOk, map};
-ghost use Rattle.bpaf_doc.specs.{Shape.part_text, Shape.part_of, Print.printed, Print.in_backticks};
+ghost use Rattle.bpaf_doc.specs.{Shape.part_text, Shape.part_of, Print.printed};
 ghost use Rattle.bpaf_line.specs.Rendering.{furthest, reaches, in_one_scope, is_command};
 ghost use Rattle.bpaf_line.specs.Rendering.{told_parts, one_of_texts, got_text, expected_of};
 ghost use Rattle.bpaf_line.specs.Rendering.{missing_text, hidden_text, message_text};
 ghost use Rattle.bpaf_line.specs.{declared.error.Message.TheVariants.Expected, Missing.missed_of};
 
+use crate::phrases::Phrase::{Plain, Quoted, Wrong};
+use crate::phrases::{of_phrases, push_phrases};
 use crate::shown::shown_item;
 use bpaf_doc::{Doc, Item, Style};
 use bpaf_line::{MissingItem, State};
@@ -93,34 +95,20 @@ fn item_docs(alloc: Global, items: &[Item]) -> Result<Vec<Doc>, AllocError>
     Ok(docs)
 }
 
-/// Appends another document between two backticks.
-fn push_term(doc: &mut Doc, inner: &Doc) -> Result<(), AllocError>
-    ensures { OnOk result (
-        printed true doc.new ≡ printed true doc.old ++ in_backticks (printed true inner.now)) }
-{
-    doc.write(Style::Text, "`")?;
-    doc.doc(inner)?;
-    doc.write(Style::Text, "`")
-}
-
 /// Appends one of some documents.
 fn push_alternatives(doc: &mut Doc, docs: &[Doc]) -> Result<(), AllocError>
     ensures { OnOk result (printed true doc.new
         ≡ printed true doc.old ++ one_of_texts (map (printed true) docs.now)) }
 {
     match docs {
-        [] => doc.write(Style::Text, "no arguments"),
-        [a] => push_term(doc, a),
-        [a, b] => {
-            push_term(doc, a)?;
-            doc.write(Style::Text, " or ")?;
-            push_term(doc, b)
-        }
+        [] => push_phrases(doc, &[Plain("no arguments")]),
+        [a] => push_phrases(doc, &[Quoted(a)]),
+        [a, b] => push_phrases(doc, &[Quoted(a), Plain(" or "), Quoted(b)]),
         [a, b, ..] => {
-            push_term(doc, a)?;
-            doc.write(Style::Text, ", ")?;
-            push_term(doc, b)?;
-            doc.write(Style::Text, ", or more")
+            push_phrases(
+                doc,
+                &[Quoted(a), Plain(", "), Quoted(b), Plain(", or more")],
+            )
         }
     }
 }
@@ -131,11 +119,11 @@ fn push_got(doc: &mut Doc, state: &State, got: Option<usize>) -> Result<(), Allo
         printed true doc.new ≡ printed true doc.old ++ got_text state.now got) }
 {
     match got {
-        None => doc.write(Style::Text, ", pass "),
+        None => push_phrases(doc, &[Plain(", pass ")]),
         Some(place) => {
-            doc.write(Style::Text, ", got ")?;
-            doc.term(Style::Invalid, shown_item(state, place)?.as_str())?;
-            doc.write(Style::Text, ". Pass ")
+            let item = shown_item(state, place)?;
+            let item = Wrong(item.as_str());
+            push_phrases(doc, &[Plain(", got "), item, Plain(". Pass ")])
         }
     }
 }
@@ -185,11 +173,9 @@ pub(crate) fn missing(state: &State, items: &[MissingItem]) -> Result<Doc, Alloc
 fn all_hidden(alloc: Global) -> Result<Doc, AllocError>
     ensures { IfOk result (λ doc. printed true doc ≡ hidden_text) }
 {
-    let mut doc = Doc::new(alloc);
-    doc.write(
-        Style::Text,
-        "parser requires an extra flag, argument or parameter, ",
-    )?;
-    doc.write(Style::Text, "but its name is hidden by the author")?;
-    Ok(doc)
+    let phrases = [
+        Plain("parser requires an extra flag, argument or parameter, "),
+        Plain("but its name is hidden by the author"),
+    ];
+    of_phrases(alloc, &phrases)
 }

@@ -1,7 +1,7 @@
 //! The texts of messages.
-ghost use Rattle.std.specs.Prelude.{◌≡◌, ◌++◌, true, IfOk, Some, None, codes, map, option_and_then};
-ghost use Rattle.std.specs.Prelude.{option_copied, option_map, string_bytes};
-ghost use Rattle.bpaf_doc.specs.Print.{folded_whole, printed};
+ghost use Rattle.std.specs.Prelude.{◌≡◌, ◌++◌, true, IfOk, Some, None, codes, map};
+ghost use Rattle.std.specs.Prelude.{option_copied};
+ghost use Rattle.bpaf_doc.specs.Print.{printed};
 ghost use Rattle.bpaf_line.specs.Rendering.{message_text, side_text, parse_failed_text};
 ghost use Rattle.bpaf_line.specs.Rendering.{guard_failed_text, no_argument_text, only_once_text};
 ghost use Rattle.bpaf_line.specs.Rendering.{IsRefusal, Renders, shown_item, word_at, quoted_word};
@@ -9,115 +9,114 @@ ghost use Rattle.bpaf_line.specs.Rendering.{key_behind};
 
 use crate::ambiguity::ambiguity;
 use crate::missing::{expected_items, missing};
+use crate::phrases::Phrase::{Metavar, Plain, Term, Told, Wrong};
+use crate::phrases::of_phrases;
 use crate::shown::{key_behind, quoted_word, shown_item, word_at};
-use bpaf_doc::{Doc, Style, Text};
+use bpaf_doc::{Doc, Text};
 use bpaf_line::{Message, ParseFailure, State};
 use std::alloc::{AllocError, Global};
-
-/// A text alone, folded.
-fn told(alloc: Global, text: &str) -> Result<Doc, AllocError>
-    ensures { IfOk result (λ doc. printed true doc ≡ folded_whole text.now) }
-{
-    let mut doc = Doc::new(alloc);
-    doc.text(text)?;
-    Ok(doc)
-}
 
 /// Which environment variable is not set.
 fn no_env(state: &State, name: &Text) -> Result<Doc, AllocError>
     ensures { IfOk result (λ doc.
         printed true doc ≡ message_text (Message.NoEnv name.now) state.now) }
 {
-    let mut doc = Doc::new(state.alloc());
-    doc.write(Style::Text, "environment variable ")?;
-    doc.term(Style::Literal, name.as_str())?;
-    doc.write(Style::Text, " is not set")?;
-    Ok(doc)
+    let phrases = [
+        Plain("environment variable "),
+        Term(name.as_str()),
+        Plain(" is not set"),
+    ];
+    of_phrases(state.alloc(), &phrases)
 }
 
 /// On which side of `--` a word should stand.
-fn other_side(alloc: Global, metavar: &Text, side: &str) -> Result<Doc, AllocError>
+fn other_side<'a>(alloc: Global, metavar: &'a Text, side: &'a str) -> Result<Doc, AllocError>
     ensures { IfOk result (λ doc. printed true doc ≡ side_text metavar.now side.now) }
 {
-    let mut doc = Doc::new(alloc);
-    doc.write(Style::Text, "expected ")?;
-    doc.term(Style::Metavar, metavar.as_str())?;
-    doc.write(Style::Text, " to be on the ")?;
-    doc.write(Style::Text, side)?;
-    doc.write(Style::Text, " side of ")?;
-    doc.term(Style::Literal, "--")?;
-    Ok(doc)
+    let phrases = [
+        Plain("expected "),
+        Metavar(metavar.as_str()),
+        Plain(" to be on the "),
+        Plain(side),
+        Plain(" side of "),
+        Term("--"),
+    ];
+    of_phrases(alloc, &phrases)
 }
 
 /// Which text could not be read, and why.
-fn parse_failed(alloc: Global, word: Option<String>, why: &Text) -> Result<Doc, AllocError>
+fn parse_failed<'a>(alloc: Global, word: Option<&'a str>, why: &'a str) -> Result<Doc, AllocError>
     ensures { IfOk result (λ doc.
-        printed true doc ≡ parse_failed_text (option_map string_bytes word) why.now) }
+        printed true doc ≡ parse_failed_text (option_copied word.entry) why.now) }
 {
-    let mut doc = Doc::new(alloc);
     match word {
+        None => of_phrases(alloc, &[Plain("couldn't parse: "), Told(why)]),
         Some(word) => {
-            doc.write(Style::Text, "couldn't parse ")?;
-            doc.term(Style::Invalid, word.as_str())?;
-            doc.write(Style::Text, ": ")?;
+            of_phrases(
+                alloc,
+                &[
+                    Plain("couldn't parse "),
+                    Wrong(word),
+                    Plain(": "),
+                    Told(why),
+                ],
+            )
         }
-        None => doc.write(Style::Text, "couldn't parse: ")?,
     }
-    doc.text(why.as_str())?;
-    Ok(doc)
 }
 
 /// Which value a check refused, and why.
-fn guard_failed(alloc: Global, word: Option<&Text>, why: &Text) -> Result<Doc, AllocError>
+fn guard_failed<'a>(alloc: Global, word: Option<&'a Text>, why: &'a str) -> Result<Doc, AllocError>
     ensures { IfOk result (λ doc.
         printed true doc ≡ guard_failed_text (option_copied word.entry) why.now) }
 {
-    let mut doc = Doc::new(alloc);
     match word {
+        None => of_phrases(alloc, &[Plain("check failed: "), Told(why)]),
         Some(word) => {
-            doc.term(Style::Invalid, word.as_str())?;
-            doc.write(Style::Text, ": ")?;
+            let word = Wrong(word.as_str());
+            of_phrases(alloc, &[word, Plain(": "), Told(why)])
         }
-        None => doc.write(Style::Text, "check failed: ")?,
     }
-    doc.text(why.as_str())?;
-    Ok(doc)
 }
 
 /// Which key wants a value.
-fn no_argument(alloc: Global, key: &str, metavar: &Text) -> Result<Doc, AllocError>
+fn no_argument<'a>(alloc: Global, key: &'a str, metavar: &'a Text) -> Result<Doc, AllocError>
     ensures { IfOk result (λ doc.
         printed true doc ≡ no_argument_text key.now metavar.now None) }
 {
-    let mut doc = Doc::new(alloc);
-    doc.term(Style::Literal, key)?;
-    doc.write(Style::Text, " requires an argument ")?;
-    doc.term(Style::Metavar, metavar.as_str())?;
-    Ok(doc)
+    of_phrases(
+        alloc,
+        &[
+            Term(key),
+            Plain(" requires an argument "),
+            Metavar(metavar.as_str()),
+        ],
+    )
 }
 
-/// The same, and how a key behind it becomes its value.
-fn no_argument_but(alloc: Global, key: &str, metavar: &Text, next: &Text) -> Result<Doc, AllocError>
+/// The same, and how a key behind it becomes its value: joined to the key.
+fn no_argument_but<'a>(
+    alloc: Global,
+    key: &'a str,
+    metavar: &'a str,
+    next: &'a str,
+    joined: &'a str,
+) -> Result<Doc, AllocError>
+    requires { joined.now ≡ key.now ++ codes "=" ++ next.now }
     ensures { IfOk result (λ doc.
         printed true doc ≡ no_argument_text key.now metavar.now (Some next.now)) }
 {
-    let mut doc = no_argument(alloc, key, metavar)?;
-    doc.write(Style::Text, ", got a flag ")?;
-    doc.term(Style::Invalid, next.as_str())?;
-    doc.write(Style::Text, ", try ")?;
-    doc.term(Style::Literal, joined(alloc, key, next)?.as_str())?;
-    doc.write(Style::Text, " to use it as an argument")?;
-    Ok(doc)
-}
-
-/// A key with its value.
-fn joined(alloc: Global, key: &str, value: &Text) -> Result<String, AllocError>
-    ensures { IfOk result (λ text. string_bytes text ≡ key.now ++ codes "=" ++ value.now) }
-{
-    let mut text = String::from_str(alloc, key)?;
-    text.push('=')?;
-    text.push_str(value.as_str())?;
-    Ok(text)
+    let phrases = [
+        Term(key),
+        Plain(" requires an argument "),
+        Metavar(metavar),
+        Plain(", got a flag "),
+        Wrong(next),
+        Plain(", try "),
+        Term(joined),
+        Plain(" to use it as an argument"),
+    ];
+    of_phrases(alloc, &phrases)
 }
 
 /// Which item is not expected.
@@ -125,10 +124,14 @@ fn unconsumed(state: &State, place: usize) -> Result<Doc, AllocError>
     ensures { IfOk result (λ doc.
         printed true doc ≡ message_text (Message.Unconsumed place) state.now) }
 {
-    let mut doc = Doc::new(state.alloc());
-    doc.term(Style::Invalid, shown_item(state, place)?.as_str())?;
-    doc.write(Style::Text, " is not expected in this context")?;
-    Ok(doc)
+    let item = shown_item(state, place)?;
+    of_phrases(
+        state.alloc(),
+        &[
+            Wrong(item.as_str()),
+            Plain(" is not expected in this context"),
+        ],
+    )
 }
 
 /// Which two items exclude each other.
@@ -136,25 +139,27 @@ fn conflict(state: &State, winner: usize, loser: usize) -> Result<Doc, AllocErro
     ensures { IfOk result (λ doc.
         printed true doc ≡ message_text (Message.Conflict winner loser) state.now) }
 {
-    let mut doc = Doc::new(state.alloc());
-    doc.term(Style::Literal, shown_item(state, loser)?.as_str())?;
-    doc.write(Style::Text, " cannot be used at the same time as ")?;
-    doc.term(Style::Literal, shown_item(state, winner)?.as_str())?;
-    Ok(doc)
+    let winner = shown_item(state, winner)?;
+    let loser = shown_item(state, loser)?;
+    let phrases = [
+        Term(loser.as_str()),
+        Plain(" cannot be used at the same time as "),
+        Term(winner.as_str()),
+    ];
+    of_phrases(state.alloc(), &phrases)
 }
 
 /// Which key stands there once more.
 fn only_once(state: &State, place: usize) -> Result<Doc, AllocError>
     ensures { IfOk result (λ doc. printed true doc ≡ only_once_text state.now place) }
 {
-    let mut doc = Doc::new(state.alloc());
-    doc.write(Style::Text, "argument ")?;
-    doc.term(Style::Literal, shown_item(state, place)?.as_str())?;
-    doc.write(
-        Style::Text,
-        " cannot be used multiple times in this context",
-    )?;
-    Ok(doc)
+    let item = shown_item(state, place)?;
+    let phrases = [
+        Plain("argument "),
+        Term(item.as_str()),
+        Plain(" cannot be used multiple times in this context"),
+    ];
+    of_phrases(state.alloc(), &phrases)
 }
 
 /// Which text could not be read, with its word in the line.
@@ -163,8 +168,11 @@ fn unread(state: &State, place: Option<usize>, why: &Text) -> Result<Doc, AllocE
         printed true doc ≡ message_text (Message.ParseFailed place why.now) state.now) }
 {
     match place {
-        Some(place) => parse_failed(state.alloc(), quoted_word(state, place)?, why),
-        None => parse_failed(state.alloc(), None, why),
+        Some(place) => {
+            let word = quoted_word(state, place)?;
+            parse_failed(state.alloc(), word.as_deref(), why.as_str())
+        }
+        None => parse_failed(state.alloc(), None, why.as_str()),
     }
 }
 
@@ -174,8 +182,8 @@ fn unguarded(state: &State, place: Option<usize>, why: &Text) -> Result<Doc, All
         printed true doc ≡ message_text (Message.GuardFailed place why.now) state.now) }
 {
     match place {
-        Some(place) => guard_failed(state.alloc(), word_at(state, place), why),
-        None => guard_failed(state.alloc(), None, why),
+        Some(place) => guard_failed(state.alloc(), word_at(state, place), why.as_str()),
+        None => guard_failed(state.alloc(), None, why.as_str()),
     }
 }
 
@@ -186,7 +194,11 @@ fn without_argument(state: &State, place: usize, metavar: &Text) -> Result<Doc, 
 {
     let key = shown_item(state, place)?;
     match key_behind(state, place) {
-        Some(next) => no_argument_but(state.alloc(), key.as_str(), metavar, next),
+        Some(next) => {
+            let joined = format!(in state.alloc(); "{key}={next}")?;
+            let (key, metavar, next) = (key.as_str(), metavar.as_str(), next.as_str());
+            no_argument_but(state.alloc(), key, metavar, next, joined.as_str())
+        }
         None => no_argument(state.alloc(), key.as_str(), metavar),
     }
 }
@@ -201,7 +213,7 @@ fn message_doc(message: &Message, state: &State) -> Result<Doc, AllocError>
         Message::Memory | Message::ParseFailure(_) => Ok(Doc::new(alloc)),
         Message::NoEnv(name) => no_env(state, name),
         Message::ParseSome(text) | Message::ParseFail(text) | Message::PureFailed(text) => {
-            told(alloc, text.as_str())
+            of_phrases(alloc, &[Told(text.as_str())])
         }
         Message::Missing(items) => missing(state, items.as_slice()),
         Message::StrictPos(_, metavar) => other_side(alloc, metavar, "right"),

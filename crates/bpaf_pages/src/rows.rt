@@ -45,11 +45,12 @@ fn column(alloc: Global, width: usize, name: &str) -> Result<String, AllocError>
 fn bare_line(alloc: Global, name: &str) -> Result<Doc, AllocError>
     ensures { IfOk result (Prints (λ full. codes "    " ++ name.now ++ codes "\n")) }
 {
-    let mut doc = Doc::new(alloc);
-    doc.write(Style::Text, "    ")?;
-    doc.write(Style::Literal, name)?;
-    doc.write(Style::Text, "\n")?;
-    Ok(doc)
+    let pieces = [
+        ("    ", Style::Text),
+        (name, Style::Literal),
+        ("\n", Style::Text),
+    ];
+    Doc::from_pieces(alloc, &pieces)
 }
 
 /// The line of a name and what is said of it.
@@ -57,8 +58,8 @@ fn told_line(alloc: Global, width: usize, name: &str, told: &Doc) -> Result<Doc,
     ensures { IfOk result (Prints
         (λ full. column width name.now ++ prints told.now full ++ codes "\n")) }
 {
-    let mut doc = Doc::new(alloc);
     let column = column(alloc, width, name)?;
+    let mut doc = Doc::new(alloc);
     doc.write(Style::Literal, column.as_str())?;
     doc.doc(told)?;
     doc.write(Style::Text, "\n")?;
@@ -70,23 +71,9 @@ fn key_names(alloc: Global, name: &ShortLong) -> Result<String, AllocError>
     ensures { IfOk result (λ text. string_bytes text ≡ key_names (name_of name.now)) }
 {
     match name {
-        ShortLong::Short(short) => {
-            let mut text = String::from_str(alloc, "-")?;
-            text.push(*short)?;
-            Ok(text)
-        }
-        ShortLong::Long(long) => {
-            let mut text = String::from_str(alloc, "    --")?;
-            text.push_str(long.as_str())?;
-            Ok(text)
-        }
-        ShortLong::Both(short, long) => {
-            let mut text = String::from_str(alloc, "-")?;
-            text.push(*short)?;
-            text.push_str(", --")?;
-            text.push_str(long.as_str())?;
-            Ok(text)
-        }
+        ShortLong::Short(short) => format!(in alloc; "-{short}"),
+        ShortLong::Long(long) => format!(in alloc; "    --{long}"),
+        ShortLong::Both(short, long) => format!(in alloc; "-{short}, --{long}"),
     }
 }
 
@@ -94,12 +81,10 @@ fn key_names(alloc: Global, name: &ShortLong) -> Result<String, AllocError>
 fn command_names(alloc: Global, name: &str, short: Option<char>) -> Result<String, AllocError>
     ensures { IfOk result (λ text. string_bytes text ≡ name.now ++ also_short short) }
 {
-    let mut text = String::from_str(alloc, name)?;
-    if let Some(short) = short {
-        text.push_str(", ")?;
-        text.push(short)?;
+    match short {
+        None => String::from_str(alloc, name),
+        Some(short) => format!(in alloc; "{name}, {short}"),
     }
-    Ok(text)
 }
 
 /// The name of an item as a list shows it.

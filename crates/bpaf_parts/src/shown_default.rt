@@ -11,9 +11,7 @@ use std::fmt::{Debug, Display};
 fn shown_default(alloc: Global, value: &str) -> Result<Doc, AllocError>
     ensures { IfOk result (TextPieces (default_text value.now)) }
 {
-    let mut text = String::from_str(alloc, "[default: ")?;
-    text.push_str(value)?;
-    text.push(']')?;
+    let text = format!(in alloc; "[default: {value}]")?;
     Doc::from_text(alloc, text.as_str())
 }
 

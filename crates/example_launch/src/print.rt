@@ -20,13 +20,9 @@ pub fn lines_of(alloc: Global, words: &[String]) -> Result<String, ParseFailure>
 fn text_of(alloc: Global, launch: &Launch) -> Result<String, ParseFailure>
     ensures { IsTextOrWant (lines launch.now) result }
 {
-    let verbose = launch.verbose;
-    let dry_run = launch.dry_run;
+    let (verbose, dry_run) = (launch.verbose, launch.dry_run);
     let name = launch.name.as_str();
-    let mut text = String::new(alloc);
-    writeln!(text, "verbose: {verbose}")?;
-    writeln!(text, "dry run: {dry_run}")?;
-    writeln!(text, "name: {name}")?;
+    let mut text = format!(in alloc; "verbose: {verbose}\ndry run: {dry_run}\nname: {name}\n")?;
     push_lines(&mut text, "word: ", launch.words.as_slice())?;
     Ok(text)
 }
