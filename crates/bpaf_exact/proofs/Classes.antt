@@ -37,11 +37,6 @@ caught_class m e = grind (arith, tests_are)
 pub kept_class : (m : Message) → can_catch m ≡ false → CanCatch (error_class m) → ⊥
 kept_class m e x = grind (arith, tests_are)
 
--- a turn stops at a missing item where nothing was taken, and at what can be caught otherwise
-abbrev stop_by : ErrorClass → Bool → Bool
-stop_by OfMissing untouched = untouched
-stop_by c untouched = (tests_of c).2
-
 -- an error at which a turn stops
 pub stops_at : {e : Error} {s m : Situation} → stops_step false e.0 (is_untouched s m) ≡ true
     → Stops e s m
