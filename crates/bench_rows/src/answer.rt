@@ -1,6 +1,7 @@
 //! The answer of a parser for some words, as the text of a row.
 use bench_values::Value;
 use bpaf_core::{OptionParser, Parser};
+use bpaf_doc::Doc;
 use bpaf_line::ParseFailure;
 use bpaf_words::Args;
 use std::alloc::{AllocError, Global};
@@ -38,6 +39,13 @@ fn push_text(text: &str, out: &mut String) -> Result<(), AllocError> {
     Ok(())
 }
 
+/// A kind of answer and its text, as one line.
+fn kind_and_text(alloc: Global, kind: &str, doc: &Doc, full: bool) -> Result<String, AllocError> {
+    let mut out = String::from_str(alloc, kind)?;
+    push_text(doc.monochrome(full)?.as_str(), &mut out)?;
+    Ok(out)
+}
+
 /// What a parser answers to words, as one line: `ok` and the value, `err` and the message, `out`
 /// and a text that was asked for, `full` and one that was asked for in full, or `memory` where
 /// memory was wanted.
@@ -49,23 +57,17 @@ pub fn answer<P: Parser<Value> + Drop>(
 ) -> Result<String, AllocError>
     requires { P.can_eval options.now.inner }
 {
-    let mut out = String::new(alloc);
     match options.run_inner(surroundings.args(words)) {
         Ok(value) => {
-            out.push_str("ok ")?;
+            let mut out = String::from_str(alloc, "ok ")?;
             value.print(&mut out)?;
+            Ok(out)
         }
-        Err(ParseFailure::Memory) => out.push_str("memory")?,
-        Err(ParseFailure::Stdout(doc, full)) => {
-            out.push_str(if full { "full " } else { "out " })?;
-            push_text(doc.monochrome(full)?.as_str(), &mut out)?;
-        }
-        Err(ParseFailure::Stderr(doc)) => {
-            out.push_str("err ")?;
-            push_text(doc.monochrome(true)?.as_str(), &mut out)?;
-        }
+        Err(ParseFailure::Memory) => String::from_str(alloc, "memory"),
+        Err(ParseFailure::Stdout(doc, false)) => kind_and_text(alloc, "out ", &doc, false),
+        Err(ParseFailure::Stdout(doc, true)) => kind_and_text(alloc, "full ", &doc, true),
+        Err(ParseFailure::Stderr(doc)) => kind_and_text(alloc, "err ", &doc, true),
     }
-    Ok(out)
 }
 
 /// Runs a parser on the beginnings of words that are shorter than these, from the empty one on and

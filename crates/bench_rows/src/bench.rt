@@ -332,14 +332,13 @@ impl<P: Described> Bench<P> {
         got: &str,
         out: &mut W,
     ) -> io::Result<()> {
-        let file = self.file.as_str();
-        let line = self.line;
+        let (file, line) = (self.file.as_str(), self.line);
         let parser = self.description.text()?;
         let words = quoted(self.alloc, words)?;
-        writeln!(out, "{file}:{line}: {parser}")?;
-        writeln!(out, "    words   {words}")?;
-        writeln!(out, "    wanted  {wanted}")?;
-        writeln!(out, "    got     {got}")
+        writeln!(
+            out,
+            "{file}:{line}: {parser}\n    words   {words}\n    wanted  {wanted}\n    got     {got}"
+        )
     }
 
     /// Runs the same parser once more, behind a run for which there was no memory, and prints its
