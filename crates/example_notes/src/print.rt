@@ -21,8 +21,7 @@ fn text_of(alloc: Global, notes: &Notes) -> Result<String, ParseFailure>
     ensures { IsTextOrWant (lines notes.now) result }
 {
     let verbose = notes.verbose;
-    let mut text = String::new(alloc);
-    writeln!(text, "verbose: {verbose}")?;
+    let mut text = format!(in alloc; "verbose: {verbose}\n")?;
     if let Some(dir) = &notes.dir {
         push_line(&mut text, "dir: ", dir.as_str())?;
     }
