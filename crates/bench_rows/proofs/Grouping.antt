@@ -1,18 +1,17 @@
 -- A group by what its constructor makes of the values, the members of a short list, and a check
 -- that accepts one text alone.
-use Rattle.std.proofs.Common.{◌≡◌, ℕ, Bool, List, Result, Ok, Err, Option, Some, None, sym}
-use Rattle.std.proofs.Common.{⊎_elim, String, string_bytes, inl, inr, ◌<◌, ◌≤◌, [], ◌∷◌}
-use Rattle.std.proofs.Common.{length, get_or, refl, arith}
-use Rattle.std.proofs.lemmas.List.Elements.{All-weaker}
+use Rattle.std.proofs.Common.{◌≡◌, ℕ, Bool, List, Result, Ok, Err, Option, Some, None, sym, ⊎_elim}
+use Rattle.std.proofs.Common.{String, string_bytes, inl, inr, ◌<◌, ◌≤◌, [], ◌∷◌, length, get_or}
+use Rattle.std.proofs.{lemmas.List.Elements.All-weaker, Common.refl, Common.arith}
 use Rattle.std.specs.declared.alloc.Global.{Global}
 use Rattle.bpaf_doc.specs.{declared.doc.Piece.Piece, Shape.Part, Shape.Any}
 use Rattle.bpaf_base.specs.{declared.arg.Arg.Arg, Items.item_text}
+use Rattle.bpaf_line.specs.declared.error.Message.{Message}
 use Rattle.bpaf_line.specs.declared.error.Message.TheVariants.{Memory, Missing}
-use Rattle.bpaf_line.specs.Situation.{Situation}
-use Rattle.bpaf_line.specs.{declared.error.Message.Message, declared.error.Error.Error}
+use Rattle.bpaf_line.specs.{declared.error.Error.Error, Situation.Situation}
+use Rattle.bpaf_laws.specs.Product.{ProductOutcome}
 use Rattle.bpaf_laws.specs.Leaves.{Looks, AnyOutcome, AnyFails, ArePassed, ChecksText}
-use Rattle.bpaf_laws.specs.{Adjacent.GroupOutcome, Laws.Spares, Product.ProductOutcome}
-use Rattle.bpaf_laws.specs.Reading.{Outcome}
+use Rattle.bpaf_laws.specs.{Adjacent.GroupOutcome, Reading.Outcome, Laws.Spares}
 use Rattle.bpaf_laws.proofs.AdjacentLaws.{spared_group}
 use Rattle.bench_rows.specs.Levels.{AcceptsText, BegunOutcome, NestedOutcome}
 use Rattle.bench_values.specs.{declared.value.Value.Value, Modifiers.ToldOutcome}

@@ -1,34 +1,32 @@
 -- A level: what its kind makes of the inner parsers, of several of one type or of a group of them.
 use Rattle.std.specs.Prelude.{◌≡◌, List, [], ◌∷◌, ℕ, codes, refl, Result, Ok, Err, None, ◌≢◌, Some}
-use Rattle.std.specs.Prelude.{String, string_bytes}
-use Rattle.std.specs.declared.alloc.Global.{Global}
-use Rattle.bpaf_doc.specs.Shape.{Shape, Skip, Part, part_of}
+use Rattle.std.specs.{Prelude.String, Prelude.string_bytes, declared.alloc.Global.Global}
 use Rattle.bpaf_doc.specs.declared.item.Item.{Item}
+use Rattle.bpaf_doc.specs.Shape.{Shape, Skip, Part, part_of}
 use Rattle.bpaf_words.specs.Line.{ShortNames}
 use Rattle.bpaf_laws.specs.Laws.{ShowsNames, joined_shorts, no_shorts, Lawful, all_shorts}
-use Rattle.bpaf_laws.specs.Laws.{FieldsShowNames}
-use Rattle.bpaf_laws.specs.Choice.{ChoicesOutcome, ChoicesReads, ChoicesDescribes}
 use Rattle.bpaf_laws.specs.Product.{BothOutcome, BothReads, BothDescribes, LastDescribes}
-use Rattle.bpaf_laws.specs.Product.{ProductOutcome, ProductDescribes, FailFastOutcome}
-use Rattle.bpaf_laws.specs.Combinators.{GivesRefusal, PureOutcome, PureReads, MapReads}
 use Rattle.bpaf_laws.specs.Reading.{Readings, Outcome}
 use Rattle.bpaf_laws.specs.Adjacent.{GroupOutcome, StretchReads, GroupDescribes}
-use Rattle.bpaf_laws.specs.{Command.CommandDescribes, Leaves.Looks}
-use Rattle.bpaf_laws.proofs.ShownNames.{both_show, last_shows, one_shape}
-use Rattle.bpaf_laws.proofs.ShownNames.{product_shows, choices_show, command_shows, group_shows}
-use Rattle.bpaf_laws.proofs.ChoiceLaws.{choices_lawful}
+use Rattle.bpaf_laws.specs.Choice.{ChoicesOutcome, ChoicesReads, ChoicesDescribes}
+use Rattle.bpaf_laws.specs.Product.{ProductOutcome, ProductDescribes, FailFastOutcome}
+use Rattle.bpaf_laws.specs.Combinators.{GivesRefusal, PureOutcome, PureReads, MapReads}
+use Rattle.bpaf_laws.specs.{Command.CommandDescribes, Laws.FieldsShowNames, Leaves.Looks}
+use Rattle.bpaf_laws.proofs.ShownNames.{both_show, last_shows, one_shape, product_shows}
+use Rattle.bpaf_laws.proofs.Keeping.{keeps_refl, names_same, lawful_by, lawful_answer}
+use Rattle.bpaf_laws.proofs.ShownNames.{choices_show, command_shows, group_shows}
 use Rattle.bpaf_laws.proofs.ProductLaws.{both_lawful, product_lawful, fail_fast_lawful}
-use Rattle.bpaf_laws.proofs.Keeping.{keeps_refl, names_same, lawful_by, lawful_answer, AnswersLawfully}
-use Rattle.bpaf_laws.proofs.{LeafLaws.refusal_lawful, AdjacentLaws.group_lawful}
+use Rattle.bpaf_laws.proofs.{ChoiceLaws.choices_lawful, AdjacentLaws.group_lawful}
+use Rattle.bpaf_laws.proofs.{Keeping.AnswersLawfully, LeafLaws.refusal_lawful}
 use Rattle.bench_values.specs.Modifiers.{ToldPair, ToldTriple, ToldQuadruple, ToldOutcome}
 use Rattle.bench_values.specs.Modifiers.{told_lawful, CalledOutcome, CalledReads, called_lawful}
 use Rattle.bench_values.specs.Modifiers.{Clones, OverOutcome, OverReads, OverDescribes, over_lawful}
 use Rattle.bench_values.specs.Modifiers.{over_shorts, over_shows}
 use Rattle.bench_values.specs.{declared.value.Value.Value, declared.kind.Kind.Kind}
-use Rattle.bpaf_line.specs.Situation.{Situation}
-use Rattle.bpaf_line.specs.{declared.error.Message.TheVariants.Memory, declared.error.Error.Error}
-use Rattle.bpaf.specs.declared.adjacent.AdjacentError.TheVariants.{NoFirstItem}
+use Rattle.bpaf_line.specs.declared.error.Message.TheVariants.{Memory}
+use Rattle.bpaf_line.specs.{declared.error.Error.Error, Situation.Situation}
 use Rattle.bpaf.specs.Remembering.{IsFirstOf, IsRefused}
+use Rattle.bpaf.specs.declared.adjacent.AdjacentError.TheVariants.{NoFirstItem}
 use Rattle.bpaf_core.specs.declared.parser.Parser.{Ghosts}
 use Rattle.bench_values.specs.declared.kind.Kind.TheVariants as kind
 use Rattle.bench_values.specs.declared.value.Value.TheVariants as value

@@ -1,26 +1,25 @@
 -- What one parser answers under a modifier or as a command, and what values are told as.
 use Rattle.std.specs.Prelude.{◌≡◌, ⊤, ℕ, ◌/◌, Bool, not, List, Result, Ok, Err, Option, Some, None}
+use Rattle.std.specs.declared.collections.VecDeque.{VecDeque}
 use Rattle.std.specs.Prelude.{◌⊎◌, true, [], ◌∷◌, All, ◌++◌, length, codes, refl, false}
-use Rattle.std.specs.{declared.collections.VecDeque.VecDeque, declared.alloc.Global.Global}
-use Rattle.std.specs.{Global.Box, Global.Vec}
+use Rattle.std.specs.{declared.alloc.Global.Global, Global.Box, Global.Vec}
 use Rattle.bench_values.specs.declared.value.Value.TheVariants.{Absent, Present, Tuple}
-use Rattle.bench_values.specs.{declared.value.Value.Value, declared.kind.Modifier.Modifier}
+use Rattle.bench_values.specs.{declared.kind.Modifier.Modifier, declared.value.Value.Value}
 use Rattle.std.proofs.Common.{⊎_elim}
-use Rattle.bpaf_line.specs.{Messages.is_memory, declared.error.Message.TheVariants.Memory}
-use Rattle.bpaf_laws.specs.Laws.{Lawful, ShowsNames, no_shorts}
+use Rattle.bpaf_line.specs.{declared.error.Message.TheVariants.Memory, Messages.is_memory}
 use Rattle.bpaf_laws.specs.Combinators.{MapReads, MapOutcome, ParseOutcome, GuardOutcome, Gives}
 use Rattle.bpaf_laws.specs.Combinators.{GivesClone, GivesAnswer, FallbackOutcome, NamesGiven}
 use Rattle.bpaf_laws.specs.Combinators.{OptionalReads, OptionalDescribes, is_nil, ListReads}
 use Rattle.bpaf_laws.specs.Combinators.{ManyOutcome, ManyDescribes, SomeOutcome, SomeDescribes}
 use Rattle.bpaf_laws.specs.Combinators.{CollectOutcome, CountOutcome, LastOutcome, HideOutcome}
-use Rattle.bpaf_laws.specs.Combinators.{TurnOutcome, PureReads}
-use Rattle.bpaf_laws.specs.Command.{Called, CommandPart, opening_words}
-use Rattle.bpaf_laws.specs.{Reading.Readings, Reading.Outcome, Choice.ChoiceReads}
-use Rattle.bpaf_laws.proofs.Keeping.{names_want, names_same, keeps_same}
+use Rattle.bpaf_laws.specs.{Command.Called, Command.CommandPart, Command.opening_words, Laws.Lawful}
+use Rattle.bpaf_laws.specs.{Combinators.TurnOutcome, Combinators.PureReads, Laws.ShowsNames}
+use Rattle.bpaf_laws.specs.{Laws.no_shorts, Reading.Readings, Reading.Outcome, Choice.ChoiceReads}
 use Rattle.bpaf_laws.proofs.CombinatorLaws.{map_lawful, parse_lawful, guard_lawful, optional_lawful}
 use Rattle.bpaf_laws.proofs.CombinatorLaws.{fallback_lawful, names_answer, many_lawful, some_lawful}
-use Rattle.bpaf_laws.proofs.CombinatorLaws.{collect_lawful, count_lawful, hide_lawful, last_lawful}
+use Rattle.bpaf_laws.proofs.Keeping.{names_want, names_same, keeps_same}
 use Rattle.bpaf_laws.proofs.ShownNames.{many_shows, one_shape, optional_shows, some_shows}
+use Rattle.bpaf_laws.proofs.CombinatorLaws.{collect_lawful, count_lawful, hide_lawful, last_lawful}
 use Rattle.bpaf_doc.specs.Shape.{Shape, Skip}
 use Rattle.bpaf_words.specs.Line.{ShortNames}
 use Rattle.bpaf_core.specs.{Command.EitherCommandOutcome, Command.EitherCommandReads, Ending.Ending}

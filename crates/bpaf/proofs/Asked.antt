@@ -1,23 +1,21 @@
 -- What a run shows it was asked for, or its parser hands it on.
 use Rattle.std.proofs.Common.{◌≡◌, Bool, true, false, List, [], Option, Some, None, Result, Ok, inl}
-use Rattle.std.proofs.Common.{inr, Err, refl, sym, ap, ◌∙◌, ⊎_elim, true≢false}
-use Rattle.std.proofs.Common.{if◌then◌else◌}
+use Rattle.std.proofs.Common.{inr, Err, refl, sym, ap, ◌∙◌, ⊎_elim, true≢false, if◌then◌else◌}
 use Rattle.std.specs.{Prelude.ℕ, Prelude.◌∷◌, Result.IfErr}
 use Rattle.bpaf_doc.specs.{declared.doc.Piece.Piece, Shape.Part, Shape.Shape}
 use Rattle.bpaf_text.specs.Named.{Named, KeyWithValue, flag_part, argument_part}
 use Rattle.bpaf_words.specs.{Arguments.Given, Line.Known}
-use Rattle.bpaf_line.specs.{declared.error.Error.Error, declared.error.Message.Message}
-use Rattle.bpaf_line.specs.{declared.failure.ParseFailure.ParseFailure, Messages.is_memory}
-use Rattle.bpaf_line.specs.{Messages.is_answer, Situation.Situation, Situation.beginning}
-use Rattle.bpaf_laws.specs.Product.{BothOutcome, ProductOutcome, both_answers}
-use Rattle.bpaf_laws.specs.Reading.{Readings, Outcome, IsAbsence}
+use Rattle.bpaf_line.specs.{declared.failure.ParseFailure.ParseFailure, Situation.Situation}
+use Rattle.bpaf_line.specs.{Situation.beginning, Messages.is_memory, Messages.is_answer}
+use Rattle.bpaf_line.specs.{declared.error.Message.Message, declared.error.Error.Error}
 use Rattle.bpaf_laws.specs.Leaves.{ArgumentOutcome, FlagOutcome}
-use Rattle.bpaf_laws.specs.{Laws.Keeps, Laws.Lawful, Combinators.ManyOutcome, Combinators.Turns}
+use Rattle.bpaf_laws.specs.Reading.{Readings, Outcome, IsAbsence}
+use Rattle.bpaf_laws.specs.Product.{BothOutcome, ProductOutcome, both_answers}
+use Rattle.bpaf_laws.specs.{Combinators.ManyOutcome, Combinators.Turns, Laws.Keeps, Laws.Lawful}
 use Rattle.bpaf_laws.proofs.Keeping.{keeps_same, keeps_trans}
-use Rattle.bpaf_core.specs.Ending.{EndsRun, Tells, leftover, passed_on, refused, shown}
-use Rattle.bpaf_core.specs.Ending.{told, usage, Shows, shows_help_page, leftover_is_told}
-use Rattle.bpaf_core.specs.Run.{Runs, RunsWords}
-use Rattle.bpaf_core.specs.{Rendering.Renders, ExtraParams.ExtraParams, Info.RunInfo}
+use Rattle.bpaf_core.specs.Ending.{EndsRun, Tells, leftover, passed_on, refused, shown, told, usage}
+use Rattle.bpaf_core.specs.{Ending.Shows, Ending.shows_help_page, Ending.leftover_is_told, Run.Runs}
+use Rattle.bpaf_core.specs.{Run.RunsWords, ExtraParams.ExtraParams, Rendering.Renders, Info.RunInfo}
 use Rattle.bpaf.specs.Asked.{CameTo, HandsOn, IfShown, IsAskedAt, RunShows, Showing, ShowsNothing}
 use Rattle.bpaf.specs.Asked.{WasAsked, WordsShow, inner_answer}
 use Rattle.bpaf.specs.{declared.leaves.positional.Position.Position, Positional.PositionalOutcome}

@@ -3,29 +3,27 @@
 use Rattle.std.proofs.Common.{◌≡◌, ℕ, ◌+◌, ◌≤◌, ◌<◌, Bool, true, false, nat_lt, if◌then◌else◌}
 use Rattle.std.proofs.Common.{Result, Ok, Err, MatchResult, Some, ap, sym, ◌∙◌, arith, true≢false}
 use Rattle.std.proofs.Common.{Option, None, List, [], ◌∷◌, refl, ⊎_elim, option_map, zero, suc, ◌-◌}
-use Rattle.std.proofs.Common.{length, inl}
-use Rattle.std.proofs.{lemmas.Bool.lt-ltb, lemmas.Bool.cases_lt, lemmas.Bool.Decides.nat_tests}
+use Rattle.std.proofs.lemmas.Bool.Decides.{nat_tests}
+use Rattle.std.proofs.{lemmas.Bool.lt-ltb, lemmas.Bool.cases_lt, Common.length, Common.inl}
 use Rattle.bpaf_line.specs.Situation.{Situation, open_count, with_scope, IsStretchFrom, count_below}
 use Rattle.bpaf_line.specs.Situation.{is_open, IsNextOpen}
 use Rattle.bpaf_line.specs.Marks.{Changes, CanRedo, redone, undone, Fits}
 use Rattle.bpaf_line.specs.{declared.error.Error.Error, declared.mark.Mark.Mark, Messages.is_memory}
-use Rattle.bpaf_laws.specs.Laws.{Keeps, Closes, Lawful, newly, taken_count, IsNotMemory}
-use Rattle.bpaf_laws.specs.Reading.{Outcome, Readings, HasPlace}
 use Rattle.bpaf_laws.specs.Adjacent.{Narrowed, again, Tries, answered, Failure, Probe, longer}
 use Rattle.bpaf_laws.specs.Adjacent.{GroupOutcome, HasNoStart, IsGroupStart, TriedInVain}
 use Rattle.bpaf_laws.specs.Adjacent.{all_failed, gave, longest, none_gave, none_tried, not_taken}
-use Rattle.bpaf_laws.specs.Adjacent.{place_count, wanted}
-use Rattle.bpaf_laws.specs.Product.{BothOutcome}
-use Rattle.bpaf_laws.proofs.{Keeping.fewer_took, Keeping.same_took_none, Keeping.open_count-falls}
-use Rattle.bpaf_laws.proofs.{Keeping.keeps_of, Keeping.keeps_scope, AdjacentLaws.tries_keep}
-use Rattle.bpaf.specs.declared.adjacent.failures.Remembered.{Remembered}
+use Rattle.bpaf_laws.specs.Reading.{Outcome, Readings, HasPlace}
+use Rattle.bpaf_laws.specs.Laws.{Keeps, Closes, Lawful, newly, taken_count, IsNotMemory}
+use Rattle.bpaf_laws.specs.{Adjacent.place_count, Adjacent.wanted, Product.BothOutcome}
+use Rattle.bpaf_laws.proofs.Keeping.{fewer_took, same_took_none, open_count-falls, keeps_of}
+use Rattle.bpaf_laws.proofs.{AdjacentLaws.tries_keep, Keeping.keeps_scope}
 use Rattle.bpaf.specs.Remembering.{IsRemembered, TakesOnePlace, HasPlaceIf, TriesFrom, failure_of}
 use Rattle.bpaf.specs.Remembering.{EndsAttempt, TriesAt, failed, found, no_memory, skipped, IsEnd}
 use Rattle.bpaf.specs.Remembering.{failure_from, WithoutValue}
+use Rattle.bpaf.specs.declared.adjacent.failures.Remembered.{Remembered}
 use Rattle.bpaf.specs.declared.adjacent.attempts.AttemptEnd.{AttemptEnd}
-use Rattle.bpaf_line.proofs.Places.{open_in_scope}
 use Rattle.bpaf_line.proofs.BitSets.{count_below-cut, count_below-most, count_below-none}
-use Rattle.bpaf_line.proofs.BitSets.{count_below-split}
+use Rattle.bpaf_line.proofs.{BitSets.count_below-split, Places.open_in_scope}
 use Rattle.std.specs.Result.{IsErr, IsErrAnd}
 use Rattle.bpaf_doc.specs.Shape.{Part}
 use Rattle.bpaf.specs.declared.adjacent.attempts.AttemptEnd.TheVariants as ending

@@ -3,18 +3,17 @@
 use Rattle.std.specs.Prelude.{◌≡◌, ℕ, true, false, Result, Ok, Err, Option, Some, None, Bool, ◌⊎◌}
 use Rattle.std.specs.Prelude.{◌+◌, List, IfSome, option_map, if◌then◌else◌}
 use Rattle.bpaf_line.specs.Situation.{Situation, open_count, with_scope, HasNoneOpen, IsNextOpen}
-use Rattle.bpaf_line.specs.Marks.{CanRedo, redone}
-use Rattle.bpaf_line.specs.{declared.error.Error.Error, Messages.is_memory}
-use Rattle.bpaf_line.specs.{declared.missing.MissingItem.MissingItem, Taking.IsMissingIn}
-use Rattle.bpaf_laws.specs.Adjacent.{Failure, Probe, Tries, longer, EndsWith, taken_by}
+use Rattle.bpaf_line.specs.{declared.missing.MissingItem.MissingItem, Marks.CanRedo, Marks.redone}
+use Rattle.bpaf_line.specs.{declared.error.Error.Error, Messages.is_memory, Taking.IsMissingIn}
 use Rattle.bpaf_laws.specs.Reading.{Outcome, IsEmptyShare, HasPlace, Share}
 use Rattle.bpaf_laws.specs.Leaves.{Looks, ArePassed, FirstMatch, looked_at}
+use Rattle.bpaf_laws.specs.Adjacent.{Failure, Probe, Tries, longer, EndsWith, taken_by}
 use Rattle.bpaf_base.specs.{declared.arg.Arg.Arg, Items.is_attached}
-use Rattle.bpaf_doc.specs.Shape.{Shape, Part, part_of, first_part}
 use Rattle.bpaf_doc.specs.declared.item.Item.{Item}
+use Rattle.bpaf_doc.specs.Shape.{Shape, Part, part_of, first_part}
+use Rattle.bpaf.specs.declared.adjacent.failures.Failed.{Failed}
 use Rattle.bpaf.specs.declared.adjacent.AdjacentError.{AdjacentError}
 use Rattle.bpaf.specs.declared.adjacent.attempts.AttemptEnd.{AttemptEnd}
-use Rattle.bpaf.specs.declared.adjacent.failures.Failed.{Failed}
 use Rattle.bpaf.specs.declared.adjacent.failures.Remembered.{Remembered}
 use Rattle.bpaf_line.specs.declared.error.Message.TheVariants as message
 use Rattle.bpaf.specs.declared.adjacent.AdjacentError.TheVariants as refused

@@ -1,7 +1,6 @@
 //! Four fields of a product at once, for records of many fields.
 ghost use Rattle.bpaf_laws.proofs.ProductLaws.{both_lawful, fail_fast_lawful, both_spares};
-ghost use Rattle.bpaf_laws.proofs.ProductLaws.{fail_fast_spares};
-ghost use Rattle.bpaf_laws.proofs.ShownNames.{both_show};
+ghost use Rattle.bpaf_laws.proofs.{ProductLaws.fail_fast_spares, ShownNames.both_show};
 
 use crate::product::{Both, Fields};
 use bpaf_core::Parser;

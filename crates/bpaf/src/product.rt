@@ -3,15 +3,14 @@ ghost use Rattle.std.specs.Prelude.{◌≡◌, OnOk, map, List};
 ghost use Rattle.bpaf_doc.specs.Shape.{shape_of, Shape};
 ghost use Rattle.bpaf_laws.specs.Product.{AppendsShapes, LastDescribes, BothOutcome, BothReads};
 ghost use Rattle.bpaf_laws.specs.Product.{BothDescribes, FailFastOutcome, ProductOutcome};
-ghost use Rattle.bpaf_laws.specs.Product.{ProductDescribes};
 ghost use Rattle.bpaf_laws.specs.Laws.{FieldsShowNames, joined_shorts, Spares, WithoutMemory};
-ghost use Rattle.bpaf_laws.specs.Laws.{IsNotMemory, Lawful};
-ghost use Rattle.bpaf_laws.specs.{Reading.Outcome, Reading.Readings, Combinators.MapReads};
+ghost use Rattle.bpaf_laws.specs.{Reading.Outcome, Reading.Readings, Laws.IsNotMemory, Laws.Lawful};
+ghost use Rattle.bpaf_laws.specs.{Product.ProductDescribes, Combinators.MapReads};
 ghost use Rattle.bpaf.specs.Remembering.{IsErrorBefore, WithoutValue};
 ghost use Rattle.bpaf_words.specs.Line.{ShortNames};
-ghost use Rattle.bpaf_laws.proofs.ShownNames.{last_shows, both_show, product_shows};
 ghost use Rattle.bpaf_laws.proofs.ProductLaws.{both_lawful, fail_fast_lawful, product_lawful};
 ghost use Rattle.bpaf_laws.proofs.ProductLaws.{both_spares, fail_fast_spares};
+ghost use Rattle.bpaf_laws.proofs.ShownNames.{last_shows, both_show, product_shows};
 
 use bpaf_core::Parser;
 use bpaf_doc::Meta;

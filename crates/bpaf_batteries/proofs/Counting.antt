@@ -1,26 +1,24 @@
 -- Counted keys: what two counts read are as many keys of each flag.
-use Rattle.std.proofs.Common.{◌≡◌, ℕ, ◌+◌, ◌<◌, ◌||◌, Bool, true, false, List, [], ◌∷◌}
-use Rattle.std.proofs.Common.{length, Result, Ok, Err, IfOk, None, refl, sym, ◌∙◌, subst, arith}
-use Rattle.std.proofs.Common.{⊎_elim, true≢false}
+use Rattle.std.proofs.Common.{◌≡◌, ℕ, ◌+◌, ◌<◌, ◌||◌, Bool, true, false, List, [], ◌∷◌, length}
+use Rattle.std.proofs.Common.{Result, Ok, Err, IfOk, None, refl, sym, ◌∙◌, subst, arith, ⊎_elim}
 use Rattle.std.proofs.lemmas.Bool.{eq-eqb, eqb-true, false_from_ne_true, ne_eqb, or_cases}
-use Rattle.std.proofs.lemmas.Option.{slice_get_within}
+use Rattle.std.proofs.{lemmas.Option.slice_get_within, Common.true≢false}
 use Rattle.bpaf_text.specs.declared.params.ParseFlag.{ParseFlag}
 use Rattle.bpaf_base.specs.declared.arg.Arg.{Arg}
 use Rattle.bpaf_index.proofs.BitSets.{count_below-same, count_below-fewer, count_below-none}
-use Rattle.bpaf_line.specs.Situation.{Situation, Context, item_in, count_below, with_current}
 use Rattle.bpaf_line.specs.declared.error.Error.{Error}
+use Rattle.bpaf_line.specs.Situation.{Situation, Context, item_in, count_below, with_current}
 use Rattle.bpaf_laws.proofs.Keeping.{count_below-joined}
 use Rattle.bpaf_laws.proofs.ProductLaws.{both_spares, product_spares}
-use Rattle.bpaf_laws.specs.Leaves.{at_key, nowhere}
+use Rattle.bpaf_laws.specs.Laws.{newly, IsNotMemory}
 use Rattle.bpaf_laws.specs.Reading.{Share, HasItem, IsPlace, Joins}
 use Rattle.bpaf_laws.specs.Combinators.{EachReads, ListReads, CountOutcome}
-use Rattle.bpaf_laws.specs.{Laws.newly, Laws.IsNotMemory, Product.BothOutcome}
+use Rattle.bpaf_laws.specs.{Leaves.at_key, Leaves.nowhere, Product.BothOutcome}
 use Rattle.bpaf_batteries.proofs.Keys.{not_both}
-use Rattle.bpaf_batteries.specs.declared.pair.KeyCounts.{KeyCounts}
-use Rattle.bpaf_batteries.specs.Keys.{is_flag_key, MustStand, KeyOutcome, KeyReads}
 use Rattle.bpaf_batteries.specs.Verbosity.{CountReads, CountsSpared, CountsOutcome, CountsReads}
 use Rattle.bpaf_batteries.specs.Verbosity.{KeysAreCounted, fewer_of, keys_in, more_of}
-use Rattle.bpaf_batteries.specs.Verbosity.{counts_lawful}
+use Rattle.bpaf_batteries.specs.Keys.{is_flag_key, MustStand, KeyOutcome, KeyReads}
+use Rattle.bpaf_batteries.specs.{declared.pair.KeyCounts.KeyCounts, Verbosity.counts_lawful}
 
 -- a share of so many places, each with a key of a flag
 record AreKeys {T : Type 0} (flag : ParseFlag T) (context : Context) (share : Share) (n : ℕ)

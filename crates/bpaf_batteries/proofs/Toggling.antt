@@ -3,29 +3,27 @@
 use Rattle.std.proofs.Common.{◌≡◌, ◌≢◌, ◌⊎◌, ℕ, ◌<◌, ◌≤◌, ◌==◌, ◌&&◌, ◌||◌, Bool, true, false, not}
 use Rattle.std.proofs.Common.{List, [], ◌∷◌, ◌++◌, Result, Ok, Err, Option, Some, None, refl, sym}
 use Rattle.std.proofs.Common.{◌∙◌, ap, subst, arith, inl, inr, ⊎_elim, true≢false, if◌then◌else◌}
-use Rattle.std.proofs.Common.{IsOk}
 use Rattle.std.proofs.lemmas.Bool.{and_parts, both_ways, cases_lt, false_from_ne_true}
-use Rattle.std.proofs.lemmas.Bool.Decides.{nat_tests}
+use Rattle.std.proofs.{lemmas.Bool.Decides.nat_tests, Common.IsOk}
 use Rattle.std.specs.Option.{option_map_or}
 use Rattle.bpaf_text.specs.declared.params.ParseFlag.{ParseFlag}
 use Rattle.bpaf_base.specs.declared.arg.Arg.{Arg}
 use Rattle.bpaf_line.proofs.Places.{open_not_taken, taken_here, taken_other, match_is_open}
 use Rattle.bpaf_line.specs.Situation.{Situation, is_taken, is_open, item_at, item_in, open_count}
-use Rattle.bpaf_line.specs.Situation.{take_place}
 use Rattle.bpaf_line.specs.Taking.{IsFirst, HasNone, is_match, open_item, IsLeftmost, TakeTheSame}
-use Rattle.bpaf_line.specs.{Messages.is_memory, declared.error.Error.Error}
+use Rattle.bpaf_line.specs.{declared.error.Error.Error, Situation.take_place, Messages.is_memory}
 use Rattle.bpaf_laws.proofs.ChoiceLaws.{chosen_at_equal, choice_lawful, ok_is_not_err, not_winner}
-use Rattle.bpaf_laws.proofs.ChoiceLaws.{leftmost_is_chosen, stands, took_nothing, leftmost_of_other}
 use Rattle.bpaf_laws.proofs.Keeping.{open_joins, same_took_none, newly_take}
+use Rattle.bpaf_laws.proofs.ChoiceLaws.{leftmost_is_chosen, stands, took_nothing, leftmost_of_other}
 use Rattle.bpaf_laws.proofs.{LeafLaws.flag_lawful, Sparing.stop_spared}
 use Rattle.bpaf_laws.specs.Choice.{BranchesEval, EqualDepths, IsChosen, TookAndIsChosen, branch_of}
 use Rattle.bpaf_laws.specs.Choice.{ChoiceReads, depth}
 use Rattle.bpaf_laws.specs.Combinators.{EndsIn, Turns, UntilStop, is_nil, TurnOutcome, is_untouched}
 use Rattle.bpaf_laws.specs.{Laws.Lawful, Laws.newly, Reading.IsPlace, Leaves.IsLast}
 use Rattle.bpaf_batteries.proofs.Keys.{KeyEval, key_ran, not_both}
-use Rattle.bpaf_batteries.specs.Keys.{is_flag_key, is_either, AreKeysApart, KeyOutcome, KeyReads}
 use Rattle.bpaf_batteries.specs.Toggle.{EitherOutcome, GivesValue, LastToggleWins, RightmostGives}
 use Rattle.bpaf_batteries.specs.Toggle.{ToggleOutcome}
+use Rattle.bpaf_batteries.specs.Keys.{is_flag_key, is_either, AreKeysApart, KeyOutcome, KeyReads}
 
 -- of two places that are present the one before the other is the leftmost that is taken by only one
 before_is_leftmost : (s : Situation) (p q : ℕ) → p < q → is_open s p ≡ true

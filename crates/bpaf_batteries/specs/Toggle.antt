@@ -1,20 +1,19 @@
 -- A toggle, the last value of two keys that may each stand any number of times, keeps to the laws.
 use Rattle.std.specs.Prelude.{◌≡◌, ◌⊎◌, ℕ, Bool, true, List, Option, Some, None, [], ◌∷◌, ◌++◌}
-use Rattle.std.specs.Prelude.{refl}
-use Rattle.std.specs.List.{last_or}
+use Rattle.std.specs.{Prelude.refl, List.last_or}
 use Rattle.bpaf_doc.specs.Shape.{Shape}
 use Rattle.bpaf_text.specs.declared.params.ParseFlag.{ParseFlag}
-use Rattle.bpaf_line.specs.{Situation.Situation, Taking.HasNone, Taking.is_match}
-use Rattle.bpaf_laws.specs.Choice.{ChoiceDescribes, ChoiceOutcome, ChoiceReads}
+use Rattle.bpaf_line.specs.{Taking.HasNone, Taking.is_match, Situation.Situation}
 use Rattle.bpaf_laws.specs.Combinators.{EndsIn, ListReads, ManyDescribes, ManyOutcome, MapOutcome}
-use Rattle.bpaf_laws.specs.Combinators.{MapReads}
+use Rattle.bpaf_laws.specs.Reading.{Outcome, Readings}
 use Rattle.bpaf_laws.specs.Laws.{WithoutMemory, ShowsNames, of_flags, Lawful}
-use Rattle.bpaf_laws.specs.{Leaves.IsLast, Leaves.flag_shape, Reading.Outcome, Reading.Readings}
+use Rattle.bpaf_laws.specs.Choice.{ChoiceDescribes, ChoiceOutcome, ChoiceReads}
+use Rattle.bpaf_laws.specs.{Leaves.IsLast, Leaves.flag_shape, Combinators.MapReads}
 use Rattle.bpaf_batteries.specs.Keys.{is_flag_key, is_either, AreKeysApart, KeyOutcome, KeyReads}
 use Rattle.std.proofs.Common.{ap, subst, sym, ◌∙◌}
-use Rattle.bpaf_laws.proofs.ShownNames.{choice_shows, flag_shows, many_shows}
 use Rattle.bpaf_laws.proofs.CombinatorLaws.{map_lawful, many_lawful}
-use Rattle.bpaf_laws.proofs.{Keeping.lawful_as, ChoiceLaws.choice_lawful, LeafLaws.flag_lawful}
+use Rattle.bpaf_laws.proofs.ShownNames.{choice_shows, flag_shows, many_shows}
+use Rattle.bpaf_laws.proofs.{ChoiceLaws.choice_lawful, LeafLaws.flag_lawful, Keeping.lawful_as}
 
 -- a value of the key at a place: a clone of that of its flag
 abbrev pub GivesValue : {T : Type 0} → (T → T → Type 0) → ParseFlag T → ParseFlag T → Situation → ℕ

@@ -1,26 +1,24 @@
 -- A level from two counted keys keeps to the laws.
 use Rattle.std.specs.Prelude.{◌≡◌, ◌⊎◌, ◌&&◌, ℕ, ℤ, pos, false, true, ◌-ℤ◌, List, length, slice_get}
-use Rattle.std.specs.Prelude.{◌++◌, codes, Some, Ok, Err}
 use Rattle.std.specs.Option.{option_map_or}
+use Rattle.std.specs.Prelude.{◌++◌, codes, Some, Ok, Err}
 use Rattle.bpaf_doc.specs.Shape.{Shape}
 use Rattle.bpaf_text.specs.declared.params.ParseFlag.{ParseFlag}
 use Rattle.bpaf_line.specs.Messages.{is_memory}
 use Rattle.bpaf_line.specs.Situation.{Situation, Context, item_in, count_below}
 use Rattle.bpaf_laws.specs.Product.{BothDescribes, BothOutcome, BothReads, LastDescribes}
 use Rattle.bpaf_laws.specs.Product.{ProductDescribes, ProductOutcome}
-use Rattle.bpaf_laws.specs.Combinators.{CountOutcome, ListReads, ManyDescribes, MapReads}
 use Rattle.bpaf_laws.specs.Laws.{newly, WithoutMemory, of_flags, ShowsNames, Lawful}
+use Rattle.bpaf_laws.specs.Combinators.{CountOutcome, ListReads, ManyDescribes, MapReads}
 use Rattle.bpaf_laws.specs.{Reading.Share, Reading.Outcome, Reading.Readings, Leaves.flag_shape}
 use Rattle.bpaf_words.specs.Line.{ShortNames}
 use Rattle.bpaf_batteries.specs.Keys.{IsCountedKey, KeyOutcome, KeyReads, is_flag_key, letter_q}
-use Rattle.bpaf_batteries.specs.Keys.{letter_v, IsLevelOf}
-use Rattle.bpaf_batteries.specs.declared.pair.KeyCounts.{KeyCounts}
+use Rattle.bpaf_batteries.specs.{declared.pair.KeyCounts.KeyCounts, Keys.letter_v, Keys.IsLevelOf}
 use Rattle.std.proofs.Common.{⊎_elim, inl, inr, subst, sym}
 use Rattle.bpaf_laws.proofs.ShownNames.{both_show, flag_shows, last_shows, many_shows}
-use Rattle.bpaf_laws.proofs.ShownNames.{product_shows}
-use Rattle.bpaf_laws.proofs.ProductLaws.{both_lawful, product_lawful}
 use Rattle.bpaf_laws.proofs.CombinatorLaws.{made_lawful, count_lawful}
-use Rattle.bpaf_laws.proofs.{Keeping.lawful_as, Keeping.names_want, LeafLaws.flag_lawful}
+use Rattle.bpaf_laws.proofs.{ProductLaws.both_lawful, ProductLaws.product_lawful, Keeping.lawful_as}
+use Rattle.bpaf_laws.proofs.{Keeping.names_want, ShownNames.product_shows, LeafLaws.flag_lawful}
 
 -- the key for more
 abbrev pub more_of : KeyCounts → ParseFlag (Unit {0})

@@ -4,22 +4,20 @@ use Rattle.std.proofs.Common.{◌≡◌, ℕ, Bool, true, false, Result, Ok, Err
 use Rattle.std.proofs.Common.{◌≤◌, length, refl, ap, ◌∙◌}
 use Rattle.std.specs.Result.{IsErr, IsErrAnd}
 use Rattle.bpaf_doc.specs.Shape.{Part}
-use Rattle.bpaf_line.specs.Situation.{Situation, IsStretchFrom, with_scope}
 use Rattle.bpaf_line.specs.declared.failure.ParseFailure.{ParseFailure}
+use Rattle.bpaf_line.specs.Situation.{Situation, IsStretchFrom, with_scope}
 use Rattle.bpaf_line.specs.Marks.{Fits, KeepsMarks, redone, undone, Changes}
 use Rattle.bpaf_line.specs.{declared.error.Error.Error, declared.mark.Mark.Mark, Messages.is_memory}
-use Rattle.bpaf_laws.specs.Reading.{Outcome, Readings}
-use Rattle.bpaf_laws.specs.Command.{Called, LeavesNothing, inside}
 use Rattle.bpaf_laws.specs.Adjacent.{IsFirstLeft, IsStretch}
-use Rattle.bpaf_laws.specs.Laws.{Lawful, newly}
+use Rattle.bpaf_laws.specs.Command.{Called, LeavesNothing, inside}
+use Rattle.bpaf_laws.specs.{Reading.Outcome, Reading.Readings, Laws.Lawful, Laws.newly}
 use Rattle.bpaf_core.specs.Command.{ended, missing, no_memory, value, EitherCommandOutcome, Enters}
 use Rattle.bpaf_core.specs.Command.{RunsInside, StaysOutside, counted, failed, no_path, unnamed}
 use Rattle.bpaf_core.specs.Command.{Attempts, GivesBack, IsTold, Retry, first_fails, second_fails}
 use Rattle.bpaf_core.specs.Command.{wants_memory, CommandOutcome}
-use Rattle.bpaf_core.specs.Ending.{Ending, LawfulEnding}
-use Rattle.bpaf_core.specs.Run.{Runs}
-use Rattle.bpaf_core.specs.CommandLaws.{runs_keeps, command_lawful, run_empty}
 use Rattle.bpaf_core.specs.AdjacentLaws.{attempts_counted, either_lawful}
+use Rattle.bpaf_core.specs.CommandLaws.{runs_keeps, command_lawful, run_empty}
+use Rattle.bpaf_core.specs.{Ending.Ending, Ending.LawfulEnding, Run.Runs}
 use Rattle.bpaf_parts.specs.Failures.{end_message}
 use Rattle.bpaf_line.proofs.Marks.{keeps_marks_refl, keeps_marks_scope, keeps_marks_trans}
 use Rattle.bpaf_laws.proofs.CommandLaws.{leaves_nothing}

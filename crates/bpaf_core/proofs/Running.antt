@@ -2,32 +2,30 @@
 -- refusal is one of the twelve.
 use Rattle.std.proofs.Common.{◌≡◌, ◌==◌, ℕ, Bool, true, List, [], ap, Result, Ok, Err, ⊎_elim, refl}
 use Rattle.std.proofs.Common.{IsErrAnd, arith, false, not, ◌&&◌, ◌<◌, length, IfOk, true≢false}
-use Rattle.std.proofs.Common.{nat_lt, Some, None, Option}
 use Rattle.std.proofs.lemmas.Bool.Decides.{nat_tests}
+use Rattle.std.proofs.Common.{nat_lt, Some, None, Option}
 use Rattle.std.specs.Result.{IfErr}
-use Rattle.bpaf_line.specs.declared.error.Message.TheVariants.{Memory, Ambiguity}
-use Rattle.bpaf_line.specs.declared.failure.ParseFailure.{ParseFailure}
 use Rattle.bpaf_line.specs.Situation.{Situation, Context, beginning, is_taken, is_open, in_scope}
 use Rattle.bpaf_line.specs.Situation.{is_dealt_place, open_count}
-use Rattle.bpaf_line.specs.Messages.{is_memory, is_answer}
-use Rattle.bpaf_line.specs.{declared.error.Message.Message, Rendering.Renders}
-use Rattle.bpaf_line.specs.{declared.error.Error.Error}
-use Rattle.bpaf_keys.specs.{Info.RunInfo, Info.ExtraOutcome, declared.info.ExtraParams.ExtraParams}
+use Rattle.bpaf_line.specs.declared.failure.ParseFailure.{ParseFailure}
+use Rattle.bpaf_line.specs.declared.error.Message.TheVariants.{Memory, Ambiguity}
+use Rattle.bpaf_line.specs.{Messages.is_memory, Messages.is_answer, declared.error.Message.Message}
+use Rattle.bpaf_line.specs.{declared.error.Error.Error, Rendering.Renders}
+use Rattle.bpaf_keys.specs.{declared.info.ExtraParams.ExtraParams, Info.RunInfo, Info.ExtraOutcome}
 use Rattle.bpaf_doc.specs.Shape.{Shape, parts, shape_of}
 use Rattle.bpaf_doc.specs.{declared.doc.Piece.Piece, declared.meta.Meta.Meta}
-use Rattle.bpaf_laws.specs.Reading.{Outcome, Readings}
 use Rattle.bpaf_laws.specs.Laws.{ShowsNames, shorts_of, Lawful, Keeps, Closes, newly, NamesAnswer}
-use Rattle.bpaf_laws.specs.Laws.{Refusal, refusal_of}
 use Rattle.bpaf_laws.specs.Combinators.{DefaultDescribes}
+use Rattle.bpaf_laws.specs.{Reading.Outcome, Reading.Readings, Laws.Refusal, Laws.refusal_of}
 use Rattle.bpaf_words.specs.Line.{Known, ShortNames, known_at}
-use Rattle.bpaf_words.specs.{Arguments.Given, Splitting.ReadsLine, declared.line.Line.Line}
-use Rattle.bpaf_words.specs.{declared.line.LineFault.LineFault}
+use Rattle.bpaf_words.specs.declared.line.LineFault.{LineFault}
+use Rattle.bpaf_words.specs.{declared.line.Line.Line, Splitting.ReadsLine, Arguments.Given}
 use Rattle.bpaf_core.specs.Run.{Runs, RunsWords, ran, no_line, no_memory, known_names, Starts}
-use Rattle.bpaf_core.specs.Run.{value, IsDealtOut}
-use Rattle.bpaf_core.specs.Refusals.{IsOneOfTwelve, without_memory, FailsAs, IsToldOf}
 use Rattle.bpaf_core.specs.Ending.{EndsRun, TellsNoLine, EndsRefused, PassesOrTells, ShowsHelp}
 use Rattle.bpaf_core.specs.Ending.{Tells, is_shown, memory, passed_on, refused, usage, Shows}
+use Rattle.bpaf_core.specs.Run.{value, IsDealtOut}
 use Rattle.bpaf_core.specs.Ending.{shows_help_page, leftover_is_told}
+use Rattle.bpaf_core.specs.Refusals.{IsOneOfTwelve, without_memory, FailsAs, IsToldOf}
 use mathlib.Core.Path.{fun_ext}
 use Rattle.bpaf_line.proofs.Sound.{taken_at_beginning}
 use Rattle.bpaf_laws.proofs.Keeping.{none_below, name_of, shows_nothing}

@@ -6,21 +6,20 @@ use Rattle.std.specs.Result.{IfErr}
 use Rattle.bpaf_doc.specs.Shape.{Part, Shape}
 use Rattle.bpaf_text.specs.Named.{Named}
 use Rattle.bpaf_words.specs.{Arguments.Given, Line.Known}
-use Rattle.bpaf_line.specs.declared.error.Message.TheVariants.{Memory}
-use Rattle.bpaf_line.specs.{declared.error.Message.Message, declared.error.Error.Error}
-use Rattle.bpaf_line.specs.{declared.failure.ParseFailure.ParseFailure, Messages.is_memory}
-use Rattle.bpaf_line.specs.Situation.{Situation}
+use Rattle.bpaf_line.specs.declared.failure.ParseFailure.{ParseFailure}
+use Rattle.bpaf_line.specs.{declared.error.Message.TheVariants.Memory, declared.error.Error.Error}
+use Rattle.bpaf_line.specs.{declared.error.Message.Message, Situation.Situation, Messages.is_memory}
 use Rattle.bpaf_laws.specs.Leaves.{FlagFails, FlagOutcome, IsFlagAbsent}
-use Rattle.bpaf_laws.specs.{Command.Called, Reading.Outcome, Laws.IsNotMemory, Laws.WithoutMemory}
+use Rattle.bpaf_laws.specs.{Laws.IsNotMemory, Laws.WithoutMemory, Reading.Outcome, Command.Called}
 use Rattle.bpaf_keys.specs.Info.{ExtraOutcome, help, neither, no_memory as no_key, version, RunInfo}
 use Rattle.bpaf_keys.specs.declared.info.ExtraParams.{ExtraParams}
 use Rattle.bpaf_core.specs.Command.{ended, missing, no_memory, value, EitherCommandOutcome, counted}
 use Rattle.bpaf_core.specs.Command.{failed, no_path, unnamed, Attempts, IsTold, Retry, first_fails}
 use Rattle.bpaf_core.specs.Command.{second_counts, second_fails, wants_memory, CommandOutcome}
-use Rattle.bpaf_core.specs.Command.{AdjacentOutcome, first_counts, nothing_left}
 use Rattle.bpaf_core.specs.Ending.{Ending, LawfulEnding, run_ending}
-use Rattle.bpaf_core.specs.Run.{Runs, IsNotWant, leftover, refused, value as run_value, RunsWords}
 use Rattle.bpaf_core.specs.Run.{ran, no_line, AsksForNeither, ClonesNothing}
+use Rattle.bpaf_core.specs.Command.{AdjacentOutcome, first_counts, nothing_left}
+use Rattle.bpaf_core.specs.Run.{Runs, IsNotWant, leftover, refused, value as run_value, RunsWords}
 
 -- a flag tells a refused clone as want of memory
 pub flag_clones_nothing : {T : Type 0} (named : Named) (absent : Option T) (s t : Situation)

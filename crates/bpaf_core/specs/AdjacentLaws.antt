@@ -2,21 +2,20 @@
 use Rattle.std.specs.Prelude.{◌≡◌, ℕ, ◌+◌, ◌<◌, ◌≤◌, Bool, true, false, None, Result, Ok, Err, refl}
 use Rattle.std.proofs.{Common.sym, Common.subst, Math.Nat.lt_trans}
 use Rattle.bpaf_doc.specs.Shape.{Part}
-use Rattle.bpaf_line.specs.Situation.{Situation, is_open, with_current, with_scope, IsStretchFrom}
 use Rattle.bpaf_line.specs.declared.failure.ParseFailure.{ParseFailure}
-use Rattle.bpaf_line.specs.{declared.error.Error.Error, declared.error.Message.TheVariants.Memory}
+use Rattle.bpaf_line.specs.Situation.{Situation, is_open, with_current, with_scope, IsStretchFrom}
+use Rattle.bpaf_line.specs.{declared.error.Message.TheVariants.Memory, declared.error.Error.Error}
 use Rattle.bpaf_laws.specs.Command.{Called, CommandReads, inside, opening_words}
 use Rattle.bpaf_laws.specs.Laws.{Keeps, Lawful, Reads, HasSomeName, NamesAnswer, no_memory, wanting}
-use Rattle.bpaf_laws.specs.{Adjacent.StretchReads, Reading.Outcome, Reading.Readings}
+use Rattle.bpaf_laws.specs.{Reading.Outcome, Reading.Readings, Adjacent.StretchReads}
 use Rattle.bpaf_core.specs.Command.{AdjacentOutcome, Attempt, Attempts, Retry, counted, failed}
 use Rattle.bpaf_core.specs.Command.{first_counts, first_fails, no_path, nothing_left, second_counts}
 use Rattle.bpaf_core.specs.Command.{second_fails, unnamed, wants_memory, EitherCommandOutcome}
-use Rattle.bpaf_core.specs.Command.{EitherCommandReads}
 use Rattle.bpaf_core.specs.CommandLaws.{command_lawful, names_end, names_missing, run_empty}
 use Rattle.bpaf_core.specs.CommandLaws.{run_read, runs_has_name, runs_keeps}
-use Rattle.bpaf_core.specs.Ending.{Ending, LawfulEnding}
-use Rattle.bpaf_laws.proofs.AdjacentLaws.{adjacent_read, keeps_stretch}
+use Rattle.bpaf_core.specs.{Ending.Ending, Ending.LawfulEnding, Command.EitherCommandReads}
 use Rattle.bpaf_laws.proofs.CommandLaws.{keeps_inside, keeps_opened}
+use Rattle.bpaf_laws.proofs.AdjacentLaws.{adjacent_read, keeps_stretch}
 use Rattle.bpaf_laws.proofs.Keeping.{keeps_refl, keeps_trans, keeps_unset, names_same}
 use Rattle.bpaf_parts.specs.Failures.{end_message}
 

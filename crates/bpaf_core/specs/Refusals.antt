@@ -1,12 +1,11 @@
 -- Each refusal of a run has one of twelve names.
 use Rattle.std.specs.Prelude.{◌≡◌, ℕ, Bool, true, false, List, [], Some, Result, Ok, Err}
-use Rattle.bpaf_line.specs.declared.failure.ParseFailure.{ParseFailure}
 use Rattle.bpaf_line.specs.Situation.{Context, Situation, beginning}
-use Rattle.bpaf_line.specs.{declared.error.Message.Message, declared.error.Error.Error}
-use Rattle.bpaf_line.specs.{Rendering.Renders, Taking.IsContext}
+use Rattle.bpaf_line.specs.{declared.failure.ParseFailure.ParseFailure, declared.error.Error.Error}
+use Rattle.bpaf_line.specs.{declared.error.Message.Message, Rendering.Renders, Taking.IsContext}
 use Rattle.bpaf_doc.specs.{declared.doc.Piece.Piece, Shape.Shape}
 use Rattle.bpaf_messages.specs.Leftover.{IsLeftover}
-use Rattle.bpaf_words.specs.{Arguments.Given, Line.HasNoLine, Line.Known}
+use Rattle.bpaf_words.specs.{Line.HasNoLine, Line.Known, Arguments.Given}
 use Rattle.bpaf_laws.specs.Reading.{Outcome}
 use Rattle.bpaf_laws.specs.Laws.{HasName, Refusal, help_or_version, no_memory, refusal_of}
 use Rattle.bpaf_core.specs.Ending.{Shows, ShowsHelp, shows_help_page}

@@ -1,16 +1,15 @@
 -- What a run answers, how one over words starts, and a value that is dealt out of words.
 use Rattle.std.specs.Prelude.{◌≡◌, ℕ, false, List, [], Result, Ok, Err, Some, None, Bool, ⊤, Option}
-use Rattle.bpaf_words.specs.{Arguments.Given, Line.HasNoLine, Line.Known}
+use Rattle.bpaf_words.specs.{Line.HasNoLine, Line.Known, Arguments.Given}
 use Rattle.bpaf_line.specs.Situation.{Situation, Context, beginning, open_count, is_dealt_place}
-use Rattle.bpaf_line.specs.declared.failure.ParseFailure.{ParseFailure}
-use Rattle.bpaf_line.specs.declared.error.Message.TheVariants.{ParseFailed}
-use Rattle.bpaf_line.specs.{declared.error.Error.Error, Messages.is_memory, Taking.IsContext}
-use Rattle.bpaf_line.specs.{Rendering.Renders, declared.error.Message.Message}
+use Rattle.bpaf_line.specs.{declared.error.Message.TheVariants.ParseFailed, Messages.is_memory}
+use Rattle.bpaf_line.specs.{declared.failure.ParseFailure.ParseFailure, declared.error.Error.Error}
+use Rattle.bpaf_line.specs.{declared.error.Message.Message, Rendering.Renders, Taking.IsContext}
 use Rattle.bpaf_doc.specs.Shape.{Shape, in_order}
 use Rattle.bpaf_core.specs.Ending.{Ending, EndsRun}
 use Rattle.bpaf_parts.specs.Failures.{end_message}
 use Rattle.bpaf_keys.specs.Info.{RunInfo, IsNoVersion}
-use Rattle.bpaf_laws.specs.{Reading.Outcome, Reading.Readings, Leaves.GetsText, Leaves.IsFlagAbsent}
+use Rattle.bpaf_laws.specs.{Leaves.GetsText, Leaves.IsFlagAbsent, Reading.Outcome, Reading.Readings}
 use Rattle.bpaf_text.specs.Named.{KeyWithValue, Named}
 pub use Rattle.bpaf_keys.specs.Info.{known_names}
 use Rattle.bpaf_line.specs.declared.error.Message.TheVariants as message

@@ -1,8 +1,7 @@
 //! Arguments.
-ghost use Rattle.std.specs.{Prelude.◌≡◌, Result.IfErr};
+ghost use Rattle.std.specs.{Result.IfErr, Prelude.◌≡◌};
 ghost use Rattle.bpaf_laws.specs.Leaves.{ArgumentOutcome, ArgumentReads, argument_shape};
-ghost use Rattle.bpaf_laws.specs.Leaves.{KeyBeforeEnvironment};
-ghost use Rattle.bpaf_laws.specs.Laws.{of_arguments};
+ghost use Rattle.bpaf_laws.specs.{Leaves.KeyBeforeEnvironment, Laws.of_arguments};
 ghost use Rattle.bpaf_laws.proofs.{ArgumentLaws.argument_lawful, ShownNames.argument_shows};
 ghost use Rattle.bpaf_core.specs.Run.{FaultsTextAlone};
 

@@ -1,11 +1,10 @@
 //! How many values a parser gives, and the last of them.
 ghost use Rattle.bpaf_laws.specs.Combinators.{CountOutcome, LastOutcome, ListReads, ManyDescribes};
 ghost use Rattle.bpaf_laws.specs.Combinators.{EndsIn, SomeDescribes, UntilFault, UntilRest};
-ghost use Rattle.bpaf_laws.specs.Combinators.{MapReads};
-ghost use Rattle.bpaf_laws.specs.Laws.{IsNotMemory, WithoutMemory};
+ghost use Rattle.bpaf_laws.specs.{Laws.IsNotMemory, Laws.WithoutMemory, Combinators.MapReads};
 ghost use Rattle.std.specs.Prelude.{◌≡◌, IfErr, IfOk, List, ℕ, length, [], ◌∷◌, ◌++◌};
-ghost use Rattle.bpaf_laws.proofs.CombinatorLaws.{count_lawful, last_lawful};
 ghost use Rattle.bpaf_laws.proofs.ShownNames.{many_shows, some_shows};
+ghost use Rattle.bpaf_laws.proofs.CombinatorLaws.{count_lawful, last_lawful};
 
 use crate::optional::parse_option;
 use crate::parser::Parser;

@@ -1,21 +1,20 @@
 -- What a run of the program does: which options its words have, what it prints of them, and what
 -- it shows where it is asked for help.
 use Rattle.std.specs.Prelude.{◌≡◌, ℕ, Bool, true, false, List, [], ◌∷◌, Some, codes, Result, ◌++◌}
-use Rattle.std.specs.Prelude.{map, string_bytes}
-use Rattle.std.specs.{Global.Vec, Fmt.decimal}
+use Rattle.std.specs.{Prelude.map, Prelude.string_bytes, Fmt.decimal, Global.Vec}
 use Rattle.bpaf_doc.specs.Shape.{Shape, And, Many, Optional, members}
-use Rattle.bpaf_doc.specs.{Names.Names, declared.doc.Piece.Piece, Print.TextPieces, Print.printed}
+use Rattle.bpaf_doc.specs.{Print.TextPieces, Print.printed, declared.doc.Piece.Piece, Names.Names}
 use Rattle.bpaf_text.specs.Meaning.{SpellsUnsigned}
 use Rattle.bpaf_text.specs.Named.{KeyWithValue, key_named, with_help}
-use Rattle.bpaf_words.specs.{Arguments.Given, Line.Known, Line.knowing}
-use Rattle.bpaf_laws.specs.{Leaves.ArgumentReads, Leaves.argument_shape, Product.BothReads}
-use Rattle.bpaf_laws.specs.{Reading.Readings, Combinators.ListReads, Combinators.MapReads}
+use Rattle.bpaf_words.specs.{Line.Known, Line.knowing, Arguments.Given}
+use Rattle.bpaf_laws.specs.{Combinators.ListReads, Combinators.MapReads, Leaves.ArgumentReads}
+use Rattle.bpaf_laws.specs.{Leaves.argument_shape, Product.BothReads, Reading.Readings}
 use Rattle.bpaf.specs.Positional.{PositionalReads, positional_shape}
-use Rattle.bpaf.specs.Asked.{IfShown, WasAsked}
-use Rattle.bpaf.specs.{declared.leaves.positional.Position.TheVariants.Unrestricted, Run.IsDealtOut}
-use Rattle.bpaf_program.specs.Fields.{NamedSwitchReads, switch_shape}
+use Rattle.bpaf.specs.declared.leaves.positional.Position.TheVariants.{Unrestricted}
+use Rattle.bpaf.specs.{Asked.IfShown, Asked.WasAsked, Run.IsDealtOut}
 use Rattle.bpaf_program.specs.KnownParser.{MeansText, String, known_con, known_many, known_switch}
 use Rattle.bpaf_program.specs.KnownParser.{IsExactFor, IsValueBy}
+use Rattle.bpaf_program.specs.Fields.{NamedSwitchReads, switch_shape}
 use Rattle.bpaf_program.specs.Ending.{line, line_each, truth, AnswersByText, PrintsTextOf, Written}
 use Rattle.bpaf_demo.specs.declared.options.Options.{Options}
 use Rattle.bpaf_line.specs.declared.failure.ParseFailure.{ParseFailure}

@@ -203,7 +203,7 @@ shapes_of_members [] = refl
 shapes_of_members (shape ∷ shapes) = ap (λ rest. shape ∷ rest) (shapes_of_members shapes)
 
 -- the shape of an Or
-or_shape : (all : Vec Meta Global) → shape_of (meta.Or all) ≡ Or (members (map shape_of all.items))
+pub or_shape : (all : Vec Meta Global) → shape_of (meta.Or all) ≡ Or (members (map shape_of all.items))
 unfolding meta.roll-Meta denote.Hole.Carrier.roll
 or_shape all = fold-roll-Meta Part Shape part_layer shape_layer (Meta-F.Or all)
 

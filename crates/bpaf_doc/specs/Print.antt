@@ -48,7 +48,7 @@ prints doc full = printed full doc
 abbrev pub Prints : Print → List Piece → Type 0
 Prints text doc = (full : Bool) → printed full doc ≡ text full
 
--- a list without elements
+-- a text without bytes
 abbrev pub is_blank : List ℕ → Bool
 is_blank [] = true
 is_blank (c ∷ rest) = false

@@ -6,24 +6,23 @@ use Rattle.bpaf_base.specs.Items.{item_text}
 use Rattle.bpaf_doc.specs.Names.{Names}
 use Rattle.bpaf_text.specs.{Named.KeyWithValue, Named.Named as Key, Meaning.SpellsUnsigned}
 use Rattle.bpaf_line.specs.Situation.{Context}
-use Rattle.bpaf_laws.specs.{Reading.Outcome}
-use Rattle.bpaf_exact.proofs.{ProgramForm.runs_as_program, ProgramForm.whole_law, Leaves.last_same}
+use Rattle.bpaf_laws.specs.Reading.{Outcome}
+use Rattle.bpaf_exact.proofs.ProgramForm.{runs_as_program, whole_law}
 use Rattle.bpaf_exact.proofs.{Cuts.one_take, Cuts.one_cut, Wrappers.alternative_single}
-use Rattle.bpaf_exact.proofs.{Commands.none_opens, Repeat.own_nil}
-use Rattle.bpaf_exact.specs.ProgramForm.{program_alone}
-use Rattle.bpaf_exact.specs.ProgramForm.{argument_field, flag_field, program_closed, ArgumentValue}
-use Rattle.bpaf_exact.specs.ProgramForm.{program_field, program_both, program_con, whole_value}
-use Rattle.bpaf_exact.specs.ProgramForm.{ProgramForm, is_program, word_by, whole_program}
-use Rattle.bpaf_exact.specs.ProgramForm.{program_value, alternative, program_if, WordValue}
-use Rattle.bpaf_exact.specs.ProgramForm.{key_field, completed, commands, program_optional}
-use Rattle.bpaf_exact.specs.ProgramForm.{before_commands, complete, product, FormLaw, single}
-use Rattle.bpaf_exact.specs.ProgramForm.{Agrees}
-use Rattle.bpaf_exact.specs.Says.{HasOneView, RunsToOne, pair_view, OneGroup, Respects, Alike}
-use Rattle.bpaf_exact.specs.Pieces.{LinePiece, Cells, Roles, One, Two}
+use Rattle.bpaf_exact.proofs.{Commands.none_opens, Leaves.last_same, Repeat.own_nil}
+use Rattle.bpaf_exact.specs.ProgramForm.{program_alone, argument_field, flag_field, program_closed}
+use Rattle.bpaf_exact.specs.ProgramForm.{ArgumentValue, program_field, program_both, program_con}
+use Rattle.bpaf_exact.specs.ProgramForm.{whole_value, ProgramForm, is_program, word_by}
+use Rattle.bpaf_exact.specs.ProgramForm.{whole_program, program_value, alternative, program_if}
+use Rattle.bpaf_exact.specs.ProgramForm.{WordValue, key_field, completed, commands}
+use Rattle.bpaf_exact.specs.ProgramForm.{program_optional, before_commands, complete, product}
 use Rattle.bpaf_exact.specs.Flat.{SingleValue, ClosedValue, SingleLaw, FieldKind, Gap, Variables}
 use Rattle.bpaf_exact.specs.Flat.{own_none, own_more, repeated, AgreesOn, FrontOf, Own}
 use Rattle.bpaf_exact.specs.Flat.{FallbackValue, OptionalValue, list_closure, OwnList, Closure}
 use Rattle.bpaf_exact.specs.Flat.{Decides, Groups, ByName}
+use Rattle.bpaf_exact.specs.ProgramForm.{FormLaw, single, Agrees}
+use Rattle.bpaf_exact.specs.Pieces.{LinePiece, Cells, Roles, One, Two}
+use Rattle.bpaf_exact.specs.Says.{HasOneView, RunsToOne, pair_view, OneGroup, Respects, Alike}
 
 -- Closures.
 

@@ -1,23 +1,21 @@
 -- Of each combinator: its values say what is told of them, where those of its inner parsers do.
 use Rattle.std.proofs.Common.{append-nil, arith, false, subst, Bool, List, refl, true, zero, ◌++◌}
 use Rattle.std.proofs.Common.{None, Some, not, suc, sym, ◌∙◌, ◌∷◌, ◌≡◌, [], ap, ℕ}
-use Rattle.std.specs.{List.Contains}
+use Rattle.std.specs.List.{Contains}
 use Rattle.bpaf_doc.specs.Names.{Names}
-use Rattle.bpaf_laws.specs.{Command.opening_words, Command.Called, Product.BothOutcome}
-use Rattle.bpaf_laws.specs.Reading.{Outcome}
+use Rattle.bpaf_laws.specs.Command.{opening_words, Called}
+use Rattle.bpaf_laws.specs.{Product.BothOutcome, Reading.Outcome}
 use Rattle.bpaf_exact.proofs.ProgramForm.{program_alone_law, program_field_law, program_both_law}
-use Rattle.bpaf_exact.proofs.Says.{fallback_by, optional_by, front_says, whole_says, list_says}
 use Rattle.bpaf_exact.proofs.Names.{first_within, mine_within, none_behind, others_both, apart_none}
 use Rattle.bpaf_exact.proofs.Names.{apart_of_names, mine_of_others, others_unkeyed, second_within}
 use Rattle.bpaf_exact.proofs.Names.{mine_rest, both_fits, taken_own, all_mine, each_own, rest_fit}
 use Rattle.bpaf_exact.proofs.Names.{others_none, others_rest, mine_keyed, others_fit, mine_none}
-use Rattle.bpaf_exact.proofs.Names.{all_front}
-use Rattle.bpaf_exact.proofs.{Names.own_fit, Names.no_fits, Names.cut_fit, ProgramForm.whole_law}
+use Rattle.bpaf_exact.proofs.ProgramForm.{whole_law}
+use Rattle.bpaf_exact.proofs.Names.{all_front, own_fit, no_fits, cut_fit}
+use Rattle.bpaf_exact.proofs.Says.{fallback_by, optional_by, front_says, whole_says, list_says}
 use Rattle.bpaf_exact.specs.Flat.{FieldsReading, FallbackValue, OptionalValue, both_reading, ByName}
 use Rattle.bpaf_exact.specs.Flat.{SingleValue, ClosedValue, FieldKind, Variables, repeated, OwnList}
-use Rattle.bpaf_exact.specs.Flat.{Closure, Groups, gap_of, LastOf, front, back, keys, Gap}
 use Rattle.bpaf_exact.specs.Pieces.{are_all_apart, LinePiece, no_roles, either, others, Roles, Owns}
-use Rattle.bpaf_exact.specs.Pieces.{mine}
 use Rattle.bpaf_exact.specs.ProgramForm.{before_commands, program_command, program_dressed, FormLaw}
 use Rattle.bpaf_exact.specs.ProgramForm.{program_choice, program_closed, product_roles, ProgramForm}
 use Rattle.bpaf_exact.specs.ProgramForm.{program_alone, program_field, program_value, whole_program}
@@ -25,12 +23,13 @@ use Rattle.bpaf_exact.specs.ProgramForm.{choice_only, ChoiceValue, program_con, 
 use Rattle.bpaf_exact.specs.ProgramForm.{CellsValue, may_follow, no_program, program_if}
 use Rattle.bpaf_exact.specs.ProgramForm.{last_reading, CommandValue, program_both, alternative}
 use Rattle.bpaf_exact.specs.ProgramForm.{OptionalCommands, program_optional, completed, commands}
-use Rattle.bpaf_exact.specs.ProgramForm.{complete, product}
 use Rattle.bpaf_exact.specs.Says.{FieldThenSays, repeated_kind, FallbackSays, OptionalSays, BothSay}
 use Rattle.bpaf_exact.specs.Says.{RepeatSays, cells_said, its_pieces, EitherSays, AloneSays, AllOwn}
 use Rattle.bpaf_exact.specs.Says.{FieldsSay, FrontSays, form_kind, FormSays, LastSays, MadeSays}
 use Rattle.bpaf_exact.specs.Says.{SaidKind, CutSays, of_kind, IsSaid, keyed, ProgramSaid}
-use Rattle.bpaf_exact.specs.Says.{ProgramSays, FieldsKeep, FieldsSaid, RecordSays, OwnBy, Said, Says}
+use Rattle.bpaf_exact.specs.Says.{ProgramSays, FieldsKeep, FieldsSaid, RecordSays, OwnBy, Said}
+use Rattle.bpaf_exact.specs.Flat.{Closure, Groups, gap_of, LastOf, front, back, keys, Gap}
+use Rattle.bpaf_exact.specs.{ProgramForm.complete, ProgramForm.product, Pieces.mine, Says.Says}
 
 -- where a test holds
 if_says : {T : Type 0} (b : Bool) {s : ProgramForm T} {kind : SaidKind} {names : List Names}

@@ -9,16 +9,15 @@ use Rattle.bpaf_laws.specs.{Leaves.value_without_key, Combinators.is_nil, Readin
 use Rattle.bpaf_exact.proofs.Names.{never_nil}
 use Rattle.bpaf_exact.specs.Flat.{listed_and_absent, FallbackValue, OptionalValue, SingleValue, Gap}
 use Rattle.bpaf_exact.specs.Flat.{only_absent, Variables, own_more, own_none, OneWord, FrontOf, Own}
-use Rattle.bpaf_exact.specs.Flat.{OwnList, Closure, ByName, Groups, listed}
 use Rattle.bpaf_exact.specs.ProgramForm.{argument_field, argument_group, argument_roles, flag_field}
 use Rattle.bpaf_exact.specs.ProgramForm.{ArgumentValue, flag_roles, CellsValue, FlagValue, word_by}
 use Rattle.bpaf_exact.specs.Says.{FallbackSays, OptionalSays, says_in_turn, says_present, FrontSays}
 use Rattle.bpaf_exact.specs.Says.{says_variable_text, says_last_text, says_variable, ArgumentSays}
 use Rattle.bpaf_exact.specs.Says.{says_absent, RepeatSays, says_alone, says_kept, says_none, Said}
 use Rattle.bpaf_exact.specs.Says.{says_some, says_text, FlagSays, MadeSays, WordSays, LastSays}
-use Rattle.bpaf_exact.specs.Pieces.{LinePiece, Roles, One, Two}
-use Rattle.bpaf_exact.specs.ProgramForm.{WordValue, key_field}
-use Rattle.bpaf_exact.specs.Says.{says_own, of_kind, Says}
+use Rattle.bpaf_exact.specs.Flat.{OwnList, Closure, ByName, Groups, listed}
+use Rattle.bpaf_exact.specs.{Pieces.LinePiece, Pieces.Roles, Pieces.One, Pieces.Two, Says.says_own}
+use Rattle.bpaf_exact.specs.{ProgramForm.WordValue, ProgramForm.key_field, Says.of_kind, Says.Says}
 
 -- Leaves.
 

@@ -3,27 +3,26 @@
 use Rattle.std.specs.Prelude.{bytes_eq, Option, Result, length, false, Bool, true, List, Some, None}
 use Rattle.std.specs.Prelude.{◌==◌, ◌&&◌, ◌||◌, ◌++◌, ◌≡◌, ◌≤◌, ◌⊎◌, ◌∷◌, Err, not, map, [], Ok, ℕ}
 use Rattle.std.specs.{List.list_all, List.AllPass, Option.is_none}
-use Rattle.bpaf_base.specs.declared.arg.Arg.TheVariants.{ArgWord, Short, Long}
 use Rattle.bpaf_base.specs.Items.{is_argument_key, is_positional, is_key_of, item_text, word_text}
-use Rattle.bpaf_base.specs.declared.arg.Arg.{Arg}
+use Rattle.bpaf_base.specs.declared.arg.Arg.TheVariants.{ArgWord, Short, Long}
+use Rattle.bpaf_base.specs.{declared.arg.Arg.Arg, Items.is_key}
 use Rattle.bpaf_doc.specs.Names.{Names}
 use Rattle.bpaf_text.specs.Named.{Named as Key, KeyWithValue}
 use Rattle.bpaf_line.specs.Situation.{with_current, open_count, Situation, beginning, Context}
-use Rattle.bpaf_line.specs.{Taking.TakesText, Taking.HasNone, declared.error.Error.Error}
-use Rattle.bpaf_line.specs.Situation.{item_in}
+use Rattle.bpaf_line.specs.declared.error.Error.{Error}
+use Rattle.bpaf_line.specs.{Taking.TakesText, Taking.HasNone, Situation.item_in}
 use Rattle.bpaf_laws.specs.Command.{opening_words, IsNotOpened, IsOpenedAt, is_one_of, Called}
 use Rattle.bpaf_laws.specs.{Reading.first_set, Reading.Outcome, Leaves.value_without_key}
 use Rattle.bpaf_laws.specs.{Combinators.is_nil, Command.inside, Choice.depth}
 use Rattle.bpaf_exact.specs.Pieces.{are_all_apart, stands_behind, is_own_role, LinePiece, no_roles}
 use Rattle.bpaf_exact.specs.Pieces.{others, Cells, Roles, Apart, Takes, Alone, Owns, Cut, One, Two}
-use Rattle.bpaf_exact.specs.Pieces.{WithNext, roles_of, is_value, IsNamed, pieces, either}
-use Rattle.bpaf_base.specs.Items.{is_key}
 use Rattle.bpaf_exact.specs.Flat.{AlternativeLaw, FieldsReading, OptionalValue, either_value, class}
 use Rattle.bpaf_exact.specs.Flat.{ErrorClass, closed_gap, OfMissing, Variables, FieldKind, OfMemory}
 use Rattle.bpaf_exact.specs.Flat.{FieldsLaw, SingleLaw, FieldLaw, AgreesOn, KeepsTo, ReadOff, cells}
 use Rattle.bpaf_exact.specs.Flat.{portion, FrontOf, Closure, OneWord, Refused, ByName, Groups, left}
 use Rattle.bpaf_exact.specs.Flat.{both_reading, NonePresent, first_cells, SingleValue, ClosedValue}
 use Rattle.bpaf_exact.specs.Flat.{gap_of, Caught, keys, Gap}
+use Rattle.bpaf_exact.specs.Pieces.{WithNext, roles_of, is_value, IsNamed, pieces, either}
 
 -- which values some cells have
 abbrev pub CellsValue : Type 0 → Type 1

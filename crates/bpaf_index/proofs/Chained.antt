@@ -3,19 +3,18 @@
 use Rattle.std.proofs.Common.{◌≡◌, ◌⊎◌, ℕ, ◌+◌, ◌<◌, ◌≤◌, List, Bool, true, false, Some, None}
 use Rattle.std.proofs.Common.{String, if◌then◌else◌, inl, refl, ap, sym, ◌∙◌, subst, arith, length}
 use Rattle.std.proofs.Common.{take, slice_index, bytes_eq, string_bytes, Option, get_or, slice_set}
-use Rattle.std.proofs.Common.{length-set, get_or-set_same, get_or-set_other}
-use Rattle.std.specs.BTreeMap.{BTreeMap, get_by_text, Updates}
-use Rattle.bpaf_index.specs.Chained.{Naming, class_of, IsNoted, AreClassesOf, Chained, IsNextOf}
-use Rattle.bpaf_index.specs.Chained.{IsPlaceOf, IsChainStartOf, HasWalked, AreBehind, head_of}
-use Rattle.bpaf_index.specs.Chained.{names_of, HasNoKeyFrom}
+use Rattle.std.proofs.lemmas.Map.Text.{btree_map_updates_text}
 use Rattle.std.proofs.lemmas.List.{get_or-take, length-take-le}
 use Rattle.std.proofs.lemmas.Option.{slice_get_read, get_or_from_slice_get}
-use Rattle.std.proofs.{lemmas.Bool.Decides.nat_tests, lemmas.Map.Text.btree_map_updates_text}
-use Rattle.std.proofs.lemmas.Slice.Eq.{bytes_eq-Decides}
+use Rattle.std.proofs.Common.{length-set, get_or-set_same, get_or-set_other}
+use Rattle.std.proofs.{lemmas.Slice.Eq.bytes_eq-Decides, lemmas.Bool.Decides.nat_tests}
+use Rattle.std.specs.BTreeMap.{BTreeMap, get_by_text, Updates}
 use Rattle.std.specs.{declared.alloc.Global.Global, String.string_cmp}
-use Rattle.bpaf_base.specs.{declared.arg.Arg.TheVariants.Long, declared.arg.Arg.Arg, Names.Names}
-use Rattle.bpaf_base.specs.Items.{is_key_of, is_key}
-use Rattle.bpaf_index.specs.InsideChains.{IsLinked}
+use Rattle.bpaf_index.specs.Chained.{Naming, class_of, IsNoted, AreClassesOf, Chained, IsNextOf}
+use Rattle.bpaf_index.specs.Chained.{IsPlaceOf, IsChainStartOf, HasWalked, AreBehind, head_of}
+use Rattle.bpaf_index.specs.{Chained.names_of, Chained.HasNoKeyFrom, InsideChains.IsLinked}
+use Rattle.bpaf_base.specs.declared.arg.Arg.TheVariants.{Long}
+use Rattle.bpaf_base.specs.{Items.is_key_of, Items.is_key, declared.arg.Arg.Arg, Names.Names}
 
 -- the classes of a line's first places, fewer than 128 and one for each of these
 pub record AreGiven (names : Naming) (items : List Arg) (place : ℕ) (classes : List ℕ)

@@ -1,19 +1,18 @@
 -- Looking for help and the version: how it is put together, and that it keeps to the laws.
-use Rattle.std.proofs.Common.{arith}
-use Rattle.std.proofs.Common.{◌≡◌, Bool, true, false, None, Option, List, Some, Ok, Err, ⊎_elim}
-use Rattle.std.proofs.Common.{inr, Result, sym, ◌∙◌, ap}
+use Rattle.std.proofs.Common.{arith, ◌≡◌, Bool, true, false, None, Option, List, Some, Ok, Err}
+use Rattle.std.proofs.Common.{⊎_elim, inr, Result, sym, ◌∙◌, ap}
 use Rattle.std.specs.Prelude.{◌++◌, refl, codes}
-use Rattle.std.specs.{Option.option_map_or, Result.IsErr, Result.IsErrAnd}
+use Rattle.std.specs.{Result.IsErr, Result.IsErrAnd, Option.option_map_or}
 use Rattle.bpaf_doc.specs.{declared.doc.Piece.Piece, Shape.parts}
 use Rattle.bpaf_text.specs.Named.{Named}
 use Rattle.bpaf_line.specs.declared.error.Message.TheVariants.{Memory, ParseFail}
 use Rattle.bpaf_line.specs.{declared.error.Error.Error, Situation.Situation}
 use Rattle.bpaf_laws.proofs.Keeping.{keeps_same, keeps_trans, names_same, keeps_refl}
 use Rattle.bpaf_laws.proofs.ShownNames.{both_show, flag_shows, last_shows, one_shape, product_shows}
-use Rattle.bpaf_laws.proofs.{LeafLaws.flag_lawful, ProductLaws.both_lawful}
-use Rattle.bpaf_laws.specs.Laws.{ShowsNames, of_flags, shorts_of, NamesAnswer, Keeps, Lawful, Reads}
-use Rattle.bpaf_laws.specs.Leaves.{FlagOutcome, IsPresent, IsFlagAbsent}
+use Rattle.bpaf_laws.proofs.{ProductLaws.both_lawful, LeafLaws.flag_lawful}
 use Rattle.bpaf_laws.specs.Product.{BothReads}
+use Rattle.bpaf_laws.specs.Leaves.{FlagOutcome, IsPresent, IsFlagAbsent}
+use Rattle.bpaf_laws.specs.Laws.{ShowsNames, of_flags, shorts_of, NamesAnswer, Keeps, Lawful, Reads}
 use Rattle.bpaf_keys.specs.Info.{ExtraOutcome, ExtraReads, IsNoVersion, SwitchReads, extra_shape}
 use Rattle.bpaf_keys.specs.Info.{extra_shape_of, help, neither, no_memory, version, RunInfo}
 use Rattle.bpaf_keys.specs.Info.{IsNotAsked, LooksForVersion}

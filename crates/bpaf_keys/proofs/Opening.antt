@@ -1,11 +1,10 @@
 -- How the word of a command is looked for, name by name.
-use Rattle.std.proofs.Common.{arith}
-use Rattle.std.proofs.Common.{◌≡◌, ℕ, suc, ◌<◌, Bool, true, false, ◌||◌, List, [], ◌∷◌, ◌++◌}
+use Rattle.std.proofs.Common.{arith, ◌≡◌, ℕ, suc, ◌<◌, Bool, true, false, ◌||◌, List, [], ◌∷◌, ◌++◌}
 use Rattle.std.proofs.Common.{length, get_or, map, take, drop, encode_utf8, Option, Some, None}
 use Rattle.std.proofs.Common.{is_some, refl, sym, ap, ◌∙◌, append_assoc}
-use Rattle.std.proofs.{Math.Seq.split_at, lemmas.List.map-append, lemmas.List.Folds.list_any-append}
+use Rattle.std.proofs.{lemmas.List.Folds.list_any-append, lemmas.List.map-append, Math.Seq.split_at}
 use Rattle.std.specs.Option.{option_map_or}
-use Rattle.bpaf_base.specs.{declared.arg.Arg.Arg}
+use Rattle.bpaf_base.specs.declared.arg.Arg.{Arg}
 use Rattle.bpaf_line.specs.Situation.{Situation, item_at}
 use Rattle.bpaf_laws.specs.Command.{TakesOpening, is_one_of}
 

@@ -1,23 +1,21 @@
 -- Choices keep to the laws where their branches do, catch no want of memory; the leftmost wins.
 use Rattle.std.proofs.Common.{true≢false, Result, Option, false, arith, Bool, true, Some, None, ◌≡◌}
 use Rattle.std.proofs.Common.{List, refl, ◌++◌, ◌&&◌, IsOk, Err, sym, inl, inr, ◌∷◌, not, ◌∙◌, ◌⊎◌}
-use Rattle.std.proofs.{Common.Ok, Common.[], Common.ap, Common.ℕ, lemmas.Bool.Decides.nat_tests}
 use Rattle.std.proofs.lemmas.Bool.{and_parts, cases_cond}
+use Rattle.std.proofs.{Common.Ok, Common.[], Common.ap, Common.ℕ, lemmas.Bool.Decides.nat_tests}
 use Rattle.bpaf_doc.specs.Shape.{Shape}
 use Rattle.bpaf_line.specs.Taking.{ConflictsSaved, TakeTheSame, IsLeftmost, IsWinner}
-use Rattle.bpaf_line.specs.{Situation.Situation, declared.error.Error.Error}
-use Rattle.bpaf_line.specs.Messages.{Combines}
+use Rattle.bpaf_line.specs.{declared.error.Error.Error, Situation.Situation, Messages.Combines}
 use Rattle.bpaf_laws.proofs.Keeping.{AnswersLawfully, reads_conflicts, LawfulAnswer, same_took_none}
 use Rattle.bpaf_laws.proofs.Keeping.{lawful_answer, names_want, keeps_refl, keeps_same, lawful_by}
-use Rattle.bpaf_laws.proofs.Keeping.{reads_as, names_same}
+use Rattle.bpaf_laws.proofs.{Keeping.reads_as, Keeping.names_same, LeafLaws.refusal_lawful}
 use Rattle.bpaf_laws.specs.Choice.{ChoiceDescribes, TookAndIsChosen, AnsweredBranch, ChoicesOutcome}
 use Rattle.bpaf_laws.specs.Choice.{ChoiceOutcome, ValueOfWinner, LeftmostOfAll, BranchesEval, depth}
 use Rattle.bpaf_laws.specs.Choice.{ChoicesReads, either_shape, LeftmostWins, EqualDepths, branch_of}
 use Rattle.bpaf_laws.specs.Choice.{ChoiceReads, no_choice, IsChosen, is_want, Winner, Chosen}
-use Rattle.bpaf_laws.proofs.LeafLaws.{refusal_lawful}
+use Rattle.bpaf_laws.specs.Choice.{Nested, IsWant, Stands}
 use Rattle.bpaf_laws.specs.Laws.{WithoutMemory, IsNotMemory, Lawful, Spares}
-use Rattle.bpaf_laws.specs.{Choice.Nested, Choice.IsWant, Choice.Stands, Combinators.is_untouched}
-use Rattle.bpaf_laws.specs.Reading.{Readings, Outcome}
+use Rattle.bpaf_laws.specs.{Reading.Readings, Reading.Outcome, Combinators.is_untouched}
 
 -- an error is no value
 pub ok_is_not_err : {T : Type 0} (v : T) (e : Error) → ◌≡◌ {A = Result T Error} (Ok v) (Err e) → ⊥

@@ -1,14 +1,13 @@
 -- Behind the word of a command: what opening its scope keeps, and what is read there.
-use Rattle.std.proofs.Common.{◌≡◌, ℕ, true, List, length, arith}
 use Rattle.std.proofs.lemmas.Bool.Decides.{nat_tests}
+use Rattle.std.proofs.Common.{◌≡◌, ℕ, true, List, length, arith}
 use Rattle.bpaf_base.specs.Items.{any_item}
 use Rattle.bpaf_line.specs.Situation.{Situation, is_open, open_count, take_place}
 use Rattle.bpaf_line.proofs.Places.{open_in_line, open_in_scope, taken_stays, match_is_open}
 use Rattle.bpaf_line.proofs.Places.{open_has_item}
-use Rattle.bpaf_laws.specs.Laws.{Keeps, Closes, Reads}
 use Rattle.bpaf_laws.specs.Command.{Called, CommandReads, IsOpenedAt, LeavesNothing, inside, opened}
-use Rattle.bpaf_laws.specs.Command.{is_one_of, opening_words}
-use Rattle.bpaf_laws.specs.Reading.{Readings, HasItem, IsPlace}
+use Rattle.bpaf_laws.specs.{Reading.Readings, Reading.HasItem, Reading.IsPlace, Command.is_one_of}
+use Rattle.bpaf_laws.specs.{Command.opening_words, Laws.Keeps, Laws.Closes, Laws.Reads}
 use Rattle.bpaf_laws.proofs.Keeping.{keeps_path, keeps_scope, keeps_take, newly_take, reads_as}
 use Rattle.bpaf_laws.proofs.Keeping.{none_below, reads_both}
 

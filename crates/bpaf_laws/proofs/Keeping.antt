@@ -4,29 +4,27 @@
 use Rattle.std.proofs.Common.{false, subst, true, ◌&&◌, ◌||◌, List, ◌++◌, refl, Bool, zero, ◌≡◌, []}
 use Rattle.std.proofs.Common.{append_assoc, append-nil, true≢false, Result, Option, length, arith}
 use Rattle.std.proofs.Common.{◌+◌, ◌∷◌, sym, ◌∙◌, suc, ◌<◌, ◌≤◌, map, ap, ℕ}
-use Rattle.std.proofs.{lemmas.Bool.Decides.nat_tests}
-use Rattle.std.proofs.lemmas.List.{map-append}
+use Rattle.std.proofs.{lemmas.Bool.Decides.nat_tests, lemmas.List.map-append}
 use Rattle.std.specs.Prelude.{◌==◌, None, Some, not, Err, Ok}
-use Rattle.bpaf_doc.specs.{Shape.shape_of, Shape.Shape, declared.doc.Piece.Piece}
-use Rattle.bpaf_doc.specs.declared.meta.Meta.{Meta}
+use Rattle.bpaf_doc.specs.declared.doc.Piece.{Piece}
+use Rattle.bpaf_doc.specs.{Shape.shape_of, Shape.Shape, declared.meta.Meta.Meta}
 use Rattle.bpaf_text.specs.{declared.fault.TextFault.TextFault, Meaning.ReadsText, Named.Named}
 use Rattle.bpaf_line.specs.Situation.{with_current, count_below, take_place, with_scope, open_count}
-use Rattle.bpaf_line.specs.Situation.{Situation, with_path, is_taken, in_scope, Context, is_open}
 use Rattle.bpaf_line.specs.declared.error.Message.TheVariants.{ParseFailure, Memory}
+use Rattle.bpaf_line.specs.Situation.{Situation, with_path, is_taken, in_scope, Context, is_open}
+use Rattle.bpaf_line.specs.{Messages.is_answer, Messages.is_memory, declared.error.Message.Message}
+use Rattle.bpaf_line.specs.{declared.error.Error.Error, Taking.ConflictsSaved, Rendering.Renders}
 use Rattle.bpaf_line.proofs.Marks.{keeps_marks_current, keeps_marks_trans, keeps_marks_scope}
-use Rattle.bpaf_line.proofs.Marks.{keeps_marks_refl, keeps_marks_take, keeps_marks_path}
 use Rattle.bpaf_line.proofs.Places.{open_not_taken, open_in_line, taken_other, taken_stays}
 use Rattle.bpaf_line.proofs.Places.{taken_here}
-use Rattle.bpaf_line.specs.Messages.{is_answer, is_memory}
+use Rattle.bpaf_line.proofs.Marks.{keeps_marks_refl, keeps_marks_take, keeps_marks_path}
 use Rattle.bpaf_line.specs.declared.failure.ParseFailure.{ParseFailure as Failure}
-use Rattle.bpaf_line.specs.{declared.error.Message.Message, declared.error.Error.Error}
-use Rattle.bpaf_line.specs.{Taking.ConflictsSaved, Rendering.Renders}
 use Rattle.bpaf_laws.specs.Reading.{IsEmptyShare, TellsReading, ReadsValue, Readings, HasPlace}
-use Rattle.bpaf_laws.specs.Reading.{Outcome, IsPlace, IsPair, IsKept, Share, Joins}
 use Rattle.bpaf_laws.specs.Laws.{no_memory, Refusal, wanting, Closes, Lawful, Keeps, Reads}
 use Rattle.bpaf_laws.specs.Laws.{NamesAnswer, HasSomeName, taken_count, refusal_of, CountFalls}
-use Rattle.bpaf_laws.specs.Combinators.{FallbackOutcome, TellsFault, GivesClone}
 use Rattle.bpaf_laws.specs.Product.{AppendsShapes, LastDescribes, BothReads}
+use Rattle.bpaf_laws.specs.Combinators.{FallbackOutcome, TellsFault, GivesClone}
+use Rattle.bpaf_laws.specs.Reading.{Outcome, IsPlace, IsPair, IsKept, Share, Joins}
 use Rattle.bpaf_laws.specs.{Laws.newly, Laws.told, Leaves.FlagOutcome}
 use Rattle.bpaf_line.specs.declared.failure.ParseFailure.TheVariants as failure
 

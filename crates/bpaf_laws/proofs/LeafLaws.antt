@@ -1,29 +1,28 @@
 -- Flags, items that a look matches, the program's name and leaves without items keep to the laws.
 use Rattle.std.proofs.Common.{if◌then◌else◌, option_map, Option, String, ⊎_elim, false, subst, Bool}
 use Rattle.std.proofs.Common.{arith, true, List, refl, Some, ◌≡◌, sym, inl, inr, ◌+◌, ◌∷◌, ◌⊎◌, []}
-use Rattle.std.proofs.Common.{true≢false, ◌∙◌}
 use Rattle.std.proofs.lemmas.List.Elements.{Contains-append_right, All-contains, All-cons, All-take}
-use Rattle.std.proofs.{lemmas.List.Elements.All-nil, Common.ℕ}
+use Rattle.std.proofs.{Common.true≢false, Common.◌∙◌, Common.ℕ, lemmas.List.Elements.All-nil}
 use Rattle.std.specs.Prelude.{Contains, Err, All, Ok}
 use Rattle.std.specs.{List.cons_option, List.filter_map, declared.alloc.Global.Global}
 use Rattle.bpaf_base.specs.{Items.is_attached, Items.is_key_of, declared.arg.Arg.Arg}
 use Rattle.bpaf_doc.specs.{Names.Names, Shape.Part}
 use Rattle.bpaf_text.specs.Named.{Named}
+use Rattle.bpaf_line.specs.declared.error.Message.{Message}
+use Rattle.bpaf_line.specs.Taking.{placed_item, TakesFlag, open_item}
 use Rattle.bpaf_line.specs.Situation.{take_place, Situation, is_open, item_at}
 use Rattle.bpaf_line.specs.declared.error.Message.TheVariants.{ParseFailure, ParseFail, Memory}
-use Rattle.bpaf_line.specs.Taking.{placed_item, TakesFlag, open_item}
-use Rattle.bpaf_line.specs.declared.error.Message.{Message}
 use Rattle.bpaf_line.proofs.Places.{open_item_there, match_has_item, match_is_open}
 use Rattle.bpaf_laws.specs.Leaves.{AppnameOutcome, AppnameReads, FlagOutcome, AnyOutcome, FlagReads}
 use Rattle.bpaf_laws.specs.Leaves.{FirstMatch, FlagFails, IsPresent, looked_at, take_item, AnyReads}
-use Rattle.bpaf_laws.specs.Leaves.{AnyFails, nowhere, at_key, Looks}
 use Rattle.bpaf_laws.specs.Combinators.{PureWithOutcome, GivesRefusal, PureOutcome, NamesGiven}
 use Rattle.bpaf_laws.specs.Combinators.{PureReads, Gives}
+use Rattle.bpaf_laws.specs.Laws.{NamesAnswer, Lawful, Keeps, Reads}
+use Rattle.bpaf_laws.specs.Leaves.{AnyFails, nowhere, at_key, Looks}
+use Rattle.bpaf_laws.specs.Reading.{Readings, IsPlace, IsPair, Share}
 use Rattle.bpaf_laws.proofs.Keeping.{closes_take_both, AnswersLawfully, newly_take_both, keeps_same}
 use Rattle.bpaf_laws.proofs.Keeping.{reads_unset, keeps_take, reads_same, newly_none, newly_take}
 use Rattle.bpaf_laws.proofs.Keeping.{keeps_trans, keeps_unset, names_same, lawful_by}
-use Rattle.bpaf_laws.specs.Reading.{Readings, IsPlace, IsPair, Share}
-use Rattle.bpaf_laws.specs.Laws.{NamesAnswer, Lawful, Keeps, Reads}
 
 -- what looking for a flag keeps
 pub flag_keeps : (names : Names) (s : Situation) (found : Bool) (t : Situation)

@@ -1,9 +1,8 @@
 -- Want of memory is caught by no turn and no repeat.
 use Rattle.std.proofs.Common.{◌≡◌, Bool, true, false, Result, Option, arith, ℕ, List, [], ◌∷◌, Ok}
-use Rattle.std.proofs.Common.{Err, inl, inr}
-use Rattle.std.proofs.lemmas.Bool.{both_ways}
-use Rattle.bpaf_line.specs.{declared.error.Message.Message, declared.error.Error.Error}
-use Rattle.bpaf_line.specs.{Messages.is_memory, Situation.Situation}
+use Rattle.std.proofs.{Common.Err, Common.inl, Common.inr, lemmas.Bool.both_ways}
+use Rattle.bpaf_line.specs.declared.error.Message.{Message}
+use Rattle.bpaf_line.specs.{declared.error.Error.Error, Situation.Situation, Messages.is_memory}
 use Rattle.bpaf_laws.specs.Combinators.{TurnOutcome, stops_step, Turns, UntilStop, UntilError}
 use Rattle.bpaf_laws.specs.Combinators.{UntilRest, stops, rests, ManyOutcome, SomeOutcome}
 use Rattle.bpaf_laws.specs.Combinators.{CollectOutcome, CountOutcome, LastOutcome}

@@ -4,21 +4,20 @@ use Rattle.std.proofs.Common.{◌≡◌, ℕ, ◌+◌, ◌-◌, ◌<◌, ◌≤�
 use Rattle.std.proofs.Common.{sym, ◌∙◌, arith, length-drop, Option, [], ◌∷◌, length-append, ◌≢◌}
 use Rattle.std.proofs.Common.{Bool, true, false, not, ◌&&◌, Some, None, if◌then◌else◌, reverse}
 use Rattle.std.proofs.Common.{option_map, zero, suc, ◌*◌, ◌||◌, ⊎_elim, nat_lt, slice_index}
-use Rattle.std.proofs.Common.{add-one}
 use Rattle.std.proofs.lemmas.List.{length-take-le, take-append-le, take-append-drop, take-take}
 use Rattle.std.proofs.lemmas.List.{take_rest, drop-take, get_or-drop, reverse-append, take_more}
+use Rattle.std.proofs.lemmas.List.Folds.{find-append, list_any-append}
 use Rattle.std.proofs.lemmas.Bool.{cases_eq, or_right, ltb-true, ltb-false}
+use Rattle.std.proofs.{lemmas.List.take_all, Common.add-one}
 use Rattle.bpaf_line.specs.Situation.{Situation, cut_to, take_place, with_conflicts, with_scope}
 use Rattle.bpaf_line.specs.Situation.{with_path, with_current, TakenInTurn, is_taken, last_of}
-use Rattle.bpaf_line.specs.Situation.{is_on, with_trail, PresentInTurn}
 use Rattle.bpaf_line.specs.Marks.{HasReached, undone, steps_since, redone, CanRedo, KeepsMarks}
-use Rattle.bpaf_line.specs.Taking.{ConflictsSaved, IsWinner, leftmost_of}
-use Rattle.bpaf_index.specs.Bits.{has_bit, is_in_first, AreWithin, IsLeastIn}
-use Rattle.std.proofs.{lemmas.List.take_all, lemmas.List.Folds.find-append}
-use Rattle.std.proofs.{lemmas.List.Folds.list_any-append}
-use Rattle.bpaf_line.specs.{Marks.Changes, Marks.Fits, Inside.IsSoundAt, declared.mark.Mark.Mark}
 use Rattle.bpaf_line.specs.declared.state.State.TheInside.{Inside}
-use Rattle.std.specs.{Option.option_or}
+use Rattle.bpaf_line.specs.Situation.{is_on, with_trail, PresentInTurn}
+use Rattle.bpaf_line.specs.Taking.{ConflictsSaved, IsWinner, leftmost_of}
+use Rattle.bpaf_line.specs.{Marks.Changes, Marks.Fits, declared.mark.Mark.Mark, Inside.IsSoundAt}
+use Rattle.bpaf_index.specs.Bits.{has_bit, is_in_first, AreWithin, IsLeastIn}
+use Rattle.std.specs.Option.{option_or}
 use Rattle.bpaf_index.proofs.BitSets.{on_others}
 use Rattle.bpaf_line.proofs.Places.{present_in_line}
 

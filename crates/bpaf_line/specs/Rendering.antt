@@ -3,19 +3,18 @@ use Rattle.std.specs.Prelude.{Bool, true, false, ◌&&◌, ◌||◌, ◌==◌, L
 use Rattle.std.specs.Prelude.{map, filter, if◌then◌else◌, ℕ, zero, suc, ◌+◌, ◌++◌, codes, Option}
 use Rattle.std.specs.Prelude.{Some, None, option_map, option_and_then, ◌≡◌, max, drop, chars}
 use Rattle.std.specs.Prelude.{encode_utf8, encode_utf8_all, slice_get, unwrap_or, ⊤}
-use Rattle.std.specs.{List.best_of, Option.option_map_or}
-use Rattle.bpaf_doc.specs.Shape.{Part, Any, Positional, Command, Flag, Argument, part_text, part_of}
+use Rattle.std.specs.{Option.option_map_or, List.best_of}
 use Rattle.bpaf_doc.specs.Print.{printed, in_backticks, folded_whole}
-use Rattle.bpaf_line.specs.Missing.{Missed, missed_of}
-use Rattle.bpaf_line.specs.Situation.{Situation, line_item, first_present}
+use Rattle.bpaf_doc.specs.Shape.{Part, Any, Positional, Command, Flag, Argument, part_text, part_of}
 use Rattle.bpaf_line.specs.declared.error.Message.TheVariants.{Memory, NoEnv, ParseSome, ParseFail}
 use Rattle.bpaf_line.specs.declared.error.Message.TheVariants.{PureFailed, Missing, ParseFailure}
 use Rattle.bpaf_line.specs.declared.error.Message.TheVariants.{StrictPos, NonStrictPos, NoArgument}
 use Rattle.bpaf_line.specs.declared.error.Message.TheVariants.{ParseFailed, GuardFailed, Conflict}
 use Rattle.bpaf_line.specs.declared.error.Message.TheVariants.{Unconsumed, Ambiguity, Expected}
-use Rattle.bpaf_line.specs.declared.error.Message.TheVariants.{OnlyOnce}
+use Rattle.bpaf_line.specs.Situation.{Situation, line_item, first_present}
+use Rattle.bpaf_line.specs.{declared.error.Message.TheVariants.OnlyOnce, Missing.Missed}
+use Rattle.bpaf_line.specs.{Missing.missed_of, declared.error.Message.Message, Taking.open_item}
 use Rattle.bpaf_line.specs.declared.failure.ParseFailure.{ParseFailure as Failure}
-use Rattle.bpaf_line.specs.{Taking.open_item, declared.error.Message.Message}
 use Rattle.bpaf_base.specs.declared.arg.Arg.TheVariants.{Short, Long, ArgWord, Word, PosWord}
 use Rattle.bpaf_base.specs.{declared.arg.Arg.Arg, Items.display}
 use Rattle.bpaf_line.specs.declared.failure.ParseFailure.TheVariants as failure

@@ -1,7 +1,8 @@
 //! What an evaluation refuses with, and which refusals are caught.
 ghost use Rattle.std.specs.Prelude.{◌≡◌, MatchResult, false, if◌then◌else◌};
 ghost use Rattle.bpaf_line.specs.Messages.{Combines, CombinesSpared, is_answer, is_memory};
-ghost use Rattle.bpaf_line.specs.Messages.{can_catch, is_wrong_input};
+ghost use Rattle.bpaf_line.specs.declared.error.Message.TheVariants.{Memory};
+ghost use Rattle.bpaf_line.specs.{Messages.can_catch, Messages.is_wrong_input, Taking.message_of};
 
 use crate::failure::ParseFailure;
 use crate::missing::MissingItems;
@@ -241,9 +242,6 @@ impl Error {
 }
 
 impl From<AllocError> for Error {
-    ghost use Rattle.std.specs.Prelude.{◌≡◌};
-    ghost use Rattle.bpaf_line.specs.declared.error.Message.TheVariants.{Memory};
-
     ghost from_gives = { λ _ error. error.0 ≡ Memory };
 
     fn from(_error: AllocError) -> Error {
@@ -252,9 +250,6 @@ impl From<AllocError> for Error {
 }
 
 impl From<AllocError> for Message {
-    ghost use Rattle.std.specs.Prelude.{◌≡◌};
-    ghost use Rattle.bpaf_line.specs.declared.error.Message.TheVariants.{Memory};
-
     ghost from_gives = { λ _ message. message ≡ Memory };
 
     fn from(_error: AllocError) -> Message {
@@ -265,9 +260,6 @@ impl From<AllocError> for Message {
 /// So that a parser of a caller's own may write `vec.push(x)?` and `Box::new(alloc, x)?`; what was
 /// to be kept is dropped.
 impl<T: Drop> From<AllocFailed<T>> for Error {
-    ghost use Rattle.std.specs.Prelude.{◌≡◌};
-    ghost use Rattle.bpaf_line.specs.declared.error.Message.TheVariants.{Memory};
-
     ghost from_gives = { λ _ error. error.0 ≡ Memory };
 
     fn from(refused: AllocFailed<T>) -> Error {
@@ -277,9 +269,6 @@ impl<T: Drop> From<AllocFailed<T>> for Error {
 }
 
 impl From<LineFault> for Message {
-    ghost use Rattle.std.specs.Prelude.{◌≡◌};
-    ghost use Rattle.bpaf_line.specs.Taking.{message_of};
-
     ghost from_gives = { λ fault message. message ≡ message_of fault };
 
     fn from(fault: LineFault) -> Message {

@@ -1,6 +1,7 @@
 //! How a run ends that gives no value.
 ghost use Rattle.std.specs.Prelude.{◌≡◌, IfOk, option_map, string_bytes};
 ghost use Rattle.bpaf_line.specs.Failure.{stdout_text, stderr_text, exit_code};
+ghost use Rattle.bpaf_line.specs.declared.failure.ParseFailure.TheVariants.{Memory};
 
 use bpaf_doc::Doc;
 use std::alloc::AllocError;
@@ -65,9 +66,6 @@ impl ParseFailure {
 }
 
 impl From<AllocError> for ParseFailure {
-    ghost use Rattle.std.specs.Prelude.{◌≡◌};
-    ghost use Rattle.bpaf_line.specs.declared.failure.ParseFailure.TheVariants.{Memory};
-
     ghost from_gives = { λ _ failure. failure ≡ Memory };
 
     fn from(_error: AllocError) -> ParseFailure {

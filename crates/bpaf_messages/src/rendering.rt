@@ -1,6 +1,5 @@
 //! The texts of messages.
-ghost use Rattle.std.specs.Prelude.{◌≡◌, ◌++◌, true, IfOk, Some, None, codes, map};
-ghost use Rattle.std.specs.Prelude.{option_copied};
+ghost use Rattle.std.specs.Prelude.{◌≡◌, ◌++◌, true, IfOk, Some, None, codes, map, option_copied};
 ghost use Rattle.bpaf_doc.specs.Print.{printed};
 ghost use Rattle.bpaf_line.specs.Rendering.{message_text, side_text, parse_failed_text};
 ghost use Rattle.bpaf_line.specs.Rendering.{guard_failed_text, no_argument_text, only_once_text};

@@ -1,15 +1,14 @@
 -- Joined documents, the lines that a walk gathers, and the paragraphs of a help page.
-use Rattle.std.proofs.Common.{◌≡◌, ℕ, List, [], ◌∷◌, ap, ◌∙◌, refl, zero, suc, ◌+◌, ◌<◌, ◌++◌}
-use Rattle.std.proofs.Common.{map, sym, drop, length, get_or, arith, drop-cons, add-one}
-use Rattle.std.proofs.Common.{append_assoc, codes}
+use Rattle.std.proofs.Common.{◌≡◌, ℕ, List, [], ◌∷◌, ap, ◌∙◌, refl, zero, suc, ◌+◌, ◌<◌, ◌++◌, map}
+use Rattle.std.proofs.Common.{sym, drop, length, get_or, arith, drop-cons, add-one, append_assoc}
 use Rattle.std.proofs.lemmas.List.{length-map, map-append, get_or-map}
-use Rattle.std.proofs.lemmas.Grind.{fold-append}
+use Rattle.std.proofs.{lemmas.Grind.fold-append, Common.codes}
 use Rattle.bpaf_doc.specs.Print.{Print, Prints, prints}
 use Rattle.bpaf_doc.specs.{declared.doc.Piece.Piece, declared.doc.Doc.Doc}
-use Rattle.bpaf_pages.specs.Help.{glued, joined_behind, Line, Below, lines}
-use Rattle.bpaf_pages.specs.Help.{below_last, nothing, joined, PageTexts, section, sections}
-use Rattle.bpaf_pages.specs.Help.{opening, lists, widest, paragraph, paragraphs, page, prints_of}
-use Rattle.bpaf_pages.specs.{InsideLine.line_of}
+use Rattle.bpaf_pages.specs.Help.{glued, joined_behind, Line, Below, lines, below_last, nothing}
+use Rattle.bpaf_pages.specs.Help.{joined, PageTexts, section, sections, opening, lists, widest}
+use Rattle.bpaf_pages.specs.InsideLine.{line_of}
+use Rattle.bpaf_pages.specs.Help.{paragraph, paragraphs, page, prints_of}
 use Rattle.bpaf_pages.specs.{declared.lines.Line.Line as LineHere}
 use denote.Bor.{Bor}
 use Rattle.bpaf_pages.specs.declared.lines.Told.TheVariants as told

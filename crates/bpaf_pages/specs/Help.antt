@@ -2,14 +2,13 @@
 use Rattle.std.specs.Prelude.{ℕ, ◌||◌, List, [], ◌++◌, fold, if◌then◌else◌, not, ◌∷◌, codes}
 use Rattle.std.specs.Prelude.{count_by, nat_lt, ◌+◌, Bool, true, false, ◌==◌, length, Option, Some}
 use Rattle.std.specs.Prelude.{None, filter, ◌-◌, max, replicate, chars, encode_utf8, flat_map}
-use Rattle.bpaf_doc.specs.Print.{Print, is_empty, prints, space}
 use Rattle.bpaf_doc.specs.Shape.{Shape, Shapes, And, Or, Optional, Required, Adjacent, Many, Strict}
 use Rattle.bpaf_doc.specs.Shape.{Subsection, Suffix, CustomUsage, Shown, Skip, none, ◌then◌}
 use Rattle.bpaf_doc.specs.Shape.{part_text, Part, Any, Positional, Command, Flag, Argument, Name}
-use Rattle.bpaf_doc.specs.Shape.{Short, Long, Both}
-use Rattle.bpaf_doc.specs.declared.doc.Piece.{Piece}
-use Rattle.bpaf_pages.specs.declared.lines.ListPlace.{ListPlace}
+use Rattle.bpaf_doc.specs.Print.{Print, is_empty, prints, space}
+use Rattle.bpaf_doc.specs.{Shape.Short, Shape.Long, Shape.Both, declared.doc.Piece.Piece}
 use Rattle.bpaf_pages.specs.declared.lines.ListPlace.TheVariants.{Positionals, Options, Commands}
+use Rattle.bpaf_pages.specs.declared.lines.ListPlace.{ListPlace}
 use Rattle.bpaf_pages.specs.declared.lines.ListPlace.TheVariants.{Section}
 
 -- no text

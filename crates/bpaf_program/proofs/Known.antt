@@ -1,50 +1,44 @@
 -- Parsers of a program whose makings are known: what each reads, shows and keeps to, commands and
 -- a word that must stand before `--` among them.
-use Rattle.std.proofs.Common.{arith}
-use Rattle.std.proofs.Common.{◌≡◌, ℕ, List, [], ◌∷◌, Option, Result, Ok, Err, IfOk}
-use Rattle.std.proofs.Common.{⊎_elim, ap, ◌∙◌, Bool, true, false, Some, refl, subst, not}
-use Rattle.std.proofs.Common.{option_and_then}
-use Rattle.std.specs.{Global.Vec, Result.IfErr, Prelude.option_map, List.Contains}
-use Rattle.bpaf_text.specs.Named.{Named, KeyWithValue, key_named}
+use Rattle.std.proofs.Common.{arith, ◌≡◌, ℕ, List, [], ◌∷◌, Option, Result, Ok, Err, IfOk, ⊎_elim}
+use Rattle.std.proofs.Common.{ap, ◌∙◌, Bool, true, false, Some, refl, subst, not, option_and_then}
+use Rattle.std.specs.{Prelude.option_map, List.Contains, Result.IfErr, Global.Vec}
 use Rattle.bpaf_text.specs.declared.params.ParseFlag.{ParseFlag}
-use Rattle.bpaf_words.specs.{Arguments.Given, Line.Known, Line.IsKnownAs}
-use Rattle.bpaf_line.specs.Situation.{Context, item_in}
-use Rattle.bpaf_line.specs.{declared.failure.ParseFailure.ParseFailure, Taking.IsContext}
-use Rattle.bpaf_laws.specs.Choice.{ChoiceReads, ChoiceDescribes, ChoiceOutcome}
+use Rattle.bpaf_text.specs.Named.{Named, KeyWithValue, key_named}
+use Rattle.bpaf_words.specs.{Line.Known, Line.IsKnownAs, Arguments.Given}
+use Rattle.bpaf_line.specs.declared.failure.ParseFailure.{ParseFailure}
+use Rattle.bpaf_line.specs.{Situation.Context, Situation.item_in, Taking.IsContext}
 use Rattle.bpaf_laws.specs.Leaves.{FlagReads, ArgumentOutcome, ArgumentReads, argument_shape}
-use Rattle.bpaf_laws.specs.Leaves.{FlagOutcome, flag_shape}
 use Rattle.bpaf_laws.specs.Command.{CommandReads, Called, CommandDescribes, CommandPart, named_only}
-use Rattle.bpaf_laws.specs.Command.{opening_words}
 use Rattle.bpaf_laws.specs.Product.{BothReads, BothDescribes, LastDescribes, ProductDescribes}
-use Rattle.bpaf_laws.specs.Product.{BothOutcome, ProductOutcome}
-use Rattle.bpaf_laws.specs.Reading.{Readings, Share, Outcome}
+use Rattle.bpaf_laws.specs.Choice.{ChoiceReads, ChoiceDescribes, ChoiceOutcome}
 use Rattle.bpaf_laws.specs.Combinators.{EachReads, ListReads, MapReads, ManyDescribes, ManyOutcome}
-use Rattle.bpaf_laws.specs.{Adjacent.StretchReads, Laws.Lawful}
-use Rattle.bpaf.specs.Asked.{IfShown, ShowsNothing, WasAsked, BehindWord, HandsOn}
-use Rattle.bpaf.specs.Asked.{IsAskedAt, Showing, WordsShow}
-use Rattle.bpaf.specs.{declared.leaves.positional.Position.Position, Positional.PositionalReads}
-use Rattle.bpaf.specs.{Positional.PositionalOutcome, Positional.positional_shape}
-use Rattle.bpaf.specs.{Positional.positional_lawful, Run.IsDealtOut, Run.RunsWords, Info.RunInfo}
-use Rattle.bpaf.specs.{Info.plain_info, declared.leaves.positional.ParsePositional.ParsePositional}
-use Rattle.bpaf.specs.{Command.EitherCommandOutcome, Command.EitherCommandReads}
-use Rattle.bpaf.specs.{AdjacentLaws.either_lawful, Ending.EndsRun, Ending.run_ending}
-use Rattle.bpaf.specs.{declared.leaves.positional.Position.TheVariants.NonStrict}
-use Rattle.bpaf.specs.{Marker.words_before}
+use Rattle.bpaf_laws.specs.{Reading.Readings, Reading.Share, Reading.Outcome, Product.BothOutcome}
+use Rattle.bpaf_laws.specs.{Product.ProductOutcome, Leaves.FlagOutcome, Leaves.flag_shape}
+use Rattle.bpaf_laws.specs.{Command.opening_words, Adjacent.StretchReads, Laws.Lawful}
+use Rattle.bpaf.specs.Asked.{IfShown, ShowsNothing, WasAsked, BehindWord, HandsOn, IsAskedAt}
+use Rattle.bpaf.specs.Positional.{PositionalReads, PositionalOutcome, positional_shape}
+use Rattle.bpaf.specs.{declared.leaves.positional.ParsePositional.ParsePositional, Ending.EndsRun}
+use Rattle.bpaf.specs.{declared.leaves.positional.Position.TheVariants.NonStrict, Ending.run_ending}
+use Rattle.bpaf.specs.{Command.EitherCommandOutcome, Command.EitherCommandReads, Info.RunInfo}
+use Rattle.bpaf.specs.{declared.leaves.positional.Position.Position, Asked.Showing, Asked.WordsShow}
+use Rattle.bpaf.specs.{Info.plain_info, Run.IsDealtOut, Run.RunsWords, Positional.positional_lawful}
+use Rattle.bpaf.specs.{AdjacentLaws.either_lawful, Marker.words_before}
 use Rattle.bpaf_doc.specs.Shape.{Shape, And, Many, Optional, members}
 use Rattle.bpaf_doc.specs.{declared.doc.Piece.Piece, Names.Names}
-use Rattle.bpaf.proofs.Asked.{answer_asked, argument_hands_on, both_hands_on}
-use Rattle.bpaf.proofs.Asked.{flag_hands_on, many_hands_on, positional_hands_on, product_hands_on}
-use Rattle.bpaf.proofs.Asked.{IsAlsoShown, answer_shows, asked_at_also, hands_also, words_also}
-use Rattle.bpaf.proofs.LeafLemmas.{argument_without_help, flag_without_help, key_with_help}
-use Rattle.bpaf.proofs.HandsOn.{behind_also, choice_hands_on, command_hands_on}
+use Rattle.bpaf.proofs.Asked.{answer_asked, argument_hands_on, both_hands_on, flag_hands_on}
+use Rattle.bpaf.proofs.Asked.{many_hands_on, positional_hands_on, product_hands_on, IsAlsoShown}
 use Rattle.bpaf.proofs.Sides.{all_spelled}
+use Rattle.bpaf.proofs.HandsOn.{behind_also, choice_hands_on, command_hands_on}
+use Rattle.bpaf.proofs.Asked.{answer_shows, asked_at_also, hands_also, words_also}
+use Rattle.bpaf.proofs.LeafLemmas.{argument_without_help, flag_without_help, key_with_help}
 use Rattle.bpaf_laws.proofs.ProductLaws.{both_lawful, product_lawful}
-use Rattle.bpaf_laws.proofs.{ArgumentLaws.argument_lawful, LeafLaws.flag_lawful}
-use Rattle.bpaf_laws.proofs.{CombinatorLaws.many_lawful, ChoiceLaws.choice_lawful}
-use Rattle.bpaf_program.specs.Fields.{IsArgument, IsSwitch, IsWord, NamedSwitchReads, switch_shape}
+use Rattle.bpaf_laws.proofs.{ArgumentLaws.argument_lawful, CombinatorLaws.many_lawful}
+use Rattle.bpaf_laws.proofs.{ChoiceLaws.choice_lawful, LeafLaws.flag_lawful}
 use Rattle.bpaf_program.specs.KnownParser.{IsKept}
-use Rattle.bpaf_base.specs.Items.{word_text}
-use Rattle.bpaf_base.specs.{declared.arg.Arg.TheVariants.Word, declared.arg.Arg.Arg}
+use Rattle.bpaf_program.specs.Fields.{IsArgument, IsSwitch, IsWord, NamedSwitchReads, switch_shape}
+use Rattle.bpaf_base.specs.declared.arg.Arg.TheVariants.{Word}
+use Rattle.bpaf_base.specs.{declared.arg.Arg.Arg, Items.word_text}
 use Rattle.bpaf_record.proofs.Running.{each_at}
 use Rattle.bpaf_line.specs.declared.failure.ParseFailure.TheVariants as failure
 

@@ -6,19 +6,19 @@ use Rattle.bpaf_doc.specs.Names.{Names}
 use Rattle.bpaf_words.specs.{Arguments.Given, Line.Known}
 use Rattle.bpaf_text.specs.{Named.KeyWithValue, Named.key_named, Meaning.SpellsUnsigned}
 use Rattle.bpaf_laws.specs.Combinators.{FallbackOutcome, ManyOutcome, TurnOutcome, GivesClone}
-use Rattle.bpaf_laws.specs.{Product.ProductOutcome, Product.BothOutcome, Combinators.is_nil}
+use Rattle.bpaf_laws.specs.Product.{ProductOutcome, BothOutcome}
 use Rattle.bpaf_laws.specs.Leaves.{ArgumentOutcome, FlagOutcome}
-use Rattle.bpaf_laws.specs.Reading.{first_set, Outcome}
+use Rattle.bpaf_laws.specs.{Reading.first_set, Reading.Outcome, Combinators.is_nil}
 use Rattle.bpaf.specs.Positional.{PositionalOutcome, accepts}
 use Rattle.bpaf.specs.declared.leaves.positional.Position.{Position}
 use Rattle.bpaf_exact.proofs.OneView.{optional_field_view, values_look_one, argument_view, con_view}
 use Rattle.bpaf_exact.proofs.OneView.{fallback_view, alone_view, field_view, both_view, flag_view}
 use Rattle.bpaf_exact.proofs.ProgramForm.{program_con_law, fallback_law, optional_law, words_apart}
 use Rattle.bpaf_exact.proofs.ProgramForm.{program_alone_law, program_field_law, program_both_law}
+use Rattle.bpaf_exact.proofs.OneView.{many_view, word_view}
+use Rattle.bpaf_exact.proofs.Leaves.{argument_field_law, flag_field_law}
 use Rattle.bpaf_exact.proofs.Commands.{opens_apart, opens_right, opens_left}
-use Rattle.bpaf_exact.proofs.{Leaves.argument_field_law, Leaves.flag_field_law, Programs.opens_one}
-use Rattle.bpaf_exact.proofs.{OneView.many_view, OneView.word_view, ProgramForm.many_law}
-use Rattle.bpaf_exact.proofs.Cuts.{one_take}
+use Rattle.bpaf_exact.proofs.{ProgramForm.many_law, Programs.opens_one, Cuts.one_take}
 use Rattle.bpaf_exact.specs.ProgramForm.{program_optional, are_words_apart, argument_field, word_by}
 use Rattle.bpaf_exact.specs.ProgramForm.{argument_group, program_closed, argument_roles, flag_field}
 use Rattle.bpaf_exact.specs.ProgramForm.{program_alone, program_field, ArgumentValue, program_value}
@@ -26,9 +26,8 @@ use Rattle.bpaf_exact.specs.ProgramForm.{ChoiceValue, CellsValue, key_field, com
 use Rattle.bpaf_exact.specs.ProgramForm.{program_both, CommandValue, ProgramForm, program_con}
 use Rattle.bpaf_exact.specs.Flat.{FallbackValue, list_closure, map_closure, ClosedValue, Variables}
 use Rattle.bpaf_exact.specs.ProgramForm.{FieldThen, FormLaw, Opens}
-use Rattle.bpaf_exact.specs.Pieces.{LinePiece, Cells, Roles}
-use Rattle.bpaf_exact.specs.Says.{HasOneView, pair_view, Alike}
-use Rattle.bpaf_exact.specs.Flat.{repeated, OwnList, gap_of}
+use Rattle.bpaf_exact.specs.{Pieces.LinePiece, Pieces.Cells, Pieces.Roles, Says.HasOneView}
+use Rattle.bpaf_exact.specs.{Says.pair_view, Says.Alike, Flat.repeated, Flat.OwnList, Flat.gap_of}
 use Rattle.bpaf_record.specs.{Commands.positional_law, Record.IsProgramValueOf}
 use Rattle.bpaf_record.proofs.Running.{same_context}
 use Rattle.bpaf_program.specs.KnownParser.{MeansText, IsKept, String, makes}

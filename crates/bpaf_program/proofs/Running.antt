@@ -1,14 +1,13 @@
 -- A program that prints its answer runs to the texts that answer its words, or to a part of one.
 use Rattle.std.proofs.Common.{Ok, ◌≡◌, ℕ, Bool, List, Result, Err, string_bytes, codes, All, IfOk}
-use Rattle.std.proofs.Common.{IsUtf8, map, refl, slice_index_or, subst, sym, ap, ◌==◌}
-use Rattle.std.proofs.Common.{true, false, ◌-◌, [], ◌∷◌, ◌++◌, Option, OnOk, OnErr}
-use Rattle.std.proofs.Common.{take, drop, length, ◌∙◌, append_assoc, ◌<◌, ◌+◌, ◌||◌}
-use Rattle.std.proofs.Common.{not, ap₂, arith, drop-cons, get_or, suc}
+use Rattle.std.proofs.Common.{IsUtf8, map, refl, slice_index_or, subst, sym, ap, ◌==◌, true, false}
+use Rattle.std.proofs.Common.{◌-◌, [], ◌∷◌, ◌++◌, Option, OnOk, OnErr, take, drop, length, ◌∙◌}
 use Rattle.std.proofs.KnownBytes.{Appends-trans, Appends-kept}
 use Rattle.std.proofs.lemmas.List.{take_rest, take-append-drop}
-use Rattle.std.proofs.{lemmas.List.Elements.All-map, lemmas.Str.IsUtf8-string_bytes}
-use Rattle.std.specs.{declared.alloc.Global.Global, Prelude.String, Result.IsErr, Result.IsErrAnd}
-use Rattle.std.specs.{Io.KnownBytes.Appends, Io.KnownBytes.Keeps}
+use Rattle.std.proofs.Common.{append_assoc, ◌<◌, ◌+◌, ◌||◌, not, ap₂, arith, drop-cons, get_or, suc}
+use Rattle.std.proofs.{lemmas.Str.IsUtf8-string_bytes, lemmas.List.Elements.All-map}
+use Rattle.std.specs.Io.KnownBytes.{Appends, Keeps}
+use Rattle.std.specs.{Result.IsErr, Result.IsErrAnd, declared.alloc.Global.Global, Prelude.String}
 use Rattle.bpaf_doc.specs.{declared.doc.Piece.Piece, Print.printed}
 use Rattle.bpaf_line.specs.declared.failure.ParseFailure.{ParseFailure}
 use Rattle.bpaf_line.specs.declared.failure.ParseFailure.TheVariants.{Stdout, Stderr, Memory}
@@ -19,8 +18,7 @@ use Rattle.bpaf_program.specs.Ending.{AnswersText, AnswersTextOf, IsTextOrWant, 
 use Rattle.bpaf_program.specs.Ending.{PrintsTextOf, RunsTo, memory_wanted, shows, tells, written}
 use Rattle.bpaf_program.specs.Ending.{Written, EndsBy, with_status, with_value, IsUntouched, Failed}
 use Rattle.bpaf_program.specs.Ending.{KnownSink, Writes, WritesPart, wrote, TellsLine, told_in_part}
-use Rattle.bpaf_program.specs.Ending.{told_whole}
-use Rattle.bpaf_program.specs.KnownParser.{IsExactFor}
+use Rattle.bpaf_program.specs.{KnownParser.IsExactFor, Ending.told_whole}
 
 -- texts are in UTF-8
 pub are_texts : (words : List (String Global)) → All IsUtf8 (map string_bytes words)

@@ -1,6 +1,5 @@
 -- Texts that words mean, each of which means itself, are the texts of those words.
-use Rattle.std.proofs.Common.{arith}
-use Rattle.std.proofs.Common.{◌≡◌, List, [], ◌∷◌, map, refl, string_bytes, ℕ}
+use Rattle.std.proofs.Common.{arith, ◌≡◌, List, [], ◌∷◌, map, refl, string_bytes, ℕ}
 use Rattle.std.specs.List.{AllZip}
 use Rattle.bpaf_program.specs.KnownParser.{MeansText, String}
 

@@ -26,7 +26,6 @@ impl<T: Drop, A: ProgramField<T>, B: ProgramField<T>> ProgramField<T> for ParseO
 
     ghost agrees = { λ p. A.agrees p.this × B.agrees p.that };
 
-    #[tactic(auto, using(crate::proofs::Parts::choice_part_is))]
     fn part(&self) -> ProgramPart {
         let keys_apart = self.this.all_keys(&ApartFromField {
             other: &self.that,

@@ -49,7 +49,6 @@ impl<T: Drop, V, A: ProgramField<T>, R: ProgramFields<V>> ProgramFields<(T, V)> 
 
     ghost agrees = { λ p. A.agrees p.first × R.agrees p.rest };
 
-    #[tactic(auto, using(crate::proofs::Parts::both_part_is))]
     fn fields_part(&self) -> ProgramPart {
         let apart = self.first.all_keys(&ApartFromFields {
             others: &self.rest,

@@ -1,4 +1,7 @@
 //! The collections that are filled from a list of values.
+ghost use Rattle.std.specs.Prelude.{List, IfOk, ◌≡◌, []};
+ghost use Rattle.bpaf_text.specs.Meaning.{inserted};
+
 use std::alloc::AllocError;
 use std::collections::{BTreeSet, VecDeque};
 
@@ -16,8 +19,6 @@ use std::collections::{BTreeSet, VecDeque};
 /// }
 /// ```
 pub trait FromList<T>: Sized {
-    ghost use Rattle.std.specs.Prelude.{List, IfOk};
-
     /// What a collection may be that is filled from these values.
     ghost fills: { List T → Self → Type 0 };
 
@@ -28,8 +29,6 @@ pub trait FromList<T>: Sized {
 
 /// The list itself.
 impl<T: Drop> FromList<T> for Vec<T> {
-    ghost use Rattle.std.specs.Prelude.{◌≡◌, IfOk};
-
     ghost fills = { λ items list. list.items ≡ items };
 
     fn from_list(items: Vec<T>) -> Result<Vec<T>, AllocError>
@@ -41,8 +40,6 @@ impl<T: Drop> FromList<T> for Vec<T> {
 
 /// The values in order, the first in front.
 impl<T: Drop> FromList<T> for VecDeque<T> {
-    ghost use Rattle.std.specs.Prelude.{◌≡◌, IfOk};
-
     ghost fills = { λ items queue. queue.items ≡ items };
 
     fn from_list(items: Vec<T>) -> Result<VecDeque<T>, AllocError>
@@ -54,9 +51,6 @@ impl<T: Drop> FromList<T> for VecDeque<T> {
 
 /// The values inserted one after another: of two equal ones the first stays.
 impl<T: Ord + Drop> FromList<T> for BTreeSet<T> {
-    ghost use Rattle.std.specs.Prelude.{◌≡◌, [], IfOk};
-    ghost use Rattle.bpaf_text.specs.Meaning.{inserted};
-
     ghost fills = { λ items set. set.keys ≡ inserted T.cmp [] items };
 
     #[tactic(auto, using(crate::proofs::Inserting::inserted_more))]

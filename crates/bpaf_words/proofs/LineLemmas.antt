@@ -4,30 +4,29 @@ use Rattle.std.proofs.Common.{◌≡◌, ◌≢◌, ℕ, Bool, ◌+◌, List, []
 use Rattle.std.proofs.Common.{ap, sym, ◌∙◌, arith, append_assoc, append-nil, codes, Some, slice_get}
 use Rattle.std.proofs.Common.{bytes_eq, true, false, IsUtf8, ⊎_elim, subst, length, All, ◌<◌, ◌≤◌}
 use Rattle.std.proofs.Common.{Option, IfSome, length-append, nat_lt, ◌==◌, rules, if◌then◌else◌}
-use Rattle.std.proofs.Common.{encode_utf8, encode_utf8_all, lit<, None, IfOk, Result, Ok, Err}
-use Rattle.std.proofs.lemmas.Option.{get_or_from_slice_get, slice_get_within}
-use Rattle.std.proofs.lemmas.List.Elements.{AllWithin-more, All-push}
-use Rattle.std.proofs.lemmas.Grind.{flat_map-append, common_steps}
 use Rattle.std.proofs.lemmas.Str.{cons_from_encodes, encodes_same, encodes-append}
-use Rattle.std.proofs.lemmas.Str.{length-le-encodes, length-encode, len_utf8_bounds, encode_ascii}
+use Rattle.std.proofs.lemmas.Grind.{flat_map-append, common_steps}
+use Rattle.std.proofs.lemmas.List.Elements.{AllWithin-more, All-push}
 use Rattle.std.proofs.lemmas.List.{nil_from_length, take_all, drop_all}
-use Rattle.std.specs.List.{flat_map, AllWithin}
+use Rattle.std.proofs.lemmas.Option.{get_or_from_slice_get, slice_get_within}
+use Rattle.std.proofs.lemmas.Str.Pattern.{NoCharPasses-char, IsSplitOnceResult, split_parts}
+use Rattle.std.proofs.Common.{encode_utf8, encode_utf8_all, lit<, None, IfOk, Result, Ok, Err}
+use Rattle.std.proofs.lemmas.Str.{length-le-encodes, length-encode, len_utf8_bounds, encode_ascii}
+use Rattle.std.proofs.{lemmas.Bool.Decides.nat_tests, lemmas.Bool.cases_lt}
+use Rattle.std.specs.{declared.alloc.AllocError.AllocError, List.flat_map, List.AllWithin}
+use Rattle.std.specs.{Str.Pattern.FindsChar, Bool.then_some, Borrow.Bor}
+use Rattle.bpaf_base.specs.declared.arg.Arg.{Arg}
 use Rattle.bpaf_base.specs.declared.arg.Arg.TheVariants.{PosWord, Short, Word, ArgWord}
 use Rattle.bpaf_words.specs.Line.{Known, Items, Ambiguous, Spells, HasNoLine, IsLine}
 use Rattle.bpaf_words.specs.Line.{without_marker, with_marker, ShortNames, IsKnownAs, flags_of}
 use Rattle.bpaf_words.specs.Line.{argument_of, SpellsJoined, flags, argument, neither, both}
 use Rattle.bpaf_words.specs.Line.{IsNumberWord, HasNoEquals, Spelling, short_value}
-use Rattle.bpaf_words.specs.Line.{short_long_value, joined, by_dash}
 use Rattle.bpaf_words.specs.Splitting.{Begins, EndsFront, Answers, Splits, SplitsJoined, AreJoined}
 use Rattle.bpaf_words.specs.Splitting.{SplitsDashed, SplitsAlone}
-use Rattle.bpaf_words.proofs.OneSpelling.{AllZip_push, take_next, drop_next, cut_at}
-use Rattle.std.proofs.lemmas.Str.Pattern.{NoCharPasses-char, IsSplitOnceResult, split_parts}
+use Rattle.bpaf_words.specs.declared.split.SplitFault.{SplitFault}
 use Rattle.bpaf_words.specs.declared.split.SplitFault.TheVariants.{Ambiguous}
-use Rattle.std.proofs.{lemmas.Bool.cases_lt, lemmas.Bool.Decides.nat_tests}
-use Rattle.std.specs.{Bool.then_some, Str.Pattern.FindsChar, Borrow.Bor}
-use Rattle.std.specs.declared.alloc.AllocError.{AllocError}
-use Rattle.bpaf_base.specs.declared.arg.Arg.{Arg}
-use Rattle.bpaf_words.specs.{Line.SpellsByDash, declared.split.SplitFault.SplitFault}
+use Rattle.bpaf_words.specs.Line.{short_long_value, joined, by_dash, SpellsByDash}
+use Rattle.bpaf_words.proofs.OneSpelling.{AllZip_push, take_next, drop_next, cut_at}
 
 -- a word of the rest goes over to the items
 pub rest_moved : (words : List (List ℕ)) (i : ℕ) (word : List ℕ) (old new all : List Arg)

@@ -1,15 +1,14 @@
 -- What the splitter answers for a word, by what the word spells, and for all words, by their line.
 use Rattle.std.specs.Prelude.{◌≡◌, ◌≢◌, ◌<◌, ◌≤◌, ℕ, Bool, List, ◌∷◌, ◌++◌, length, take, codes}
 use Rattle.std.specs.Prelude.{slice_get, encode_utf8_all, Result, Ok, Err, Option, Some, None}
-use Rattle.std.specs.Prelude.{IsUtf8, ⊤}
-use Rattle.std.specs.{Borrow.Bor, List.AllWithin}
+use Rattle.std.specs.{Prelude.IsUtf8, Prelude.⊤, List.AllWithin, Borrow.Bor}
 use Rattle.bpaf_base.specs.declared.arg.Arg.{Arg}
-use Rattle.bpaf_words.specs.declared.split.SplitFault.TheVariants.{Ambiguous, Memory}
 use Rattle.bpaf_words.specs.Line.{SpellAll, HasNoMarker, IsLine, HasNoLine, Spells, SpellsByDash}
+use Rattle.bpaf_words.specs.declared.split.SplitFault.TheVariants.{Ambiguous, Memory}
 use Rattle.bpaf_words.specs.Line.{SpellsJoined, HasNoEquals, known_at, IsNumberWord, dash_char}
-use Rattle.bpaf_words.specs.Line.{ShortNames, Known, Spelling, Items, Ambiguous as NoItems}
 use Rattle.bpaf_words.specs.{declared.split.SplitFault.SplitFault, declared.line.Front.Front}
-use Rattle.bpaf_words.specs.{declared.line.Line.Line, declared.line.LineFault.LineFault}
+use Rattle.bpaf_words.specs.{declared.line.LineFault.LineFault, declared.line.Line.Line}
+use Rattle.bpaf_words.specs.Line.{ShortNames, Known, Spelling, Items, Ambiguous as NoItems}
 use Rattle.bpaf_words.specs.declared.line.LineFault.TheVariants as fault
 
 -- spelled items stand at the end of the old; the ambiguous character is named; or memory is wanted

@@ -2,6 +2,7 @@
 ghost use Rattle.std.specs.Prelude.{◌≡◌, ◌<◌, Some, length, slice_get, List, ℕ, map, option_map};
 ghost use Rattle.bpaf_words.specs.Arguments.{words_in, words_of, given_name, env_of, entries_of};
 ghost use Rattle.std.specs.{Prelude.[], Prelude.string_bytes, Option.option_map_or};
+ghost use Rattle.bpaf_words.specs.Arguments.{AreWords};
 
 use std::collections::BTreeMap;
 
@@ -72,9 +73,6 @@ impl<'a> LentWord<'a> for String {
 }
 
 impl<'a, T: LentWord<'a>, const N: usize> From<&'a [T; N]> for Args<'a> {
-    ghost use Rattle.std.specs.Prelude.{◌≡◌, map};
-    ghost use Rattle.bpaf_words.specs.Arguments.{AreWords};
-
     ghost from_gives = { λ words args. AreWords (map T.text words.now) args };
 
     fn from(words: &'a [T; N]) -> Args<'a> {
@@ -87,9 +85,6 @@ impl<'a, T: LentWord<'a>, const N: usize> From<&'a [T; N]> for Args<'a> {
 }
 
 impl<'a> From<&'a [&'a str]> for Args<'a> {
-    ghost use Rattle.std.specs.Prelude.{◌≡◌, map};
-    ghost use Rattle.bpaf_words.specs.Arguments.{AreWords};
-
     ghost from_gives = { λ words args. AreWords (map (λ w. w.now) words.now) args };
 
     fn from(words: &'a [&'a str]) -> Args<'a> {
@@ -102,9 +97,6 @@ impl<'a> From<&'a [&'a str]> for Args<'a> {
 }
 
 impl<'a> From<&'a [String]> for Args<'a> {
-    ghost use Rattle.std.specs.Prelude.{◌≡◌, map, string_bytes};
-    ghost use Rattle.bpaf_words.specs.Arguments.{AreWords};
-
     ghost from_gives = { λ words args. AreWords (map string_bytes words.now) args };
 
     fn from(words: &'a [String]) -> Args<'a> {

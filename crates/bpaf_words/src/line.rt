@@ -4,6 +4,7 @@ ghost use Rattle.bpaf_words.specs.Splitting.{Begins, BeginsByAny, EndsFront, IsF
 ghost use Rattle.bpaf_words.specs.Splitting.{SplitsWords, ReadsLine, AreTexts};
 ghost use Rattle.std.specs.{Prelude.length, Prelude.nat_lt, Bool.then_some};
 ghost use Rattle.bpaf_words.specs.{Arguments.words_in, Line.known_at};
+ghost use Rattle.bpaf_words.specs.declared.line.LineFault.TheVariants.{Memory};
 
 use crate::args::Words;
 use crate::split::{SplitFault, split_alone, split_word};
@@ -28,9 +29,6 @@ pub enum LineFault {
 }
 
 impl From<AllocError> for LineFault {
-    ghost use Rattle.std.specs.Prelude.{◌≡◌};
-    ghost use Rattle.bpaf_words.specs.declared.line.LineFault.TheVariants.{Memory};
-
     ghost from_gives = { λ _ fault. fault ≡ Memory };
 
     fn from(_error: AllocError) -> LineFault {

@@ -5,6 +5,7 @@ ghost use Rattle.bpaf_words.specs.Line.{IsNumber, argument_of, known_at};
 ghost use Rattle.bpaf_words.specs.Splitting.{Splits, SplitsAlone, SplitsDashed, SplitsJoined};
 ghost use Rattle.std.specs.{Prelude.ℕ, Prelude.MatchOption, Bool.MatchBool, Char.IsAsciiDigit};
 ghost use Rattle.bpaf_words.specs.Splitting.{SpellsAs};
+ghost use Rattle.bpaf_words.specs.declared.split.SplitFault.TheVariants.{Memory};
 
 use bpaf_base::{Arg, Text};
 use std::alloc::{AllocError, Global};
@@ -19,9 +20,6 @@ pub enum SplitFault {
 }
 
 impl From<AllocError> for SplitFault {
-    ghost use Rattle.std.specs.Prelude.{◌≡◌};
-    ghost use Rattle.bpaf_words.specs.declared.split.SplitFault.TheVariants.{Memory};
-
     ghost from_gives = { λ _ fault. fault ≡ Memory };
 
     fn from(_error: AllocError) -> SplitFault {

@@ -1,21 +1,20 @@
 -- What a run of the program answers: the steps that its words have, a line for each, and what it
 -- shows where it is asked for help.
 use Rattle.std.specs.Prelude.{◌≡◌, ℕ, ℤ, Bool, List, [], ◌∷◌, Some, codes, ◌++◌, if◌then◌else◌}
-use Rattle.std.specs.Prelude.{false}
-use Rattle.std.specs.{Global.Vec, Fmt.decimal, Fmt.signed_decimal}
+use Rattle.std.specs.{Fmt.decimal, Fmt.signed_decimal, Prelude.false, Global.Vec}
 use mir.Syntax.{w64}
 use Rattle.bpaf_doc.specs.Print.{TextPieces, printed}
-use Rattle.bpaf_doc.specs.{Names.Names, declared.doc.Piece.Piece, Shape.Shape}
+use Rattle.bpaf_doc.specs.{declared.doc.Piece.Piece, Names.Names, Shape.Shape}
 use Rattle.bpaf_text.specs.{Meaning.SpellsSigned, Meaning.SpellsUnsigned, Named.key_named}
-use Rattle.bpaf_words.specs.{Arguments.Given, Line.Known, Line.knowing}
+use Rattle.bpaf_words.specs.{Line.Known, Line.knowing, Arguments.Given}
+use Rattle.bpaf_laws.specs.Combinators.{ListReads, MapReads, ManyDescribes}
 use Rattle.bpaf_laws.specs.Command.{CommandReads, CommandDescribes, named_only}
 use Rattle.bpaf_laws.specs.Product.{BothReads, BothDescribes, LastDescribes, ProductDescribes}
-use Rattle.bpaf_laws.specs.Combinators.{ListReads, MapReads, ManyDescribes}
-use Rattle.bpaf_laws.specs.{Adjacent.StretchReads, Choice.ChoiceReads, Choice.ChoiceDescribes}
-use Rattle.bpaf_laws.specs.{Reading.Readings, Reading.Outcome, Leaves.flag_shape}
-use Rattle.bpaf.specs.Positional.{PositionalReads, positional_shape}
+use Rattle.bpaf_laws.specs.{Choice.ChoiceReads, Choice.ChoiceDescribes, Reading.Readings}
+use Rattle.bpaf_laws.specs.{Reading.Outcome, Adjacent.StretchReads, Leaves.flag_shape}
 use Rattle.bpaf.specs.Asked.{BehindWord, IsAskedAt, ShowsNothing, WordsShow}
-use Rattle.bpaf.specs.{declared.leaves.positional.Position.TheVariants.Unrestricted, Run.IsDealtOut}
+use Rattle.bpaf.specs.declared.leaves.positional.Position.TheVariants.{Unrestricted}
+use Rattle.bpaf.specs.{Positional.PositionalReads, Positional.positional_shape, Run.IsDealtOut}
 use Rattle.bpaf_program.specs.{Fields.NamedSwitchReads, Ending.line}
 use Rattle.example_chain.specs.declared.steps.Step.{Step}
 use Rattle.example_chain.specs.declared.steps.Step.TheVariants.{Move, Turn, Repeat}

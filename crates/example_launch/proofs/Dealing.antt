@@ -3,25 +3,23 @@
 use Rattle.std.proofs.Common.{[], ◌++◌, All, Bool, IsUtf8, List, ap, codes, ℕ, ◌≡◌, None, IfOk, Ok}
 use Rattle.std.proofs.Common.{Err, Result, map, inl, inr, string_bytes, subst, sym, true≢false, ◌∙◌}
 use Rattle.bpaf.specs.declared.leaves.positional.Position.TheVariants.{NonStrict, Strict}
-use Rattle.bpaf.specs.Marker.{words_before, words_behind}
-use Rattle.bpaf.specs.Positional.{accepts}
+use Rattle.bpaf.specs.{Marker.words_before, Marker.words_behind, Positional.accepts}
 use Rattle.bpaf_exact.specs.ProgramForm.{WordValue, flag_roles}
 use Rattle.bpaf_exact.specs.Flat.{FrontOf, SingleValue, gap_of}
-use Rattle.bpaf_exact.specs.{Says.Alike, Says.WordSays, Pieces.LinePiece, Pieces.others}
+use Rattle.bpaf_exact.specs.{Pieces.LinePiece, Pieces.others, Says.Alike, Says.WordSays}
 use Rattle.bpaf_program.specs.Ending.{line, line_each, truth}
 use Rattle.bpaf_program.specs.KnownParser.{MeansText, String}
 use Rattle.bpaf_program.proofs.LookAlike.{alone_seen, both_seen, con_seen, field_seen, many_seen}
 use Rattle.bpaf_program.proofs.LookAlike.{switch_seen, text_word_seen, program_looks_one}
-use Rattle.bpaf_program.proofs.LookAlike.{values_look}
-use Rattle.bpaf_program.proofs.{Known.word_before, Texts.texts_are}
+use Rattle.bpaf_program.proofs.{LookAlike.values_look, Known.word_before, Texts.texts_are}
 use Rattle.example_launch.specs.Running.{dry_run_names, launch_of, program_given, program_known}
 use Rattle.example_launch.specs.Running.{verbose_names, IsLaunchValue, lines, IsDealtLaunch}
-use Rattle.example_launch.specs.Running.{IsLaunchOf, AnswersLaunch}
 use Rattle.example_launch.specs.declared.options.Launch.{Launch}
+use Rattle.example_launch.specs.Running.{IsLaunchOf, AnswersLaunch}
 use Rattle.std.specs.List.{Contains}
 use Rattle.bpaf_line.specs.declared.failure.ParseFailure.{ParseFailure}
 use Rattle.bpaf_record.proofs.Answered.{flag_leaves, line_behind, name_before, strict_words}
-use Rattle.bpaf_exact.proofs.{Says.list_says, Says.front_says, Says.word_says}
+use Rattle.bpaf_exact.proofs.Says.{list_says, front_says, word_says}
 
 -- of a launch the lines are seen
 pub same_lines : (words : List (List ℕ)) → All IsUtf8 words → Alike lines (IsLaunchValue words)

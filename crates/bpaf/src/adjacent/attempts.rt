@@ -1,9 +1,8 @@
 //! One attempt after another to read a group from a place on.
 ghost use Rattle.std.specs.Prelude.{◌≡◌, ◌≤◌, true, None, Some, Ok, Err, length, MatchOption};
 ghost use Rattle.std.specs.Prelude.{MatchResult};
-ghost use Rattle.bpaf_line.specs.Messages.{is_memory};
 ghost use Rattle.bpaf_line.specs.Situation.{IsStretchFrom, open_count, with_scope, HasNoneOpen};
-ghost use Rattle.bpaf_line.specs.Situation.{IsNextOpen};
+ghost use Rattle.bpaf_line.specs.{Situation.IsNextOpen, Messages.is_memory};
 ghost use Rattle.bpaf_laws.specs.{Laws.IsNotMemory, Adjacent.Tries};
 ghost use Rattle.bpaf.specs.Remembering.{EndsAttempt, TakesOnePlace};
 

@@ -1,5 +1,4 @@
-use Rattle.std.proofs.Common.{take}
-use Rattle.std.proofs.lemmas.List.{take_more}
+use Rattle.std.proofs.{lemmas.List.take_more, Common.take}
 use Rattle.bpaf_laws.proofs.ChoiceLaws.{one_more_shown}
 use Rattle.bpaf.proofs.choices.meta_from.Goals as goal
 

@@ -1,5 +1,4 @@
-use Rattle.std.proofs.Common.{arith, rules}
-use Rattle.std.proofs.Common.{◌++◌, ◌∷◌, [], refl}
+use Rattle.std.proofs.Common.{arith, rules, ◌++◌, ◌∷◌, [], refl}
 use Rattle.bpaf_laws.proofs.ArgumentLaws.{pair_fewer, texts_more}
 use Rattle.bpaf_keys.proofs.environment.take_all_keys.Goals as goal
 

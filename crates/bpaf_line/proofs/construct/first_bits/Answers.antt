@@ -1,5 +1,4 @@
-use Rattle.std.proofs.Common.{◌∙◌, ap, sym}
-use Rattle.std.proofs.lemmas.List.{with_items_is}
+use Rattle.std.proofs.{Common.◌∙◌, Common.ap, Common.sym, lemmas.List.with_items_is}
 use Rattle.bpaf_line.specs.Situation.{is_marker}
 use Rattle.bpaf_index.proofs.BitSets.{has_bit_one}
 use Rattle.bpaf_line.proofs.construct.first_bits.Goals as goal

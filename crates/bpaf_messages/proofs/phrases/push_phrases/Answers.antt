@@ -1,5 +1,4 @@
-use Rattle.std.proofs.Common.{arith}
-use Rattle.std.proofs.lemmas.List.{drop_all}
+use Rattle.std.proofs.{lemmas.List.drop_all, Common.arith}
 use Rattle.bpaf_messages.proofs.Followed.{text_behind}
 use Rattle.bpaf_messages.proofs.phrases.push_phrases.Goals as goal
 

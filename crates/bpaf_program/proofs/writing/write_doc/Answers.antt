@@ -1,8 +1,7 @@
 use Rattle.std.proofs.Common.{sym, ◌∙◌}
 use Rattle.bpaf_program.proofs.Running.{on_err, part_of_next, written_next, printed_behind}
-use Rattle.bpaf_program.proofs.Running.{printed_here}
 use Rattle.bpaf_program.proofs.writing.write_doc.Goals.{then-is_shown+in_ok-write_text}
-use Rattle.bpaf_program.proofs.writing.write_doc.Goals.{else-is_shown}
+use Rattle.bpaf_program.proofs.{writing.write_doc.Goals.else-is_shown, Running.printed_here}
 use Rattle.bpaf_program.proofs.writing.write_doc.Goals as goal
 
 pub returns-in_err-write_text-clause-part : goal.returns-in_err-write_text-clause-part

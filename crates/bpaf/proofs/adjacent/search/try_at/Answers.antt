@@ -1,8 +1,7 @@
 use Rattle.std.proofs.Common.{refl, sym, ap, ◌∙◌}
 use Rattle.bpaf_line.specs.Situation.{Situation}
 use Rattle.bpaf.specs.Remembering.{failure_of, skipped, found}
-use Rattle.bpaf.proofs.Remembering.{attempts_gone, back_at, wanted_at}
-use Rattle.bpaf.proofs.Remembering.{failed_at}
+use Rattle.bpaf.proofs.Remembering.{attempts_gone, back_at, wanted_at, failed_at}
 use Rattle.bpaf.proofs.adjacent.search.try_at.Goals as goal
 
 pub returns-in_err-takes_item-clause-tried : goal.returns-in_err-takes_item-clause-tried

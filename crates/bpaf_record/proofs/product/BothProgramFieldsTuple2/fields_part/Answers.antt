@@ -1,0 +1,19 @@
+use Rattle.std.proofs.Common.{true}
+use Rattle.bpaf_record.specs.Grammar.{keys_of, program_form}
+use Rattle.bpaf_record.proofs.Parts.{both_part_is}
+use Rattle.bpaf_record.proofs.product.BothProgramFieldsTuple2.fields_part.Goals as goal
+
+pub returns : goal.returns
+returns g c variables =
+    let first = g.A.ProgramField.grammar c.args.self.now.first in
+    let rest = g.R.ProgramFields.grammar c.args.self.now.rest in
+    rw (
+      c.then.ensures,
+      c.all_keys-apart.ensures,
+      c.all_keys-no_key_behind.ensures,
+      c.field.ensures,
+      c.part.ensures variables,
+      c.fields_part-rest.ensures variables,
+    ) (both_part_is
+    (keys_of first true) (keys_of rest true) (program_form first variables)
+    (program_form rest variables))
