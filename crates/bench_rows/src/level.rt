@@ -1,4 +1,8 @@
 //! A described parser whose inner ones are of the level below.
+ghost use Rattle.std.specs.Prelude.{All};
+ghost use Rattle.bench_rows.specs.Levels.{LevelOutcome, LevelReads, LevelDescribes, level_lawful, level_shorts, level_shows};
+ghost use Rattle.bench_values.specs.Modifiers.{all_of};
+
 use crate::groups::{group, group_meta};
 use crate::several::{or_else, or_else_meta, product, product_meta};
 use bench_values::{
@@ -19,10 +23,6 @@ pub struct Level<P> {
 }
 
 impl<P: Parser<Value> + Drop> Parser<Value> for Level<P> {
-    ghost use Rattle.std.specs.Prelude.{All};
-    ghost use Rattle.bench_rows.specs.Levels.{LevelOutcome, LevelReads, LevelDescribes};
-    ghost use Rattle.bench_rows.specs.Levels.{level_lawful, level_shorts, level_shows};
-
     ghost can_eval = { λ p. All P.can_eval p.inner.parsers.items };
 
     ghost describes = { λ p. LevelDescribes P.describes p.kind p.inner.parsers.items };
@@ -63,8 +63,6 @@ impl<P: Parser<Value> + Drop> Parser<Value> for Level<P> {
 }
 
 impl<P: Described> Described for Level<P> {
-    ghost use Rattle.bench_values.specs.Modifiers.{all_of};
-
     fn read(tokens: &mut Tokens<'_>) -> Result<Level<P>, Fault> {
         let opened = tokens.open();
         let (kind, count) = read_combination(tokens)?;
