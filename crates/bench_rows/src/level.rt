@@ -1,6 +1,7 @@
 //! A described parser whose inner ones are of the level below.
 ghost use Rattle.std.specs.Prelude.{All};
-ghost use Rattle.bench_rows.specs.Levels.{LevelOutcome, LevelReads, LevelDescribes, level_lawful, level_shorts, level_shows};
+ghost use Rattle.bench_rows.specs.Levels.{LevelDescribes, LevelOutcome, LevelReads};
+ghost use Rattle.bench_rows.specs.Levels.{level_lawful, level_shorts, level_shows};
 ghost use Rattle.bench_values.specs.Modifiers.{all_of};
 
 use crate::groups::{group, group_meta};
