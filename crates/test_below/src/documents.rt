@@ -4,6 +4,7 @@ use crate::trees::tree;
 use bpaf_doc::{Doc, Item, Meta, MetaInfo, Style, Text};
 use std::alloc::{AllocError, Global};
 use std::test::Fail;
+use test_support::reads;
 
 // What texts print: in full, without the detail, and as their first line, between bars.
 const FOLDED: &[(&str, &str)] = &[
@@ -16,6 +17,10 @@ const FOLDED: &[(&str, &str)] = &[
     ),
     ("\n\nx", "\nx||None"),
 ];
+
+// The same of `grown_prints`, no piece of which is a detail, so that both prints are one text.
+const GROWN: &str = "ab\ncuse\nd\n`-x`ab\ncuse\nd\n`-x`|\
+    ab\ncuse\nd\n`-x`ab\ncuse\nd\n`-x`|Some(\"ab\")";
 
 // The first line of a document, as it is printed.
 fn first_line(doc: &Doc) -> Result<Option<String>, AllocError> {
@@ -59,16 +64,10 @@ fn grown_prints(alloc: Global) -> Result<String, AllocError> {
 #[test]
 fn documents_are_printed(rt: HostRuntime) -> Result<(), Fail> {
     for (text, wanted) in FOLDED {
-        let printed = text_prints(rt.alloc(), *text)?;
-        assert_eq!(rt; printed.as_str(), *wanted);
+        reads(text_prints(rt.alloc(), *text), *wanted)?;
     }
-    let printed = pieces_print(rt.alloc())?;
-    assert_eq!(rt; printed.as_str(), "a\nbc|a\nbc|Some(\"a\")");
-    let wanted = "ab\ncuse\nd\n`-x`ab\ncuse\nd\n`-x`";
-    let printed = grown_prints(rt.alloc())?;
-    assert!(rt; printed.starts_with(wanted));
-    assert!(rt; printed.ends_with("|Some(\"ab\")"));
-    Ok(())
+    reads(pieces_print(rt.alloc()), "a\nbc|a\nbc|Some(\"a\")")?;
+    reads(grown_prints(rt.alloc()), GROWN)
 }
 
 // Trees and what they answer: the short names of the flags and of the arguments, whether no key
@@ -139,8 +138,7 @@ fn row_answers(alloc: Global, row: &str) -> Result<String, AllocError> {
 #[test]
 fn trees_answer_and_are_copied(rt: HostRuntime) -> Result<(), Fail> {
     for (row, wanted) in TREES {
-        let answer = row_answers(rt.alloc(), *row)?;
-        assert_eq!(rt; answer.as_str(), *wanted);
+        reads(row_answers(rt.alloc(), *row), *wanted)?;
     }
     Ok(())
 }
@@ -156,20 +154,24 @@ const TEXTS: &[&str] = &[
     "several words that need memory of their own",
 ];
 
-// Whether a text and its copy say and print what they were made of, as one made of a String does.
-fn says(alloc: Global, text: &str) -> Result<bool, AllocError> {
+// How a text and its copy print, and what the copy and a text made of a String say.
+fn says(alloc: Global, text: &str) -> Result<String, AllocError> {
     let made = Text::new(alloc, text)?;
     let copy = made.copy()?;
     let owned = Text::from(String::from_str(alloc, text)?);
-    let printed = format!(in alloc; "{made}|{copy:?}")?;
-    let wanted = format!(in alloc; "{text}|{text:?}")?;
-    Ok(copy.as_str() == text && owned.as_str() == text && printed == wanted)
+    let (said, owned) = (copy.as_str(), owned.as_str());
+    format!(in alloc; "{made}|{copy:?}|{said}|{owned}")
+}
+
+// What they are to print and say.
+fn to_say(alloc: Global, text: &str) -> Result<String, AllocError> {
+    format!(in alloc; "{text}|{text:?}|{text}|{text}")
 }
 
 #[test]
 fn texts_say_what_they_are_made_of(rt: HostRuntime) -> Result<(), Fail> {
     for text in TEXTS {
-        assert!(rt; says(rt.alloc(), *text)?);
+        reads(says(rt.alloc(), *text), to_say(rt.alloc(), *text)?.as_str())?;
     }
     Ok(())
 }

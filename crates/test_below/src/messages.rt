@@ -91,26 +91,46 @@ fn missing(alloc: Global, told: &str) -> Result<MissingItems, AllocError> {
     Ok(all)
 }
 
+/// The text in the message that a row tells.
+fn text_in(told: &str) -> &str {
+    let (kind, given) = cut(told, " ");
+    match kind {
+        "no_env" => given,
+        "strict" | "non_strict" => "FILE",
+        "unread" | "unguarded" => "no",
+        "no_argument" => "NUM",
+        "ambiguity" => cut(given, " ").0,
+        _ => told,
+    }
+}
+
+/// The message of a row with a text.
+fn with_text(kind: &str, place: Option<usize>, letter: usize, text: Text) -> Message {
+    match kind {
+        "no_env" => Message::NoEnv(text),
+        "strict" => Message::StrictPos(0, text),
+        "non_strict" => Message::NonStrictPos(1, text),
+        "unread" => Message::ParseFailed(place, text),
+        "unguarded" => Message::GuardFailed(place, text),
+        "no_argument" => Message::NoArgument(place.unwrap_or(0), text),
+        "ambiguity" => Message::Ambiguity(text, letter),
+        _ => Message::ParseFail(text),
+    }
+}
+
 /// The message that a row tells.
 fn message(alloc: Global, told: &str) -> Result<Message, AllocError> {
     let (kind, given) = cut(told, " ");
     let (first, second) = cut(given, " ");
-    let place = place_of(first).unwrap_or(0);
+    let place = place_of(first);
     let other = place_of(second).unwrap_or(0);
     Ok(match kind {
-        "no_env" => Message::NoEnv(Text::new(alloc, given)?),
-        "strict" => Message::StrictPos(0, Text::new(alloc, "FILE")?),
-        "non_strict" => Message::NonStrictPos(1, Text::new(alloc, "FILE")?),
-        "unread" => Message::ParseFailed(place_of(first), Text::new(alloc, "no")?),
-        "unguarded" => Message::GuardFailed(place_of(first), Text::new(alloc, "no")?),
-        "no_argument" => Message::NoArgument(place, Text::new(alloc, "NUM")?),
-        "unconsumed" => Message::Unconsumed(place),
-        "conflict" => Message::Conflict(place, other),
-        "only_once" => Message::OnlyOnce(place, other),
-        "ambiguity" => Message::Ambiguity(Text::new(alloc, first)?, other),
+        "unconsumed" => Message::Unconsumed(place.unwrap_or(0)),
+        "conflict" => Message::Conflict(place.unwrap_or(0), other),
+        "only_once" => Message::OnlyOnce(place.unwrap_or(0), other),
         "missing" => Message::Missing(missing(alloc, given)?),
         "expected" => Message::Expected(Vec::new(alloc), None),
-        _ => Message::ParseFail(Text::new(alloc, told)?),
+        _ => with_text(kind, place, other, Text::new(alloc, text_in(told))?),
     })
 }
 
