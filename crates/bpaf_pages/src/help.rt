@@ -102,8 +102,7 @@ fn push_opening(
     let usage = usage_paragraph(alloc, path, texts.usage, meta)?;
     glue(page, "\n", &usage)?;
     let header = given_paragraph(alloc, texts.header)?;
-    glue(page, "\n", &header)?;
-    Ok(())
+    glue(page, "\n", &header)
 }
 
 impl<'a> Lines<'a> {

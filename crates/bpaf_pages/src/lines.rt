@@ -179,8 +179,7 @@ impl<'a> Lines<'a> {
     {
         let from = self.all.len();
         self.collect(inner, home)?;
-        self.push_below(from, text)?;
-        Ok(())
+        self.push_below(from, text)
     }
 
     /// Appends the lines of a tree, which stands in the section of a number or outside, and the

@@ -1,14 +1,18 @@
 //! The rows of what stands above `bpaf`, as tests: of flat records and programs with commands their
-//! values, which options are none, and how their runs end over two writers; and of batteries.
+//! values, which options are none, and how their runs end over two writers; of batteries, and of
+//! the program `bpaf_demo`.
 //!
-//! It stands on `bpaf_program`, `bpaf_record`, `bpaf_batteries`, `bpaf` and `test_support`. Nothing
-//! stands on this crate: one with tests is proved twice. docs/ROWS.md names each row and its test.
+//! It stands on `bpaf_program`, `bpaf_record`, `bpaf_batteries`, `bpaf`, `example_demo` and
+//! `test_support`. Nothing stands on this crate: one with tests is proved twice. docs/ROWS.md names
+//! each row and its test.
 #![tactic(auto)]
 
 #[cfg(test)]
 mod batteries;
 #[cfg(test)]
 mod command_ends;
+#[cfg(test)]
+mod demo;
 #[cfg(test)]
 mod ends;
 #[cfg(test)]

@@ -1,7 +1,7 @@
 //! What the options print.
 ghost use Rattle.std.specs.Prelude.{map, string_bytes};
 ghost use Rattle.bpaf_program.specs.Ending.{IsTextOrWant};
-ghost use Rattle.bpaf_demo.specs.Running.{lines, AnswersLines};
+ghost use Rattle.example_demo.specs.Running.{lines, AnswersLines};
 
 use crate::options::{Options, read_options};
 use bpaf::ParseFailure;

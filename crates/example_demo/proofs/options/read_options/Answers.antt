@@ -8,11 +8,11 @@ use Rattle.bpaf_program.specs.KnownParser.{known_switch, MeansText}
 use Rattle.bpaf_program.proofs.KnownParser.{argument_known, many_known, switch_known, word_known}
 use Rattle.bpaf_program.proofs.KnownParser.{both_known, con_known, last_known, program_exactly}
 use Rattle.bpaf_program.proofs.Running.{are_texts}
-use Rattle.bpaf_demo.specs.Running.{number_key, options_of, program_given, verbose_names}
-use Rattle.bpaf_demo.specs.Running.{IsProgramShape, fields as record_fields, record_of}
-use Rattle.bpaf_demo.proofs.Alike.{is_flat}
+use Rattle.example_demo.specs.Running.{number_key, options_of, program_given, verbose_names}
+use Rattle.example_demo.specs.Running.{IsProgramShape, fields as record_fields, record_of}
+use Rattle.example_demo.proofs.Alike.{is_flat}
 use Rattle.bpaf_program.proofs.Known as dealt
-use Rattle.bpaf_demo.proofs.options.read_options.Goals as goal
+use Rattle.example_demo.proofs.options.read_options.Goals as goal
 
 pub run_record-requires-clause-record : goal.run_record-requires-clause-record
 run_record-requires-clause-record c =

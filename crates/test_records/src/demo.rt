@@ -1,5 +1,5 @@
-//! The worked rows of the program, and what it writes where there are no options.
-use crate::run::run;
+//! The worked rows of the program `bpaf_demo`, and what it writes where there are no options.
+use example_demo::run;
 use std::alloc::Global;
 use std::io::Write;
 use std::test::Fail;

@@ -1,7 +1,7 @@
 //! The program from its words to its bytes and its status.
 ghost use Rattle.std.specs.Prelude.{map, string_bytes};
 ghost use Rattle.bpaf_program.specs.Ending.{RunsTo, wrote};
-ghost use Rattle.bpaf_demo.specs.Running.{Answers, PrintsExactly};
+ghost use Rattle.example_demo.specs.Running.{Answers, PrintsExactly};
 
 use crate::print::lines_of;
 use bpaf_program::{Sink, print};

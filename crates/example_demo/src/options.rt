@@ -3,8 +3,8 @@ ghost use Rattle.std.specs.Prelude.{◌≡◌, IfOk, codes, false, map, string_b
 ghost use Rattle.std.specs.Result.{IfErr};
 ghost use Rattle.bpaf.specs.declared.leaves.positional.Position.TheVariants.{Unrestricted};
 ghost use Rattle.bpaf_program.specs.Fields.{HasArgument, HasSwitch, HasWord};
-ghost use Rattle.bpaf_demo.specs.Running.{AnswersOptionsExactly, IsDealtOptions, number_key};
-ghost use Rattle.bpaf_demo.specs.Running.{verbose_names, ShowsHelpAsked};
+ghost use Rattle.example_demo.specs.Running.{AnswersOptionsExactly, IsDealtOptions, number_key};
+ghost use Rattle.example_demo.specs.Running.{verbose_names, ShowsHelpAsked};
 
 use bpaf::params::{ParseArgument, ParseFlag, ParsePositional};
 use bpaf::parsers::ParseMany;

@@ -10,9 +10,9 @@ use Rattle.bpaf_program.specs.KnownParser.{IsKept, MeansText, String}
 use Rattle.bpaf_program.proofs.LookAlike.{alone_seen, both_seen, con_seen, field_seen, many_seen}
 use Rattle.bpaf_program.proofs.LookAlike.{number_seen, switch_seen, text_word_seen}
 use Rattle.bpaf_program.proofs.LookAlike.{program_looks_one, values_look}
-use Rattle.bpaf_demo.specs.Running.{number_key, options_of, program_given, program_known}
-use Rattle.bpaf_demo.specs.Running.{IsOptionsOf, file_lines, lines, verbose_names, FieldValues}
-use Rattle.bpaf_demo.specs.declared.options.Options.{Options}
+use Rattle.example_demo.specs.Running.{number_key, options_of, program_given, program_known}
+use Rattle.example_demo.specs.Running.{IsOptionsOf, file_lines, lines, verbose_names, FieldValues}
+use Rattle.example_demo.specs.declared.options.Options.{Options}
 use Rattle.bpaf_doc.specs.declared.doc.Piece.{Piece}
 use Rattle.bpaf_text.specs.Meaning.{SpellsUnsigned}
 use Rattle.bpaf_text.specs.{declared.params.ParseFlag.ParseFlag, Named.KeyWithValue}

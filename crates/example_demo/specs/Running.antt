@@ -16,7 +16,7 @@ use Rattle.bpaf_program.specs.KnownParser.{MeansText, String, known_con, known_m
 use Rattle.bpaf_program.specs.KnownParser.{IsExactFor, IsValueBy}
 use Rattle.bpaf_program.specs.Fields.{NamedSwitchReads, switch_shape}
 use Rattle.bpaf_program.specs.Ending.{line, line_each, truth, AnswersByText, PrintsTextOf, Written}
-use Rattle.bpaf_demo.specs.declared.options.Options.{Options}
+use Rattle.example_demo.specs.declared.options.Options.{Options}
 use Rattle.bpaf_line.specs.declared.failure.ParseFailure.{ParseFailure}
 use Rattle.bpaf_record.specs.Grammar.{Grammar, alone, argument, both, word}
 use Rattle.bpaf_keys.specs.Info.{plain_info}

@@ -1,8 +1,8 @@
 use Rattle.std.proofs.Common.{map, string_bytes}
 use Rattle.bpaf_program.proofs.Running.{are_texts, given_text, refusal_answers, refused_text}
-use Rattle.bpaf_demo.specs.Running.{Answers, help, options, IsHelpAsked}
-use Rattle.bpaf_demo.proofs.Alike.{same_lines}
-use Rattle.bpaf_demo.proofs.print.lines_of.Goals as goal
+use Rattle.example_demo.specs.Running.{Answers, help, options, IsHelpAsked}
+use Rattle.example_demo.proofs.Alike.{same_lines}
+use Rattle.example_demo.proofs.print.lines_of.Goals as goal
 
 pub returns-in_err-options : goal.returns-in_err-options
 returns-in_err-options c =

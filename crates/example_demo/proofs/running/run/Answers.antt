@@ -1,5 +1,5 @@
 use Rattle.bpaf_program.proofs.Running.{prints_text, runs_to}
-use Rattle.bpaf_demo.proofs.run.run.Goals as goal
+use Rattle.example_demo.proofs.running.run.Goals as goal
 
 pub returns : goal.returns
 returns g c = record {
