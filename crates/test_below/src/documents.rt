@@ -155,7 +155,7 @@ const TEXTS: &[&str] = &[
 ];
 
 // How a text and its copy print, and what the copy and a text made of a String say.
-fn says(alloc: Global, text: &str) -> Result<String, AllocError> {
+fn said(alloc: Global, text: &str) -> Result<String, AllocError> {
     let made = Text::new(alloc, text)?;
     let copy = made.copy()?;
     let owned = Text::from(String::from_str(alloc, text)?);
@@ -164,14 +164,14 @@ fn says(alloc: Global, text: &str) -> Result<String, AllocError> {
 }
 
 // What they are to print and say.
-fn to_say(alloc: Global, text: &str) -> Result<String, AllocError> {
+fn wanted(alloc: Global, text: &str) -> Result<String, AllocError> {
     format!(in alloc; "{text}|{text:?}|{text}|{text}")
 }
 
 #[test]
 fn texts_say_what_they_are_made_of(rt: HostRuntime) -> Result<(), Fail> {
     for text in TEXTS {
-        reads(says(rt.alloc(), *text), to_say(rt.alloc(), *text)?.as_str())?;
+        reads(said(rt.alloc(), *text), wanted(rt.alloc(), *text)?.as_str())?;
     }
     Ok(())
 }

@@ -4,27 +4,6 @@ use std::alloc::{AllocError, Global};
 use std::test::Fail;
 use test_support::{answers, num, reads};
 
-/// How a default is shown: as Display or Debug prints it, or as a closure writes it.
-#[derive(Clone, Copy)]
-enum Shown {
-    Displayed,
-    Debugged,
-    Formatted,
-}
-
-/// A number with a default.
-fn kept(alloc: Global, shown: Shown, lines: &[&[&str]]) -> Result<String, AllocError> {
-    let n = num(alloc)?.fallback(7);
-    match shown {
-        Shown::Displayed => answers(alloc, n.display_fallback(alloc)?, lines),
-        Shown::Debugged => answers(alloc, n.debug_fallback(alloc)?, lines),
-        Shown::Formatted => {
-            let n = n.format_fallback(alloc, |n| format!(in alloc; "{n} or so"))?;
-            answers(alloc, n, lines)
-        }
-    }
-}
-
 /// The page of a number and its default.
 const PAGE: &str = "out Usage: [-n=NUM]\n\n\
     Available options:\n    \
@@ -50,36 +29,26 @@ const FORMATTED: &str = "out Usage: [-n=NUM]\n\n\
 #[test]
 fn defaults_are_shown(rt: HostRuntime) -> Result<(), Fail> {
     let a = rt.alloc();
-    reads(
-        kept(a, Shown::Displayed, &[&["--help"], &[]]),
-        PAGE_AND_VALUE,
-    )?;
-    reads(kept(a, Shown::Debugged, &[&["--help"]]), PAGE)?;
-    reads(kept(a, Shown::Formatted, &[&["--help"]]), FORMATTED)
-}
-
-/// A number with the answer of a closure as its default.
-fn answered(alloc: Global, shown: Shown, lines: &[&[&str]]) -> Result<String, AllocError> {
-    let n = num(alloc)?.fallback_with(|| Ok::<u64, &str>(7));
-    match shown {
-        Shown::Displayed => answers(alloc, n.display_fallback(alloc)?, lines),
-        Shown::Debugged => answers(alloc, n.debug_fallback(alloc)?, lines),
-        Shown::Formatted => {
-            let n = n.format_fallback(alloc, |n| format!(in alloc; "{n} or so"))?;
-            answers(alloc, n, lines)
-        }
-    }
+    let shown = num(a)?.fallback(7).display_fallback(a)?;
+    reads(answers(a, shown, &[&["--help"], &[]]), PAGE_AND_VALUE)?;
+    let shown = num(a)?.fallback(7).debug_fallback(a)?;
+    reads(answers(a, shown, &[&["--help"]]), PAGE)?;
+    let shown = num(a)?.fallback(7);
+    let shown = shown.format_fallback(a, |n| format!(in a; "{n} or so"))?;
+    reads(answers(a, shown, &[&["--help"]]), FORMATTED)
 }
 
 #[test]
 fn answers_of_closures_are_shown(rt: HostRuntime) -> Result<(), Fail> {
     let a = rt.alloc();
-    reads(
-        answered(a, Shown::Displayed, &[&["--help"], &[]]),
-        PAGE_AND_VALUE,
-    )?;
-    reads(answered(a, Shown::Debugged, &[&["--help"]]), PAGE)?;
-    reads(answered(a, Shown::Formatted, &[&["--help"]]), FORMATTED)
+    let seven = || Ok::<u64, String>(7);
+    let shown = num(a)?.fallback_with(seven).display_fallback(a)?;
+    reads(answers(a, shown, &[&["--help"], &[]]), PAGE_AND_VALUE)?;
+    let shown = num(a)?.fallback_with(seven).debug_fallback(a)?;
+    reads(answers(a, shown, &[&["--help"]]), PAGE)?;
+    let shown = num(a)?.fallback_with(seven);
+    let shown = shown.format_fallback(a, |n| format!(in a; "{n} or so"))?;
+    reads(answers(a, shown, &[&["--help"]]), FORMATTED)
 }
 
 /// Whether a default is made whose closure refuses for want of memory.

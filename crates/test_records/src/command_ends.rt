@@ -59,11 +59,11 @@ fn compare<P: ProgramField<Values> + Drop>(alloc: Global, parser: P) -> Result<(
 
 /// Compares those of `[-a] [-v] -c NUM [-b] build -n NUM`.
 fn compare_builds(alloc: Global) -> Result<(), Fail> {
+    let build = number(alloc, 'n')?.to_options(alloc)?.command("build")?;
     let a = switch(alloc, 'a')?;
     let verbose = switch(alloc, 'v')?;
     let count = number(alloc, 'c')?;
     let b = switch(alloc, 'b')?;
-    let build = number(alloc, 'n')?.to_options(alloc)?.command("build")?;
     compare(alloc, construct!(a, verbose, count, b, build))
 }
 

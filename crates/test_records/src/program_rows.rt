@@ -320,8 +320,8 @@ fn words_of_a_command_run_as_programs(rt: HostRuntime) -> Result<(), Fail> {
 
 /// Compares the answers of `[-v] add [-h]`, where `--usage` asks for help of the command.
 fn compare_asked(alloc: Global, rows: &str) -> Result<(), Fail> {
-    let usage = long(alloc, "usage")?;
-    let options = switch(alloc, 'h')?.to_options(alloc)?.help_parser(usage);
+    let options = switch(alloc, 'h')?.to_options(alloc)?;
+    let options = options.help_parser(long(alloc, "usage")?);
     compare_behind(alloc, options.command("add")?, rows)
 }
 
