@@ -42,7 +42,7 @@ impl fmt::Display for Arg {
 }
 
 /// Whether a text is among others.
-fn is_text_among(texts: &[Text], text: &str) -> bool
+pub fn is_text_among(texts: &[Text], text: &str) -> bool
     ensures { result ≡ is_text_among texts.now text.now }
 {
     texts.iter().any(|other| other.as_str() == text)

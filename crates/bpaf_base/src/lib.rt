@@ -21,6 +21,6 @@ mod text;
 
 pub use arg::{
     Arg, is_argument_key, is_attached, is_command_word, is_key, is_key_of, is_positional,
-    item_text, value_text,
+    is_text_among, item_text, value_text,
 };
 pub use text::Text;

@@ -16,14 +16,6 @@ use Rattle.bpaf_index.specs.{Chained.names_of, Chained.HasNoKeyFrom, InsideChain
 use Rattle.bpaf_base.specs.declared.arg.Arg.TheVariants.{Long}
 use Rattle.bpaf_base.specs.{Items.is_key_of, Items.is_key, declared.arg.Arg.Arg, Names.Names}
 
--- the classes of a line's first places, fewer than 128 and one for each of these
-pub record AreGiven (names : Naming) (items : List Arg) (place : ℕ) (classes : List ℕ)
-    : Type 0 where
-  pub size : length classes ≡ place
-  pub are : AreClassesOf names items classes
-  pub low : (p : ℕ) → p < place → slice_index classes p < 128 + place
-  pub below : (item : Arg) (k : ℕ) → class_of names item ≡ Some k → k < 128 + place
-
 -- a long name that has no class is kept with the next one
 pub noted_long : (shorts : List (ℕ × ℕ)) (old new : BTreeMap (String Global) ℕ)
     (kept : String Global) (next : ℕ) (item : Arg) {attached : Bool} {word name : List ℕ}

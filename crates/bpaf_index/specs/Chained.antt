@@ -1,6 +1,6 @@
 -- The places of a line, chained by the classes of their items: items of one name are of one class.
 -- No contract above this crate speaks of them.
-use Rattle.std.specs.Prelude.{ℕ, ◌≡◌, ◌<◌, ◌⊎◌, List, length, slice_get, slice_index, Option, Some}
+use Rattle.std.specs.Prelude.{ℕ, ◌≡◌, ◌+◌, ◌<◌, ◌⊎◌, List, length, slice_get, slice_index, Option, Some}
 use Rattle.std.specs.Prelude.{None, nat_lt, if◌then◌else◌, string_bytes, String as StringIn, ◌≢◌}
 use Rattle.std.specs.Prelude.{◌≤◌, Bool, true, false, [], ◌∷◌, ⊤}
 use Rattle.std.specs.{BTreeMap.is_at, Cmp.Lexicographic.slice_cmp, Map.lookup, Ordering.nat_cmp}
@@ -34,6 +34,14 @@ abbrev pub AreClassesOf : Naming → List Arg → List ℕ → Type 0
 AreClassesOf names line classes =
     (p : ℕ) (item : Arg) → p < length classes → slice_get line p ≡ Some item
     → class_of names item ≡ Some (slice_index classes p)
+
+-- the classes of a line's first places, fewer than 128 and one for each of these
+pub record AreGiven (names : Naming) (items : List Arg) (place : ℕ) (classes : List ℕ)
+    : Type 0 where
+  pub size : length classes ≡ place
+  pub are : AreClassesOf names items classes
+  pub low : (p : ℕ) → p < place → slice_index classes p < 128 + place
+  pub below : (item : Arg) (k : ℕ) → class_of names item ≡ Some k → k < 128 + place
 
 -- The places of a line, chained by the classes of their items. No contract above this crate speaks
 -- of them.

@@ -1,7 +1,7 @@
 //! The classes of a line's names, by which its places are chained.
-ghost use Rattle.std.specs.Prelude.{◌≡◌, ◌+◌, ◌<◌, ℕ, [], IfOk, false, length, slice_index};
+ghost use Rattle.std.specs.Prelude.{◌≡◌, [], IfOk, false, length};
 ghost use Rattle.bpaf_base.specs.declared.arg.Arg.TheVariants.{Short, Long};
-ghost use Rattle.bpaf_index.specs.Chained.{class_of, IsNoted, AreClassesOf};
+ghost use Rattle.bpaf_index.specs.Chained.{class_of, AreGiven, IsNoted};
 
 use bpaf_base::{Arg, Text};
 use std::alloc::{AllocError, Global};
@@ -43,10 +43,7 @@ impl NameClasses {
         alloc: Global,
         items: &[Arg],
     ) -> Result<(NameClasses, Vec<usize>), AllocError>
-        ensures size { IfOk result (λ r. length r.1.items ≡ length items.now) }
-        ensures classes { IfOk result (λ r. AreClassesOf r.0 items.now r.1.items) }
-        ensures below { IfOk result (λ r. (p : ℕ) → p < length items.now
-            → slice_index r.1.items p < 128 + length items.now) }
+        ensures { IfOk result (λ r. AreGiven r.0 items.now (length items.now) r.1.items) }
     {
         let mut names = NameClasses {
             shorts: BTreeMap::new(alloc),

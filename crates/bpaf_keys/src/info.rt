@@ -137,23 +137,9 @@ fn usual_key(alloc: Global, name: char, long_name: &str, help: &str) -> Result<N
     Ok(short(alloc, name)?.long(long_name)?.help(help))
 }
 
-/// The usual key for help; refused only for want of memory.
-fn usual_help(alloc: Global) -> Result<NamedArg, AllocError>
-    ensures { IfOk result (λ key. key ≡ help_key) }
-{
-    usual_key(alloc, 'h', "help", "Prints help information")
-}
-
-/// The usual key for the version; refused only for want of memory.
-fn usual_version(alloc: Global) -> Result<NamedArg, AllocError>
-    ensures { IfOk result (λ key. key ≡ version_key) }
-{
-    usual_key(alloc, 'V', "version", "Prints version information")
-}
-
 /// What a key shows that must be there; refused only for want of memory.
-fn key_meta(alloc: Global, key: &NamedArg) -> Result<Meta, AllocError>
-    ensures { IfOk result (λ meta. shape_of meta ≡ key_shape key.now) }
+fn key_meta(alloc: Global, key: NamedArg) -> Result<Meta, AllocError>
+    ensures { IfOk result (λ meta. shape_of meta ≡ key_shape key) }
 {
     match key.flag_item(alloc)? {
         Some(item) => Ok(Meta::Item(item)),
@@ -301,7 +287,7 @@ impl Info {
     {
         match &self.help_arg {
             Some(key) => key.copy(),
-            None => usual_help(alloc),
+            None => usual_key(alloc, 'h', "help", "Prints help information"),
         }
     }
 
@@ -311,7 +297,7 @@ impl Info {
     {
         match &self.version_arg {
             Some(key) => key.copy(),
-            None => usual_version(alloc),
+            None => usual_key(alloc, 'V', "version", "Prints version information"),
         }
     }
 
@@ -353,25 +339,11 @@ impl Info {
     pub fn keys_meta(&self, alloc: Global) -> Result<Meta, AllocError>
         ensures { IfOk result (λ meta. shape_of meta ≡ extra_shape self.now) }
     {
-        let help = self.help_meta(alloc)?;
+        let help = key_meta(alloc, self.help_key(alloc)?)?;
         match &self.version {
-            Some(_) => both_metas(alloc, help, self.version_meta(alloc)?),
+            Some(_) => both_metas(alloc, help, key_meta(alloc, self.version_key(alloc)?)?),
             None => Ok(help),
         }
-    }
-
-    /// What is shown of the key for help; refused only for want of memory.
-    fn help_meta(&self, alloc: Global) -> Result<Meta, AllocError>
-        ensures { IfOk result (λ meta. shape_of meta ≡ key_shape self.now.help_arg) }
-    {
-        key_meta(alloc, &self.help_key(alloc)?)
-    }
-
-    /// What is shown of the key for the version; refused only for want of memory.
-    fn version_meta(&self, alloc: Global) -> Result<Meta, AllocError>
-        ensures { IfOk result (λ meta. shape_of meta ≡ key_shape self.now.version_arg) }
-    {
-        key_meta(alloc, &self.version_key(alloc)?)
     }
 }
 

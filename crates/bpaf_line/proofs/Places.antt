@@ -371,27 +371,27 @@ pub first_along : (test : Arg → Bool) (s : Situation) (classes : List ℕ) (lo
     → (q < end → is_match test s q ≡ true) → IsFirstAlong test s classes low end q
 first_along test s classes low end p q walked before within matches = grind (arith, not-true)
 
-module _ (s : Situation) (chains : Chained) (start p : ℕ) (h : AreChainsOf s chains)
-    (begins : IsChainStart chains (Word []) start)
-    (walked : HasWalked chains.classes (λ r. not (is_match is_positional s r)) start p) where
-  -- a walk along the chain of words passed no word
-  pub no_word_passed : (q : ℕ) → q < length chains.classes → q < p
-      → is_match is_positional s q ≡ false
-  no_word_passed q inside below = by_item (open_item s q) refl
-    where
-      word : (item : Arg) → open_item s q ≡ Some item → class_of chains.names item ≡ Some 0
-          → is_positional item ≡ false
-      word item there class =
-          let at = sym class ∙ h.classes q item inside (item_of_line s q item there) in
-          sym (ap (λ found. option_map_or is_positional found false) there)
-          ∙ not-true _ (walked.passed (slice_index chains.classes q) q (begins.place _ at)
-          (open_behind s chains _ start q item h begins inside at there) below refl)
+-- no word is before the first one along the chain of words
+pub no_word_along : (s : Situation) (chains : Chained) (start end p : ℕ) → AreChainsOf s chains
+    → IsChainStart chains (Word []) start → end ≤ length chains.classes
+    → IsFirstAlong is_positional s chains.classes start end p → HasNoneBefore is_positional s p
+no_word_along s chains start end p h begins inside along q below = by_item (open_item s q) refl
+  where
+    within : q < length chains.classes
+    within = omega (arith, below, inside, along.within)
 
-      by_item : (at : Option Arg) → open_item s q ≡ at
-          → option_map_or is_positional at false ≡ false
-      by_item (Some (Word text)) e = word _ e refl
-      by_item (Some (PosWord text)) e = word _ e refl
-      by_item _ e = refl
+    word : (item : Arg) → open_item s q ≡ Some item → class_of chains.names item ≡ Some 0
+        → is_positional item ≡ false
+    word item there class =
+        let at = sym class ∙ h.classes q item within (item_of_line s q item there) in
+        sym (ap (λ found. option_map_or is_positional found false) there)
+        ∙ along.none (slice_index chains.classes q) q (begins.place _ at)
+        (open_behind s chains _ start q item h begins within at there) below refl
+
+    by_item : (at : Option Arg) → open_item s q ≡ at → option_map_or is_positional at false ≡ false
+    by_item (Some (Word text)) e = word _ e refl
+    by_item (Some (PosWord text)) e = word _ e refl
+    by_item _ e = refl
 
 -- a key with the names of two has those of one or of the other
 key_of_more : (a b : Names) (item : Arg)
@@ -450,30 +450,31 @@ none_past names adjacent s low end q h is past = ⊎_elim
     (λ (behind : s.end ≤ q). past_scope (is_argument_key names adjacent) s q behind)
     (cases_lt q s.end)
 
--- the first key of the names is the first key, where none is behind
-pub key_found : (names : Names) (adjacent : Bool) (s : Situation) (end place : ℕ)
-    (found : Option ℕ) → ((q : ℕ) → end ≤ q → is_match (is_argument_key names adjacent) s q ≡ false)
-    → IsFirstAmong (is_argument_key names adjacent) names s end place
-    → found ≡ then_some (nat_lt place end) place
-    → MatchOption found (HasNone (is_argument_key names adjacent) s)
-    (IsFirst (is_argument_key names adjacent) s)
-key_found names adjacent s end place found past_end among is =
+-- the first key before which none is, and behind which none is
+pub key_found : (test : Arg → Bool) (s : Situation) (end place : ℕ) (found : Option ℕ)
+    → ((q : ℕ) → end ≤ q → is_match test s q ≡ false) → HasNoneBefore test s place
+    → (place < end → is_match test s place ≡ true) → found ≡ then_some (nat_lt place end) place
+    → MatchOption found (HasNone test s) (IsFirst test s)
+key_found test s end place found past_end none matches is =
     rw is (by_test (nat_lt place end) refl)
+  where
+    by_test : (b : Bool) → nat_lt place end ≡ b
+        → MatchOption (then_some b place) (HasNone test s) (IsFirst test s)
+    by_test true e = record { matches = matches (ltb-true place end e); first = none }
+    by_test false e = λ q. ⊎_elim (λ (before : q < place). none q before)
+        (λ (past : place ≤ q). past_end q (let far = ltb-false place end e in omega arith))
+        (cases_lt q place)
+
+-- no key with one of the names is before the first one of these names
+pub none_among : (names : Names) (adjacent : Bool) (s : Situation) (end place : ℕ)
+    → IsFirstAmong (is_argument_key names adjacent) names s end place
+    → HasNoneBefore (is_argument_key names adjacent) s place
+none_among names adjacent s end place among q before = none_at (open_item s q) refl
   where
     lacks : (named fits : Bool) → ((named && fits) ≡ true → named ≡ false) → (named && fits) ≡ false
     lacks named fits h = grind arith
 
-    none_at : (q : ℕ) → q < place → (at : Option Arg) → open_item s q ≡ at
+    none_at : (at : Option Arg) → open_item s q ≡ at
         → option_map_or (is_argument_key names adjacent) at false ≡ false
-    none_at q before None e = refl
-    none_at q before (Some item) e = lacks (is_key_of names item) _ (among.none q item before e)
-
-    by_test : (b : Bool) → nat_lt place end ≡ b → MatchOption (then_some b place)
-        (HasNone (is_argument_key names adjacent) s) (IsFirst (is_argument_key names adjacent) s)
-    by_test true e = record {
-      matches = among.matches (ltb-true place end e);
-      first = λ q before. none_at q before (open_item s q) refl;
-    }
-    by_test false e = λ q. ⊎_elim (λ (before : q < place). none_at q before (open_item s q) refl)
-        (λ (past : place ≤ q). past_end q (let far = ltb-false place end e in omega arith))
-        (cases_lt q place)
+    none_at None e = refl
+    none_at (Some item) e = lacks (is_key_of names item) _ (among.none q item before e)

@@ -141,19 +141,6 @@ impl Message {
         }
     }
 
-    /// The first where it can't be caught, else the other.
-    fn or_other(self, other: Message) -> Message
-        ensures { result ≡ (if can_catch self then other else self) }
-    {
-        if self.can_catch() {
-            drop(self);
-            other
-        } else {
-            drop(other);
-            self
-        }
-    }
-
     /// The one refusal of two parsers of which either would have served.
     ///
     /// It is Memory where one of the two is want of memory; else the ParseFailure, the first before
@@ -185,7 +172,7 @@ impl Message {
                     drop(first);
                     Message::ParseFailure(failure)
                 }
-                second => first.or_other(second),
+                second => { if first.can_catch() { second } else { first } }
             },
         }
     }

@@ -1,14 +1,15 @@
 //! The first key with one of some names, and the first word, found along the chains of those.
-ghost use Rattle.std.specs.Prelude.{◌≡◌, ◌≤◌, IfSome, MatchOption, length};
+ghost use Rattle.std.specs.Prelude.{◌≡◌, ◌<◌, ◌≤◌, Bool, IfSome, MatchOption, length, true};
 ghost use Rattle.bpaf_line.specs.Taking.{HasNoneBefore, IsFirstAmong, IsFirstAlong, is_match};
 ghost use Rattle.bpaf_line.specs.Inside.{AreChainsOf, is_sought, sought_names};
 ghost use Rattle.bpaf_base.specs.Items.{is_argument_key, is_positional};
 ghost use Rattle.bpaf_line.specs.{Taking.HasNone, Taking.IsFirst, Situation.AreTaken};
+ghost use Rattle.bpaf_base.specs.declared.arg.Arg.{Arg};
 
 use crate::state::State;
 use bpaf_doc::Text;
 use bpaf_index::chains::Chains;
-use bpaf_words::{is_argument_key, is_positional};
+use bpaf_words::{Arg, is_argument_key, is_positional};
 
 /// A scope with no more places from the first present one on, up to the line's last key, is
 /// narrow: to look at all of them costs less than a walk along chains that begin in front of it.
@@ -22,6 +23,36 @@ struct Sought<'a> {
     adjacent: bool,
 }
 
+/// A test of items.
+trait ItemTest {
+    /// The items that pass.
+    ghost accepts: { Self → Arg → Bool };
+
+    /// Whether an item passes. It takes no memory.
+    fn test(&self, item: &Arg) -> bool
+        ensures { result ≡ accepts self.now item.now };
+}
+
+impl ItemTest for Sought<'_> {
+    ghost accepts = { is_sought };
+
+    fn test(&self, item: &Arg) -> bool {
+        is_argument_key(item, self.shorts, self.longs, self.adjacent)
+    }
+}
+
+/// The test for a word.
+#[derive(Drop)]
+struct Positional {}
+
+impl ItemTest for Positional {
+    ghost accepts = { λ _. is_positional };
+
+    fn test(&self, item: &Arg) -> bool {
+        is_positional(item)
+    }
+}
+
 impl State {
     /// A place before which no word is present and in scope. Up to the line's last key it is the
     /// first one's; where none stands there, what was taken behind that key is passed.
@@ -31,40 +62,12 @@ impl State {
         if self.keys_end <= self.first {
             return self.first;
         }
-        match self.chains_of_scope() {
-            Some(chains) => self.first_word_along(chains),
-            None => self.first_word_in_turn(),
-        }
-    }
-
-    /// The same, looked for along the chain of words.
-    fn first_word_along(&self, chains: &Chains) -> usize
-        requires { AreChainsOf self.now chains.now }
-        ensures { HasNoneBefore is_positional self.now result }
-    {
-        let start = chains.first_word();
-        let mut place = start;
-        while place < chains.len() {
-            if self.is_word_at(place) {
-                return place;
-            }
-            place = chains.after(place);
-        }
-        self.past_taken(chains.len())
-    }
-
-    /// The same, looked for at each place from the first present one on.
-    fn first_word_in_turn(&self) -> usize
-        ensures { HasNoneBefore is_positional self.now result }
-    {
-        let end = self.end.min(self.keys_end);
-        let mut place = self.first;
-        while place < end {
-            if self.is_word_at(place) {
-                return place;
-            }
-            place += 1;
-        }
+        let word = Positional {};
+        let Some(chains) = self.chains_of_scope() else {
+            let end = self.end.min(self.keys_end);
+            return self.past_taken(self.first_in_turn(end, &word));
+        };
+        let place = self.first_along(chains, chains.first_word(), chains.len(), &word);
         self.past_taken(place)
     }
 
@@ -77,16 +80,6 @@ impl State {
             return place;
         }
         place.max(self.behind)
-    }
-
-    /// Whether a word is present and in scope at a place.
-    fn is_word_at(&self, place: usize) -> bool
-        ensures { result ≡ is_match is_positional self.now place }
-    {
-        match self.get(place) {
-            Some(item) => is_positional(item),
-            None => false,
-        }
     }
 
     /// The first key that is present, in scope, and has one of the names; under `adjacent` the
@@ -108,13 +101,15 @@ impl State {
             adjacent,
         };
         let Some(chains) = self.chains_of_scope() else {
-            return self.first_in_turn(key);
+            let end = self.end.min(self.keys_end);
+            let place = self.first_in_turn(end, &key);
+            return (place < end).then_some(place);
         };
-        if self.is_key_at(self.first, key) {
+        if self.passes_at(self.first, &key) {
             return Some(self.first);
         }
         let end = self.end.min(chains.len());
-        let place = self.first_chained(chains, end, key);
+        let place = self.first_chained(chains, end, &key);
         (place < end).then_some(place)
     }
 
@@ -128,28 +123,28 @@ impl State {
         self.chains.as_ref()
     }
 
-    /// The first such key, looked for at each place from the first present one on.
-    fn first_in_turn(&self, key: Sought<'_>) -> Option<usize>
-        ensures { MatchOption result (HasNone (is_sought key.entry) self.now)
-            (IsFirst (is_sought key.entry) self.now) }
+    /// The first such item below a place, looked for at each place from the first present one on;
+    /// that place or one behind it, where there is none.
+    fn first_in_turn<T: ItemTest>(&self, end: usize, test: &T) -> usize
+        ensures none { HasNoneBefore (T.accepts test.now) self.now result }
+        ensures found { result < end → is_match (T.accepts test.now) self.now result ≡ true }
     {
-        let end = self.end.min(self.keys_end);
         let mut place = self.first;
         while place < end {
-            if self.is_key_at(place, key) {
-                return Some(place);
+            if self.passes_at(place, test) {
+                return place;
             }
             place += 1;
         }
-        None
+        place
     }
 
     /// The first such key below a place, looked for along the chain of each name; that place, where
     /// there is none.
-    fn first_chained(&self, chains: &Chains, end: usize, key: Sought<'_>) -> usize
+    fn first_chained(&self, chains: &Chains, end: usize, key: &Sought<'_>) -> usize
         requires chains { AreChainsOf self.now chains.now }
         requires inside { end ≤ length chains.now.classes }
-        ensures { IsFirstAmong (is_sought key.entry) (sought_names key.entry) self.now end result }
+        ensures { IsFirstAmong (is_sought key.now) (sought_names key.now) self.now end result }
     {
         let mut place = end;
         for short in key.shorts {
@@ -161,16 +156,16 @@ impl State {
         place
     }
 
-    /// The first such key below a place, along the chain from another on; that place, where there
+    /// The first such item below a place, along the chain from another on; that place, where there
     /// is none.
-    fn first_along(&self, chains: &Chains, start: usize, end: usize, key: Sought<'_>) -> usize
+    fn first_along<T: ItemTest>(&self, chains: &Chains, start: usize, end: usize, test: &T) -> usize
         requires chains { AreChainsOf self.now chains.now }
         requires inside { end ≤ length chains.now.classes }
-        ensures { IsFirstAlong (is_sought key.entry) self.now chains.now.classes start end result }
+        ensures { IsFirstAlong (T.accepts test.now) self.now chains.now.classes start end result }
     {
         let mut place = start;
         while place < end {
-            if self.is_key_at(place, key) {
+            if self.passes_at(place, test) {
                 return place;
             }
             place = chains.after(place);
@@ -178,12 +173,12 @@ impl State {
         end
     }
 
-    /// Whether such a key is at a place.
-    fn is_key_at(&self, place: usize, key: Sought<'_>) -> bool
-        ensures { result ≡ is_match (is_sought key.entry) self.now place }
+    /// Whether an item that passes the test is present and in scope at a place.
+    fn passes_at<T: ItemTest>(&self, place: usize, test: &T) -> bool
+        ensures { result ≡ is_match (T.accepts test.now) self.now place }
     {
         match self.get(place) {
-            Some(item) => is_argument_key(item, key.shorts, key.longs, key.adjacent),
+            Some(item) => test.test(item),
             None => false,
         }
     }

@@ -1,14 +1,13 @@
 //! A parse in progress, and what its calls read and set.
 ghost use Rattle.std.specs.Prelude.{◌≡◌, ◌+◌, ◌++◌, ◌&&◌, ◌<◌, ◌≤◌, ◌^◌, ◌==◌, [], ◌∷◌};
 ghost use Rattle.std.specs.Prelude.{if◌then◌else◌, not, nat_lt, nat_le, length, slice_get, true};
-ghost use Rattle.std.specs.Prelude.{false, Bool, MatchOption, option_copied, option_map};
+ghost use Rattle.std.specs.Prelude.{false, MatchOption, option_copied, option_map};
 ghost use Rattle.std.specs.Prelude.{option_and_then, Some, None, IfOk, OnOk, OnErr, IfSome};
 ghost use Rattle.std.specs.Prelude.{string_bytes, map, List, ℕ, ◌*◌, ◌≢◌};
 ghost use Rattle.bpaf_line.specs.Taking.{IsMissingIn, open_items, open_items_from, items_left};
-ghost use Rattle.bpaf_line.specs.Taking.{HasNoneBefore, HasNone, IsFirst, value_after, open_item};
+ghost use Rattle.bpaf_line.specs.Taking.{HasNone, IsFirst, value_after, open_item};
 ghost use Rattle.bpaf_line.specs.Situation.{item_at, open_count, is_taken, is_open, take_place};
 ghost use Rattle.bpaf_line.specs.Situation.{with_trail, with_scope, with_path, with_current};
-ghost use Rattle.std.specs.Borrow.{Bor};
 ghost use Rattle.bpaf_index.specs.Bits.{has_bit, IsFirstClear};
 ghost use Rattle.bpaf_doc.specs.Shape.{part_of};
 ghost use Rattle.bpaf_base.specs.{declared.arg.Arg.Arg, Items.is_positional, Items.word_text};
@@ -281,31 +280,6 @@ impl State {
         self.start <= place && place < self.end && !bits::is_set(&self.bits, place)
     }
 
-    /// The first item that is present, in scope, and passes the test, with its place; none before a
-    /// place does.
-    pub(crate) fn first_open<F: Fn(&Arg) -> bool>(
-        &self,
-        from: usize,
-        test: F,
-    ) -> Option<(usize, &Arg)>
-        ghost passes: { Arg → Bool }
-        requires none_before { HasNoneBefore passes self.now from }
-        requires callable { F.IsAlwaysCallable test }
-        requires means { (item : Bor Arg) (answer : Bool) →
-            F.post test item answer → answer ≡ passes item.now }
-        ensures { MatchOption result (HasNone passes self.now) (λ r.
-            IsFirst passes self.now r.0 × (open_item self.now r.0 ≡ Some r.1.now)) }
-    {
-        let mut next = from;
-        while let Some((place, item)) = self.next_open(next) {
-            if test(item) {
-                return Some((place, item));
-            }
-            next = place + 1;
-        }
-        None
-    }
-
     /// The first present Word or PosWord in scope: its place, whether it is a PosWord, its text.
     ///
     /// On a long line the words up to the last key are looked at alone, and then what stands behind
@@ -315,13 +289,15 @@ impl State {
             IsFirst is_positional self.now r.0
             × (option_and_then word_text (item_at self.now r.0) ≡ Some (r.1, r.2.now))) }
     {
-        let from = self.no_word_before();
-        let (place, item) = self.first_open(from, |item| is_positional(item))?;
-        match item {
-            Arg::PosWord(text) => Some((place, true, text)),
-            Arg::Word(text) => Some((place, false, text)),
-            Arg::Short(..) | Arg::Long(..) | Arg::ArgWord(_) => unreachable!(),
+        let mut next = self.no_word_before();
+        while let Some((place, item)) = self.next_open(next) {
+            match item {
+                Arg::PosWord(text) => return Some((place, true, text)),
+                Arg::Word(text) => return Some((place, false, text)),
+                Arg::Short(..) | Arg::Long(..) | Arg::ArgWord(_) => next = place + 1,
+            }
         }
+        None
     }
 
     /// Takes a place that is present and in scope, which is then the current one. It takes no

@@ -1,5 +1,5 @@
 //! The calls of a state that look for an item and take it.
-ghost use Rattle.bpaf_base.specs.Items.{any_item, is_command_word};
+ghost use Rattle.bpaf_base.specs.Items.{is_command_word};
 ghost use Rattle.bpaf_line.specs.Taking.{TakesFlag, TakesArgument, TakesKeyText, FindsArgument};
 ghost use Rattle.bpaf_line.specs.Taking.{FindsWord, TakesWord, TakesCommand, HasNoCommand};
 ghost use Rattle.bpaf_line.specs.Taking.{IsCommandAt};
@@ -168,11 +168,7 @@ impl State {
         ensures { MatchOption result
             (HasNoCommand word.now self.now) (IsCommandAt word.now self.now) }
     {
-        let (place, item) = self.first_open(0, |_| true)?;
-        if is_command_word(item, word) {
-            Some(place)
-        } else {
-            None
-        }
+        let (place, item) = self.next_open(0)?;
+        is_command_word(item, word).then_some(place)
     }
 }

@@ -3,7 +3,7 @@ ghost use Rattle.std.specs.Prelude.{◌≡◌, ◌++◌, true, IfOk, OnOk, map};
 ghost use Rattle.bpaf_doc.specs.{Shape.part_text, Shape.part_of, Print.printed};
 ghost use Rattle.bpaf_line.specs.Rendering.{furthest, reaches, in_one_scope, is_command};
 ghost use Rattle.bpaf_line.specs.Rendering.{told_parts, one_of_texts, got_text, expected_of};
-ghost use Rattle.bpaf_line.specs.Rendering.{missing_text, hidden_text, message_text};
+ghost use Rattle.bpaf_line.specs.Rendering.{missing_text, message_text};
 ghost use Rattle.bpaf_line.specs.{declared.error.Message.TheVariants.Expected, Missing.missed_of};
 
 use crate::phrases::Phrase::{Plain, Quoted, Wrong};
@@ -155,27 +155,20 @@ pub(crate) fn expected_items(
     expected(state, &docs, got)
 }
 
-/// What was looked for in vain.
+/// What was looked for in vain, or that it has no name to be shown.
 pub(crate) fn missing(state: &State, items: &[MissingItem]) -> Result<Doc, AllocError>
     ensures { IfOk result (λ doc.
         printed true doc ≡ missing_text state.now (map missed_of items.now)) }
 {
     let Some((first, more)) = items.split_first() else {
-        return all_hidden(state.alloc());
+        let phrases = [
+            Plain("parser requires an extra flag, argument or parameter, "),
+            Plain("but its name is hidden by the author"),
+        ];
+        return of_phrases(state.alloc(), &phrases);
     };
     let far = furthest(first, more);
     let docs = told_items(state.alloc(), far, items)?;
     let got = state.first_present(far.scope.start.max(far.position), far.scope.end);
     expected(state, &docs, got)
-}
-
-/// That what was looked for in vain has no name to be shown.
-fn all_hidden(alloc: Global) -> Result<Doc, AllocError>
-    ensures { IfOk result (λ doc. printed true doc ≡ hidden_text) }
-{
-    let phrases = [
-        Plain("parser requires an extra flag, argument or parameter, "),
-        Plain("but its name is hidden by the author"),
-    ];
-    of_phrases(alloc, &phrases)
 }

@@ -1,22 +1,12 @@
 //! What messages show of the items of a line.
 ghost use Rattle.std.specs.Prelude.{◌≡◌, IfOk, option_copied, option_map, string_bytes};
-ghost use Rattle.bpaf_line.specs.Rendering.{shown_item, word_of, key_of, word_at, key_behind};
+ghost use Rattle.bpaf_line.specs.Rendering.{shown_item, key_of, word_at, key_behind};
 ghost use Rattle.bpaf_line.specs.Rendering.{before_value, key_before, quoted_word};
 
 use bpaf_doc::Text;
 use bpaf_line::State;
 use bpaf_words::{Arg, is_attached};
 use std::alloc::{AllocError, Global};
-
-/// The text of a word; a key has none.
-fn word_of(item: &Arg) -> Option<&Text>
-    ensures { option_copied result ≡ word_of item.now }
-{
-    match item {
-        Arg::ArgWord(text) | Arg::Word(text) | Arg::PosWord(text) => Some(text),
-        Arg::Short(..) | Arg::Long(..) => None,
-    }
-}
 
 /// The text of a key; a word has none.
 fn key_of(item: &Arg) -> Option<&Text>
@@ -49,11 +39,14 @@ pub(crate) fn shown_item(state: &State, place: usize) -> Result<String, AllocErr
     }
 }
 
-/// The word at a place of the line.
+/// The text of the word at a place of the line; a key has none.
 pub(crate) fn word_at(state: &State, place: usize) -> Option<&Text>
     ensures { option_copied result ≡ word_at state.now place }
 {
-    word_of(state.line_item(place)?)
+    match state.line_item(place)? {
+        Arg::ArgWord(text) | Arg::Word(text) | Arg::PosWord(text) => Some(text),
+        Arg::Short(..) | Arg::Long(..) => None,
+    }
 }
 
 /// The text of the key at the next place, where it is present and in scope.

@@ -8,6 +8,7 @@ ghost use Rattle.bpaf_doc.specs.Names.{Names};
 
 use crate::field::{ProgramField, ProgramFields};
 use bpaf::{NamedArg, Text};
+use bpaf_base::is_text_among;
 use std::marker::PhantomData;
 
 /// A test of the names of a key.
@@ -32,13 +33,6 @@ fn lacks_short(shorts: &[char], name: char) -> bool
     ensures { result ≡ not (is_among shorts.now name) }
 {
     !shorts.contains(&name)
-}
-
-/// Whether a long name is one of these.
-fn is_text_among(longs: &[Text], name: &str) -> bool
-    ensures { result ≡ is_text_among longs.now name.now }
-{
-    longs.iter().any(|other| other.as_str() == name)
 }
 
 /// Whether none of these short names is one of the others.

@@ -1,3 +1,4 @@
+use Rattle.std.proofs.lemmas.Grind.{common_steps}
 use Rattle.std.proofs.Common.{◌∙◌, ◌≡◌, sym, subst, arith, length, slice_index}
 use Rattle.std.proofs.lemmas.List.{length-take-le, with_items_is}
 use Rattle.bpaf_index.specs.Chained.{HasNoKeyFrom, IsNextOf}
@@ -13,7 +14,7 @@ returns c =
     c.in_ok-names.ensures.size ∙ length-take-le c.args.keys line c.requires.within in
     rw c.in_ok-new.ensures.ok (behind_nothing _ line (omega (arith, size, c.requires.within))
     (classes_of_front names line c.args.keys classes size c.requires.within
-    c.in_ok-names.ensures.classes)
+    c.in_ok-names.ensures.are)
     (subst (HasNoKeyFrom line) (sym size) c.requires.keyless)
     (λ p below. subst (λ heads. IsNextOf classes (slice_index classes p) 0
     (slice_index heads (slice_index classes p)))
@@ -23,8 +24,11 @@ returns c =
     (slice_index c.link.new.heads (slice_index classes p))) c.deref.ensures.value
     (c.link.ensures.first (slice_index classes p) (omega (
       arith,
-      c.in_ok-names.ensures.below p (omega (arith, below, c.in_ok-names.ensures.size)),
+      c.in_ok-names.ensures.low p (omega (arith, below, c.in_ok-names.ensures.size)),
       length-take-le c.args.keys line c.requires.within,
       c.deref_mut-2.ensures.len,
       c.in_ok-heads.ensures.len,
     ))))))
+
+pub invariant_of-result : goal.invariant_of-result
+invariant_of-result c = grind (arith, common_steps)

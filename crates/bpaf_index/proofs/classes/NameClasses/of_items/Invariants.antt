@@ -1,4 +1,4 @@
-use Rattle.bpaf_index.proofs.Chained.{AreGiven}
+use Rattle.bpaf_index.specs.Chained.{AreGiven}
 use Rattle.bpaf_index.proofs.classes.NameClasses.of_items.Given as goal
 
 abbrev pub invariant-loop-place : goal.invariant-loop-place

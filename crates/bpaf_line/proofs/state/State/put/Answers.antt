@@ -1,3 +1,4 @@
+use Rattle.std.proofs.lemmas.Grind.{common_steps}
 use Rattle.std.proofs.Common.{◌∙◌, ◌-◌, arith, ap, true}
 use Rattle.bpaf_line.proofs.Sound.{sound_put, behind_put, clear_first, left_enough, pushed_place}
 use Rattle.std.specs.Int.{from_bool}
@@ -47,3 +48,7 @@ returns c =
     ap (with_trail (situation_of c.self.inside))
     (pushed_place c.self.inside c.args.place c.push.new.self _ c.self.invariant free
     c.push.ensures.succeeds c.push.ensures.items) ∙ ap (λ s. put s c.args.place) c.self.view_is
+
+pub first_without-self-inside-requires-clause-set :
+    goal.first_without-self-inside-requires-clause-set
+first_without-self-inside-requires-clause-set c = grind (arith, common_steps)

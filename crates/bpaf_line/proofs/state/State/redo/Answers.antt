@@ -1,4 +1,5 @@
-use Rattle.std.proofs.Common.{◌∙◌, ◌++◌, ap, sym, subst, map, string_bytes}
+use Rattle.std.proofs.lemmas.Grind.{common_steps}
+use Rattle.std.proofs.Common.{◌∙◌, ◌++◌, ap, sym, subst, map, string_bytes, arith}
 use Rattle.std.proofs.{lemmas.List.map-append}
 use Rattle.bpaf_line.specs.Situation.{with_current, with_scope, PresentInTurn}
 use Rattle.bpaf_line.specs.{Inside.situation_of, Inside.changes_of, Marks.redone}
@@ -31,3 +32,6 @@ returns-clause-ok c =
     (map string_bytes c.append.new.self.items) c.as_slice.ensures
     (c.in_ok-append-2.ensures.items ∙ ap (λ xs. xs ++ steps.conflicts) c.reserve.ensures.items) path
     ∙ (ap (λ changes. redone changes s) c.steps.view_is ∙ ap (redone c.args.steps) c.self.view_is))
+
+pub returns-clause-marks : goal.returns-clause-marks
+returns-clause-marks c = grind (arith, common_steps)

@@ -1,4 +1,5 @@
-use Rattle.std.proofs.Common.{◌≡◌, ◌∙◌, ap, sym, subst, refl, drop, map, string_bytes}
+use Rattle.std.proofs.lemmas.Grind.{common_steps}
+use Rattle.std.proofs.Common.{◌≡◌, ◌∙◌, ap, sym, subst, refl, drop, map, string_bytes, arith}
 use Rattle.std.proofs.lemmas.List.{drop-map}
 use Rattle.bpaf_line.specs.Inside.{places_of, IsSoundAt}
 use Rattle.bpaf_line.specs.Marks.{undone, steps_since, redone, CanRedo}
@@ -30,3 +31,12 @@ returns-clause-fit c =
 pub returns-clause-again : goal.returns-clause-again
 returns-clause-again c = ap (λ steps. redone steps (undone c.args.mark.now c.args.self.now))
     (returns-clause-steps c) ∙ redone_undone c.args.mark.now c.args.self.now
+
+pub offset_bounds-deref-mark-3 : goal.offset_bounds-deref-mark-3
+offset_bounds-deref-mark-3 c = grind (arith, common_steps)
+
+pub slice_bounds-copy_path-count : goal.slice_bounds-copy_path-count
+slice_bounds-copy_path-count c = grind (arith, common_steps)
+
+pub slice_bounds-copy_path-start : goal.slice_bounds-copy_path-start
+slice_bounds-copy_path-start c = grind (arith, common_steps)
