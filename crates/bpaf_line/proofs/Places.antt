@@ -423,6 +423,20 @@ among_more test names key s chains start end p next h inside begins old along =
           ∙ new.none q item before there passes);
     }
 
+-- no key with one of the names is before the first one of these names
+pub none_among : (names : Names) (adjacent : Bool) (s : Situation) (end place : ℕ)
+    → IsFirstAmong (is_argument_key names adjacent) names s end place
+    → HasNoneBefore (is_argument_key names adjacent) s place
+none_among names adjacent s end place among q before = none_at (open_item s q) refl
+  where
+    lacks : (named fits : Bool) → ((named && fits) ≡ true → named ≡ false) → (named && fits) ≡ false
+    lacks named fits h = grind arith
+
+    none_at : (at : Option Arg) → open_item s q ≡ at
+        → option_map_or (is_argument_key names adjacent) at false ≡ false
+    none_at None e = refl
+    none_at (Some item) e = lacks (is_key_of names item) _ (among.none q item before e)
+
 -- what stands at a place from which on the line has no key is none
 pub no_key_there : (names : Names) (adjacent : Bool) (s : Situation) (low q : ℕ)
     → HasNoKeyFrom s.context.line low → low ≤ q
@@ -450,7 +464,7 @@ none_past names adjacent s low end q h is past = ⊎_elim
     (λ (behind : s.end ≤ q). past_scope (is_argument_key names adjacent) s q behind)
     (cases_lt q s.end)
 
--- the first key before which none is, and behind which none is
+-- the first match before which none is, and behind which none is
 pub key_found : (test : Arg → Bool) (s : Situation) (end place : ℕ) (found : Option ℕ)
     → ((q : ℕ) → end ≤ q → is_match test s q ≡ false) → HasNoneBefore test s place
     → (place < end → is_match test s place ≡ true) → found ≡ then_some (nat_lt place end) place
@@ -464,17 +478,3 @@ key_found test s end place found past_end none matches is =
     by_test false e = λ q. ⊎_elim (λ (before : q < place). none q before)
         (λ (past : place ≤ q). past_end q (let far = ltb-false place end e in omega arith))
         (cases_lt q place)
-
--- no key with one of the names is before the first one of these names
-pub none_among : (names : Names) (adjacent : Bool) (s : Situation) (end place : ℕ)
-    → IsFirstAmong (is_argument_key names adjacent) names s end place
-    → HasNoneBefore (is_argument_key names adjacent) s place
-none_among names adjacent s end place among q before = none_at (open_item s q) refl
-  where
-    lacks : (named fits : Bool) → ((named && fits) ≡ true → named ≡ false) → (named && fits) ≡ false
-    lacks named fits h = grind arith
-
-    none_at : (at : Option Arg) → open_item s q ≡ at
-        → option_map_or (is_argument_key names adjacent) at false ≡ false
-    none_at None e = refl
-    none_at (Some item) e = lacks (is_key_of names item) _ (among.none q item before e)

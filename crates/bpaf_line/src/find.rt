@@ -62,6 +62,15 @@ impl State {
         if self.keys_end <= self.first {
             return self.first;
         }
+        self.look_for_word()
+    }
+
+    /// The same where a key may stand from the first present place on. It is apart so that a word
+    /// behind the last key costs no call.
+    #[inline(never)]
+    fn look_for_word(&self) -> usize
+        ensures { HasNoneBefore is_positional self.now result }
+    {
         let word = Positional {};
         let Some(chains) = self.chains_of_scope() else {
             let end = self.end.min(self.keys_end);

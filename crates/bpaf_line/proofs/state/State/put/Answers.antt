@@ -1,5 +1,5 @@
-use Rattle.std.proofs.lemmas.Grind.{common_steps}
 use Rattle.std.proofs.Common.{◌∙◌, ◌-◌, arith, ap, true}
+use Rattle.std.proofs.lemmas.Grind.{common_steps}
 use Rattle.bpaf_line.proofs.Sound.{sound_put, behind_put, clear_first, left_enough, pushed_place}
 use Rattle.std.specs.Int.{from_bool}
 use Rattle.bpaf_index.specs.Bits.{has_bit}

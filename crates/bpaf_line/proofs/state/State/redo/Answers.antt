@@ -1,5 +1,5 @@
-use Rattle.std.proofs.lemmas.Grind.{common_steps}
 use Rattle.std.proofs.Common.{◌∙◌, ◌++◌, ap, sym, subst, map, string_bytes, arith}
+use Rattle.std.proofs.lemmas.Grind.{common_steps}
 use Rattle.std.proofs.{lemmas.List.map-append}
 use Rattle.bpaf_line.specs.Situation.{with_current, with_scope, PresentInTurn}
 use Rattle.bpaf_line.specs.{Inside.situation_of, Inside.changes_of, Marks.redone}

@@ -1,5 +1,5 @@
-use Rattle.std.proofs.lemmas.Grind.{common_steps}
 use Rattle.std.proofs.Common.{◌≡◌, ◌∙◌, ap, sym, subst, refl, drop, map, string_bytes, arith}
+use Rattle.std.proofs.lemmas.Grind.{common_steps}
 use Rattle.std.proofs.lemmas.List.{drop-map}
 use Rattle.bpaf_line.specs.Inside.{places_of, IsSoundAt}
 use Rattle.bpaf_line.specs.Marks.{undone, steps_since, redone, CanRedo}

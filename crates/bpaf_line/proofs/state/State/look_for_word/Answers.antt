@@ -1,7 +1,7 @@
 use Rattle.std.proofs.Common.{arith}
 use Rattle.bpaf_base.specs.Items.{is_positional}
 use Rattle.bpaf_line.proofs.Places.{no_word_along, none_past_taken}
-use Rattle.bpaf_line.proofs.state.State.no_word_before.Goals as goal
+use Rattle.bpaf_line.proofs.state.State.look_for_word.Goals as goal
 
 pub returns-in_default : goal.returns-in_default
 returns-in_default c = none_past_taken is_positional c.args.self.now _ _
