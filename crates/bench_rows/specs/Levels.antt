@@ -180,7 +180,7 @@ grouped_lawful {fast = fast} {reads} describes told law = lawful_by answers
     answers s (Ok v) t (headless _ _ none refused) = absurd refused.0
     answers s (Err e) t (headless _ _ none refused) =
         lawful_answer (refusal_lawful {T = Value} no_first_item) s (Err e) t refused
-    answers s r t (wanted e memory) = (keeps_refl s, names_same e.0 Memory tt memory)
+    answers s r t (wanted e memory) = (keeps_refl s, names_same _ e.0 Memory tt memory)
 
 -- the group of two or three parsers
 abbrev pub TogetherOutcome : {P : Type 0} → (P → Outcome Value) → (P → Describes) → List P

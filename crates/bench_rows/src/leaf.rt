@@ -184,7 +184,7 @@ impl Parser<Value> for Leaf {
       | leaf.Literal p ↦ told_lawful _ (any_lawful _ _ _ _)
       | leaf.Any p ↦ any_lawful _ _ _ _
       | leaf.Appname p ↦ told_lawful _ appname_lawful
-      | leaf.Pure p ↦ pure_lawful _ (λ e. names_want e.0)
+      | leaf.Pure p ↦ pure_lawful _ (λ context e. names_want context e.0)
       | leaf.PureWith p ↦ pure_with_lawful _ (number_named p.number)
       | leaf.Fail p ↦ refusal_lawful _
     ] };

@@ -68,7 +68,7 @@ told_lawful told law = record {
   err = λ s t e o. ⊎_elim (λ refused. law.err s t e refused)
       (λ wanted. (law.ok s t wanted.0 wanted.1).keeps) o;
   named = λ s t e o.
-      ⊎_elim (λ refused. law.named s t e refused) (λ wanted. names_want e.0 wanted.2) o;
+      ⊎_elim (λ refused. law.named s t e refused) (λ wanted. names_want _ e.0 wanted.2) o;
 }
 
 -- an optional value
@@ -242,7 +242,7 @@ over_lawful clones over.Map law = map_lawful law IsHalf
 over_lawful clones (over.Guard limit) law = guard_lawful law Checks too_much
 over_lawful clones (over.Parse limit) law = parse_lawful law Accepts untold
 over_lawful clones (over.Fallback n) law =
-    fallback_lawful law (GivesClone clones (number_of n)) (λ e. names_want e.0)
+    fallback_lawful law (GivesClone clones (number_of n)) (λ e. names_want _ e.0)
 over_lawful clones (over.FallbackWith number) law =
     fallback_lawful law (GivesNumber number) (number_named number)
 over_lawful clones over.Hide law = hide_lawful law
@@ -281,5 +281,5 @@ called_lawful adjacent called describes law =
       err = λ s t e o.
           ⊎_elim (λ refused. command.err s t e refused) (λ wanted. keeps_same s t wanted.1) o;
       named = λ s t e o. ⊎_elim (λ refused. command.named s t e refused)
-          (λ wanted. names_same e.0 Memory tt wanted.0) o;
+          (λ wanted. names_same _ e.0 Memory tt wanted.0) o;
     }

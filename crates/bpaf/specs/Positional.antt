@@ -135,7 +135,7 @@ module _ (T : Type 0) (means : List ℕ → T → Type 0) (position : Position) 
 
   -- no refusal is the answer of a run inside
   positional_named : (s t : Situation) (m : Message)
-      → PositionalFails means position metavar s m t → NamesAnswer m
+      → PositionalFails means position metavar s m t → NamesAnswer s.context m
   positional_named s t (ParseFailure f) fails = absurd fails
   positional_named s t other fails = tt
 

@@ -113,7 +113,7 @@ PickOutcome {C} inner picks s (Err e) t =
 pub pick_lawful : {C T : Type 0} {inner : Outcome C} {reads : Readings C} → Lawful C inner reads
     → (picks : C → T → Type 0) → Lawful T (PickOutcome inner picks) (MapReads C T reads picks)
 pick_lawful law picks = made_lawful law picks (λ s t v o. o) (λ s t e o.
-    ⊎_elim inl (λ wanted. inr (wanted.0, wanted.1, names_want e.0 wanted.2)) o)
+    ⊎_elim inl (λ wanted. inr (wanted.0, wanted.1, names_want _ e.0 wanted.2)) o)
 
 -- a counted key keeps to the laws
 count_key_lawful : {T : Type 0} (clones : T → T → Type 0) (flag : ParseFlag T)

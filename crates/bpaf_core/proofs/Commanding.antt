@@ -1,20 +1,26 @@
 -- How the answers of a command and of the attempts of an adjacent one are put together, what they
--- leave, and that they catch no want of memory.
+-- leave, and that a failure which a command hands on is that of its own run inside.
 use Rattle.std.proofs.Common.{◌≡◌, ℕ, Bool, true, false, Result, Ok, Err, ⊎_elim, sym, true≢false}
-use Rattle.std.proofs.Common.{◌≤◌, length, refl, ap, ◌∙◌}
+use Rattle.std.proofs.Common.{◌≤◌, ◌+◌, length, refl, ap, subst, ◌∙◌}
 use Rattle.std.specs.Result.{IsErr, IsErrAnd}
-use Rattle.bpaf_doc.specs.Shape.{Part}
+use Rattle.bpaf_doc.specs.Shape.{Part, Shape}
 use Rattle.bpaf_line.specs.declared.failure.ParseFailure.{ParseFailure}
 use Rattle.bpaf_line.specs.Situation.{Situation, IsStretchFrom, with_scope}
 use Rattle.bpaf_line.specs.Marks.{Fits, KeepsMarks, redone, undone, Changes}
 use Rattle.bpaf_line.specs.{declared.error.Error.Error, declared.mark.Mark.Mark, Messages.is_memory}
+use Rattle.bpaf_line.specs.declared.error.Message.{Message}
+use Rattle.bpaf_line.specs.declared.error.Message.TheVariants.{Memory, Missing}
+use Rattle.bpaf_keys.specs.Info.{RunInfo}
 use Rattle.bpaf_laws.specs.Adjacent.{IsFirstLeft, IsStretch}
-use Rattle.bpaf_laws.specs.Command.{Called, LeavesNothing, inside}
+use Rattle.bpaf_laws.specs.Command.{Called, IsOpenedAt, LeavesNothing, inside, opening_words}
 use Rattle.bpaf_laws.specs.{Reading.Outcome, Reading.Readings, Laws.Lawful, Laws.newly}
 use Rattle.bpaf_core.specs.Command.{ended, missing, no_memory, value, EitherCommandOutcome, Enters}
 use Rattle.bpaf_core.specs.Command.{RunsInside, StaysOutside, counted, failed, no_path, unnamed}
 use Rattle.bpaf_core.specs.Command.{Attempts, GivesBack, IsTold, Retry, first_fails, second_fails}
-use Rattle.bpaf_core.specs.Command.{wants_memory, CommandOutcome}
+use Rattle.bpaf_core.specs.Command.{wants_memory, CommandOutcome, nothing_left, IsMissingPart}
+use Rattle.bpaf_core.specs.{Ending.EndsRun, Refusals.FailsInside, Refusals.NamesInside}
+use Rattle.bpaf_core.specs.Refusals.{StartsInside}
+use Rattle.bpaf_core.proofs.Running.{run_is_named}
 use Rattle.bpaf_core.specs.AdjacentLaws.{attempts_counted, either_lawful}
 use Rattle.bpaf_core.specs.CommandLaws.{runs_keeps, command_lawful, run_empty}
 use Rattle.bpaf_core.specs.{Ending.Ending, Ending.LawfulEnding, Run.Runs}
@@ -154,3 +160,61 @@ pub then_retried : {T : Type 0} {inner : Outcome T} {ending : Ending} {s : Situa
     → Retry T inner ending o from end f t r u → Attempts T inner ending s from r u
 then_retried {end = end} {f} {t} {r = r} {u} run ran back retry =
     first_fails f end t r u run ran (rw back at retry)
+
+module _ {T : Type 0} {inner : Outcome T} {reads : Readings T} (law : Lawful T inner reads)
+    (describes : Shape → Type 0) (info : RunInfo) (called : Called) (s : Situation) where
+  -- a message says so of the failure that it is
+  abbrev Names : Bool → Message → Type 0
+  Names adjacent = NamesInside adjacent called inner describes info s
+
+  -- so does the end of a run inside
+  end_names : (adjacent : Bool) (p : ℕ) → IsOpenedAt (opening_words called) s p
+      → (start : Situation) → StartsInside adjacent (inside called s p) start → (f : ParseFailure)
+      → (t : Situation) → Runs T inner (EndsRun describes info) start (Err f) t
+      → Names adjacent (end_message f)
+  end_names adjacent p at start starts f t run =
+      let named = run_is_named inner describes info law start f t run in
+      told f (record {
+        place = p;
+        opened = at;
+        start = start;
+        starts = starts;
+        name = named.0;
+        fails = named.1;
+      })
+    where
+      told : (f : ParseFailure) → FailsInside adjacent called inner describes info s f
+          → Names adjacent (end_message f)
+      told failure.Memory fails = tt
+      told (failure.Stdout doc full) fails = fails
+      told (failure.Stderr doc) fails = fails
+
+  -- of attempts the first one's failure counts
+  attempts_name : (p : ℕ) → IsOpenedAt (opening_words called) s p → (f : ParseFailure)
+      → (u : Situation)
+      → Attempts T inner (EndsRun describes info) (inside called s p) (p + 1) (Err f) u
+      → Names true (end_message f)
+  attempts_name p at f u (first_fails g end t r w run ran (nothing_left told taken)) =
+      end_names true p at (with_scope (inside called s p) (p + 1) end) (end, run, refl) g t ran
+  attempts_name p at f u (first_fails g end t r w run ran (second_fails h stop x told left again other)) =
+      end_names true p at (with_scope (inside called s p) (p + 1) end) (end, run, refl) g t ran
+  attempts_name p at f u (first_fails g end t r w run ran wants_memory) = tt
+
+  module _ (shows : Part → Type 0) where
+    -- that its part is missing is the answer of no run inside
+    missing_names : (adjacent : Bool) (m : Message) → IsMissingPart shows s m → Names adjacent m
+    missing_names adjacent m lacks = ⊎_elim (λ want. subst (Names adjacent) (sym want) tt)
+        (λ part. subst (Names adjacent) (sym part.3) tt) lacks
+
+    -- what a command hands on is a failure of its own run inside
+    pub names_inside : (adjacent : Bool) (t : Situation) (e : Error)
+        → EitherCommandOutcome adjacent T inner (EndsRun describes info) called shows s (Err e) t
+        → Names adjacent e.0
+    names_inside false t e (ended f told p left at run is) = subst (Names false) (sym is)
+        (end_names false p at (inside called s p) refl f left run)
+    names_inside false t e (missing told none is) = missing_names false e.0 is
+    names_inside false t e (no_memory told p at is) = subst (Names false) (sym is) tt
+    names_inside true t e (failed f told p u at runs is) = subst (Names true) (sym is)
+        (attempts_name p at f u runs)
+    names_inside true t e (unnamed told none is) = missing_names true e.0 is
+    names_inside true t e (no_path told p at is) = subst (Names true) (sym is) tt

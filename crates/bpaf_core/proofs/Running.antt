@@ -199,13 +199,13 @@ module _ {T : Type 0} (inner : Outcome T) (describes : Shape → Type 0) (info :
         (is_told : IsToldOf inner s m left) where
       -- what is told of a message has its name
       told_is_named : (e : Error) (t : Situation) (f : ParseFailure)
-          → ExtraOutcome info left (Err e) t → Renders m t f → IsAnyNamed f
-      told_is_named e t failure.Memory unasked tells = wanting_is_named
-      told_is_named e t (failure.Stdout doc full) unasked tells =
+          → ExtraOutcome info left (Err e) t → is_memory e.0 ≡ false → Renders m t f → IsAnyNamed f
+      told_is_named e t failure.Memory unasked spared tells = wanting_is_named
+      told_is_named e t (failure.Stdout doc full) unasked spared tells =
           absurd (shows_nothing m t doc full plain tells)
-      told_is_named e t (failure.Stderr doc) unasked tells =
+      told_is_named e t (failure.Stderr doc) unasked spared tells =
           let named : (name : Refusal) × (refusal_of m ≡ Some name) = name_of m plain in
-          (named.0, name.told named.0 m left t e doc is_told unasked named.1 tells)
+          (named.0, name.told named.0 m left t e doc is_told unasked spared named.1 tells)
 
       -- whatever is told of it has a name
       tells_is_named : (r : Result T Error) (f : ParseFailure) (t : Situation) → inner s r left
@@ -213,12 +213,12 @@ module _ {T : Type 0} (inner : Outcome T) (describes : Shape → Type 0) (info :
       tells_is_named r f t came (ending.shown asked given after looked shows) =
           asked_is_named r asked left t f came looked shows
       tells_is_named r f t came (ending.told e given after looked spared tells) =
-          told_is_named e t f looked tells
+          told_is_named e t f looked spared tells
       tells_is_named r f t came (ending.wanting e after looked is) = wanting_is_named
 
     -- a refusal of the parser ends with one of the twelve, where an answer that it hands on has one
     refused_is_named : (m : Message) (e : Error) (left : Situation) (f : ParseFailure)
-        (t : Situation) → inner s (Err e) left → e.0 ≡ m → NamesAnswer m
+        (t : Situation) → inner s (Err e) left → e.0 ≡ m → NamesAnswer s.context m
         → EndsRun describes info (Some m) s left f t → IsAnyNamed f
     refused_is_named m e left f t came is answers (ending.memory other before after wanting) =
         wanting_is_named
@@ -240,7 +240,7 @@ module _ {T : Type 0} (inner : Outcome T) (describes : Shape → Type 0) (info :
 
   module _ {reads : Readings T} (law : Lawful T inner reads) where
     -- a run from a situation on
-    run_is_named : (s : Situation) (f : ParseFailure) (t : Situation)
+    pub run_is_named : (s : Situation) (f : ParseFailure) (t : Situation)
         → Runs T inner (EndsRun describes info) s (Err f) t → IsAnyNamed s f
     run_is_named s f t x3 = grind (arith, left_is_named, refused_is_named)
 

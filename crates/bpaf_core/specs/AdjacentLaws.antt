@@ -72,7 +72,7 @@ module _ {T : Type 0} {inner : Outcome T} {ending : Ending} {reads : Readings T}
 
   -- a failure of attempts has one of the twelve names
   attempts_has_name : (s : Situation) (from : ℕ) (g : ParseFailure) (u : Situation)
-      → Attempts T inner ending s from (Err g) u → HasSomeName g
+      → Attempts T inner ending s from (Err g) u → HasSomeName s.context g
   attempts_has_name s from g u (first_fails f end t r w run ran (nothing_left told taken)) =
       runs_has_name law ends (with_scope s from end) f t ran
   attempts_has_name s from g u
@@ -103,11 +103,11 @@ module _ {T : Type 0} {inner : Outcome T} {ending : Ending} {reads : Readings T}
 
     -- what it hands on of the runs inside has a name
     adjacent_named : (s t : Situation) (e : Error)
-        → AdjacentOutcome T inner ending called shows s (Err e) t → NamesAnswer e.0
-    adjacent_named s t e (failed f told p u at runs is) = names_same e.0 (end_message f)
+        → AdjacentOutcome T inner ending called shows s (Err e) t → NamesAnswer s.context e.0
+    adjacent_named s t e (failed f told p u at runs is) = names_same _ e.0 (end_message f)
         (names_end f (attempts_has_name (inside called s p) (p + 1) f u runs)) is
     adjacent_named s t e (unnamed told none is) = names_missing shows s e.0 is
-    adjacent_named s t e (no_path told p at is) = names_same e.0 Memory tt is
+    adjacent_named s t e (no_path told p at is) = names_same _ e.0 Memory tt is
 
     -- commands keep to the laws, adjacent ones and plain ones
     pub either_lawful : (adjacent : Bool)

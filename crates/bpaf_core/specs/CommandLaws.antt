@@ -3,7 +3,7 @@ use Rattle.std.specs.Prelude.{◌≡◌, Some, None, Result, Ok, Err, refl}
 use Rattle.bpaf_doc.specs.Shape.{Part}
 use Rattle.bpaf_line.specs.declared.error.Message.TheVariants.{Memory, Missing}
 use Rattle.bpaf_line.specs.declared.failure.ParseFailure.{ParseFailure}
-use Rattle.bpaf_line.specs.Situation.{Situation, open_count, with_current}
+use Rattle.bpaf_line.specs.Situation.{Context, Situation, open_count, with_current}
 use Rattle.bpaf_line.specs.{declared.error.Error.Error, declared.error.Message.Message}
 use Rattle.bpaf_laws.specs.Command.{Called, CommandReads, inside, opening_words}
 use Rattle.bpaf_laws.specs.Laws.{HasSomeName, NamesAnswer, Keeps, Lawful, Reads}
@@ -23,16 +23,17 @@ pub run_empty : {T : Type 0} {inner : Outcome T} {ending : Ending} (s : Situatio
 run_empty s v t (run_value w left answered none) = none
 
 -- the end of a run, told on as a message
-pub names_end : (f : ParseFailure) → HasSomeName f → NamesAnswer (end_message f)
+pub names_end : {context : Context} (f : ParseFailure) → HasSomeName context f
+    → NamesAnswer context (end_message f)
 names_end failure.Memory named = tt
 names_end (failure.Stdout doc full) named = named
 names_end (failure.Stderr doc) named = named
 
 -- that a command's part is missing is the answer of no run inside
 pub names_missing : (shows : Part → Type 0) (s : Situation) (m : Message)
-    → IsMissingPart shows s m → NamesAnswer m
-names_missing shows s m lacks = ⊎_elim (λ want. names_same m Memory tt want)
-    (λ part. names_same m (Missing part.1) tt part.3) lacks
+    → IsMissingPart shows s m → NamesAnswer s.context m
+names_missing shows s m lacks = ⊎_elim (λ want. names_same _ m Memory tt want)
+    (λ part. names_same _ m (Missing part.1) tt part.3) lacks
 
 module _ {T : Type 0} {inner : Outcome T} {ending : Ending} {reads : Readings T}
     (law : Lawful T inner reads) (ends : LawfulEnding ending) where
@@ -45,12 +46,13 @@ module _ {T : Type 0} {inner : Outcome T} {ending : Ending} {reads : Readings T}
   runs_keeps s r t (refused e left f u answered tells) =
       keeps_trans s left t (law.err s left e answered) (ends.keeps (Some e.0) s left f t tells)
 
-  -- a failure of such a run has one of the twelve names
+  -- a failure of such a run has one of the twelve names on its line
   pub runs_has_name : (s : Situation) (f : ParseFailure) (t : Situation)
-      → Runs T inner ending s (Err f) t → HasSomeName f
-  runs_has_name s f t (leftover v left g u answered tells) = ends.named None s left f t tt tells
-  runs_has_name s f t (refused e left g u answered tells) =
-      ends.named (Some e.0) s left f t (law.named s left e answered) tells
+      → Runs T inner ending s (Err f) t → HasSomeName s.context f
+  runs_has_name s f t (leftover v left g u answered tells) =
+      ends.named None s left f t (law.ok s left v answered).keeps tt tells
+  runs_has_name s f t (refused e left g u answered tells) = ends.named (Some e.0) s left f t
+      (law.err s left e answered) (law.named s left e answered) tells
 
   -- a value that a run from a situation on answers is read there
   pub run_read : (s : Situation) (v : T) (t : Situation) → Runs T inner ending s (Ok v) t
@@ -74,11 +76,11 @@ module _ {T : Type 0} {inner : Outcome T} {ending : Ending} {reads : Readings T}
 
     -- what a command hands on of the run inside has a name
     command_named : (s t : Situation) (e : Error)
-        → CommandOutcome T inner ending called shows s (Err e) t → NamesAnswer e.0
-    command_named s t e (ended f told p left at run is) = names_same e.0 (end_message f)
+        → CommandOutcome T inner ending called shows s (Err e) t → NamesAnswer s.context e.0
+    command_named s t e (ended f told p left at run is) = names_same _ e.0 (end_message f)
         (names_end f (runs_has_name (inside called s p) f left run)) is
     command_named s t e (missing told none is) = names_missing shows s e.0 is
-    command_named s t e (no_memory told p at is) = names_same e.0 Memory tt is
+    command_named s t e (no_memory told p at is) = names_same _ e.0 Memory tt is
 
     -- commands keep to the laws
     pub command_lawful : Lawful T (CommandOutcome T inner ending called shows)

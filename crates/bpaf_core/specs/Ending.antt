@@ -3,7 +3,7 @@ use Rattle.std.specs.Prelude.{◌≡◌, ◌==◌, Bool, true, false, not, ◌&&
 use Rattle.std.specs.Prelude.{Err, ⊤, IfSome, refl}
 use Rattle.bpaf_pages.specs.Help.{help_text}
 use Rattle.bpaf_doc.specs.{declared.doc.Piece.Piece, Print.Prints, Shape.Shape}
-use Rattle.bpaf_line.specs.Situation.{Situation, open_count}
+use Rattle.bpaf_line.specs.Situation.{Context, Situation, open_count}
 use Rattle.bpaf_line.specs.Messages.{is_answer, is_memory}
 use Rattle.bpaf_line.specs.{declared.failure.ParseFailure.ParseFailure, declared.error.Error.Error}
 use Rattle.bpaf_line.specs.{declared.error.Message.Message, Rendering.Renders}
@@ -13,7 +13,7 @@ use Rattle.bpaf_keys.specs.Info.{ExtraOutcome, extra_shape, RunInfo, page_texts}
 use Rattle.bpaf_laws.specs.Laws.{ShowsVersion, HasSomeName, NamesAnswer, help, help_or_version}
 use Rattle.bpaf_laws.specs.Laws.{no_memory, Keeps, version}
 use Rattle.std.proofs.Common.{true≢false}
-use Rattle.bpaf_laws.proofs.Keeping.{keeps_refl, told_has_name}
+use Rattle.bpaf_laws.proofs.Keeping.{keeps_refl, on_line, told_has_name}
 use Rattle.bpaf_parts.specs.Failures.{end_message}
 use Rattle.bpaf_keys.proofs.Looking.{extra_lawful}
 pub use Rattle.bpaf_messages.specs.Leftover.{TellsNoLine}
@@ -97,14 +97,15 @@ PassesOrTells describes info m s f t = Tells describes info m s f t
 -- What the ends of runs keep to.
 
 -- an ending keeps what each evaluation keeps, tells want of memory as nothing else, and has one of
--- the twelve names where an answer that it hands on has
+-- the twelve names on the run's line where an answer that it hands on has
 pub record LawfulEnding (ending : Ending) : Type 0 where
   pub keeps : (m : Option Message) (s left : Situation) (f : ParseFailure) (t : Situation)
       → ending m s left f t → Keeps left t
   pub spared : (m : Message) (s left : Situation) (f : ParseFailure) (t : Situation)
       → ending (Some m) s left f t → is_memory (end_message f) ≡ false → is_memory m ≡ false
   pub named : (m : Option Message) (s left : Situation) (f : ParseFailure) (t : Situation)
-      → IfSome m NamesAnswer → ending m s left f t → HasSomeName f
+      → Keeps s left → IfSome m (NamesAnswer s.context) → ending m s left f t
+      → HasSomeName s.context f
 
 -- what is told of an item that is left isn't the answer of an inner run
 pub leftover_is_told : (s : Situation) (m : Message) → IsLeftover s m → is_answer m ≡ false
@@ -142,7 +143,7 @@ module _ (describes : Shape → Type 0) (info : RunInfo) where
 
   -- what was asked for is a page, or memory is wanted
   pub shows_has_name : (asked : ExtraParams) (s : Situation) (f : ParseFailure)
-      → Shows describes info asked s f → HasSomeName f
+      → Shows describes info asked s f → {context : Context} → HasSomeName context f
   shows_has_name asked s failure.Memory shows = (no_memory, name.wanting)
   shows_has_name (extra.Help more) s (failure.Stdout doc full) shows =
       let page = shows.0 in (
@@ -157,27 +158,31 @@ module _ (describes : Shape → Type 0) (info : RunInfo) where
 
   -- what is told of a message has a name
   tells_has_name : (m : Message) (s : Situation) (f : ParseFailure) (t : Situation)
-      → is_answer m ≡ false → Tells describes info m s f t → HasSomeName f
+      → is_answer m ≡ false → Tells describes info m s f t → HasSomeName s.context f
   tells_has_name m s f t plain (shown asked g u looked shows) = shows_has_name asked t f shows
-  tells_has_name m s f t plain (told e g u looked other renders) = told_has_name m t f plain renders
+  tells_has_name m s f t plain (told e g u looked other renders) =
+      on_line (λ c. HasSomeName c f) s t ((extra_lawful info).err s t e looked)
+      (told_has_name m t f plain renders)
   tells_has_name m s f t plain (wanting e u looked wants) = (no_memory, name.wanting)
 
   -- the end of a run has one, where an answer that it hands on has
   end_has_name : (m : Option Message) (s left : Situation) (f : ParseFailure) (t : Situation)
-      → IfSome m NamesAnswer → EndsRun describes info m s left f t → HasSomeName f
-  end_has_name m s left f t names (memory n before u is) = (no_memory, name.wanting)
-  end_has_name m s left f t names (usage n before g u other wanted shows) =
+      → Keeps s left → IfSome m (NamesAnswer s.context) → EndsRun describes info m s left f t
+      → HasSomeName s.context f
+  end_has_name m s left f t kept names (memory n before u is) = (no_memory, name.wanting)
+  end_has_name m s left f t kept names (usage n before g u other wanted shows) =
       shows_has_name (extra.Help false) left f shows
-  end_has_name m s left f t names (passed_on g before u other unwanted) = names
-  end_has_name m s left f t names (refused n before from g u other unwanted plain tells) =
-      tells_has_name n left f t plain tells
-  end_has_name m s left f t names (leftover n before from g u is tells) =
-      tells_has_name n left f t (leftover_is_told left n is) tells
+  end_has_name m s left f t kept names (passed_on g before u other unwanted) = names
+  end_has_name m s left f t kept names (refused n before from g u other unwanted plain tells) =
+      on_line (λ c. HasSomeName c f) s left kept (tells_has_name n left f t plain tells)
+  end_has_name m s left f t kept names (leftover n before from g u is tells) =
+      on_line (λ c. HasSomeName c f) s left kept
+      (tells_has_name n left f t (leftover_is_told left n is) tells)
 
   -- the ends of runs are lawful
   pub run_ending : LawfulEnding (EndsRun describes info)
   run_ending = record {
     keeps = λ m s left f t ends. end_keeps m s left f t ends;
     spared = λ m s left f t ends spared. end_spared m s left f t ends spared;
-    named = λ m s left f t names ends. end_has_name m s left f t names ends;
+    named = λ m s left f t kept names ends. end_has_name m s left f t kept names ends;
   }

@@ -137,7 +137,7 @@ impl<T: Clone, P: Parser<T>> Parser<T> for ParseFallback<P, T> {
     }
 
     ghost lawful = { λ p. fallback_lawful (P.lawful p.inner) (GivesClone T.is_clone p.value)
-        (λ e. names_want e.0) };
+        (λ context e. names_want context e.0) };
 
     ghost shows = { λ p. default_shows (P.shows p.inner) p.shown };
 }

@@ -74,9 +74,10 @@ module _ (info : RunInfo) where
   extra_refused s t e (no_memory told u is keeps) = keeps
 
   -- no refusal is the answer of a run inside
-  extra_named : (s t : Situation) (e : Error) → ExtraOutcome info s (Err e) t → NamesAnswer e.0
-  extra_named s t e (neither told m u none without is) = names_same e.0 (ParseFail _) tt is
-  extra_named s t e (no_memory told u is keeps) = names_same e.0 Memory tt is
+  extra_named : (s t : Situation) (e : Error) → ExtraOutcome info s (Err e) t
+      → NamesAnswer s.context e.0
+  extra_named s t e (neither told m u none without is) = names_same _ e.0 (ParseFail _) tt is
+  extra_named s t e (no_memory told u is keeps) = names_same _ e.0 Memory tt is
 
   -- looking keeps to the laws
   pub extra_lawful : Lawful ExtraParams (ExtraOutcome info) (ExtraReads info)

@@ -123,7 +123,7 @@ module _ {T : Type 0} {inner : Outcome T} {reads : Readings T} (law : Lawful T i
   -- a failure keeps all and names its answer, if there is one
   abbrev BestKeeps : Option Failure → Type 0
   BestKeeps None = Unit {0}
-  BestKeeps (Some failure) = Keeps s failure.left × NamesAnswer failure.error.0
+  BestKeeps (Some failure) = Keeps s failure.left × NamesAnswer s.context failure.error.0
 
   -- so does the longest failure of places that were tried in vain
   vain_keeps : {first : Part} {from : ℕ} {failures : List Failure}
@@ -135,7 +135,7 @@ module _ {T : Type 0} {inner : Outcome T} {reads : Readings T} (law : Lawful T i
 
   -- and the end of a search without a value
   end_keeps : (first : Part) (best : Option Failure) (e : Error) (t : Situation) → BestKeeps best
-      → EndsWith s first best e t → Keeps s t × NamesAnswer e.0
+      → EndsWith s first best e t → Keeps s t × NamesAnswer s.context e.0
   end_keeps first x e t before ends = grind (arith, keeps_same, names_same)
 
 -- adjacent groups keep to the laws
@@ -148,7 +148,7 @@ group_lawful {T} {inner} {reads} first law = lawful_by answers
         tries_answer law s a (Ok v) left tries
     answers s r t (none_gave from failures e left before none ends) =
         end_keeps law s first (longest s failures) e left (vain_keeps law s before) ends
-    answers s r t (wanted e memory) = (keeps_refl s, names_want e.0 memory)
+    answers s r t (wanted e memory) = (keeps_refl s, names_want _ e.0 memory)
 
 -- a value of theirs newly took one stretch
 pub group_takes_stretch : {T : Type 0} {inner : Outcome T} {reads : Readings T} (first : Part)

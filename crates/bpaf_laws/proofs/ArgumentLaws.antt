@@ -203,7 +203,7 @@ module _ (T : Type 0) (means : List ℕ → T → Type 0) (argument : KeyWithVal
 
   -- what a refusal of an argument keeps, and that it isn't the answer of a run inside
   argument_refused : (s t : Situation) (m : Message) → ArgumentFails means argument s m t
-      → Keeps s t × NamesAnswer m
+      → Keeps s t × NamesAnswer s.context m
   argument_refused s t (NoArgument key name) fails = grind (arith, before_keeps)
   argument_refused s t (ParseFailed place fault) fails = (text_keeps s t fails.0 fails.1, tt)
   argument_refused s t Memory fails = (

@@ -72,7 +72,7 @@ module _ {T : Type 0} {first second : Outcome T} {rf rs : Readings T} (lf : Lawf
       answers : AnswersLawfully (ChoiceOutcome first second) (ChoiceReads rf rs)
       answers s (Ok v) t o = evaluated s (Ok v) t o
       answers s (Err e) t (inl o) = evaluated s (Err e) t o
-      answers s (Err e) t (inr want) = (keeps_same s t want.1, names_want e.0 want.0)
+      answers s (Err e) t (inr want) = (keeps_same s t want.1, names_want _ e.0 want.0)
 
 -- a choice of a lawful outcome and of lawful parsers is lawful
 pub from_lawful : {T P : Type 0} (outcome : P → Outcome T) (reads : P → Readings T)

@@ -21,7 +21,7 @@ use Rattle.bpaf_laws.specs.Combinators.{rests}
 use Rattle.bpaf_laws.proofs.Keeping.{open_count-falls, AnswersLawfully, same_took_none, names_fault}
 use Rattle.bpaf_laws.proofs.Keeping.{lawful_answer, keeps_trans, keeps_same, newly_none, reads_same}
 use Rattle.bpaf_laws.proofs.Keeping.{names_want, names_same, keeps_refl, reads_both, fewer_took}
-use Rattle.bpaf_laws.proofs.Keeping.{lawful_by, reads_as}
+use Rattle.bpaf_laws.proofs.Keeping.{lawful_by, reads_as, on_line}
 use Rattle.bpaf_laws.specs.Laws.{NamesAnswer, Lawful, Keeps, Reads}
 use Rattle.bpaf_laws.specs.{Reading.Readings, Reading.HasPlace, Reading.Outcome, Choice.ChoiceReads}
 use Rattle.bpaf_doc.specs.declared.meta.Meta as meta
@@ -29,14 +29,15 @@ use Rattle.bpaf_doc.specs.declared.meta.Meta as meta
 -- a refusal by a closure is the answer of no run inside
 pub names_answer : {T E : Type 0} (answers : Result T E → Type 0) (shown : E → Option (List ℕ))
     → NamesGiven (GivesAnswer answers shown)
-names_answer answers shown e gives = names_fault shown gives.0 PureFailed e.0 (λ text. tt) gives.2
+names_answer answers shown context e gives =
+    names_fault _ shown gives.0 PureFailed e.0 (λ text. tt) gives.2
 
 module _ {T : Type 0} {inner : Outcome T} {reads : Readings T} (law : Lawful T inner reads) where
   -- what a turn's error keeps, and that it names its answer
   pub step_refuses : (catches first : Bool) (s t : Situation) (e : Error)
-      → TurnOutcome inner catches first s (Err e) t → Keeps s t × NamesAnswer e.0
+      → TurnOutcome inner catches first s (Err e) t → Keeps s t × NamesAnswer s.context e.0
   step_refuses catches first s t e o =
-      grind (arith, lawful_answer law s (Err e) t, keeps_same s t, names_want e.0)
+      grind (arith, lawful_answer law s (Err e) t, keeps_same s t, names_want s.context e.0)
 
   -- optional values keep to the laws
   pub optional_lawful : (catches : Bool)
@@ -63,16 +64,16 @@ module _ {T : Type 0} {inner : Outcome T} {reads : Readings T} (law : Lawful T i
           (inr (newly_none s, fell.1))
       answers s (Err e) t (inl refused) = (
         keeps_same s t refused.1,
-        ⊎_elim (λ ran. law.named s ran.0 e ran.1) (names_want e.0) refused.0,
+        ⊎_elim (λ ran. law.named s ran.0 e ran.1) (names_want _ e.0) refused.0,
       )
-      answers s (Err e) t (inr fell) = (keeps_same s t fell.0.1, names e fell.1)
+      answers s (Err e) t (inr fell) = (keeps_same s t fell.0.1, names s.context e fell.1)
 
 module _ {T : Type 0} {inner : Outcome T} {reads : Readings T} (law : Lawful T inner reads) where
   -- where values are made of inner ones and refusals are inner or stand for one, laws are kept
   pub made_lawful : {R : Type 0} {outcome : Outcome R} (makes : T → R → Type 0)
       → ((s t : Situation) (v : R) → outcome s (Ok v) t → (x : T) × inner s (Ok x) t × makes x v)
       → ((s t : Situation) (e : Error) → outcome s (Err e) t
-      → inner s (Err e) t ⊎ ((x : T) × inner s (Ok x) t × NamesAnswer e.0))
+      → inner s (Err e) t ⊎ ((x : T) × inner s (Ok x) t × NamesAnswer s.context e.0))
       → Lawful R outcome (MapReads T R reads makes)
   made_lawful makes values refusals = grind (arith, reads_as)
 
@@ -184,10 +185,9 @@ module _ {T : Type 0} {inner : Outcome T} {reads : Readings T} (law : Lawful T i
           first_read s run.steps.0 run.last t v vs run.steps.1.0 run.steps.2
           (stop_reads false run.last t run.stop)
       answers s (Err e) t run =
-          let fails = step_refuses law catches (is_nil run.values) run.last t e run.fails in (
-            keeps_trans s run.last t (steps_keep true s run.values run.last run.steps) fails.0,
-            fails.1,
-          )
+          let fails = step_refuses law catches (is_nil run.values) run.last t e run.fails in
+          let kept = steps_keep true s run.values run.last run.steps in
+          (keeps_trans s run.last t kept fails.0, on_line (λ c. NamesAnswer c e.0) s run.last kept fails.1)
 
   -- many keeps to the laws
   pub many_lawful : Lawful (Vec T) (ManyOutcome inner catches)
@@ -291,11 +291,11 @@ module _ {T : Type 0} {inner : Outcome T} {reads : Readings T} (law : Lawful T i
           reads_as (one_read s t v (subst (λ w. inner w (Ok v) t) same again.2))
           (λ read. record { from = v ∷ []; read = read; made = ([], refl) })
       answers s (Err e) t (inl fault) = lawful_answer rest_lawful s (Err e) t fault
-      answers s (Err e) t (inr again) = (
-        keeps_trans s again.0 t (rest_lawful.ok s again.0 [] again.1).keeps
-            (law.err again.0 t e again.2),
-        law.named again.0 t e again.2,
-      )
+      answers s (Err e) t (inr again) =
+          let kept = (rest_lawful.ok s again.0 [] again.1).keeps in (
+            keeps_trans s again.0 t kept (law.err again.0 t e again.2),
+            on_line (λ c. NamesAnswer c e.0) s again.0 kept (law.named again.0 t e again.2),
+          )
 
 module _ {T : Type 0} {inner : Outcome T} {reads : Readings T} (law : Lawful T inner reads)
     (catches : Bool) (s t : Situation) where

@@ -10,7 +10,7 @@ use Rattle.bpaf_doc.specs.declared.doc.Piece.{Piece}
 use Rattle.bpaf_doc.specs.{Shape.shape_of, Shape.Shape, declared.meta.Meta.Meta}
 use Rattle.bpaf_text.specs.{declared.fault.TextFault.TextFault, Meaning.ReadsText, Named.Named}
 use Rattle.bpaf_line.specs.Situation.{with_current, count_below, take_place, with_scope, open_count}
-use Rattle.bpaf_line.specs.declared.error.Message.TheVariants.{ParseFailure, Memory}
+use Rattle.bpaf_line.specs.declared.error.Message.TheVariants.{ParseFailure}
 use Rattle.bpaf_line.specs.Situation.{Situation, with_path, is_taken, in_scope, Context, is_open}
 use Rattle.bpaf_line.specs.{Messages.is_answer, Messages.is_memory, declared.error.Message.Message}
 use Rattle.bpaf_line.specs.{declared.error.Error.Error, Taking.ConflictsSaved, Rendering.Renders}
@@ -38,7 +38,7 @@ keeps_of law s (Err e) t o = law.err s t e o
 abbrev pub LawfulAnswer : (T : Type 0) → Readings T → Situation → Result T Error → Situation
     → Type 0
 LawfulAnswer T reads s (Ok v) t = Reads T reads s v t
-LawfulAnswer T reads s (Err e) t = Keeps s t × NamesAnswer e.0
+LawfulAnswer T reads s (Err e) t = Keeps s t × NamesAnswer s.context e.0
 
 -- each answer is as they say
 abbrev pub AnswersLawfully : {T : Type 0} → Outcome T → Readings T → Type 0
@@ -189,20 +189,27 @@ module _ {T : Type 0} (reads : Readings T) (s m loser : Situation) (winner : ℕ
 -- Messages that are the answer of no run inside, or of one whose answer has a name.
 
 -- a message is one that names its answer
-pub names_same : (m n : Message) → NamesAnswer n → m ≡ n → NamesAnswer m
-names_same m n names same = subst NamesAnswer (sym same) names
+pub names_same : (context : Context) (m n : Message) → NamesAnswer context n → m ≡ n
+    → NamesAnswer context m
+names_same context m n names same = subst (NamesAnswer context) (sym same) names
+
+-- what holds on the line after an evaluation holds before it: the line is the same
+pub on_line : (Holds : Context → Type 0) (s t : Situation) → Keeps s t → Holds t.context
+    → Holds s.context
+on_line Holds s t kept after = subst Holds kept.context after
 
 -- want of memory, also that of an inner run
-pub names_want : (m : Message) → is_memory m ≡ true → NamesAnswer m
-names_want (ParseFailure failure.Memory) want = (no_memory, wanting)
-names_want (ParseFailure f) want = absurd (true≢false (sym want))
-names_want m want = tt
+pub names_want : (context : Context) (m : Message) → is_memory m ≡ true → NamesAnswer context m
+names_want context (ParseFailure failure.Memory) want = (no_memory, wanting)
+names_want context (ParseFailure f) want = absurd (true≢false (sym want))
+names_want context m want = tt
 
 -- the text of a fault, or want of memory for it
-pub names_fault : {E : Type 0} (shown : E → Option (List ℕ)) (fault : E)
-    (refusal : List ℕ → Message) (m : Message) → ((text : List ℕ) → NamesAnswer (refusal text))
-    → TellsFault shown fault refusal m → NamesAnswer m
-names_fault shown fault refusal m names tells = grind (arith, names_same)
+pub names_fault : (context : Context) {E : Type 0} (shown : E → Option (List ℕ)) (fault : E)
+    (refusal : List ℕ → Message) (m : Message)
+    → ((text : List ℕ) → NamesAnswer context (refusal text))
+    → TellsFault shown fault refusal m → NamesAnswer context m
+names_fault context shown fault refusal m names tells = grind (arith, names_same)
 
 -- each message but the answer of an inner run has a name
 pub name_of : (m : Message) → is_answer m ≡ false → (name : Refusal) × (refusal_of m ≡ Some name)
@@ -216,12 +223,12 @@ shows_nothing m s doc full other tells = grind arith
 
 -- so has what is told of it
 pub told_has_name : (m : Message) (s : Situation) (f : Failure) → is_answer m ≡ false
-    → Renders m s f → HasSomeName f
+    → Renders m s f → HasSomeName s.context f
 told_has_name m s failure.Memory plain tells = (no_memory, wanting)
 told_has_name m s (failure.Stdout doc full) plain tells = grind (arith, shows_nothing)
 told_has_name m s (failure.Stderr doc) plain tells =
     let named : (name : Refusal) × (refusal_of m ≡ Some name) = name_of m plain in
-    (named.0, told named.0 m s doc named.1 tells)
+    (named.0, told named.0 m s doc refl named.1 tells)
 
 -- Counting what an evaluation newly took.
 

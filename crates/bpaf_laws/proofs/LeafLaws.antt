@@ -59,7 +59,7 @@ module _ (T : Type 0) (clones : T → T → Type 0) (named : Named) (present : T
 
   -- what a refusal of a flag keeps, and that it isn't the answer of a run inside
   flag_refused : (s t : Situation) (m : Message) → FlagFails named absent s m t
-      → Keeps s t × NamesAnswer m
+      → Keeps s t × NamesAnswer s.context m
   flag_refused s t Memory fails = (present_keeps s t fails.0 fails.1, tt)
   flag_refused s t (ParseFailure f) fails =
       (flag_keeps named.names s false t fails.0.0, grind (arith, fails.2))
@@ -147,7 +147,7 @@ module _ {T : Type 0} (looks : Looks T) (anywhere : Bool) (s : Situation) (place
 module _ (T : Type 0) (looks : Looks T) (part : Part) (anywhere : Bool) where
   -- what a refusal keeps, and that it isn't the answer of a run inside
   any_refused : (s t : Situation) (m : Message) → AnyFails looks part anywhere s m t
-      → Keeps s t × NamesAnswer m
+      → Keeps s t × NamesAnswer s.context m
   any_refused s t m fails = grind (arith, keeps_same)
 
   -- the parser of any item keeps to the laws
@@ -165,15 +165,23 @@ appname_lawful = grind (arith, reads_same, newly_none, keeps_same, names_same)
 -- leaves that look at no item keep to the laws
 pub pure_lawful : {T : Type 0} (gives : Gives T) → NamesGiven gives
     → Lawful T (PureOutcome gives) (PureReads (λ v. gives (Ok v)))
-pure_lawful gives names = grind (arith, reads_unset, newly_none, keeps_unset)
+pure_lawful gives names = record {
+  ok = λ s t v o. reads_unset (PureReads (λ w. gives (Ok w))) s t v o.1 (newly_none s, o.0);
+  err = λ s t e o. keeps_unset s t o.1;
+  named = λ s t e o. names s.context e o.0;
+}
 
 -- so does one that answers what a closure does
 pub pure_with_lawful : {T : Type 0} (gives : Gives T) → NamesGiven gives
     → Lawful T (PureWithOutcome gives) (PureReads (λ v. gives (Ok v)))
-pure_with_lawful gives names = grind (arith, reads_same, newly_none, keeps_same)
+pure_with_lawful gives names = record {
+  ok = λ s t v o. reads_same (PureReads (λ w. gives (Ok w))) s t v o.1 (newly_none s, o.0);
+  err = λ s t e o. keeps_same s t o.1;
+  named = λ s t e o. names s.context e o.0;
+}
 
 -- and one that refuses with a message
 pub refusal_lawful : {T : Type 0} (message : List ℕ)
     → Lawful T (PureOutcome (GivesRefusal message)) (PureReads (λ v. ⊥))
-refusal_lawful message = pure_lawful (GivesRefusal message) (λ e gives.
-    ⊎_elim (names_same e.0 (ParseFail message) tt) (names_same e.0 Memory tt) gives)
+refusal_lawful message = pure_lawful (GivesRefusal message) (λ context e gives.
+    ⊎_elim (names_same _ e.0 (ParseFail message) tt) (names_same _ e.0 Memory tt) gives)

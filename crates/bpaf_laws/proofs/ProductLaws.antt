@@ -3,10 +3,10 @@ use Rattle.std.proofs.Common.{arith, inl, inr}
 use Rattle.std.specs.Prelude.{if◌then◌else◌, Result, false, true, Err, Ok}
 use Rattle.bpaf_line.specs.{declared.error.Error.Error, Situation.Situation, Messages.is_memory}
 use Rattle.bpaf_laws.proofs.Keeping.{AnswersLawfully, lawful_answer, keeps_current, LawfulAnswer}
-use Rattle.bpaf_laws.proofs.Keeping.{keeps_trans, reads_both, lawful_by}
+use Rattle.bpaf_laws.proofs.Keeping.{keeps_trans, reads_both, lawful_by, on_line}
 use Rattle.bpaf_laws.specs.Product.{FailFastOutcome, ProductOutcome, BothOutcome, BothReads, both_answers}
 use Rattle.bpaf_laws.specs.Product.{BothEval}
-use Rattle.bpaf_laws.specs.Laws.{WithoutMemory, IsNotMemory, Lawful, Spares}
+use Rattle.bpaf_laws.specs.Laws.{WithoutMemory, IsNotMemory, Lawful, NamesAnswer, Spares}
 use Rattle.bpaf_laws.specs.{Reading.Readings, Reading.Outcome, Combinators.MapReads}
 
 module _ {A B : Type 0} {first : Outcome A} {rest : Outcome B} {rf : Readings A} {rr : Readings B}
@@ -16,14 +16,18 @@ module _ {A B : Type 0} {first : Outcome A} {rest : Outcome B} {rf : Readings A}
       → rest m b t → LawfulAnswer (A × B) (BothReads A B rf rr) s (both_answers a b) t
   joined_answers s m t (Ok x) (Ok y) f g = reads_both (la.ok s m x f) (lb.ok m t y g)
   joined_answers s m t (Ok x) (Err e) f g =
-      (keeps_trans s m t (la.ok s m x f).keeps (lb.err m t e g), lb.named m t e g)
+      let kept = (la.ok s m x f).keeps in
+      (keeps_trans s m t kept (lb.err m t e g), on_line (λ c. NamesAnswer c e.0) s m kept (lb.named m t e g))
   joined_answers s m t (Err d) (Ok y) f g =
       (keeps_trans s m t (la.err s m d f) (lb.ok m t y g).keeps, la.named s m d f)
   joined_answers s m t (Err d) (Err e) f g =
-      let kept = keeps_trans s m t (la.err s m d f) (lb.err m t e g) in
+      let before = la.err s m d f in
+      let kept = keeps_trans s m t before (lb.err m t e g) in
       elim (is_memory e.0)
-      as (λ z. LawfulAnswer (A × B) (BothReads A B rf rr) s (if z then Err e else Err d) t)
-      [ true ↦ (kept, lb.named m t e g) | false ↦ (kept, la.named s m d f) ]
+      as (λ z. LawfulAnswer (A × B) (BothReads A B rf rr) s (if z then Err e else Err d) t) [
+        | true ↦ (kept, on_line (λ c. NamesAnswer c e.0) s m before (lb.named m t e g))
+        | false ↦ (kept, la.named s m d f)
+      ]
 
   -- so is that of an evaluation of both
   both_ran : AnswersLawfully (BothEval A B first rest) (BothReads A B rf rr)

@@ -103,7 +103,7 @@ GivesAnswer {T} {E} answers shown (Err e) =
 
 -- each refusal of it that is the answer of a run inside has a name
 abbrev pub NamesGiven : {T : Type 0} → Gives T → Type 0
-NamesGiven gives = (e : Error) → gives (Err e) → NamesAnswer e.0
+NamesGiven gives = (context : Context) (e : Error) → gives (Err e) → NamesAnswer context e.0
 
 -- no place and None, or an inner reading and Some of its value
 abbrev pub OptionalReads : {T : Type 0} → Readings T → Readings (Option T)

@@ -7,7 +7,8 @@ use Rattle.bpaf_doc.specs.Shape.{shorts_of_arguments, shorts_of_flags, parts_of_
 use Rattle.bpaf_doc.specs.{Print.printed, Print.Prints, Print.Print, declared.doc.Piece.Piece}
 use Rattle.bpaf_doc.specs.Shape.{parts, Part}
 use Rattle.bpaf_words.specs.Line.{ShortNames}
-use Rattle.bpaf_line.specs.Situation.{count_below, open_count, Situation, is_taken, in_scope}
+use Rattle.bpaf_line.specs.Situation.{Context, count_below, open_count, Situation, is_taken}
+use Rattle.bpaf_line.specs.Situation.{in_scope}
 use Rattle.bpaf_line.specs.{declared.failure.ParseFailure.ParseFailure, declared.error.Error.Error}
 use Rattle.bpaf_line.specs.{declared.error.Message.Message, Messages.is_memory, Situation.is_open}
 use Rattle.bpaf_line.specs.{Rendering.Renders, Marks.KeepsMarks}
@@ -75,29 +76,30 @@ refusal_of (message.OnlyOnce earlier place) = Some repeated_key
 refusal_of (message.Unconsumed place) = Some unexpected_item
 refusal_of (message.ParseFailure inner) = None
 
--- a help page at some path, or a version
+-- a text that a help page at some path may have, or a version
 pub data IsPage (doc : List Piece) : Type 0 where
   help : (path : List (List ℕ)) (texts : PageTexts) (shape extra : Shape)
       → Prints (help_text path texts shape extra) doc → IsPage doc
   version : (text : List Piece) → Prints (version_text text) doc → IsPage doc
 
--- a failure of this name, of any run: want of memory; a page; or the text of a message of this name
-pub data HasName : Refusal → ParseFailure → Type 0 where
-  wanting : HasName no_memory failure.Memory
+-- A failure of this name, of some run over this line: want of memory; a page; or the text of a
+-- message of this name, told in a situation of the line. Of which run it is, this doesn't say.
+pub data HasName (context : Context) : Refusal → ParseFailure → Type 0 where
+  wanting : HasName context no_memory failure.Memory
   shown : (doc : List Piece) (full : Bool) → IsPage doc
-      → HasName help_or_version (failure.Stdout doc full)
-  told : (name : Refusal) (m : Message) (s : Situation) (doc : List Piece)
+      → HasName context help_or_version (failure.Stdout doc full)
+  told : (name : Refusal) (m : Message) (s : Situation) (doc : List Piece) → s.context ≡ context
       → refusal_of m ≡ Some name → Renders m s (failure.Stderr doc)
-      → HasName name (failure.Stderr doc)
+      → HasName context name (failure.Stderr doc)
 
 -- a failure that has one of the names
-abbrev pub HasSomeName : ParseFailure → Type 0
-HasSomeName f = (name : Refusal) × HasName name f
+abbrev pub HasSomeName : Context → ParseFailure → Type 0
+HasSomeName context f = (name : Refusal) × HasName context name f
 
--- a message that is the answer of a run inside has one of the names
-abbrev pub NamesAnswer : Message → Type 0
-NamesAnswer (message.ParseFailure f) = HasSomeName f
-NamesAnswer m = ⊤
+-- a message that is the answer of a run inside has one of the names, on this line
+abbrev pub NamesAnswer : Context → Message → Type 0
+NamesAnswer context (message.ParseFailure f) = HasSomeName context f
+NamesAnswer context m = ⊤
 
 -- the places taken since a situation
 abbrev pub newly : Situation → Situation → Share
@@ -139,8 +141,8 @@ pub record Reads (T : Type 0) (reads : Readings T) (s : Situation) (v : T)
 pub record Lawful (T : Type 0) (outcome : Outcome T) (reads : Readings T) : Type 0 where
   pub ok : (s t : Situation) (v : T) → outcome s (Ok v) t → Reads T reads s v t
   pub err : (s t : Situation) (e : Error) → outcome s (Err e) t → Keeps s t
-  -- where an error is the answer of a run inside, that has one of the twelve names
-  pub named : (s t : Situation) (e : Error) → outcome s (Err e) t → NamesAnswer e.0
+  -- where an error is the answer of a run inside, that has one of the twelve names on this line
+  pub named : (s t : Situation) (e : Error) → outcome s (Err e) t → NamesAnswer s.context e.0
 
 -- how many places an evaluation newly took
 abbrev pub taken_count : Situation → Situation → ℕ

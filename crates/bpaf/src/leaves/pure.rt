@@ -62,7 +62,8 @@ impl<T: Clone> Parser<T> for ParsePure<T> {
         Ok(Meta::Skip)
     }
 
-    ghost lawful = { λ p. pure_lawful (GivesClone T.is_clone p.value) (λ e. names_want e.0) };
+    ghost lawful = { λ p. pure_lawful (GivesClone T.is_clone p.value)
+        (λ context e. names_want context e.0) };
 
     ghost shows = { λ p. one_shape refl };
 }

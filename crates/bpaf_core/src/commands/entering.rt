@@ -1,12 +1,13 @@
 //! What a command answers: its word is taken, and what runs inside it ends before or at the end of
 //! its scope.
-ghost use Rattle.std.specs.Prelude.{◌≡◌, ◌<◌, IfOk, true, false};
+ghost use Rattle.std.specs.{Prelude.◌≡◌, Prelude.◌<◌, Prelude.IfOk, Prelude.true, Prelude.false};
+ghost use Rattle.std.specs.Result.{IfErr};
 ghost use Rattle.bpaf_doc.specs.Shape.{part_of};
 ghost use Rattle.bpaf_laws.specs.{Command.CommandPart, Command.CommandDescribes};
 ghost use Rattle.bpaf_laws.specs.{Command.LeavesNothing, Command.opening_words, Laws.newly};
 ghost use Rattle.bpaf_laws.specs.{Laws.IsNotMemory, Laws.WithoutMemory, Adjacent.IsStretch};
 ghost use Rattle.bpaf_core.specs.Command.{Enters, RunsInside, OutcomeOfCommand, EitherCommandReads};
-ghost use Rattle.bpaf_core.specs.Command.{IsMissingPart};
+ghost use Rattle.bpaf_core.specs.{Command.IsMissingPart, Refusals.NamesInside};
 ghost use Rattle.bpaf_core.specs.{AdjacentLaws.either_lawful, Ending.EndsRun, Ending.run_ending};
 ghost use Rattle.bpaf_laws.proofs.ShownNames.{command_shows};
 
@@ -91,8 +92,9 @@ impl<T: Drop, P: Parser<T>> ParseCommand<T, P> {
 /// nothing present in scope.
 ///
 /// Where the first present item in scope isn't its word, its item is missing. A refusal of the
-/// inner run is ParseFailure, which nothing but `catch` catches; want of memory stays that. An
-/// adjacent command runs over the unbroken stretch of present items behind its word, or over a part
+/// inner run is ParseFailure, which nothing but `catch` catches, and has its name in that run: it
+/// is the message of the inner parser, told behind the word, or a page of that parser by its own
+/// texts (clause `named_inside`). Want of memory stays that. An adjacent command runs over the unbroken stretch of present items behind its word, or over a part
 /// of it, and leaves what follows to others.
 impl<T: Drop, P: Parser<T>> Parser<T> for ParseCommand<T, P> {
     ghost can_eval = { λ p. P.can_eval p.inner };
@@ -114,6 +116,9 @@ impl<T: Drop, P: Parser<T>> Parser<T> for ParseCommand<T, P> {
             IfOk result (λ _. LeavesNothing state.old state.new) }
         ensures takes_one_stretch { self.now.adjacent ≡ true →
             IfOk result (λ _. IsStretch (newly state.old state.new)) }
+        ensures named_inside { IfErr result (λ error. NamesInside self.now.adjacent self.now.names
+            (P.outcome self.now.inner) (P.describes self.now.inner) self.now.info state.old
+            error.0) }
         ensures memory_is_never_caught { IsNotMemory result →
             OutcomeOfCommand self.now (WithoutMemory (P.outcome self.now.inner))
             (P.describes self.now.inner) state.old result state.new }

@@ -8,6 +8,11 @@ pub returns-in_err-enter-clause-outcome : goal.returns-in_err-enter-clause-outco
 returns-in_err-enter-clause-outcome g c = refused_inside _ _ _ _ _ c.args.self.now.adjacent _
     c.from_residual.ensures c.in_err-enter.ensures
 
+pub returns-in_err-enter-clause-named_inside : goal.returns-in_err-enter-clause-named_inside
+returns-in_err-enter-clause-named_inside g c = named_by _
+    (names_inside (g.met.P.Parser.lawful c.args.self.now.inner) _ _ _ _ _ c.args.self.now.adjacent)
+    (returns-in_err-enter-clause-outcome g c)
+
 pub returns-in_err-enter-clause-memory_is_never_caught :
     goal.returns-in_err-enter-clause-memory_is_never_caught
 returns-in_err-enter-clause-memory_is_never_caught g c = spared_either _ (run_ending _ _) _ _
@@ -38,3 +43,8 @@ returns-in-Err-clause-outcome g c = inside_refuses _ _ _ _ _ c.in_ok-enter.field
 pub returns-in-Err-clause-memory_is_never_caught : goal.returns-in-Err-clause-memory_is_never_caught
 returns-in-Err-clause-memory_is_never_caught g c = spared_either _ (run_ending _ _) _ _
     c.args.self.now.adjacent _ _ _ (returns-in-Err-clause-outcome g c)
+
+pub returns-in-Err-clause-named_inside : goal.returns-in-Err-clause-named_inside
+returns-in-Err-clause-named_inside g c =
+    names_inside (g.met.P.Parser.lawful c.args.self.now.inner) _ _ _ _ _ c.args.self.now.adjacent
+    _ _ (returns-in-Err-clause-outcome g c)
