@@ -12,6 +12,7 @@ use Rattle.bpaf_laws.specs.Leaves.{ArgumentOutcome, FlagOutcome}
 use Rattle.bpaf_laws.specs.Reading.{Readings, Outcome, IsAbsence}
 use Rattle.bpaf_laws.specs.Product.{BothOutcome, ProductOutcome, both_answers}
 use Rattle.bpaf_laws.specs.{Combinators.ManyOutcome, Combinators.Turns, Laws.Keeps, Laws.Lawful}
+use Rattle.bpaf_laws.specs.Combinators.{FallbackOutcome, GivesClone, TurnOutcome}
 use Rattle.bpaf_laws.proofs.Keeping.{keeps_same, keeps_trans}
 use Rattle.bpaf_core.specs.Ending.{EndsRun, Tells, leftover, passed_on, refused, shown, told, usage}
 use Rattle.bpaf_core.specs.{Ending.Shows, Ending.shows_help_page, Ending.leftover_is_told, Run.Runs}
@@ -122,6 +123,25 @@ module _ {showing : Showing} where
       → HandsOn showing fields → HandsOn showing (ProductOutcome fields makes)
   product_hands_on inside =
       record { all = λ s e t doc full o is. inside.all s e o.0 doc full o.1 is }
+
+  module _ {T : Type 0} {inner : Outcome T} (inside : HandsOn showing inner) where
+    -- what may be left out shows what it does where it isn't
+    pub optional_hands_on : (catches : Bool) → HandsOn showing (TurnOutcome inner catches true)
+    optional_hands_on catches = record {
+      all = λ s e t doc full o is.
+          ⊎_elim (λ failed. inside.all s e t doc full failed.0 is)
+          (λ want. absurd (true≢false (sym want.0 ∙ ap is_memory is))) o;
+    }
+
+    -- so does what has a default
+    pub default_hands_on : (clones : T → T → Type 0) (kept : T)
+        → HandsOn showing (FallbackOutcome inner (GivesClone clones kept))
+    default_hands_on clones kept = record {
+      all = λ s e t doc full o is.
+          ⊎_elim (λ refused. ⊎_elim (λ ran. inside.all s e ran.0 doc full ran.1 is)
+          (λ want. absurd (true≢false (sym want ∙ ap is_memory is))) refused.0)
+          (λ fell. absurd (true≢false (sym fell.1 ∙ ap is_memory is))) o;
+    }
 
   module _ {T : Type 0} {inner : Outcome T} {reads : Readings T} (law : Lawful T inner reads)
       (inside : HandsOn showing inner) (catches : Bool) where

@@ -37,9 +37,13 @@ pub record BehindWord (called : Called) (showing : Showing) (s : Situation) (doc
   pub word : IsOpenedAt (opening_words called) s place
   pub run : CameTo showing (inside called s place) doc full
 
+-- what one of two may show
+abbrev pub OneShows : Showing → Showing → Showing
+OneShows one other s doc full = one s doc full ⊎ other s doc full
+
 -- a run shows what it was asked for itself, or what its parser shows of runs inside it
 abbrev pub RunShows : (Shape → Type 0) → RunInfo → Showing → Showing
-RunShows describes info inner s doc full = IsAskedAt describes info s doc full ⊎ inner s doc full
+RunShows describes info = OneShows (IsAskedAt describes info)
 
 -- a run over words came to where this may be shown
 pub record WordsShow (known : Known) (given : Given) (showing : Showing) (doc : List Piece)

@@ -10,7 +10,24 @@ use Rattle.bpaf_laws.specs.Laws.{joined_shorts, of_arguments, no_shorts, of_flag
 use Rattle.bpaf_laws.specs.{Product.ProductOutcome, Product.BothOutcome, Combinators.GivesClone}
 use Rattle.bpaf_laws.specs.{Leaves.ArgumentOutcome, Leaves.FlagOutcome, Choice.ChoiceOutcome}
 use Rattle.bpaf_laws.specs.{Command.CommandPart, Command.named_only, Reading.Outcome}
-use Rattle.bpaf_laws.proofs.Keeping.{fallback_kept}
+use Rattle.bpaf_laws.proofs.Keeping.{fallback_kept, lawful_as, names_want}
+use Rattle.bpaf_laws.proofs.CombinatorLaws.{fallback_lawful, many_lawful, map_lawful}
+use Rattle.bpaf_laws.proofs.{CombinatorLaws.optional_lawful, ChoiceLaws.choice_lawful}
+use Rattle.bpaf_laws.proofs.ProductLaws.{both_lawful, product_lawful}
+use Rattle.bpaf_laws.proofs.{ArgumentLaws.argument_lawful, LeafLaws.flag_lawful}
+use Rattle.bpaf_laws.specs.{Laws.Lawful, Reading.Readings}
+use Rattle.bpaf.specs.Asked.{IfShown, RunShows, Showing}
+use Rattle.bpaf.specs.{AdjacentLaws.either_lawful, Ending.run_ending}
+use Rattle.bpaf.specs.Positional.{positional_lawful}
+use Rattle.bpaf.proofs.Asked.{answer_shows, argument_hands_on, asked_at_also, both_hands_on}
+use Rattle.bpaf.proofs.Asked.{default_hands_on, flag_hands_on, hands_also, many_hands_on}
+use Rattle.bpaf.proofs.Asked.{optional_hands_on, positional_hands_on, product_hands_on}
+use Rattle.bpaf.proofs.Asked.{words_also, IsAlsoShown}
+use Rattle.bpaf.proofs.HandsOn.{behind_also, choice_hands_on, command_hands_on}
+use Rattle.bpaf_program.specs.KnownParser.{IsPageOf, any_places, any_shape, inner_pages}
+use Rattle.std.proofs.Common.{Err, Ok, inl, inr}
+use Rattle.std.specs.Result.{IfErr}
+use Rattle.bpaf_line.specs.declared.failure.ParseFailure.TheVariants as failure
 use Rattle.bpaf_core.specs.declared.commands.ParseCommand.{ParseCommand}
 use Rattle.bpaf.specs.{declared.leaves.positional.Position.Position, Run.known_names, Run.RunsWords}
 use Rattle.bpaf.specs.{Info.plain_info, Info.RunInfo, Command.EitherCommandOutcome, Ending.EndsRun}
@@ -28,6 +45,18 @@ use Rattle.bpaf_program.specs.KnownParser.{AreKnownFields, known_optional, IsKno
 use Rattle.bpaf_program.specs.KnownParser.{program_names, known_command, known_default, IsExactFor}
 use Rattle.bpaf_program.specs.KnownParser.{shown_shorts, known_switch, known_many, known_map}
 use Rattle.bpaf_program.specs.{KnownParser.IsValueBy, KnownParser.IsKept, Fields.IsPlainCommand}
+
+-- the laws, where it isn't told which places are read
+by_laws : {T : Type 0} {outcome : Outcome T} {reads : Readings T} → Lawful T outcome reads
+    → Lawful T outcome any_places
+by_laws law = lawful_as law (λ context share v read. tt)
+
+-- what a run shows of its own may be shown of any shape
+of_any_shape : {describes : Shape → Type 0} {info : RunInfo} {showing : Showing}
+    → IsAlsoShown (RunShows describes info showing) (RunShows any_shape info showing)
+of_any_shape s doc full (inl asked) =
+    inl (asked_at_also (λ shape shown. tt) s doc full asked)
+of_any_shape s doc full (inr inside) = inr inside
 
 module _ {A B : Type 0} (inner : Outcome A) {answers wanted : A → B → Type 0}
     (only : (x : A) (v : B) → answers x v → wanted x v) where
@@ -53,6 +82,10 @@ command_known {T} called known describes {command = command} same plain {outcome
 ) (record {
   law = λ env. plain_command_law describes plain_info (named_only called) _ _ (is.law env);
   shown = is.shown;
+  keeps = by_laws (either_lawful is.keeps (run_ending describes plain_info) (named_only called) _
+      false);
+  hands = hands_also (behind_also of_any_shape)
+      (command_hands_on describes plain_info is.keeps is.hands refl (named_only called) _ false);
 })
 
 -- a choice of commands
@@ -62,6 +95,9 @@ pub choice_known : {T : Type 0} (first second : Grammar T) {one two : Outcome T}
 choice_known first second these those = record {
   law = λ env. program_choice_law (these.law env) (those.law env);
   shown = ap₂ joined_shorts these.shown those.shown;
+  keeps = by_laws (choice_lawful these.keeps those.keeps);
+  hands = choice_hands_on (hands_also (λ s doc full it. inl it) these.hands)
+      (hands_also (λ s doc full it. inr it) those.hands);
 }
 
 -- commands with a closure round them
@@ -69,10 +105,12 @@ pub map_known : {A B : Type 0} (make : A → B) (known : Grammar A) {outcome : O
     {shorts : ShortNames} → IsKnownParser known outcome shorts
     → {answers : A → B → Type 0} → ((x : A) (v : B) → answers x v → v ≡ make x)
     → IsKnownParser (known_map make known) (MapOutcome outcome answers) shorts
-map_known make known {outcome} inner only = record {
+map_known make known {outcome} inner {answers} only = record {
   law = λ env. narrower_form (map_within outcome only)
       (map_law (inner.law env) (λ x v. v ≡ make x));
   shown = inner.shown;
+  keeps = by_laws (map_lawful inner.keeps answers);
+  hands = record { all = λ s e t doc full o is. inner.hands.all s e t doc full o is };
 }
 
 -- commands as the last field
@@ -81,6 +119,8 @@ pub last_known : {T : Type 0} (known : Grammar T) {outcome : Outcome T} {shorts 
 last_known known inner = record {
   law = λ env. program_alone_law (program_field_law (inner.law env));
   shown = inner.shown;
+  keeps = inner.keeps;
+  hands = inner.hands;
 }
 
 -- a field in front of others
@@ -91,6 +131,9 @@ pub both_known : {A B : Type 0} (first : Grammar A) (rest : Grammar B) {one : Ou
 both_known first rest is more = record {
   law = λ env. program_both_law (program_field_law (is.law env)) (more.law env);
   shown = ap₂ joined_shorts is.shown more.shown;
+  keeps = by_laws (both_lawful is.keeps more.keeps);
+  hands = both_hands_on is.keeps (hands_also (λ s doc full it. inl it) is.hands)
+      (hands_also (λ s doc full it. inr it) more.hands);
 }
 
 -- with a constructor
@@ -98,10 +141,12 @@ pub con_known : {A B : Type 0} (make : A → B) (known : Grammar A) {outcome : O
     {shorts : ShortNames} → AreKnownFields known outcome shorts
     → {answers : A → B → Type 0} → ((x : A) (v : B) → answers x v → v ≡ make x)
     → IsKnownParser (known_con make known) (ProductOutcome outcome answers) shorts
-con_known make known {outcome} fields only = record {
+con_known make known {outcome} fields {answers} only = record {
   law = λ env. narrower_form (con_within outcome only)
       (program_con_law (λ x v. v ≡ make x) (fields.law env));
   shown = fields.shown;
+  keeps = by_laws (product_lawful answers fields.keeps);
+  hands = product_hands_on fields.hands;
 }
 
 -- an answer exact by a grammar's names and form is exact for its values, where words are texts
@@ -126,6 +171,29 @@ program_exactly {T} known own program {outcome} {describes} {r = r} runs is info
     exact_for known (answers_as_program describes plain_info (program_names known) own
     (is.law own.env) program r (rw (info_is, given_is, is.shown) at runs)) refl refl
 
+-- what a run of a known program shows in place of a value is a page that its words ask for
+pub asks_for_page : {T : Type 0} (known : Grammar T) (own : Given) {outcome : Outcome T}
+    {describes : Shape → Type 0} {shorts : ShortNames} {info : RunInfo} {given : Given}
+    {r : Result T ParseFailure}
+    → RunsWords T outcome describes info (known_names info shorts) given r
+    → IsKnownParser known outcome shorts → (texts : RunInfo → Type 0) → texts info
+    → info.help_if_no_args ≡ false → given ≡ own → IfErr r (IfShown (IsPageOf known texts own))
+asks_for_page {T} known own {outcome} {describes} {info = info} {r = r} runs is texts told plain
+    given_is = asks r (rw (given_is, is.shown) at runs)
+  where
+    asks : (r : Result T ParseFailure)
+        → RunsWords T outcome describes info (known_names info (shown_shorts known)) own r
+        → IfErr r (IfShown (IsPageOf known texts own))
+    asks (Err (failure.Stdout doc full)) runs = (
+      info,
+      told,
+      words_also of_any_shape
+          (answer_shows is.keeps is.hands plain (Err (failure.Stdout doc full)) runs),
+    )
+    asks (Err (failure.Stderr doc)) runs = tt
+    asks (Err failure.Memory) runs = tt
+    asks (Ok v) runs = tt
+
 -- The fields of a program are known where what they are made of is.
 
 -- a switch, with some help or none
@@ -139,6 +207,9 @@ switch_known names help named_is present_is absent_is =
       law = λ env. flag_field_law env Bool IsKept (record (key_named names) { help = help }) true
           (Some false);
       shown = refl;
+      keeps = by_laws (flag_lawful Bool IsKept (record (key_named names) { help = help }) true
+          (Some false));
+      hands = flag_hands_on IsKept (record (key_named names) { help = help }) true (Some false);
     })
 
 -- an argument, with some help or none
@@ -151,6 +222,8 @@ argument_known {T} means key help is = rw is (record {
   law = λ env. argument_field_law env T means
       (record key { named = record key.named { help = help } });
   shown = refl;
+  keeps = by_laws (argument_lawful T means (record key { named = record key.named { help = help } }));
+  hands = argument_hands_on means (record key { named = record key.named { help = help } });
 })
 
 -- a word
@@ -158,20 +231,34 @@ pub word_known : {T : Type 0} (means : List ℕ → T → Type 0) (place : Posit
     {position : Position} → position ≡ place → {metavar : List ℕ}
     → IsKnownParser (word means place) (PositionalOutcome means position metavar) no_shorts
 word_known {T} means place is {metavar} =
-    rw is (record { law = λ env. positional_law env T means place metavar; shown = refl })
+    rw is (record {
+      law = λ env. positional_law env T means place metavar;
+      shown = refl;
+      keeps = by_laws (positional_lawful T means place metavar);
+      hands = positional_hands_on means place metavar;
+    })
 
 module _ {T : Type 0} {known : Grammar T} {outcome : Outcome T} {shorts : ShortNames}
     (is : IsKnownParser known outcome shorts) where
   -- a repeat
   pub many_known : {catch : Bool} → catch ≡ false
       → IsKnownParser (known_many known) (ManyOutcome outcome catch) shorts
-  many_known none = rw none (record { law = λ env. many_law (is.law env) false; shown = is.shown })
+  many_known none = rw none (record {
+    law = λ env. many_law (is.law env) false;
+    shown = is.shown;
+    keeps = by_laws (many_lawful is.keeps false);
+    hands = many_hands_on is.keeps is.hands false;
+  })
 
   -- what may be left out
   pub optional_known : {catch : Bool} → catch ≡ false
       → IsKnownParser (known_optional known) (TurnOutcome outcome catch true) shorts
-  optional_known none =
-      rw none (record { law = λ env. optional_law (is.law env) false; shown = is.shown })
+  optional_known none = rw none (record {
+    law = λ env. optional_law (is.law env) false;
+    shown = is.shown;
+    keeps = by_laws (optional_lawful is.keeps false);
+    hands = optional_hands_on is.hands false;
+  })
 
   -- what is this value where it is left out
   pub default_known : {clones : T → T → Type 0} → ((own v : T) → clones own v → v ≡ own)
@@ -181,4 +268,7 @@ module _ {T : Type 0} {known : Grammar T} {outcome : Outcome T} {shorts : ShortN
     law = λ env. narrower_form (no_more (λ s t r o. fallback_kept equal outcome value s r t o))
         (fallback_law (is.law env) IsKept value);
     shown = is.shown;
+    keeps = by_laws (fallback_lawful is.keeps (GivesClone clones value)
+        (λ context e gives. names_want context e.0 gives));
+    hands = default_hands_on is.hands clones value;
   })

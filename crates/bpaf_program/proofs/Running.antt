@@ -1,5 +1,5 @@
 -- A program that prints its answer runs to the texts that answer its words, or to a part of one.
-use Rattle.std.proofs.Common.{Ok, ◌≡◌, ℕ, Bool, List, Result, Err, string_bytes, codes, All, IfOk}
+use Rattle.std.proofs.Common.{inl, Ok, ◌≡◌, ℕ, Bool, List, Result, Err, string_bytes, codes, All, IfOk}
 use Rattle.std.proofs.Common.{IsUtf8, map, refl, slice_index_or, subst, sym, ap, ◌==◌, true, false}
 use Rattle.std.proofs.Common.{◌-◌, [], ◌∷◌, ◌++◌, Option, OnOk, OnErr, take, drop, length, ◌∙◌}
 use Rattle.std.proofs.KnownBytes.{Appends-trans, Appends-kept}
@@ -7,7 +7,7 @@ use Rattle.std.proofs.lemmas.List.{take_rest, take-append-drop}
 use Rattle.std.proofs.Common.{append_assoc, ◌<◌, ◌+◌, ◌||◌, not, ap₂, arith, drop-cons, get_or, suc}
 use Rattle.std.proofs.{lemmas.Str.IsUtf8-string_bytes, lemmas.List.Elements.All-map}
 use Rattle.std.specs.Io.KnownBytes.{Appends, Keeps}
-use Rattle.std.specs.{Result.IsErr, Result.IsErrAnd, declared.alloc.Global.Global, Prelude.String}
+use Rattle.std.specs.{Result.IfErr, Result.IsErr, Result.IsErrAnd, declared.alloc.Global.Global, Prelude.String}
 use Rattle.bpaf_doc.specs.{declared.doc.Piece.Piece, Print.printed}
 use Rattle.bpaf_line.specs.declared.failure.ParseFailure.{ParseFailure}
 use Rattle.bpaf_line.specs.declared.failure.ParseFailure.TheVariants.{Stdout, Stderr, Memory}
@@ -50,15 +50,23 @@ runs_to {answers} {out} {err} (told {f = f} is) answer = told_runs f is answer
     told_runs (Stderr doc) is answer = tells _ is.0 is.1
     told_runs Memory is answer = tells (codes "out of memory") is.0 is.1
 
--- a refusal that shows a page shows one, whatever it is
-page_answers : (said : List ℕ → Type 0) (f : ParseFailure) → AnswersText (OrPage said) (Err f)
-page_answers said f = grind arith
+module _ (said : List ℕ → Type 0) (page : List Piece → Bool → Type 0) where
+  -- a refusal that shows a page shows one of these
+  page_answers : (f : ParseFailure) → IfShown page f → AnswersText (OrPage said page) (Err f)
+  page_answers f is = grind arith
 
--- So it is with what is printed, whatever the page is.
-pub runs_to_said : (said : List ℕ → Type 0) {out err : Written}
-    {r : Result (String Global) ParseFailure} {status : ℕ} → IsPrinted out err string_bytes r status
-    → IfOk r (λ text. said (string_bytes text)) → RunsTo (OrPage said) out err status
-runs_to_said said = grind (arith, page_answers, runs_to)
+  -- so does an answer that is such a text or shows such a page
+  said_answers : (r : Result (String Global) ParseFailure)
+      → IfOk r (λ text. said (string_bytes text)) → IfErr r (IfShown page)
+      → AnswersText (OrPage said page) r
+  said_answers (Ok text) is shown = inl is
+  said_answers (Err f) is shown = page_answers f shown
+
+  -- what is printed of it runs to one of these
+  pub runs_to_said : {out err : Written} {r : Result (String Global) ParseFailure} {status : ℕ}
+      → IsPrinted out err string_bytes r status → IfOk r (λ text. said (string_bytes text))
+      → IfErr r (IfShown page) → RunsTo (OrPage said page) out err status
+  runs_to_said printed is shown = runs_to printed (said_answers _ is shown)
 
 -- where all values have the text of the answer, a run prints it, or tells that memory was wanted
 pub prints_text : {out err : Written} {V : Type 0} {value : V → Type 0} {text_of : V → List ℕ}
@@ -102,12 +110,14 @@ module _ {answers : List ℕ → Type 0} {V : Type 0} {value : V → Type 0} {te
     };
   }
 
--- so it is where any page may be shown
-pub refused_page : {said : List ℕ → Type 0} {V : Type 0} {value : V → Type 0}
-    {text_of : V → List ℕ} → Alike text_of value → {f : ParseFailure} → IsExactFor value (Err f)
+-- so it is where a refusal shows one of these pages
+pub refused_page : {said : List ℕ → Type 0} {page : List Piece → Bool → Type 0} {V : Type 0}
+    {value : V → Type 0} {text_of : V → List ℕ} → Alike text_of value → {f : ParseFailure}
+    → IfShown page f → IsExactFor value (Err f)
     → {r : Result (String Global) ParseFailure} → IsErr r × IsErrAnd r (λ g. g ≡ f)
-    → AnswersByText (OrPage said) value text_of r
-refused_page {said} alike {f} exact is = refused_text alike (page_answers said f) exact is
+    → AnswersByText (OrPage said page) value text_of r
+refused_page {said} {page} alike {f} shown exact is =
+    refused_text alike (page_answers said page f shown) exact is
 
 -- a value at the end of a run is the answer's, with nothing written
 pub ended_value : {T : Type 0} {out err : Written} {answer : Result T ParseFailure} {v : T}

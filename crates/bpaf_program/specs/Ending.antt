@@ -115,9 +115,10 @@ AnswersText answers (Err (Stdout doc full)) = answers (printed full doc)
 AnswersText answers (Err (Stderr doc)) = Unit {0}
 AnswersText answers (Err Memory) = Unit {0}
 
--- a text of this kind, or a page that is shown
-abbrev pub OrPage : (List ℕ → Type 0) → List ℕ → Type 0
-OrPage said text = said text ⊎ ((doc : List Piece) × (full : Bool) × (text ≡ printed full doc))
+-- a text of this kind, or that of one of these pages
+abbrev pub OrPage : (said : List ℕ → Type 0) → (page : List Piece → Bool → Type 0) → List ℕ → Type 0
+OrPage said page text =
+    said text ⊎ ((doc : List Piece) × (full : Bool) × page doc full × (text ≡ printed full doc))
 
 -- A program answers its words by one of these texts: by status 0 exactly one is written on `out`,
 -- and nothing on `err`; by status 1 a beginning of one, where a write failed, and nothing on `err`;

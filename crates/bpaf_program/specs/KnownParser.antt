@@ -5,9 +5,12 @@ use Rattle.std.specs.Prelude.{Result, Bool, false, Option, Some}
 use Rattle.std.specs.{declared.alloc.Global.Global, Global.Vec}
 use Rattle.bpaf_words.specs.{Arguments.Given, Line.Known, Line.ShortNames}
 use Rattle.bpaf_line.specs.declared.failure.ParseFailure.{ParseFailure}
-use Rattle.bpaf_laws.specs.Laws.{joined_shorts, no_shorts, of_arguments, of_flags}
-use Rattle.bpaf_laws.specs.{Reading.Outcome, Command.named_only}
+use Rattle.bpaf_doc.specs.{declared.doc.Piece.Piece, Shape.Shape}
+use Rattle.bpaf_laws.specs.Laws.{joined_shorts, no_shorts, of_arguments, of_flags, Lawful}
+use Rattle.bpaf_laws.specs.{Reading.Outcome, Reading.Readings, Command.named_only}
 use Rattle.bpaf.specs.{Info.plain_info, Info.RunInfo, Run.known_names}
+use Rattle.bpaf.specs.Asked.{BehindWord, HandsOn, OneShows, RunShows, Showing, WordsShow}
+use Rattle.bpaf.specs.Asked.{nothing_shown}
 use Rattle.bpaf_exact.specs.Flat.{Closure, map_closure, Variables, list_closure}
 use Rattle.bpaf_exact.specs.ProgramForm.{FormLaw}
 use Rattle.bpaf_record.specs.Grammar.{Grammar, alone, argument, both, choice, closed, command}
@@ -59,13 +62,47 @@ pub record IsExactFor {T : Type 0} (value : T → Type 0) (r : Result T ParseFai
   pub sound : IfOk r value
   pub complete : (v : T) → value v → IsValueOrWant value r
 
--- a parser is known: it keeps to the law of what it is made of, and shows the short names of that
+-- a page of any shape
+abbrev pub any_shape : Shape → Type 0
+any_shape shape = Unit {0}
+
+-- the pages that what is made so hands on: of each command the run behind its word was asked for
+-- its page, or a command inside was
+abbrev pub inner_pages : {T : Type 0} → Grammar T → Showing
+inner_pages (closed f g) = inner_pages g
+inner_pages (optional catch g) = inner_pages g
+inner_pages (fallback f g) = inner_pages g
+inner_pages (repeat catch f g) = inner_pages g
+inner_pages (choice g h) = OneShows (inner_pages g) (inner_pages h)
+inner_pages (command adjacent called info g) =
+    BehindWord called (RunShows any_shape info (inner_pages g))
+inner_pages (alone g) = inner_pages g
+inner_pages (both g h) = OneShows (inner_pages g) (inner_pages h)
+inner_pages (product f g) = inner_pages g
+inner_pages _ = nothing_shown
+
+-- the words ask for this page of a program that is made so and has such texts: for its own, or
+-- behind the word of a command for that of the command
+abbrev pub IsPageOf : {T : Type 0} → Grammar T → (texts : RunInfo → Type 0) → Given → List Piece
+    → Bool → Type 0
+IsPageOf made texts given doc full = (info : RunInfo) × texts info
+    × WordsShow (known_names info (shown_shorts made)) given
+    (RunShows any_shape info (inner_pages made)) doc full
+
+-- which places are read for a value isn't told
+abbrev pub any_places : {T : Type 0} → Readings T
+any_places context share v = Unit {0}
+
+-- a parser is known: it keeps to the law of what it is made of, shows the short names of that, and
+-- hands on no pages but those of its commands
 pub record IsKnownParser {T : Type 0} (made : Grammar T) (outcome : Outcome T)
     (shorts : ShortNames) : Type 0 where
   pub law : (variables : Variables)
       → FormLaw variables outcome (keys_of made true) (command_words made)
       (program_form made variables)
   pub shown : shorts ≡ shown_shorts made
+  pub keeps : Lawful T outcome any_places
+  pub hands : HandsOn (inner_pages made) outcome
 
 -- so are fields
 pub record AreKnownFields {T : Type 0} (made : Grammar T) (outcome : Outcome T)
@@ -73,6 +110,8 @@ pub record AreKnownFields {T : Type 0} (made : Grammar T) (outcome : Outcome T)
   pub law : (variables : Variables)
       → FormLaw variables outcome (keys_of made true) [] (program_form made variables)
   pub shown : shorts ≡ shown_shorts made
+  pub keeps : Lawful T outcome any_places
+  pub hands : HandsOn (inner_pages made) outcome
 
 -- a switch
 abbrev pub known_switch : Names → Grammar Bool
@@ -102,8 +141,9 @@ known_command word = command false (named_only word) plain_info
 abbrev pub known_con : {A B : Type 0} → (A → B) → Grammar A → Grammar B
 known_con make = product (makes make)
 
--- only the version and the texts of the help page are other
+-- only the version and the texts round the usage of the help page are other
 pub record HasOtherTexts (before after : RunInfo) : Type 0 where
+  pub usage : after.usage ≡ before.usage
   pub help_arg : after.help_arg ≡ before.help_arg
   pub version_arg : after.version_arg ≡ before.version_arg
   pub help_if_no_args : after.help_if_no_args ≡ before.help_if_no_args

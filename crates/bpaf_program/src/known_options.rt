@@ -21,11 +21,15 @@ pub trait KnownProgram<T> {
     ghost whole: { (variables : Variables) → is_program (program_form grammar variables) ≡ true };
 }
 
-/// Options whose parser is the one that a program knows, whatever functions it is made in. Each
-/// answer of their `run_program` is exact, for the values that the program's grammar has on the
-/// words' line, where the parser is known to be made so (`agrees`, `IsKnownParser`). So nothing is
-/// asked of what a parser tells of itself, and what was made before may be any parser to the
-/// function that it is handed to.
+/// Options whose parser is the one that a program knows, whatever functions it is made in. They may
+/// run only where the parser is known to be made as the program's grammar says (`IsKnownParser`),
+/// so a program with another grammar isn't proved. Then each answer of their `run_program` is
+/// exact, for the values that the grammar has on the words' line. Nothing is asked of what a parser
+/// tells of itself, and what was made before may be any parser to the function that it is handed
+/// to.
+///
+/// `is_program` is true, since the grammar is proved to be a program ([`KnownProgram`]); and of its
+/// fields the clause `fields` says no more than `exact` does.
 ///
 /// ```text
 /// let notes = KnownOptions { options: notes.to_options(alloc)?, program: NotesProgram {} };
@@ -46,10 +50,10 @@ impl<T: Drop, P: Parser<T>, K: KnownProgram<T>> CommandLine<T> for KnownOptions<
         true
     }
 
-    ghost can_run = { λ p. P.can_eval p.options.inner };
+    ghost can_run = { λ p. P.can_eval p.options.inner
+        × IsKnownParser K.grammar (P.outcome p.options.inner) (P.shorts p.options.inner) };
 
-    ghost agrees = { λ p.
-        IsKnownParser K.grammar (P.outcome p.options.inner) (P.shorts p.options.inner) };
+    ghost agrees = { λ p. Unit {0} };
 
     ghost answers = { λ p given. RunsWords T (P.outcome p.options.inner)
         (P.describes p.options.inner) p.options.info

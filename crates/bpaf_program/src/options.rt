@@ -3,6 +3,7 @@ ghost use Rattle.std.specs.{Prelude.◌≡◌, Prelude.IfOk, Prelude.true, Prelu
 ghost use Rattle.bpaf_words.specs.Arguments.{given_of, Given};
 ghost use Rattle.bpaf.specs.Run.{IsNotWant, RunsWords, IsDealtOut, known_names};
 ghost use Rattle.bpaf.specs.Refusals.{IsOneOfTwelve};
+ghost use Rattle.bpaf_laws.specs.Laws.{WithoutMemory};
 ghost use Rattle.bpaf_program.specs.Ending.{Ends, wrote};
 ghost use Rattle.bpaf_line.specs.declared.failure.ParseFailure.{ParseFailure};
 
@@ -43,7 +44,9 @@ impl<T: Drop, P: Parser<T>> Program<T> for OptionParser<T, P> {
         let known = known_names p.info (P.shorts p.inner) in
         RunsWords T (P.outcome p.inner) (P.describes p.inner) p.info known given r
         × (IfErr r (IsOneOfTwelve (P.outcome p.inner) (P.describes p.inner) p.info known given)
-        × IfOk r (IsDealtOut T (P.reads p.inner) known given)) };
+        × (IfOk r (IsDealtOut T (P.reads p.inner) known given)
+        × (IsNotWant r → RunsWords T (WithoutMemory (P.outcome p.inner)) (P.describes p.inner)
+        p.info known given r))) };
 
     fn run<S: Sink, E: Sink>(&self, args: Args<'_>, out: &mut S, err: &mut E) -> Result<T, u8> {
         end(self.run_inner(args), out, err)

@@ -154,13 +154,10 @@ module _ (names : Names) where
     keys_on = cut_kept (is_key_of names) value_is_no_key cut ∙ keys_first os
 
     -- A piece that begins with a key is spelled by one of the words before the first `--`,
-    pub piece_was_spelled : keyed (names ∷ []) os ≢ [] → WasSpelled names given.words
-    piece_was_spelled some = (
-      known,
-      item_spelled (is_key_of names) known given context on (λ text. refl)
-          (of_kept (is_key_of names) (present (line_cells context))
-          (λ none. some (map_none (keyed (names ∷ []) os) (sym keys_on ∙ none)))),
-    )
+    pub piece_was_spelled : keyed (names ∷ []) os ≢ [] → WasSpelled known names given.words
+    piece_was_spelled some = item_spelled (is_key_of names) known given context on (λ text. refl)
+        (of_kept (is_key_of names) (present (line_cells context))
+        (λ none. some (map_none (keyed (names ∷ []) os) (sym keys_on ∙ none))))
       where
         map_none : (ps : List LinePiece) → map first_item ps ≡ [] → ps ≡ []
         map_none [] e = refl
@@ -243,17 +240,19 @@ pub answer_says : {T : Type 0} {P Q : T → Type 0} (r : Result T ParseFailure) 
 answer_says x holds so = grind arith
 
 -- pieces that are a key's own on the words' line: with one, a word before the first `--` spells it
-pub record OwnOf (words : List (List ℕ)) (key : Names) (os : List LinePiece) : Type 0 where
-  pub spelled : os ≢ [] → WasSpelled key words
+pub record OwnOf (known : Known) (words : List (List ℕ)) (key : Names) (os : List LinePiece) : Type 0
+  where
+    pub spelled : os ≢ [] → WasSpelled known key words
 
-module _ {words : List (List ℕ)} {key : Names} {os : List LinePiece} (own : OwnOf words key os) where
+module _ {known : Known} {words : List (List ℕ)} {key : Names} {os : List LinePiece}
+    (own : OwnOf known words key os) where
   -- one of the words before the first `--` spells the key, by the names of a caller
   abbrev IsKeySpelled : Type 0
-  IsKeySpelled = (names : Names) → key ≡ names → WasSpelled names words
+  IsKeySpelled = (names : Names) → key ≡ names → WasSpelled known names words
 
   -- A key with a piece of its own was spelled.
   pub key_spelled : os ≢ [] → IsKeySpelled
-  key_spelled some names same = subst (λ z. WasSpelled z words) same (own.spelled some)
+  key_spelled some names same = subst (λ z. WasSpelled known z words) same (own.spelled some)
 
   -- So was that of a value that needs a piece,
   pub value_spelled : {A : Type 0} {inside : Said A} {x : A} → NeedsPiece inside
@@ -270,13 +269,13 @@ module _ {words : List (List ℕ)} {key : Names} {os : List LinePiece} (own : Ow
   pub switch_spelled : {present : Bool} {absent : Option Bool} {set : Option (List ℕ)} {b : Bool}
       → FlagSays (λ kept x. x ≡ kept) present absent set os b → absent ≡ Some false → set ≡ None
       → (names : Names) → key ≡ names → (switch : Bool) → switch ≡ b → switch ≡ true
-      → WasSpelled names words
+      → WasSpelled known names words
   switch_spelled x off unset names same switch value on = grind (arith, key_spelled)
 
   -- of a required flag that has its value then,
   pub flag_spelled : {A : Type 0} {clones : A → A → Type 0} {present : A} {absent : Option A}
       {set : Option (List ℕ)} {x : A} → FlagSays clones present absent set os x → absent ≡ None
-      → set ≡ None → (names : Names) → key ≡ names → clones present x × WasSpelled names words
+      → set ≡ None → (names : Names) → key ≡ names → clones present x × WasSpelled known names words
   flag_spelled x required unset names same = grind (arith, key_spelled)
 
   -- of an optional value that is Some,
@@ -297,32 +296,35 @@ module _ {words : List (List ℕ)} {key : Names} {os : List LinePiece} (own : Ow
 -- pieces are those of the line of words: those that begin with a key are its own, and where one of
 -- the words before the first `--` spells the key, whatever names are known, there is one
 pub record AreOfLine (known : Known) (words : List (List ℕ)) (os : List LinePiece) : Type 0 where
-  pub own : (key : Names) → OwnOf words key (keyed (key ∷ []) os)
+  pub own : (key : Names) → OwnOf known words key (keyed (key ∷ []) os)
   pub spelled : (key : Names) → All IsUtf8 words → IsSpelledByAny known.numbers key words
       → keyed (key ∷ []) os ≢ []
 
--- What a value says of the pieces of the line of words is told of these.
+-- What a value says of the pieces of the line of words is told of these, by the names that a caller
+-- knows.
 pub told_of_line : {T : Type 0} {known : Known} {form : ProgramForm T} {roles : Roles}
     {said : Said T} {given : Given} {v : T} {Q : Type 0}
-    → TellsOfWords known form (CutSays roles said) given v → (words : List (List ℕ))
-    → given.words ≡ words → ((os : List LinePiece) → AreOfLine known words os → said os v → Q) → Q
-told_of_line {known = known} {given = given} told words same so =
+    → TellsOfWords known form (CutSays roles said) given v → (by : Known) → known ≡ by
+    → (words : List (List ℕ)) → given.words ≡ words
+    → ((os : List LinePiece) → AreOfLine by words os → said os v → Q) → Q
+told_of_line {known = known} {given = given} told by is words same so =
     let line = told.is_value in
     let cut = told.told in
-    so cut.cut_into (record {
+    let own : AreOfLine known words cut.cut_into = record {
       own = λ key. record {
-        spelled = λ some. subst (WasSpelled key) same (piece_was_spelled key known given
+        spelled = λ some. subst (WasSpelled known key) same (piece_was_spelled key known given
             line.context line.on_line _ cut.cut_into cut.cut some);
       };
       spelled = λ key texts spelled. spelled_has_piece key known given line.context line.on_line _
           cut.cut_into cut.cut (subst (All IsUtf8) (sym same) texts)
           (subst (λ ws. IsSpelledByAny known.numbers key ws) (sym same) spelled);
-    }) cut.told
+    } in
+    so cut.cut_into (subst (λ names. AreOfLine names words cut.cut_into) is own) cut.told
 
 module _ {known : Known} {words : List (List ℕ)} {os : List LinePiece}
     (line : AreOfLine known words os) where
   -- Those of them that begin with a key are its own.
-  pub of_line : {key : Names} → OwnOf words key (keyed (key ∷ []) os)
+  pub of_line : {key : Names} → OwnOf known words key (keyed (key ∷ []) os)
   of_line {key} = line.own key
 
   -- what follows where a word before the first `--` spells the key, whatever names are known
@@ -441,15 +443,15 @@ pub record LeftOfLine (known : Known) (given : Given) (words : List (List ℕ)) 
     pub on_line : IsContext known given context
     pub left : IsLeft cs (line_cells context)
 
--- Of what a value of a program is told, all of the line is left.
+-- Of what a value of a program is told, all of the line is left, by the names that a caller knows.
 pub told_line : {T : Type 0} {known : Known} {form : ProgramForm T} {said : CellsValue T}
-    {given : Given} {v : T} → (told : TellsOfWords known form said given v)
-    → (words : List (List ℕ)) → given.words ≡ words
-    → LeftOfLine known given words (line_cells told.is_value.context)
-told_line told words are = record {
+    {given : Given} {v : T} → (told : TellsOfWords known form said given v) → (by : Known)
+    → known ≡ by → (words : List (List ℕ)) → given.words ≡ words
+    → LeftOfLine by given words (line_cells told.is_value.context)
+told_line {given = given} told by is words are = record {
   are = are;
   context = told.is_value.context;
-  on_line = told.is_value.on_line;
+  on_line = subst (λ names. IsContext names given told.is_value.context) is told.is_value.on_line;
   left = all_left;
 }
 
@@ -467,24 +469,20 @@ module _ {known : Known} {given : Given} {words : List (List ℕ)} {cs : Cells}
 
   -- The pieces of a named field are its key's own there.
   pub of_field : {key : Names} {q : Roles} → Owns q (key ∷ []) → {os : List LinePiece}
-      {left : Cells} → Takes q cs os left → OwnOf words key os
+      {left : Cells} → Takes q cs os left → OwnOf known words key os
   of_field {key} owns taken = record {
-    spelled = λ some. subst (WasSpelled key) line.are (
-      known,
-      item_spelled (is_key_of key) known given line.context line.on_line (λ text. refl)
-          (kept_on (is_key_of key) line.left (owned_on key owns taken some)),
-    );
+    spelled = λ some. subst (WasSpelled known key) line.are
+        (item_spelled (is_key_of key) known given line.context line.on_line (λ text. refl)
+        (kept_on (is_key_of key) line.left (owned_on key owns taken some)));
   }
 
   -- The word of a command that opens what is left was spelled.
   pub command_called : {opens : List (List ℕ)} {behind : Cells} → Opens opens cs behind
-      → (names : List (List ℕ)) → opens ≡ names → WasCalled names words
+      → (names : List (List ℕ)) → opens ≡ names → WasCalled known names words
   command_called {opens} opened names same =
-      subst (WasCalled names) line.are (subst (λ those. WasCalled those given.words) same (
-        known,
-        item_spelled (is_one_of opens) known given line.context line.on_line (none_behind opens)
-            (kept_on (is_one_of opens) line.left (opens_on opens opened)),
-      ))
+      subst (WasCalled known names) line.are (subst (λ those. WasCalled known those given.words) same
+      (item_spelled (is_one_of opens) known given line.context line.on_line (none_behind opens)
+      (kept_on (is_one_of opens) line.left (opens_on opens opened))))
     where
       none_behind : (words : List (List ℕ)) (text : List ℕ) → is_one_of words (PosWord text) ≡ false
       none_behind [] text = refl

@@ -117,22 +117,19 @@ pub record IsSpelledItem (known : Known) (test : Arg → Bool) (words : List (Li
     pub before : Contains (words_before words) word
     pub spells : SpellsItem known test word
 
--- one of them spells a key with one of these names
-abbrev pub IsSpelled : Known → Names → List (List ℕ) → Type 0
-IsSpelled known names words = IsSpelledItem known (is_key_of names) words
-
--- so it does by the names that some parser knows
-abbrev pub WasSpelled : Names → List (List ℕ) → Type 0
-WasSpelled names words = (known : Known) × IsSpelled known names words
+-- one of them spells a key with one of these names, by what a program knows
+abbrev pub WasSpelled : Known → Names → List (List ℕ) → Type 0
+WasSpelled known names words = IsSpelledItem known (is_key_of names) words
 
 -- one of them does whatever short names are known, where a negative number is a word or isn't
 abbrev pub IsSpelledByAny : (numbers : Bool) → Names → List (List ℕ) → Type 0
 IsSpelledByAny numbers names words =
-    (known : ShortNames) → IsSpelled (known_at numbers known) names words
+    (known : ShortNames) → WasSpelled (known_at numbers known) names words
 
--- one of the words before the first `--` spells a word that opens a command of these words
-abbrev pub WasCalled : List (List ℕ) → List (List ℕ) → Type 0
-WasCalled opening words = (known : Known) × IsSpelledItem known (is_one_of opening) words
+-- one of the words before the first `--` spells a word that opens a command of these words, by what
+-- a program knows
+abbrev pub WasCalled : Known → List (List ℕ) → List (List ℕ) → Type 0
+WasCalled known opening words = IsSpelledItem known (is_one_of opening) words
 
 -- none of the short names is one of the others
 abbrev pub has_no_short : List ℕ → List ℕ → Bool

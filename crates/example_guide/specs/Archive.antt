@@ -2,6 +2,7 @@
 use Rattle.std.specs.Prelude.{◌≡◌, ◌≢◌, true, ℕ, List, [], ◌∷◌, codes, IsSome, None}
 use Rattle.std.specs.List.{Contains}
 use Rattle.bpaf_doc.specs.Names.{Names}
+use Rattle.bpaf_words.specs.Line.{Known, knowing}
 use Rattle.bpaf.specs.Marker.{words_before}
 use Rattle.bpaf_record.specs.Record.{WasSpelled}
 use Rattle.bpaf_program.specs.Fields.{plain_argument, plain_flag, plain_switch}
@@ -54,19 +55,23 @@ pub record AreKnown (keys : Keys) : Type 0 where
   pub verbose : keys.verbose ≡ plain_flag verbose tt None
   pub quiet : keys.quiet ≡ plain_switch quiet
 
+-- the names by which words are read: those of its keys, of help and of the version
+abbrev pub archive_known : Known
+archive_known = knowing (record { flags = codes "avqhV"; arguments = codes "orljx" })
+
 -- one of the words before the first `--` is this one
 abbrev pub IsTyped : List ℕ → List (List ℕ) → Type 0
 IsTyped word words = Contains (words_before words) word
 
 -- what it has was spelled, and what was spelled it has
 pub record SaysOf (words : List (List ℕ)) (archive : Archive) : Type 0 where
-  pub agreed : (archive.agreed ≡ true) × WasSpelled agree words
-  pub out : WasSpelled out words
-  pub root : WasSpelled root words
-  pub level : IsSome archive.level → WasSpelled level words
-  pub jobs : archive.jobs ≢ 1 → WasSpelled jobs words
-  pub without : archive.without.items ≢ [] → WasSpelled without words
-  pub verbose : archive.verbose ≢ 0 → WasSpelled verbose words
+  pub agreed : (archive.agreed ≡ true) × WasSpelled archive_known agree words
+  pub out : WasSpelled archive_known out words
+  pub root : WasSpelled archive_known root words
+  pub level : IsSome archive.level → WasSpelled archive_known level words
+  pub jobs : archive.jobs ≢ 1 → WasSpelled archive_known jobs words
+  pub without : archive.without.items ≢ [] → WasSpelled archive_known without words
+  pub verbose : archive.verbose ≢ 0 → WasSpelled archive_known verbose words
   pub has_level : IsTyped (codes "--level") words → IsSome archive.level
   pub has_without : IsTyped (codes "--without") words → archive.without.items ≢ []
   pub is_quiet : IsTyped (codes "-q") words → archive.quiet ≡ true

@@ -2,7 +2,7 @@
 //! of the commands was spelled and the command's word stands there.
 ghost use Rattle.std.specs.Prelude.{◌≡◌, [], ◌∷◌, true, IfOk, codes, map, string_bytes};
 ghost use Rattle.bpaf_record.specs.Record.{WasCalled, WasSpelled};
-ghost use Rattle.example_guide.specs.{Clean.IsRemoval, Remove.force_names};
+ghost use Rattle.example_guide.specs.{Clean.IsRemoval, Clean.cleaning_known, Remove.force_names};
 
 use bpaf::{Args, ParseFailure, Parser, construct, positional, short};
 use bpaf_program::{key, plain_command};
@@ -30,9 +30,9 @@ pub enum Task {
 /// are removed only where one is `remove`.
 pub fn read_cleaning(alloc: Global, words: &[String]) -> Result<Cleaning, ParseFailure>
     ensures forced { IfOk result (λ cleaning.
-        cleaning.force ≡ true → WasSpelled force_names (map string_bytes words.now)) }
+        cleaning.force ≡ true → WasSpelled cleaning_known force_names (map string_bytes words.now)) }
     ensures called { IfOk result (λ cleaning. IsRemoval cleaning.task
-        → WasCalled (codes "remove" ∷ []) (map string_bytes words.now)) }
+        → WasCalled cleaning_known (codes "remove" ∷ []) (map string_bytes words.now)) }
 {
     let long = short(alloc, 'l')?.switch();
     let list = plain_command(alloc, "list", construct!(Task::List { long }))?;

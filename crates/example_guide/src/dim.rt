@@ -2,7 +2,7 @@
 //! decide.
 ghost use Rattle.std.specs.Prelude.{◌<◌, ◌≤◌, IfOk, map, string_bytes};
 ghost use Rattle.bpaf_record.specs.Record.{WasSpelled};
-ghost use Rattle.example_guide.specs.Dim.{percent_names};
+ghost use Rattle.example_guide.specs.Dim.{dimming_known, percent_names};
 
 use bpaf::{Args, ParseFailure, Parser, construct, short};
 use bpaf_program::key;
@@ -20,7 +20,7 @@ pub struct Dimming {
 /// The dimming that the words tell: only where one of those before the first `--` spells `-p` or
 /// `--percent`, and to 100 percent at most, but not to none.
 pub fn read_dimming(alloc: Global, words: &[String]) -> Result<Dimming, ParseFailure>
-    ensures { IfOk result (λ dimming. WasSpelled percent_names (map string_bytes words.now)
+    ensures { IfOk result (λ dimming. WasSpelled dimming_known percent_names (map string_bytes words.now)
         × (0 < dimming.percent) × (dimming.percent ≤ 100)) }
 {
     let percent = key(alloc, 'p', "percent")?.argument::<u64>("NUM");

@@ -1,10 +1,11 @@
 //! What a `head` tells: each file, as by bytes only where `-c` or `--bytes` was spelled, which is
 //! proved from its words to its bytes.
-ghost use Rattle.std.specs.Prelude.{◌≡◌, IfOk, IsSome, codes, map, string_bytes};
-ghost use Rattle.bpaf_program.specs.Fields.{plain_argument};
+ghost use Rattle.std.specs.Result.{IfErr};
+ghost use Rattle.bpaf.specs.Asked.{IfShown};
+ghost use Rattle.std.specs.Prelude.{None, ◌≡◌, IfOk, IsSome, codes, map, string_bytes};
 ghost use Rattle.bpaf_program.specs.Ending.{OrPage, RunsTo, wrote};
 ghost use Rattle.bpaf_record.specs.Record.{WasSpelled};
-ghost use Rattle.example_guide.specs.Head.{IsHeadText, bytes_names};
+ghost use Rattle.example_guide.specs.Head.{IsHeadPage, IsHeadText, bytes_key, bytes_names, head_known};
 
 use bpaf::params::ParseArgument;
 use bpaf::{Args, ParseFailure, Parser, construct, positional};
@@ -22,8 +23,9 @@ pub struct Head {
 /// What the words ask for. Bytes are counted only where one of the words before the first `--`
 /// spells `-c` or `--bytes`.
 pub fn read_head(alloc: Global, words: &[String]) -> Result<Head, ParseFailure>
-    ensures { IfOk result (λ head.
-        IsSome head.bytes → WasSpelled bytes_names (map string_bytes words.now)) }
+    ensures by_bytes { IfOk result (λ head. IsSome head.bytes
+        → WasSpelled head_known bytes_names (map string_bytes words.now)) }
+    ensures page { IfErr result (IfShown (IsHeadPage (map string_bytes words.now))) }
 {
     let bytes = bytes(alloc)?.optional();
     let files = positional::<String>("FILE").many();
@@ -33,7 +35,7 @@ pub fn read_head(alloc: Global, words: &[String]) -> Result<Head, ParseFailure>
 
 /// The key behind which the number of bytes stands; refused only for want of memory.
 fn bytes(alloc: Global) -> Result<ParseArgument<u64>, AllocError>
-    ensures { IfOk result (λ bytes. bytes ≡ plain_argument bytes_names (codes "N")) }
+    ensures { IfOk result (λ bytes. bytes ≡ bytes_key) }
 {
     Ok(key(alloc, 'c', "bytes")?.argument::<u64>("N"))
 }
@@ -41,16 +43,17 @@ fn bytes(alloc: Global) -> Result<ParseArgument<u64>, AllocError>
 /// Runs the program on its words and gives its status. Its files are printed a line each, as
 /// `by bytes: FILE` only where `-c` or `--bytes` was spelled, else as `by lines: FILE`.
 pub fn run<S: Sink, E: Sink>(alloc: Global, words: &[String], out: &mut S, err: &mut E) -> u8
-    ensures { RunsTo (OrPage (IsHeadText (map string_bytes words.now)))
-        (wrote S.known out.old out.new) (wrote E.known err.old err.new) result }
+    ensures { RunsTo (OrPage (IsHeadText (map string_bytes words.now))
+        (IsHeadPage (map string_bytes words.now))) (wrote S.known out.old out.new) (wrote E.known err.old err.new) result }
 {
     print(lines_of(alloc, words), out, err)
 }
 
 /// The lines that the words ask for; refused where they ask for none.
 fn lines_of(alloc: Global, words: &[String]) -> Result<String, ParseFailure>
-    ensures { IfOk result (λ text.
+    ensures lines { IfOk result (λ text.
         IsHeadText (map string_bytes words.now) (string_bytes text)) }
+    ensures page { IfErr result (IfShown (IsHeadPage (map string_bytes words.now))) }
 {
     let head = read_head(alloc, words)?;
     let mut text = String::new(alloc);
@@ -60,7 +63,8 @@ fn lines_of(alloc: Global, words: &[String]) -> Result<String, ParseFailure>
 
 /// What is told of each file.
 fn told(bytes: Option<u64>) -> &'static str
-    ensures { result.now ≡ codes "by bytes: " → IsSome bytes }
+    ensures by_bytes { IsSome bytes → result.now ≡ codes "by bytes: " }
+    ensures by_lines { bytes ≡ None → result.now ≡ codes "by lines: " }
 {
     match bytes {
         Some(_) => "by bytes: ",

@@ -1,10 +1,13 @@
 //! A remover, of which it is proved, from its words to its bytes, that it tells of no file as
 //! removed unless its key was spelled.
-ghost use Rattle.std.specs.Prelude.{◌≡◌, true, IfOk, codes, map, string_bytes};
+ghost use Rattle.std.specs.Result.{IfErr};
+ghost use Rattle.bpaf.specs.Asked.{IfShown};
+ghost use Rattle.std.specs.Prelude.{if◌then◌else◌, ◌≡◌, true, IfOk, codes, map, string_bytes};
 ghost use Rattle.bpaf_program.specs.Ending.{OrPage, RunsTo, wrote};
 ghost use Rattle.bpaf_program.specs.KnownParser.{HasOtherTexts};
 ghost use Rattle.bpaf_record.specs.Record.{WasSpelled};
-ghost use Rattle.example_guide.specs.Remove.{IsRemovalText, force_names};
+ghost use Rattle.example_guide.specs.Remove.{IsRemovalPage, IsRemovalText, force_names};
+ghost use Rattle.example_guide.specs.Remove.{removal_known};
 
 use bpaf::{Args, OptionParser, ParseFailure, Parser, construct, positional, short};
 use bpaf_program::{Sink, key, print, push_lines};
@@ -22,8 +25,9 @@ pub struct Removal {
 /// The removal that the words tell. It is forced only where one of the words before the first `--`
 /// spells `-f` or `--force`, alone or among joined letters.
 pub fn read_removal(alloc: Global, words: &[String]) -> Result<Removal, ParseFailure>
-    ensures { IfOk result (λ removal.
-        removal.force ≡ true → WasSpelled force_names (map string_bytes words.now)) }
+    ensures forced { IfOk result (λ removal. removal.force ≡ true
+        → WasSpelled removal_known force_names (map string_bytes words.now)) }
+    ensures page { IfErr result (IfShown (IsRemovalPage (map string_bytes words.now))) }
 {
     let depth = short(alloc, 'd')?.argument::<u64>("N").optional();
     let force = key(alloc, 'f', "force")?.switch();
@@ -53,16 +57,17 @@ fn with_texts<T, P: Drop>(options: OptionParser<T, P>) -> Result<OptionParser<T,
 /// Runs the remover on its words and gives its status. Its files are printed a line each, as
 /// `removed: FILE` only where `-f` or `--force` was spelled, else as `kept: FILE`.
 pub fn run<S: Sink, E: Sink>(alloc: Global, words: &[String], out: &mut S, err: &mut E) -> u8
-    ensures { RunsTo (OrPage (IsRemovalText (map string_bytes words.now)))
-        (wrote S.known out.old out.new) (wrote E.known err.old err.new) result }
+    ensures { RunsTo (OrPage (IsRemovalText (map string_bytes words.now))
+        (IsRemovalPage (map string_bytes words.now))) (wrote S.known out.old out.new) (wrote E.known err.old err.new) result }
 {
     print(lines_of(alloc, words), out, err)
 }
 
 /// The lines of the removal that the words tell; refused where they tell none.
 fn lines_of(alloc: Global, words: &[String]) -> Result<String, ParseFailure>
-    ensures { IfOk result (λ text.
+    ensures lines { IfOk result (λ text.
         IsRemovalText (map string_bytes words.now) (string_bytes text)) }
+    ensures page { IfErr result (IfShown (IsRemovalPage (map string_bytes words.now))) }
 {
     let removal = read_removal(alloc, words)?;
     let mut text = String::new(alloc);
@@ -72,7 +77,7 @@ fn lines_of(alloc: Global, words: &[String]) -> Result<String, ParseFailure>
 
 /// What is told of each file.
 fn told(force: bool) -> &'static str
-    ensures { result.now ≡ codes "removed: " → force ≡ true }
+    ensures { result.now ≡ (if force then codes "removed: " else codes "kept: ") }
 {
     if force { "removed: " } else { "kept: " }
 }

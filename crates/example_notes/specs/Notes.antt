@@ -1,16 +1,18 @@
 -- The program: its keys, its commands, its values on words, the lines of these, and what a run
 -- does.
-use Rattle.std.specs.Prelude.{ℕ, List, [], ◌++◌, Option, Some, None, map, codes, option_map}
+use Rattle.std.specs.Prelude.{◌≡◌, ℕ, List, [], ◌++◌, Option, Some, None, map, codes, option_map}
 use Rattle.std.specs.Prelude.{string_bytes, Bool, ◌∷◌, Result}
 use Rattle.std.specs.{Fmt.decimal, Global.Vec}
 use Rattle.bpaf_program.specs.Ending.{line, line_each, truth, AnswersByText, IsTextOf, OrPage}
 use Rattle.bpaf_program.specs.KnownParser.{known_command, known_con, known_default, known_many}
 use Rattle.bpaf_program.specs.KnownParser.{known_map, known_optional, known_switch, IsExactFor}
-use Rattle.bpaf_program.specs.KnownParser.{IsValueBy, MeansText, String}
+use Rattle.bpaf_program.specs.KnownParser.{IsPageOf, IsValueBy, MeansText, String}
 use Rattle.bpaf_program.specs.Fields.{plain_argument}
 use Rattle.example_notes.specs.declared.options.Notes.{Notes}
 use Rattle.example_notes.specs.{declared.options.Tag.Tag, declared.options.Task.Task}
-use Rattle.bpaf_doc.specs.Names.{Names}
+use Rattle.bpaf_doc.specs.{declared.doc.Piece.Piece, Names.Names}
+use Rattle.std.specs.Result.{IfErr}
+use Rattle.bpaf.specs.{Asked.IfShown, Info.plain_info}
 use Rattle.bpaf_text.specs.{Meaning.SpellsUnsigned, Named.KeyWithValue}
 use Rattle.bpaf_words.specs.Arguments.{Given}
 use Rattle.bpaf_line.specs.declared.failure.ParseFailure.{ParseFailure}
@@ -159,14 +161,24 @@ program_given words = record { words = words; env = []; name = Some (codes "note
 abbrev pub IsNotesOf : List (List ℕ) → Notes → Type 0
 IsNotesOf words = IsValueBy notes_parser (program_given words)
 
--- an answer is exact: notes only if a value there; where there is one, one, or want of memory
+-- the words ask for this page: the program's own, or behind a command's word that of the command
+abbrev pub IsNotesPage : (words : List (List ℕ)) → List Piece → Bool → Type 0
+IsNotesPage words =
+    IsPageOf notes_parser (λ info. info ≡ plain_info) (program_given words)
+
+-- an answer is exact: notes only if a value there; where there is one, one, or want of memory; and
+-- a page that is shown is one that the words ask for
 abbrev pub AnswersNotes : List (List ℕ) → Result Notes ParseFailure → Type 0
-AnswersNotes words = IsExactFor (IsNotesOf words)
+AnswersNotes words r = IsExactFor (IsNotesOf words) r × IfErr r (IfShown (IsNotesPage words))
 
 -- a text is the lines of a value of the program on words
 abbrev pub AreLinesOf : (words : List (List ℕ)) (text : List ℕ) → Type 0
 AreLinesOf words = IsTextOf (IsNotesOf words) lines
 
--- an answer is the lines of a value, or a page; where there is one, its lines, or want of memory
+-- a text answers the words: it is such lines, or a page that they ask for
+abbrev pub Answers : (words : List (List ℕ)) → List ℕ → Type 0
+Answers words = OrPage (AreLinesOf words) (IsNotesPage words)
+
+-- an answer is such a text; where there is a value, its lines, or want of memory
 abbrev pub AnswersLines : List (List ℕ) → Result String ParseFailure → Type 0
-AnswersLines words = AnswersByText (OrPage (AreLinesOf words)) (IsNotesOf words) lines
+AnswersLines words = AnswersByText (Answers words) (IsNotesOf words) lines

@@ -2,7 +2,7 @@ use Rattle.std.proofs.Common.{rules, map, string_bytes}
 use Rattle.bpaf_exact.proofs.OneView.{argument_one, closed_one, closure_agrees, number_one}
 use Rattle.bpaf_exact.proofs.Says.{argument_needs, made_needs}
 use Rattle.bpaf_record.proofs.Answered.{answer_says, of_line, value_spelled, told_of_line}
-use Rattle.example_guide.specs.Dim.{percent_names}
+use Rattle.example_guide.specs.Dim.{dimming_known, percent_names}
 use Rattle.example_guide.proofs.dim.read_dimming.Goals as goal
 
 pub returns : goal.returns
@@ -28,7 +28,7 @@ returns c =
         (tt, λ v fault made refused. search rules),
       ),
     ))
-    (λ dimming told. told_of_line told (map string_bytes c.args.words.now) (search rules)
+    (λ dimming told. told_of_line told dimming_known (search rules) (map string_bytes c.args.words.now) (search rules)
     (λ os line said. let percent = said.fields.0 in (
       value_spelled (of_line line) (made_needs (made_needs (argument_needs (search rules)))) percent
           percent_names (search rules),

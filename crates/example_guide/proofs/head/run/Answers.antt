@@ -2,4 +2,5 @@ use Rattle.bpaf_program.proofs.Running.{runs_to_said}
 use Rattle.example_guide.proofs.head.run.Goals as goal
 
 pub returns : goal.returns
-returns g c = runs_to_said _ c.print.ensures c.lines_of.ensures
+returns g c =
+    runs_to_said _ _ c.print.ensures c.lines_of.ensures.lines c.lines_of.ensures.page

@@ -5,9 +5,10 @@ use Rattle.example_notes.proofs.print.lines_of.Goals as goal
 
 pub returns-in_err-notes : goal.returns-in_err-notes
 returns-in_err-notes c =
-    of.refused_page (same_lines c.args.words.now) c.in_err-notes.ensures c.from_residual.ensures
+    let refused = c.in_err-notes.ensures in
+    of.refused_page (same_lines c.args.words.now) refused.1 refused.0 c.from_residual.ensures
 
 pub returns : goal.returns
 returns c =
-    let read = c.in_ok-notes.ensures in
+    let read = c.in_ok-notes.ensures.0 in
     of.given_text (same_lines c.args.words.now) (inl (_, read.sound, refl)) read _ c.text_of.ensures

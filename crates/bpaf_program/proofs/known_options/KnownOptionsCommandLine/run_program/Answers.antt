@@ -5,7 +5,8 @@ use Rattle.bpaf_program.specs.KnownParser.{shown_shorts}
 use Rattle.bpaf_program.proofs.known_options.KnownOptionsCommandLine.run_program.Goals as goal
 
 pub returns-clause-each_exact : goal.returns-clause-each_exact
-returns-clause-each_exact g c known r o =
+returns-clause-each_exact g c agrees r o =
+    let known = c.requires.can.1 in
     let parser = c.args.self.now.options.inner in
     let grammar = g.K.KnownProgram.grammar in
     let given = given_of c.args.args in
@@ -14,7 +15,7 @@ returns-clause-each_exact g c known r o =
     (known.law given.env) (g.K.KnownProgram.whole given.env) r (rw known.shown at o)
 
 pub returns-clause-exact : goal.returns-clause-exact
-returns-clause-exact g c known = returns-clause-each_exact g c known _ c.run_inner.ensures.outcome
+returns-clause-exact g c agrees = returns-clause-each_exact g c agrees _ c.run_inner.ensures.outcome
 
 pub returns-clause-fields : goal.returns-clause-fields
-returns-clause-fields g c known = (returns-clause-exact g c known).sound
+returns-clause-fields g c agrees = (returns-clause-exact g c agrees).sound
