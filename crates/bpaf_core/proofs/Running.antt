@@ -25,6 +25,7 @@ use Rattle.bpaf_core.specs.Ending.{EndsRun, TellsNoLine, EndsRefused, PassesOrTe
 use Rattle.bpaf_core.specs.Ending.{Tells, is_shown, memory, passed_on, refused, usage, Shows}
 use Rattle.bpaf_core.specs.Run.{value, IsDealtOut}
 use Rattle.bpaf_core.specs.Ending.{shows_help_page, leftover_is_told}
+use Rattle.bpaf_messages.specs.Leftover.{IsLeftover, conflict, not_expected, only_once}
 use Rattle.bpaf_core.specs.Refusals.{IsOneOfTwelve, without_memory, FailsAs, IsToldOf}
 use mathlib.Core.Path.{fun_ext}
 use Rattle.bpaf_line.proofs.Sound.{taken_at_beginning}
@@ -165,6 +166,12 @@ module _ {T : Type 0} {inner : Outcome T} {reads : Readings T} {describes : Shap
 
 -- Each refusal of a run is one of the twelve.
 
+-- what is told of an item that is left isn't want of memory
+leftover_spared : (s : Situation) (m : Message) → IsLeftover s m → is_memory m ≡ false
+leftover_spared s m (conflict p winner next noted) = refl
+leftover_spared s m (only_once p earlier next unnoted key) = refl
+leftover_spared s m (not_expected p next unnoted none) = refl
+
 module _ {T : Type 0} (inner : Outcome T) (describes : Shape → Type 0) (info : RunInfo) where
   module _ (s : Situation) where
     -- a failure that has one of the twelve names
@@ -175,18 +182,6 @@ module _ {T : Type 0} (inner : Outcome T) (describes : Shape → Type 0) (info :
     wanting_is_named : IsAnyNamed failure.Memory
     wanting_is_named = (names.no_memory, name.wanting)
 
-    -- so has what was asked for
-    asked_is_named : (r : Result T Error) (asked : ExtraParams) (left seen : Situation)
-        (f : ParseFailure) → inner s r left → ExtraOutcome info left (Ok asked) seen
-        → Shows describes info asked seen f → IsAnyNamed f
-    asked_is_named r asked left seen failure.Memory came looked shows = wanting_is_named
-    asked_is_named r asked left seen (failure.Stdout doc full) came looked shows =
-        (names.help_or_version, name.asked_for r asked left seen doc full came looked shows)
-    asked_is_named r (extra.Help more) left seen (failure.Stderr doc) came looked shows =
-        absurd shows
-    asked_is_named r (extra.Version text) left seen (failure.Stderr doc) came looked shows =
-        absurd shows
-
     -- and help where nothing was there to read
     usage_is_named : (e : Error) (left : Situation) (f : ParseFailure) → inner s (Err e) left
         → shows_help_page info e.0 s ≡ true → ShowsHelp describes info false left f → IsAnyNamed f
@@ -195,8 +190,20 @@ module _ {T : Type 0} (inner : Outcome T) (describes : Shape → Type 0) (info :
         (names.help_or_version, name.nothing_to_read e left doc full came wanted shows)
     usage_is_named e left (failure.Stderr doc) came wanted shows = absurd shows
 
-    module _ (m : Message) (left : Situation) (plain : is_answer m ≡ false)
-        (is_told : IsToldOf inner s m left) where
+    module _ (m : Message) (left : Situation) (spared : is_memory m ≡ false)
+        (plain : is_answer m ≡ false) (is_told : IsToldOf inner s m left) where
+      -- so has what was asked for
+      asked_is_named : (asked : ExtraParams) (seen : Situation) (f : ParseFailure)
+          → ExtraOutcome info left (Ok asked) seen → Shows describes info asked seen f
+          → IsAnyNamed f
+      asked_is_named asked seen failure.Memory looked shows = wanting_is_named
+      asked_is_named asked seen (failure.Stdout doc full) looked shows = (
+        names.help_or_version,
+        name.asked_for m asked left seen doc full is_told spared plain looked shows,
+      )
+      asked_is_named (extra.Help more) seen (failure.Stderr doc) looked shows = absurd shows
+      asked_is_named (extra.Version text) seen (failure.Stderr doc) looked shows = absurd shows
+
       -- what is told of a message has its name
       told_is_named : (e : Error) (t : Situation) (f : ParseFailure)
           → ExtraOutcome info left (Err e) t → is_memory e.0 ≡ false → Renders m t f → IsAnyNamed f
@@ -208,13 +215,13 @@ module _ {T : Type 0} (inner : Outcome T) (describes : Shape → Type 0) (info :
           (named.0, name.told named.0 m left t e doc is_told unasked spared named.1 tells)
 
       -- whatever is told of it has a name
-      tells_is_named : (r : Result T Error) (f : ParseFailure) (t : Situation) → inner s r left
-          → Tells describes info m left f t → IsAnyNamed f
-      tells_is_named r f t came (ending.shown asked given after looked shows) =
-          asked_is_named r asked left t f came looked shows
-      tells_is_named r f t came (ending.told e given after looked spared tells) =
-          told_is_named e t f looked spared tells
-      tells_is_named r f t came (ending.wanting e after looked is) = wanting_is_named
+      tells_is_named : (f : ParseFailure) (t : Situation) → Tells describes info m left f t
+          → IsAnyNamed f
+      tells_is_named f t (ending.shown asked given after looked shows) =
+          asked_is_named asked t f looked shows
+      tells_is_named f t (ending.told e given after looked unasked tells) =
+          told_is_named e t f looked unasked tells
+      tells_is_named f t (ending.wanting e after looked is) = wanting_is_named
 
     -- a refusal of the parser ends with one of the twelve, where an answer that it hands on has one
     refused_is_named : (m : Message) (e : Error) (left : Situation) (f : ParseFailure)
@@ -229,14 +236,14 @@ module _ {T : Type 0} (inner : Outcome T) (describes : Shape → Type 0) (info :
         (answers.0, name.handed_on answers.0 e left f came is answers.1)
     refused_is_named m e left f t came is answers
         (ending.refused other before middle given after spared none plain tells) =
-        tells_is_named m left plain (name.refusal e left came is) (Err e) f t came tells
+        tells_is_named m left spared plain (name.refusal e left came is) f t tells
 
     -- items that were left end with one of the twelve
     left_is_named : (v : T) (left : Situation) (f : ParseFailure) (t : Situation)
         → inner s (Ok v) left → EndsRun describes info None s left f t → IsAnyNamed f
     left_is_named v left f t came (ending.leftover m before middle given after is tells) =
-        tells_is_named m left (leftover_is_told left m is) (name.leftover v left came is) (Ok v) f t
-        came tells
+        tells_is_named m left (leftover_spared left m is) (leftover_is_told left m is)
+        (name.leftover v left came is) f t tells
 
   module _ {reads : Readings T} (law : Lawful T inner reads) where
     -- a run from a situation on

@@ -1,7 +1,7 @@
 -- Each refusal of a run has one of twelve names.
 use Rattle.std.specs.Prelude.{◌≡◌, ◌+◌, ⊤, ℕ, Bool, true, false, List, [], Some, Result, Ok, Err}
 use Rattle.bpaf_line.specs.Situation.{Context, IsStretchFrom, Situation, beginning, with_scope}
-use Rattle.bpaf_line.specs.Messages.{is_memory}
+use Rattle.bpaf_line.specs.Messages.{is_answer, is_memory}
 use Rattle.bpaf_line.specs.{declared.failure.ParseFailure.ParseFailure, declared.error.Error.Error}
 use Rattle.bpaf_line.specs.{declared.error.Message.Message, Rendering.Renders, Taking.IsContext}
 use Rattle.bpaf_doc.specs.{declared.doc.Piece.Piece, Shape.Shape}
@@ -25,15 +25,15 @@ pub data IsToldOf {T : Type 0} (inner : Outcome T) (s : Situation) (m : Message)
       → IsToldOf inner s m left
 
 -- a failure of this name, of a run from a situation on: want of memory; the page that was asked
--- for, or that of help where nothing was there to read; the text of a message of this name that the
--- run tells, once neither help nor the version was found there; or what a run inside, on this line,
--- ended with
+-- for in place of a message of the run's own, or that of help where nothing was there to read; the
+-- text of a message of this name that the run tells, once neither help nor the version was found
+-- there; or what a run inside, on this line, ended with
 pub data FailsAs {T : Type 0} (inner : Outcome T) (describes : Shape → Type 0) (info : RunInfo)
     (s : Situation) : Refusal → ParseFailure → Type 0 where
   wanting : FailsAs inner describes info s no_memory failure.Memory
-  asked_for : (r : Result T Error) (asked : ExtraParams) (left t : Situation) (doc : List Piece)
-      (full : Bool) → inner s r left → ExtraOutcome info left (Ok asked) t
-      → Shows describes info asked t (failure.Stdout doc full)
+  asked_for : (m : Message) (asked : ExtraParams) (left t : Situation) (doc : List Piece)
+      (full : Bool) → IsToldOf inner s m left → is_memory m ≡ false → is_answer m ≡ false
+      → ExtraOutcome info left (Ok asked) t → Shows describes info asked t (failure.Stdout doc full)
       → FailsAs inner describes info s help_or_version (failure.Stdout doc full)
   nothing_to_read : (e : Error) (left : Situation) (doc : List Piece) (full : Bool)
       → inner s (Err e) left → shows_help_page info e.0 s ≡ true

@@ -9,32 +9,31 @@
 //!   show of itself; `shorts`, which short names of keys it shows. Its law `lawful` ties the
 //!   outcome to the readings: the newly taken places with the value are a reading, each taken place
 //!   lay present in the scope, and so on; and what a run inside ended with, handed on as a refusal,
-//!   has one of twelve names (specs/Laws.antt). Its law `shows` ties what it may show to the short
-//!   names (specs/Laws.antt). Every implementation proves them, from the laws of its inner parsers
-//!   alone.
+//!   has one of twelve names on this line. Its law `shows` ties what it may show to the short names.
+//!   Every implementation proves them, from the laws of its inner parsers alone. What a parser
+//!   means, and both laws, are defined in `bpaf_laws`.
 //! - [`bpaf_text::ParseFlag`] and [`bpaf_text::ParseArgument`] are the first parsers. Where their
-//!   key isn't on the line, the first of their names in the environment that is set counts
-//!   (specs/Reading.antt).
+//!   key isn't on the line, the first of their names in the environment that is set counts.
 //! - [`ParseMap`], [`ParseWith`] and [`ParseGuard`] change or check a value; [`ParseOptional`],
-//!   [`ParseFallback`] and [`ParseFallbackWith`] stand in for one that isn't there
-//!   (specs/Combinators.antt). By clauses of their `eval` none of these catches want of memory, and
-//!   what stands in takes nothing (specs/Laws.antt).
+//!   [`ParseFallback`] and [`ParseFallbackWith`] stand in for one that isn't there. By clauses of
+//!   their `eval` none of these catches want of memory, and what stands in takes nothing.
 //! - [`ParseMany`], [`ParseSome`], [`ParseCollect`], [`ParseCount`] and [`ParseLast`] take turns of
-//!   one parser until one stops (specs/Combinators.antt); [`bpaf_text::FromList`] is what a list of
-//!   values fills. Each turn but the first takes an item, so there are no more values than items
-//!   present at the start and one (clause `repeat_is_bounded`), and none catches want of memory
-//!   (clause `memory_is_never_caught`).
+//!   one parser until one stops; [`bpaf_text::FromList`] is what a list of values fills. Each turn
+//!   but the first takes an item, so there are no more values than items present at the start and
+//!   one (clause `repeat_is_bounded`), and none catches want of memory (clause
+//!   `memory_is_never_caught`).
 //! - [`ParseOrElse`] is one of two parsers, both evaluated from the same state: the table of
 //!   [`bpaf_parts::this_or_that`] tells which answer stands. [`or_parser`], [`Start`] and
 //!   [`or_meta`] are for the crates of this repository, not for callers. The branch that took the
 //!   leftmost place taken by only one of them wins (clause `leftmost_wins`).
-//! - [`ParseHide`] names no missing item in its refusals (specs/Combinators.antt); [`ParseUsage`],
-//!   [`ParseGroupHelp`] and [`ParseWithGroupHelp`] change only what is shown: their outcome, their
-//!   readings and their law are those of the parser inside.
+//! - [`ParseHide`] names no missing item in its refusals; [`ParseUsage`], [`ParseGroupHelp`] and
+//!   [`ParseWithGroupHelp`] change only what is shown: their outcome, their readings and their law
+//!   are those of the parser inside.
 //! - [`ParseCommand`], which [`command`] and [`OptionParser::command`] make, is a word that opens a
 //!   run of its own over the items behind it (specs/Command.antt). It answers a value only where
 //!   that run leaves nothing in the scope that the command was given (clause
-//!   `command_leaves_nothing`), and catches no want of memory.
+//!   `command_leaves_nothing`), and catches no want of memory. What the run refuses has its name in
+//!   that run, and a page is one of its parser (clause `named_inside`, specs/Refusals.antt).
 //! - [`OptionParser::run_inner`] runs a parser over words. It answers a value only where that is
 //!   dealt out of the words: read off all items of their line but the first `--`, each used once
 //!   (specs/Run.antt), whatever the parser's type.

@@ -26,11 +26,12 @@ impl<T: Drop, P: Parser<T>> OptionParser<T, P> {
     /// parser looks for; a key without its value; a word on the wrong side of `--`; a text that
     /// means no value; a value that a check refused; no value of what looks at no item, or of a
     /// repeat that wants one; an item that another excludes; a key once more than it may stand; an
-    /// item that no parser took. So has one that a run inside the parser ended with, as a
-    /// command's.
+    /// item that no parser took. So has one that a run inside the parser ended with, on this line;
+    /// of a command's the clause `named_inside` of its `eval` says in which run.
     ///
-    /// Want of memory is caught nowhere: where the answer isn't want of memory, nor is that of the
-    /// parser.
+    /// Want of memory of the parser is told as nothing else: where the answer isn't want of memory,
+    /// nor was that of the parser. That no parser of this library catches it inside is a clause of
+    /// its `eval`.
     ///
     /// ```text
     /// let options = construct!(verbose, num).to_options(alloc)?;
