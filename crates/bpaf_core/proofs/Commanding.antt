@@ -2,14 +2,13 @@
 -- leave, and that a failure which a command hands on is that of its own run inside.
 use Rattle.std.proofs.Common.{◌≡◌, ℕ, Bool, true, false, Result, Ok, Err, ⊎_elim, sym, true≢false}
 use Rattle.std.proofs.Common.{◌≤◌, ◌+◌, length, refl, ap, subst, ◌∙◌}
-use Rattle.std.specs.Result.{IsErr, IsErrAnd}
+use Rattle.std.specs.Result.{IfErr, IsErr, IsErrAnd}
 use Rattle.bpaf_doc.specs.Shape.{Part, Shape}
 use Rattle.bpaf_line.specs.declared.failure.ParseFailure.{ParseFailure}
 use Rattle.bpaf_line.specs.Situation.{Situation, IsStretchFrom, with_scope}
 use Rattle.bpaf_line.specs.Marks.{Fits, KeepsMarks, redone, undone, Changes}
 use Rattle.bpaf_line.specs.{declared.error.Error.Error, declared.mark.Mark.Mark, Messages.is_memory}
 use Rattle.bpaf_line.specs.declared.error.Message.{Message}
-use Rattle.bpaf_line.specs.declared.error.Message.TheVariants.{Memory, Missing}
 use Rattle.bpaf_keys.specs.Info.{RunInfo}
 use Rattle.bpaf_laws.specs.Adjacent.{IsFirstLeft, IsStretch}
 use Rattle.bpaf_laws.specs.Command.{Called, IsOpenedAt, LeavesNothing, inside, opening_words}
@@ -207,7 +206,7 @@ module _ {T : Type 0} {inner : Outcome T} {reads : Readings T} (law : Lawful T i
         (λ part. subst (Names adjacent) (sym part.3) tt) lacks
 
     -- what a command hands on is a failure of its own run inside
-    pub names_inside : (adjacent : Bool) (t : Situation) (e : Error)
+    names_inside : (adjacent : Bool) (t : Situation) (e : Error)
         → EitherCommandOutcome adjacent T inner (EndsRun describes info) called shows s (Err e) t
         → Names adjacent e.0
     names_inside false t e (ended f told p left at run is) = subst (Names false) (sym is)
@@ -218,3 +217,10 @@ module _ {T : Type 0} {inner : Outcome T} {reads : Readings T} (law : Lawful T i
         (attempts_name p at f u runs)
     names_inside true t e (unnamed told none is) = missing_names true e.0 is
     names_inside true t e (no_path told p at is) = subst (Names true) (sym is) tt
+
+    -- so does each answer that hands it on
+    pub answer_names_inside : (adjacent : Bool) (r : Result T Error) (t : Situation)
+        → EitherCommandOutcome adjacent T inner (EndsRun describes info) called shows s r t
+        → IfErr r (λ e. Names adjacent e.0)
+    answer_names_inside adjacent (Ok v) t o = tt
+    answer_names_inside adjacent (Err e) t o = names_inside adjacent t e o

@@ -1,5 +1,5 @@
 -- Each refusal of a run has one of twelve names.
-use Rattle.std.specs.Prelude.{◌≡◌, ◌+◌, ⊤, ℕ, Bool, true, false, List, [], Some, Result, Ok, Err}
+use Rattle.std.specs.Prelude.{◌≡◌, ◌+◌, ⊤, ℕ, Bool, true, false, List, [], Some, Ok, Err}
 use Rattle.bpaf_line.specs.Situation.{Context, IsStretchFrom, Situation, beginning, with_scope}
 use Rattle.bpaf_line.specs.Messages.{is_answer, is_memory}
 use Rattle.bpaf_line.specs.{declared.failure.ParseFailure.ParseFailure, declared.error.Error.Error}

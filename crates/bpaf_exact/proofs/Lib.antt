@@ -9,7 +9,6 @@ pub mod Programs
 pub mod Commands
 pub mod ProgramForm
 pub mod OneView
-pub mod Surplus
 pub mod Says
 pub mod ProgramSays
 pub mod Leaves

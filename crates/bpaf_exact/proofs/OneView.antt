@@ -1,18 +1,17 @@
 -- Where closures can't tell apart what looks alike they agree, and a line's values look alike.
-use Rattle.std.proofs.Common.{Option, arith, subst, Bool, List, true, refl, map, ◌∷◌, ◌≡◌, sym, ◌∙◌}
+use Rattle.std.proofs.Common.{Option, arith, subst, Bool, List, refl, map, ◌∷◌, ◌≡◌, sym, ◌∙◌}
 use Rattle.std.proofs.Common.{[], ap, ℕ}
 use Rattle.std.specs.{Option.IsSomeRelated, Prelude.option_map, Global.Vec}
 use Rattle.bpaf_base.specs.Items.{item_text}
 use Rattle.bpaf_doc.specs.Names.{Names}
 use Rattle.bpaf_text.specs.{Named.KeyWithValue, Named.Named as Key, Meaning.SpellsUnsigned}
-use Rattle.bpaf_line.specs.Situation.{Context}
 use Rattle.bpaf_laws.specs.Reading.{Outcome}
-use Rattle.bpaf_exact.proofs.ProgramForm.{runs_as_program, whole_law}
+use Rattle.bpaf_exact.proofs.ProgramForm.{whole_law}
 use Rattle.bpaf_exact.proofs.{Cuts.one_take, Cuts.one_cut, Wrappers.alternative_single}
 use Rattle.bpaf_exact.proofs.{Commands.none_opens, Leaves.last_same, Repeat.own_nil}
 use Rattle.bpaf_exact.specs.ProgramForm.{program_alone, argument_field, flag_field, program_closed}
 use Rattle.bpaf_exact.specs.ProgramForm.{ArgumentValue, program_field, program_both, program_con}
-use Rattle.bpaf_exact.specs.ProgramForm.{whole_value, ProgramForm, is_program, word_by}
+use Rattle.bpaf_exact.specs.ProgramForm.{whole_value, ProgramForm, word_by}
 use Rattle.bpaf_exact.specs.ProgramForm.{whole_program, program_value, alternative, program_if}
 use Rattle.bpaf_exact.specs.ProgramForm.{WordValue, key_field, completed, commands}
 use Rattle.bpaf_exact.specs.ProgramForm.{program_optional, before_commands, complete, product}
@@ -22,7 +21,7 @@ use Rattle.bpaf_exact.specs.Flat.{FallbackValue, OptionalValue, list_closure, Ow
 use Rattle.bpaf_exact.specs.Flat.{Decides, Groups, ByName}
 use Rattle.bpaf_exact.specs.ProgramForm.{FormLaw, single, Agrees}
 use Rattle.bpaf_exact.specs.Pieces.{LinePiece, Cells, Roles, One, Two}
-use Rattle.bpaf_exact.specs.Says.{HasOneView, RunsToOne, pair_view, OneGroup, Respects, Alike}
+use Rattle.bpaf_exact.specs.Says.{HasOneView, pair_view, OneGroup, Respects, Alike}
 
 -- Closures.
 
@@ -222,14 +221,6 @@ module _ {T X : Type 0} (see : T → X) where
       by_whole (product wide named q fields) l u = grind (arith, one_cut)
       by_whole (before_commands value) l u = u
       by_whole _ l u = λ cs v w a b. absurd a
-
-  -- Where a program has a value, each answer looks like it, or is want of memory; with the value
-  -- itself for a view, it is that value.
-  pub runs_to_one : {outcome : Outcome T} {names : List Names} {words : List (List ℕ)}
-      {s : ProgramForm T} → is_program s ≡ true → (context : Context)
-      → FormLaw context.env outcome names words s → HasOneView see s
-      → RunsToOne see outcome s context
-  runs_to_one h context l u a v ran value = grind (arith, runs_as_program, values_look_one)
 
 -- a closure that accepts both or refuses both of what looks alike
 module _ {A B X : Type 0} {see : A → X} {f : Closure A B}

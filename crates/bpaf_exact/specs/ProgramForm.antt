@@ -578,25 +578,3 @@ pub record HoldsTogether (r : Roles) (cs : Cells) (os : List LinePiece) : Type 0
       → cs ≡ before ++ (Some (ArgWord text) ∷ after) → EndsInKey r before
   -- what is left to positional fields are words by themselves
   pub words : AllPass is_word_alone (others r os)
-
--- one evaluation reads one piece
-abbrev pub OneByOne : {T : Type 0} → Groups T → Type 0
-OneByOne {T = T} group = (os rest : List LinePiece) (v : T) → group os v rest
-    → (o : LinePiece) × (os ≡ o ∷ rest)
-
--- two pieces or more have no value
-abbrev pub AtMostOne : {T : Type 0} → (List LinePiece → T → Type 0) → Type 0
-AtMostOne {T = T} value = (o p : LinePiece) (os : List LinePiece) (v : T) → value (o ∷ p ∷ os) v → ⊥
-
--- A field without a repeat has no surplus: two occurrences or more have no value. An alternative
--- reads one piece in any case; a product is none.
-abbrev pub HasNoSurplus : {T : Type 0} → ProgramForm T → Type 0
-HasNoSurplus (single wide k q group gap) = OneByOne group
-HasNoSurplus (complete wide k q value) = AtMostOne value
-HasNoSurplus (product wide named q fields) = ⊥
-HasNoSurplus _ = Unit {0}
-
--- A part of a record, with its portion of the pieces: it has a value where each field has.
-abbrev pub IsPartOf : (List LinePiece → Type 0) → (List LinePiece → List LinePiece)
-    → (List LinePiece → Type 0) → Type 0
-IsPartOf each own part = (os : List LinePiece) → each os → part (own os)

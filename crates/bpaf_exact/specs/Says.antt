@@ -3,16 +3,15 @@ use Rattle.std.specs.Prelude.{Option, filter, false, Bool, true, List, ◌++◌,
 use Rattle.std.specs.{Prelude.map, Prelude.not, Prelude.[], Prelude.ℕ, List.Contains}
 use Rattle.bpaf_base.specs.{declared.arg.Arg.Arg, Items.item_text}
 use Rattle.bpaf_doc.specs.Names.{Names}
-use Rattle.bpaf_line.specs.Situation.{beginning, Context}
 use Rattle.bpaf_laws.specs.{Command.opening_words, Command.Called, Reading.Outcome}
 use Rattle.bpaf_exact.specs.Pieces.{stands_behind, is_key_of_any, LinePiece, is_own, others, Roles}
 use Rattle.bpaf_exact.specs.Pieces.{Cells, mine, Owns, One, Two, Cut}
 use Rattle.bpaf_exact.specs.Flat.{ClosedValue, FieldKind, Variables, repeated, Closure, ByName, Own}
 use Rattle.bpaf_exact.specs.ProgramForm.{ProgramForm, alternative, ChoiceValue, no_program, product}
-use Rattle.bpaf_exact.specs.ProgramForm.{product_roles, whole_program, program_value, CommandValue}
-use Rattle.bpaf_exact.specs.ProgramForm.{CellsValue, line_cells, FieldThen, RunAnswer, complete}
-use Rattle.bpaf_exact.specs.ProgramForm.{OptionalCommands, IsAcceptedOrWant, before_commands}
-use Rattle.bpaf_exact.specs.ProgramForm.{commands, FormLaw, single, RunRan}
+use Rattle.bpaf_exact.specs.ProgramForm.{product_roles, whole_program, CommandValue}
+use Rattle.bpaf_exact.specs.ProgramForm.{CellsValue, FieldThen, complete}
+use Rattle.bpaf_exact.specs.ProgramForm.{OptionalCommands, before_commands}
+use Rattle.bpaf_exact.specs.ProgramForm.{commands, FormLaw, single}
 use Rattle.bpaf_exact.specs.Flat.{IsLastOf, Groups, front, back}
 
 -- The pieces of a field's own.
@@ -436,9 +435,3 @@ pub record Respects (A B X Y : Type 0) (see : A → X) (look : B → Y) (f : Clo
 -- that of two fields
 abbrev pub pair_view : {A B X Y : Type 0} → (A → X) → (B → Y) → A × B → X × Y
 pair_view see look v = (see v.0, look v.1)
-
--- Where the program has a value v, each answer looks like v, or is want of memory.
-abbrev pub RunsToOne : {V X : Type 0} → (V → X) → Outcome V → ProgramForm V → Context → Type 0
-RunsToOne {V = V} see outcome s context =
-    (a : RunAnswer V) (v : V) → RunRan V outcome (beginning context) a
-    → program_value s (line_cells context) v → IsAcceptedOrWant (λ w. see w ≡ see v) a

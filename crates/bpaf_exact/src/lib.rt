@@ -20,14 +20,14 @@
 //! - A line that is cut holds together (`HoldsTogether`): each key is one of the record's, behind
 //!   an argument's key stands its value, which no positional field gets, an attached value stands
 //!   nowhere else, and what is left to positional fields are words (`cut_holds_together`,
-//!   proofs/Cuts.antt). An occurrence or a word too many leaves no value (`HasNoSurplus`), nor does
-//!   an occurrence that can't be read (proofs/Surplus.antt).
+//!   proofs/Cuts.antt). An occurrence or a word too many leaves no value, nor does an occurrence
+//!   that can't be read: what each value says of its pieces (specs/Says.antt) says so.
 //! - What the value of a field says of its own pieces, whatever the other fields are and whatever
 //!   stands round it, is told by names (specs/Says.antt), and follows of each form
 //!   (proofs/ProgramSays.antt, one lemma for each combinator).
 //! - A line may have several values that differ in what contracts don't see, such as the room of a
 //!   text. Where closures can't tell apart what looks alike, the values of a line look alike
-//!   (specs/Says.antt, `values_look_one` and `runs_to_one` of proofs/OneView.antt).
+//!   (specs/Says.antt, `values_look_one` of proofs/OneView.antt).
 //!
 //! - A program is a flat record, or named fields and then commands, behind the word of each of
 //!   which stands a program again. Its values are said of the cells of its scope: the fields' own

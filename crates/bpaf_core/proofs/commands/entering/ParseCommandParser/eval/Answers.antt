@@ -1,6 +1,6 @@
 use Rattle.bpaf_core.specs.Ending.{run_ending}
 use Rattle.bpaf_core.proofs.Commanding.{plain_leaves_nothing, takes_one_stretch, inside_answers}
-use Rattle.bpaf_core.proofs.{Commanding.inside_refuses, Commanding.refused_inside}
+use Rattle.bpaf_core.proofs.Commanding.{answer_names_inside, inside_refuses, refused_inside}
 use Rattle.bpaf_core.proofs.Sparing.{spared_either}
 use Rattle.bpaf_core.proofs.commands.entering.ParseCommandParser.eval.Goals as goal
 
@@ -9,9 +9,9 @@ returns-in_err-enter-clause-outcome g c = refused_inside _ _ _ _ _ c.args.self.n
     c.from_residual.ensures c.in_err-enter.ensures
 
 pub returns-in_err-enter-clause-named_inside : goal.returns-in_err-enter-clause-named_inside
-returns-in_err-enter-clause-named_inside g c = named_by _
-    (names_inside (g.met.P.Parser.lawful c.args.self.now.inner) _ _ _ _ _ c.args.self.now.adjacent)
-    (returns-in_err-enter-clause-outcome g c)
+returns-in_err-enter-clause-named_inside g c =
+    answer_names_inside (g.met.P.Parser.lawful c.args.self.now.inner) _ _ _ _ _
+    c.args.self.now.adjacent _ _ (returns-in_err-enter-clause-outcome g c)
 
 pub returns-in_err-enter-clause-memory_is_never_caught :
     goal.returns-in_err-enter-clause-memory_is_never_caught
@@ -46,5 +46,5 @@ returns-in-Err-clause-memory_is_never_caught g c = spared_either _ (run_ending _
 
 pub returns-in-Err-clause-named_inside : goal.returns-in-Err-clause-named_inside
 returns-in-Err-clause-named_inside g c =
-    names_inside (g.met.P.Parser.lawful c.args.self.now.inner) _ _ _ _ _ c.args.self.now.adjacent
-    _ _ (returns-in-Err-clause-outcome g c)
+    answer_names_inside (g.met.P.Parser.lawful c.args.self.now.inner) _ _ _ _ _
+    c.args.self.now.adjacent _ _ (returns-in-Err-clause-outcome g c)
