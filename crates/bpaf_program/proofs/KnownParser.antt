@@ -52,11 +52,11 @@ by_laws : {T : Type 0} {outcome : Outcome T} {reads : Readings T} → Lawful T o
 by_laws law = lawful_as law (λ context share v read. tt)
 
 -- what a run shows of its own may be shown of any shape
-of_any_shape : {describes : Shape → Type 0} {info : RunInfo} {showing : Showing}
+of_any_shape : {describes : Shape → Type 0} {info : RunInfo} (showing : Showing)
     → IsAlsoShown (RunShows describes info showing) (RunShows any_shape info showing)
-of_any_shape s doc full (inl asked) =
+of_any_shape showing s doc full (inl asked) =
     inl (asked_at_also (λ shape shown. tt) s doc full asked)
-of_any_shape s doc full (inr inside) = inr inside
+of_any_shape showing s doc full (inr inside) = inr inside
 
 module _ {A B : Type 0} (inner : Outcome A) {answers wanted : A → B → Type 0}
     (only : (x : A) (v : B) → answers x v → wanted x v) where
@@ -84,7 +84,7 @@ command_known {T} called known describes {command = command} same plain {outcome
   shown = is.shown;
   keeps = by_laws (either_lawful is.keeps (run_ending describes plain_info) (named_only called) _
       false);
-  hands = hands_also (behind_also of_any_shape)
+  hands = hands_also (behind_also (of_any_shape (inner_pages known)))
       (command_hands_on describes plain_info is.keeps is.hands refl (named_only called) _ false);
 })
 
@@ -187,7 +187,7 @@ asks_for_page {T} known own {outcome} {describes} {info = info} {r = r} runs is 
     asks (Err (failure.Stdout doc full)) runs = (
       info,
       told,
-      words_also of_any_shape
+      words_also (of_any_shape (inner_pages known))
           (answer_shows is.keeps is.hands plain (Err (failure.Stdout doc full)) runs),
     )
     asks (Err (failure.Stderr doc)) runs = tt

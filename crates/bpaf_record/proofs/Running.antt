@@ -17,7 +17,7 @@ use Rattle.bpaf_words.proofs.OneLine.{one_lines}
 use Rattle.bpaf_line.specs.Situation.{is_marker, beginning, Context, item_in}
 use Rattle.bpaf_line.specs.{declared.failure.ParseFailure.ParseFailure, Taking.IsContext}
 use Rattle.bpaf_laws.specs.Reading.{Outcome}
-use Rattle.bpaf.specs.Run.{no_line as none_there, no_memory as wanted, RunsWords, refused, ran}
+use Rattle.bpaf.specs.Run.{no_line as none_there, no_memory as wanted, RunsWords, ran}
 use Rattle.bpaf.specs.Marker.{is_marker_word, words_before, words_behind}
 use Rattle.bpaf.specs.Info.{RunInfo}
 use Rattle.bpaf.proofs.Sides.{all_spelled, two_sides, of_words, EachOf}
@@ -26,7 +26,7 @@ use Rattle.bpaf_exact.proofs.{ProgramSays.program_says, Cuts.cut_holds_together}
 use Rattle.bpaf_exact.specs.Pieces.{LinePiece, argument, is_value, at_end, passed, Cells, Roles}
 use Rattle.bpaf_exact.specs.ProgramForm.{IsAcceptedOrWant, IsSpelledLine, product_roles, is_spelled}
 use Rattle.bpaf_exact.specs.ProgramForm.{whole_program, program_value, ProgramForm, line_cells}
-use Rattle.bpaf_exact.specs.ProgramForm.{is_program, is_dashed, is_record, complete, Accepted}
+use Rattle.bpaf_exact.specs.ProgramForm.{is_program, is_dashed, is_record, Accepted}
 use Rattle.bpaf_exact.specs.ProgramForm.{FormLaw}
 use Rattle.bpaf_exact.specs.Says.{ProgramSaid, ProgramSays, first_item, cells_said, SaidKind}
 use Rattle.bpaf_exact.specs.{Pieces.flag, Pieces.word, Pieces.Cut, Flat.first_cells, Flat.Variables}
