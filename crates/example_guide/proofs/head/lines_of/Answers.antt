@@ -6,8 +6,7 @@ pub returns-clause-lines : goal.returns-clause-lines
 returns-clause-lines c =
     let head = c.in_ok-head in
     let files = map string_bytes head.head.files.items in
-    elim head.head.bytes
-    [
-      None ↦ without_key files (search rules)
+    elim head.head.bytes [
+      | None ↦ without_key files (search rules)
       | Some n ↦ with_key files (search rules) (head.ensures.by_bytes tt)
     ]
