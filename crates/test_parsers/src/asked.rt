@@ -54,12 +54,17 @@ const VERSION: &str =
 #[test]
 fn keys_of_a_run_are_read(rt: HostRuntime) -> Result<(), Fail> {
     let a = rt.alloc();
+    // help_asked_of_info
     let one = "Some(Help(false))";
     prints(a, asked(a, Ok(Info::new()), &["x", "-h"]), one)?;
+    // help_asked_of_info_twice
     let two = "Some(Help(true))";
     prints(a, asked(a, Ok(Info::new()), &["--help", "-h"]), two)?;
+    // version_asked_of_info_without_one
     prints(a, asked(a, Ok(Info::new()), &["--version"]), "None")?;
+    // version_asked_of_info
     prints(a, asked(a, versioned(a), &["--version", "x"]), VERSION)?;
+    // help before the version
     prints(a, asked(a, versioned(a), &["-Vh"]), one)
 }
 
@@ -85,5 +90,6 @@ const OUTPUTS: &str = "(Some(\"Usage: [-v]\\n\\nAvailable options:\\n    -v\\n  
 #[test]
 fn help_goes_to_standard_output(rt: HostRuntime) -> Result<(), Fail> {
     let a = rt.alloc();
+    // help_by_unwrap_stdout
     prints(a, outputs(a), OUTPUTS)
 }
