@@ -13,12 +13,15 @@ const SPELLED: &str = "
     Short -c false -c;Short -c true -c=v;ArgWord v;Short -c true -cr=v;ArgWord r=v;
 -==x -=x -= | / | spelled | Short -= true -==x;ArgWord x;Word -=x;Short -= false -=;
 # items_of_name_beyond_ascii
--ñ=x -ñ | / | spelled | Short -ñ true -ñ=x;ArgWord x;Short -ñ false -ñ;
+-ñ=x | / | spelled | Short -ñ true -ñ=x;ArgWord x;
 # items_of_attached_value_with_equals
 -Obits=2048 | / | spelled | Short -O true -Obits=2048;ArgWord bits=2048;
+# other names, known and not
+-ñ | / | spelled | Short -ñ false -ñ;
 -Obits=2048 | b/O | spelled | Short -O true -Obits=2048;ArgWord bits=2048;
 # unknown_joined_word_is_one_word
 -abc | / | spelled | Word -abc;
+# other words
 -жжж | ж/ | spelled | Short -ж false -жжж;Short -ж false ;Short -ж false ;
 -vn3 -vn -vx | v/n | spelled | \
     Short -v false -vn3;Short -n true -vn3;Word 3;Short -v false -vn;Short -n false -vn;Word -vx;

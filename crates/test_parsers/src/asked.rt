@@ -71,6 +71,7 @@ fn keys_of_a_run_are_read(rt: HostRuntime) -> Result<(), Fail> {
 /// The texts that a switch tells on standard output, where it is asked for help and where not.
 fn outputs(alloc: Global) -> Result<(Option<String>, Option<String>), AllocError> {
     let options = verbose(alloc)?.to_options(alloc)?;
+    // help_by_unwrap_stdout
     let help = output(options.run_inner(Args::from(&["--help"])))?;
     Ok((help, output(options.run_inner(Args::from(&["x"])))?))
 }
@@ -90,6 +91,5 @@ const OUTPUTS: &str = "(Some(\"Usage: [-v]\\n\\nAvailable options:\\n    -v\\n  
 #[test]
 fn help_goes_to_standard_output(rt: HostRuntime) -> Result<(), Fail> {
     let a = rt.alloc();
-    // help_by_unwrap_stdout
     prints(a, outputs(a), OUTPUTS)
 }

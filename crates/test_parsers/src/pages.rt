@@ -53,6 +53,7 @@ fn own_usage(alloc: Global) -> Result<String, AllocError> {
         text.doc(&usage)?;
         Ok(text)
     })?;
+    // usage_by_closure
     answers_of(alloc, options, &[&["--help"]])
 }
 
@@ -64,7 +65,6 @@ const OWN_USAGE: &str = "out Use it so: [-v]\n\n\
 
 #[test]
 fn a_closure_makes_the_usage(rt: HostRuntime) -> Result<(), Fail> {
-    // usage_by_closure
     reads(own_usage(rt.alloc()), OWN_USAGE)
 }
 

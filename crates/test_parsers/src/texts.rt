@@ -36,35 +36,32 @@ fn authors_say_why(rt: HostRuntime) -> Result<(), Fail> {
 }
 
 /// Numbers of which a check accepts the first alone.
-fn first_alone(alloc: Global) -> Result<String, AllocError> {
+fn first_alone(alloc: Global, words: &[&str]) -> Result<String, AllocError> {
     let later = Cell::new(false);
     let first = num(alloc)?.guard(|_| !later.replace(true), "no").many();
-    answers(alloc, first, &[&["-n", "1", "-n", "2"]])
+    answers(alloc, first, &[words])
 }
 
 #[test]
 fn check_that_changes_tells_the_word(rt: HostRuntime) -> Result<(), Fail> {
     // many_of_changing_guard
-    reads(first_alone(rt.alloc()), "err `2`: no\n")
+    let found = first_alone(rt.alloc(), &["-n", "1", "-n", "2"]);
+    reads(found, "err `2`: no\n")
 }
 
 /// Words that are kept as texts, behind one behind a key.
-fn kept_as_texts(alloc: Global) -> Result<String, AllocError> {
+fn kept_as_texts(alloc: Global, words: &[&str]) -> Result<String, AllocError> {
     let key = short(alloc, 'e')?.argument::<Text>("TEXT");
-    let words = positional::<Text>("WORD").many();
-    answers(
-        alloc,
-        construct!(key, words),
-        &[
-            &["a", "-e", "x"],
-            &["-e", "", "a word of more than 23 bytes"],
-        ],
-    )
+    let files = positional::<Text>("WORD").many();
+    answers(alloc, construct!(key, files), &[words])
 }
 
 #[test]
 fn words_are_kept_as_texts(rt: HostRuntime) -> Result<(), Fail> {
     // words_as_texts
-    let kept = "ok (\"x\", [\"a\"])\nok (\"\", [\"a word of more than 23 bytes\"])\n";
-    reads(kept_as_texts(rt.alloc()), kept)
+    let kept = kept_as_texts(rt.alloc(), &["a", "-e", "x"]);
+    reads(kept, "ok (\"x\", [\"a\"])\n")?;
+    // an empty text and a long one
+    let kept = kept_as_texts(rt.alloc(), &["-e", "", "a word of more than 23 bytes"]);
+    reads(kept, "ok (\"\", [\"a word of more than 23 bytes\"])\n")
 }

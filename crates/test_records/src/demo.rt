@@ -53,22 +53,31 @@ fn options_and_files_are_printed(rt: HostRuntime) -> Result<(), Fail> {
 
 #[test]
 fn refusals_print_no_options(rt: HostRuntime) -> Result<(), Fail> {
-    let missing = "expected `--num=NUM`, pass `--help` for usage information";
-    let twice = "argument `-v` cannot be used multiple times in this context";
-    let unknown = "`--verbos` is not expected in this context";
     let rows = [
         // program_without_words_refused
-        ("", missing),
+        (
+            "",
+            "expected `--num=NUM`, pass `--help` for usage information",
+        ),
         // program_number_without_value_refused
         ("-n", "`-n` requires an argument `NUM`"),
         // program_second_switch_refused
-        ("-v -n 3 -v", twice),
+        (
+            "-v -n 3 -v",
+            "argument `-v` cannot be used multiple times in this context",
+        ),
         // program_last_number_without_value_refused
         ("-n 3 -n", "`-n` requires an argument `NUM`"),
         // program_word_alone_refused
-        ("x", missing),
+        (
+            "x",
+            "expected `--num=NUM`, pass `--help` for usage information",
+        ),
         // program_near_name_refused
-        ("--verbos -n 3", unknown),
+        (
+            "--verbos -n 3",
+            "`--verbos` is not expected in this context",
+        ),
         // program_value_of_switch_refused
         (
             "--verbose=yes -n 3",
