@@ -18,7 +18,9 @@ STRING = re.compile(r'(?s)"((?:[^"\\]|\\.)*)"')
 CODE = re.compile(r"``(.+?)``|`([^`\n]+)`")
 CELL = re.compile(r"(?<!\\) \| ")
 NUMBERS = {"isize::MAX": str(2**63 - 1), "isize::MIN": str(-(2**63))}
+# what an answer is by its first word, in data and in tables of tests
 KINDS = {"ok": "value", "err": "refused", "refused": "refused", "out": "shown", "full": "shown", "shown": "shown", "memory": "memory"}
+# how the bench says a part of a parser, where it has another name there or none
 SAYS = {
     **dict.fromkeys(("short", "long", "to_options"), ""),
     "argument": "argument|take_last",
