@@ -212,13 +212,6 @@ def of_row(cells, parser, aliases, runs):
                 yield f"{cells[0]}: {run.at} doesn't have the words {words} with the answer {answer}"
 
 
-def of_texts(found):
-    """The faults of texts of more than one line, which stand below a table under the names of their rows."""
-    for name, text in re.findall(r"(?ms)^`(\w+)`:\n\n```\n(.*?)^```", text_of(ROWS)):
-        if name not in found or not any(plain(text) in plain(it.text) for it in found[name]):
-            yield f"nothing that runs {name} has its text"
-
-
 def told(runs):
     """The last two cells of a row."""
     return [runs[0].at if runs else "", ", ".join(it.at for it in runs[1:])]
@@ -237,7 +230,6 @@ def faults():
             yield from of_row(cells, parser, aliases, found[cells[0]])
             if cells[4:] != told(found[cells[0]]):
                 yield f"{cells[0]} runs at {told(found[cells[0]])}: python3 tools/rows.py --fill"
-    yield from of_texts(found)
     yield from (f"{found[it][0].at} runs {it}, which is no row" for it in sorted({*found} - named))
 
 
