@@ -69,7 +69,7 @@ def main():
     found = sources()
     words = {word for path, text in found.items() for word in IDENTIFIER.findall(path + " " + text)}
     words |= {word for it in os.listdir(".") for word in IDENTIFIER.findall(it)}
-    named = {cells[0] for cells, _ in rows.tables() if len(cells) == 5}
+    named = {cells[0] for cells, _ in rows.tables() if len(cells) == 6}
     lost = [*(f"{rows.ROWS}: {it}" for it in rows.faults()), *places.faults(), *statement.faults()]
     for path, text in found.items():
         if path.endswith(".rt") and UNDROPPED.search(text):

@@ -1,21 +1,34 @@
-"""The worked rows of docs/ROWS.md beside what runs: their parsers, words and answers as data or as literals of tests.
+#!/usr/bin/env python3
+"""The worked rows of docs/ROWS.md beside what runs: their words and answers, the parts of their parsers, and their places.
 
-A test has a row where a literal that it reaches is the row's words, or some in order are, and the answer stands behind
-them, or in a text by itself; or where a line of a literal has the words before its first bar, and the answer behind it.
-Where a row has no words as literals, its answer is looked for in all that the test reaches.
+A row's name stands right above what runs it: `## name` above a row of data, `# name` in a table of a test, `// name` in a
+test's code; names above one another share it. A table of six columns has the places in its last two: the first one, and
+all others. `python3 tools/rows.py --fill` writes them.
 """
 import glob
 import re
+import sys
 
 ROWS = "docs/ROWS.md"
-DATA = "crates/bench/data"
-STRING = re.compile(r'(?s)r#"(?P<raw>.*?)"#|"(?P<text>(?:[^"\\]|\\.)*)"')
+DATA = [f"crates/bench/data/{it}.txt" for it in ("rows", "long")]
+MARK = re.compile(r"\s*(?:##|#|//) ([a-z0-9]+(?:_[a-z0-9]+)+)")
+REMARK = re.compile(r"\s*(?:#|//) ")
 ITEM = re.compile(r"(?m)^(?:#\[test\]\n)?(?:pub(?:\(crate\))? )?(?:const|fn|struct|enum|impl|type|macro_rules!) (\w+)")
-NEXT_ROW = re.compile(r"\n    \(|\n +Row \{|;\n|\n\}")
-LET = re.compile(r'let (\w+) = "((?:[^"\\]|\\.)*)"')
+STRING = re.compile(r'(?s)"((?:[^"\\]|\\.)*)"')
 CODE = re.compile(r"``(.+?)``|`([^`\n]+)`")
-OWN_TEXTS = re.compile(r"too much|too big|need one|\bno$|\bnone$")
+CELL = re.compile(r"(?<!\\) \| ")
 NUMBERS = {"isize::MAX": str(2**63 - 1), "isize::MIN": str(-(2**63))}
+# what an answer is by its first word, in data and in tables of tests
+KINDS = {"ok": "value", "err": "refused", "refused": "refused", "out": "shown", "full": "shown", "shown": "shown", "memory": "memory"}
+# how the bench says a part of a parser, where it has another name there or none
+SAYS = {
+    **dict.fromkeys(("short", "long", "to_options"), ""),
+    "argument": "argument|take_last",
+    "construct": "product|or_else|adjacent",
+    "env": r"\$",
+    "numbers_as_words": "numbers",
+    "req_flag": "required_flag",
+}
 
 
 def text_of(path):
@@ -25,12 +38,7 @@ def text_of(path):
 
 def codes(cell):
     """The spans of code of a cell."""
-    return [(a or b).strip() for a, b in CODE.findall(cell)]
-
-
-def told_in(cell):
-    """The same of an answer, without names of other rows."""
-    return [it for it in codes(cell) if not re.fullmatch(r"[a-z]+(_[a-z]+)+", it)]
+    return [(a or b).strip().replace("\\|", "|") for a, b in CODE.findall(cell)]
 
 
 def unescaped(text):
@@ -41,195 +49,202 @@ def unescaped(text):
 
 def plain(text):
     """A text without what differs between ways to print it."""
-    return re.sub(r"[\s\"'\\]|\bi(?=-?\d)", "", NUMBERS.get(text, text))
+    return re.sub(r"[\s\"'\\]|\bi(?=-?\d)", "", NUMBERS.get(text, unescaped(text)))
 
 
-def told(text):
-    """A text without the metavars by which data and tests differ."""
-    return re.sub(r"\b(INT|NUM|STR|FILE|[A-Z])\b", "M", text)
+def words_of(text):
+    return ["" if it == "''" else it for it in text.split(" ")] if text.strip() else []
 
 
-class Test:
-    """A test, and all items of its crate that it reaches."""
-
-    def __init__(self, name, path, items):
-        self.is_of_parsers, self.items = "test_below" not in path, []
-        todo, seen = [(path, name)], set()
-        while todo:
-            place = todo.pop(0)
-            if place not in seen:
-                seen.add(place)
-                self.items.append(items[place])
-                for word in dict.fromkeys(re.findall(r"\w+", items[place])):
-                    own = (place[0], word)
-                    todo += [own] if own in items else [it for it in items if it[1] == word]
-        self.whole = "\n".join(self.items)
-        self.text = self.whole.lower().replace("_", "")
-
-    def tails(self, words):
-        """Each item with these words, and what stands behind them there, to the next row."""
-        for item in self.items:
-            found = [*STRING.finditer(item)]
-            read = [unescaped(it["text"]) if it["raw"] is None else it["raw"] for it in found]
-            for line in "\n".join(read).split("\n"):
-                line, bar, rest = line.partition(" | ")
-                own = line.replace("''", "").split(" ")
-                part = not self.is_of_parsers and any(own[k : k + len(words)] == words for k in range(len(own)))
-                if bar and (own == words or part):
-                    yield item, rest
-            for k in range(len(found)):
-                for wanted in ([" ".join(words)], words):
-                    if wanted and read[k : k + len(wanted)] == wanted:
-                        yield item, behind(item, item[found[k + len(wanted) - 1].end() :])
-
-    def says(self, words, answer):
-        """Whether the answer stands behind the words, or in a text of another item; where no words are, behind ``."""
-        for item, tail in self.tails(words or [""]):
-            if answer(tail) or any(answer(it) for it in self.items if it is not item):
-                return True
-        return False
+def rows_in(text):
+    """The lines of a table: words, and what stands behind the first bar."""
+    for line in text.split("\n"):
+        words, bar, rest = line.partition(" | ")
+        if bar:
+            yield words_of(words), rest
 
 
-def behind(item, rest):
-    """Of the rest of an item what belongs to its beginning: a row's own, or a statement's, and what that names."""
-    if not re.match(r"(#\[test\]\n)?(pub\(crate\) )?fn ", item):
-        return rest[: NEXT_ROW.search(rest + "\n}").start()]
-    statement = rest[: re.search(r";\n|\n\}", rest + "\n}").start()]
-    tail = statement if STRING.search(statement) else rest
-    return tail + "".join(text for name, text in LET.findall(item) if re.search(rf"\b{name}\b", tail))
+class Place:
+    """What runs a row: where it stands, its lines of words and answers, its text, and all that makes its parser."""
+
+    def __init__(self, path, line, rows, text, makes):
+        self.at, self.rows, self.text, self.makes = f"{path}:{line}", rows, text, makes
+        self.is_data = path in DATA
+
+    def says(self, words, cell):
+        """Whether these words have this answer here; None are words that aren't told."""
+        of_words = [rest for own, rest in self.rows if words in (own, None)]
+        is_there = any(agrees(cell, rest) for rest in of_words)
+        if is_there or of_words and words is not None:
+            return is_there
+        strings = [unescaped(it) for it in STRING.findall(self.text)]
+        runs = [strings[at : at + len(words)] for at in range(len(strings))] if words else []
+        is_here = not words or words in runs or " ".join(words) in strings
+        return is_here and all(plain(it) in plain(self.text) for it in told_in(cell))
+
+    def lacks(self, parser):
+        """The parts of a parser that nothing here makes."""
+        parser = re.sub(r'"\w* [^"]*"|\bbpaf_\w+', "", parser)
+        for part in sorted({*re.findall(r"\b[a-z_]{4,}\b", parser)}):
+            ways = SAYS.get(part, part) if self.is_data else {"construct": "construct|or_else"}.get(part, part)
+            if not re.search(ways.replace("_", ""), self.makes.lower().replace("_", "")):
+                yield part
 
 
-def has(answers):
-    """What tells whether a text has all these answers; the line of a program's message has its message."""
-    wanted = [it.removeprefix("Error: ") for it in answers]
-    return lambda text: all(it in text or plain(it) in plain(unescaped(text)) for it in wanted)
+def told_in(cell):
+    """The code of an answer, without remarks, names of other rows and what is true or false of itself."""
+    found = codes(re.sub(r" \([^`]*\)", "", cell))
+    return [it for it in found if not re.fullmatch(r"[a-z]+(_[a-z]+)+|true|false", it)]
 
 
-def tests():
-    """All tests by their names."""
+def agrees(cell, rest):
+    """Whether what stands behind words is the answer of a cell."""
+    kind = KINDS.get(re.split(r"[ ^]", rest)[0])
+    wanted = cell.split(",")[0].split(":")[0].split(" ")[0].strip("`")
+    wanted = wanted if wanted in KINDS.values() else "value"
+    found = codes(cell)
+    if kind and kind != wanted or rest in ("refused", "shown"):
+        return kind == wanted
+    if kind == "value" and len(found) == 1:
+        return plain(rest[3:]) == plain(found[0])
+    return all(plain(it) in plain(rest) for it in found)
+
+
+def of_data(path):
+    """The named rows of a file of the bench."""
+    names, head, is_open = [], [], False
+    for number, line in enumerate(text_of(path).split("\n"), 1):
+        mark = MARK.fullmatch(line)
+        if mark and not is_open:
+            names.append(mark[1])
+        elif is_open or line.startswith("#") and "\t" not in line:
+            head = head + [line] if is_open or line.startswith("#env") else [line]
+            is_open = "".join(head).count("(") > "".join(head).count(")")
+        elif "\t" in line:
+            words, answer = line.split("\t")
+            for name in names:
+                yield name, Place(path, number, [(words_of(words), answer)], line, "\n".join(head))
+            names = []
+
+
+def items_of(paths):
+    """The items of files by their file and name, each with the line where it begins, and its text."""
     found = {}
-    for crate in glob.glob("crates/*/src"):
-        items = {}
-        for path in glob.glob(crate + "/*.rt"):
-            text = re.sub(r"(?m)^\s*//.*\n", "", text_of(path))
-            starts = [*ITEM.finditer(text)]
-            ends = [it.start() for it in starts[1:]] + [len(text)]
-            items.update({(path, it[1]): text[it.start() : end] for it, end in zip(starts, ends)})
-        for (path, name), text in items.items():
-            if text.startswith("#[test]"):
-                found.setdefault(name, []).append(Test(name, path, items))
+    for path in paths:
+        text = text_of(path)
+        starts = [*ITEM.finditer(text)]
+        for it, end in zip(starts, [it.start() for it in starts[1:]] + [len(text)]):
+            found[path, it[1]] = text.count("\n", 0, it.start()) + 1, text[it.start() : end]
     return found
 
 
-def data():
-    """Each named row of data: its words and its answer."""
-    found, name = {}, None
-    for file in ("rows", "long"):
-        for line in text_of(f"{DATA}/{file}.txt").split("\n"):
-            if line.startswith("#") and "\t" not in line:
-                name = line[3:] if re.fullmatch(r"## \w+", line) else None
-            elif "\t" in line and name:
-                words, answer = line.split("\t")
-                found[name], name = ([it for it in words.replace("''", "").split(" ")] if words else [], answer), None
+def reached(items, place):
+    """The texts of an item, of those of its file that name it, and of all that these name."""
+    above, todo = [place], []
+    for it in above:
+        above += [one for one, (_, text) in items.items() if one[0] == it[0] and one not in above and re.search(rf"\b{it[1]}\b", text)]
+    todo += above
+    for it in todo:
+        own = {*re.findall(r"\w+", items[it][1])}
+        todo += [one for one in items if one[1] in own and one not in todo and (one[0] == it[0] or (it[0], one[1]) not in items)]
+    return "\n".join(items[it][1] for it in todo)
+
+
+def of_tests(crate):
+    """The rows of a crate of tests."""
+    items = items_of([*sorted(glob.glob(f"{crate}/src/*.rt")), *glob.glob("crates/test_support/src/*.rt")])
+    for place, (first, text) in items.items():
+        names, lines = [], text.split("\n")
+        for at, line in enumerate(lines):
+            mark = MARK.fullmatch(line)
+            names += [mark[1]] if mark else []
+            if names and not mark:
+                end = next((to for to in range(at, len(lines)) if REMARK.match(lines[to]) or lines[to] in ("", '";', "];", "}")), len(lines))
+                block = "\n".join(lines[at:end])
+                own = {*re.findall(r"\b[A-Z_]{2,}\b", block)}
+                tables = [block] if lines[at - 1].startswith("#") else STRING.findall(block)
+                rows = [it for table in tables for it in rows_in(unescaped(table))]
+                block += "".join(items[place[0], it][1] for it in own if (place[0], it) in items)
+                for name in names:
+                    yield name, Place(place[0], first + at, rows, block, reached(items, place))
+                names = []
+
+
+def places():
+    """The places of each name."""
+    found = {}
+    runs = [it for path in DATA for it in of_data(path)]
+    runs += [it for crate in sorted(glob.glob("crates/test_*")) if "support" not in crate for it in of_tests(crate)]
+    for name, place in runs:
+        found.setdefault(name, []).append(place)
     return found
 
 
 def tables():
     """The rows of all tables, each as its cells, with what its section calls by a name of its own."""
-    aliases = {}
+    common = {}
     for part in re.split(r"(?m)^## ", text_of(ROWS)):
-        aliases.update((name, it) for name, it in re.findall(r"`(\w\w+)` is `([^`]+)`", part))
+        own = dict(re.findall(r"`(\w+)` is\s+`([^`]+)`", part))
+        common = common or own
         for line in part.split("\n"):
-            cells = [it.strip() for it in re.split(r"(?<!\\) \| ", re.sub(r"^\| | \|$", "", line.strip()))]
-            if line.startswith("| ") and len(cells) > 1 and cells[0] not in ("name", "Rows"):
-                yield cells, aliases
+            cells = CELL.split(re.sub(r"^\| | \|$", "", line.strip()))
+            if line.startswith("| ") and cells[0] not in ("row", "Rows"):
+                yield [it.strip() for it in cells], {**common, **own}
 
 
 def lines_of(cell):
-    """The lines of words of a cell, each as its words; none where they aren't told in code."""
+    """The lines of words of a cell, each as its words; None where they aren't told in code alone."""
     for it in cell.split("; "):
-        code = codes(it)
-        yield [] if it == "none" else [""] if it == "the empty text" else code[0].split(" ") if code else None
+        code = re.fullmatch(r"`([^`]*)`", it)
+        yield {"none": [], "the empty text": [""]}.get(it, words_of(code[1]) if code else None)
 
 
-def are_told(words, runs):
-    """Whether a test may have these words as literals: where there are none, an empty text or a list stands there."""
-    return words or any([*run.tails([""])] for run in runs)
-
-
-def missing(parser, aliases, runs):
-    """The names of a parser that stand in none of its tests."""
+def of_row(cells, parser, aliases, runs):
+    """The faults of a row at its places."""
     for _ in range(3):
         parser = re.sub(r"\w+", lambda it: aliases.get(it[0], it[0]), parser)
-    for it in sorted({*re.findall(r"\b[a-z_]{4,}\b", parser)}):
-        ways = {"construct": ["construct", "orelse"]}.get(it, [it.replace("_", "")])
-        if not it.startswith("bpaf_") and not any(way in run.text for run in runs for way in ways):
-            yield it
-
-
-def of_tests(name, cells, aliases, runs):
-    """The faults of a row of tests."""
-    yield from (f"no test of {name} uses `{it}`" for it in missing(" ".join(codes(cells[1])), aliases, runs))
     lines, parts = [*lines_of(cells[2])], cells[3].split("; ")
-    answers = [told_in(it) for it in (parts if len(parts) == len(lines) else [cells[3]] * len(lines))]
-    if cells[2] == "-":
-        lines = [[unescaped(it)] for it in re.findall(r'"(.*?)"', cells[1])] or [None]
-        answers = answers[:1] * len(lines)
-    for words, answer in zip(lines, answers):
-        told_here = words is not None and are_told(words, runs)
-        anywhere = has([it for it in answer if it not in ("true", "false")])
-        if not any(run.says(words, has(answer)) if told_here else anywhere(run.whole) for run in runs):
-            yield f"no test of {name} has the words {words} with the answers {answer}"
+    answers = parts if len(parts) == len(lines) else [cells[3]] * len(lines)
+    for run in runs:
+        yield from (f"{cells[0]}: {run.at} has no `{it}`" for it in run.lacks(parser))
+        for words, answer in zip(lines, answers):
+            if not run.says(words, answer):
+                yield f"{cells[0]}: {run.at} doesn't have the words {words} with the answer {answer}"
 
 
-def as_told(answer, other):
-    """What tells whether a text has an answer of data: its value, or some value where the test has another one; its
-    message, or some message where that is a closure's.
-    """
-    kind, _, text = answer.partition(" ")
-    if kind == "ok" and other:
-        return lambda it: "err " not in it.partition("\\n")[0] and it != "refused" or "ok " in it
-    if kind == "ok":
-        return lambda it: plain(told(text)) in plain(told(unescaped(it)))
-    text = re.sub(r"\\(.)", r"\1", answer.partition("^")[2] if kind.startswith("err^") else text)
-    if kind.startswith("err") and not OWN_TEXTS.search(text):
-        others = ('"refused"', '"None"')
-        return lambda it: plain(told(text)) in plain(told(unescaped(it))) or any(o in f'"{it}"' for o in others)
-    return lambda it: '"ok ' not in '"' + it
-
-
-def of_data(name, row, runs, other):
-    """The fault of a row of data that none of these tests has, perhaps with another value."""
-    words, answer = row
-    of_words = words and any(all([*run.tails([it])] for it in words) for run in runs if not run.is_of_parsers)
-    if are_told(words, runs) and not of_words and not any(run.says(words, as_told(answer, other)) for run in runs):
-        yield f"no test of {name} has its words `{' '.join(words)}` with its answer"
+def told(runs):
+    """The last two cells of a row."""
+    return [runs[0].at if runs else "", ", ".join(it.at for it in runs[1:])]
 
 
 def faults():
     """What docs/ROWS.md says otherwise than what runs."""
-    found, known, named, parser = data(), tests(), set(), ""
+    found, named, parser = places(), set(), ""
     for cells, aliases in tables():
-        if len(cells) == 5:
-            name, parser = cells[0], parser if cells[1] == "the same" else cells[1]
-            named |= {name} & {*found}
-            runs = cells[4].split(", ")
-            tested = [test for it in runs for test in known.get(it, [])]
-            yield from (f"{name} is not run by {it}" for it in runs if it not in known and it != "rows.txt")
-            if tested:
-                yield from of_tests(name, [name, parser, *cells[2:]], aliases, tested)
-            elif name not in found:
-                yield f"{name} is no row of data"
-            elif [*lines_of(cells[2])] != [found[name][0]] or not has(codes(cells[3]))(found[name][1]):
-                yield f"the row of data {name} has other words or another answer"
-            continue
-        also = codes(cells[2]) if len(cells) > 2 else []
-        yield from (f"no test is named {it}" for it in also if it not in known)
-        runs = [test for it in also for test in known.get(it, [])]
-        for name in codes(cells[0]):
-            named.add(name)
-            if name not in found:
-                yield f"no row of data is named {name}"
-            elif runs:
-                yield from of_data(name, found[name], runs, " there)" in cells[1])
-    yield from (f"the row of data {it} isn't named" for it in sorted({*found} - named))
+        names = codes(cells[0]) or [cells[0]]
+        named |= {*names}
+        yield from (f"nothing runs {it}" for it in names if it not in found)
+        if len(cells) == 6 and cells[0] in found:
+            code = " ".join(codes(cells[1]))
+            parser = parser + " " + code if cells[1].startswith("the same") else code
+            yield from of_row(cells, parser, aliases, found[cells[0]])
+            if cells[4:] != told(found[cells[0]]):
+                yield f"{cells[0]} runs at {told(found[cells[0]])}: python3 tools/rows.py --fill"
+    yield from (f"{found[it][0].at} runs {it}, which is no row" for it in sorted({*found} - named))
+
+
+def fill():
+    """Writes the places of all rows."""
+    found, lines = places(), text_of(ROWS).split("\n")
+    for at, line in enumerate(lines):
+        cells = CELL.split(re.sub(r"^\| | \|$", "", line))
+        if line.startswith("| ") and len(cells) == 6 and cells[0] in found:
+            lines[at] = "| " + " | ".join([*cells[:4], *told(found[cells[0]])]) + " |"
+    with open(ROWS, "w", encoding="utf-8") as file:
+        file.write("\n".join(lines))
+
+
+if __name__ == "__main__":
+    if sys.argv[1:] != ["--fill"]:
+        sys.exit(__doc__)
+    fill()

@@ -17,6 +17,7 @@ use std::test::Fail;
 use test_support::{cut, reads, rows_of};
 
 /// Compares what the calls of each row answer with what is wanted; the name of the run is `app`.
+/// The calls are made on each beginning of the words too, and return.
 pub(crate) fn walk(alloc: Global, table: &str) -> Result<(), Fail> {
     walk_by(alloc, false, table)
 }
@@ -31,6 +32,10 @@ fn walk_by(alloc: Global, numbers: bool, table: &str) -> Result<(), Fail> {
     for row in rows_of(alloc, table)? {
         let (known, rest) = cut(row.wanted, " | ");
         let (calls, wanted) = cut(rest, " | ");
+        for count in 0..row.words.len() {
+            let args = Args::from(&row.words.as_slice()[..count]).set_name("app");
+            drop(played(alloc, args, numbers, known, calls)?);
+        }
         let args = Args::from(row.words.as_slice()).set_name("app");
         reads(played(alloc, args, numbers, known, calls), wanted)?;
     }

@@ -8,13 +8,21 @@ use test_support::reads;
 
 // What texts print: in full, without the detail, and as their first line, between bars.
 const FOLDED: &[(&str, &str)] = &[
+    // doc_line_break_folded
     ("a\nb", "a b|a b|Some(\"a b\")"),
+    // doc_line_break_before_space
     ("a\n b", "a\n b|a\n b|Some(\"a\")"),
+    // doc_line_break_at_end
     ("a\n", "a\n|a\n|Some(\"a\")"),
+    // doc_short_text
+    // doc_full_text
+    // doc_first_line
     (
         "short\n\nlong one\nmore",
         "short\nlong one more|short|Some(\"short\")",
     ),
+    // doc_without_first_line
+    // doc_detail_alone
     ("\n\nx", "\nx||None"),
 ];
 
@@ -66,7 +74,9 @@ fn documents_are_printed(rt: HostRuntime) -> Result<(), Fail> {
     for (text, wanted) in FOLDED {
         reads(text_prints(rt.alloc(), *text), *wanted)?;
     }
+    // doc_pieces_as_they_are
     reads(pieces_print(rt.alloc()), "a\nbc|a\nbc|Some(\"a\")")?;
+    // what is appended
     reads(grown_prints(rt.alloc()), GROWN)
 }
 
@@ -81,11 +91,14 @@ const TREES: &[(&str, &str)] = &[
         "here ANY\nargument n _ NUM\noptional\nsection Sizes\nand\ncommand run r\nflag q _\nor",
         "['q'] ['n'] false none",
     ),
+    // order_positional_before_flag
     ("word FILE\nflag a _\nand", "['a'] [] false word"),
+    // order_flag_before_choice_and_positional
     (
         "flag b _\nword FILE\nflag a _\nor\nword FILE\nall",
         "['b', 'a'] [] true key",
     ),
+    // order_choice_with_positional_before_flag
     (
         "word FILE\nflag a _\nor\nflag b _\nand",
         "['a', 'b'] [] false none",

@@ -13,21 +13,26 @@ const SPELLED: &str = "
     Short -c false -c;Short -c true -c=v;ArgWord v;Short -c true -cr=v;ArgWord r=v;
 -==x -=x -= | / | spelled | Short -= true -==x;ArgWord x;Word -=x;Short -= false -=;
 # items_of_name_beyond_ascii
--ñ=x -ñ | / | spelled | Short -ñ true -ñ=x;ArgWord x;Short -ñ false -ñ;
+-ñ=x | / | spelled | Short -ñ true -ñ=x;ArgWord x;
 # items_of_attached_value_with_equals
 -Obits=2048 | / | spelled | Short -O true -Obits=2048;ArgWord bits=2048;
+# other names, known and not
+-ñ | / | spelled | Short -ñ false -ñ;
 -Obits=2048 | b/O | spelled | Short -O true -Obits=2048;ArgWord bits=2048;
 # unknown_joined_word_is_one_word
 -abc | / | spelled | Word -abc;
+# other words
 -жжж | ж/ | spelled | Short -ж false -жжж;Short -ж false ;Short -ж false ;
 -vn3 -vn -vx | v/n | spelled | \
     Short -v false -vn3;Short -n true -vn3;Word 3;Short -v false -vn;Short -n false -vn;Word -vx;
 a -- -- -b | / | spelled | Word a;none;PosWord --;PosWord -b;
-# last_character_ambiguous
+# the last character is ambiguous
 -va | va/a | len | ambiguity -va 2;
-# first_character_ambiguous
+# the first character is ambiguous
 -abc | abc/a | len | ambiguity -abc 1;
 x -abc | abc/a | len | ambiguity -abc 1;
+# number_of_known_names_is_ambiguous
+-12 | 12/1 | len | ambiguity -12 1;
 -b | abc/a | len | 1;
 -- -va | va/a | len | 1;
 ";
@@ -41,13 +46,17 @@ fn words_spell_items(rt: HostRuntime) -> Result<(), Fail> {
 const NUMBERS: &str = "
 -5 | / | spelled | Word -5;
 -12 | / | spelled | Word -12;
+# digit_with_equals_is_a_key
 -5= | / | spelled | Short -5 true -5=;ArgWord ;
+# digit_with_a_letter_is_a_word
 -1a | / | spelled | Word -1a;
+# dash_alone_is_a_word
 - | / | spelled | Word -;
+# digit_beyond_ascii_is_a_key
 -٣ | / | spelled | Short -٣ false -٣;
 --5 | / | spelled | Long --5 false --5;
 -5.5 | / | spelled | Word -5.5;
-# the names `1` and `2` are known, `1` both as a flag and as an argument
+# number_of_known_names_is_a_number
 -12 | 12/1 | spelled | Word -12;
 -n -5 -- -6 | /n | spelled | Short -n false -n;Word -5;none;PosWord -6;
 # letters behind a number are joined to it
@@ -70,7 +79,7 @@ const TAKEN: &str = "
 --speed=12 | / | take_arg --speed, is_empty, current | Some(\"12\");true;Some(1);
 # attached_short_value_with_dash_taken
 -s=-12 | / | take_adjacent -s, is_empty, current | Some(\"-12\");true;Some(1);
-# the same, not adjacent
+# attached_short_value_with_dash_taken_not_adjacent
 -s=-12 | / | take_arg -s, is_empty, current | Some(\"-12\");true;Some(1);
 # attached_short_value_taken
 -s=12 | / | take_arg -s, is_empty, current | Some(\"12\");true;Some(1);
@@ -88,7 +97,7 @@ const TAKEN: &str = "
     Some(\"12\");(3, true, \"-x\");true;missing;
 # flags_taken_in_either_order
 -s -v | / | take_flag -s, take_flag -s, len, take_flag -v, is_empty | true;false;1;true;true;
-# the other way round
+# flags_taken_the_other_way_round
 -s -v | / | take_flag -v, take_flag -v, len, take_flag -s, is_empty | true;false;1;true;true;
 # joined_flag_taken_three_times
 -vvv | v/ | take_flag -v, take_flag -v, take_flag -v, take_flag -v, is_empty | \
@@ -154,7 +163,7 @@ fn scope_and_path_are_changed(rt: HostRuntime) -> Result<(), Fail> {
 
 /// What is told of items that no parser took.
 const LEFT: &str = "
-# a key is told with the last earlier one of its kind and name
+# leftovers_of_a_state
 -v --v -v v -v | / | leftover, take_flag -v --v, leftover, take_flag -v --v, leftover, \
     earlier_key 0, earlier_key 1, earlier_key 3, earlier_key 4, earlier_key 5, remove 2, \
     leftover, remove 3, remove 4, leftover | \

@@ -36,14 +36,22 @@ fn expect_fault<T: FromText + Drop>(rt: &impl Abort, alloc: Global, text: &str, 
 #[test]
 fn unsigned_numbers_are_read(rt: HostRuntime) {
     let alloc = rt.alloc();
+    // plus_before_number_of_eight_bits
     expect_value::<u8>(&rt, alloc, "+5", 5);
+    // number_past_its_type
     expect_fault::<u8>(&rt, alloc, "256", NO_NUMBER);
+    // other numbers
     expect_value::<u16>(&rt, alloc, "65535", 65535);
     expect_value::<u32>(&rt, alloc, "0007", 7);
     expect_value::<u64>(&rt, alloc, "18446744073709551615", u64::MAX);
+    // minus_zero_unsigned_text
+    // sign_alone_text
+    // empty_text_is_no_number
+    // two_signs_text
     for text in ["18446744073709551616", "-0", "+", "", "+-5"] {
         expect_fault::<u64>(&rt, alloc, text, NO_NUMBER);
     }
+    // the greatest of all
     expect_value::<u128>(
         &rt,
         alloc,
@@ -56,8 +64,11 @@ fn unsigned_numbers_are_read(rt: HostRuntime) {
 #[test]
 fn signed_numbers_are_read(rt: HostRuntime) {
     let alloc = rt.alloc();
+    // least_number_of_eight_bits
     expect_value::<i8>(&rt, alloc, "-128", -128);
+    // minus_zero_of_eight_bits
     expect_value::<i8>(&rt, alloc, "-0", 0);
+    // other numbers
     expect_fault::<i8>(&rt, alloc, "128", NO_NUMBER);
     expect_value::<i16>(&rt, alloc, "+32767", 32767);
     expect_value::<i32>(&rt, alloc, "-2147483648", i32::MIN);
@@ -76,9 +87,13 @@ fn other_values_are_read(rt: HostRuntime) -> Result<(), Fail> {
     let alloc = rt.alloc();
     expect_value::<bool>(&rt, alloc, "true", true);
     expect_value::<bool>(&rt, alloc, "false", false);
+    // bool_in_capitals
     expect_fault::<bool>(&rt, alloc, "True", "neither true nor false");
+    // one_character
     expect_value::<char>(&rt, alloc, "é", 'é');
+    // two_characters
     expect_fault::<char>(&rt, alloc, "ab", "not one character");
+    // texts
     expect_value::<String>(&rt, alloc, " -a=b\n", String::from_str(alloc, " -a=b\n")?);
     expect_value::<String>(&rt, alloc, "", String::new(alloc));
     Ok(())

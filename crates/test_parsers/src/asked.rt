@@ -54,18 +54,24 @@ const VERSION: &str =
 #[test]
 fn keys_of_a_run_are_read(rt: HostRuntime) -> Result<(), Fail> {
     let a = rt.alloc();
+    // help_asked_of_info
     let one = "Some(Help(false))";
     prints(a, asked(a, Ok(Info::new()), &["x", "-h"]), one)?;
+    // help_asked_of_info_twice
     let two = "Some(Help(true))";
     prints(a, asked(a, Ok(Info::new()), &["--help", "-h"]), two)?;
+    // version_asked_of_info_without_one
     prints(a, asked(a, Ok(Info::new()), &["--version"]), "None")?;
+    // version_asked_of_info
     prints(a, asked(a, versioned(a), &["--version", "x"]), VERSION)?;
+    // help before the version
     prints(a, asked(a, versioned(a), &["-Vh"]), one)
 }
 
 /// The texts that a switch tells on standard output, where it is asked for help and where not.
 fn outputs(alloc: Global) -> Result<(Option<String>, Option<String>), AllocError> {
     let options = verbose(alloc)?.to_options(alloc)?;
+    // help_by_unwrap_stdout
     let help = output(options.run_inner(Args::from(&["--help"])))?;
     Ok((help, output(options.run_inner(Args::from(&["x"])))?))
 }

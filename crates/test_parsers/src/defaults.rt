@@ -29,8 +29,10 @@ const FORMATTED: &str = "out Usage: [-n=NUM]\n\n\
 #[test]
 fn defaults_are_shown(rt: HostRuntime) -> Result<(), Fail> {
     let a = rt.alloc();
+    // help_with_default
     let shown = num(a)?.fallback(7).display_fallback(a)?;
     reads(answers(a, shown, &[&["--help"], &[]]), PAGE_AND_VALUE)?;
+    // help_with_default_in_other_forms
     let shown = num(a)?.fallback(7).debug_fallback(a)?;
     reads(answers(a, shown, &[&["--help"]]), PAGE)?;
     let shown = num(a)?.fallback(7);
@@ -42,6 +44,7 @@ fn defaults_are_shown(rt: HostRuntime) -> Result<(), Fail> {
 fn answers_of_closures_are_shown(rt: HostRuntime) -> Result<(), Fail> {
     let a = rt.alloc();
     let seven = || Ok::<u64, String>(7);
+    // help_with_answer_of_a_closure
     let shown = num(a)?.fallback_with(seven).display_fallback(a)?;
     reads(answers(a, shown, &[&["--help"], &[]]), PAGE_AND_VALUE)?;
     let shown = num(a)?.fallback_with(seven).debug_fallback(a)?;
@@ -59,6 +62,7 @@ fn is_shown(alloc: Global) -> Result<bool, AllocError> {
 
 #[test]
 fn refused_defaults_are_told(rt: HostRuntime) -> Result<(), Fail> {
+    // refused_default
     assert!(rt; !is_shown(rt.alloc())?);
     Ok(())
 }

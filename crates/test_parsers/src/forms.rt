@@ -80,8 +80,11 @@ fn answered<F: FnOnce(Global) -> Result<P, AllocError>, P: Parser<u64> + Drop>(
 #[test]
 fn fields_are_named_in_place(rt: HostRuntime) -> Result<(), Fail> {
     let a = rt.alloc();
+    // fields_named_in_place_absent
     prints(a, in_place(a, &[]), "Some((false, false))")?;
+    // fields_named_in_place_present
     prints(a, in_place(a, &["-a", "-b"]), "Some((true, true))")?;
+    // a field of a function
     prints(a, answered(a, num, &["-n", "3"]), "Some((false, 3))")
 }
 
@@ -136,8 +139,10 @@ fn without_fields(
 #[test]
 fn values_are_made_by_name_and_number(rt: HostRuntime) -> Result<(), Fail> {
     let a = rt.alloc();
+    // positionals_round_marker
     let words = two_words(a, &["x", "--", "-y"]);
     prints(a, words, "Some(Pair { a: \"x\", b: \"-y\" })")?;
+    // values of other forms
     let settings = "Some(Settings { verbose: true, num: 3, level: Normal })";
     prints(a, named_fields(a, &["-n", "3", "-v"]), settings)?;
     let product_of = "Some((Build { verbose: true, num: 3 }, Run(4, false), Single(7), 5))";
@@ -208,6 +213,7 @@ fn conflict(
 #[test]
 fn other_branch_is_in_conflict(rt: HostRuntime) -> Result<(), Fail> {
     let a = rt.alloc();
+    // conflict_of_a_choice
     let answer = conflict(a, &["-a", "12", "-b", "3"]);
     prints(a, answer, "(Some(12), Some((2, 0)))")
 }

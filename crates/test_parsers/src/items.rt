@@ -16,6 +16,7 @@ fn small_number(alloc: Global, words: &[&str]) -> Result<Option<(u64, Vec<String
 #[test]
 fn any_reads_its_type(rt: HostRuntime) -> Result<(), Fail> {
     let a = rt.alloc();
+    // any_of_a_number
     let small = small_number(a, &["x", "12", "3"]);
     prints(a, small, "Some((3, [\"x\", \"12\"]))")?;
     prints(a, small_number(a, &["x", "12"]), "None")

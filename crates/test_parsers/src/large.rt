@@ -28,6 +28,7 @@ fn words_read(alloc: Global, number: usize) -> Result<Option<usize>, AllocError>
 
 #[test]
 fn a_hundred_thousand_words_are_read(rt: HostRuntime) -> Result<(), Fail> {
+    // count_of_a_hundred_thousand_words
     assert_eq!(rt; words_read(rt.alloc(), 100_000)?, Some(100_000));
     Ok(())
 }
@@ -42,6 +43,7 @@ fn numbers_collected(alloc: Global, number: usize) -> Result<Option<usize>, Allo
 
 #[test]
 fn a_thousand_values_are_collected(rt: HostRuntime) -> Result<(), Fail> {
+    // collection_of_a_thousand_values
     assert_eq!(rt; numbers_collected(rt.alloc(), 1_000)?, Some(1_000));
     Ok(())
 }
@@ -58,6 +60,7 @@ fn letters_read(alloc: Global, number: usize) -> Result<Option<usize>, AllocErro
 
 #[test]
 fn ten_thousand_letters_are_read(rt: HostRuntime) -> Result<(), Fail> {
+    // ten_thousand_letters_in_one_word
     assert_eq!(rt; letters_read(rt.alloc(), 10_000)?, Some(10_000));
     Ok(())
 }

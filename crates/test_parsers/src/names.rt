@@ -14,5 +14,6 @@ fn appname_with_name(rt: HostRuntime) -> Result<(), Fail> {
     let a = rt.alloc();
     let words: [&str; 0] = [];
     let named = Args::from(&words).set_name("x");
+    // appname_with_name
     prints(a, name_of(a, named), "Some(\"x\")")
 }

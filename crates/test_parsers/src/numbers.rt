@@ -23,7 +23,9 @@ fn integers(alloc: Global, words: &[&str]) -> Result<Option<Vec<i64>>, AllocErro
 #[test]
 fn negative_numbers_are_words(rt: HostRuntime) -> Result<(), Fail> {
     let a = rt.alloc();
+    // negative_numbers_are_words
     prints(a, integers(a, &["-1", "-22", "3"]), "Some([-1, -22, 3])")?;
+    // negative numbers behind the marker, and words that are none
     prints(a, integers(a, &["-1", "--", "-22"]), "Some([-1, -22])")?;
     prints(a, integers(a, &["-1="]), "None")?;
     prints(a, integers(a, &["-1a"]), "None")
@@ -50,7 +52,9 @@ fn by_outer(alloc: Global, words: &[&str]) -> Result<Option<i64>, AllocError> {
 #[test]
 fn setting_of_the_outermost_parser_counts(rt: HostRuntime) -> Result<(), Fail> {
     let a = rt.alloc();
+    // setting_of_a_command_has_no_effect
     prints(a, by_inner(a, &["a", "-n", "-5"]), "None")?;
+    // other settings and spellings
     prints(a, by_inner(a, &["a", "-n=-5"]), "Some(-5)")?;
     prints(a, by_outer(a, &["a", "-n", "-5"]), "Some(-5)")
 }

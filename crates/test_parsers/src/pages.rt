@@ -10,16 +10,10 @@ fn doc(alloc: Global, text: &str) -> Result<Doc, AllocError> {
     Doc::from_text(alloc, text)
 }
 
-/// A word with a help.
-fn helped(alloc: Global) -> Result<String, AllocError> {
+/// What a word with a help answers to lines of words.
+fn helped(alloc: Global, lines: &[&[&str]]) -> Result<String, AllocError> {
     let file = file().help(doc(alloc, "File to process")?);
-    let refused = ["a", "b"];
-    let help: [&str; 1] = ["--help"];
-    answers(
-        alloc,
-        file,
-        &[&help, &["--", "--help"], &refused, &help, &["--", "--help"]],
-    )
+    answers(alloc, file, lines)
 }
 
 /// The page of it.
@@ -27,19 +21,29 @@ const HELP_OF_FILE: &str = "out Usage: FILE\n\n\
     Available positional items:\n    \
     FILE        File to process\n\n\
     Available options:\n    \
-    -h, --help  Prints help information\n\n\
-    ok \"--help\"\n\
-    err `b` is not expected in this context\n\
+    -h, --help  Prints help information\n\n";
+
+/// The same, and the word, each behind a refusal.
+const AGAIN: &str = "err `b` is not expected in this context\n\
     out Usage: FILE\n\n\
     Available positional items:\n    \
     FILE        File to process\n\n\
     Available options:\n    \
     -h, --help  Prints help information\n\n\
+    err `b` is not expected in this context\n\
     ok \"--help\"\n";
 
 #[test]
 fn help_of_a_word(rt: HostRuntime) -> Result<(), Fail> {
-    reads(helped(rt.alloc()), HELP_OF_FILE)
+    let a = rt.alloc();
+    // help_of_positional
+    reads(helped(a, &[&["--help"]]), HELP_OF_FILE)?;
+    // help_word_after_marker
+    reads(helped(a, &[&["--", "--help"]]), "ok \"--help\"\n")?;
+    // help_after_refusal
+    // help_word_after_refusal
+    let lines: [&[&str]; 4] = [&["a", "b"], &["--help"], &["a", "b"], &["--", "--help"]];
+    reads(helped(a, &lines), AGAIN)
 }
 
 /// The page with a usage of which a closure makes another.
@@ -49,6 +53,7 @@ fn own_usage(alloc: Global) -> Result<String, AllocError> {
         text.doc(&usage)?;
         Ok(text)
     })?;
+    // usage_by_closure
     answers_of(alloc, options, &[&["--help"]])
 }
 

@@ -42,17 +42,24 @@ enum Select {
 fn a_level_stays_within_its_bounds(rt: HostRuntime) -> Result<(), Fail> {
     let a = rt.alloc();
     let most = verbose_and_quiet_by_number(a, isize::MAX, 0, isize::MAX)?;
+    // verbosity_at_greatest_number
     walk(a, most, "-v | ok 9223372036854775807")?;
     let least = verbose_and_quiet_by_number(a, isize::MIN, isize::MIN, 0)?;
+    // verbosity_at_least_number
     walk(a, least, "-q | ok -9223372036854775808")
 }
 
 /// The items of five levels.
 const LEVELS: &str = "
+# verbosity_without_words
  | ok Info
+# verbosity_less
 -q | ok Warning
+# verbosity_least
 -qqq | ok Error
+# verbosity_below_least
 -qqqq | ok Error
+# verbosity_more_and_less
 -vvvvq | ok Trace
 ";
 
@@ -67,15 +74,18 @@ fn a_level_picks_its_item(rt: HostRuntime) -> Result<(), Fail> {
         Level::Trace,
     ];
     walk(a, verbose_by_slice(a, 2, levels)?, LEVELS)?;
-    // two levels, far behind the last
+    // verbosity_offset_past_slice
     walk(a, verbose_by_slice(a, usize::MAX, ['A', 'B'])?, " | ok 'B'")
 }
 
 /// What two keys select.
 const SELECTED: &str = "
+# last_toggle_counts
 --banana --no-banana --banana --banana | ok Some(Banana)
---banana --no-banana | ok Some(NoBanana)
+# toggle_without_words
  | ok None
+# the second key
+--banana --no-banana | ok Some(NoBanana)
 ";
 
 #[test]
@@ -89,8 +99,11 @@ fn the_last_toggle_counts(rt: HostRuntime) -> Result<(), Fail> {
 
 /// A number, perhaps behind the name of a subcommand.
 const BEHIND_A_NAME: &str = "
+# cargo_name_skipped
 asm -n 3 | ok 3
+# cargo_name_absent
 -n 3 | ok 3
+# another word
 x -n 3 | refused
 ";
 
@@ -143,8 +156,11 @@ const LEVEL_PAGE: &str = "Usage: [--verbose]... [--quiet]...\n\n\
 #[test]
 fn usage_is_told_where_help_is_shown(rt: HostRuntime) -> Result<(), Fail> {
     let a = rt.alloc();
+    // usage_of_positional
     reads(help_of_word(a), PAGE)?;
+    // usage_of_taken_help_name
     reads(help_of_switch(a), "None")?;
+    // usage_of_verbosity
     reads(help_of_level(a), LEVEL_PAGE)
 }
 
@@ -172,7 +188,9 @@ fn switch_first(alloc: Global) -> Result<bool, AllocError> {
 #[test]
 fn words_stand_behind_keys(rt: HostRuntime) -> Result<(), Fail> {
     let a = rt.alloc();
+    // invariants_positional_first
     assert!(rt; !word_first(a)?);
+    // invariants_positional_last
     assert!(rt; switch_first(a)?);
     Ok(())
 }

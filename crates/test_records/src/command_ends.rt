@@ -12,11 +12,14 @@ use test_support::{Narrow, number, reads, switch};
 /// Words, parted by spaces; the value or the status, and what then stands on the two writers, with
 /// bars between.
 const ENDS: &[(&str, &str)] = &[
+    // end_of_command_with_value
     ("-v -c 4 build -n 3 -b", "Ok((false, true, 4, true, 3))||"),
+    // end_of_command_with_message
     (
         "-c 4 build -n",
         "Err(1)||Error: `-n` requires an argument `NUM`\n",
     ),
+    // end_of_command_with_help
     (
         "-c 4 build --help",
         "Err(0)|Usage: build -n=NUM
@@ -64,6 +67,7 @@ fn compare_builds(alloc: Global) -> Result<(), Fail> {
     let verbose = switch(alloc, 'v')?;
     let count = number(alloc, 'c')?;
     let b = switch(alloc, 'b')?;
+    // program_of_four_fields_and_a_command
     compare(alloc, construct!(a, verbose, count, b, build))
 }
 

@@ -14,7 +14,9 @@ type End<'a> = (&'a str, usize, usize, &'a str);
 
 /// The ends of a run of a number behind `-n`.
 const ENDS: &[End<'_>] = &[
+    // end_with_value
     ("-n 3", 0, 0, "Ok(3)||"),
+    // end_with_help
     (
         "--help",
         400,
@@ -26,14 +28,18 @@ Available options:
     -h, --help  Prints help information
 |",
     ),
+    // end_with_part_of_help
     ("--help", 6, 400, "Err(1)|Usage:|"),
+    // end_with_message
     (
         "-n",
         9,
         400,
         "Err(1)||Error: `-n` requires an argument `NUM`\n",
     ),
+    // end_with_part_of_message
     ("-n", 9, 9, "Err(1)||Error: `-"),
+    // end_without_room
     ("-n", 9, 0, "Err(1)||"),
 ];
 
@@ -109,10 +115,15 @@ fn printed(alloc: Global, text: Option<&str>, room: usize, failing: u64) -> Resu
 #[test]
 fn texts_are_printed(rt: HostRuntime) -> Result<(), Fail> {
     let rows = [
+        // text_printed
         (Some("a b\n"), 4, 0, "Err(0)|a b\n|"),
+        // text_printed_in_part
         (Some("a b\n"), 3, 0, "Err(1)|a b|"),
+        // text_printed_to_a_failed_write
         (Some("a b\n"), 4, 2, "Err(1)|a |"),
+        // want_told
         (None, 40, 0, "Err(1)||Error: out of memory\n"),
+        // want_told_to_a_failed_write
         (None, 40, 3, "Err(1)||Erro"),
     ];
     for (text, room, failing, wanted) in rows {

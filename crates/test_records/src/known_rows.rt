@@ -25,8 +25,10 @@ fn known_options_run_as_programs(rt: HostRuntime) -> Result<(), Fail> {
         options: short(alloc, 'v')?.switch().to_options(alloc)?,
         program: Verbose {},
     };
+    // program_that_is_known
     if !options.is_program() {
         return Err(Fail::new("no program"));
     }
+    // known_switch
     fits(alloc, options.run_program(Args::from(&["-v"])), "ok true")
 }

@@ -56,11 +56,16 @@ fn is_word_flat(alloc: Global, parser: ParsePositional<String>) -> Result<bool, 
 /// Of single fields, whether one is a flat record.
 fn leaves(alloc: Global) -> Result<bool, AllocError> {
     Ok(
+        // no_record_name_of_help_or_version
         is_switch_flat(alloc, switch(alloc, 'h')?)?
             || is_switch_flat(alloc, switch(alloc, 'V')?)?
+            // no_record_environment_name
             || is_switch_flat(alloc, short(alloc, 'v')?.env("VERBOSE")?.switch())?
+            // no_record_adjacent
             || is_number_flat(alloc, number(alloc, 'n')?.adjacent())?
+            // no_record_strict
             || is_word_flat(alloc, word().strict())?
+            // no_record_non_strict
             || is_word_flat(alloc, word().non_strict())?,
     )
 }
@@ -91,11 +96,17 @@ fn are_switches_flat(
 /// Of repeats and choices, whether one is a flat record.
 fn repeats(alloc: Global) -> Result<bool, AllocError> {
     Ok(
+        // no_record_name_twice_in_a_choice
         is_choice_flat(alloc, number(alloc, 'a')?, number(alloc, 'a')?)?
+            // no_record_choice_with_last_value
             || is_choice_flat(alloc, number(alloc, 'a')?.take_last(), number(alloc, 'b')?)?
+            // no_record_catch
             || is_catching_flat(alloc, number(alloc, 'n')?)?
+            // no_record_optional_repeated
             || is_flat(alloc, word().optional().many())?
+            // no_record_empty_choice
             || is_flat(alloc, choice(Vec::<ParseArgument<u64>>::new(alloc)))?
+            // no_record_choice_with_switch
             || are_switches_flat(alloc, switch(alloc, 'a')?, switch(alloc, 'b')?)?,
     )
 }
@@ -116,8 +127,10 @@ fn is_dressed_flat<T: Drop, P: ProgramField<T> + FlatField<T> + Drop>(
     round: Round,
 ) -> Result<bool, AllocError> {
     match round {
+        // no_record_product_with_look
         Round::Hidden => is_flat(alloc, product.hide_usage()),
         Round::Titled => is_flat(alloc, product.group_help(Doc::new(alloc))),
+        // no_record_product_with_closure
         Round::Mapped => is_flat(alloc, product.map(|value| value)),
         Round::Checked => is_flat(alloc, product.guard(|_| true, "no")),
     }
@@ -138,8 +151,11 @@ fn dressed(alloc: Global) -> Result<bool, AllocError> {
 /// Of products, whether one is.
 fn products(alloc: Global) -> Result<bool, AllocError> {
     Ok(
+        // no_record_positional_first
         pair(alloc, word(), switch(alloc, 'v')?)?
+            // no_record_shared_name
             || pair(alloc, switch(alloc, 'v')?, number(alloc, 'v')?)?
+            // no_record_product_inside_product
             || nested(alloc, switch(alloc, 'v')?, number(alloc, 'n')?)?
             || dressed(alloc)?,
     )

@@ -40,9 +40,11 @@ fn is_opening_whole(alloc: Global, parser: Opening) -> Result<bool, AllocError> 
 /// as its own help or version, with such further names, and of an adjacent one.
 fn is_one_opening(alloc: Global) -> Result<bool, AllocError> {
     for (word, key) in [
+        // no_program_word_with_dash
         ("-v", 'f'),
         ("-", 'f'),
         ("", 'f'),
+        // no_program_key_of_own_help_or_version
         ("add", 'h'),
         ("add", 'V'),
     ] {
@@ -51,9 +53,11 @@ fn is_one_opening(alloc: Global) -> Result<bool, AllocError> {
         }
     }
     Ok(
+        // no_program_further_name_with_dash
         is_opening_whole(alloc, add(alloc)?.short('-')?)?
             || is_opening_whole(alloc, add(alloc)?.long("--all")?)?
             || is_opening_whole(alloc, add(alloc)?.long("")?)?
+            // no_program_adjacent_command
             || is_opening_whole(alloc, add(alloc)?.adjacent())?,
     )
 }
@@ -75,6 +79,7 @@ fn is_either_whole(alloc: Global, first: Opening, second: Opening) -> Result<boo
 /// Of choices of commands of one word, whether one is.
 fn is_one_choice(alloc: Global) -> Result<bool, AllocError> {
     Ok(
+        // no_program_shared_word
         is_choice_whole(alloc, &[("rm", 'f'), ("add", 'g'), ("rm", 'k')])?
             || is_either_whole(alloc, add(alloc)?.short('r')?, open(alloc, "r", 'g')?)?,
     )
@@ -104,8 +109,11 @@ fn word() -> ParsePositional<String> {
 /// aren't apart.
 fn is_one_product(alloc: Global) -> Result<bool, AllocError> {
     Ok(
+        // no_program_command_first
         are_whole(alloc, add(alloc)?, switch(alloc, 'v')?)?
+            // no_program_word_before_command
             || are_whole(alloc, word(), add(alloc)?)?
+            // no_program_shared_name
             || are_whole(alloc, switch(alloc, 'f')?, add(alloc)?)?
             || are_whole(alloc, switch(alloc, 'h')?, add(alloc)?)?
             || are_nested_whole(alloc, 'f')?,
@@ -131,14 +139,21 @@ fn are_round_whole<A: Drop, B: Drop, P: ProgramField<A> + Drop, Q: ProgramField<
 /// closure round it.
 fn is_one_inside(alloc: Global) -> Result<bool, AllocError> {
     Ok(
+        // no_program_product_before_command
         are_round_whole(alloc, switch(alloc, 'v')?, word(), true)?
+            // no_program_product_with_closure
             || are_round_whole(alloc, switch(alloc, 'q')?, add(alloc)?, false)?,
     )
 }
 
 /// Of a command that may be left out and catches, and of one under a repeat, whether one is.
 fn is_one_wrapped(alloc: Global) -> Result<bool, AllocError> {
-    Ok(is_whole(alloc, add(alloc)?.optional().catch())? || is_whole(alloc, add(alloc)?.many())?)
+    Ok(
+        // no_program_catch
+        is_whole(alloc, add(alloc)?.optional().catch())?
+            // no_program_repeated_command
+            || is_whole(alloc, add(alloc)?.many())?,
+    )
 }
 
 /// Of all these, whether one is.

@@ -20,7 +20,9 @@ fn compare_numbers<T: Debug + Drop, P: ProgramField<T> + FlatField<T> + Drop>(
 
 /// Rows of a number behind a key.
 const BEHIND_KEY: &str = "
+# negative_number_is_a_value
 -n -5 | ok -5
+# other numbers and words
 -n=-5 | ok -5
 -n5 | ok 5
 -n -- -5 | err `-n` requires an argument `NUM`
@@ -30,14 +32,17 @@ const BEHIND_KEY: &str = "
 
 /// Rows of a number behind a key, where negative numbers are no words.
 const FLAGS: &str = "
+# negative_number_is_a_flag
 -n -5 | err `-n` requires an argument `NUM`, got a flag `-5`, try `-n=-5` to use it as an argument
 -n=-5 | ok -5
 ";
 
 /// Rows of a number behind a key and of any number of words.
 const BESIDE_WORDS: &str = "
+# numbers_behind_a_key_and_words
 -n -5 -1 2 | ok (-5, [-1, 2])
 -1 -n -5 -- -2 3 | ok (-5, [-1, -2, 3])
+# second keys and words that are none
 -n -5 -n -6 | err argument `-n` cannot be used multiple times in this context
 -n -5 -6= | err `-6` is not expected in this context
 ";

@@ -96,45 +96,63 @@ fn build_or_run(alloc: Global) -> Result<ParseOrElse<Counted, Counted>, AllocErr
 }
 
 const SWITCH_AND_COMMAND: &str = "
+# switch_before_command
+# switch_after_command
+# switch_on_each_side_of_the_word
 -v build -n 3 | ok (true, 3)
 build -v -n 3 | ok (true, 3)
 build -n 3 -v | ok (true, 3)
 build -vn3 | ok (true, 3)
+# short_word_of_command
 b -n=3 | ok (false, 3)
-build -n 3 -- | ok (false, 3)
 -b -n 3 | refused
--v | refused
+# marker_behind_the_word
+build -n 3 -- | ok (false, 3)
+build -- -n 3 | refused
+build -n -- 3 | refused
+# near_name_of_command
+# word_of_command_missing
  | refused
-build | refused
+-v | refused
 buil | refused
+# word_before_command
 x build -n 3 | refused
+# inner_key_before_the_word
 -n 3 build | refused
--n build 3 | refused
+# command_leaves_word
+# left_inside_command
 build -n 3 x | refused
 build -n 3 build | refused
 build build -n 3 | refused
-build -n 3 -n 4 | refused
-build -n -v | refused
--v build -v -n 3 | refused
+# marker_before_the_word
 -- build -n 3 | refused
-build -- -n 3 | refused
-build -n -- 3 | refused
+# help_behind_the_word
 build --help | shown
 build -n 3 --help | shown
 --help build -n 3 | shown
+# keys that are there twice, and values that are missing
+build | refused
+-n build 3 | refused
+build -n 3 -n 4 | refused
+build -n -v | refused
+-v build -v -n 3 | refused
 ";
 
 #[test]
 fn a_switch_and_a_command_run_as_programs(rt: HostRuntime) -> Result<(), Fail> {
     let alloc = rt.alloc();
+    // program_of_a_switch_and_a_command
     compare_behind(alloc, build(alloc)?, SWITCH_AND_COMMAND)
 }
 
 const COMMAND_LEFT_OUT: &str = "
+# command_left_out
  | ok (false, None)
 -v | ok (true, None)
 -- | ok (false, None)
+# command_not_left_out
 build -n 3 -v | ok (true, Some(3))
+# optional_command_refused
 build | refused
 build -n x | refused
 -n 3 | refused
@@ -146,13 +164,16 @@ x build -n 3 | refused
 #[test]
 fn commands_left_out_run_as_programs(rt: HostRuntime) -> Result<(), Fail> {
     let alloc = rt.alloc();
+    // program_of_commands_left_out
     compare_behind(alloc, build(alloc)?.optional(), COMMAND_LEFT_OUT)
 }
 
 const PRODUCT_WITH_COMMAND: &str = "
+# product_with_a_command_inside
 -v -q build -n 3 | ok (true, (true, 3))
 build -q -n 3 -v | ok (true, (true, 3))
 build -n 3 | ok (false, (false, 3))
+# product_with_a_command_inside_refused
 -v -q | refused
 -q build -n 3 -q | refused
 x build -n 3 | refused
@@ -163,19 +184,23 @@ fn a_product_with_a_command_runs_inside_another(rt: HostRuntime) -> Result<(), F
     let alloc = rt.alloc();
     let quiet = switch(alloc, 'q')?;
     let build = build(alloc)?;
+    // program_of_a_product_with_a_command
     compare_behind(alloc, construct!(quiet, build), PRODUCT_WITH_COMMAND)
 }
 
 const PRODUCT_WITH_WORDS: &str = "
+# product_with_words_inside
 -v a -q b | ok (true, (true, [\"a\", \"b\"]))
 a -- -v | ok (false, (false, [\"a\", \"-v\"]))
  | ok (false, (false, []))
+# product_with_words_inside_refused
 -v a -v | refused
 -q a -q | refused
 a --other | refused
 ";
 
 const WORDS_OF_PRODUCTS: &str = "
+# words_of_a_product_inside
 a b c d | ok (\"a\", (\"b\", [\"c\", \"d\"]))
 a b | ok (\"a\", (\"b\", []))
 a | refused
@@ -193,6 +218,7 @@ fn products_with_words_run_inside_others(rt: HostRuntime) -> Result<(), Fail> {
 }
 
 const COMMAND_CLOSED: &str = "
+# closures_round_a_command
  | ok None
 build -n 3 | ok Some(6)
 build -n 12 | refused
@@ -219,11 +245,14 @@ fn compare_doubled<P: ProgramField<u64> + Drop>(
 
 #[test]
 fn closures_round_commands_run_as_programs(rt: HostRuntime) -> Result<(), Fail> {
+    // program_of_a_command_with_closures
     compare_doubled(rt.alloc(), build(rt.alloc())?, COMMAND_CLOSED)?;
+    // program_of_commands_with_closures
     compare_doubled(rt.alloc(), build_or_run(rt.alloc())?, COMMAND_CLOSED)
 }
 
 const COMMANDS_ALONE: &str = "
+# command_alone
 build -n 3 | ok 3
  | refused
 -n 3 | refused
@@ -232,7 +261,9 @@ build build | refused
 
 #[test]
 fn commands_alone_run_as_programs(rt: HostRuntime) -> Result<(), Fail> {
+    // program_of_a_command_alone
     compare(rt.alloc(), build(rt.alloc())?, COMMANDS_ALONE)?;
+    // program_of_commands_alone
     compare(rt.alloc(), build_or_run(rt.alloc())?, COMMANDS_ALONE)
 }
 
@@ -255,10 +286,12 @@ fn compare_tasks(alloc: Global, rows: &str) -> Result<(), Fail> {
 }
 
 const SHARED_KEY: &str = "
+# key_of_two_commands
 add -f | ok 'A'
 rm -f | ok 'R'
 add | ok 'a'
 rm | ok 'r'
+# key_of_two_commands_refused
  | refused
 -f add | refused
 add rm | refused
@@ -267,6 +300,7 @@ add -f -f | refused
 
 #[test]
 fn commands_that_share_a_key_run_as_programs(rt: HostRuntime) -> Result<(), Fail> {
+    // program_of_commands_that_share_a_key
     compare_tasks(rt.alloc(), SHARED_KEY)
 }
 
@@ -283,31 +317,37 @@ fn compare_inside<T: Debug + Drop, P: ProgramField<T> + Drop>(
 }
 
 const INSIDE_A_COMMAND: &str = "
+# command_inside_a_command
 tool build -n 3 | ok (false, 3)
 -v tool run -n 3 | ok (true, 3)
 tool -v run -n 3 | ok (true, 3)
 tool run -n 3 -v | ok (true, 3)
+# command_inside_a_command_refused
 tool | refused
 build -n 3 | refused
 tool -n 3 build | refused
 tool tool build -n 3 | refused
 tool build -n 3 run | refused
+# help_inside_a_command
 tool run --help | shown
 ";
 
 #[test]
 fn commands_of_a_command_run_as_programs(rt: HostRuntime) -> Result<(), Fail> {
     let alloc = rt.alloc();
+    // program_of_commands_inside_a_command
     compare_inside(alloc, "tool", build_or_run(alloc)?, INSIDE_A_COMMAND)
 }
 
 const WORDS_OF_A_COMMAND: &str = "
-run | ok (false, [])
-run -- | ok (false, [])
+# words_inside_command
 run run x | ok (false, [\"run\", \"x\"])
-run x -v y | ok (true, [\"x\", \"y\"])
 run x -- -v -- | ok (false, [\"x\", \"-v\", \"--\"])
 run -vq | ok (false, [\"-vq\"])
+# the same command on other words
+run | ok (false, [])
+run -- | ok (false, [])
+run x -v y | ok (true, [\"x\", \"y\"])
 run -q | refused
 -- run x | refused
 x run | refused
@@ -326,27 +366,33 @@ fn compare_asked(alloc: Global, rows: &str) -> Result<(), Fail> {
 }
 
 const NAMED_AS_HELP: &str = "
+# inner_key_of_outer_help
 add -h | ok (false, true)
-add -v -h | ok (true, true)
 add --usage | shown
 -h add | shown
+# the same keys on other words
+add -v -h | ok (true, true)
 add -h -h | refused
 ";
 
 #[test]
 fn a_key_named_as_the_outer_help_runs_as_a_program(rt: HostRuntime) -> Result<(), Fail> {
+    // program_with_inner_key_of_outer_help
     compare_asked(rt.alloc(), NAMED_AS_HELP)
 }
 
 const HIDDEN_AND_KEPT: &str = "
+# hidden_and_kept_values
 -n 3 | ok (3, None, 5)
 -n=3 | ok (3, None, 5)
 -w 4 -n 3 | ok (3, Some(4), 5)
+# hidden_short_names_are_unknown
 -n3 | refused
 -w4 -n 3 | refused
+# hidden_and_kept_values_refused
+ | refused
 -n 3 -n 4 | refused
 -n 3 x | refused
- | refused
 ";
 
 #[test]
@@ -359,6 +405,7 @@ fn hidden_and_kept_values_run_as_programs(rt: HostRuntime) -> Result<(), Fail> {
 }
 
 const HIDDEN_COMMAND: &str = "
+# hidden_command
 build -n 3 | ok (false, 3)
 build -n 3 -v | ok (true, 3)
 -n 3 | refused
@@ -370,16 +417,31 @@ fn a_hidden_command_runs_as_a_program(rt: HostRuntime) -> Result<(), Fail> {
     compare_behind(alloc, build(alloc)?.hide(), HIDDEN_COMMAND)
 }
 
+const STRICT: &str = "
+# strict_before_marker_refused
+a | err expected `FILE` to be on the right side of `--`
+# strict_after_marker
+-- a | ok \"a\"
+";
+
+const NON_STRICT: &str = "
+# non_strict_before_marker
+a | ok \"a\"
+# non_strict_after_marker_refused
+-- a | err expected `FILE` to be on the left side of `--`
+";
+
 #[test]
 fn words_on_one_side_run_as_programs(rt: HostRuntime) -> Result<(), Fail> {
     let alloc = rt.alloc();
-    let rows = "a | err expected `FILE` to be on the right side of `--`\n-- a | ok \"a\"";
-    compare(alloc, word().strict(), rows)?;
-    let rows = "a | ok \"a\"\n-- a | err expected `FILE` to be on the left side of `--`";
-    compare(alloc, word().non_strict(), rows)
+    // program_of_strict_words
+    compare(alloc, word().strict(), STRICT)?;
+    // program_of_non_strict_words
+    compare(alloc, word().non_strict(), NON_STRICT)
 }
 
 const WORDS_ON_BOTH_SIDES: &str = "
+# words_on_both_sides
 a b -- c -d | ok ([\"a\", \"b\"], [\"c\", \"-d\"])
 -- c | ok ([], [\"c\"])
 a | ok ([\"a\"], [])
@@ -387,6 +449,7 @@ a | ok ([\"a\"], [])
 ";
 
 const WORD_BEFORE_LEFT_OUT: &str = "
+# word_before_left_out
 a -- b c | ok (Some(\"a\"), [\"b\", \"c\"])
 -- b | ok (None, [\"b\"])
  | ok (None, [])
@@ -397,27 +460,35 @@ a b | refused
 fn words_on_both_sides_run_as_programs(rt: HostRuntime) -> Result<(), Fail> {
     let alloc = rt.alloc();
     let before = word().non_strict().many();
+    // program_of_words_on_both_sides
     compare_two(alloc, before, word().strict().many(), WORDS_ON_BOTH_SIDES)?;
     let before = word().non_strict().optional();
     compare_two(alloc, before, word().strict().many(), WORD_BEFORE_LEFT_OUT)
 }
 
 const ADJACENT: &str = "
+# adjacent_value_joined
 -n3 | ok 3
+# adjacent_value_with_equals
 -n=3 | ok 3
+# adjacent_value_detached_refused
 -n 3 | refused
+# second_adjacent_value_refused
 -n3 -n=3 | refused
 ";
 
 #[test]
 fn an_adjacent_argument_runs_as_a_program(rt: HostRuntime) -> Result<(), Fail> {
     let alloc = rt.alloc();
+    // program_of_an_adjacent_argument
     compare(alloc, number(alloc, 'n')?.adjacent(), ADJACENT)
 }
 
 const GROUP: &str = "
+# group_of_options
 a -v -n 3 | ok ((true, 3), \"a\")
 -n3 a | ok ((false, 3), \"a\")
+# group_of_options_refused
 -v -n 3 | refused
 -n 3 -v -v a | refused
 -n a | refused
@@ -430,5 +501,6 @@ fn a_group_of_options_runs_as_a_program(rt: HostRuntime) -> Result<(), Fail> {
     let verbose = switch(alloc, 'v')?;
     let num = number(alloc, 'n')?;
     let group = construct!(verbose, num).group_help(Doc::new(alloc));
+    // program_of_a_group
     compare_two(alloc, group, word(), GROUP)
 }

@@ -28,6 +28,7 @@ fn compare_fields(alloc: Global, variable: &str, rows: &str) -> Result<(), Fail>
 }
 
 const SET: &str = "
+# variables_set
  | ok (5, Some(5), [5], true)
 -n 3 | ok (3, Some(5), [5], true)
 -w 4 -d 1 -d 2 -v | ok (5, Some(4), [1, 2], true)
@@ -35,12 +36,14 @@ const SET: &str = "
 ";
 
 const UNREADABLE: &str = "
+# variables_unreadable_under_a_repeat
  | refused
 -n 3 -w 4 | refused
 -n 3 -w 4 -d 1 | refused
 ";
 
 const UNSET: &str = "
+# variables_unset
  | refused
 -n 3 | ok (3, None, [], false)
 -n 3 -d 1 -v | ok (3, None, [1], true)
@@ -49,12 +52,14 @@ const UNSET: &str = "
 #[test]
 fn keys_with_variables_run_as_programs(rt: HostRuntime) -> Result<(), Fail> {
     let alloc = rt.alloc();
+    // program_of_keys_with_variables
     compare_fields(alloc, "NUM", SET)?;
     compare_fields(alloc, "BAD", UNREADABLE)?;
     compare_fields(alloc, "NONE", UNSET)
 }
 
 const UNREADABLE_ONCE: &str = "
+# variables_unreadable
  | refused
 -n 3 | refused
 -w 4 | refused
@@ -74,8 +79,11 @@ fn variables_alone_run_as_programs(rt: HostRuntime) -> Result<(), Fail> {
     let alloc = rt.alloc();
     let num = env(alloc, "NUM")?.argument::<u64>("NUM");
     let unset = env(alloc, "K")?.argument::<u64>("K").optional();
+    // variables_alone
     let rows = " | ok (5, None)\n5 | refused";
     compare_in(alloc, VARIABLES, construct!(num, unset), rows)?;
+    // environment_name_alone_not_set
+    // program_of_a_variable_alone
     compare_in(
         alloc,
         VARIABLES,

@@ -7,7 +7,9 @@
 //! - [`reads`] compares a text with the wanted one, and [`prints`] what Rust's Debug prints.
 //! - [`answers`] tells what a parser answers to lines of words, and [`value`] the value of one. The
 //!   parsers here, switches and numbers, are those that most rows are of.
-//! - A program gives its `run` by [`Tried`]; then [`ran`] tells what stands on its two writers.
+//! - [`walk`] runs a parser on the rows of a table, and on each beginning of their words.
+//! - A program gives its `run` by [`Tried`]; then [`ran`] tells what stands on its two writers, and
+//!   [`ran_failing`] what does where one of their calls fails.
 //! - A [`Narrow`] takes little at a time, and fails where it is told to.
 //!
 //! ```text
@@ -37,6 +39,6 @@ mod table;
 
 pub use compared::{prints, reads};
 pub use narrow::Narrow;
-pub use outcome::{Tried, Written, ran};
+pub use outcome::{Tried, Written, ran, ran_failing};
 pub use parsers::{answers, answers_of, num, number, switch, value, verbose};
 pub use table::{Row, cut, fits, rows_of, walk, walk_of};

@@ -24,6 +24,8 @@ pub struct Written {
     pub err: Vec<u8>,
     /// The status, from 0 to 255.
     pub status: u8,
+    /// Whether a write followed one that failed.
+    pub late: bool,
 }
 
 impl Written {
@@ -53,15 +55,37 @@ fn owned(alloc: Global, words: &str) -> Result<Vec<String>, AllocError> {
     Ok(all)
 }
 
-/// What a program writes on words, which are parted by single spaces.
-pub fn ran<P: Tried>(alloc: Global, program: &P, words: &str) -> Result<Written, AllocError> {
-    let words = owned(alloc, words)?;
-    let mut out = Narrow::new(alloc, usize::MAX, 0);
-    let mut err = Narrow::new(alloc, usize::MAX, 0);
-    let status = program.run(alloc, words.as_slice(), &mut out, &mut err);
-    Ok(Written {
+/// What a program writes on words, where the call of this number fails on either writer, or none
+/// where it is 0.
+fn once<P: Tried>(alloc: Global, program: &P, words: &[String], failing: u64) -> Written {
+    let mut out = Narrow::new(alloc, usize::MAX, failing);
+    let mut err = Narrow::new(alloc, usize::MAX, failing);
+    let status = program.run(alloc, words, &mut out, &mut err);
+    Written {
+        late: out.late || err.late,
         out: out.taken,
         err: err.taken,
         status,
-    })
+    }
+}
+
+/// What a program writes on words, which are parted by single spaces. It is run on each beginning
+/// of them too, and returns.
+pub fn ran<P: Tried>(alloc: Global, program: &P, words: &str) -> Result<Written, AllocError> {
+    let words = owned(alloc, words)?;
+    for count in 0..words.len() {
+        drop(once(alloc, program, &words.as_slice()[..count], 0));
+    }
+    Ok(once(alloc, program, words.as_slice(), 0))
+}
+
+/// The same of these words alone, where the call of this number fails on either writer.
+pub fn ran_failing<P: Tried>(
+    alloc: Global,
+    program: &P,
+    words: &str,
+    failing: u64,
+) -> Result<Written, AllocError> {
+    let words = owned(alloc, words)?;
+    Ok(once(alloc, program, words.as_slice(), failing))
 }

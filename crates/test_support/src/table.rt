@@ -66,7 +66,21 @@ pub fn fits<T: Debug + Drop>(
     }
 }
 
-/// Runs a parser on the words of each row, and compares the answers.
+/// Runs options on each beginning of these words. Each returns, and none wants memory.
+fn run_beginnings<T: Debug + Drop, P: Parser<T> + Drop>(
+    alloc: Global,
+    options: &OptionParser<T, P>,
+    words: &[&str],
+) -> Result<(), Fail>
+    requires { P.can_eval options.now.inner }
+{
+    for count in 0..words.len() {
+        drop(told(alloc, options.run_inner(Args::from(&words[..count])))?);
+    }
+    Ok(())
+}
+
+/// Runs a parser on the words of each row, and compares the answers; and on each beginning of them.
 pub fn walk<T: Debug + Drop, P: Parser<T> + Drop>(
     alloc: Global,
     parser: P,
@@ -86,6 +100,7 @@ pub fn walk_of<T: Debug + Drop, P: Parser<T> + Drop>(
     requires { P.can_eval options.inner }
 {
     for row in rows_of(alloc, table)? {
+        run_beginnings(alloc, &options, row.words.as_slice())?;
         let answer = options.run_inner(Args::from(row.words.as_slice()));
         fits(alloc, answer, row.wanted)?;
     }
