@@ -1,0 +1,160 @@
+#!/usr/bin/env python3
+"""Holds each block of the pages to what stands. A comment on the line in front of its fence, which readers
+don't see, says which of three kinds it is:
+
+code: PATH; ITEM; ITEM       a file, or items of one, as they stand there
+calls: PATH, PATH; NAME      each call stands by itself in these files, or in these functions of them
+output: PATH                 the lines stand in this file, with which a run or a test compares what is printed
+output: rt, output: checker  what `rt` prints where nothing compares it; a message of the checker
+
+An item is named by how its declaration begins, as `fn main` or `impl Tried for Program`; one of a definition by its
+name; a line of another file by how it begins. With --write the code is copied anew.
+"""
+import glob
+import os
+import re
+import sys
+import textwrap
+
+sys.dont_write_bytecode = True
+
+PAGES = ["README.md", "CONTRIBUTING.md", "CHANGELOG.md", *sorted({*glob.glob("docs/*.md")} - {"docs/STATEMENT.md"})]
+FENCE = re.compile(r"( *)```\w*$")
+MARK = re.compile(r" *<!-- (code|calls|output): (.+) -->$")
+LISTED = re.compile(r"( *)(?:[-*]|\d+\.) +")
+ABOVE = ("///", "#[", "--")
+
+
+class Fault(Exception):
+    """Why a block isn't what its mark says."""
+
+
+def text_of(path):
+    if not os.path.isfile(path):
+        raise Fault(f"there is no {path}")
+    with open(path, encoding="utf-8") as it:
+        return it.read()
+
+
+def begins(line, name):
+    """Whether a line declares this name, or begins with these words."""
+    return re.match(rf"\s*(?:(?:pub|abbrev|data|record) )*{re.escape(name)}(?!\w)", line)
+
+
+def item_of(path, name):
+    """The text of an item, with its comment and without the indentation of all its lines."""
+    lines = text_of(path).rstrip("\n").split("\n")
+    at = next((number for number, line in enumerate(lines) if begins(line, name)), None)
+    if at is None:
+        raise Fault(f"`{name}` doesn't stand in {path}")
+    if path.endswith(".antt"):
+        return next(part for part in re.split(r"\n\s*\n", "\n".join(lines)) if lines[at] in part.split("\n"))
+    if not path.endswith(".rt"):
+        return lines[at]
+    first, last, before = at, at, re.match(" *", lines[at])[0]
+    while first and lines[first - 1].strip().startswith(ABOVE):
+        first -= 1
+    while not (lines[last].startswith(before + "}") or last == at and lines[at].endswith((";", "}"))):
+        last += 1
+    return textwrap.dedent("\n".join(lines[first : last + 1]))
+
+
+def copied(said):
+    """The code of a mark: the whole file, or its items with an empty line between each two."""
+    path, *items = re.split(r"; *", said)
+    return "\n\n".join(item_of(path, it) for it in items) if items else text_of(path).rstrip("\n")
+
+
+def folded(text):
+    """Code without comments, white space and commas in front of what closes."""
+    text = re.sub(r"(?m)(?:^|\s+)//.*$", "", text)
+    return re.sub(r",(?=[)\]}])", "", re.sub(r"\s+", "", text))
+
+
+def calls_of(text):
+    """The calls of a list, each whole, on however many lines."""
+    call = ""
+    for line in text.split("\n"):
+        if call.count("(") + call.count("{") == call.count(")") + call.count("}") and not line.strip().startswith("."):
+            yield call
+            call = ""
+        call += folded(line) if call else folded(line).lstrip()
+    yield call
+
+
+def look_for_calls(said, text):
+    """Refuses a call that stands nowhere in the files or functions of a mark."""
+    paths, *names = re.split(r"; *", said)
+    there = [item_of(path, f"fn {name}") for path in paths.split(", ") for name in names or [""] if name]
+    there = folded("\n".join(there or [text_of(path) for path in paths.split(", ")]))
+    for call in filter(None, calls_of(text)):
+        end = "" if call.endswith((";", "}")) else r"(?![\w.?])"
+        if not re.search(rf"(?<![\w.]){re.escape(call)}{end}", there):
+            raise Fault(f"the call `{call}` stands nowhere in {said}")
+
+
+def look_for_output(said, text):
+    """Refuses output that doesn't stand in the file of a mark, as it is or in a literal."""
+    if said not in ("rt", "checker"):
+        raw = text_of(said)
+        literal = re.sub(r"\\\n\s*", "", raw).replace("\\n", "\n")
+        if f"{text}\n" not in raw and f"{text}\n" not in literal:
+            raise Fault(f"the output doesn't stand in {said}")
+
+
+def wanted(mark, text):
+    """What a block of this text is to be by its mark."""
+    kind, said = mark
+    if kind == "code":
+        return copied(said)
+    (look_for_calls if kind == "calls" else look_for_output)(said, text)
+    return text
+
+
+def looked_at(page, write):
+    """The lines of a page with its code copied anew, and what is wrong with its blocks."""
+    with open(page, encoding="utf-8") as it:
+        lines = it.read().split("\n")
+    made, found, number, inside = [], [], 0, 0
+    while number < len(lines):
+        line, fence = lines[number], FENCE.match(lines[number])
+        mark = MARK.match(lines[number - 1]) if number else None
+        listed = LISTED.match(line)
+        inside = len(listed[0]) if listed else 0 if re.match(r"\S", line) else inside
+        made.append(line)
+        if fence:
+            end = lines.index(fence[1] + "```", number + 1)
+            block = [it.removeprefix(fence[1]) for it in lines[number + 1 : end]]
+            try:
+                if not mark:
+                    raise Fault("a block without a mark")
+                block_wanted = wanted(mark.groups(), "\n".join(block)).split("\n")
+                if block_wanted != block and not write:
+                    raise Fault(f"the block differs from {mark[2]}; tools/blocks.py --write copies it")
+                block = block_wanted
+            except Fault as it:
+                found.append(f"{page}:{number + 1}: {it}")
+            made += [fence[1] + it if it else it for it in block] + [lines[end]]
+            number = end
+        elif mark:
+            found.append(f"{page}:{number}: a mark without a block")
+        elif re.match(" " * (inside + 4) + r"\S", line) and made[-2:-1] == [""]:
+            found.append(f"{page}:{number + 1}: a block without a mark, since it is indented")
+        number += 1
+    return "\n".join(made), found
+
+
+def faults(write=False):
+    """All blocks that aren't what their marks say."""
+    for page in PAGES:
+        text, found = looked_at(page, write)
+        if write:
+            with open(page, "w", encoding="utf-8") as it:
+                it.write(text)
+        yield from found
+
+
+if __name__ == "__main__":
+    told = [*faults(sys.argv[1:] == ["--write"])]
+    print("\n".join([*told, f"blocks: {len(told)} faults"]))
+    sys.exit(1 if told else 0)
