@@ -66,9 +66,10 @@ def copied(said):
 
 
 def folded(text):
-    """Code without comments, white space and commas in front of what closes."""
-    text = re.sub(r"(?m)(?:^|\s+)//.*$", "", text)
-    return re.sub(r",(?=[)\]}])", "", re.sub(r"\s+", "", text))
+    """Code without comments, and outside of literals without white space and commas in front of what closes."""
+    parts = re.split(r'("(?:[^"\\]|\\.)*")', re.sub(r"(?m)(?:^|\s+)//.*$", "", text))
+    parts[::2] = (re.sub(r"\s+", "", it) for it in parts[::2])
+    return re.sub(r",(?=[)\]}])", "", "".join(parts))
 
 
 def calls_of(text):
@@ -76,10 +77,10 @@ def calls_of(text):
     call = ""
     for line in text.split("\n"):
         if call.count("(") + call.count("{") == call.count(")") + call.count("}") and not line.strip().startswith("."):
-            yield call
+            yield folded(call)
             call = ""
-        call += folded(line) if call else folded(line).lstrip()
-    yield call
+        call += re.sub(r"\s*//.*", "", line) + "\n"
+    yield folded(call)
 
 
 def look_for_calls(said, text):
@@ -93,12 +94,21 @@ def look_for_calls(said, text):
             raise Fault(f"the call `{call}` stands nowhere in {said}")
 
 
+def has_lines(there, text):
+    """Whether a text has these lines, or ends of its own that are these, one behind the other."""
+    at = 0
+    for line in text.split("\n"):
+        at = there.find(line + "\n", at) + len(line)
+        if at < len(line):
+            return False
+    return True
+
+
 def look_for_output(said, text):
     """Refuses output that doesn't stand in the file of a mark, as it is or in a literal."""
     if said not in ("rt", "checker"):
         raw = text_of(said)
-        literal = re.sub(r"\\\n\s*", "", raw).replace("\\n", "\n")
-        if f"{text}\n" not in raw and f"{text}\n" not in literal:
+        if not has_lines(raw, text) and not has_lines(re.sub(r"\\\n\s*", "", raw).replace("\\n", "\n"), text):
             raise Fault(f"the output doesn't stand in {said}")
 
 

@@ -1,7 +1,7 @@
 #!/usr/bin/env python3
 """Holds the documents to the tree: names in backticks stand somewhere in crates/, and where a page says
-so; each row of docs/ROWS.md runs as it says, by its tests or as data; and docs/STATEMENT.md has the
-definitions as they stand. No line of a page is too wide, and no source keeps a value from being
+so; each block is code, calls or output that stands, as the comment in front of it says; each row of
+docs/ROWS.md runs as it says, by its tests or as data; and docs/STATEMENT.md has the definitions as they stand. No line of a page is too wide, and no source keeps a value from being
 dropped. It prints what doesn't hold, and then exits with 1.
 
 A name is an identifier or a path of them. Of docs/DIFFERENCES.md, whose first column and whose last
@@ -13,6 +13,7 @@ import re
 import sys
 
 sys.dont_write_bytecode = True
+import blocks
 import places
 import rows
 import statement
@@ -70,7 +71,7 @@ def main():
     words = {word for path, text in found.items() for word in IDENTIFIER.findall(path + " " + text)}
     words |= {word for it in os.listdir(".") for word in IDENTIFIER.findall(it)}
     named = {cells[0] for cells, _ in rows.tables() if len(cells) == 5}
-    lost = [*(f"{rows.ROWS}: {it}" for it in rows.faults()), *places.faults(), *statement.faults()]
+    lost = [*(f"{rows.ROWS}: {it}" for it in rows.faults()), *blocks.faults(), *places.faults(), *statement.faults()]
     for path, text in found.items():
         if path.endswith(".rt") and UNDROPPED.search(text):
             lost.append(f"{path}: a value may be left undropped")
