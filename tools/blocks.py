@@ -16,13 +16,10 @@ import re
 import sys
 import textwrap
 
-sys.dont_write_bytecode = True
-
 PAGES = ["README.md", "CONTRIBUTING.md", "CHANGELOG.md", *sorted({*glob.glob("docs/*.md")} - {"docs/STATEMENT.md"})]
 FENCE = re.compile(r"( *)```\w*$")
 MARK = re.compile(r" *<!-- (code|calls|output): (.+) -->$")
-LISTED = re.compile(r"( *)(?:[-*]|\d+\.) +")
-ABOVE = ("///", "#[", "--")
+LISTED = re.compile(r" *(?:[-*]|\d+\.) +")
 
 
 class Fault(Exception):
@@ -30,39 +27,31 @@ class Fault(Exception):
 
 
 def text_of(path):
+    """The text of a file."""
     if not os.path.isfile(path):
         raise Fault(f"there is no {path}")
     with open(path, encoding="utf-8") as it:
         return it.read()
 
 
-def begins(line, name):
-    """Whether a line declares this name, or begins with these words."""
-    return re.match(rf"\s*(?:(?:pub|abbrev|data|record) )*{re.escape(name)}(?!\w)", line)
-
-
 def item_of(path, name):
     """The text of an item, with its comment and without the indentation of all its lines."""
     lines = text_of(path).rstrip("\n").split("\n")
-    at = next((number for number, line in enumerate(lines) if begins(line, name)), None)
+    begins = re.compile(rf"\s*(?:(?:pub|abbrev|data|record) )*{re.escape(name)}(?!\w)")
+    at = next((number for number, line in enumerate(lines) if begins.match(line)), None)
     if at is None:
         raise Fault(f"`{name}` doesn't stand in {path}")
     if path.endswith(".antt"):
         return next(part for part in re.split(r"\n\s*\n", "\n".join(lines)) if lines[at] in part.split("\n"))
     if not path.endswith(".rt"):
         return lines[at]
-    first, last, before = at, at, re.match(" *", lines[at])[0]
-    while first and lines[first - 1].strip().startswith(ABOVE):
+    first = last = at
+    before = re.match(" *", lines[at])[0]
+    while first and lines[first - 1].strip().startswith(("///", "#[")):
         first -= 1
     while not (lines[last].startswith(before + "}") or last == at and lines[at].endswith((";", "}"))):
         last += 1
     return textwrap.dedent("\n".join(lines[first : last + 1]))
-
-
-def copied(said):
-    """The code of a mark: the whole file, or its items with an empty line between each two."""
-    path, *items = re.split(r"; *", said)
-    return "\n\n".join(item_of(path, it) for it in items) if items else text_of(path).rstrip("\n")
 
 
 def folded(text):
@@ -75,96 +64,86 @@ def folded(text):
 def calls_of(text):
     """The calls of a list, each whole, on however many lines."""
     call = ""
-    for line in text.split("\n"):
+    for line in re.sub(r"(?m)\s*//.*$", "", text).split("\n"):
         if call.count("(") + call.count("{") == call.count(")") + call.count("}") and not line.strip().startswith("."):
             yield folded(call)
             call = ""
-        call += re.sub(r"\s*//.*", "", line) + "\n"
+        call += line + "\n"
     yield folded(call)
 
 
-def look_for_calls(said, text):
-    """Refuses a call that stands nowhere in the files or functions of a mark."""
-    paths, *names = re.split(r"; *", said)
-    there = [item_of(path, f"fn {name}") for path in paths.split(", ") for name in names or [""] if name]
-    there = folded("\n".join(there or [text_of(path) for path in paths.split(", ")]))
+def look_for_calls(paths, names, text):
+    """Refuses a call that stands nowhere in these files, or functions of them."""
+    there = folded("\n".join([item_of(path, f"fn {name}") for path in paths for name in names] or map(text_of, paths)))
     for call in filter(None, calls_of(text)):
         end = "" if call.endswith((";", "}")) else r"(?![\w.?])"
         if not re.search(rf"(?<![\w.]){re.escape(call)}{end}", there):
-            raise Fault(f"the call `{call}` stands nowhere in {said}")
+            raise Fault(f"the call `{call}` stands nowhere in {' '.join([*paths, *names])}")
 
 
 def has_lines(there, text):
     """Whether a text has these lines, or ends of its own that are these, one behind the other."""
     at = 0
     for line in text.split("\n"):
-        at = there.find(line + "\n", at) + len(line)
-        if at < len(line):
+        at = there.find(line + "\n", at) + 1
+        if not at:
             return False
     return True
 
 
-def look_for_output(said, text):
-    """Refuses output that doesn't stand in the file of a mark, as it is or in a literal."""
-    if said not in ("rt", "checker"):
-        raw = text_of(said)
-        if not has_lines(raw, text) and not has_lines(re.sub(r"\\\n\s*", "", raw).replace("\\n", "\n"), text):
-            raise Fault(f"the output doesn't stand in {said}")
-
-
-def wanted(mark, text):
-    """What a block of this text is to be by its mark."""
-    kind, said = mark
+def wanted(kind, said, text):
+    """What a block of this text is to be by its mark: code as it stands, with an empty line between two items."""
+    path, *names = re.split(r"; *", said)
     if kind == "code":
-        return copied(said)
-    (look_for_calls if kind == "calls" else look_for_output)(said, text)
+        return "\n\n".join(item_of(path, it) for it in names) or text_of(path).rstrip("\n")
+    if kind == "calls":
+        look_for_calls(path.split(", "), names, text)
+    elif path not in ("rt", "checker"):
+        raw = text_of(path)
+        if not has_lines(raw, text) and not has_lines(re.sub(r"\\\n\s*", "", raw).replace("\\n", "\n"), text):
+            raise Fault(f"the output doesn't stand in {path}")
     return text
 
 
-def looked_at(page, write):
-    """The lines of a page with its code copied anew, and what is wrong with its blocks."""
-    with open(page, encoding="utf-8") as it:
-        lines = it.read().split("\n")
-    made, found, number, inside = [], [], 0, 0
+def faults_of(page, write):
+    """What is wrong with the blocks of a page, whose code is copied anew where that is asked for."""
+    lines, made, found, number, inside = text_of(page).split("\n"), [], [], 0, 0
     while number < len(lines):
-        line, fence = lines[number], FENCE.match(lines[number])
-        mark = MARK.match(lines[number - 1]) if number else None
-        listed = LISTED.match(line)
+        line, at = lines[number], f"{page}:{number + 1}"
+        fence, mark, listed = FENCE.match(line), MARK.match(made[-1]) if made else None, LISTED.match(line)
         inside = len(listed[0]) if listed else 0 if re.match(r"\S", line) else inside
         made.append(line)
         if fence:
             end = lines.index(fence[1] + "```", number + 1)
-            block = [it.removeprefix(fence[1]) for it in lines[number + 1 : end]]
+            block = "\n".join(it.removeprefix(fence[1]) for it in lines[number + 1 : end])
             try:
                 if not mark:
                     raise Fault("a block without a mark")
-                block_wanted = wanted(mark.groups(), "\n".join(block)).split("\n")
-                if block_wanted != block and not write:
+                anew = wanted(*mark.groups(), block)
+                if anew != block and not write:
                     raise Fault(f"the block differs from {mark[2]}; tools/blocks.py --write copies it")
-                block = block_wanted
+                block = anew
             except Fault as it:
-                found.append(f"{page}:{number + 1}: {it}")
-            made += [fence[1] + it if it else it for it in block] + [lines[end]]
+                found.append(f"{at}: {it}")
+            made += [*textwrap.indent(block, fence[1]).split("\n"), lines[end]]
             number = end
         elif mark:
-            found.append(f"{page}:{number}: a mark without a block")
+            found.append(f"{at}: a mark without a block")
         elif re.match(" " * (inside + 4) + r"\S", line) and made[-2:-1] == [""]:
-            found.append(f"{page}:{number + 1}: a block without a mark, since it is indented")
+            found.append(f"{at}: a block without a mark, since it is indented")
         number += 1
-    return "\n".join(made), found
+    if write:
+        with open(page, "w", encoding="utf-8") as it:
+            it.write("\n".join(made))
+    return found
 
 
 def faults(write=False):
     """All blocks that aren't what their marks say."""
-    for page in PAGES:
-        text, found = looked_at(page, write)
-        if write:
-            with open(page, "w", encoding="utf-8") as it:
-                it.write(text)
-        yield from found
+    return [it for page in PAGES for it in faults_of(page, write)]
 
 
 if __name__ == "__main__":
-    told = [*faults(sys.argv[1:] == ["--write"])]
+    told = faults(sys.argv[1:] == ["--write"])
     print("\n".join([*told, f"blocks: {len(told)} faults"]))
     sys.exit(1 if told else 0)
