@@ -7,6 +7,7 @@ use bpaf_record::CommandLine;
 use std::alloc::Global;
 use std::process::ExitCode;
 
+/// What the program is asked for.
 #[derive(Drop)]
 struct Options {
     verbose: bool,
@@ -14,6 +15,7 @@ struct Options {
     files: Vec<String>,
 }
 
+/// The options that the words give; else what is shown or told in their place.
 fn read_options(alloc: Global, words: &[String]) -> Result<Options, ParseFailure> {
     let verbose = short(alloc, 'v')?.long("verbose")?.switch();
     let num = short(alloc, 'n')?.long("num")?.argument::<u64>("NUM");
@@ -27,6 +29,7 @@ fn read_options(alloc: Global, words: &[String]) -> Result<Options, ParseFailure
     options.run_program(Args::from(words).set_name("hello"))
 }
 
+/// The line that the program prints.
 fn text_of(alloc: Global, words: &[String]) -> Result<String, ParseFailure> {
     let it = read_options(alloc, words)?;
     Ok(format!(in alloc; "{}, {}, {} files\n", it.verbose, it.num, it.files.len())?)
