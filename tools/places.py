@@ -11,7 +11,7 @@ CRATE = re.compile(r"`(bpaf\w*|bench(?:_\w+)?|(?:test|example)_\w+)`")
 NAME = re.compile(r"`((?:\w+::)*\w+)(?:\(\))?`")
 CLAUSES = re.compile(r"clauses? ((?:`\w+`(?:, | and )?)+)")
 CITED = re.compile(r"clause `(\w+)`(?: of [^(;,]*)? \(((?:`\w+`(?:, )?)+)(?:which [^)]*)?\)")
-PLACED = re.compile(r"((?:`\w+`(?:, | and )?)+),? ?(?:of \w+ )?(?:of )?\(?((?:specs|proofs)/\w+\.antt)")
+PLACED = re.compile(r"((?:`\w+`(?:, | and )?)+),? ?(?:of `?\w+`?,? )?(?:of )?\(?((?:specs|proofs)/\w+\.antt)")
 KINDS = "abbrev|mutual|unfoldable|pub|data|record|fn|struct|enum|trait|type|ghost|law"
 ENSURES = re.compile(r"(?s)\b(?:ensures|requires) (\w+) \{(.*?)\n? *(?=\b(?:ensures|requires)\b|\}\s*[;{\n])")
 
