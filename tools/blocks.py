@@ -55,9 +55,9 @@ def item_of(path, name):
 
 
 def folded(text):
-    """Code without comments, and outside of literals without white space and commas in front of what closes."""
+    """Code without comments, and outside of literals without white space but between words, and commas in front of what closes."""
     parts = re.split(r'("(?:[^"\\]|\\.)*")', re.sub(r"(?m)(?:^|\s+)//.*$", "", text))
-    parts[::2] = (re.sub(r"\s+", "", it) for it in parts[::2])
+    parts[::2] = (re.sub(r" (?!\w)|(?<!\w) ", "", re.sub(r"\s+", " ", it)) for it in parts[::2])
     return re.sub(r",(?=[)\]}])", "", "".join(parts))
 
 
