@@ -72,7 +72,7 @@ def main():
     words = {word for path, text in found.items() for word in IDENTIFIER.findall(path + " " + text)}
     words |= {word for it in os.listdir(".") for word in IDENTIFIER.findall(it)}
     named = {cells[0] for cells, _ in rows.tables() if len(cells) == 5}
-    lost = [*(f"{rows.ROWS}: {it}" for it in rows.faults()), *blocks.faults(), *places.faults(), *statement.faults()]
+    lost = [*(f"{rows.ROWS}: {it}" for it in rows.faults()), *places.faults(), *statement.faults()]
     for path, text in found.items():
         if path.endswith(".rt") and UNDROPPED.search(text):
             lost.append(f"{path}: a value may be left undropped")
@@ -81,6 +81,7 @@ def main():
             if any(it not in words for it in IDENTIFIER.findall(name)):
                 lost.append(f"{path}: `{name}` stands nowhere")
         lost += [f"{path}: a line of over {WIDTH} columns" for _ in wide_lines(path)]
+    lost += blocks.faults()
     print("\n".join([*lost, f"documents: {len(named)} rows of tests, {len(lost)} faults"]))
     return 1 if lost else 0
 
