@@ -1,8 +1,9 @@
 #!/usr/bin/env python3
 """Holds the documents to the tree: names in backticks stand somewhere in crates/, and where a page says
-so; each row of docs/ROWS.md runs as it says, by its tests or as data; and docs/STATEMENT.md has the
-definitions as they stand. No line of a page is too wide, and no source keeps a value from being
-dropped. It prints what doesn't hold, and then exits with 1.
+so; each block is code, calls or output that stands, as the comment in front of it says; each row of
+docs/ROWS.md runs as it says, by its tests or as data; and docs/STATEMENT.md has the definitions as they
+stand. No line of a page is too wide, and no source keeps a value from being dropped. It prints what
+doesn't hold, and then exits with 1.
 
 A name is an identifier or a path of them. Of docs/DIFFERENCES.md, whose first column and whose last
 lists are of Rust, only what is said to stand here is looked at.
@@ -13,6 +14,7 @@ import re
 import sys
 
 sys.dont_write_bytecode = True
+import blocks
 import places
 import rows
 import statement
@@ -79,6 +81,7 @@ def main():
             if any(it not in words for it in IDENTIFIER.findall(name)):
                 lost.append(f"{path}: `{name}` stands nowhere")
         lost += [f"{path}: a line of over {WIDTH} columns" for _ in wide_lines(path)]
+    lost += blocks.faults()
     print("\n".join([*lost, f"documents: {len(named)} rows of tests, {len(lost)} faults"]))
     return 1 if lost else 0
 

@@ -11,12 +11,19 @@ CRATE = re.compile(r"`(bpaf\w*|bench(?:_\w+)?|(?:test|example)_\w+)`")
 NAME = re.compile(r"`((?:\w+::)*\w+)(?:\(\))?`")
 CLAUSES = re.compile(r"clauses? ((?:`\w+`(?:, | and )?)+)")
 CITED = re.compile(r"clause `(\w+)`(?: of [^(;,]*)? \(((?:`\w+`(?:, )?)+)(?:which [^)]*)?\)")
+PLACED = re.compile(r"((?:`\w+`(?:, | and )?)+),? ?(?:of `?\w+`?,? )?(?:of )?\(?((?:specs|proofs)/\w+\.antt)")
+KINDS = "abbrev|mutual|unfoldable|pub|data|record|fn|struct|enum|trait|type|ghost|law"
 ENSURES = re.compile(r"(?s)\b(?:ensures|requires) (\w+) \{(.*?)\n? *(?=\b(?:ensures|requires)\b|\}\s*[;{\n])")
 
 
 def text_of(path):
     with open(path, encoding="utf-8", errors="replace") as it:
         return it.read()
+
+
+def declares(path, name):
+    """Whether a file declares this name, at whatever depth."""
+    return re.search(rf"(?m)^ *(?:(?:{KINDS}) )*{name}(?= *[:({{<=;,]| *$)", text_of(path))
 
 
 def of_crate(name):
@@ -71,15 +78,29 @@ def promises():
 
 
 def definitions():
-    """The names of docs/DEFINITIONS.md that don't stand in the file that is named."""
+    """The names of docs/DEFINITIONS.md that the file which is named doesn't define."""
     for heading, (named, _, place) in rows_of("docs/DEFINITIONS.md"):
         files = re.findall(r"(?:specs|src|proofs)/[\w/]+\.(?:antt|rt)", place)
-        folders = CRATE.findall(place) or CRATE.findall(heading)
-        texts = [text_of(path) for it in files for folder in folders for path in glob.glob(f"crates/{folder}/{it}")]
+        folders = CRATE.findall(place + heading)
+        paths = [path for it in files for folder in folders for path in glob.glob(f"crates/{folder}/{it}")]
         member = [it for it in NAME.findall(place) if not CRATE.fullmatch(f"`{it}`") and it != "Parser"]
         for it in (member or NAME.findall(named)) if files else []:
-            if not any(re.search(rf"\b{it}\b", text) for text in texts):
-                yield f"docs/DEFINITIONS.md: `{it}` doesn't stand in {place}"
+            if not any(declares(path, it) for path in paths):
+                yield f"docs/DEFINITIONS.md: `{it}` isn't defined in {place}"
+
+
+def files():
+    """The names of a page that no crate defines in the file behind them; in docs/LAYERS.md the crate of the row."""
+    for page in [*sorted({*glob.glob("docs/*.md")} - {"docs/STATEMENT.md"}), "README.md", "CONTRIBUTING.md"]:
+        row = ""
+        for line in re.split(r"\n(?=\|)|\n\s*\n", text_of(page)):
+            row = (re.match(r"\| (`\w+`)", line) or [row, row])[1] if page.endswith("LAYERS.md") else ""
+            for named, file in PLACED.findall(line.replace("\n", " ")):
+                folders = CRATE.findall(row + line) if row else ["*"]
+                paths = [path for it in folders for path in glob.glob(f"crates/{it}/{file}")]
+                for it in NAME.findall(named):
+                    if not CRATE.fullmatch(f"`{it}`") and not any(declares(path, it) for path in paths):
+                        yield f"{page}: `{it}` isn't defined in {file}"
 
 
 def paragraphs():
@@ -107,5 +128,5 @@ def clauses():
 
 def faults():
     """All that is said of a place, and isn't so."""
-    for look in (stands_on, promises, definitions, paragraphs, clauses):
+    for look in (stands_on, promises, definitions, files, paragraphs, clauses):
         yield from sorted({*look()})

@@ -1,0 +1,67 @@
+//! Usual shapes of command lines.
+use bpaf::params::{ParseFlag, ParsePositional};
+use bpaf::{Args, ParseFailure, Parser, command, construct, positional, short};
+use std::alloc::{AllocError, Global};
+
+/// A command of the command `remote`.
+#[derive(Debug, Drop)]
+pub enum Remote {
+    Add(String, String),
+    Remove(String),
+}
+
+/// A switch in front of the command `remote`, which has commands.
+pub fn read_remote(alloc: Global, words: &[&str]) -> Result<(bool, Remote), ParseFailure> {
+    let name = positional::<String>("NAME");
+    let url = positional::<String>("URL");
+    let add = command("add", construct!(Remote::Add(name, url)).to_options(alloc)?)?;
+    let name = positional::<String>("NAME");
+    let remove = command(
+        "remove",
+        construct!(Remote::Remove(name)).to_options(alloc)?,
+    )?;
+    let remote = command("remote", construct!([add, remove]).to_options(alloc)?)?;
+    let verbose = short(alloc, 'v')?.switch();
+    let options = construct!(verbose, remote).to_options(alloc)?;
+    options.run_once(Args::from(words))
+}
+
+/// A place: a name, perhaps with a branch.
+pub type Place = (String, Option<String>);
+
+/// A word that needs the one before it.
+pub fn read_place(alloc: Global, words: &[&str]) -> Result<Option<Place>, ParseFailure> {
+    let remote = positional::<String>("REMOTE");
+    let branch = positional::<String>("BRANCH").optional();
+    let place = construct!(remote, branch).optional();
+    place.run_once(alloc, Args::from(words))
+}
+
+/// A pattern and the files where it is looked for.
+pub type Search = (String, Vec<String>);
+
+/// A word unless there is a key.
+pub fn read_search(alloc: Global, words: &[&str]) -> Result<Search, ParseFailure> {
+    let pattern = short(alloc, 'e')?.argument::<String>("PATTERN");
+    let files = positional::<String>("FILE").many();
+    let by_key = construct!(pattern, files);
+    let pattern = positional::<String>("PATTERN");
+    let files = positional::<String>("FILE").many();
+    let by_word = construct!(pattern, files);
+    let search = construct!([by_key, by_word]);
+    search.run_once(alloc, Args::from(words))
+}
+
+/// Fields that hold no closure, as a function answers them to a body that joins and runs them.
+pub type SwitchAndWord = (ParseFlag<bool>, ParsePositional<String>);
+
+/// A switch and a word.
+fn switch_and_word(alloc: Global) -> Result<SwitchAndWord, AllocError> {
+    Ok((short(alloc, 'a')?.switch(), positional::<String>("WORD")))
+}
+
+/// What these read.
+pub fn read_pair(alloc: Global, words: &[&str]) -> Result<(bool, String), ParseFailure> {
+    let (all, word) = switch_and_word(alloc)?;
+    construct!(all, word).run_once(alloc, Args::from(words))
+}
