@@ -33,7 +33,8 @@
 //! - Its clause `fields` says of each value what its fields say, each of the pieces of the line
 //!   that are its own, whatever the others are, and which command's word stands there
 //!   (`TellsOfWords`): by the ghost member `says` of each field's type, over that of the parser
-//!   inside. Lemmas of proofs/Answered.antt and proofs/Answered.antt tell it of the words.
+//!   inside. Lemmas of proofs/Answered.antt tell it of the words. So a flag, an argument without
+//!   `take_last` and a choice stand on an accepted line once at most.
 //! - [`Record::run_record`] is that run of a flat record, of which it says more (`AnswersByFields`,
 //!   specs/Record.antt): where each field has a value no other answer than one of the record's
 //!   comes, but for want of memory, and where one has none no value does. The line of each value is
