@@ -2,7 +2,7 @@
 //! proved from its words to its bytes.
 ghost use Rattle.std.specs.Result.{IfErr};
 ghost use Rattle.bpaf.specs.Asked.{IfShown};
-ghost use Rattle.std.specs.Prelude.{None, ◌≡◌, IfOk, IsSome, codes, map, string_bytes};
+ghost use Rattle.std.specs.Prelude.{if◌then◌else◌, is_some, ◌≡◌, IfOk, IsSome, codes, map, string_bytes};
 ghost use Rattle.bpaf_program.specs.Ending.{OrPage, RunsTo, wrote};
 ghost use Rattle.bpaf_record.specs.Record.{WasSpelled};
 ghost use Rattle.example_guide.specs.Head.{IsHeadPage, IsHeadText, bytes_key, bytes_names, head_known};
@@ -63,8 +63,7 @@ fn lines_of(alloc: Global, words: &[String]) -> Result<String, ParseFailure>
 
 /// What is told of each file.
 fn told(bytes: Option<u64>) -> &'static str
-    ensures by_bytes { IsSome bytes → result.now ≡ codes "by bytes: " }
-    ensures by_lines { bytes ≡ None → result.now ≡ codes "by lines: " }
+    ensures { result.now ≡ (if is_some bytes then codes "by bytes: " else codes "by lines: ") }
 {
     match bytes {
         Some(_) => "by bytes: ",
