@@ -154,6 +154,16 @@ fn go(state: &mut State, name: &str, given: &str, answers: &mut String) -> Resul
         ("present", Some(place)) => tell(state.present(place), answers),
         ("earlier_key", Some(place)) => tell(earlier_key(state, place), answers),
         ("set_scope", None) => tell(set_scope(state, given), answers),
+        ("adjacently_available_from", Some(place)) => {
+            tell(state.adjacently_available_from(place), answers)
+        }
+        ("adjacent_scope", Some(place)) => {
+            let mut other = state.copy()?;
+            other.remove(place);
+            let found = state.adjacent_scope(&other);
+            drop(other);
+            tell(found, answers)
+        }
         _ => look(state, name, given, answers),
     }
 }

@@ -152,6 +152,9 @@ a b c | / | scope, set_scope 1 3, remove 1, current, set_current, remove 0, remo
 -n --n -n=3 --n=3 -m n -n | / | remove 2, earlier_key 8, earlier_key 4, earlier_key 2, \
     earlier_key 0, earlier_key 6, earlier_key 7, earlier_key 9 | \
     Some(2);Some(1);Some(0);None;None;None;None;
+# the places up to the first one that is present in another state too, where this one is removed
+x y | / | adjacent_scope 0, adjacent_scope 1, adjacently_available_from 1 | Some(0..1);Some(0..0);1..2;
+x | / | adjacent_scope 0, adjacently_available_from 1 | None;1..1;
 # names are put on the path
 x | / | depth, push_path build, depth, path, len | 1;2;[\"app\", \"build\"];1;
 ";
