@@ -242,7 +242,7 @@ over_lawful clones over.Map law = map_lawful law IsHalf
 over_lawful clones (over.Guard limit) law = guard_lawful law Checks too_much
 over_lawful clones (over.Parse limit) law = parse_lawful law Accepts untold
 over_lawful clones (over.Fallback n) law =
-    fallback_lawful law (GivesClone clones (number_of n)) (λ e. names_want _ e.0)
+    fallback_lawful law (GivesClone clones (number_of n)) (λ context e. names_want context e.0)
 over_lawful clones (over.FallbackWith number) law =
     fallback_lawful law (GivesNumber number) (number_named number)
 over_lawful clones over.Hide law = hide_lawful law
