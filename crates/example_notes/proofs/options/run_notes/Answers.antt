@@ -12,11 +12,10 @@ run_program-requires-clause-can g c = (
 
 pub returns : goal.returns
 returns g c =
-    let made = c.in_ok-to_options.ensures in
-    let known = run_program-requires-clause-can g c in (
+    let made = c.in_ok-to_options.ensures in (
       of.exact_for notes_parser (c.run_program.ensures.exact tt) made.info (search rules)
           (of.are_texts c.args.words.now),
-      of.asks_for_page notes_parser _ c.run_program.ensures.outcome known.1
-          (λ info. info ≡ plain_info) made.info (ap (λ info. info.help_if_no_args) made.info)
-          (search rules),
+      of.asks_for_page notes_parser _ c.run_program.ensures.outcome
+          (rw (← made.inner) at c.requires.known) (λ info. info ≡ plain_info) made.info
+          (ap (λ info. info.help_if_no_args) made.info) (search rules),
     )
