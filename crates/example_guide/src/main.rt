@@ -31,6 +31,7 @@ use bpaf_program::{end, words};
 use options::{Options, read_options};
 use std::alloc::{AllocError, Global};
 use std::collections::BTreeMap;
+use std::env::VarError;
 use std::fmt::Debug;
 use std::process::ExitCode;
 use std::{env, io};
@@ -56,8 +57,10 @@ fn asked(rt: &HostRuntime, variables: &BTreeMap<String, String>) -> Result<Optio
 
 /// The variables of the environment by their names.
 fn environment(rt: &HostRuntime) -> io::Result<BTreeMap<String, String>> {
-    let Ok(entries) = env::vars(rt) else {
-        return Err(io::Error::from(io::ErrorKind::InvalidData));
+    let entries = match env::vars(rt) {
+        Ok(entries) => entries,
+        Err(VarError::OutOfMemory) => return Err(io::Error::from(AllocError)),
+        Err(_) => return Err(io::Error::from(io::ErrorKind::InvalidData)),
     };
     let mut variables = BTreeMap::new(rt.alloc());
     for (name, value) in entries {
@@ -94,15 +97,25 @@ fn words_of(alloc: Global, words: &[&str]) -> Result<Vec<String>, AllocError> {
     Ok(owned)
 }
 
-/// Tells a value that words gave, or that they gave none.
+/// Tells a value that words gave, or that they gave none; want of memory is neither.
 fn tell<T: Debug + Drop>(
     rt: &HostRuntime,
     name: &str,
     answer: Result<T, ParseFailure>,
 ) -> io::Result<()> {
-    match answer.ok() {
-        Some(value) => println!(rt; "{name}: {value:?}"),
-        None => println!(rt; "{name}: none"),
+    match answer {
+        Ok(value) => println!(rt; "{name}: {value:?}"),
+        Err(ParseFailure::Memory) => Err(io::Error::from(AllocError)),
+        Err(_) => println!(rt; "{name}: none"),
+    }
+}
+
+/// Tells that a program ended with status 0; one that didn't has told why, and ends the guide.
+fn tell_end(rt: &HostRuntime, name: &str, status: u8) -> io::Result<()> {
+    if status == 0 {
+        println!(rt; "{name}: status 0")
+    } else {
+        Err(io::Error::from(io::ErrorKind::Other))
     }
 }
 
@@ -116,14 +129,14 @@ fn show_backup(rt: &HostRuntime) -> io::Result<()> {
 fn show_removal(rt: &HostRuntime) -> io::Result<()> {
     let words = words_of(rt.alloc(), &["a", "-f"])?;
     let status = remove::run(rt.alloc(), &words, &mut rt.stdout(), &mut rt.stderr());
-    println!(rt; "removal: status {status}")
+    tell_end(rt, "removal", status)
 }
 
 /// Runs the `head` on words of its own.
 fn show_head(rt: &HostRuntime) -> io::Result<()> {
     let words = words_of(rt.alloc(), &["--bytes=5", "a"])?;
     let status = head::run(rt.alloc(), &words, &mut rt.stdout(), &mut rt.stderr());
-    println!(rt; "head: status {status}")
+    tell_end(rt, "head", status)
 }
 
 /// Tells what an archiver reads off words of its own.
