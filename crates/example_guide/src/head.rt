@@ -1,8 +1,8 @@
 //! What a `head` tells: each file, as by bytes only where `-c` or `--bytes` was spelled, which is
 //! proved from its words to its bytes.
+ghost use Rattle.std.specs.Prelude.{if◌then◌else◌, is_some, ◌≡◌, IfOk, IsSome, codes, map, string_bytes};
 ghost use Rattle.std.specs.Result.{IfErr};
 ghost use Rattle.bpaf.specs.Asked.{IfShown};
-ghost use Rattle.std.specs.Prelude.{if◌then◌else◌, is_some, ◌≡◌, IfOk, IsSome, codes, map, string_bytes};
 ghost use Rattle.bpaf_program.specs.Ending.{OrPage, RunsTo, wrote};
 ghost use Rattle.bpaf_record.specs.Record.{WasSpelled};
 ghost use Rattle.example_guide.specs.Head.{IsHeadPage, IsHeadText, bytes_key, bytes_names, head_known};

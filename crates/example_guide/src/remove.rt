@@ -1,8 +1,8 @@
 //! A remover, of which it is proved, from its words to its bytes, that it tells of no file as
 //! removed unless its key was spelled.
+ghost use Rattle.std.specs.Prelude.{if◌then◌else◌, ◌≡◌, true, IfOk, codes, map, string_bytes};
 ghost use Rattle.std.specs.Result.{IfErr};
 ghost use Rattle.bpaf.specs.Asked.{IfShown};
-ghost use Rattle.std.specs.Prelude.{if◌then◌else◌, ◌≡◌, true, IfOk, codes, map, string_bytes};
 ghost use Rattle.bpaf_program.specs.Ending.{OrPage, RunsTo, wrote};
 ghost use Rattle.bpaf_program.specs.KnownParser.{HasOtherTexts};
 ghost use Rattle.bpaf_record.specs.Record.{WasSpelled};
