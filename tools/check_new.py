@@ -56,6 +56,13 @@ def main():
         there = os.path.join(folder, "first")
         said(crates.HERE, "./new", there)
         print(f"new: {look(there)} files, laid out; its tests run")
+        said(crates.HERE, "./new", "--add", "second", there)
+        added = re.findall("(?m)^(?:first|second): (.*)$", text_of(there, "crates.txt"))
+        if len(added) != 2 or added[0] != added[1]:
+            stop("`--add` gives a program other libraries")
+        for path in OWN:
+            if text_of(there, "crates", "second", path) != text_of(there, "crates", "first", path).replace('"first"', '"second"'):
+                stop(f"`--add` writes another {path}")
 
 
 main()
