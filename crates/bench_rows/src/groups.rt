@@ -20,11 +20,7 @@ where
     ensures { GroupedOutcome (F.fast_outcome fields) (F.describes fields) V.told
         state.old result state.new }
 {
-    let product = ParseCon {
-        fields,
-        make: |values: V| values,
-        values: PhantomData,
-    };
+    let product = ParseCon::new(fields, |values: V| values);
     match product.adjacent(state.alloc()) {
         Ok(group) => tell(group, state),
         Err(AdjacentError::NoFirstItem) => fail::<Value>("no first item").eval(state),

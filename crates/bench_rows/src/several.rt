@@ -34,11 +34,7 @@ fn nested<V: Told + Drop, F: Fields<V> + Drop>(fields: F, state: &mut State) -> 
     requires { F.can_eval fields }
     ensures { NestedOutcome (F.outcome fields) V.told state.old result state.new }
 {
-    let product = ParseCon {
-        fields,
-        make: |values: V| values,
-        values: PhantomData,
-    };
+    let product = ParseCon::new(fields, |values: V| values);
     tell(product, state)
 }
 
@@ -47,11 +43,7 @@ fn nested_meta<V: Drop, F: Fields<V> + Drop>(fields: F, alloc: Global) -> Result
     requires { F.can_eval fields }
     ensures { IfOk result (λ meta. ProductDescribes (F.describes fields) (shape_of meta)) }
 {
-    let product = ParseCon {
-        fields,
-        make: |values: V| values,
-        values: PhantomData,
-    };
+    let product = ParseCon::new(fields, |values: V| values);
     product.meta(alloc)
 }
 

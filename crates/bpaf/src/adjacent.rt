@@ -13,7 +13,7 @@ mod attempts;
 mod failures;
 mod search;
 
-use crate::product::{Fields, ParseCon};
+use crate::product::{Constructor, Fields, ParseCon};
 use bpaf_core::Parser;
 use bpaf_doc::{Item, Meta};
 use bpaf_line::{Error, State};
@@ -42,31 +42,31 @@ struct FailFast<'p, P> {
     product: &'p P,
 }
 
-impl<'p, V, T, P: Fields<V>, F: Fn(V) -> T> Parser<T> for FailFast<'p, ParseCon<V, P, F>> {
+impl<'p, V, T, P: Fields<V>, M: Constructor<V, T>> Parser<T> for FailFast<'p, ParseCon<V, P, M>> {
     ghost can_eval = { λ p. P.can_eval p.product.now.fields
-        × F.IsAlwaysCallable p.product.now.make };
+        × M.can_make p.product.now.make };
 
     ghost describes = { λ p. ProductDescribes (P.describes p.product.now.fields) };
 
     ghost shorts = { λ p. P.shorts p.product.now.fields };
 
     ghost reads = { λ p. MapReads V T (P.reads p.product.now.fields)
-        (λ x y. F.post p.product.now.make x y) };
+        (M.makes p.product.now.make) };
 
     ghost outcome = { λ p. ProductOutcome (P.fast_outcome p.product.now.fields)
-        (λ x y. F.post p.product.now.make x y) };
+        (M.makes p.product.now.make) };
 
     fn eval(&self, state: &mut State) -> Result<T, Error> {
         let values = self.product.fields.eval_fail_fast(state);
         state.set_current(None);
-        Ok((self.product.make)(values?))
+        Ok(self.product.make.make(values?))
     }
 
     fn meta(&self, alloc: Global) -> Result<Meta, AllocError> {
         self.product.meta(alloc)
     }
 
-    ghost lawful = { λ p. product_lawful (λ x y. F.post p.product.now.make x y)
+    ghost lawful = { λ p. product_lawful (M.makes p.product.now.make)
         (P.fast_lawful p.product.now.fields) };
 
     ghost shows = { λ p. product_shows (P.shows p.product.now.fields) };
@@ -89,7 +89,7 @@ pub struct ParseAdjacent<P> {
     pub first: Item,
 }
 
-impl<V, P, F> ParseCon<V, P, F> {
+impl<V, P, M> ParseCon<V, P, M> {
     /// The adjacent group of this product: its items stand next to one another, as those of
     /// `--point 1 2` (bpaf's `ParseCon::adjacent`).
     ///
@@ -105,9 +105,9 @@ impl<V, P, F> ParseCon<V, P, F> {
     where
         T: Drop,
         P: Fields<V> + Drop,
-        F: Fn(V) -> T + Drop,
+        M: Constructor<V, T> + Drop,
         requires fields { P.can_eval self.fields }
-        requires callable { F.IsAlwaysCallable self.make }
+        requires callable { M.can_make self.make }
         ensures inner { IfOk result (λ group. group.inner ≡ self) }
         ensures first { IfOk result (λ group.
             IsFirstOf (ProductDescribes (P.describes self.fields)) group.first) }
@@ -136,29 +136,30 @@ impl<V, P, F> ParseCon<V, P, F> {
 /// Without a value the answer is the failure that took most places, the earlier one of equals, with
 /// the state that it left; where none took a place the first item is missing. Want of memory is
 /// refused at once.
-impl<V, T: Drop, P: Fields<V>, F: Fn(V) -> T> Parser<T> for ParseAdjacent<ParseCon<V, P, F>> {
-    ghost can_eval = { λ p. P.can_eval p.inner.fields × F.IsAlwaysCallable p.inner.make };
+impl<V, T: Drop, P: Fields<V>, M: Constructor<V, T>> Parser<T>
+    for ParseAdjacent<ParseCon<V, P, M>> {
+    ghost can_eval = { λ p. P.can_eval p.inner.fields × M.can_make p.inner.make };
 
     ghost describes = { λ p. GroupDescribes (ProductDescribes (P.describes p.inner.fields)) };
 
     ghost shorts = { λ p. P.shorts p.inner.fields };
 
     ghost reads = { λ p. StretchReads T (MapReads V T (P.reads p.inner.fields)
-        (λ x y. F.post p.inner.make x y)) };
+        (M.makes p.inner.make)) };
 
     ghost outcome = { λ p. GroupOutcome T (ProductOutcome (P.fast_outcome p.inner.fields)
-        (λ x y. F.post p.inner.make x y)) (part_of p.first) };
+        (M.makes p.inner.make)) (part_of p.first) };
 
     fn eval(&self, state: &mut State) -> Result<T, Error>
         requires fields { P.can_eval self.now.inner.fields }
-        requires callable { F.IsAlwaysCallable self.now.inner.make }
+        requires callable { M.can_make self.now.inner.make }
         ensures outcome { GroupOutcome T (ProductOutcome (P.fast_outcome self.now.inner.fields)
-            (λ x y. F.post self.now.inner.make x y)) (part_of self.now.first)
+            (M.makes self.now.inner.make)) (part_of self.now.first)
             state.old result state.new }
         ensures takes_one_stretch { IfOk result (λ _. IsStretch (newly state.old state.new)) }
         ensures memory_is_never_caught { IsNotMemory result →
             GroupOutcome T (ProductOutcome (P.fast_spared_outcome self.now.inner.fields)
-            (λ x y. F.post self.now.inner.make x y)) (part_of self.now.first)
+            (M.makes self.now.inner.make)) (part_of self.now.first)
             state.old result state.new }
     {
         let product = FailFast {
@@ -172,7 +173,7 @@ impl<V, T: Drop, P: Fields<V>, F: Fn(V) -> T> Parser<T> for ParseAdjacent<ParseC
     }
 
     ghost lawful = { λ p. group_lawful (part_of p.first)
-        (product_lawful (λ x y. F.post p.inner.make x y) (P.fast_lawful p.inner.fields)) };
+        (product_lawful (M.makes p.inner.make) (P.fast_lawful p.inner.fields)) };
 
     ghost shows = { λ p. group_shows (product_shows (P.shows p.inner.fields)) };
 }

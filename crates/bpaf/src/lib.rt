@@ -55,4 +55,4 @@ pub use leaves::appname::appname;
 pub use leaves::literal::{ParseLiteral, literal};
 pub use leaves::positional::{ParsePositional, Position, positional};
 pub use leaves::pure::{fail, pure, pure_with};
-pub use product::{Both, Fields, Last, ParseCon};
+pub use product::{Both, ByClosure, Constructor, Fields, Last, ParseCon};

@@ -252,20 +252,74 @@ fn error_before<V, R: Fields<V>>(error: Error, rest: &R, state: &mut State) -> E
     }
 }
 
+/// What makes a value of the values of fields: a closure, as `construct!` has it ([`ByClosure`]), or
+/// a type of a program's own, so that the type of a product has a name. bpaf has a closure alone.
+///
+/// ```text
+/// struct MakePoint {}
+///
+/// impl Constructor<(u64, u64), Point> for MakePoint {
+///     ghost use Rattle.std.specs.Prelude.{◌≡◌};
+///
+///     ghost can_make = { λ m. Unit {0} };
+///
+///     ghost makes = { λ m v point. point ≡ record { x = v.0; y = v.1 } };
+///
+///     fn make(&self, values: (u64, u64)) -> Point {
+///         let (x, y) = values;
+///         Point { x, y }
+///     }
+/// }
+/// ```
+pub trait Constructor<V, T>: Sized {
+    /// Whether it may be called on any values.
+    ghost can_make: { Self → Type 0 };
+
+    /// What it makes of values: those of the fields, as nested pairs.
+    ghost makes: { Self → V → T → Type 0 };
+
+    /// The value that it makes.
+    fn make(&self, values: V) -> T
+        requires { can_make self.now }
+        ensures { makes self.now values result };
+}
+
+/// A closure as a constructor.
+pub struct ByClosure<F> {
+    /// The closure.
+    pub closure: F,
+}
+
+impl<F: Drop> Drop for ByClosure<F> {
+    fn drop(self) {
+        let ByClosure { closure: _closure } = self;
+    }
+}
+
+impl<V, T, F: Fn(V) -> T> Constructor<V, T> for ByClosure<F> {
+    ghost can_make = { λ m. F.IsAlwaysCallable m.closure };
+
+    ghost makes = { λ m x y. F.post m.closure x y };
+
+    fn make(&self, values: V) -> T {
+        (self.closure)(values)
+    }
+}
+
 /// A product: what a constructor makes of the values of fields (bpaf's `ParseCon`, in
 /// `structs.rs`).
 ///
-/// `V` is the type of the fields' values, nested pairs.
-pub struct ParseCon<V, P, F> {
+/// `V` is the type of the fields' values, nested pairs; `M` that of the constructor.
+pub struct ParseCon<V, P, M> {
     /// The fields, in order.
     pub fields: P,
     /// The constructor.
-    pub make: F,
+    pub make: M,
     /// The type of the fields' values.
     pub values: PhantomData<V>,
 }
 
-impl<V, P: Drop, F: Drop> Drop for ParseCon<V, P, F> {
+impl<V, P: Drop, M: Drop> Drop for ParseCon<V, P, M> {
     fn drop(self) {
         let ParseCon {
             fields: _fields,
@@ -275,12 +329,9 @@ impl<V, P: Drop, F: Drop> Drop for ParseCon<V, P, F> {
     }
 }
 
-impl<V, P, F> ParseCon<V, P, F> {
-    /// A product of these fields.
-    pub fn new<T>(fields: P, make: F) -> ParseCon<V, P, F>
-    where
-        F: Fn(V) -> T,
-        requires { F.IsAlwaysCallable make }
+impl<V, P, M> ParseCon<V, P, M> {
+    /// A product of these fields by a constructor, whose type can be named.
+    pub fn by(fields: P, make: M) -> ParseCon<V, P, M>
         ensures fields { result.fields ≡ fields }
         ensures make { result.make ≡ make }
     {
@@ -292,29 +343,46 @@ impl<V, P, F> ParseCon<V, P, F> {
     }
 }
 
-impl<V, T, P: Fields<V>, F: Fn(V) -> T> Parser<T> for ParseCon<V, P, F> {
-    ghost can_eval = { λ p. P.can_eval p.fields × F.IsAlwaysCallable p.make };
+impl<V, P, F> ParseCon<V, P, ByClosure<F>> {
+    /// A product of these fields by a closure.
+    pub fn new<T>(fields: P, make: F) -> ParseCon<V, P, ByClosure<F>>
+    where
+        F: Fn(V) -> T,
+        requires { F.IsAlwaysCallable make }
+        ensures fields { result.fields ≡ fields }
+        ensures make { result.make.closure ≡ make }
+    {
+        ParseCon {
+            fields,
+            make: ByClosure { closure: make },
+            values: PhantomData,
+        }
+    }
+}
+
+impl<V, T, P: Fields<V>, M: Constructor<V, T>> Parser<T> for ParseCon<V, P, M> {
+    ghost can_eval = { λ p. P.can_eval p.fields × M.can_make p.make };
 
     ghost describes = { λ p. ProductDescribes (P.describes p.fields) };
 
     ghost shorts = { λ p. P.shorts p.fields };
 
-    ghost reads = { λ p. MapReads V T (P.reads p.fields) (λ x y. F.post p.make x y) };
+    ghost reads = { λ p. MapReads V T (P.reads p.fields) (M.makes p.make) };
 
-    ghost outcome = { λ p. ProductOutcome (P.outcome p.fields) (λ x y. F.post p.make x y) };
+    ghost outcome = { λ p. ProductOutcome (P.outcome p.fields) (M.makes p.make) };
 
     fn eval(&self, state: &mut State) -> Result<T, Error>
         requires fields { P.can_eval self.now.fields }
-        requires callable { F.IsAlwaysCallable self.now.make }
-        ensures outcome { ProductOutcome (P.outcome self.now.fields)
-            (λ x y. F.post self.now.make x y) state.old result state.new }
+        requires callable { M.can_make self.now.make }
+        ensures outcome { ProductOutcome (P.outcome self.now.fields) (M.makes self.now.make)
+            state.old result state.new }
         ensures memory_is_never_caught { IsNotMemory result →
-            ProductOutcome (P.spared_outcome self.now.fields)
-            (λ x y. F.post self.now.make x y) state.old result state.new }
+            ProductOutcome (P.spared_outcome self.now.fields) (M.makes self.now.make)
+            state.old result state.new }
     {
         let values = self.fields.eval_fields(state);
         state.set_current(None);
-        Ok((self.make)(values?))
+        Ok(self.make.make(values?))
     }
 
     fn meta(&self, alloc: Global) -> Result<Meta, AllocError> {
@@ -323,7 +391,7 @@ impl<V, T, P: Fields<V>, F: Fn(V) -> T> Parser<T> for ParseCon<V, P, F> {
         Ok(Meta::And(metas))
     }
 
-    ghost lawful = { λ p. product_lawful (λ x y. F.post p.make x y) (P.lawful p.fields) };
+    ghost lawful = { λ p. product_lawful (M.makes p.make) (P.lawful p.fields) };
 
     ghost shows = { λ p. product_shows (P.shows p.fields) };
 }

@@ -12,7 +12,7 @@ use crate::keys::{ApartFromFields, KeyTest, NoKey};
 use crate::part::ProgramPart;
 use crate::words::WordTest;
 use bpaf::parsers::ParseCon;
-use bpaf::{Both, Last};
+use bpaf::{Both, Constructor, Last};
 use std::marker::PhantomData;
 
 impl<T: Drop, A: ProgramField<T>> ProgramFields<T> for Last<A> {
@@ -72,11 +72,11 @@ impl<T: Drop, V, A: ProgramField<T>, R: ProgramFields<V>> ProgramFields<(T, V)> 
 
 impl<T: Drop, V, A: FlatField<T>, R: FlatFields<V>> FlatFields<(T, V)> for Both<A, R> {}
 
-impl<V, T, P: ProgramFields<V>, F: Fn(V) -> T> ProgramField<T> for ParseCon<V, P, F> {
-    ghost grammar = { λ p. product (map_closure (λ x y. F.post p.make x y)) (P.grammar p.fields) };
+impl<V, T, P: ProgramFields<V>, M: Constructor<V, T>> ProgramField<T> for ParseCon<V, P, M> {
+    ghost grammar = { λ p. product (map_closure (M.makes p.make)) (P.grammar p.fields) };
 
     ghost says = { λ variables. said_con (λ p. p.fields) (λ q. keys_of (P.grammar q) true)
-        (λ p. map_closure (λ x y. F.post p.make x y)) (P.says variables) };
+        (λ p. map_closure (M.makes p.make)) (P.says variables) };
 
     ghost agrees = { λ p. P.agrees p.fields };
 
@@ -93,11 +93,11 @@ impl<V, T, P: ProgramFields<V>, F: Fn(V) -> T> ProgramField<T> for ParseCon<V, P
         true
     }
 
-    ghost law = { λ p a variables. program_con_law (λ x y. F.post p.make x y)
+    ghost law = { λ p a variables. program_con_law (M.makes p.make)
         (P.keeps p.fields a variables).law };
 
-    ghost said = { λ p a variables. program_con_says (map_closure (λ x y. F.post p.make x y))
+    ghost said = { λ p a variables. program_con_says (map_closure (M.makes p.make))
         (P.keeps p.fields a variables).says };
 }
 
-impl<V, T, P: FlatFields<V>, F> FlatField<T> for ParseCon<V, P, F> {}
+impl<V, T, P: FlatFields<V>, M> FlatField<T> for ParseCon<V, P, M> {}
