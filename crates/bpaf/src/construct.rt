@@ -9,6 +9,7 @@
 /// | `construct!(Name { a, b })` | fields of a struct or a variant, as `Command::Build { a, b }` |
 /// | `construct!(Name(a, b))` | the same with numbered fields, as `Command::Run(a, b)` |
 /// | `construct!(Name {})`, `construct!(Name())` | that value: it is [`pure`](crate::pure) of it |
+/// | `construct!(Name {}; a, b)` | what a [`Constructor`](crate::Constructor) of this name makes |
 /// | `construct!(a)` | what `a` parses: it is that parser itself |
 /// | `construct!([a, b, c])` | what one of them parses: it is `a.or_else(b).or_else(c)` |
 /// | `construct!([a])` | what `a` parses: it is that parser itself |
@@ -47,6 +48,10 @@ macro_rules! construct {
     ($(::)? $first:ident $(:: $more:ident)* {}) => { $crate::pure($first $(:: $more)* {}) };
     ($(::)? $first:ident $(:: $more:ident)* ()) => { $crate::pure($first $(:: $more)* ()) };
 
+    // construct!(Name {}; a, b)
+    ($(::)? $first:ident $(:: $more:ident)* {} ; $($fields:tt)+) => {
+        $crate::construct!(@fields [by [$first $(:: $more)*]] [] $($fields)+)
+    };
     // construct!(Name { a, b })
     ($(::)? $first:ident $(:: $more:ident)* { $($fields:tt)* }) => {
         $crate::construct!(@fields [named [$first $(:: $more)*]] [] $($fields)*)
@@ -86,6 +91,10 @@ macro_rules! construct {
             $crate::construct!(@product $first $last),
             std::convert::identity,
         )
+    };
+    // a product by a constructor
+    (@fields [by [$($name:tt)+]] [$($field:ident)+]) => {
+        $crate::ParseCon::by($crate::construct!(@product $($field)+), $($name)+ {})
     };
     // a product
     (@fields $kind:tt [$($field:ident)+]) => {

@@ -56,3 +56,4 @@ pub use leaves::literal::{ParseLiteral, literal};
 pub use leaves::positional::{ParsePositional, Position, positional};
 pub use leaves::pure::{fail, pure, pure_with};
 pub use product::{Both, ByClosure, Constructor, Fields, Last, ParseCon};
+pub use product::{Fields1, Fields2, Fields3, Fields4};

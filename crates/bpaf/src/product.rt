@@ -229,6 +229,18 @@ impl<T: Drop, V, A: Parser<T>, R: Fields<V>> Fields<(T, V)> for Both<A, R> {
     ghost shows = { λ p. both_show (A.shows p.first) (R.shows p.rest) };
 }
 
+/// The field of a product of one, where the type of the product is written.
+pub type Fields1<A> = Last<A>;
+
+/// The fields of a product of two.
+pub type Fields2<A, B> = Both<A, Last<B>>;
+
+/// The fields of a product of three.
+pub type Fields3<A, B, C> = Both<A, Fields2<B, C>>;
+
+/// The fields of a product of four.
+pub type Fields4<A, B, C, D> = Both<A, Fields3<B, C, D>>;
+
 /// The error of a product whose first field has failed: the fields behind it are evaluated too,
 /// unless it wanted memory, and theirs is told where they do.
 fn error_before<V, R: Fields<V>>(error: Error, rest: &R, state: &mut State) -> Error

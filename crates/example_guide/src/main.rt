@@ -23,6 +23,7 @@ mod options;
 mod remove;
 mod row;
 mod sum;
+mod tasks;
 mod toggle;
 mod types;
 
@@ -85,7 +86,8 @@ fn show_all(rt: &HostRuntime, size: u128) -> io::Result<()> {
         sum::read_sum(rt.alloc(), &["-n", "-2", "-5", "3"]),
     )?;
     tell(rt, "color", toggle::read_color(rt.alloc(), &["--no-color"]))?;
-    show_commit(rt)
+    show_commit(rt)?;
+    show_task(rt)
 }
 
 /// Words as a process has them.
@@ -155,6 +157,12 @@ fn show_dimming(rt: &HostRuntime) -> io::Result<()> {
 fn show_cleaning(rt: &HostRuntime) -> io::Result<()> {
     let words = words_of(rt.alloc(), &["remove", "-f", "a"])?;
     tell(rt, "cleaning", clean::read_cleaning(rt.alloc(), &words))
+}
+
+/// Tells what the list of tasks reads off words of its own.
+fn show_task(rt: &HostRuntime) -> io::Result<()> {
+    let words = words_of(rt.alloc(), &["add", "-thome", "buy"])?;
+    tell(rt, "task", tasks::read_task(rt.alloc(), &words))
 }
 
 /// Tells what `git` reads off words of its own.
