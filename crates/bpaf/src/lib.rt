@@ -55,5 +55,6 @@ pub use leaves::appname::appname;
 pub use leaves::literal::{ParseLiteral, literal};
 pub use leaves::positional::{ParsePositional, Position, positional};
 pub use leaves::pure::{fail, pure, pure_with};
-pub use product::{Both, ByClosure, Constructor, Fields, Last, ParseCon};
-pub use product::{Fields1, Fields2, Fields3, Fields4};
+pub use product::{
+    Both, ByClosure, Constructor, Fields, Fields1, Fields2, Fields3, Fields4, Last, ParseCon,
+};
