@@ -7,7 +7,7 @@ ghost use Rattle.bench_rows.specs.Levels.{GroupedOutcome, TogetherOutcome, Tuple
 use crate::several::{Three, ThreeFields, Two, TwoFields, product_meta, three_fields, two_fields};
 use bench_values::{Told, Value, tell};
 use bpaf::parsers::ParseCon;
-use bpaf::{AdjacentError, Error, Fields, Meta, Parser, State, fail};
+use bpaf::{AdjacentError, ByClosure, Error, Fields, Meta, Parser, State, fail};
 use std::alloc::{AllocError, Global};
 use std::marker::PhantomData;
 
@@ -20,7 +20,13 @@ where
     ensures { GroupedOutcome (F.fast_outcome fields) (F.describes fields) V.told
         state.old result state.new }
 {
-    let product = ParseCon::new(fields, |values: V| values);
+    let product = ParseCon {
+        fields,
+        make: ByClosure {
+            closure: |values: V| values,
+        },
+        values: PhantomData,
+    };
     match product.adjacent(state.alloc()) {
         Ok(group) => tell(group, state),
         Err(AdjacentError::NoFirstItem) => fail::<Value>("no first item").eval(state),

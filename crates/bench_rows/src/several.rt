@@ -7,7 +7,7 @@ ghost use Rattle.bench_rows.specs.Levels.{NestedOutcome, TupleDescribes, TupleOu
 
 use bench_values::{Lent, Told, Value, tell};
 use bpaf::parsers::{ParseChoice, ParseCon, ParseOrElse};
-use bpaf::{Both, Error, Fields, Last, Meta, Parser, State, fail};
+use bpaf::{Both, ByClosure, Error, Fields, Last, Meta, Parser, State, fail};
 use std::alloc::{AllocError, Global};
 use std::marker::PhantomData;
 
@@ -34,7 +34,13 @@ fn nested<V: Told + Drop, F: Fields<V> + Drop>(fields: F, state: &mut State) -> 
     requires { F.can_eval fields }
     ensures { NestedOutcome (F.outcome fields) V.told state.old result state.new }
 {
-    let product = ParseCon::new(fields, |values: V| values);
+    let product = ParseCon {
+        fields,
+        make: ByClosure {
+            closure: |values: V| values,
+        },
+        values: PhantomData,
+    };
     tell(product, state)
 }
 
@@ -43,7 +49,13 @@ fn nested_meta<V: Drop, F: Fields<V> + Drop>(fields: F, alloc: Global) -> Result
     requires { F.can_eval fields }
     ensures { IfOk result (λ meta. ProductDescribes (F.describes fields) (shape_of meta)) }
 {
-    let product = ParseCon::new(fields, |values: V| values);
+    let product = ParseCon {
+        fields,
+        make: ByClosure {
+            closure: |values: V| values,
+        },
+        values: PhantomData,
+    };
     product.meta(alloc)
 }
 
