@@ -40,8 +40,9 @@
 /// bpaf's macro makes a closure over the parsers, and evaluates them in it. This one makes a
 /// product, [`ParseCon`](crate::ParseCon) over nested [`Both`](crate::Both) and
 /// [`Last`](crate::Last), of more than four fields [`Four`](crate::Four) at a time, and a closure
-/// for the constructor alone, which a tuple of two fields needs not: so what the whole parses
-/// follows from what its fields do. The two have the same forms.
+/// for the constructor alone, so what the whole parses follows from what its fields do. A tuple of
+/// at most four fields has a constructor with a name, so a function can answer its parser
+/// ([`ParseTuple2`](crate::ParseTuple2)). The two have the same forms.
 #[macro_export]
 macro_rules! construct {
     // construct!(Name {}) and construct!(Name())
@@ -85,12 +86,15 @@ macro_rules! construct {
     };
     // one field by itself
     (@fields [tuple] [$only:ident]) => { $only };
-    // two fields, whose values are that tuple
-    (@fields [tuple] [$first:ident $last:ident]) => {
-        $crate::ParseCon::new(
-            $crate::construct!(@product $first $last),
-            std::convert::identity,
-        )
+    // two to four fields, whose tuple has a constructor with a name
+    (@fields [tuple] [$a:ident $b:ident]) => {
+        $crate::ParseCon::by($crate::construct!(@product $a $b), $crate::Tuple2 {})
+    };
+    (@fields [tuple] [$a:ident $b:ident $c:ident]) => {
+        $crate::ParseCon::by($crate::construct!(@product $a $b $c), $crate::Tuple3 {})
+    };
+    (@fields [tuple] [$a:ident $b:ident $c:ident $d:ident]) => {
+        $crate::ParseCon::by($crate::construct!(@product $a $b $c $d), $crate::Tuple4 {})
     };
     // a product by a constructor
     (@fields [by [$($name:tt)+]] [$($field:ident)+]) => {

@@ -57,4 +57,5 @@ pub use leaves::positional::{ParsePositional, Position, positional};
 pub use leaves::pure::{fail, pure, pure_with};
 pub use product::{
     Both, ByClosure, Constructor, Fields, Fields1, Fields2, Fields3, Fields4, Last, ParseCon,
+    ParseTuple2, ParseTuple3, ParseTuple4, Tuple2, Tuple3, Tuple4,
 };

@@ -271,24 +271,20 @@ fn error_before<V, R: Fields<V>>(error: Error, rest: &R, state: &mut State) -> E
 /// struct MakePoint {}
 ///
 /// impl Constructor<(u64, u64), Point> for MakePoint {
-///     ghost use Rattle.std.specs.Prelude.{◌≡◌};
-///
-///     ghost can_make = { λ m. Unit {0} };
-///
-///     ghost makes = { λ m v point. point ≡ record { x = v.0; y = v.1 } };
-///
-///     fn make(&self, values: (u64, u64)) -> Point {
-///         let (x, y) = values;
+///     fn make(&self, (x, y): (u64, u64)) -> Point {
 ///         Point { x, y }
 ///     }
 /// }
 /// ```
+///
+/// A program that promises something of its values says what it makes, as
+/// `ghost makes = { λ m v point. point ≡ record { x = v.0; y = v.1 } };`.
 pub trait Constructor<V, T>: Sized {
-    /// Whether it may be called on any values.
-    ghost can_make: { Self → Type 0 };
+    /// Whether it may be called on any values; by default it may.
+    ghost can_make: { Self → Type 0 } = { λ m. Unit {0} };
 
-    /// What it makes of values: those of the fields, as nested pairs.
-    ghost makes: { Self → V → T → Type 0 };
+    /// What it makes of values: those of the fields, as nested pairs. By default nothing is said.
+    ghost makes: { Self → V → T → Type 0 } = { λ m values made. Unit {0} };
 
     /// The value that it makes.
     fn make(&self, values: V) -> T
@@ -318,6 +314,43 @@ impl<V, T, F: Fn(V) -> T> Constructor<V, T> for ByClosure<F> {
     }
 }
 
+/// The constructor of a tuple of two values, which are the fields' own.
+#[derive(Drop)]
+pub struct Tuple2 {}
+
+impl<A, B> Constructor<(A, B), (A, B)> for Tuple2 {
+    ghost makes = { λ m values tuple. tuple ≡ values };
+
+    fn make(&self, values: (A, B)) -> (A, B) {
+        values
+    }
+}
+
+/// The constructor of a tuple of three values.
+#[derive(Drop)]
+pub struct Tuple3 {}
+
+impl<A, B, C> Constructor<(A, (B, C)), (A, B, C)> for Tuple3 {
+    ghost makes = { λ m values tuple. tuple ≡ (values.0, values.1.0, values.1.1) };
+
+    fn make(&self, (a, (b, c)): (A, (B, C))) -> (A, B, C) {
+        (a, b, c)
+    }
+}
+
+/// The constructor of a tuple of four values.
+#[derive(Drop)]
+pub struct Tuple4 {}
+
+impl<A, B, C, D> Constructor<(A, (B, (C, D))), (A, B, C, D)> for Tuple4 {
+    ghost makes = { λ m values tuple.
+        tuple ≡ (values.0, values.1.0, values.1.1.0, values.1.1.1) };
+
+    fn make(&self, (a, (b, (c, d))): (A, (B, (C, D)))) -> (A, B, C, D) {
+        (a, b, c, d)
+    }
+}
+
 /// A product: what a constructor makes of the values of fields (bpaf's `ParseCon`, in
 /// `structs.rs`).
 ///
@@ -330,6 +363,24 @@ pub struct ParseCon<V, P, M> {
     /// The type of the fields' values.
     pub values: PhantomData<V>,
 }
+
+/// The parser that `construct!(a, b)` answers, of the values `S` and `T` of the fields `A` and `B`.
+///
+/// ```text
+/// fn place() -> ParseTuple2<u64, u64, ParsePositional<u64>, ParsePositional<u64>> {
+///     let x = positional::<u64>("X");
+///     let y = positional::<u64>("Y");
+///     construct!(x, y)
+/// }
+/// ```
+pub type ParseTuple2<S, T, A, B> = ParseCon<(S, T), Fields2<A, B>, Tuple2>;
+
+/// The parser that `construct!(a, b, c)` answers.
+pub type ParseTuple3<S, T, U, A, B, C> = ParseCon<(S, (T, U)), Fields3<A, B, C>, Tuple3>;
+
+/// The parser that `construct!(a, b, c, d)` answers.
+pub type ParseTuple4<S, T, U, V, A, B, C, D> =
+    ParseCon<(S, (T, (U, V))), Fields4<A, B, C, D>, Tuple4>;
 
 impl<V, P: Drop, M: Drop> Drop for ParseCon<V, P, M> {
     fn drop(self) {

@@ -10,5 +10,6 @@ pub mod Commands
 pub mod ProgramForm
 pub mod OneView
 pub mod Says
+pub mod OwnedKeys
 pub mod ProgramSays
 pub mod Leaves

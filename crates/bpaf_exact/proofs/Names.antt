@@ -81,7 +81,7 @@ either_owns {q} {r} {keys} {others} a b = record {
 -- Filters.
 
 -- of what a test keeps, a second keeps what a third does that holds where both do
-kept_twice : (p q both : LinePiece → Bool) → ((o : LinePiece) → both o ≡ (q o && p o))
+pub kept_twice : (p q both : LinePiece → Bool) → ((o : LinePiece) → both o ≡ (q o && p o))
     → (os : List LinePiece) → filter p (filter q os) ≡ filter both os
 kept_twice p q both same [] = refl
 kept_twice p q both same (o ∷ os) = grind (arith, kept_twice p q both same os)

@@ -1,22 +1,18 @@
 -- Of each combinator: its values say what is told of them, where those of its inner parsers do.
-use Rattle.std.proofs.Common.{append-nil, arith, false, subst, Bool, List, refl, true, zero, ◌++◌}
-use Rattle.std.proofs.Common.{None, Some, not, suc, sym, ◌∙◌, ◌∷◌, ◌≡◌, [], ap, ℕ}
-use Rattle.std.specs.List.{Contains}
+use Rattle.std.proofs.Common.{append-nil, arith, false, subst, Bool, List, refl, true, ◌++◌}
+use Rattle.std.proofs.Common.{None, Some, not, sym, ◌∙◌, ◌∷◌, ◌≡◌, [], ap, ℕ}
 use Rattle.bpaf_doc.specs.Names.{Names}
 use Rattle.bpaf_laws.specs.Command.{opening_words, Called}
-use Rattle.bpaf_laws.specs.{Product.BothOutcome, Reading.Outcome}
-use Rattle.bpaf_exact.proofs.ProgramForm.{program_alone_law, program_field_law, program_both_law}
 use Rattle.bpaf_exact.proofs.Names.{first_within, mine_within, none_behind, others_both, apart_none}
 use Rattle.bpaf_exact.proofs.Names.{apart_of_names, mine_of_others, others_unkeyed, second_within}
 use Rattle.bpaf_exact.proofs.Names.{mine_rest, both_fits, taken_own, all_mine, each_own, rest_fit}
 use Rattle.bpaf_exact.proofs.Names.{others_none, others_rest, mine_keyed, others_fit, mine_none}
-use Rattle.bpaf_exact.proofs.ProgramForm.{whole_law}
 use Rattle.bpaf_exact.proofs.Names.{all_front, own_fit, no_fits, cut_fit}
 use Rattle.bpaf_exact.proofs.Says.{fallback_by, optional_by, front_says, whole_says, list_says}
 use Rattle.bpaf_exact.specs.Flat.{FieldsReading, FallbackValue, OptionalValue, both_reading, ByName}
-use Rattle.bpaf_exact.specs.Flat.{SingleValue, ClosedValue, FieldKind, Variables, repeated, OwnList}
+use Rattle.bpaf_exact.specs.Flat.{SingleValue, ClosedValue, FieldKind, repeated, OwnList}
 use Rattle.bpaf_exact.specs.Pieces.{are_all_apart, LinePiece, no_roles, either, others, Roles, Owns}
-use Rattle.bpaf_exact.specs.ProgramForm.{before_commands, program_command, program_dressed, FormLaw}
+use Rattle.bpaf_exact.specs.ProgramForm.{before_commands, program_command, program_dressed}
 use Rattle.bpaf_exact.specs.ProgramForm.{program_choice, program_closed, product_roles, ProgramForm}
 use Rattle.bpaf_exact.specs.ProgramForm.{program_alone, program_field, program_value, whole_program}
 use Rattle.bpaf_exact.specs.ProgramForm.{choice_only, ChoiceValue, program_con, whole_value, single}
@@ -24,10 +20,13 @@ use Rattle.bpaf_exact.specs.ProgramForm.{CellsValue, may_follow, no_program, pro
 use Rattle.bpaf_exact.specs.ProgramForm.{last_reading, CommandValue, program_both, alternative}
 use Rattle.bpaf_exact.specs.ProgramForm.{OptionalCommands, program_optional, completed, commands}
 use Rattle.bpaf_exact.specs.Says.{FieldThenSays, repeated_kind, FallbackSays, OptionalSays, BothSay}
-use Rattle.bpaf_exact.specs.Says.{RepeatSays, cells_said, its_pieces, EitherSays, AloneSays, AllOwn}
+use Rattle.bpaf_exact.specs.Says.{RepeatSays, scope_said, EitherSays, AloneSays, AllOwn}
 use Rattle.bpaf_exact.specs.Says.{FieldsSay, FrontSays, form_kind, FormSays, LastSays, MadeSays}
-use Rattle.bpaf_exact.specs.Says.{SaidKind, CutSays, of_kind, IsSaid, keyed, ProgramSaid}
-use Rattle.bpaf_exact.specs.Says.{ProgramSays, FieldsKeep, FieldsSaid, RecordSays, OwnBy, Said}
+use Rattle.bpaf_exact.specs.Says.{SaidKind, of_kind, IsSaid, keyed}
+use Rattle.bpaf_exact.specs.Says.{FieldsSaid, RecordSays, OwnBy, Said}
+use Rattle.bpaf_exact.specs.Pieces.{Cells, Cut}
+use Rattle.bpaf_exact.specs.ProgramForm.{product_reading}
+use Rattle.bpaf_exact.proofs.OwnedKeys.{OwnsKeys, whole_owns}
 use Rattle.bpaf_exact.specs.Flat.{Closure, Groups, gap_of, LastOf, front, back, keys, Gap}
 use Rattle.bpaf_exact.specs.{ProgramForm.complete, ProgramForm.product, Pieces.mine, Says.Says}
 
@@ -77,11 +76,33 @@ optional_says {T} {said} h =
 module _ {T : Type 0} {s : ProgramForm T} {kind : SaidKind} {names : List Names} {c : Bool}
     {said : Said T} {cells : CellsValue T} (h : Says names s kind c said cells) where
   -- under `many`, `some`, `collect` or `count`
-  pub program_repeat_says : {B : Type 0} (catch : Bool) (f : Closure (List T) B)
+  pub program_repeat_says : {B : Type 0} {closed : CellsValue B} (catch : Bool)
+      (f : Closure (List T) B)
       → Says names (program_if (not catch) (program_closed f (completed repeated (OwnList T) s)))
-      (repeated_kind kind) c (MadeSays (RepeatSays said) f) (ClosedValue (λ cs v. ⊥) f)
-  program_repeat_says catch f = if_says (not catch) (program_closed_says f (whole_form_says
-      repeated_kind (λ k. refl) (OwnList T) (RepeatSays said) (list_says said) h))
+      (repeated_kind kind) c (MadeSays (RepeatSays said) f) closed
+  program_repeat_says {B} {closed} catch f = if_says (not catch) (list_closed s
+      (whole_form_says repeated_kind (λ k. refl) (OwnList T) (RepeatSays said) (list_says said) h))
+    where
+      list_closed : (s : ProgramForm T)
+          → Says names (completed repeated (OwnList T) s) (repeated_kind kind) c (RepeatSays said)
+          (λ cs v. ⊥)
+          → Says names (program_closed f (completed repeated (OwnList T) s)) (repeated_kind kind) c
+          (MadeSays (RepeatSays said) f) closed
+      list_closed (alternative wide q value) h = record {
+        by = (
+          h.by.0,
+          h.by.1,
+          λ os v all m. record { from = m.from; told = h.by.2 os m.from all m.read; made = m.made },
+        );
+      }
+      list_closed (single wide k q group gap) h = record {
+        by = (
+          h.by.0,
+          h.by.1,
+          λ os v all m. record { from = m.from; told = h.by.2 os m.from all m.read; made = m.made },
+        );
+      }
+      list_closed _ h = record { by = tt }
 
   -- the last value of a repeat
   pub program_last_says : Says names (completed repeated (LastOf T) s) (repeated_kind kind) c
@@ -114,24 +135,8 @@ pub program_dressed_says : {T : Type 0} {s : ProgramForm T} {kind : SaidKind} {n
     → Says names (program_dressed s) kind c said cells
 program_dressed_says h = grind arith
 
--- own items are those with one of these names
-abbrev pub FormOwns : {T : Type 0} → List Names → ProgramForm T → Type 0
-FormOwns names (complete wide k q value) = Owns (keys k q) names
-FormOwns names (product wide named q fields) = Owns q names
-FormOwns names _ = Unit {0}
-
--- so it is with a form
-record OwnsKeys {T : Type 0} (names : List Names) (s : ProgramForm T) : Type 0 where
-  by : FormOwns names s
-
--- of what keeps to its law
-owned : {env : Variables} {T : Type 0} {outcome : Outcome T} {names : List Names}
-    {words : List (List ℕ)} {s : ProgramForm T} → FormLaw env outcome names words s
-    → OwnsKeys names s
-owned law = grind arith
-
 -- as a field
-field_says : {T : Type 0} {s : ProgramForm T} {kind : SaidKind} {names : List Names} {c : Bool}
+pub field_says : {T : Type 0} {s : ProgramForm T} {kind : SaidKind} {names : List Names} {c : Bool}
     {said : Said T} {cells : CellsValue T} → OwnsKeys names s → Says names s kind c said cells
     → Says names (program_field s) kind c said cells
 field_says {s = product wide true q fields} {names} own h = record {
@@ -187,73 +192,54 @@ record_says {T} s {kind} {names} {c} {said} {cells} h = by_form s h.by
     by_form (before_commands value) h = h
     by_form no_program h = tt
 
--- a value of a whole program says so of the cells
-pub program_says : {env : Variables} {P T : Type 0} {outcome : Outcome T} {words : List (List ℕ)}
-    {s : ProgramForm T} {kind : SaidKind} {names : List Names} (said : ProgramSaid P T) (p : P)
-    → FormLaw env outcome names words s → ProgramSays names s kind said p
-    → IsSaid (program_value s) (cells_said s said p)
-program_says {env} {P} {T} {outcome} {s} {names} said p law h =
-    by_whole (whole_program s) (whole_law law) said.in_cells (record_says s h)
+-- of a flat record it says so of the pieces that it is read off
+pub cut_says : {T : Type 0} (s : ProgramForm T) {kind : SaidKind} {names : List Names} {c : Bool}
+    {said : Said T} {cells : CellsValue T} → OwnsKeys names s → Says names s kind c said cells
+    → {cs : Cells} {os : List LinePiece} {v : T} → Cut (product_roles (whole_program s)) cs os
+    → (product_reading (whole_program s)).value os v → said os v
+cut_says {T} s {names} {c} {said} {cells} own h =
+    by_whole (whole_program s) (whole_owns s own) (record_says s h)
   where
-    by_whole : (w : ProgramForm T) → FormLaw env outcome names [] w → (c : Bool)
-        → WholeSays names w c (said.pieces p) (said.cells p)
-        → IsSaid (whole_value w) (elim c as (λ b. CellsValue T)
-        [ true ↦ said.cells p | false ↦ CutSays (product_roles w) (said.pieces p) ])
-    by_whole (product wide named q fields) law c says = rw says.0 (λ cs v read. record {
+    by_whole : (w : ProgramForm T) → OwnsKeys names w → WholeSays names w c said cells
+        → {cs : Cells} {os : List LinePiece} {v : T} → Cut (product_roles w) cs os
+        → (product_reading w).value os v → said os v
+    by_whole (product wide named q fields) own says {os = os} {v} cut m =
+        says.1 os v (cut_fit q names own.by cut) m
+    by_whole _ own says cut m = absurd m
+
+-- a value of a whole program says so of the cells of its scope
+pub program_says : {T : Type 0} (s : ProgramForm T) {kind : SaidKind} {names : List Names} {c : Bool}
+    {said : Said T} {cells : CellsValue T} → OwnsKeys names s → Says names s kind c said cells
+    → IsSaid (program_value s) (scope_said c (product_roles (whole_program s)) said cells)
+program_says {T} s {names} {c} {said} {cells} own h =
+    by_whole (whole_program s) (whole_owns s own) c (record_says s h)
+  where
+    by_whole : (w : ProgramForm T) → OwnsKeys names w → (c : Bool) → WholeSays names w c said cells
+        → IsSaid (whole_value w) (scope_said c (product_roles w) said cells)
+    by_whole (product wide named q fields) own c says = rw says.0 (λ cs v read. record {
       cut_into = read.cut_into;
       cut = read.cut;
-      told = says.1 read.cut_into v (cut_fit q names law.by.1 read.cut) read.read;
+      told = says.1 read.cut_into v (cut_fit q names own.by read.cut) read.read;
     })
-    by_whole (before_commands value) law c says = rw says.0 says.1
-    by_whole _ law c says = λ cs v m. absurd m
+    by_whole (before_commands value) own c says = rw says.0 says.1
+    by_whole _ own c says = λ cs v m. absurd m
 
 -- a command
-pub program_command_says : {env : Variables} {P T : Type 0} {outcome : Outcome T}
-    {words : List (List ℕ)} {s : ProgramForm T} {kind : SaidKind} {names : List Names}
-    (said : ProgramSaid P T) (p : P) (adjacent apart : Bool) (called : Called)
-    → FormLaw env outcome names words s → ProgramSays names s kind said p
+pub program_command_says : {T : Type 0} {s : ProgramForm T} {kind : SaidKind} {names : List Names}
+    {c : Bool} {said : Said T} {cells : CellsValue T} (adjacent apart : Bool) (called : Called)
+    → OwnsKeys names s → Says names s kind c said cells
     → Says names (program_command adjacent apart called s) (of_kind ByName) true (λ os v. ⊥)
-    (CommandValue T (opening_words called) (cells_said s said p))
-program_command_says said p adjacent apart called law h = grind (arith, if_says, program_says)
+    (CommandValue T (opening_words called)
+    (scope_said c (product_roles (whole_program s)) said cells))
+program_command_says adjacent apart called own h = grind (arith, if_says, program_says)
 
 -- Choices.
 
--- the first of a list is among it
-pub at_first : {X : Type 0} (x : X) (xs : List X) → Contains (x ∷ xs) x
-at_first x xs = (zero, omega arith, refl)
-
--- and so is what is among the others
-pub in_rest : {X : Type 0} (x : X) (xs : List X) {y : X} → Contains xs y → Contains (x ∷ xs) y
-in_rest x xs there = (suc there.0, omega arith, there.2)
-
--- what the one says the other does
-pub record Into {T : Type 0} (one said : Said T) (these cells : CellsValue T) : Type 0 where
-  pub by_pieces : (os : List LinePiece) (v : T) → one os v → said os v
-  pub by_cells : IsSaid these cells
-
--- the first parser of a choice, into what is said of all
-pub first_says : {T : Type 0} {s : ProgramForm T} {kind : SaidKind} {keys : List Names} {c : Bool}
-    {one said : Said T} {these cells : CellsValue T} (names : List Names)
-    → Into one said these cells → Says keys s kind c one these
+-- what may stand in one
+pub only_says : {T : Type 0} {s : ProgramForm T} {kind : SaidKind} {names : List Names} {c : Bool}
+    {said : Said T} {cells : CellsValue T} → Says names s kind c said cells
     → Says names (choice_only s) (of_kind ByName) c said cells
-first_says names into h = grind arith
-
--- a choice of two, into what is said of both
-choice_into : {T : Type 0} {a b : ProgramForm T} {j k : SaidKind} {m n : List Names} {c d : Bool}
-    {this that said : Said T} {these those cells : CellsValue T} (names own others : List Names)
-    (words more : List (List ℕ)) → Into this said these cells → Into that said those cells
-    → Says m a j c this these → Says n b k d that those
-    → Says names (program_choice own others words more a b) (of_kind ByName) c said cells
-choice_into names own others words more from_this from_that h g = grind (arith, if_says)
-
--- one more parser, into what is said of all
-pub more_says : {T : Type 0} {s : ProgramForm T} {kind : SaidKind} {keys : List Names}
-    {c d : Bool} {one said : Said T} {these cells : CellsValue T} (names own others : List Names)
-    (words more : List (List ℕ)) (before : ProgramForm T) → Into one said these cells
-    → Says names (choice_only before) (of_kind ByName) c said cells → Says keys s kind d one these
-    → Says names (choice_only (program_choice own others words more before s)) (of_kind ByName) c
-    said cells
-more_says names own others words more before into h g = grind (arith, choice_into, first_says)
+only_says h = grind arith
 
 -- of two
 pub program_choice_says : {T : Type 0} {s t : ProgramForm T} {j k : SaidKind} {a b : Said T}
@@ -261,12 +247,12 @@ pub program_choice_says : {T : Type 0} {s t : ProgramForm T} {j k : SaidKind} {a
     → Says own s j c a x → Says others t k d b y
     → Says (own ++ others) (program_choice own others words more s t) (of_kind ByName) c
     (EitherSays a b) (ChoiceValue T x y)
-program_choice_says own others words more h g = grind (arith, choice_into)
+program_choice_says own others words more h g = grind (arith, if_says)
 
 -- Products.
 
 -- the last field
-alone_says : {T : Type 0} {names : List Names} {s : ProgramForm T} {kind : SaidKind} {c : Bool}
+pub alone_says : {T : Type 0} {names : List Names} {s : ProgramForm T} {kind : SaidKind} {c : Bool}
     {said : Said T} {cells : CellsValue T} → OwnsKeys names s → Says names s kind c said cells
     → FieldsSay names (program_alone s) c (AloneSays kind names said) cells
 alone_says {names} {s = product wide false q fields} own_keys h = record {
@@ -290,7 +276,7 @@ alone_says {T} {names} {s = complete wide k q value} {said} own_keys h = record 
         → (whole os : List LinePiece) (v : T)
         → OwnBy names (either (keys k q) no_roles) whole → (last_reading k q value).value os v
         → mine (either (keys k q) no_roles) whole ≡ mine (either (keys k q) no_roles) os
-        → said (its_pieces (of_kind k) names whole (others (either (keys k q) no_roles) os)) v
+        → AloneSays (of_kind k) names said whole (others (either (keys k q) no_roles) os) v
     own ByName q value owned each whole os v fits m same =
         subst (λ z. said z v) (sym (mine_within q (either q no_roles) (first_within q no_roles) os)
         ∙ (ap (mine q) (sym same)
@@ -351,7 +337,7 @@ fields_if true s h = h refl
 fields_if false s h = record { by = tt }
 
 -- a field before others
-both_say : {A B : Type 0} {own behind : List Names} {a : ProgramForm A} {s : ProgramForm B}
+pub both_say : {A B : Type 0} {own behind : List Names} {a : ProgramForm A} {s : ProgramForm B}
     {kind : SaidKind} {c d : Bool} {said : Said A} {more : FieldsSaid B} {cells : CellsValue A}
     {rest : CellsValue B} → OwnsKeys own a → OwnsKeys behind s → Says own a kind c said cells
     → FieldsSay behind s d more rest
@@ -389,26 +375,3 @@ pub program_con_says : {A B : Type 0} {names : List Names} {s : ProgramForm A} {
     {said : FieldsSaid A} {cells : CellsValue A} (f : Closure A B) → FieldsSay names s c said cells
     → Says names (program_con f s) (form_kind s) c (RecordSays said names f) (ClosedValue cells f)
 program_con_says f g = grind (arith, others_unkeyed, closed_said)
-
--- the last field
-pub keep_last : {env : Variables} {A : Type 0} {outcome : Outcome A} {words : List (List ℕ)}
-    {names : List Names} {s : ProgramForm A} {kind : SaidKind} {c : Bool} {said : Said A}
-    {cells : CellsValue A} → FormLaw env outcome names words s → Says names s kind c said cells
-    → FieldsKeep env outcome names (program_alone (program_field s)) c (AloneSays kind names said)
-    cells
-keep_last law says =
-    grind (arith, program_field_law, program_alone_law, alone_says, owned, field_says)
-
--- a field before such fields
-pub keep_before : {env : Variables} {A B : Type 0} {outcome : Outcome A} {words : List (List ℕ)}
-    {names others : List Names} {s : ProgramForm A} {kind : SaidKind} {c d : Bool} {said : Said A}
-    {cells : CellsValue A} {behind : Outcome B} {t : ProgramForm B} {more : FieldsSaid B}
-    {rest : CellsValue B} → FormLaw env outcome names words s → Says names s kind c said cells
-    → FieldsKeep env behind others t d more rest
-    → FieldsKeep env (BothOutcome outcome behind) (names ++ others)
-    (program_both names others (program_field s) t) d (BothSay kind names said more)
-    (FieldThenSays names said rest)
-keep_before law says kept = let field = program_field_law law in record {
-  law = program_both_law field kept.law;
-  says = both_say (owned field) (owned kept.law) (field_says (owned law) says) kept.says;
-}

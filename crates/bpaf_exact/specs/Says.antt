@@ -3,15 +3,13 @@ use Rattle.std.specs.Prelude.{Option, filter, false, Bool, true, List, ◌++◌,
 use Rattle.std.specs.{Prelude.map, Prelude.not, Prelude.[], Prelude.ℕ, List.Contains}
 use Rattle.bpaf_base.specs.{declared.arg.Arg.Arg, Items.item_text}
 use Rattle.bpaf_doc.specs.Names.{Names}
-use Rattle.bpaf_laws.specs.{Command.opening_words, Command.Called, Reading.Outcome}
 use Rattle.bpaf_exact.specs.Pieces.{stands_behind, is_key_of_any, LinePiece, is_own, others, Roles}
 use Rattle.bpaf_exact.specs.Pieces.{Cells, mine, Owns, One, Two, Cut}
-use Rattle.bpaf_exact.specs.Flat.{ClosedValue, FieldKind, Variables, repeated, Closure, ByName, Own}
-use Rattle.bpaf_exact.specs.ProgramForm.{ProgramForm, alternative, ChoiceValue, no_program, product}
-use Rattle.bpaf_exact.specs.ProgramForm.{product_roles, whole_program, CommandValue}
+use Rattle.bpaf_exact.specs.Flat.{FieldKind, repeated, Closure, ByName, Own}
+use Rattle.bpaf_exact.specs.ProgramForm.{ProgramForm, alternative, no_program, product}
 use Rattle.bpaf_exact.specs.ProgramForm.{CellsValue, FieldThen, complete}
-use Rattle.bpaf_exact.specs.ProgramForm.{OptionalCommands, before_commands}
-use Rattle.bpaf_exact.specs.ProgramForm.{commands, FormLaw, single}
+use Rattle.bpaf_exact.specs.ProgramForm.{before_commands}
+use Rattle.bpaf_exact.specs.ProgramForm.{commands, single}
 use Rattle.bpaf_exact.specs.Flat.{IsLastOf, Groups, front, back}
 
 -- The pieces of a field's own.
@@ -180,27 +178,6 @@ OwnBy names r (o ∷ os) = (is_own r o ≡ is_key_of_any names (first_item o)) �
 -- What the values of a program with commands say: each named field of its own pieces, and the rest
 -- of what is left without these.
 
--- what the value of each parser of a type says: of the pieces that are its own; or, where it ends
--- in commands, of the cells of its scope
-pub record ProgramSaid (P T : Type 0) : Type 1 where
-  pub in_cells : Bool
-  pub pieces : P → Said T
-  pub cells : P → CellsValue T
-
--- of pieces alone
-abbrev pub of_pieces : {P T : Type 0} → (P → Said T) → ProgramSaid P T
-of_pieces said = record { in_cells = false; pieces = said; cells = λ p cs v. ⊥ }
-
--- of cells alone
-abbrev pub of_cells : {P T : Type 0} → (P → CellsValue T) → ProgramSaid P T
-of_cells said = record { in_cells = true; pieces = λ p os v. ⊥; cells = said }
-
--- what the values of fields say
-pub record ProgramFieldsSaid (P V : Type 0) : Type 1 where
-  pub in_cells : Bool
-  pub pieces : P → FieldsSaid V
-  pub cells : P → CellsValue V
-
 -- the cells are cut into pieces, by these roles, of which a value says so
 pub record CutSays {T : Type 0} (roles : Roles) (said : Said T) (cs : Cells) (v : T) : Type 0
   where
@@ -208,86 +185,12 @@ pub record CutSays {T : Type 0} (roles : Roles) (said : Said T) (cs : Cells) (v 
     pub cut : Cut roles cs cut_into
     pub told : said cut_into v
 
--- what the value of a whole program of this form says of cells
-abbrev pub cells_said : {P T : Type 0} → ProgramForm T → ProgramSaid P T → P → CellsValue T
-cells_said {T = T} form said p = elim said.in_cells as (λ b. CellsValue T) [
-  | true ↦ said.cells p
-  | false ↦ CutSays (product_roles (whole_program form)) (said.pieces p)
-]
-
--- of a parser round another, by what it makes of either
-abbrev pub said_round : {P Q A B : Type 0} → (Q → P) → (Q → Said A → Said B)
-    → (Q → CellsValue A → CellsValue B) → ProgramSaid P A → ProgramSaid Q B
-said_round inside pieces cells said = record {
-  in_cells = said.in_cells;
-  pieces = λ q. pieces q (said.pieces (inside q));
-  cells = λ q. cells q (said.cells (inside q));
-}
-
--- of a closure
-abbrev pub said_closed : {P Q A B : Type 0} → (Q → P) → (Q → Closure A B) → ProgramSaid P A
-    → ProgramSaid Q B
-said_closed {A = A} {B = B} inside f =
-    said_round inside (λ q said. MadeSays said (f q)) (λ q said. ClosedValue said (f q))
-
--- of another look
-abbrev pub said_dressed : {P Q T : Type 0} → (Q → P) → ProgramSaid P T → ProgramSaid Q T
-said_dressed inside = said_round inside (λ q said. said) (λ q said. said)
-
--- of what may be left out
-abbrev pub said_optional : {P Q T : Type 0} → (Q → P) → ProgramSaid P T → ProgramSaid Q (Option T)
-said_optional {T = T} inside =
-    said_round inside (λ q said. OptionalSays said) (λ q said. OptionalCommands T said)
-
--- of a parser round a flat field alone
-abbrev pub said_flat : {P Q A B : Type 0} → (Q → P) → (Q → Said A → Said B) → ProgramSaid P A
-    → ProgramSaid Q B
-said_flat inside says = said_round inside says (λ q said cs v. ⊥)
-
--- of what is made of a repeat
-abbrev pub said_repeat : {P Q T B : Type 0} → (Q → P) → Closure (List T) B → ProgramSaid P T
-    → ProgramSaid Q B
-said_repeat inside f said =
-    said_closed (λ q. q) (λ q. f) (said_flat inside (λ q said. RepeatSays said) said)
-
--- of its last value
-abbrev pub said_last : {P Q T : Type 0} → (Q → P) → ProgramSaid P T → ProgramSaid Q T
-said_last inside = said_flat inside (λ q said. LastSays said)
-
--- of a fallback
-abbrev pub said_fallback : {P Q T : Type 0} → (Q → P) → (Q → Closure (Unit {0}) T)
-    → ProgramSaid P T → ProgramSaid Q T
-said_fallback inside f = said_flat inside (λ q said. FallbackSays said ((f q).yes tt))
-
--- of a command over a program of this form
-abbrev pub said_command : {P Q T : Type 0} → (Q → P) → (Q → Called) → (P → ProgramForm T)
-    → ProgramSaid P T → ProgramSaid Q T
-said_command {T = T} inside called form said = of_cells (λ q.
-    CommandValue T (opening_words (called q)) (cells_said (form (inside q)) said (inside q)))
-
--- of a choice of two
-abbrev pub said_choice : {P Q R T : Type 0} → (R → P) → (R → Q) → ProgramSaid P T → ProgramSaid Q T
-    → ProgramSaid R T
-said_choice {T = T} this that a b = record {
-  in_cells = a.in_cells;
-  pieces = λ r. EitherSays (a.pieces (this r)) (b.pieces (that r));
-  cells = λ r. ChoiceValue T (a.cells (this r)) (b.cells (that r));
-}
-
--- one of some parsers says so of the cells
-pub record OneOfCells {P T : Type 0} (says : P → CellsValue T) (ps : List P) (cs : Cells)
-    (v : T) : Type 0 where
-  pub parser : P
-  pub among : Contains ps parser
-  pub told : says parser cs v
-
--- of a choice of any number
-abbrev pub said_choices : {P Q T : Type 0} → (Q → List P) → ProgramSaid P T → ProgramSaid Q T
-said_choices parsers said = record {
-  in_cells = said.in_cells;
-  pieces = λ q. OneOfSays said.pieces (parsers q);
-  cells = λ q. OneOfCells said.cells (parsers q);
-}
+-- what a value says of the cells of its scope: what it says of them, where it ends in commands; or
+-- of the pieces that they are cut into by these roles
+abbrev pub scope_said : {T : Type 0} → (in_cells : Bool) → Roles → Said T → CellsValue T
+    → CellsValue T
+scope_said true roles said cells = cells
+scope_said false roles said cells = CutSays roles said
 
 -- a named field before others: it says so of its own pieces, and they do of what is left
 pub record FieldThenSays {A B : Type 0} (names : List Names) (said : Said A) (rest : CellsValue B)
@@ -305,43 +208,6 @@ abbrev pub BothSay : {A B : Type 0} → SaidKind → List Names → Said A → F
     → FieldsSaid (A × B)
 BothSay kind names said more os words v =
     said (its_pieces kind names os words) v.0 × more os (words_after kind words) v.1
-
--- of the last field
-abbrev pub said_alone : {P Q T : Type 0} → (Q → P) → (P → SaidKind) → (P → List Names)
-    → ProgramSaid P T → ProgramFieldsSaid Q T
-said_alone last kind names said = record {
-  in_cells = said.in_cells;
-  pieces = λ q. AloneSays (kind (last q)) (names (last q)) (said.pieces (last q));
-  cells = λ q. said.cells (last q);
-}
-
--- of a field before others
-abbrev pub said_both : {P Q R A B : Type 0} → (R → P) → (R → Q) → (P → SaidKind)
-    → (P → List Names) → ProgramSaid P A → ProgramFieldsSaid Q B → ProgramFieldsSaid R (A × B)
-said_both first rest kind names said more = record {
-  in_cells = more.in_cells;
-  pieces = λ r. BothSay (kind (first r)) (names (first r)) (said.pieces (first r))
-      (more.pieces (rest r));
-  cells = λ r. FieldThenSays (names (first r)) (said.pieces (first r)) (more.cells (rest r));
-}
-
--- of fields that stand inside
-abbrev pub fields_said_inside : {P Q V : Type 0} → (Q → P) → ProgramFieldsSaid P V
-    → ProgramFieldsSaid Q V
-fields_said_inside inside said = record {
-  in_cells = said.in_cells;
-  pieces = λ q. said.pieces (inside q);
-  cells = λ q. said.cells (inside q);
-}
-
--- of what a constructor makes of fields
-abbrev pub said_con : {P Q A B : Type 0} → (Q → P) → (P → List Names) → (Q → Closure A B)
-    → ProgramFieldsSaid P A → ProgramSaid Q B
-said_con {A = A} {B = B} fields names makes said = record {
-  in_cells = said.in_cells;
-  pieces = λ q. RecordSays (said.pieces (fields q)) (names (fields q)) (makes q);
-  cells = λ q. ClosedValue (said.cells (fields q)) (makes q);
-}
 
 -- That a value says so.
 
@@ -378,12 +244,6 @@ pub record Says {T : Type 0} (names : List Names) (form : ProgramForm T) (kind :
     (in_cells : Bool) (said : Said T) (cells : CellsValue T) : Type 0 where
   pub by : FormSays names form kind in_cells said cells
 
--- so it is with a parser of a type
-abbrev pub ProgramSays : {P T : Type 0} → List Names → ProgramForm T → SaidKind → ProgramSaid P T
-    → P → Type 0
-ProgramSays names form kind said p =
-    Says names form kind said.in_cells (said.pieces p) (said.cells p)
-
 -- values of such fields say so of all pieces of a line, of which those that they are read off are
 -- all that begin with their keys; or of the cells
 abbrev pub FieldsFormSays : {V : Type 0} → List Names → ProgramForm V → (in_cells : Bool)
@@ -400,13 +260,6 @@ FieldsFormSays names _ in_cells said cells = ⊥
 pub record FieldsSay {V : Type 0} (names : List Names) (form : ProgramForm V) (in_cells : Bool)
     (said : FieldsSaid V) (cells : CellsValue V) : Type 0 where
   pub by : FieldsFormSays names form in_cells said cells
-
--- fields of this form keep to it, and their values say so
-pub record FieldsKeep {V : Type 0} (variables : Variables) (outcome : Outcome V)
-    (names : List Names) (s : ProgramForm V) (in_cells : Bool) (said : FieldsSaid V)
-    (cells : CellsValue V) : Type 0 where
-  pub law : FormLaw variables outcome names [] s
-  pub says : FieldsSay names s in_cells said cells
 
 -- all these values look alike
 abbrev pub Alike : {T X : Type 0} → (T → X) → (T → Type 0) → Type 0

@@ -38,6 +38,7 @@ use Rattle.bpaf_exact.proofs.ProgramForm.{AllowsNoMore, fallback_law, optional_l
 use Rattle.bpaf_exact.proofs.{Leaves.argument_field_law, Leaves.flag_field_law, ProgramForm.map_law}
 use Rattle.bpaf_exact.specs.ProgramForm.{is_program}
 use Rattle.bpaf_record.specs.Grammar.{program_form, argument, Grammar, choice, alone, both, word}
+use Rattle.bpaf_record.specs.Grammar.{FieldsGrammar}
 use Rattle.bpaf_record.proofs.Running.{answers_as_program}
 use Rattle.bpaf_record.specs.Commands.{plain_command_law, positional_law}
 use Rattle.bpaf_record.specs.Record.{AnswersAsProgram}
@@ -124,7 +125,7 @@ last_known known inner = record {
 }
 
 -- a field in front of others
-pub both_known : {A B : Type 0} (first : Grammar A) (rest : Grammar B) {one : Outcome A}
+pub both_known : {A B : Type 0} (first : Grammar A) (rest : FieldsGrammar B) {one : Outcome A}
     {outcome : Outcome B} {own others : ShortNames} → IsKnownParser first one own
     → AreKnownFields rest outcome others
     → AreKnownFields (both first rest) (BothOutcome one outcome) (joined_shorts own others)
@@ -137,7 +138,7 @@ both_known first rest is more = record {
 }
 
 -- with a constructor
-pub con_known : {A B : Type 0} (make : A → B) (known : Grammar A) {outcome : Outcome A}
+pub con_known : {A B : Type 0} (make : A → B) (known : FieldsGrammar A) {outcome : Outcome A}
     {shorts : ShortNames} → AreKnownFields known outcome shorts
     → {answers : A → B → Type 0} → ((x : A) (v : B) → answers x v → v ≡ make x)
     → IsKnownParser (known_con make known) (ProductOutcome outcome answers) shorts

@@ -14,6 +14,7 @@ use Rattle.bpaf.specs.Asked.{nothing_shown}
 use Rattle.bpaf_exact.specs.Flat.{Closure, map_closure, Variables, list_closure}
 use Rattle.bpaf_exact.specs.ProgramForm.{FormLaw}
 use Rattle.bpaf_record.specs.Grammar.{Grammar, alone, argument, both, choice, closed, command}
+use Rattle.bpaf_record.specs.Grammar.{FieldsGrammar, GrammarOf}
 use Rattle.bpaf_record.specs.Grammar.{command_words, fallback, flag, keys_of, last, optional}
 use Rattle.bpaf_record.specs.Grammar.{product, program_form, repeat}
 use Rattle.bpaf_record.specs.Record.{IsProgramValueOf, IsValueOrWant}
@@ -34,7 +35,7 @@ abbrev pub makes : {A B : Type 0} → (A → B) → Closure A B
 makes make = map_closure (λ x v. v ≡ make x)
 
 -- the short names that a parser shows which is made so, of kinds that a program may know
-abbrev pub shown_shorts : {T : Type 0} → Grammar T → ShortNames
+abbrev pub shown_shorts : {fields : Bool} {T : Type 0} → GrammarOf fields T → ShortNames
 shown_shorts (flag clones key present absent) = of_flags key.names.shorts
 shown_shorts (argument means key) = of_arguments key.named.names.shorts
 shown_shorts (closed f g) = shown_shorts g
@@ -68,7 +69,7 @@ any_shape shape = Unit {0}
 
 -- the pages that what is made so hands on: of each command the run behind its word was asked for
 -- its page, or a command inside was
-abbrev pub inner_pages : {T : Type 0} → Grammar T → Showing
+abbrev pub inner_pages : {fields : Bool} {T : Type 0} → GrammarOf fields T → Showing
 inner_pages (closed f g) = inner_pages g
 inner_pages (optional catch g) = inner_pages g
 inner_pages (fallback f g) = inner_pages g
@@ -105,7 +106,7 @@ pub record IsKnownParser {T : Type 0} (made : Grammar T) (outcome : Outcome T)
   pub hands : HandsOn (inner_pages made) outcome
 
 -- so are fields
-pub record AreKnownFields {T : Type 0} (made : Grammar T) (outcome : Outcome T)
+pub record AreKnownFields {T : Type 0} (made : FieldsGrammar T) (outcome : Outcome T)
     (shorts : ShortNames) : Type 0 where
   pub law : (variables : Variables)
       → FormLaw variables outcome (keys_of made true) [] (program_form made variables)
@@ -138,7 +139,7 @@ abbrev pub known_command : {T : Type 0} → List ℕ → Grammar T → Grammar T
 known_command word = command false (named_only word) plain_info
 
 -- fields of which this is made
-abbrev pub known_con : {A B : Type 0} → (A → B) → Grammar A → Grammar B
+abbrev pub known_con : {A B : Type 0} → (A → B) → FieldsGrammar A → Grammar B
 known_con make = product (makes make)
 
 -- only the version and the texts round the usage of the help page are other

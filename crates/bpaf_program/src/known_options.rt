@@ -2,7 +2,7 @@
 ghost use Rattle.std.specs.Prelude.{◌≡◌, true};
 ghost use Rattle.bpaf_exact.specs.{Flat.Variables, ProgramForm.is_program};
 ghost use Rattle.bpaf_record.specs.Grammar.{Grammar, program_form};
-ghost use Rattle.bpaf_record.specs.Record.{AnswersAsProgram, IsProgramValueOf};
+ghost use Rattle.bpaf_record.specs.Record.{AnswersAsProgram, TellsOfWords};
 ghost use Rattle.bpaf.specs.Refusals.{IsOneOfTwelve};
 ghost use Rattle.bpaf.specs.Run.{IsDealtOut, known_names, RunsWords};
 ghost use Rattle.bpaf_laws.specs.Laws.{WithoutMemory};
@@ -28,8 +28,8 @@ pub trait KnownProgram<T> {
 /// tells of itself, and what was made before may be any parser to the function that it is handed
 /// to.
 ///
-/// `is_program` is true, since the grammar is proved to be a program ([`KnownProgram`]); and of its
-/// fields the clause `fields` says no more than `exact` does.
+/// `is_program` is true, since the grammar is proved to be a program ([`KnownProgram`]); and the
+/// clause `fields` says of its fields what the grammar tells.
 ///
 /// ```text
 /// let notes = KnownOptions { options: notes.to_options(alloc)?, program: NotesProgram {} };
@@ -66,9 +66,8 @@ impl<T: Drop, P: Parser<T>, K: KnownProgram<T>> CommandLine<T> for KnownOptions<
     ghost deals = { λ p given. IsDealtOut T (P.reads p.options.inner)
         (known_names p.options.info (P.shorts p.options.inner)) given };
 
-    ghost tells = { λ p given. IsProgramValueOf
-        (known_names p.options.info (shown_shorts K.grammar)) (program_form K.grammar given.env)
-        given };
+    ghost tells = { λ p given.
+        TellsOfWords (known_names p.options.info (shown_shorts K.grammar)) K.grammar given };
 
     ghost answers_spared = { λ p given. RunsWords T (WithoutMemory (P.outcome p.options.inner))
         (P.describes p.options.inner) p.options.info

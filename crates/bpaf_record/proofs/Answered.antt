@@ -32,12 +32,15 @@ use Rattle.bpaf_exact.proofs.{Names.of_front_one, Places.test_named}
 use Rattle.bpaf_exact.specs.Pieces.{takes_argument, stands_behind, empty_stays, other_stays, others}
 use Rattle.bpaf_exact.specs.Pieces.{is_own_role, takes_flag, LinePiece, is_value, no_cells, IsNamed}
 use Rattle.bpaf_exact.specs.Pieces.{Roles, Cells, Takes, Owns, Cut, One, Two}
-use Rattle.bpaf_exact.specs.ProgramForm.{ProgramForm, opens_later, line_cells, CellsValue, Opens}
+use Rattle.bpaf_exact.specs.ProgramForm.{opens_later, line_cells, Opens}
 use Rattle.bpaf_exact.specs.Says.{says_variable, says_present, ArgumentSays, OptionalSays, FlagSays}
 use Rattle.bpaf_exact.specs.Says.{FallbackSays, says_absent, first_item, RepeatSays, says_some}
 use Rattle.bpaf_exact.specs.Says.{says_none, WordSays, CutSays, keyed, Said}
 use Rattle.bpaf_exact.specs.ProgramForm.{opens_here, flag_roles, WordValue}
 use Rattle.bpaf_exact.specs.Flat.{OneWord, front, back}
+use Rattle.bpaf_record.specs.Grammar.{cells_say, ends_in_commands, Grammar, program_form, says}
+use Rattle.bpaf_exact.specs.ProgramForm.{product_roles, whole_program}
+use Rattle.bpaf_exact.specs.Says.{scope_said}
 use Rattle.bpaf_record.specs.Record.{IsSpelledByAny, IsSpelledItem, TellsOfWords, WasSpelled}
 use Rattle.bpaf_record.proofs.Running.{each_present, cut_kept, on_line, present}
 use Rattle.bpaf_record.specs.Record.{WasCalled}
@@ -302,14 +305,16 @@ pub record AreOfLine (known : Known) (words : List (List ℕ)) (os : List LinePi
 
 -- What a value says of the pieces of the line of words is told of these, by the names that a caller
 -- knows.
-pub told_of_line : {T : Type 0} {known : Known} {form : ProgramForm T} {roles : Roles}
-    {said : Said T} {given : Given} {v : T} {Q : Type 0}
-    → TellsOfWords known form (CutSays roles said) given v → (by : Known) → known ≡ by
-    → (words : List (List ℕ)) → given.words ≡ words
-    → ((os : List LinePiece) → AreOfLine by words os → said os v → Q) → Q
-told_of_line {known = known} {given = given} told by is words same so =
+pub told_of_line : {T : Type 0} {known : Known} {g : Grammar T} {given : Given} {v : T}
+    {Q : Type 0} → TellsOfWords known g given v → ends_in_commands g ≡ false → (by : Known)
+    → known ≡ by → (words : List (List ℕ)) → given.words ≡ words
+    → ((os : List LinePiece) → AreOfLine by words os → says g given.env os v → Q) → Q
+told_of_line {T} {known} {g} {given} {v} told flat by is words same so =
     let line = told.is_value in
-    let cut = told.told in
+    let roles : Roles = product_roles (whole_program (program_form g given.env)) in
+    let cut : CutSays roles (says g given.env) (line_cells line.context) v =
+    subst (λ b. scope_said b roles (says g given.env) (cells_say g given.env)
+    (line_cells line.context) v) flat told.told in
     let own : AreOfLine known words cut.cut_into = record {
       own = λ key. record {
         spelled = λ some. subst (WasSpelled known key) same (piece_was_spelled key known given
@@ -444,9 +449,8 @@ pub record LeftOfLine (known : Known) (given : Given) (words : List (List ℕ)) 
     pub left : IsLeft cs (line_cells context)
 
 -- Of what a value of a program is told, all of the line is left, by the names that a caller knows.
-pub told_line : {T : Type 0} {known : Known} {form : ProgramForm T} {said : CellsValue T}
-    {given : Given} {v : T} → (told : TellsOfWords known form said given v) → (by : Known)
-    → known ≡ by → (words : List (List ℕ)) → given.words ≡ words
+pub told_line : {T : Type 0} {known : Known} {g : Grammar T} {given : Given} {v : T}
+    → (told : TellsOfWords known g given v) → (by : Known) → known ≡ by → (words : List (List ℕ)) → given.words ≡ words
     → LeftOfLine by given words (line_cells told.is_value.context)
 told_line {given = given} told by is words are = record {
   are = are;

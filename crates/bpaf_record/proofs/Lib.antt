@@ -1,3 +1,5 @@
 pub mod Parts
+pub mod GrammarSays
+pub mod Surplus
 pub mod Running
 pub mod Answered

@@ -22,14 +22,16 @@ use Rattle.bpaf.specs.Marker.{is_marker_word, words_before, words_behind}
 use Rattle.bpaf.specs.Info.{RunInfo}
 use Rattle.bpaf.proofs.Sides.{all_spelled, two_sides, of_words, EachOf}
 use Rattle.bpaf_exact.proofs.ProgramForm.{runs_as_program, runs_exactly, record_law}
-use Rattle.bpaf_exact.proofs.{ProgramSays.program_says, Cuts.cut_holds_together}
+use Rattle.bpaf_exact.proofs.Cuts.{cut_holds_together}
 use Rattle.bpaf_exact.specs.Pieces.{LinePiece, argument, is_value, at_end, passed, Cells, Roles}
 use Rattle.bpaf_exact.specs.ProgramForm.{IsAcceptedOrWant, IsSpelledLine, product_roles, is_spelled}
 use Rattle.bpaf_exact.specs.ProgramForm.{whole_program, program_value, ProgramForm, line_cells}
 use Rattle.bpaf_exact.specs.ProgramForm.{is_program, is_dashed, is_record, Accepted}
 use Rattle.bpaf_exact.specs.ProgramForm.{FormLaw}
-use Rattle.bpaf_exact.specs.Says.{ProgramSaid, ProgramSays, first_item, cells_said, SaidKind}
-use Rattle.bpaf_exact.specs.{Pieces.flag, Pieces.word, Pieces.Cut, Flat.first_cells, Flat.Variables}
+use Rattle.bpaf_exact.specs.Says.{first_item}
+use Rattle.bpaf_exact.specs.{Pieces.flag, Pieces.word, Pieces.Cut, Flat.first_cells}
+use Rattle.bpaf_record.specs.Grammar.{Grammar, keys_of, program_form}
+use Rattle.bpaf_record.proofs.{GrammarSays.grammar_says_so, Surplus.has_no_surplus}
 use Rattle.bpaf_record.specs.Record.{is_whole_program, AnswersAsProgram, AnswersByFields, answer_of}
 use Rattle.bpaf_record.specs.Record.{is_flat_record, IsValueOrWant, TellsOfWords, PiecesOf}
 use Rattle.bpaf_record.specs.Commands.{run_ran}
@@ -174,41 +176,6 @@ module _ {T : Type 0} {outcome : Outcome T} (describes : Shape → Type 0) (info
       → FormLaw context.env outcome names words form
   law_on is = subst (λ env. FormLaw env outcome names words form) (sym is.env) law
 
-  -- each answer to words keeps to the fields of a flat record
-  pub answers_by_fields : is_record form ≡ true → (r : Result T ParseFailure)
-      → RunsWords T outcome describes info known given r → AnswersByFields T known form given r
-  answers_by_fields flat r (ran context answer t is run) =
-      let roles : Roles = product_roles (whole_program form) in
-      let exact = runs_exactly flat context (law_on is) (answer_of r)
-      (run_ran T outcome describes info (beginning context) t r run) in
-      let here = λ (texts : All IsUtf8 given.words) (line : PiecesOf known form given). subst
-      (λ c. Cut roles (line_cells c) line.cut_into)
-      (same_context given texts known line.context context line.on_line is) line.cut in
-      record {
-        whole = sound_on r (λ v e. let read = exact.sound v e in record {
-          is_value = record { context = context; on_line = is; read = read };
-          together = cut_holds_together roles (record_law flat law).named (line_cells context)
-              read.cut_into read.cut;
-        });
-        complete = λ texts line each. want_on
-            (λ v read. record { context = context; on_line = is; read = read }) r
-            (exact.complete line.cut_into (here texts line) each);
-        refused = λ texts line none. sound_on r
-            (exact.refused line.cut_into (here texts line) none);
-      }
-  answers_by_fields flat (Err f) (none_there at_word number context told none line name renders) =
-      record {
-        whole = tt;
-        complete = λ texts there each. absurd (never_without known given texts there.context
-            there.on_line at_word number none);
-        refused = λ texts there none_has. tt;
-      }
-  answers_by_fields flat (Err f) wanted = record {
-    whole = tt;
-    complete = λ texts there each. refl;
-    refused = λ texts there none_has. tt;
-  }
-
   -- THE THEOREM: on words each answer of a run of a program is exact.
   pub answers_as_program : is_program form ≡ true → (r : Result T ParseFailure)
       → RunsWords T outcome describes info known given r → AnswersAsProgram T known form given r
@@ -234,6 +201,50 @@ module _ {T : Type 0} {outcome : Outcome T} (describes : Shape → Type 0) (info
       }
   answers_as_program program (Err f) wanted = grind arith
 
+-- Each answer to words keeps to the fields of a flat record.
+module _ {T : Type 0} {outcome : Outcome T} (describes : Shape → Type 0) (info : RunInfo)
+    (known : Known) (g : Grammar T) {words : List (List ℕ)} (given : Given)
+    (law : FormLaw given.env outcome (keys_of g true) words (program_form g given.env)) where
+  -- that of a record
+  abbrev form : ProgramForm T
+  form = program_form g given.env
+
+  -- it keeps to them
+  pub answers_by_fields : is_record form ≡ true → (r : Result T ParseFailure)
+      → RunsWords T outcome describes info known given r → AnswersByFields T known g given r
+  answers_by_fields flat r (ran context answer t is run) =
+      let roles : Roles = product_roles (whole_program form) in
+      let exact = runs_exactly flat context (law_on describes info known given law is) (answer_of r)
+      (run_ran T outcome describes info (beginning context) t r run) in
+      let here = λ (texts : All IsUtf8 given.words) (line : PiecesOf known form given). subst
+      (λ c. Cut roles (line_cells c) line.cut_into)
+      (same_context given texts known line.context context line.on_line is) line.cut in
+      record {
+        whole = sound_on r (λ v e. let read = exact.sound v e in record {
+          is_value = record { context = context; on_line = is; read = read };
+          together = cut_holds_together roles (record_law flat law).named (line_cells context)
+              read.cut_into read.cut;
+          no_surplus = has_no_surplus g given.env v read.cut read.read;
+        });
+        complete = λ texts line each. want_on
+            (λ v read. record { context = context; on_line = is; read = read }) r
+            (exact.complete line.cut_into (here texts line) each);
+        refused = λ texts line none. sound_on r
+            (exact.refused line.cut_into (here texts line) none);
+      }
+  answers_by_fields flat (Err f) (none_there at_word number context told none line name renders) =
+      record {
+        whole = tt;
+        complete = λ texts there each. absurd (never_without known given texts there.context
+            there.on_line at_word number none);
+        refused = λ texts there none_has. tt;
+      }
+  answers_by_fields flat (Err f) wanted = record {
+    whole = tt;
+    complete = λ texts there each. refl;
+    refused = λ texts there none_has. tt;
+  }
+
 -- options that are a flat record have a parser that is one
 pub is_flat_form : {T : Type 0} (form : ProgramForm T) (names : List Names) (info : RunInfo)
     → is_flat_record form names info ≡ true → is_record form ≡ true
@@ -250,14 +261,11 @@ pub is_program_form : {T : Type 0} (form : ProgramForm T) (names : List Names) (
 is_program_form form names info e = (and_parts (is_program form) _ e).0
 
 -- a value of an exact answer says what its parser says
-pub tells_of_words : {P T : Type 0} {known : Known} {form : ProgramForm T} {kind : SaidKind}
-    {names : List Names} {given : Given} {env : Variables} {outcome : Outcome T}
-    {words : List (List ℕ)} (said : ProgramSaid P T) (p : P)
-    → FormLaw env outcome names words form → ProgramSays names form kind said p
-    → (r : Result T ParseFailure) → AnswersAsProgram T known form given r
-    → IfOk r (TellsOfWords known form (cells_said form said p) given)
-tells_of_words said p law says (Ok v) exact = record {
+pub tells_of_words : {T : Type 0} (known : Known) (g : Grammar T) (given : Given)
+    (r : Result T ParseFailure) → AnswersAsProgram T known (program_form g given.env) given r
+    → IfOk r (TellsOfWords known g given)
+tells_of_words known g given (Ok v) exact = record {
   is_value = exact.sound;
-  told = program_says said p law says (line_cells exact.sound.context) v exact.sound.read;
+  told = grammar_says_so g given.env (line_cells exact.sound.context) v exact.sound.read;
 }
-tells_of_words said p law says (Err f) exact = tt
+tells_of_words known g given (Err f) exact = tt

@@ -1,13 +1,13 @@
 -- The grammar of programs: of which parsers they are made, and by which steps.
 use Rattle.std.specs.Prelude.{if◌then◌else◌, Option, false, Bool, true, List, ◌++◌, not, ◌∷◌, [], ℕ}
-use Rattle.std.specs.List.{Contains}
+use Rattle.std.specs.Prelude.{length, None, Some, zero, ◌&&◌, ◌+◌, ◌≡◌, ◌≤◌}
 use Rattle.bpaf_doc.specs.Names.{Names}
 use Rattle.bpaf_text.specs.Named.{Named as Key, KeyWithValue}
 use Rattle.bpaf_laws.specs.Choice.{ChoicesOutcome, ChoiceOutcome, Nested}
 use Rattle.bpaf_laws.specs.{Command.opening_words, Command.Called, Reading.Outcome}
+use Rattle.bpaf_laws.specs.Reading.{first_set}
 use Rattle.bpaf.specs.{declared.leaves.positional.Position.Position, Positional.accepts}
 use Rattle.bpaf.specs.Info.{RunInfo}
-use Rattle.bpaf_exact.proofs.ProgramSays.{first_says, more_says, at_first, in_rest, Into}
 use Rattle.bpaf_exact.proofs.ProgramForm.{program_choice_law, choice_only_law}
 use Rattle.bpaf_exact.specs.Flat.{FallbackValue, Variables, repeated, OneWord, OwnList, Closure}
 use Rattle.bpaf_exact.specs.ProgramForm.{argument_field, program_choice, program_closed, flag_field}
@@ -15,35 +15,57 @@ use Rattle.bpaf_exact.specs.ProgramForm.{choice_only, program_con, pure_field, n
 use Rattle.bpaf_exact.specs.ProgramForm.{program_alone, program_field, program_both, ProgramForm}
 use Rattle.bpaf_exact.specs.ProgramForm.{program_optional, program_command, program_dressed}
 use Rattle.bpaf_exact.specs.ProgramForm.{program_if, EachAgrees, completed, FormLaw}
-use Rattle.bpaf_exact.specs.Says.{repeated_kind, ProgramSaid, ProgramSays, OneOfCells, form_kind}
-use Rattle.bpaf_exact.specs.Says.{OneOfSays, SaidKind, of_kind, Says}
+use Rattle.bpaf_exact.specs.ProgramForm.{CellsValue, ChoiceValue, CommandValue, OptionalCommands}
+use Rattle.bpaf_exact.specs.ProgramForm.{product_roles, whole_program}
+use Rattle.bpaf_exact.specs.Flat.{ClosedValue}
+use Rattle.bpaf_exact.specs.Says.{AloneSays, ArgumentSays, BothSay, EitherSays, FallbackSays, FieldsSaid}
+use Rattle.bpaf_exact.specs.Says.{FieldThenSays, FlagSays, form_kind, LastSays, MadeSays, of_kind}
+use Rattle.bpaf_exact.specs.Says.{OptionalSays, RecordSays, repeated_kind, RepeatSays, Said, SaidKind}
+use Rattle.bpaf_exact.specs.Says.{keyed, scope_said, unkeyed, WordSays}
+use Rattle.bpaf_exact.specs.Pieces.{are_apart, LinePiece}
+use Rattle.std.specs.List.{list_all}
 use Rattle.bpaf_exact.specs.Flat.{ByName, LastOf}
-use Rattle.bpaf_record.specs.Record.{are_unusual}
 
--- what a parser is made of: what it is by itself, or a step and the parsers inside
-pub data Grammar : Type 0 → Type 1 where
+-- what a parser is made of: what it is by itself, or a step and the parsers inside; or of which
+-- parsers the fields of a product are
+pub data GrammarOf : (fields : Bool) → Type 0 → Type 1 where
   flag : {T : Type 0} → (clones : T → T → Type 0) → Key → (present : T) → (absent : Option T)
-      → Grammar T
-  argument : {T : Type 0} → (means : List ℕ → T → Type 0) → KeyWithValue → Grammar T
-  word : {T : Type 0} → (means : List ℕ → T → Type 0) → Position → Grammar T
-  kept : {T : Type 0} → (given : T → Type 0) → Grammar T
+      → GrammarOf false T
+  argument : {T : Type 0} → (means : List ℕ → T → Type 0) → KeyWithValue → GrammarOf false T
+  word : {T : Type 0} → (means : List ℕ → T → Type 0) → Position → GrammarOf false T
+  kept : {T : Type 0} → (given : T → Type 0) → GrammarOf false T
   -- a parser of a caller's own, which is nothing to a program
-  other : {T : Type 0} → Grammar T
-  closed : {A B : Type 0} → Closure A B → Grammar A → Grammar B
+  other : {T : Type 0} → GrammarOf false T
+  closed : {A B : Type 0} → Closure A B → GrammarOf false A → GrammarOf false B
   -- what has another look, or isn't shown
-  dressed : {T : Type 0} → Grammar T → Grammar T
-  optional : {T : Type 0} → (catch : Bool) → Grammar T → Grammar (Option T)
-  fallback : {T : Type 0} → Closure (Unit {0}) T → Grammar T → Grammar T
-  repeat : {A B : Type 0} → (catch : Bool) → Closure (List A) B → Grammar A → Grammar B
-  last : {T : Type 0} → Grammar T → Grammar T
-  choice : {T : Type 0} → Grammar T → Grammar T → Grammar T
+  dressed : {T : Type 0} → GrammarOf false T → GrammarOf false T
+  optional : {T : Type 0} → (catch : Bool) → GrammarOf false T → GrammarOf false (Option T)
+  fallback : {T : Type 0} → Closure (Unit {0}) T → GrammarOf false T → GrammarOf false T
+  repeat : {A B : Type 0} → (catch : Bool) → Closure (List A) B → GrammarOf false A
+      → GrammarOf false B
+  last : {T : Type 0} → GrammarOf false T → GrammarOf false T
+  choice : {T : Type 0} → GrammarOf false T → GrammarOf false T → GrammarOf false T
   -- a choice of any number
-  only : {T : Type 0} → Grammar T → Grammar T
-  command : {T : Type 0} → (adjacent : Bool) → Called → RunInfo → Grammar T → Grammar T
+  only : {T : Type 0} → GrammarOf false T → GrammarOf false T
+  command : {T : Type 0} → (adjacent : Bool) → Called → RunInfo → GrammarOf false T
+      → GrammarOf false T
   -- the fields of a product, of which the last stands alone, and what makes a value of theirs
-  alone : {T : Type 0} → Grammar T → Grammar T
-  both : {A B : Type 0} → Grammar A → Grammar B → Grammar (A × B)
-  product : {A B : Type 0} → Closure A B → Grammar A → Grammar B
+  alone : {T : Type 0} → GrammarOf false T → GrammarOf true T
+  both : {A B : Type 0} → GrammarOf false A → GrammarOf true B → GrammarOf true (A × B)
+  product : {A B : Type 0} → Closure A B → GrammarOf true A → GrammarOf false B
+
+-- that of a parser
+abbrev pub Grammar : Type 0 → Type 1
+Grammar T = GrammarOf false T
+
+-- that of the fields of a product
+abbrev pub FieldsGrammar : Type 0 → Type 1
+FieldsGrammar V = GrammarOf true V
+
+-- none of these keys shares a name with those of help and version
+abbrev pub are_unusual : List Names → RunInfo → Bool
+are_unusual keys info = list_all (are_apart info.help_arg.names) keys && list_all
+    (are_apart info.version_arg.names) keys
 
 -- choices of two of all these parsers, nested to the left
 abbrev pub choices_of : {P T : Type 0} → (P → Grammar T) → List P → Grammar T
@@ -51,7 +73,7 @@ choices_of of [] = other
 choices_of of (p ∷ ps) = Nested choice of (of p) ps
 
 -- the names of its flags and arguments, one after the other, with or without those inside commands
-abbrev pub keys_of : {T : Type 0} → Grammar T → Bool → List Names
+abbrev pub keys_of : {fields : Bool} {T : Type 0} → GrammarOf fields T → Bool → List Names
 keys_of (flag clones key present absent) deep = key.names ∷ []
 keys_of (argument means key) deep = key.named.names ∷ []
 keys_of (closed f g) deep = keys_of g deep
@@ -69,7 +91,7 @@ keys_of (product f g) deep = keys_of g deep
 keys_of _ deep = []
 
 -- the words of its commands, where it is a command or a choice of such
-abbrev pub command_words : {T : Type 0} → Grammar T → List (List ℕ)
+abbrev pub command_words : {fields : Bool} {T : Type 0} → GrammarOf fields T → List (List ℕ)
 command_words (closed f g) = command_words g
 command_words (dressed g) = command_words g
 command_words (choice g h) = command_words g ++ command_words h
@@ -78,7 +100,7 @@ command_words (command adjacent called info g) = opening_words called
 command_words _ = []
 
 -- what it is to a program where the environment has these variables
-abbrev pub program_form : {T : Type 0} → Grammar T → Variables → ProgramForm T
+abbrev pub program_form : {fields : Bool} {T : Type 0} → GrammarOf fields T → Variables → ProgramForm T
 program_form (flag clones key present absent) variables =
     flag_field clones key present absent variables
 program_form (argument means key) variables = argument_field means key variables
@@ -105,7 +127,7 @@ program_form (both g h) variables = program_both (keys_of g true) (keys_of h tru
 program_form (product f g) variables = program_con f (program_form g variables)
 
 -- whether its pieces are keys or words, and how many of the words it takes
-abbrev pub said_kind : {T : Type 0} → Grammar T → Variables → SaidKind
+abbrev pub said_kind : {fields : Bool} {T : Type 0} → GrammarOf fields T → Variables → SaidKind
 said_kind (word means position) variables = of_kind (OneWord (not (accepts position true)))
 said_kind (closed f g) variables = said_kind g variables
 said_kind (dressed g) variables = said_kind g variables
@@ -116,59 +138,153 @@ said_kind (last g) variables = repeated_kind (said_kind g variables)
 said_kind (product f g) variables = form_kind (program_form g variables)
 said_kind _ variables = of_kind ByName
 
--- A choice of any number of parsers keeps to the laws of its form, and its values say what is told
--- of them, where those of the parsers do.
+-- What values say.
 
-module _ {P T : Type 0} (of : P → Grammar T) (variables : Variables) where
-  -- it keeps to the laws of its form
-  pub choices_law : (outcome : P → Outcome T) (agrees : P → Type 0)
-      → ((p : P) → agrees p → FormLaw variables (outcome p) (keys_of (of p) true)
-      (command_words (of p)) (program_form (of p) variables)) → (ps : List P) → EachAgrees agrees ps
-      → FormLaw variables (ChoicesOutcome outcome ps) (keys_of (only (choices_of of ps)) true)
-      (command_words (only (choices_of of ps))) (program_form (only (choices_of of ps)) variables)
-  choices_law outcome agrees law [] each = record { by = tt }
-  choices_law outcome agrees law (p ∷ ps) each =
-      choice_only_law (nested ps each.1 (outcome p) (of p) (law p each.0))
-    where
-      nested : (ps : List P) → EachAgrees agrees ps → (first : Outcome T) (g : Grammar T)
-          → FormLaw variables first (keys_of g true) (command_words g) (program_form g variables)
-          → FormLaw variables (Nested ChoiceOutcome outcome first ps)
-          (keys_of (Nested choice of g ps) true) (command_words (Nested choice of g ps))
-          (program_form (Nested choice of g ps) variables)
-      nested [] each first g l = l
-      nested (p ∷ ps) each first g l = nested ps each.1 (ChoiceOutcome first (outcome p))
-          (choice g (of p)) (program_choice_law l (law p each.0))
+-- it ends in commands
+abbrev pub ends_in_commands : {fields : Bool} {T : Type 0} → GrammarOf fields T → Bool
+ends_in_commands (closed f g) = ends_in_commands g
+ends_in_commands (dressed g) = ends_in_commands g
+ends_in_commands (optional catch g) = ends_in_commands g
+ends_in_commands (fallback f g) = ends_in_commands g
+ends_in_commands (repeat catch f g) = ends_in_commands g
+ends_in_commands (last g) = ends_in_commands g
+ends_in_commands (choice g h) = ends_in_commands g
+ends_in_commands (only g) = ends_in_commands g
+ends_in_commands (command adjacent called info g) = true
+ends_in_commands (alone g) = ends_in_commands g
+ends_in_commands (both g h) = ends_in_commands h
+ends_in_commands (product f g) = ends_in_commands g
+ends_in_commands _ = false
 
-  -- a value says so, where those of the parsers do
-  pub choices_says : (names : List Names) (kind : P → SaidKind) (agrees : P → Type 0)
-      (said : ProgramSaid P T) → ((p : P) → agrees p → ProgramSays (keys_of (of p) true)
-      (program_form (of p) variables) (kind p) said p) → (ps : List P) → EachAgrees agrees ps
-      → Says names (program_form (only (choices_of of ps)) variables) (of_kind ByName) said.in_cells
-      (OneOfSays said.pieces ps) (OneOfCells said.cells ps)
-  choices_says names kind agrees said each [] agree = record { by = tt }
-  choices_says names kind agrees said each (first ∷ later) agree =
-      nested (of first) later agree.1 (λ r there. in_rest first later there)
-      (first_says names (one_of first (at_first first later)) (each first agree.0))
-    where
-      all : List P
-      all = first ∷ later
+-- what is said of a parser's own pieces, and of fields of the pieces of a line and of the words that
+-- are left to them
+abbrev pub SaidOf : (fields : Bool) → Type 0 → Type 1
+SaidOf false T = Said T
+SaidOf true V = FieldsSaid V
 
-      one_of : (p : P) → Contains all p → Into (said.pieces p) (OneOfSays said.pieces all)
-          (said.cells p) (OneOfCells said.cells all)
-      one_of p there = record {
-        by_pieces = λ os v m. record { parser = p; among = there; told = m };
-        by_cells = λ cs v m. record { parser = p; among = there; told = m };
-      }
+-- what a value says so where the environment has these variables
+abbrev pub says : {fields : Bool} {T : Type 0} → GrammarOf fields T → Variables → SaidOf fields T
+says (flag clones key present absent) variables =
+    FlagSays clones present absent (first_set variables key.envs)
+says (argument means key) variables =
+    ArgumentSays means key.last (first_set variables key.named.envs)
+says (word means position) variables = WordSays (accepts position) means
+says (kept given) variables = λ os v. given v
+says other variables = λ os v. ⊥
+says (closed f g) variables = MadeSays (says g variables) f
+says (dressed g) variables = says g variables
+says (optional catch g) variables = OptionalSays (says g variables)
+says (fallback f g) variables = FallbackSays (says g variables) (f.yes tt)
+says (repeat catch f g) variables = MadeSays (RepeatSays (says g variables)) f
+says (last g) variables = LastSays (says g variables)
+says (choice g h) variables = EitherSays (says g variables) (says h variables)
+says (only g) variables = says g variables
+says (command adjacent called info g) variables = λ os v. ⊥
+says (alone g) variables = AloneSays (said_kind g variables) (keys_of g true) (says g variables)
+says (both g h) variables =
+    BothSay (said_kind g variables) (keys_of g true) (says g variables) (says h variables)
+says (product f g) variables = RecordSays (says g variables) (keys_of g true) f
 
-      nested : (g : Grammar T) (ps : List P) → EachAgrees agrees ps
-          → ((p : P) → Contains ps p → Contains all p)
-          → Says names (choice_only (program_form g variables)) (of_kind ByName) said.in_cells
-          (OneOfSays said.pieces all) (OneOfCells said.cells all)
-          → Says names (choice_only (program_form (Nested choice of g ps) variables))
-          (of_kind ByName) said.in_cells (OneOfSays said.pieces all) (OneOfCells said.cells all)
-      nested g [] agree within h = h
-      nested g (p ∷ ps) agree within h =
-          nested (choice g (of p)) ps agree.1 (λ r there. within r (in_rest p ps there))
-          (more_says names (keys_of g true) (keys_of (of p) true) (command_words g)
-          (command_words (of p)) (program_form g variables)
-          (one_of p (within p (at_first p ps))) h (each p agree.0))
+-- what one says of the cells of its scope that ends in commands
+abbrev pub cells_say : {fields : Bool} {T : Type 0} → GrammarOf fields T → Variables
+    → CellsValue T
+cells_say (closed f g) variables = ClosedValue (cells_say g variables) f
+cells_say (dressed g) variables = cells_say g variables
+cells_say (optional {T = T} catch g) variables = OptionalCommands T (cells_say g variables)
+cells_say (choice {T = T} g h) variables =
+    ChoiceValue T (cells_say g variables) (cells_say h variables)
+cells_say (only g) variables = cells_say g variables
+cells_say (command {T = T} adjacent called info g) variables =
+    CommandValue T (opening_words called) (scope_said (ends_in_commands g)
+    (product_roles (whole_program (program_form g variables))) (says g variables)
+    (cells_say g variables))
+cells_say (alone g) variables = cells_say g variables
+cells_say (both g h) variables =
+    FieldThenSays (keys_of g true) (says g variables) (cells_say h variables)
+cells_say (product f g) variables = ClosedValue (cells_say g variables) f
+cells_say _ variables = λ cs v. ⊥
+
+-- what the value of a whole program says of the cells of its scope
+abbrev pub scope_says : {T : Type 0} → Grammar T → Variables → CellsValue T
+scope_says g variables = scope_said (ends_in_commands g)
+    (product_roles (whole_program (program_form g variables))) (says g variables)
+    (cells_say g variables)
+
+-- What an accepted line has of each at most.
+
+-- its value is read off one piece at most
+abbrev pub takes_one : {fields : Bool} {T : Type 0} → GrammarOf fields T → Bool
+takes_one (flag clones key present absent) = true
+takes_one (argument means key) = not key.last
+takes_one (word means position) = true
+takes_one (closed f g) = takes_one g
+takes_one (dressed g) = takes_one g
+takes_one (optional catch g) = takes_one g
+takes_one (fallback f g) = takes_one g
+takes_one (choice g h) = takes_one g && takes_one h
+takes_one (only g) = takes_one g
+takes_one _ = false
+
+-- Of these pieces at most one begins with a key of each field that takes one. A choice is one
+-- field: the keys of all its alternatives count together.
+abbrev pub HasOneOfEach : {fields : Bool} {T : Type 0} → GrammarOf fields T → List LinePiece
+    → Type 0
+HasOneOfEach (dressed g) os = HasOneOfEach g os
+HasOneOfEach (alone g) os = HasOneOfEach g os
+HasOneOfEach (both g h) os = HasOneOfEach g os × HasOneOfEach h os
+HasOneOfEach (product f g) os = HasOneOfEach g os
+HasOneOfEach g os = takes_one g ≡ true → length (keyed (keys_of g true) os) ≤ 1
+
+-- the limit of a repeat: none, where there are any
+abbrev pub repeated_limit : Option ℕ → Option ℕ
+repeated_limit (Some zero) = Some zero
+repeated_limit _ = None
+
+-- that of two together
+abbrev pub limit_of_both : Option ℕ → Option ℕ → Option ℕ
+limit_of_both (Some m) (Some n) = Some (m + n)
+limit_of_both _ _ = None
+
+-- how many positional words it takes at most, if there is a limit
+abbrev pub word_limit : {fields : Bool} {T : Type 0} → GrammarOf fields T → Option ℕ
+word_limit (word means position) = Some 1
+word_limit (closed f g) = word_limit g
+word_limit (dressed g) = word_limit g
+word_limit (optional catch g) = word_limit g
+word_limit (fallback f g) = word_limit g
+word_limit (repeat catch f g) = repeated_limit (word_limit g)
+word_limit (last g) = repeated_limit (word_limit g)
+word_limit (alone g) = word_limit g
+word_limit (both g h) = limit_of_both (word_limit g) (word_limit h)
+word_limit (product f g) = word_limit g
+word_limit _ = Some 0
+
+-- a number is within such a limit
+abbrev pub IsWithin : Option ℕ → ℕ → Type 0
+IsWithin (Some limit) n = n ≤ limit
+IsWithin None n = Unit {0}
+
+-- the pieces of a line have no occurrence and no word too many
+pub record HasNoSurplus {T : Type 0} (g : Grammar T) (os : List LinePiece) : Type 0 where
+  pub once : HasOneOfEach g os
+  pub words : IsWithin (word_limit g) (length (unkeyed (keys_of g true) os))
+
+-- A choice of any number of parsers keeps to the laws of its form, where those of the parsers do.
+pub choices_law : {P T : Type 0} (of : P → Grammar T) (variables : Variables)
+    (outcome : P → Outcome T) (agrees : P → Type 0)
+    → ((p : P) → agrees p → FormLaw variables (outcome p) (keys_of (of p) true)
+    (command_words (of p)) (program_form (of p) variables)) → (ps : List P) → EachAgrees agrees ps
+    → FormLaw variables (ChoicesOutcome outcome ps) (keys_of (only (choices_of of ps)) true)
+    (command_words (only (choices_of of ps))) (program_form (only (choices_of of ps)) variables)
+choices_law of variables outcome agrees law [] each = record { by = tt }
+choices_law {P} {T} of variables outcome agrees law (p ∷ ps) each =
+    choice_only_law (nested ps each.1 (outcome p) (of p) (law p each.0))
+  where
+    nested : (ps : List P) → EachAgrees agrees ps → (first : Outcome T) (g : Grammar T)
+        → FormLaw variables first (keys_of g true) (command_words g) (program_form g variables)
+        → FormLaw variables (Nested ChoiceOutcome outcome first ps)
+        (keys_of (Nested choice of g ps) true) (command_words (Nested choice of g ps))
+        (program_form (Nested choice of g ps) variables)
+    nested [] each first g l = l
+    nested (p ∷ ps) each first g l = nested ps each.1 (ChoiceOutcome first (outcome p))
+        (choice g (of p)) (program_choice_law l (law p each.0))

@@ -1,5 +1,8 @@
 -- Flat records and programs with commands, and their keys and words by the words that spell them.
 use Rattle.std.specs.Prelude.{IsUtf8, Result, Bool, ◌&&◌, IfOk, List, true, ◌≡◌, All, Err, not, Ok}
+use Rattle.std.specs.Prelude.{false, None, Option, Some}
+use Rattle.std.specs.Result.{IfErr}
+use Rattle.bpaf.specs.Run.{IsNotWant}
 use Rattle.std.specs.{List.list_all, List.Contains, Prelude.ℕ}
 use Rattle.bpaf_base.specs.Items.{is_text_among, is_key_of, is_among}
 use Rattle.bpaf_base.specs.declared.arg.Arg.{Arg}
@@ -11,16 +14,12 @@ use Rattle.bpaf_line.specs.Taking.{IsContext}
 use Rattle.bpaf_laws.specs.Command.{is_one_of}
 use Rattle.bpaf.specs.{Marker.words_before, Info.RunInfo}
 use Rattle.bpaf_exact.specs.ProgramForm.{product_reading, product_roles, HoldsTogether, RecordValue}
-use Rattle.bpaf_exact.specs.ProgramForm.{is_program, CellsValue, RunAnswer, is_record, Accepted}
+use Rattle.bpaf_exact.specs.ProgramForm.{is_program, RunAnswer, is_record, Accepted}
 use Rattle.bpaf_exact.specs.ProgramForm.{whole_program, program_value, ProgramForm, line_cells}
-use Rattle.bpaf_exact.specs.Pieces.{LinePiece, are_apart, Cut}
+use Rattle.bpaf_exact.specs.Pieces.{LinePiece, Cut}
 use Rattle.bpaf_exact.specs.ProgramForm.{NoMemory, Refusal}
+use Rattle.bpaf_record.specs.Grammar.{are_unusual, Grammar, HasNoSurplus, program_form, scope_says}
 use Rattle.bpaf_line.specs.declared.failure.ParseFailure.TheVariants as failure
-
--- none of these keys shares a name with those of help and version
-abbrev pub are_unusual : List Names → RunInfo → Bool
-are_unusual keys info = list_all (are_apart info.help_arg.names) keys && list_all
-    (are_apart info.version_arg.names) keys
 
 -- a flat record none of whose keys shares a name with those of help and version
 abbrev pub is_flat_record : {T : Type 0} → ProgramForm T → List Names → RunInfo → Bool
@@ -41,12 +40,14 @@ pub record IsValueOf {T : Type 0} (known : Known) (form : ProgramForm T) (given 
   pub read : RecordValue (product_roles (whole_program form))
       (product_reading (whole_program form)).value context v
 
--- v is a value of the record on words whose line, as it is cut for v, holds together
-pub record HasWholeLine {T : Type 0} (known : Known) (form : ProgramForm T) (given : Given) (v : T)
+-- v is a value of the record on words whose line, as it is cut for v, holds together and has no
+-- occurrence and no word too many
+pub record HasWholeLine {T : Type 0} (known : Known) (g : Grammar T) (given : Given) (v : T)
     : Type 0 where
-  pub is_value : IsValueOf known form given v
-  pub together : HoldsTogether (product_roles (whole_program form)) (line_cells is_value.context)
-      is_value.read.cut_into
+  pub is_value : IsValueOf known (program_form g given.env) given v
+  pub together : HoldsTogether (product_roles (whole_program (program_form g given.env)))
+      (line_cells is_value.context) is_value.read.cut_into
+  pub no_surplus : HasNoSurplus g is_value.read.cut_into
 
 -- the pieces that the line of words is cut into for the record
 pub record PiecesOf {T : Type 0} (known : Known) (form : ProgramForm T) (given : Given) : Type 0 where
@@ -65,16 +66,18 @@ IsValueOrWant value (Ok v) = value v
 IsValueOrWant value (Err f) = f ≡ failure.Memory
 
 -- An answer to words, field by field. That fields have values is said of words that are texts.
-pub record AnswersByFields (T : Type 0) (known : Known) (form : ProgramForm T) (given : Given)
+pub record AnswersByFields (T : Type 0) (known : Known) (g : Grammar T) (given : Given)
     (r : Result T ParseFailure) : Type 0 where
-  -- it is a value only where that is one of the record's, on a line that holds together
-  pub whole : IfOk r (HasWholeLine known form given)
+  -- it is a value only where that is one of the record's, on a whole line
+  pub whole : IfOk r (HasWholeLine known g given)
   -- where each field has a value on its portion, one made of such is answered, or want of memory
-  pub complete : All IsUtf8 given.words → (line : PiecesOf known form given)
-      → EachHasValue form line.cut_into → IsValueOrWant (IsValueOf known form given) r
+  pub complete : All IsUtf8 given.words
+      → (line : PiecesOf known (program_form g given.env) given)
+      → EachHasValue (program_form g given.env) line.cut_into
+      → IsValueOrWant (IsValueOf known (program_form g given.env) given) r
   -- where a field has none, it is no value
-  pub refused : All IsUtf8 given.words → (line : PiecesOf known form given)
-      → ¬ (EachHasValue form line.cut_into) → IfOk r (λ v. ⊥)
+  pub refused : All IsUtf8 given.words → (line : PiecesOf known (program_form g given.env) given)
+      → ¬ (EachHasValue (program_form g given.env) line.cut_into) → IfOk r (λ v. ⊥)
 
 -- a program none of whose own keys shares a name with those of help and version
 abbrev pub is_whole_program : {T : Type 0} → ProgramForm T → List Names → RunInfo → Bool
@@ -88,10 +91,10 @@ pub record IsProgramValueOf {T : Type 0} (known : Known) (form : ProgramForm T) 
   pub read : program_value form (line_cells context) v
 
 -- v is a value of the program on words, and says so of the cells of their line
-pub record TellsOfWords {T : Type 0} (known : Known) (form : ProgramForm T) (said : CellsValue T)
-    (given : Given) (v : T) : Type 0 where
-  pub is_value : IsProgramValueOf known form given v
-  pub told : said (line_cells is_value.context) v
+pub record TellsOfWords {T : Type 0} (known : Known) (g : Grammar T) (given : Given) (v : T)
+    : Type 0 where
+  pub is_value : IsProgramValueOf known (program_form g given.env) given v
+  pub told : scope_says g given.env (line_cells is_value.context) v
 
 -- An answer to words is exact. That words have a value is said of words that are texts.
 pub record AnswersAsProgram (T : Type 0) (known : Known) (form : ProgramForm T) (given : Given)
@@ -101,6 +104,24 @@ pub record AnswersAsProgram (T : Type 0) (known : Known) (form : ProgramForm T) 
   -- where the program has a value, it is one of its values, or want of memory
   pub answered : All IsUtf8 given.words → (v : T) → IsProgramValueOf known form given v
       → IsValueOrWant (IsProgramValueOf known form given) r
+
+-- all that is said of an answer of a run of a program
+pub record ProgramRan {T : Type 0} (agrees : Type 0) (answers spared exact : Result T ParseFailure → Type 0)
+    (refuses : ParseFailure → Type 0) (deals tells : T → Type 0) (r : Result T ParseFailure) : Type 0
+  where
+    pub outcome : answers r
+    pub named : IfErr r refuses
+    pub dealt : IfOk r deals
+    pub memory_is_never_caught : IsNotWant r → spared r
+    pub fields : agrees → IfOk r tells
+    pub exact : agrees → exact r
+
+-- an answer is None only where it isn't so; else it is, and this is said of the answer
+abbrev pub NoneUnless : {T : Type 0} → Bool → (Result T ParseFailure → Type 0)
+    → Result (Option T) ParseFailure → Type 0
+NoneUnless is said (Ok None) = is ≡ false
+NoneUnless is said (Ok (Some v)) = (is ≡ true) × said (Ok v)
+NoneUnless is said (Err f) = (is ≡ true) × said (Err f)
 
 -- an item that passes a test is one of the items that a word spells
 pub record SpellsItem (known : Known) (test : Arg → Bool) (word : List ℕ) : Type 0 where

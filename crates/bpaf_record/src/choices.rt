@@ -1,13 +1,11 @@
 //! Choices of fields, and of commands.
 ghost use Rattle.std.specs.Prelude.{◌≡◌, ◌≤◌, flat_map, length, take, true};
 ghost use Rattle.std.specs.List.{list_all};
-ghost use Rattle.bpaf_exact.specs.Says.{said_choice, said_choices};
 ghost use Rattle.bpaf_exact.specs.{Flat.Variables, ProgramForm.EachAgrees};
 ghost use Rattle.bpaf_record.specs.Grammar.{choices_of, command_words, keys_of, program_form};
-ghost use Rattle.bpaf_record.specs.Grammar.{said_kind, choice, only, choices_law, choices_says};
+ghost use Rattle.bpaf_record.specs.Grammar.{choice, only, choices_law};
 ghost use Rattle.bpaf_record.specs.Part.{form_part};
 ghost use Rattle.bpaf_exact.proofs.ProgramForm.{program_choice_law};
-ghost use Rattle.bpaf_exact.proofs.ProgramSays.{program_choice_says};
 
 use crate::field::{FlatField, ProgramField};
 use crate::keys::{ApartFromField, KeyTest};
@@ -20,9 +18,6 @@ use std::marker::PhantomData;
 /// are.
 impl<T: Drop, A: ProgramField<T>, B: ProgramField<T>> ProgramField<T> for ParseOrElse<A, B> {
     ghost grammar = { λ p. choice (A.grammar p.this) (B.grammar p.that) };
-
-    ghost says = { λ variables. said_choice (λ p. p.this) (λ p. p.that) (A.says variables)
-        (B.says variables) };
 
     ghost agrees = { λ p. A.agrees p.this × B.agrees p.that };
 
@@ -56,11 +51,6 @@ impl<T: Drop, A: ProgramField<T>, B: ProgramField<T>> ProgramField<T> for ParseO
 
     ghost law = { λ p a variables.
         program_choice_law (A.law p.this a.0 variables) (B.law p.that a.1 variables) };
-
-    ghost said = { λ p a variables. program_choice_says (keys_of (A.grammar p.this) true)
-        (keys_of (B.grammar p.that) true) (command_words (A.grammar p.this))
-        (command_words (B.grammar p.that)) (A.said p.this a.0 variables)
-        (B.said p.that a.1 variables) };
 }
 
 impl<T: Drop, A: FlatField<T>, B: FlatField<T>> FlatField<T> for ParseOrElse<A, B> {}
@@ -140,8 +130,6 @@ fn join_all<T, P: ProgramField<T>>(parsers: &[P]) -> ProgramPart
 impl<T: Drop, P: ProgramField<T> + Drop> ProgramField<T> for ParseChoice<P> {
     ghost grammar = { λ p. only (choices_of P.grammar p.parsers.items) };
 
-    ghost says = { λ variables. said_choices (λ p. p.parsers.items) (P.says variables) };
-
     ghost agrees = { λ p. EachAgrees P.agrees p.parsers.items };
 
     #[tactic(auto, using(crate::proofs::Parts::only_part_is))]
@@ -161,11 +149,6 @@ impl<T: Drop, P: ProgramField<T> + Drop> ProgramField<T> for ParseChoice<P> {
 
     ghost law = { λ p a variables. choices_law P.grammar variables P.outcome P.agrees
         (λ q b. P.law q b variables) p.parsers.items a };
-
-    ghost said = { λ p a variables. choices_says P.grammar variables
-        (keys_of (only (choices_of P.grammar p.parsers.items)) true)
-        (λ q. said_kind (P.grammar q) variables) P.agrees (P.says variables)
-        (λ q b. P.said q b variables) p.parsers.items a };
 }
 
 impl<T: Drop, P: FlatField<T> + Drop> FlatField<T> for ParseChoice<P> {}

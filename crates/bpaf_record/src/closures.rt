@@ -2,9 +2,8 @@
 ghost use Rattle.std.specs.{Prelude.◌≡◌, Prelude.true, Fn.FnReturnsAt};
 ghost use Rattle.bpaf_record.specs.Grammar.{command_words, keys_of, program_form, closed};
 ghost use Rattle.bpaf_exact.specs.Flat.{map_closure, parse_closure, guard_closure, Variables};
-ghost use Rattle.bpaf_exact.specs.{Says.said_closed, ProgramForm.Agrees};
+ghost use Rattle.bpaf_exact.specs.ProgramForm.{Agrees};
 ghost use Rattle.bpaf_exact.proofs.ProgramForm.{map_law, parse_law, guard_law};
-ghost use Rattle.bpaf_exact.proofs.ProgramSays.{program_closed_says};
 
 use crate::field::{FlatField, ProgramField};
 use crate::keys::KeyTest;
@@ -16,9 +15,6 @@ use std::fmt::Display;
 /// A closure that never refuses needs no premise.
 impl<T, R, P: ProgramField<T>, F: Fn(T) -> R> ProgramField<R> for ParseMap<T, P, F, R> {
     ghost grammar = { λ p. closed (map_closure (λ x y. F.post p.map_fn x y)) (P.grammar p.inner) };
-
-    ghost says = { λ variables. said_closed (λ p. p.inner)
-        (λ p. map_closure (λ x y. F.post p.map_fn x y)) (P.says variables) };
 
     ghost agrees = { λ p. P.agrees p.inner };
 
@@ -37,9 +33,6 @@ impl<T, R, P: ProgramField<T>, F: Fn(T) -> R> ProgramField<R> for ParseMap<T, P,
 
     ghost law = { λ p a variables. map_law (P.law p.inner a variables)
         (λ x y. F.post p.map_fn x y) };
-
-    ghost said = { λ p a variables. program_closed_says
-        (map_closure (λ x y. F.post p.map_fn x y)) (P.said p.inner a variables) };
 }
 
 impl<T, R, P: FlatField<T>, F> FlatField<R> for ParseMap<T, P, F, R> {}
@@ -50,9 +43,6 @@ impl<T, R, E: Display + Drop, P: ProgramField<T>, F: Fn(T) -> Result<R, E>> Prog
     for ParseWith<T, P, F, E, R> {
     ghost grammar = { λ p.
         closed (parse_closure (λ x y. F.post p.parse_fn x y)) (P.grammar p.inner) };
-
-    ghost says = { λ variables. said_closed (λ p. p.inner)
-        (λ p. parse_closure (λ x y. F.post p.parse_fn x y)) (P.says variables) };
 
     ghost agrees = { λ p. P.agrees p.inner
         × ((variables : Variables) → Agrees (parse_closure (λ x y. F.post p.parse_fn x y))
@@ -73,9 +63,6 @@ impl<T, R, E: Display + Drop, P: ProgramField<T>, F: Fn(T) -> Result<R, E>> Prog
 
     ghost law = { λ p a variables. parse_law (P.law p.inner a.0 variables)
         (λ x y. F.post p.parse_fn x y) E.output (a.1 variables) };
-
-    ghost said = { λ p a variables. program_closed_says
-        (parse_closure (λ x y. F.post p.parse_fn x y)) (P.said p.inner a.0 variables) };
 }
 
 impl<T, R, E: Display + Drop, P: FlatField<T>, F> FlatField<R> for ParseWith<T, P, F, E, R> {}
@@ -84,9 +71,6 @@ impl<T, R, E: Display + Drop, P: FlatField<T>, F> FlatField<R> for ParseWith<T, 
 /// present.
 impl<'m, T: Drop, P: ProgramField<T>, F: Fn(&T) -> bool> ProgramField<T> for ParseGuard<'m, P, F> {
     ghost grammar = { λ p. closed (guard_closure (FnReturnsAt F.Fn p.check)) (P.grammar p.inner) };
-
-    ghost says = { λ variables. said_closed (λ p. p.inner)
-        (λ p. guard_closure (FnReturnsAt F.Fn p.check)) (P.says variables) };
 
     ghost agrees = { λ p. P.agrees p.inner
         × ((variables : Variables) → Agrees (guard_closure (FnReturnsAt F.Fn p.check))
@@ -107,9 +91,6 @@ impl<'m, T: Drop, P: ProgramField<T>, F: Fn(&T) -> bool> ProgramField<T> for Par
 
     ghost law = { λ p a variables. guard_law (P.law p.inner a.0 variables)
         (FnReturnsAt F.Fn p.check) p.message.now (a.1 variables) };
-
-    ghost said = { λ p a variables. program_closed_says
-        (guard_closure (FnReturnsAt F.Fn p.check)) (P.said p.inner a.0 variables) };
 }
 
 impl<'m, T: Drop, P: FlatField<T>, F> FlatField<T> for ParseGuard<'m, P, F> {}

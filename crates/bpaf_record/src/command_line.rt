@@ -4,10 +4,11 @@ ghost use Rattle.std.specs.Result.{IfErr};
 ghost use Rattle.bpaf_words.specs.Arguments.{given_of, Given};
 ghost use Rattle.bpaf_record.specs.Grammar.{keys_of, program_form};
 ghost use Rattle.bpaf_record.specs.Record.{is_whole_program, AnswersAsProgram, TellsOfWords};
+ghost use Rattle.bpaf_record.specs.Record.{NoneUnless, ProgramRan};
 ghost use Rattle.bpaf_line.specs.declared.failure.ParseFailure.{ParseFailure};
 ghost use Rattle.bpaf.specs.Run.{IsNotWant, RunsWords, IsDealtOut, known_names};
 ghost use Rattle.bpaf.specs.Refusals.{IsOneOfTwelve};
-ghost use Rattle.bpaf_exact.specs.{Flat.Variables, Says.cells_said};
+ghost use Rattle.bpaf_exact.specs.Flat.{Variables};
 ghost use Rattle.bpaf_laws.specs.Laws.{WithoutMemory};
 
 use crate::field::ProgramField;
@@ -89,6 +90,32 @@ pub trait CommandLine<T> {
         ensures each_exact { agrees self.now → (r : Result T ParseFailure)
             → answers self.now (given_of args.entry) r
             → answers_as_program self.now (given_of args.entry) r };
+
+    /// The same where these options are a program; None where they are none, as `is_program` tells.
+    /// A caller shows nothing of them, so a check costs less than one of `run_program` where they
+    /// have many fields.
+    ///
+    /// ```text
+    /// match options.program_value(args)? {
+    ///     Some(value) => Ok(value),
+    ///     None => Err(refused),
+    /// }
+    /// ```
+    final fn program_value(&self, args: Args<'_>) -> Result<Option<T>, ParseFailure>
+        requires { can_run self.now }
+        ensures { NoneUnless (is_whole self.now (given_of args.entry).env)
+            (ProgramRan (agrees self.now) (answers self.now (given_of args.entry))
+            (answers_spared self.now (given_of args.entry))
+            (answers_as_program self.now (given_of args.entry))
+            (refuses self.now (given_of args.entry)) (deals self.now (given_of args.entry))
+            (tells self.now (given_of args.entry))) result }
+    {
+        if self.is_program() {
+            Ok(Some(self.run_program(args)?))
+        } else {
+            Ok(None)
+        }
+    }
 }
 
 impl<T: Drop, P: ProgramField<T>> CommandLine<T> for OptionParser<T, P> {
@@ -115,10 +142,8 @@ impl<T: Drop, P: ProgramField<T>> CommandLine<T> for OptionParser<T, P> {
     ghost deals = { λ p given.
         IsDealtOut T (P.reads p.inner) (known_names p.info (P.shorts p.inner)) given };
 
-    ghost tells = { λ p given. TellsOfWords (known_names p.info (P.shorts p.inner))
-        (program_form (P.grammar p.inner) given.env)
-        (cells_said (program_form (P.grammar p.inner) given.env) (P.says given.env) p.inner)
-        given };
+    ghost tells = { λ p given.
+        TellsOfWords (known_names p.info (P.shorts p.inner)) (P.grammar p.inner) given };
 
     ghost answers_spared = { λ p given. RunsWords T (WithoutMemory (P.outcome p.inner))
         (P.describes p.inner) p.info (known_names p.info (P.shorts p.inner)) given };

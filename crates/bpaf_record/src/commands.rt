@@ -1,10 +1,8 @@
 //! Commands of a program.
 ghost use Rattle.std.specs.Prelude.{◌≡◌, ◌&&◌, false, not, true};
 ghost use Rattle.bpaf_record.specs.Grammar.{command_words, keys_of, program_form, command};
-ghost use Rattle.bpaf_record.specs.{Commands.either_command_law, Record.are_unusual};
+ghost use Rattle.bpaf_record.specs.{Commands.either_command_law, Grammar.are_unusual};
 ghost use Rattle.bpaf_laws.specs.Command.{CommandPart};
-ghost use Rattle.bpaf_exact.specs.Says.{said_command};
-ghost use Rattle.bpaf_exact.proofs.ProgramSays.{program_command_says};
 
 use crate::field::ProgramField;
 use crate::keys::KeyTest;
@@ -17,9 +15,6 @@ use bpaf::parsers::ParseCommand;
 /// words aren't empty, and none begins with a dash. An adjacent command is nothing to a program.
 impl<T: Drop, P: ProgramField<T>> ProgramField<T> for ParseCommand<T, P> {
     ghost grammar = { λ p. command p.adjacent p.names p.info (P.grammar p.inner) };
-
-    ghost says = { λ variables. said_command (λ p. p.inner) (λ p. p.names)
-        (λ p. program_form (P.grammar p) variables) (P.says variables) };
 
     ghost agrees = { λ p. P.agrees p.inner };
 
@@ -48,8 +43,4 @@ impl<T: Drop, P: ProgramField<T>> ProgramField<T> for ParseCommand<T, P> {
     ghost law = { λ p a variables. either_command_law (P.describes p.inner) p.info p.names
         (CommandPart p.names p.help (P.describes p.inner)) p.adjacent
         (are_unusual (keys_of (P.grammar p.inner) false) p.info) (P.law p.inner a variables) };
-
-    ghost said = { λ p a variables. program_command_says (P.says variables) p.inner p.adjacent
-        (are_unusual (keys_of (P.grammar p.inner) false) p.info) p.names
-        (P.law p.inner a variables) (P.said p.inner a variables) };
 }

@@ -2,10 +2,8 @@
 ghost use Rattle.std.specs.Prelude.{◌≡◌, true, Ok, Err};
 ghost use Rattle.bpaf_record.specs.Grammar.{command_words, keys_of, program_form, optional};
 ghost use Rattle.bpaf_record.specs.Grammar.{fallback};
-ghost use Rattle.bpaf_exact.specs.Says.{said_optional, said_fallback};
 ghost use Rattle.bpaf_exact.specs.Flat.{map_closure, answer_closure, parse_closure};
 ghost use Rattle.bpaf_exact.proofs.ProgramForm.{optional_law, fallback_law, fallback_with_law};
-ghost use Rattle.bpaf_exact.proofs.ProgramSays.{program_optional_says, program_fallback_says};
 
 use crate::field::{FlatField, ProgramField};
 use crate::keys::KeyTest;
@@ -17,8 +15,6 @@ use std::fmt::Display;
 /// With `catch` it is no flat field, nor optional commands.
 impl<T: Drop, P: ProgramField<T>> ProgramField<Option<T>> for ParseOptional<P> {
     ghost grammar = { λ p. optional p.catch (P.grammar p.inner) };
-
-    ghost says = { λ variables. said_optional (λ p. p.inner) (P.says variables) };
 
     ghost agrees = { λ p. P.agrees p.inner };
 
@@ -36,17 +32,12 @@ impl<T: Drop, P: ProgramField<T>> ProgramField<Option<T>> for ParseOptional<P> {
     }
 
     ghost law = { λ p a variables. optional_law (P.law p.inner a variables) p.catch };
-
-    ghost said = { λ p a variables. program_optional_says (P.said p.inner a variables) p.catch };
 }
 
 impl<T: Drop, P: FlatField<T>> FlatField<Option<T>> for ParseOptional<P> {}
 
 impl<T: Clone, P: ProgramField<T>> ProgramField<T> for ParseFallback<P, T> {
     ghost grammar = { λ p. fallback (map_closure (λ u. T.is_clone p.value)) (P.grammar p.inner) };
-
-    ghost says = { λ variables. said_fallback (λ p. p.inner)
-        (λ p. map_closure (λ u. T.is_clone p.value)) (P.says variables) };
 
     ghost agrees = { λ p. P.agrees p.inner };
 
@@ -64,9 +55,6 @@ impl<T: Clone, P: ProgramField<T>> ProgramField<T> for ParseFallback<P, T> {
     }
 
     ghost law = { λ p a variables. fallback_law (P.law p.inner a variables) T.is_clone p.value };
-
-    ghost said = { λ p a variables. program_fallback_says (P.said p.inner a variables)
-        (map_closure (λ u. T.is_clone p.value)) };
 }
 
 impl<T: Clone, P: FlatField<T>> FlatField<T> for ParseFallback<P, T> {}
@@ -76,9 +64,6 @@ impl<T, E: Display + Drop, P: ProgramField<T>, F: Fn() -> Result<T, E>> ProgramF
     for ParseFallbackWith<T, P, F, E> {
     ghost grammar = { λ p.
         fallback (parse_closure (λ u r. F.post p.fallback r)) (P.grammar p.inner) };
-
-    ghost says = { λ variables. said_fallback (λ p. p.inner)
-        (λ p. answer_closure (λ r. F.post p.fallback r)) (P.says variables) };
 
     ghost agrees = { λ p. P.agrees p.inner × ((v : T) (fault : E) → F.post p.fallback (Ok v)
         → F.post p.fallback (Err fault) → ⊥) };
@@ -98,9 +83,6 @@ impl<T, E: Display + Drop, P: ProgramField<T>, F: Fn() -> Result<T, E>> ProgramF
 
     ghost law = { λ p a variables. fallback_with_law (P.law p.inner a.0 variables)
         (λ r. F.post p.fallback r) E.output (λ u v y n. a.1 v n.0 y n.1) };
-
-    ghost said = { λ p a variables. program_fallback_says (P.said p.inner a.0 variables)
-        (answer_closure (λ r. F.post p.fallback r)) };
 }
 
 impl<T, E: Display + Drop, P: FlatField<T>, F> FlatField<T> for ParseFallbackWith<T, P, F, E> {}

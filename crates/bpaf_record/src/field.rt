@@ -1,9 +1,8 @@
 //! The traits of the parsers that may stand in a program, and of those that may in a flat record.
-ghost use Rattle.std.specs.{Prelude.◌≡◌, Prelude.true, List.list_all};
-ghost use Rattle.bpaf_exact.specs.Says.{ProgramSaid, ProgramSays, FieldsKeep, ProgramFieldsSaid};
+ghost use Rattle.std.specs.{Prelude.◌≡◌, Prelude.true, Prelude.[], List.list_all};
 ghost use Rattle.bpaf_exact.specs.{ProgramForm.FormLaw, Flat.Variables};
 ghost use Rattle.bpaf_record.specs.{Grammar.Grammar, Grammar.command_words, Grammar.keys_of};
-ghost use Rattle.bpaf_record.specs.{Grammar.program_form, Grammar.said_kind, Part.form_part};
+ghost use Rattle.bpaf_record.specs.{Grammar.program_form, Grammar.FieldsGrammar, Part.form_part};
 
 use crate::keys::KeyTest;
 use crate::part::ProgramPart;
@@ -13,12 +12,10 @@ use bpaf::{Fields, Parser};
 /// A parser that may be a field of a program, a command, or a program itself.
 pub trait ProgramField<T>: Parser<T> {
     /// Of what it is made: what it is by itself, or a step and the parsers inside. That tells its
-    /// keys, the words of its commands and what it is to a program.
+    /// keys, the words of its commands, what it is to a program (`program_form`) and what its value
+    /// says of the pieces that are its own (`says`), or of the cells of its scope where it ends in
+    /// commands (`cells_say`).
     ghost grammar: { Self → Grammar T };
-
-    /// What its value says of the pieces that are its own, or of all where it is a record; or of
-    /// the cells of its scope, where it ends in commands.
-    ghost says: { Variables → ProgramSaid Self T };
 
     /// The premise of exactness: whether its closures accept depends on what is present alone.
     ghost agrees: { Self → Type 0 };
@@ -42,11 +39,6 @@ pub trait ProgramField<T>: Parser<T> {
     ghost law: { (p : Self) → agrees p → (variables : Variables)
         → FormLaw variables (Self.Parser.outcome p) (keys_of (grammar p) true)
         (command_words (grammar p)) (program_form (grammar p) variables) };
-
-    /// Its value says so.
-    ghost said: { (p : Self) → agrees p → (variables : Variables)
-        → ProgramSays (keys_of (grammar p) true) (program_form (grammar p) variables)
-        (said_kind (grammar p) variables) (says variables) p };
 }
 
 /// The mark of a parser that may be a field of a flat record, or a flat record itself. It has no
@@ -55,12 +47,9 @@ pub trait FlatField<T> {}
 
 /// The fields of a program.
 pub trait ProgramFields<V>: Fields<V> {
-    /// Of what they are made. That tells their keys and what they are to a program.
-    ghost grammar: { Self → Grammar V };
-
-    /// What their values say: of the pieces of a line and of the words that are left to them, or of
-    /// the cells of their scope, where they end in commands.
-    ghost says: { Variables → ProgramFieldsSaid Self V };
+    /// Of what they are made. That tells their keys, what they are to a program and what their
+    /// values say of a line.
+    ghost grammar: { Self → FieldsGrammar V };
 
     /// The premise of exactness, for each of them.
     ghost agrees: { Self → Type 0 };
@@ -76,12 +65,10 @@ pub trait ProgramFields<V>: Fields<V> {
         ensures { result ≡ list_all (N.accepts test.now)
             (keys_of (grammar self.now) (N.deep test.now)) };
 
-    /// What they answer and take depends on what is present alone, as their form says, and their
-    /// values say so.
-    ghost keeps: { (p : Self) → agrees p → (variables : Variables)
-        → FieldsKeep variables (Self.Fields.outcome p) (keys_of (grammar p) true)
-        (program_form (grammar p) variables) (says variables).in_cells
-        ((says variables).pieces p) ((says variables).cells p) };
+    /// What they answer and take depends on what is present alone, as their form says.
+    ghost law: { (p : Self) → agrees p → (variables : Variables)
+        → FormLaw variables (Self.Fields.outcome p) (keys_of (grammar p) true) []
+        (program_form (grammar p) variables) };
 }
 
 /// The mark of the fields of a flat record.

@@ -1,8 +1,6 @@
 //! Four fields of a program at once.
 
-ghost use Rattle.bpaf_record.specs.Grammar.{command_words, keys_of, said_kind};
-ghost use Rattle.bpaf_exact.specs.Says.{fields_said_inside};
-ghost use Rattle.bpaf_exact.proofs.ProgramSays.{keep_before};
+ghost use Rattle.bpaf_exact.proofs.ProgramForm.{program_both_law, program_field_law};
 ghost use Rattle.std.specs.Prelude.{true};
 
 use crate::field::{FlatField, FlatFields, ProgramField, ProgramFields};
@@ -26,10 +24,6 @@ impl<
         ⟦<FourFields<A, B, C, D, R> as ProgramFields<FourValues<S, T, U, V, W>>>⟧.grammar
         p.fields };
 
-    ghost says = { λ variables. fields_said_inside (λ p. p.fields)
-        (⟦<FourFields<A, B, C, D, R> as ProgramFields<FourValues<S, T, U, V, W>>>⟧.says
-        variables) };
-
     ghost agrees = { λ p.
         ⟦<FourFields<A, B, C, D, R> as ProgramFields<FourValues<S, T, U, V, W>>>⟧.agrees
         p.fields };
@@ -42,14 +36,12 @@ impl<
         self.fields.all_keys(test)
     }
 
-    ghost keeps = { λ p a variables. keep_before (A.law p.fields.first a.0 variables)
-        (A.said p.fields.first a.0 variables) (keep_before
-        (B.law p.fields.rest.first a.1.0 variables) (B.said p.fields.rest.first a.1.0 variables)
-        (keep_before (C.law p.fields.rest.rest.first a.1.1.0 variables)
-        (C.said p.fields.rest.rest.first a.1.1.0 variables)
-        (keep_before (D.law p.fields.rest.rest.rest.first a.1.1.1.0 variables)
-        (D.said p.fields.rest.rest.rest.first a.1.1.1.0 variables)
-        (R.keeps p.fields.rest.rest.rest.rest a.1.1.1.1 variables)))) };
+    ghost law = { λ p a variables. program_both_law
+        (program_field_law (A.law p.fields.first a.0 variables)) (program_both_law
+        (program_field_law (B.law p.fields.rest.first a.1.0 variables)) (program_both_law
+        (program_field_law (C.law p.fields.rest.rest.first a.1.1.0 variables)) (program_both_law
+        (program_field_law (D.law p.fields.rest.rest.rest.first a.1.1.1.0 variables))
+        (R.law p.fields.rest.rest.rest.rest a.1.1.1.1 variables)))) };
 }
 
 impl<

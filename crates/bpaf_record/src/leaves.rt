@@ -1,7 +1,5 @@
 //! Flags, arguments and words as fields.
 ghost use Rattle.std.specs.Prelude.{◌≡◌, [], false, true};
-ghost use Rattle.bpaf_exact.specs.Says.{FlagSays, ArgumentSays, WordSays, of_pieces};
-ghost use Rattle.bpaf_exact.proofs.Says.{flag_says, argument_says, word_by_says};
 ghost use Rattle.bpaf_exact.proofs.Leaves.{pure_field_law, pure_says, flag_field_law};
 ghost use Rattle.bpaf_exact.proofs.Leaves.{argument_field_law};
 ghost use Rattle.bpaf_laws.specs.Reading.{first_set};
@@ -19,9 +17,6 @@ use bpaf::{FromText, ParsePositional, Position};
 /// With a name in the environment it may stand in a program, but in no flat record.
 impl<T: Clone> ProgramField<T> for ParseFlag<T> {
     ghost grammar = { λ p. flag T.is_clone p.named p.present p.absent };
-
-    ghost says = { λ variables. of_pieces (λ p.
-        FlagSays T.is_clone p.present p.absent (first_set variables p.named.envs)) };
 
     ghost agrees = { λ p. Unit {0} };
 
@@ -45,8 +40,6 @@ impl<T: Clone> ProgramField<T> for ParseFlag<T> {
 
     ghost law = { λ p a variables.
         flag_field_law variables T T.is_clone p.named p.present p.absent };
-
-    ghost said = { λ p a variables. flag_says T.is_clone p.present p.named p.absent variables };
 }
 
 impl<T: Clone> FlatField<T> for ParseFlag<T> {}
@@ -55,9 +48,6 @@ impl<T: Clone> FlatField<T> for ParseFlag<T> {}
 /// record. With such a name or `take_last` it is a field by itself, and no alternative of a choice.
 impl<T: FromText> ProgramField<T> for ParseArgument<T> {
     ghost grammar = { λ p. argument T.means p };
-
-    ghost says = { λ variables. of_pieces (λ p.
-        ArgumentSays T.means p.last (first_set variables p.named.envs)) };
 
     ghost agrees = { λ p. Unit {0} };
 
@@ -81,8 +71,6 @@ impl<T: FromText> ProgramField<T> for ParseArgument<T> {
     }
 
     ghost law = { λ p a variables. argument_field_law variables T T.means p };
-
-    ghost said = { λ p a variables. argument_says T.means p variables };
 }
 
 impl<T: FromText> FlatField<T> for ParseArgument<T> {}
@@ -91,8 +79,6 @@ impl<T: FromText> FlatField<T> for ParseArgument<T> {}
 /// default of it with `non_strict` leaves words behind `--` to the fields after it.
 impl<T: FromText> ProgramField<T> for ParsePositional<T> {
     ghost grammar = { λ p. word T.means p.position };
-
-    ghost says = { λ variables. of_pieces (λ p. WordSays (accepts p.position) T.means) };
 
     ghost agrees = { λ p. Unit {0} };
 
@@ -112,8 +98,6 @@ impl<T: FromText> ProgramField<T> for ParsePositional<T> {
     }
 
     ghost law = { λ p a variables. positional_law variables T T.means p.position p.metavar.0.now };
-
-    ghost said = { λ p a variables. word_by_says (accepts p.position) T.means };
 }
 
 impl<T: FromText> FlatField<T> for ParsePositional<T> {}
@@ -121,8 +105,6 @@ impl<T: FromText> FlatField<T> for ParsePositional<T> {}
 /// A kept value may stand in a program, as a field that takes no piece, but in no flat record.
 impl<T: Clone> ProgramField<T> for ParsePure<T> {
     ghost grammar = { λ p. kept (T.is_clone p.value) };
-
-    ghost says = { λ variables. of_pieces (λ p os v. T.is_clone p.value v) };
 
     ghost agrees = { λ p. Unit {0} };
 
@@ -142,6 +124,4 @@ impl<T: Clone> ProgramField<T> for ParsePure<T> {
     }
 
     ghost law = { λ p a variables. pure_field_law T T.is_clone p.value };
-
-    ghost said = { λ p a variables. pure_says (T.is_clone p.value) };
 }

@@ -9,7 +9,8 @@
 //!   `optional`, the repeats, both fallbacks, `hide`, `hide_usage`, `custom_usage`, `group_help`,
 //!   `pure`, products, and commands and choices of them; [`ProgramFields`] for the fields of a
 //!   product. Each says of what it is made (`grammar`), by which definitions tell what it is to a
-//!   program (`program_form`, specs/Grammar.antt), and proves the law of that form: what it answers
+//!   program (`program_form`, specs/Grammar.antt) and what its values say (`says`), and proves the
+//!   law of that form: what it answers
 //!   and takes depends on what is its own alone. A parser that has no [`ProgramField`] stands in no
 //!   program: the compiler tells.
 //! - [`FlatField`] and [`FlatFields`], marks without members, are written for those that may stand
@@ -32,14 +33,15 @@
 //!   want of memory.
 //! - Its clause `fields` says of each value what its fields say, each of the pieces of the line
 //!   that are its own, whatever the others are, and which command's word stands there
-//!   (`TellsOfWords`): by the ghost member `says` of each field's type, over that of the parser
-//!   inside. Lemmas of proofs/Answered.antt tell it of the words. So a flag, an argument without
-//!   `take_last` and a choice stand on an accepted line once at most.
+//!   (`TellsOfWords`): each step of the grammar says so by what the parsers inside say (`says`).
+//!   Lemmas of proofs/Answered.antt tell it of the words.
 //! - [`Record::run_record`] is that run of a flat record, of which it says more (`AnswersByFields`,
 //!   specs/Record.antt): where each field has a value no other answer than one of the record's
 //!   comes, but for want of memory, and where one has none no value does. The line of each value is
 //!   whole (`HasWholeLine`): a key of nobody or a value behind a flag's key is refused, and no
-//!   positional field gets a value that belongs to a key.
+//!   positional field gets a value that belongs to a key. A flag, an argument without `take_last`
+//!   and a choice with all its keys stand there once at most, unless they are repeated, and there
+//!   are no more words than positional fields, unless one of these is.
 //!
 //! bpaf has no such calls.
 #![tactic(auto)]

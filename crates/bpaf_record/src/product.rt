@@ -1,11 +1,10 @@
 //! Products of fields.
 ghost use Rattle.std.specs.Prelude.{◌≡◌, true};
-ghost use Rattle.bpaf_record.specs.Grammar.{command_words, keys_of, program_form, said_kind, alone};
+ghost use Rattle.bpaf_record.specs.Grammar.{command_words, keys_of, program_form, alone};
 ghost use Rattle.bpaf_record.specs.Grammar.{both, product};
-ghost use Rattle.bpaf_exact.specs.Says.{said_alone, said_both, said_con};
 ghost use Rattle.bpaf_exact.specs.Flat.{map_closure};
-ghost use Rattle.bpaf_exact.proofs.ProgramSays.{keep_last, keep_before, program_con_says};
-ghost use Rattle.bpaf_exact.proofs.ProgramForm.{program_con_law};
+ghost use Rattle.bpaf_exact.proofs.ProgramForm.{program_alone_law, program_both_law};
+ghost use Rattle.bpaf_exact.proofs.ProgramForm.{program_con_law, program_field_law};
 
 use crate::field::{FlatField, FlatFields, ProgramField, ProgramFields};
 use crate::keys::{ApartFromFields, KeyTest, NoKey};
@@ -18,9 +17,6 @@ use std::marker::PhantomData;
 impl<T: Drop, A: ProgramField<T>> ProgramFields<T> for Last<A> {
     ghost grammar = { λ p. alone (A.grammar p.last) };
 
-    ghost says = { λ variables. said_alone (λ p. p.last) (λ q. said_kind (A.grammar q) variables)
-        (λ q. keys_of (A.grammar q) true) (A.says variables) };
-
     ghost agrees = { λ p. A.agrees p.last };
 
     #[tactic(auto, using(crate::proofs::Parts::alone_part_is))]
@@ -32,8 +28,8 @@ impl<T: Drop, A: ProgramField<T>> ProgramFields<T> for Last<A> {
         self.last.all_keys(test)
     }
 
-    ghost keeps = { λ p a variables.
-        keep_last (A.law p.last a variables) (A.said p.last a variables) };
+    ghost law = { λ p a variables.
+        program_alone_law (program_field_law (A.law p.last a variables)) };
 }
 
 impl<T: Drop, A: FlatField<T>> FlatFields<T> for Last<A> {}
@@ -42,10 +38,6 @@ impl<T: Drop, A: FlatField<T>> FlatFields<T> for Last<A> {}
 /// share a name, they are nothing.
 impl<T: Drop, V, A: ProgramField<T>, R: ProgramFields<V>> ProgramFields<(T, V)> for Both<A, R> {
     ghost grammar = { λ p. both (A.grammar p.first) (R.grammar p.rest) };
-
-    ghost says = { λ variables. said_both (λ p. p.first) (λ p. p.rest)
-        (λ q. said_kind (A.grammar q) variables) (λ q. keys_of (A.grammar q) true)
-        (A.says variables) (R.says variables) };
 
     ghost agrees = { λ p. A.agrees p.first × R.agrees p.rest };
 
@@ -66,17 +58,14 @@ impl<T: Drop, V, A: ProgramField<T>, R: ProgramFields<V>> ProgramFields<(T, V)> 
         first && rest
     }
 
-    ghost keeps = { λ p a variables. keep_before (A.law p.first a.0 variables)
-        (A.said p.first a.0 variables) (R.keeps p.rest a.1 variables) };
+    ghost law = { λ p a variables. program_both_law
+        (program_field_law (A.law p.first a.0 variables)) (R.law p.rest a.1 variables) };
 }
 
 impl<T: Drop, V, A: FlatField<T>, R: FlatFields<V>> FlatFields<(T, V)> for Both<A, R> {}
 
 impl<V, T, P: ProgramFields<V>, M: Constructor<V, T>> ProgramField<T> for ParseCon<V, P, M> {
     ghost grammar = { λ p. product (map_closure (M.makes p.make)) (P.grammar p.fields) };
-
-    ghost says = { λ variables. said_con (λ p. p.fields) (λ q. keys_of (P.grammar q) true)
-        (λ p. map_closure (M.makes p.make)) (P.says variables) };
 
     ghost agrees = { λ p. P.agrees p.fields };
 
@@ -94,10 +83,7 @@ impl<V, T, P: ProgramFields<V>, M: Constructor<V, T>> ProgramField<T> for ParseC
     }
 
     ghost law = { λ p a variables. program_con_law (M.makes p.make)
-        (P.keeps p.fields a variables).law };
-
-    ghost said = { λ p a variables. program_con_says (map_closure (M.makes p.make))
-        (P.keeps p.fields a variables).says };
+        (P.law p.fields a variables) };
 }
 
 impl<V, T, P: FlatFields<V>, M> FlatField<T> for ParseCon<V, P, M> {}

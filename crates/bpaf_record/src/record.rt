@@ -3,7 +3,7 @@ ghost use Rattle.std.specs.Prelude.{◌≡◌, Result, false, true, Bool, IfOk};
 ghost use Rattle.std.specs.Result.{IfErr};
 ghost use Rattle.bpaf_words.specs.Arguments.{given_of, Given};
 ghost use Rattle.bpaf_record.specs.Grammar.{keys_of, program_form};
-ghost use Rattle.bpaf_record.specs.Record.{is_flat_record, AnswersByFields};
+ghost use Rattle.bpaf_record.specs.Record.{is_flat_record, AnswersByFields, NoneUnless, ProgramRan};
 ghost use Rattle.bpaf_line.specs.declared.failure.ParseFailure.{ParseFailure};
 ghost use Rattle.bpaf.specs.Run.{IsNotWant, known_names};
 ghost use Rattle.bpaf_exact.specs.Flat.{Variables};
@@ -37,6 +37,9 @@ pub trait Record<T>: CommandLine<T> {
     /// - Ok(v) comes only on a line that is whole: each key on it is one of the record's; behind
     ///   each argument's key stands its value, and no positional field gets that one; an attached
     ///   value stands nowhere else; and what is left to positional fields are words by themselves.
+    ///   A flag, an argument without `take_last` and a choice with all its keys stand there once at
+    ///   most, unless they are repeated; and there are no more words than positional fields, unless
+    ///   one of them is.
     /// - Where each field has a value on its portion, the answer is the constructor's on such
     ///   values, or want of memory.
     /// - Where a field has none, as for an occurrence or a word too many or one that can't be read,
@@ -66,6 +69,25 @@ pub trait Record<T>: CommandLine<T> {
         ensures by_fields { Self.agrees self.now → (r : Result T ParseFailure)
             → Self.answers self.now (given_of args.entry) r
             → answers_by_fields self.now (given_of args.entry) r };
+
+    /// The same where these options are a flat record; None where they are none, as `is_record`
+    /// tells. A caller shows nothing of them, as with [`CommandLine::program_value`].
+    final fn record_value(&self, args: Args<'_>) -> Result<Option<T>, ParseFailure>
+        requires { Self.can_run self.now }
+        ensures { NoneUnless (is_flat self.now (given_of args.entry).env)
+            (λ r. (ProgramRan (Self.agrees self.now) (Self.answers self.now (given_of args.entry))
+            (Self.answers_spared self.now (given_of args.entry))
+            (Self.answers_as_program self.now (given_of args.entry))
+            (Self.refuses self.now (given_of args.entry)) (Self.deals self.now (given_of args.entry))
+            (Self.tells self.now (given_of args.entry)) r)
+            × (Self.agrees self.now → answers_by_fields self.now (given_of args.entry) r)) result }
+    {
+        if self.is_record() {
+            Ok(Some(self.run_record(args)?))
+        } else {
+            Ok(None)
+        }
+    }
 }
 
 impl<T: Drop, P: ProgramField<T> + FlatField<T>> Record<T> for OptionParser<T, P> {
@@ -80,8 +102,7 @@ impl<T: Drop, P: ProgramField<T> + FlatField<T>> Record<T> for OptionParser<T, P
     }
 
     ghost answers_by_fields = { λ p given. AnswersByFields T
-        (known_names p.info (P.shorts p.inner))
-        (program_form (P.grammar p.inner) given.env) given };
+        (known_names p.info (P.shorts p.inner)) (P.grammar p.inner) given };
 
     #[tactic(auto, using(crate::proofs::Running::flat_is_whole))]
     fn run_record(&self, args: Args<'_>) -> Result<T, ParseFailure> {

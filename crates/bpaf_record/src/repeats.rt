@@ -2,10 +2,8 @@
 ghost use Rattle.std.specs.Prelude.{◌≡◌, true, length, false};
 ghost use Rattle.bpaf_record.specs.Grammar.{command_words, keys_of, program_form, repeat, last};
 ghost use Rattle.bpaf_exact.specs.Flat.{list_closure, some_closure, map_closure};
-ghost use Rattle.bpaf_exact.specs.Says.{said_repeat, said_last};
 ghost use Rattle.bpaf_exact.proofs.ProgramForm.{many_law, some_law, collect_law, count_law};
 ghost use Rattle.bpaf_exact.proofs.ProgramForm.{program_last_law};
-ghost use Rattle.bpaf_exact.proofs.ProgramSays.{program_repeat_says, program_last_says};
 
 use crate::field::{FlatField, ProgramField};
 use crate::keys::KeyTest;
@@ -17,8 +15,6 @@ use bpaf::parsers::{ParseCollect, ParseCount, ParseLast, ParseMany, ParseSome};
 /// With `catch` it is no flat field, nor round another repeat or a default.
 impl<T: Drop, P: ProgramField<T>> ProgramField<Vec<T>> for ParseMany<P> {
     ghost grammar = { λ p. repeat p.catch (list_closure T) (P.grammar p.inner) };
-
-    ghost says = { λ variables. said_repeat (λ p. p.inner) (list_closure T) (P.says variables) };
 
     ghost agrees = { λ p. P.agrees p.inner };
 
@@ -36,9 +32,6 @@ impl<T: Drop, P: ProgramField<T>> ProgramField<Vec<T>> for ParseMany<P> {
     }
 
     ghost law = { λ p a variables. many_law (P.law p.inner a variables) p.catch };
-
-    ghost said = { λ p a variables. program_repeat_says (P.said p.inner a variables) p.catch
-        (list_closure T) };
 }
 
 impl<T: Drop, P: FlatField<T>> FlatField<Vec<T>> for ParseMany<P> {}
@@ -46,8 +39,6 @@ impl<T: Drop, P: FlatField<T>> FlatField<Vec<T>> for ParseMany<P> {}
 /// As `many`.
 impl<'m, T: Drop, P: ProgramField<T>> ProgramField<Vec<T>> for ParseSome<'m, P> {
     ghost grammar = { λ p. repeat p.catch (some_closure T) (P.grammar p.inner) };
-
-    ghost says = { λ variables. said_repeat (λ p. p.inner) (some_closure T) (P.says variables) };
 
     ghost agrees = { λ p. P.agrees p.inner };
 
@@ -65,9 +56,6 @@ impl<'m, T: Drop, P: ProgramField<T>> ProgramField<Vec<T>> for ParseSome<'m, P> 
     }
 
     ghost law = { λ p a variables. some_law (P.law p.inner a variables) p.catch p.message.now };
-
-    ghost said = { λ p a variables. program_repeat_says (P.said p.inner a variables) p.catch
-        (some_closure T) };
 }
 
 impl<'m, T: Drop, P: FlatField<T>> FlatField<Vec<T>> for ParseSome<'m, P> {}
@@ -75,9 +63,6 @@ impl<'m, T: Drop, P: FlatField<T>> FlatField<Vec<T>> for ParseSome<'m, P> {}
 /// As `many`.
 impl<T: Drop, C: FromList<T> + Drop, P: ProgramField<T>> ProgramField<C> for ParseCollect<P, C, T> {
     ghost grammar = { λ p. repeat p.catch (map_closure C.fills) (P.grammar p.inner) };
-
-    ghost says = { λ variables. said_repeat (λ p. p.inner) (map_closure C.fills)
-        (P.says variables) };
 
     ghost agrees = { λ p. P.agrees p.inner };
 
@@ -95,9 +80,6 @@ impl<T: Drop, C: FromList<T> + Drop, P: ProgramField<T>> ProgramField<C> for Par
     }
 
     ghost law = { λ p a variables. collect_law (P.law p.inner a variables) p.catch C.fills };
-
-    ghost said = { λ p a variables. program_repeat_says (P.said p.inner a variables) p.catch
-        (map_closure C.fills) };
 }
 
 impl<T: Drop, C: FromList<T> + Drop, P: FlatField<T>> FlatField<C> for ParseCollect<P, C, T> {}
@@ -105,9 +87,6 @@ impl<T: Drop, C: FromList<T> + Drop, P: FlatField<T>> FlatField<C> for ParseColl
 impl<T: Drop, P: ProgramField<T>> ProgramField<usize> for ParseCount<P, T> {
     ghost grammar = { λ p.
         repeat false (map_closure (λ values n. n ≡ length values)) (P.grammar p.inner) };
-
-    ghost says = { λ variables. said_repeat (λ p. p.inner)
-        (map_closure (λ values n. n ≡ length values)) (P.says variables) };
 
     ghost agrees = { λ p. P.agrees p.inner };
 
@@ -125,17 +104,12 @@ impl<T: Drop, P: ProgramField<T>> ProgramField<usize> for ParseCount<P, T> {
     }
 
     ghost law = { λ p a variables. count_law (P.law p.inner a variables) };
-
-    ghost said = { λ p a variables. program_repeat_says (P.said p.inner a variables) false
-        (map_closure (λ values n. n ≡ length values)) };
 }
 
 impl<T: Drop, P: FlatField<T>> FlatField<usize> for ParseCount<P, T> {}
 
 impl<T: Drop, P: ProgramField<T>> ProgramField<T> for ParseLast<P> {
     ghost grammar = { λ p. last (P.grammar p.inner) };
-
-    ghost says = { λ variables. said_last (λ p. p.inner) (P.says variables) };
 
     ghost agrees = { λ p. P.agrees p.inner };
 
@@ -153,8 +127,6 @@ impl<T: Drop, P: ProgramField<T>> ProgramField<T> for ParseLast<P> {
     }
 
     ghost law = { λ p a variables. program_last_law (P.law p.inner a variables) };
-
-    ghost said = { λ p a variables. program_last_says (P.said p.inner a variables) };
 }
 
 impl<T: Drop, P: FlatField<T>> FlatField<T> for ParseLast<P> {}

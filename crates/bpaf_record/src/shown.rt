@@ -3,8 +3,6 @@
 //! flat record; one that ends in commands is no program then.
 ghost use Rattle.std.specs.Prelude.{◌≡◌, true};
 ghost use Rattle.bpaf_record.specs.Grammar.{command_words, keys_of, program_form, dressed};
-ghost use Rattle.bpaf_exact.specs.Says.{said_dressed};
-ghost use Rattle.bpaf_exact.proofs.ProgramSays.{program_dressed_says};
 ghost use Rattle.bpaf_exact.proofs.ProgramForm.{program_dressed_law, hide_law};
 
 use crate::field::{FlatField, ProgramField};
@@ -16,8 +14,6 @@ use bpaf::parsers::{ParseGroupHelp, ParseHide, ParseUsage};
 impl<T, P: ProgramField<T>> ProgramField<T> for ParseUsage<P> {
     ghost grammar = { λ p. dressed (P.grammar p.inner) };
 
-    ghost says = { λ variables. said_dressed (λ p. p.inner) (P.says variables) };
-
     ghost agrees = { λ p. P.agrees p.inner };
 
     #[tactic(auto, using(crate::proofs::Parts::dressed_part_is))]
@@ -34,8 +30,6 @@ impl<T, P: ProgramField<T>> ProgramField<T> for ParseUsage<P> {
     }
 
     ghost law = { λ p a variables. program_dressed_law (P.law p.inner a variables) };
-
-    ghost said = { λ p a variables. program_dressed_says (P.said p.inner a variables) };
 }
 
 impl<T, P: FlatField<T>> FlatField<T> for ParseUsage<P> {}
@@ -43,8 +37,6 @@ impl<T, P: FlatField<T>> FlatField<T> for ParseUsage<P> {}
 impl<T, P: ProgramField<T>> ProgramField<T> for ParseGroupHelp<P> {
     ghost grammar = { λ p. dressed (P.grammar p.inner) };
 
-    ghost says = { λ variables. said_dressed (λ p. p.inner) (P.says variables) };
-
     ghost agrees = { λ p. P.agrees p.inner };
 
     #[tactic(auto, using(crate::proofs::Parts::dressed_part_is))]
@@ -61,8 +53,6 @@ impl<T, P: ProgramField<T>> ProgramField<T> for ParseGroupHelp<P> {
     }
 
     ghost law = { λ p a variables. program_dressed_law (P.law p.inner a variables) };
-
-    ghost said = { λ p a variables. program_dressed_says (P.said p.inner a variables) };
 }
 
 impl<T, P: FlatField<T>> FlatField<T> for ParseGroupHelp<P> {}
@@ -71,8 +61,6 @@ impl<T, P: FlatField<T>> FlatField<T> for ParseGroupHelp<P> {}
 /// short names aren't known in joined words.
 impl<T, P: ProgramField<T>> ProgramField<T> for ParseHide<P> {
     ghost grammar = { λ p. dressed (P.grammar p.inner) };
-
-    ghost says = { λ variables. said_dressed (λ p. p.inner) (P.says variables) };
 
     ghost agrees = { λ p. P.agrees p.inner };
 
@@ -90,6 +78,4 @@ impl<T, P: ProgramField<T>> ProgramField<T> for ParseHide<P> {
     }
 
     ghost law = { λ p a variables. hide_law (P.law p.inner a variables) };
-
-    ghost said = { λ p a variables. program_dressed_says (P.said p.inner a variables) };
 }

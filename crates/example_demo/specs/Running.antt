@@ -18,7 +18,7 @@ use Rattle.bpaf_program.specs.Fields.{NamedSwitchReads, switch_shape}
 use Rattle.bpaf_program.specs.Ending.{line, line_each, truth, AnswersByText, PrintsTextOf, Written}
 use Rattle.example_demo.specs.declared.options.Options.{Options}
 use Rattle.bpaf_line.specs.declared.failure.ParseFailure.{ParseFailure}
-use Rattle.bpaf_record.specs.Grammar.{Grammar, alone, argument, both, word}
+use Rattle.bpaf_record.specs.Grammar.{FieldsGrammar, Grammar, alone, argument, both, word}
 use Rattle.bpaf_keys.specs.Info.{plain_info}
 
 -- the names of the switch
@@ -72,7 +72,7 @@ abbrev pub IsDealtOptions : List (List ℕ) → Options → Type 0
 IsDealtOptions words = IsDealtOut Options OptionsReads program_known (program_given words)
 
 -- a switch, the number that the text behind the last of its keys spells, and all words
-abbrev pub fields : Grammar FieldValues
+abbrev pub fields : FieldsGrammar FieldValues
 fields =
     both (known_switch verbose_names) (both (argument (SpellsUnsigned 64) number_key)
     (alone (known_many (word MeansText Unrestricted))))

@@ -6,7 +6,7 @@ use Rattle.bpaf_text.specs.{Meaning.SpellsUnsigned, Named.KeyWithValue}
 use Rattle.bpaf_words.specs.{Arguments.Given, Line.Known}
 use Rattle.bpaf.specs.declared.leaves.positional.Position.TheVariants.{Unrestricted}
 use Rattle.bpaf.specs.Info.{plain_info}
-use Rattle.bpaf_record.specs.Grammar.{Grammar, alone, argument, both, word}
+use Rattle.bpaf_record.specs.Grammar.{FieldsGrammar, Grammar, alone, argument, both, word}
 use Rattle.bpaf_program.specs.KnownParser.{IsPageOf, MeansText, String, known_con, known_many}
 use Rattle.bpaf_program.specs.KnownParser.{known_optional, program_names}
 use Rattle.bpaf_program.specs.Fields.{plain_argument}
@@ -21,7 +21,7 @@ abbrev pub bytes_key : KeyWithValue
 bytes_key = plain_argument bytes_names (codes "N")
 
 -- `[-c N] [FILE]..`
-abbrev pub fields : Grammar (Option ℕ × Vec String)
+abbrev pub fields : FieldsGrammar (Option ℕ × Vec String)
 fields =
     both (known_optional (argument (SpellsUnsigned 64) bytes_key))
     (alone (known_many (word MeansText Unrestricted)))

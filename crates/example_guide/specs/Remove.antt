@@ -6,7 +6,7 @@ use Rattle.bpaf_text.specs.{Meaning.SpellsUnsigned, Named.KeyWithValue}
 use Rattle.bpaf_words.specs.{Arguments.Given, Line.Known}
 use Rattle.bpaf.specs.declared.leaves.positional.Position.TheVariants.{Unrestricted}
 use Rattle.bpaf.specs.Info.{plain_info}
-use Rattle.bpaf_record.specs.Grammar.{Grammar, alone, argument, both, word}
+use Rattle.bpaf_record.specs.Grammar.{FieldsGrammar, Grammar, alone, argument, both, word}
 use Rattle.bpaf_program.specs.KnownParser.{HasOtherTexts, IsPageOf, MeansText, String}
 use Rattle.bpaf_program.specs.KnownParser.{known_con, known_many, known_optional, known_switch}
 use Rattle.bpaf_program.specs.KnownParser.{program_names}
@@ -22,7 +22,7 @@ abbrev pub depth_key : KeyWithValue
 depth_key = plain_argument (record { shorts = codes "d"; longs = [] }) (codes "N")
 
 -- `[-d N] [-f] [FILE]..`
-abbrev pub fields : Grammar (Option ℕ × (Bool × Vec String))
+abbrev pub fields : FieldsGrammar (Option ℕ × (Bool × Vec String))
 fields =
     both (known_optional (argument (SpellsUnsigned 64) depth_key)) (both (known_switch force_names)
     (alone (known_many (word MeansText Unrestricted))))

@@ -17,7 +17,7 @@ use Rattle.bpaf_program.specs.Fields.{NamedSwitchReads, switch_shape}
 use Rattle.bpaf_program.specs.Ending.{line, line_each, truth, AnswersByText}
 use Rattle.example_launch.specs.declared.options.Launch.{Launch}
 use Rattle.bpaf_line.specs.declared.failure.ParseFailure.{ParseFailure}
-use Rattle.bpaf_record.specs.Grammar.{Grammar, alone, both, word}
+use Rattle.bpaf_record.specs.Grammar.{FieldsGrammar, Grammar, alone, both, word}
 use Rattle.bpaf_keys.specs.Info.{plain_info}
 
 -- the names of the switch by which more is told
@@ -75,7 +75,7 @@ pub record IsLaunchOf (words : List (List ℕ)) (launch : Launch) : Type 0 where
   pub passed : map string_bytes launch.words.items ≡ words_behind words
 
 -- two switches, a word before `--`, and all words behind it
-abbrev pub fields : Grammar FieldValues
+abbrev pub fields : FieldsGrammar FieldValues
 fields =
     both (known_switch verbose_names) (both (known_switch dry_run_names)
     (both (word MeansText NonStrict) (alone (known_many (word MeansText Strict)))))

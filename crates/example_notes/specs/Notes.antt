@@ -17,7 +17,7 @@ use Rattle.bpaf_text.specs.{Meaning.SpellsUnsigned, Named.KeyWithValue}
 use Rattle.bpaf_words.specs.Arguments.{Given}
 use Rattle.bpaf_line.specs.declared.failure.ParseFailure.{ParseFailure}
 use Rattle.bpaf.specs.declared.leaves.positional.Position.TheVariants.{Unrestricted}
-use Rattle.bpaf_record.specs.Grammar.{Grammar, alone, argument, both, choice, word}
+use Rattle.bpaf_record.specs.Grammar.{FieldsGrammar, Grammar, alone, argument, both, choice, word}
 use Rattle.example_notes.specs.declared.options.Tag.TheVariants as tag
 use Rattle.example_notes.specs.declared.options.Task.TheVariants as task
 
@@ -68,7 +68,7 @@ abbrev pub max_key : KeyWithValue
 max_key = plain_argument (key (codes "n") (codes "max")) (codes "NUM")
 
 -- the texts behind each `-t`, and all words
-abbrev pub add_fields : Grammar (Vec String × Vec String)
+abbrev pub add_fields : FieldsGrammar (Vec String × Vec String)
 add_fields =
     both (known_many (argument MeansText tag_key))
     (alone (known_many (word MeansText Unrestricted)))
@@ -82,7 +82,7 @@ abbrev pub add_record : Grammar Task
 add_record = known_con add_of add_fields
 
 -- the number behind `-n`, or 10
-abbrev pub max : Grammar ℕ
+abbrev pub max : FieldsGrammar ℕ
 max = alone (known_default 10 (argument (SpellsUnsigned 64) max_key))
 
 -- `[-n NUM]`
@@ -90,7 +90,7 @@ abbrev pub list_record : Grammar Task
 list_record = known_con task.List max
 
 -- one word
-abbrev pub name : Grammar String
+abbrev pub name : FieldsGrammar String
 name = alone (word MeansText Unrestricted)
 
 -- `NAME`, of which this is made
@@ -138,11 +138,11 @@ abbrev pub dir : Grammar (Option String)
 dir = known_optional (argument MeansText dir_key)
 
 -- the argument and a command
-abbrev pub dir_fields : Grammar (Option String × Task)
+abbrev pub dir_fields : FieldsGrammar (Option String × Task)
 dir_fields = both dir (alone commands)
 
 -- the switch and these
-abbrev pub fields : Grammar (Bool × (Option String × Task))
+abbrev pub fields : FieldsGrammar (Bool × (Option String × Task))
 fields = both verbose dir_fields
 
 -- what is asked for of these

@@ -15,7 +15,7 @@ returns c =
     let texts = are_texts c.args.words.now in
     answer_says c.run_record.result
     (c.run_record.ensures.fields (tt, (tt, (tt, (tt, (tt, (tt, (tt, tt))))))))
-    (λ v told. told_of_line told archive.archive_known (search rules) words (search rules) (λ os line said.
+    (λ v told. told_of_line told refl archive.archive_known (search rules) words (search rules) (λ os line said.
     let fields = said.fields in
     let agreed = flag_spelled (of_line line) fields.0 (search rules) (search rules) archive.agree
     (search rules) in

@@ -1,4 +1,4 @@
-use Rattle.std.proofs.Common.{rules, map, string_bytes}
+use Rattle.std.proofs.Common.{refl, rules, map, string_bytes}
 use Rattle.bpaf_exact.proofs.OneView.{argument_one, closed_one, closure_agrees, number_one}
 use Rattle.bpaf_exact.proofs.Says.{argument_needs, made_needs}
 use Rattle.bpaf_record.proofs.Answered.{answer_says, of_line, value_spelled, told_of_line}
@@ -28,7 +28,7 @@ returns c =
         (tt, λ v fault made refused. search rules),
       ),
     ))
-    (λ dimming told. told_of_line told dimming_known (search rules) (map string_bytes c.args.words.now) (search rules)
+    (λ dimming told. told_of_line told refl dimming_known (search rules) (map string_bytes c.args.words.now) (search rules)
     (λ os line said. let percent = said.fields.0 in (
       value_spelled (of_line line) (made_needs (made_needs (argument_needs (search rules)))) percent
           percent_names (search rules),

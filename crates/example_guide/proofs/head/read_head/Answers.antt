@@ -1,4 +1,4 @@
-use Rattle.std.proofs.Common.{None, rules, map, string_bytes, ◌≡◌}
+use Rattle.std.proofs.Common.{refl, None, rules, map, string_bytes, ◌≡◌}
 use Rattle.bpaf.specs.Info.{plain_info}
 use Rattle.bpaf_exact.proofs.Says.{argument_needs}
 use Rattle.bpaf_record.proofs.Answered.{answer_says, of_line, optional_spelled, told_of_line}
@@ -9,7 +9,7 @@ use Rattle.example_guide.proofs.head.read_head.Goals as goal
 pub returns-clause-by_bytes : goal.returns-clause-by_bytes
 returns-clause-by_bytes c =
     answer_says c.run_record.result (c.run_record.ensures.fields (tt, tt)) (λ head told some.
-    told_of_line told spec.head_known (search rules) (map string_bytes c.args.words.now)
+    told_of_line told refl spec.head_known (search rules) (map string_bytes c.args.words.now)
     (search rules) (λ os line said. optional_spelled (of_line line) (argument_needs (search rules))
     said.fields.0 head.bytes (search rules) some spec.bytes_names (search rules)))
 

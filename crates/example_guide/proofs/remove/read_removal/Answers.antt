@@ -1,4 +1,4 @@
-use Rattle.std.proofs.Common.{None, rules, map, string_bytes}
+use Rattle.std.proofs.Common.{refl, None, rules, map, string_bytes}
 use Rattle.bpaf.specs.Info.{plain_info}
 use Rattle.bpaf_record.proofs.Answered.{answer_says, of_line, switch_spelled, told_of_line}
 use Rattle.bpaf_program.proofs.OfCommands as of
@@ -9,7 +9,7 @@ use Rattle.example_guide.proofs.remove.read_removal.Goals as goal
 pub returns-clause-forced : goal.returns-clause-forced
 returns-clause-forced c =
     answer_says c.run_record.result (c.run_record.ensures.fields (tt, (tt, tt))) (λ removal told.
-    told_of_line told remover.removal_known (search rules) (map string_bytes c.args.words.now)
+    told_of_line told refl remover.removal_known (search rules) (map string_bytes c.args.words.now)
     (search rules) (λ os line said. switch_spelled (of_line line) said.fields.1.0 (search rules)
     (search rules) remover.force_names (search rules) removal.force (search rules)))
 

@@ -1,6 +1,6 @@
 use Rattle.bpaf_words.specs.Arguments.{given_of}
 use Rattle.bpaf.specs.Run.{known_names}
-use Rattle.bpaf_record.proofs.Running.{answers_as_program}
+use Rattle.bpaf_record.proofs.Running.{answers_as_program, tells_of_words}
 use Rattle.bpaf_program.specs.KnownParser.{shown_shorts}
 use Rattle.bpaf_program.proofs.known_options.KnownOptionsCommandLine.run_program.Goals as goal
 
@@ -18,4 +18,6 @@ pub returns-clause-exact : goal.returns-clause-exact
 returns-clause-exact g c agrees = returns-clause-each_exact g c agrees _ c.run_inner.ensures.outcome
 
 pub returns-clause-fields : goal.returns-clause-fields
-returns-clause-fields g c agrees = (returns-clause-exact g c agrees).sound
+returns-clause-fields g c agrees =
+    tells_of_words (known_names c.args.self.now.options.info (shown_shorts g.K.KnownProgram.grammar))
+    g.K.KnownProgram.grammar (given_of c.args.args) _ (returns-clause-exact g c agrees)

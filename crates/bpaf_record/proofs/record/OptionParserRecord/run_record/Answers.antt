@@ -11,7 +11,7 @@ returns-clause-by_fields g c agrees r o =
     let grammar = g.P.ProgramField.grammar parser in
     let given = given_of c.args.args in
     answers_by_fields (g.P.Parser.describes parser) c.args.self.now.info
-    (known_names c.args.self.now.info (g.P.Parser.shorts parser)) given
+    (known_names c.args.self.now.info (g.P.Parser.shorts parser)) grammar given
     (g.met.P.ProgramField.law parser agrees given.env)
     (is_flat_form (program_form grammar given.env) (keys_of grammar false)
     c.args.self.now.info c.requires.record) r o

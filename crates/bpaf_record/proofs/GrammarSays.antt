@@ -1,0 +1,107 @@
+-- Of what each grammar owns and says: its keys are those with its names, and its values say so.
+use Rattle.std.proofs.Common.{Bool, false, true, not, ◌&&◌, ◌||◌, []}
+use Rattle.std.proofs.lemmas.Bool.{and_parts}
+use Rattle.std.specs.Option.{is_none}
+use Rattle.bpaf_base.specs.Items.{is_key_of}
+use Rattle.bpaf_laws.specs.Combinators.{is_nil}
+use Rattle.bpaf.specs.Positional.{accepts}
+use Rattle.bpaf_exact.proofs.Leaves.{pure_says}
+use Rattle.bpaf_exact.proofs.OwnedKeys.{alone_owns, both_owns, choice_owns, closed_owns, con_owns}
+use Rattle.bpaf_exact.proofs.OwnedKeys.{default_owns, dressed_owns, field_owns, if_owns, key_owns}
+use Rattle.bpaf_exact.proofs.OwnedKeys.{none_owned, only_owns, optional_owns, OwnsKeys, repeat_owns}
+use Rattle.bpaf_exact.proofs.Places.{test_owns}
+use Rattle.bpaf_exact.proofs.ProgramSays.{alone_says, both_say, field_says, only_says}
+use Rattle.bpaf_exact.proofs.ProgramSays.{program_choice_says, program_closed_says, program_con_says}
+use Rattle.bpaf_exact.proofs.ProgramSays.{program_command_says, program_dressed_says, program_says}
+use Rattle.bpaf_exact.proofs.ProgramSays.{program_fallback_says, program_last_says}
+use Rattle.bpaf_exact.proofs.ProgramSays.{program_optional_says, program_repeat_says}
+use Rattle.bpaf_exact.proofs.Says.{argument_says, flag_says, word_by_says}
+use Rattle.bpaf_exact.specs.Flat.{FallbackValue, LastOf, OwnList, Variables}
+use Rattle.bpaf_exact.specs.Pieces.{Alone, WithNext}
+use Rattle.bpaf_exact.specs.ProgramForm.{are_plain, commands, CommandValue, is_program}
+use Rattle.bpaf_exact.specs.ProgramForm.{program_value}
+use Rattle.bpaf_laws.specs.Command.{opening_words}
+use Rattle.bpaf_exact.specs.Says.{FieldsSay, IsSaid, Says}
+use Rattle.bpaf_record.specs.Grammar.{alone, argument, are_unusual, both, cells_say, choice, closed}
+use Rattle.bpaf_record.specs.Grammar.{command, command_words, dressed, ends_in_commands, fallback}
+use Rattle.bpaf_record.specs.Grammar.{FieldsGrammar, flag, Grammar, GrammarOf, kept, keys_of, last}
+use Rattle.bpaf_record.specs.Grammar.{only, optional, other, product, program_form, repeat, said_kind}
+use Rattle.bpaf_record.specs.Grammar.{says, scope_says, word}
+
+-- its own keys are those with its names
+pub grammar_owns : {fields : Bool} {T : Type 0} (g : GrammarOf fields T) (variables : Variables)
+    → OwnsKeys (keys_of g true) (program_form g variables)
+grammar_owns (flag clones key present absent) variables =
+    key_owns (not (is_nil key.envs)) (is_nil key.envs && is_none absent) _ _ _
+    (test_owns Alone (λ k e. e))
+grammar_owns (argument means key) variables =
+    key_owns (key.adjacent || not (is_nil key.named.envs))
+    (is_nil key.named.envs && not key.last) _ _ _
+    (test_owns WithNext (λ k e. (and_parts (is_key_of key.named.names k) _ e).0))
+grammar_owns (word means position) variables = record { by = none_owned [] }
+grammar_owns (kept given) variables = record { by = none_owned [] }
+grammar_owns other variables = record { by = tt }
+grammar_owns (closed f g) variables = closed_owns f _ (grammar_owns g variables)
+grammar_owns (dressed g) variables = dressed_owns _ (grammar_owns g variables)
+grammar_owns (optional catch g) variables =
+    if_owns (not catch) (optional_owns _ (grammar_owns g variables))
+grammar_owns (fallback {T = T} f g) variables =
+    default_owns _ (grammar_owns g variables) (λ group gap. FallbackValue T group gap f)
+grammar_owns (repeat {A = A} catch f g) variables =
+    if_owns (not catch) (closed_owns f _ (repeat_owns _ (grammar_owns g variables) (OwnList A)))
+grammar_owns (last {T = T} g) variables = repeat_owns _ (grammar_owns g variables) (LastOf T)
+grammar_owns (choice g h) variables = choice_owns (command_words g) (command_words h) _ _
+    (grammar_owns g variables) (grammar_owns h variables)
+grammar_owns (only g) variables = only_owns _ (grammar_owns g variables)
+grammar_owns (command {T = T} adjacent called info g) variables = if_owns
+    (((not adjacent && are_unusual (keys_of g false) info) && are_plain (opening_words called))
+    && is_program (program_form g variables))
+    {s = commands false (CommandValue T (opening_words called)
+    (program_value (program_form g variables)))} (record { by = tt })
+grammar_owns (alone g) variables = alone_owns _ (field_owns _ (grammar_owns g variables))
+grammar_owns (both g h) variables =
+    both_owns _ _ (field_owns _ (grammar_owns g variables)) (grammar_owns h variables)
+grammar_owns (product f g) variables = con_owns f _ (grammar_owns g variables)
+
+mutual
+  -- a value of a parser says so
+  pub grammar_says : {T : Type 0} (g : Grammar T) (variables : Variables)
+      → Says (keys_of g true) (program_form g variables) (said_kind g variables)
+      (ends_in_commands g) (says g variables) (cells_say g variables)
+  grammar_says (flag clones key present absent) variables =
+      flag_says clones present key absent variables
+  grammar_says (argument means key) variables = argument_says means key variables
+  grammar_says (word means position) variables = word_by_says (accepts position) means
+  grammar_says (kept given) variables = pure_says given
+  grammar_says other variables = record { by = tt }
+  grammar_says (closed f g) variables = program_closed_says f (grammar_says g variables)
+  grammar_says (dressed g) variables = program_dressed_says (grammar_says g variables)
+  grammar_says (optional catch g) variables =
+      program_optional_says (grammar_says g variables) catch
+  grammar_says (fallback f g) variables = program_fallback_says (grammar_says g variables) f
+  grammar_says (repeat catch f g) variables =
+      program_repeat_says (grammar_says g variables) catch f
+  grammar_says (last g) variables = program_last_says (grammar_says g variables)
+  grammar_says (choice g h) variables = program_choice_says (keys_of g true) (keys_of h true)
+      (command_words g) (command_words h) (grammar_says g variables) (grammar_says h variables)
+  grammar_says (only g) variables = only_says (grammar_says g variables)
+  grammar_says (command adjacent called info g) variables = program_command_says adjacent
+      (are_unusual (keys_of g false) info) called (grammar_owns g variables)
+      (grammar_says g variables)
+  grammar_says (product f g) variables = program_con_says f (fields_say g variables)
+
+  -- and those of fields do
+  pub fields_say : {V : Type 0} (g : FieldsGrammar V) (variables : Variables)
+      → FieldsSay (keys_of g true) (program_form g variables) (ends_in_commands g)
+      (says g variables) (cells_say g variables)
+  fields_say (alone g) variables = let owns = grammar_owns g variables in
+      alone_says (field_owns _ owns) (field_says owns (grammar_says g variables))
+  fields_say (both g h) variables = let owns = grammar_owns g variables in
+      both_say (field_owns _ owns) (grammar_owns h variables)
+      (field_says owns (grammar_says g variables)) (fields_say h variables)
+
+-- a value of a program on cells says so of them
+pub grammar_says_so : {T : Type 0} (g : Grammar T) (variables : Variables)
+    → IsSaid (program_value (program_form g variables)) (scope_says g variables)
+grammar_says_so g variables =
+    program_says (program_form g variables) (grammar_owns g variables) (grammar_says g variables)
