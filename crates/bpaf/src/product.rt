@@ -379,8 +379,11 @@ pub type ParseTuple2<S, T, A, B> = ParseCon<(S, T), Fields2<A, B>, Tuple2>;
 pub type ParseTuple3<S, T, U, A, B, C> = ParseCon<(S, (T, U)), Fields3<A, B, C>, Tuple3>;
 
 /// The parser that `construct!(a, b, c, d)` answers.
-pub type ParseTuple4<S, T, U, V, A, B, C, D> =
-    ParseCon<(S, (T, (U, V))), Fields4<A, B, C, D>, Tuple4>;
+pub type ParseTuple4<S, T, U, V, A, B, C, D> = ParseCon<
+    (S, (T, (U, V))),
+    Fields4<A, B, C, D>,
+    Tuple4,
+>;
 
 impl<V, P: Drop, M: Drop> Drop for ParseCon<V, P, M> {
     fn drop(self) {

@@ -2,14 +2,14 @@
 use Rattle.std.proofs.Common.{append-nil, arith, false, subst, Bool, List, true, ◌++◌, [], ℕ}
 use Rattle.bpaf_doc.specs.Names.{Names}
 use Rattle.bpaf_exact.proofs.Names.{either_owns}
-use Rattle.bpaf_exact.specs.Flat.{repeated, FieldKind, EachWord, OneWord, Closure, ByName, Groups}
+use Rattle.bpaf_exact.specs.Flat.{FieldKind, repeated, EachWord, OneWord, Closure, ByName, Groups}
 use Rattle.bpaf_exact.specs.Flat.{keys, Gap}
 use Rattle.bpaf_exact.specs.Pieces.{LinePiece, no_roles, either, Roles, Owns}
-use Rattle.bpaf_exact.specs.ProgramForm.{program_dressed, program_choice, key_field}
-use Rattle.bpaf_exact.specs.ProgramForm.{program_closed, program_alone, program_field, whole_program}
-use Rattle.bpaf_exact.specs.ProgramForm.{choice_only, program_con, program_if, complete}
-use Rattle.bpaf_exact.specs.ProgramForm.{program_both, alternative, program_optional, completed}
-use Rattle.bpaf_exact.specs.ProgramForm.{single, product, ProgramForm}
+use Rattle.bpaf_exact.specs.ProgramForm.{program_optional, program_dressed, program_choice, product}
+use Rattle.bpaf_exact.specs.ProgramForm.{program_closed, program_alone, program_field, program_both}
+use Rattle.bpaf_exact.specs.ProgramForm.{whole_program, choice_only, program_con, alternative}
+use Rattle.bpaf_exact.specs.ProgramForm.{ProgramForm, program_if, key_field, completed, complete}
+use Rattle.bpaf_exact.specs.ProgramForm.{single}
 
 -- own items are those with one of these names
 abbrev pub FormOwns : {T : Type 0} → List Names → ProgramForm T → Type 0

@@ -1,33 +1,32 @@
 -- Of each combinator: its values say what is told of them, where those of its inner parsers do.
-use Rattle.std.proofs.Common.{append-nil, arith, false, subst, Bool, List, refl, true, ◌++◌}
-use Rattle.std.proofs.Common.{None, Some, not, sym, ◌∙◌, ◌∷◌, ◌≡◌, [], ap, ℕ}
+use Rattle.std.proofs.Common.{append-nil, arith, false, subst, Bool, List, refl, true, ◌++◌, None}
+use Rattle.std.proofs.Common.{Some, not, sym, ◌∙◌, ◌∷◌, ◌≡◌, [], ap, ℕ}
 use Rattle.bpaf_doc.specs.Names.{Names}
 use Rattle.bpaf_laws.specs.Command.{opening_words, Called}
-use Rattle.bpaf_exact.proofs.Names.{first_within, mine_within, none_behind, others_both, apart_none}
 use Rattle.bpaf_exact.proofs.Names.{apart_of_names, mine_of_others, others_unkeyed, second_within}
-use Rattle.bpaf_exact.proofs.Names.{mine_rest, both_fits, taken_own, all_mine, each_own, rest_fit}
-use Rattle.bpaf_exact.proofs.Names.{others_none, others_rest, mine_keyed, others_fit, mine_none}
-use Rattle.bpaf_exact.proofs.Names.{all_front, own_fit, no_fits, cut_fit}
+use Rattle.bpaf_exact.proofs.Names.{first_within, mine_within, none_behind, others_both, apart_none}
+use Rattle.bpaf_exact.proofs.Names.{others_none, others_rest, mine_keyed, others_fit, mine_rest}
+use Rattle.bpaf_exact.proofs.Names.{both_fits, taken_own, mine_none, all_front, all_mine, each_own}
+use Rattle.bpaf_exact.proofs.Names.{rest_fit, own_fit, no_fits, cut_fit}
 use Rattle.bpaf_exact.proofs.Says.{fallback_by, optional_by, front_says, whole_says, list_says}
 use Rattle.bpaf_exact.specs.Flat.{FieldsReading, FallbackValue, OptionalValue, both_reading, ByName}
-use Rattle.bpaf_exact.specs.Flat.{SingleValue, ClosedValue, FieldKind, repeated, OwnList}
+use Rattle.bpaf_exact.specs.Flat.{SingleValue, ClosedValue, FieldKind, repeated, OwnList, Closure}
+use Rattle.bpaf_exact.specs.Flat.{Groups, gap_of, LastOf, front, back, keys, Gap}
 use Rattle.bpaf_exact.specs.Pieces.{are_all_apart, LinePiece, no_roles, either, others, Roles, Owns}
-use Rattle.bpaf_exact.specs.ProgramForm.{before_commands, program_command, program_dressed}
+use Rattle.bpaf_exact.specs.Pieces.{Cells, Cut}
+use Rattle.bpaf_exact.specs.ProgramForm.{OptionalCommands, program_optional, before_commands}
+use Rattle.bpaf_exact.specs.ProgramForm.{program_command, program_dressed, product_reading, single}
 use Rattle.bpaf_exact.specs.ProgramForm.{program_choice, program_closed, product_roles, ProgramForm}
 use Rattle.bpaf_exact.specs.ProgramForm.{program_alone, program_field, program_value, whole_program}
-use Rattle.bpaf_exact.specs.ProgramForm.{choice_only, ChoiceValue, program_con, whole_value, single}
-use Rattle.bpaf_exact.specs.ProgramForm.{CellsValue, may_follow, no_program, program_if}
-use Rattle.bpaf_exact.specs.ProgramForm.{last_reading, CommandValue, program_both, alternative}
-use Rattle.bpaf_exact.specs.ProgramForm.{OptionalCommands, program_optional, completed, commands}
+use Rattle.bpaf_exact.specs.ProgramForm.{last_reading, CommandValue, program_both, choice_only}
+use Rattle.bpaf_exact.specs.ProgramForm.{ChoiceValue, program_con, whole_value, alternative}
+use Rattle.bpaf_exact.specs.ProgramForm.{CellsValue, may_follow, no_program, program_if, completed}
+use Rattle.bpaf_exact.specs.ProgramForm.{commands}
 use Rattle.bpaf_exact.specs.Says.{FieldThenSays, repeated_kind, FallbackSays, OptionalSays, BothSay}
-use Rattle.bpaf_exact.specs.Says.{RepeatSays, scope_said, EitherSays, AloneSays, AllOwn}
-use Rattle.bpaf_exact.specs.Says.{FieldsSay, FrontSays, form_kind, FormSays, LastSays, MadeSays}
-use Rattle.bpaf_exact.specs.Says.{SaidKind, of_kind, IsSaid, keyed}
-use Rattle.bpaf_exact.specs.Says.{FieldsSaid, RecordSays, OwnBy, Said}
-use Rattle.bpaf_exact.specs.Pieces.{Cells, Cut}
-use Rattle.bpaf_exact.specs.ProgramForm.{product_reading}
-use Rattle.bpaf_exact.proofs.OwnedKeys.{OwnsKeys, whole_owns}
-use Rattle.bpaf_exact.specs.Flat.{Closure, Groups, gap_of, LastOf, front, back, keys, Gap}
+use Rattle.bpaf_exact.specs.Says.{RepeatSays, scope_said, EitherSays, FieldsSaid, RecordSays, keyed}
+use Rattle.bpaf_exact.specs.Says.{AloneSays, FieldsSay, FrontSays, form_kind, FormSays, LastSays}
+use Rattle.bpaf_exact.specs.Says.{MadeSays, SaidKind, of_kind, AllOwn, IsSaid, OwnBy, Said}
+use Rattle.bpaf_exact.proofs.OwnedKeys.{whole_owns, OwnsKeys}
 use Rattle.bpaf_exact.specs.{ProgramForm.complete, ProgramForm.product, Pieces.mine, Says.Says}
 
 -- where a test holds

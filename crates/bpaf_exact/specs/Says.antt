@@ -1,16 +1,14 @@
 -- What values of a field, a record and a program say of a line's pieces; values that look alike.
 use Rattle.std.specs.Prelude.{Option, filter, false, Bool, true, List, ◌++◌, Some, None, ◌≡◌, ◌∷◌}
-use Rattle.std.specs.{Prelude.map, Prelude.not, Prelude.[], Prelude.ℕ, List.Contains}
+use Rattle.std.specs.{List.Contains, Prelude.map, Prelude.not, Prelude.[], Prelude.ℕ}
 use Rattle.bpaf_base.specs.{declared.arg.Arg.Arg, Items.item_text}
 use Rattle.bpaf_doc.specs.Names.{Names}
 use Rattle.bpaf_exact.specs.Pieces.{stands_behind, is_key_of_any, LinePiece, is_own, others, Roles}
 use Rattle.bpaf_exact.specs.Pieces.{Cells, mine, Owns, One, Two, Cut}
-use Rattle.bpaf_exact.specs.Flat.{FieldKind, repeated, Closure, ByName, Own}
-use Rattle.bpaf_exact.specs.ProgramForm.{ProgramForm, alternative, no_program, product}
-use Rattle.bpaf_exact.specs.ProgramForm.{CellsValue, FieldThen, complete}
-use Rattle.bpaf_exact.specs.ProgramForm.{before_commands}
-use Rattle.bpaf_exact.specs.ProgramForm.{commands, single}
-use Rattle.bpaf_exact.specs.Flat.{IsLastOf, Groups, front, back}
+use Rattle.bpaf_exact.specs.Flat.{FieldKind, repeated, IsLastOf, Closure, ByName, Groups, front}
+use Rattle.bpaf_exact.specs.Flat.{back, Own}
+use Rattle.bpaf_exact.specs.ProgramForm.{before_commands, ProgramForm, alternative, no_program}
+use Rattle.bpaf_exact.specs.ProgramForm.{CellsValue, FieldThen, complete, commands, product, single}
 
 -- The pieces of a field's own.
 

@@ -1,51 +1,48 @@
 -- The parsers of a program, and their fields, are known where what they are made of is.
-use Rattle.std.proofs.Common.{IsUtf8, Result, Option, false, List, refl, true, Bool, Some, All}
-use Rattle.std.proofs.Common.{ap₂, ◌∙◌, ◌≡◌, ap, ℕ, arith}
+use Rattle.std.proofs.Common.{IsUtf8, Result, Option, false, arith, List, refl, true, Bool, Some, ℕ}
+use Rattle.std.proofs.Common.{All, ap₂, ◌∙◌, ◌≡◌, Err, inl, inr, ap, Ok}
 use Rattle.bpaf_doc.specs.{declared.doc.Piece.Piece, Shape.Shape, Names.Names}
 use Rattle.bpaf_words.specs.{Arguments.Given, Line.ShortNames}
 use Rattle.bpaf_text.specs.Named.{KeyWithValue, key_named, Named}
 use Rattle.bpaf_line.specs.declared.failure.ParseFailure.{ParseFailure}
 use Rattle.bpaf_laws.specs.Combinators.{FallbackOutcome, ManyOutcome, TurnOutcome, MapOutcome}
 use Rattle.bpaf_laws.specs.Laws.{joined_shorts, of_arguments, no_shorts, of_flags}
-use Rattle.bpaf_laws.specs.{Product.ProductOutcome, Product.BothOutcome, Combinators.GivesClone}
-use Rattle.bpaf_laws.specs.{Leaves.ArgumentOutcome, Leaves.FlagOutcome, Choice.ChoiceOutcome}
-use Rattle.bpaf_laws.specs.{Command.CommandPart, Command.named_only, Reading.Outcome}
-use Rattle.bpaf_laws.proofs.Keeping.{fallback_kept, lawful_as, names_want}
+use Rattle.bpaf_laws.specs.{Product.ProductOutcome, Combinators.GivesClone, Leaves.ArgumentOutcome}
+use Rattle.bpaf_laws.specs.{Choice.ChoiceOutcome, Product.BothOutcome, Command.CommandPart}
+use Rattle.bpaf_laws.specs.{Leaves.FlagOutcome, Command.named_only, Reading.Readings, Laws.Lawful}
+use Rattle.bpaf_laws.specs.{Reading.Outcome}
+use Rattle.bpaf_laws.proofs.Keeping.{fallback_kept, names_want, lawful_as}
 use Rattle.bpaf_laws.proofs.CombinatorLaws.{fallback_lawful, many_lawful, map_lawful}
-use Rattle.bpaf_laws.proofs.{CombinatorLaws.optional_lawful, ChoiceLaws.choice_lawful}
-use Rattle.bpaf_laws.proofs.ProductLaws.{both_lawful, product_lawful}
-use Rattle.bpaf_laws.proofs.{ArgumentLaws.argument_lawful, LeafLaws.flag_lawful}
-use Rattle.bpaf_laws.specs.{Laws.Lawful, Reading.Readings}
-use Rattle.bpaf.specs.Asked.{IfShown, RunShows, Showing}
-use Rattle.bpaf.specs.{AdjacentLaws.either_lawful, Ending.run_ending}
-use Rattle.bpaf.specs.Positional.{positional_lawful}
-use Rattle.bpaf.proofs.Asked.{answer_shows, argument_hands_on, asked_at_also, both_hands_on}
-use Rattle.bpaf.proofs.Asked.{default_hands_on, flag_hands_on, hands_also, many_hands_on}
-use Rattle.bpaf.proofs.Asked.{optional_hands_on, positional_hands_on, product_hands_on}
-use Rattle.bpaf.proofs.Asked.{words_also, IsAlsoShown}
-use Rattle.bpaf.proofs.HandsOn.{behind_also, choice_hands_on, command_hands_on}
-use Rattle.bpaf_program.specs.KnownParser.{IsPageOf, any_places, any_shape, inner_pages}
-use Rattle.std.proofs.Common.{Err, Ok, inl, inr}
+use Rattle.bpaf_laws.proofs.{CombinatorLaws.optional_lawful, ArgumentLaws.argument_lawful}
+use Rattle.bpaf_laws.proofs.{ChoiceLaws.choice_lawful, LeafLaws.flag_lawful}
+use Rattle.bpaf_laws.proofs.ProductLaws.{product_lawful, both_lawful}
+use Rattle.bpaf.specs.Asked.{RunShows, IfShown, Showing}
+use Rattle.bpaf.specs.{declared.leaves.positional.Position.Position, Command.EitherCommandOutcome}
+use Rattle.bpaf.specs.{AdjacentLaws.either_lawful, Ending.run_ending, Run.known_names, Info.RunInfo}
+use Rattle.bpaf.specs.{Info.plain_info, Ending.EndsRun, Run.RunsWords}
+use Rattle.bpaf.specs.Positional.{positional_lawful, PositionalOutcome}
+use Rattle.bpaf.proofs.Asked.{positional_hands_on, argument_hands_on, optional_hands_on, hands_also}
+use Rattle.bpaf.proofs.Asked.{default_hands_on, product_hands_on, asked_at_also, both_hands_on}
+use Rattle.bpaf.proofs.Asked.{flag_hands_on, many_hands_on, answer_shows, IsAlsoShown, words_also}
+use Rattle.bpaf.proofs.HandsOn.{command_hands_on, choice_hands_on, behind_also}
+use Rattle.bpaf_program.specs.KnownParser.{AreKnownFields, known_optional, IsKnownParser, any_shape}
+use Rattle.bpaf_program.specs.KnownParser.{program_names, known_command, known_default, inner_pages}
+use Rattle.bpaf_program.specs.KnownParser.{shown_shorts, known_switch, any_places, IsExactFor}
+use Rattle.bpaf_program.specs.KnownParser.{known_many, known_con, known_map, IsPageOf}
 use Rattle.std.specs.Result.{IfErr}
 use Rattle.bpaf_line.specs.declared.failure.ParseFailure.TheVariants as failure
 use Rattle.bpaf_core.specs.declared.commands.ParseCommand.{ParseCommand}
-use Rattle.bpaf.specs.{declared.leaves.positional.Position.Position, Run.known_names, Run.RunsWords}
-use Rattle.bpaf.specs.{Info.plain_info, Info.RunInfo, Command.EitherCommandOutcome, Ending.EndsRun}
-use Rattle.bpaf.specs.Positional.{PositionalOutcome}
-use Rattle.bpaf_exact.proofs.ProgramForm.{program_both_law, program_con_law, narrower_form, no_more}
 use Rattle.bpaf_exact.proofs.ProgramForm.{program_choice_law, program_alone_law, program_field_law}
+use Rattle.bpaf_exact.proofs.ProgramForm.{program_both_law, program_con_law, narrower_form, no_more}
 use Rattle.bpaf_exact.proofs.ProgramForm.{AllowsNoMore, fallback_law, optional_law, many_law}
 use Rattle.bpaf_exact.proofs.{Leaves.argument_field_law, Leaves.flag_field_law, ProgramForm.map_law}
 use Rattle.bpaf_exact.specs.ProgramForm.{is_program}
-use Rattle.bpaf_record.specs.Grammar.{program_form, argument, Grammar, choice, alone, both, word}
-use Rattle.bpaf_record.specs.Grammar.{FieldsGrammar}
+use Rattle.bpaf_record.specs.Grammar.{FieldsGrammar, program_form, argument, Grammar, choice, alone}
+use Rattle.bpaf_record.specs.Grammar.{both, word}
 use Rattle.bpaf_record.proofs.Running.{answers_as_program}
 use Rattle.bpaf_record.specs.Commands.{plain_command_law, positional_law}
 use Rattle.bpaf_record.specs.Record.{AnswersAsProgram}
-use Rattle.bpaf_program.specs.KnownParser.{AreKnownFields, known_optional, IsKnownParser, known_con}
-use Rattle.bpaf_program.specs.KnownParser.{program_names, known_command, known_default, IsExactFor}
-use Rattle.bpaf_program.specs.KnownParser.{shown_shorts, known_switch, known_many, known_map}
-use Rattle.bpaf_program.specs.{KnownParser.IsValueBy, KnownParser.IsKept, Fields.IsPlainCommand}
+use Rattle.bpaf_program.specs.{KnownParser.IsValueBy, Fields.IsPlainCommand, KnownParser.IsKept}
 
 -- the laws, where it isn't told which places are read
 by_laws : {T : Type 0} {outcome : Outcome T} {reads : Readings T} → Lawful T outcome reads

@@ -3,7 +3,7 @@
 use Rattle.std.specs.Prelude.{◌≡◌, Bool, true, false, ℕ, List, Option, Some, None}
 use Rattle.bpaf_doc.specs.{declared.doc.Piece.Piece, Print.TextPieces, Names.Names, Shape.Shape}
 use Rattle.bpaf_text.specs.declared.params.ParseFlag.{ParseFlag}
-use Rattle.bpaf_text.specs.Named.{KeyWithValue, key_named, with_help}
+use Rattle.bpaf_text.specs.Named.{KeyWithValue, Named, key_named, with_help}
 use Rattle.bpaf_laws.specs.Leaves.{FlagReads, flag_shape}
 use Rattle.bpaf_laws.specs.{Command.named_only, Reading.Readings}
 use Rattle.bpaf_core.specs.declared.commands.ParseCommand.{ParseCommand}
@@ -32,6 +32,11 @@ NamedSwitchReads names = FlagReads Bool IsKept (key_named names) true (Some fals
 -- what it shows with this help
 abbrev pub switch_shape : Names → List Piece → Shape
 switch_shape names help = flag_shape (with_help (key_named names) help) (Some false)
+
+-- a key with these names, and a help of this text
+abbrev pub IsKeyWithHelp : (names : Names) (text : List ℕ) → Named → Type 0
+IsKeyWithHelp names text key =
+    (help : List Piece) × TextPieces text help × (key ≡ with_help (key_named names) help)
 
 -- a switch with these names, and this help of this text
 pub record IsSwitch (names : Names) (text : List ℕ) (help : List Piece) (switch : ParseFlag Bool)

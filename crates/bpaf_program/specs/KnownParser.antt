@@ -1,22 +1,21 @@
 -- What is known of the parsers that a function of a program makes or is handed: their fields,
 -- their values, and of what they are made.
-use Rattle.std.specs.Prelude.{◌≡◌, ℕ, List, string_bytes, String as StringIn, true, IfOk, []}
-use Rattle.std.specs.Prelude.{Result, Bool, false, Option, Some}
+use Rattle.std.specs.Prelude.{String as StringIn, string_bytes, Result, Option, false, List, true}
+use Rattle.std.specs.Prelude.{IfOk, Bool, Some, ◌≡◌, [], ℕ}
 use Rattle.std.specs.{declared.alloc.Global.Global, Global.Vec}
-use Rattle.bpaf_words.specs.{Arguments.Given, Line.Known, Line.ShortNames}
+use Rattle.bpaf_words.specs.{Arguments.Given, Line.ShortNames, Line.Known}
 use Rattle.bpaf_line.specs.declared.failure.ParseFailure.{ParseFailure}
 use Rattle.bpaf_doc.specs.{declared.doc.Piece.Piece, Shape.Shape}
-use Rattle.bpaf_laws.specs.Laws.{joined_shorts, no_shorts, of_arguments, of_flags, Lawful}
-use Rattle.bpaf_laws.specs.{Reading.Outcome, Reading.Readings, Command.named_only}
-use Rattle.bpaf.specs.{Info.plain_info, Info.RunInfo, Run.known_names}
-use Rattle.bpaf.specs.Asked.{BehindWord, HandsOn, OneShows, RunShows, Showing, WordsShow}
-use Rattle.bpaf.specs.Asked.{nothing_shown}
-use Rattle.bpaf_exact.specs.Flat.{Closure, map_closure, Variables, list_closure}
+use Rattle.bpaf_laws.specs.Laws.{joined_shorts, of_arguments, no_shorts, of_flags, Lawful}
+use Rattle.bpaf_laws.specs.{Command.named_only, Reading.Readings, Reading.Outcome}
+use Rattle.bpaf.specs.{Info.plain_info, Run.known_names, Info.RunInfo}
+use Rattle.bpaf.specs.Asked.{nothing_shown, BehindWord, WordsShow, OneShows, RunShows, HandsOn}
+use Rattle.bpaf.specs.Asked.{Showing}
+use Rattle.bpaf_exact.specs.Flat.{list_closure, map_closure, Variables, Closure}
 use Rattle.bpaf_exact.specs.ProgramForm.{FormLaw}
-use Rattle.bpaf_record.specs.Grammar.{Grammar, alone, argument, both, choice, closed, command}
-use Rattle.bpaf_record.specs.Grammar.{FieldsGrammar, GrammarOf}
-use Rattle.bpaf_record.specs.Grammar.{command_words, fallback, flag, keys_of, last, optional}
-use Rattle.bpaf_record.specs.Grammar.{product, program_form, repeat}
+use Rattle.bpaf_record.specs.Grammar.{FieldsGrammar, command_words, program_form, GrammarOf, choice}
+use Rattle.bpaf_record.specs.Grammar.{argument, fallback, optional, Grammar, command, keys_of, both}
+use Rattle.bpaf_record.specs.Grammar.{product, closed, repeat, alone, flag, last}
 use Rattle.bpaf_record.specs.Record.{IsProgramValueOf, IsValueOrWant}
 use Rattle.bpaf_doc.specs.Names.{Names}
 use Rattle.bpaf_text.specs.Named.{key_named}

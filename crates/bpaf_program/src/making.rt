@@ -1,7 +1,7 @@
 //! What the parser of a program with commands is made of: keys by a letter and a name, and commands
 //! without help or texts of their own.
 ghost use Rattle.std.specs.Prelude.{◌≡◌, IfOk, [], ◌∷◌};
-ghost use Rattle.bpaf_program.specs.Fields.{IsPlainCommand};
+ghost use Rattle.bpaf_program.specs.Fields.{IsKeyWithHelp, IsPlainCommand};
 ghost use Rattle.bpaf_text.specs.Named.{key_named};
 
 use bpaf::parsers::ParseCommand;
@@ -20,6 +20,24 @@ pub fn key(alloc: Global, letter: char, name: &str) -> Result<NamedArg, AllocErr
         ≡ key_named (record { shorts = letter ∷ []; longs = name.now ∷ [] })) }
 {
     short(alloc, letter)?.long(name)
+}
+
+/// The same with a help of this text, as `key(alloc, letter, name)?.help_str(alloc, help)`; refused
+/// only for want of memory.
+///
+/// ```text
+/// key_with_help(alloc, 'v', "verbose", "Print more")?.switch()
+/// ```
+pub fn key_with_help(
+    alloc: Global,
+    letter: char,
+    name: &str,
+    help: &str,
+) -> Result<NamedArg, AllocError>
+    ensures { IfOk result (IsKeyWithHelp
+        (record { shorts = letter ∷ []; longs = name.now ∷ [] }) help.now) }
+{
+    key(alloc, letter, name)?.help_str(alloc, help)
 }
 
 /// The command of this name over a parser, as `parser.to_options(alloc)?.command(name)`; refused

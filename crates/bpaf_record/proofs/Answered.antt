@@ -1,23 +1,29 @@
 -- What an answer says by the words: of one field, of those in front of commands, of a command, and
 -- of the words behind `--`.
 use Rattle.std.proofs.Common.{slice_index_or, slice_index, true≢false, length, IsUtf8, Option, zero}
-use Rattle.std.proofs.Common.{◌++◌, None, Some, IfOk, Bool, true, List, ◌≡◌, ◌≢◌, suc, ◌∷◌, ◌+◌, []}
-use Rattle.std.proofs.Common.{IsSome, Result, ⊎_elim, false, codes, subst, arith, refl, cond, ◌==◌}
-use Rattle.std.proofs.Common.{map, sym, ◌∙◌, All, not, ◌<◌, ◌⊎◌, inl, inr, ap, ℕ}
-use Rattle.std.proofs.lemmas.List.Elements.{Contains-append_left, All-contains_itself, All-contains}
+use Rattle.std.proofs.Common.{IsSome, Result, ⊎_elim, false, codes, subst, arith, ◌++◌, None, Some}
+use Rattle.std.proofs.Common.{IfOk, Bool, true, List, refl, cond, ◌==◌, ◌&&◌, ◌≡◌, ◌≢◌, suc, ◌∷◌, ℕ}
+use Rattle.std.proofs.Common.{◌+◌, map, sym, ◌∙◌, All, not, ◌<◌, ◌⊎◌, inl, inr, ap₂, [], ap}
 use Rattle.std.proofs.lemmas.List.Elements.{Contains-append_right, Contains-append_cases, All-take}
+use Rattle.std.proofs.lemmas.List.Elements.{Contains-append_left, All-contains_itself, All-contains}
 use Rattle.std.proofs.lemmas.List.Elements.{recursion_from_All, Contains-get_or, filter_passes}
 use Rattle.std.proofs.lemmas.List.Sums.{AllPass-from_list_all, count_by_more_yes, sum_by-take-le}
-use Rattle.std.proofs.{lemmas.Bool.or_cases, lemmas.Bool.not-true, lemmas.List.Elements.All-filter}
-use Rattle.std.proofs.{lemmas.List.Sums.length-filter, lemmas.Str.encode_ascii}
-use Rattle.std.specs.List.{position_or_len, AllByRecursion, Contains, list_all, AllZip, filter}
+use Rattle.std.proofs.{lemmas.List.Elements.All-filter, lemmas.List.Sums.length-filter}
+use Rattle.std.proofs.{lemmas.Str.encode_ascii, lemmas.Bool.or_cases, lemmas.Bool.not-true}
+use Rattle.std.specs.List.{position_or_len, AllByRecursion, Contains, list_all, list_any, AllZip}
+use Rattle.std.specs.List.{filter}
 use Rattle.std.specs.{Option.option_to_list, Char.IsAsciiDigit, Prelude.flat_map}
 use Rattle.bpaf_base.specs.declared.arg.Arg.TheVariants.{PosWord, Short, Long}
 use Rattle.bpaf_base.specs.Items.{is_text_among, is_key_of, item_text, is_among}
 use Rattle.bpaf_base.specs.declared.arg.Arg.{Arg}
 use Rattle.bpaf_doc.specs.Names.{Names}
-use Rattle.bpaf_words.specs.Line.{IsNumberWord, HasNoMarker, HasNoEquals, dash_char, SpellAll, long}
-use Rattle.bpaf_words.specs.Line.{by_dash, Spells, Known, Items, short}
+use Rattle.bpaf_words.specs.Line.{IsNumberWord, SpellsJoined, HasNoMarker, HasNoEquals, argument_of}
+use Rattle.bpaf_words.specs.Line.{ShortNames, dash_char, IsKnownAs, SpellAll, argument, flags_of}
+use Rattle.bpaf_words.specs.Line.{by_dash, Spells, joined, Known, Items, short, flags, long}
+use Rattle.std.specs.Prelude.{encode_utf8_all}
+use Rattle.std.specs.Char.{is_ascii}
+use Rattle.std.proofs.lemmas.Bool.{and_parts, ltb-true}
+use Rattle.std.proofs.lemmas.List.Folds.{list_any-append}
 use Rattle.bpaf_words.specs.Arguments.{Given}
 use Rattle.bpaf_words.proofs.OneSpelling.{one_spelling}
 use Rattle.bpaf_line.specs.{declared.failure.ParseFailure.ParseFailure, Situation.Context}
@@ -32,18 +38,15 @@ use Rattle.bpaf_exact.proofs.{Names.of_front_one, Places.test_named}
 use Rattle.bpaf_exact.specs.Pieces.{takes_argument, stands_behind, empty_stays, other_stays, others}
 use Rattle.bpaf_exact.specs.Pieces.{is_own_role, takes_flag, LinePiece, is_value, no_cells, IsNamed}
 use Rattle.bpaf_exact.specs.Pieces.{Roles, Cells, Takes, Owns, Cut, One, Two}
-use Rattle.bpaf_exact.specs.ProgramForm.{opens_later, line_cells, Opens}
+use Rattle.bpaf_exact.specs.ProgramForm.{product_roles, whole_program, opens_later, line_cells}
+use Rattle.bpaf_exact.specs.ProgramForm.{opens_here, flag_roles, WordValue, Opens}
 use Rattle.bpaf_exact.specs.Says.{says_variable, says_present, ArgumentSays, OptionalSays, FlagSays}
-use Rattle.bpaf_exact.specs.Says.{FallbackSays, says_absent, first_item, RepeatSays, says_some}
-use Rattle.bpaf_exact.specs.Says.{says_none, WordSays, CutSays, keyed, Said}
-use Rattle.bpaf_exact.specs.ProgramForm.{opens_here, flag_roles, WordValue}
+use Rattle.bpaf_exact.specs.Says.{FallbackSays, says_absent, first_item, RepeatSays, scope_said}
+use Rattle.bpaf_exact.specs.Says.{says_some, says_none, WordSays, CutSays, keyed, Said}
 use Rattle.bpaf_exact.specs.Flat.{OneWord, front, back}
-use Rattle.bpaf_record.specs.Grammar.{cells_say, ends_in_commands, Grammar, program_form, says}
-use Rattle.bpaf_exact.specs.ProgramForm.{product_roles, whole_program}
-use Rattle.bpaf_exact.specs.Says.{scope_said}
-use Rattle.bpaf_record.specs.Record.{IsSpelledByAny, IsSpelledItem, TellsOfWords, WasSpelled}
+use Rattle.bpaf_record.specs.Grammar.{ends_in_commands, program_form, cells_say, Grammar, says}
+use Rattle.bpaf_record.specs.Record.{IsSpelledItem, TellsOfWords, WasSpelled, WasCalled}
 use Rattle.bpaf_record.proofs.Running.{each_present, cut_kept, on_line, present}
-use Rattle.bpaf_record.specs.Record.{WasCalled}
 
 module _ (known : Known) where
   -- one of these words spells a part, whose items are among those of all
@@ -166,15 +169,15 @@ module _ (names : Names) where
         map_none [] e = refl
         map_none (p ∷ ps) e = absurd cc
 
-    -- and where one of them spells it, whatever names are known, there is such a piece.
-    pub spelled_has_piece : All IsUtf8 given.words → IsSpelledByAny known.numbers names given.words
+    -- and where one of them spells it there is such a piece.
+    pub spelled_has_piece : All IsUtf8 given.words → WasSpelled known names given.words
         → keyed (names ∷ []) os ≢ []
     spelled_has_piece texts spelled none =
         some_kept (is_key_of names) (present (line_cells context))
-        (spelled_item (is_key_of names) known given context on texts (spelled known.names))
+        (spelled_item (is_key_of names) known given context on texts spelled)
         (keys_on ∙ ap (map first_item) none)
 
--- The word of a key by itself spells it, whatever names are known.
+-- A word that spells a key: the key by itself, whatever names are known, or joined letters.
 
 -- a long name that stands by itself: not empty, and without `=`
 abbrev pub is_long_name : List ℕ → Bool
@@ -200,16 +203,16 @@ long_is_no_number numbers name (on, number) =
     omega (arith, digit.0)
 
 -- `--name` among the words before the first `--` spells the key of that name
-pub long_is_spelled : (numbers : Bool) (names : Names) (words : List (List ℕ)) (name : List ℕ)
+pub long_is_spelled : (known : Known) (names : Names) (words : List (List ℕ)) (name : List ℕ)
     → Contains (words_before words) (codes "--" ++ name) → is_long_name name ≡ true
-    → is_text_among names.longs name ≡ true → IsSpelledByAny numbers names words
-long_is_spelled numbers names words name there is key known = record {
+    → is_text_among names.longs name ≡ true → WasSpelled known names words
+long_is_spelled known names words name there is key = record {
   word = codes "--" ++ name;
   before = there;
   spells = record {
     items = Long name false (codes "--" ++ name) ∷ [];
     spells = by_dash (Items (Long name false (codes "--" ++ name) ∷ []))
-        (long_is_no_number numbers name)
+        (long_is_no_number known.numbers name)
         (long name refl (is_some_name name is) (has_no_equals name is));
     key = Long name false (codes "--" ++ name);
     among = (0, omega arith, refl);
@@ -218,10 +221,10 @@ long_is_spelled numbers names words name there is key known = record {
 }
 
 -- so does `-c` of an ASCII character, where no number is a word
-pub short_is_spelled : (numbers : Bool) → numbers ≡ false → (names : Names)
+pub short_is_spelled : (known : Known) → known.numbers ≡ false → (names : Names)
     (words : List (List ℕ)) (c : ℕ) → Contains (words_before words) (codes "-" ++ c ∷ []) → c < 128
-    → c ≢ dash_char → is_among names.shorts c ≡ true → IsSpelledByAny numbers names words
-short_is_spelled numbers off names words c there ascii is key known = record {
+    → c ≢ dash_char → is_among names.shorts c ≡ true → WasSpelled known names words
+short_is_spelled known off names words c there ascii is key = record {
   word = codes "-" ++ c ∷ [];
   before = there;
   spells = record {
@@ -234,6 +237,120 @@ short_is_spelled numbers off names words c there ascii is key known = record {
     is_key = key;
   };
 }
+
+-- letters that may be joined: ASCII, and none is `=`
+abbrev pub are_letters : List ℕ → Bool
+are_letters letters = list_all (λ c. is_ascii c && not (c == 61)) letters
+
+-- they are flags, and no arguments
+abbrev pub are_flags : ShortNames → List ℕ → Bool
+are_flags names letters =
+    list_all (λ c. is_among names.flags c && not (is_among names.arguments c)) letters
+
+-- letters are the bytes that spell them
+letters_encoded : (letters : List ℕ) → are_letters letters ≡ true → encode_utf8_all letters ≡ letters
+letters_encoded [] are = refl
+letters_encoded (c ∷ cs) are =
+    let each = and_parts (is_ascii c && not (c == 61)) (are_letters cs) are in
+    let here = and_parts (is_ascii c) _ each.0 in
+    ap₂ ◌++◌ (encode_ascii c (ltb-true c 128 here.0)) (letters_encoded cs each.1)
+
+-- none of those is `=`
+no_equals : (letters : List ℕ) → are_letters letters ≡ true → HasNoEquals (encode_utf8_all letters)
+no_equals letters are i within same =
+    grind (arith, AllPass-from_list_all, letters_encoded letters are)
+
+-- each is known as a flag
+known_flags : (names : ShortNames) (letters : List ℕ) → are_flags names letters ≡ true
+    → All (IsKnownAs true false names) letters
+known_flags names letters are = grind (arith, AllPass-from_list_all)
+
+-- a key that one of the letters names is among the items of the flags
+flag_among : (names : Names) (text letters : List ℕ)
+    → list_any (λ c. is_among names.shorts c) letters ≡ true
+    → HasPassing (is_key_of names) (flags_of text letters)
+flag_among names text [] one = absurd cc
+flag_among names text (c ∷ cs) one = ⊎_elim
+    (λ (here : is_among names.shorts c ≡ true). (Short c false text, (0, omega arith, refl), here))
+    (λ (behind : list_any (λ c. is_among names.shorts c) cs ≡ true).
+    let one = flag_among names [] cs behind in
+    (one.0, Contains-append_right (Short c false text ∷ []) (flags_of [] cs) one.0 one.1, one.2))
+    (or_cases (is_among names.shorts c) _ one)
+
+-- so is that of the argument behind them
+argument_among : (names : Names) (text : List ℕ) (c : ℕ) (rest : List ℕ)
+    → list_any (λ c. is_among names.shorts c) (c ∷ []) ≡ true
+    → HasPassing (is_key_of names) (argument_of text c rest)
+argument_among names text c [] one = (
+  Short c false text,
+  (0, omega arith, refl),
+  ⊎_elim (λ e. e)
+      (λ (no : false ≡ true). cc) (or_cases (is_among names.shorts c) false one),
+)
+argument_among names text c (b ∷ rest) one = (
+  Short c true text,
+  (0, omega arith, refl),
+  ⊎_elim
+      (λ e. e) (λ (no : false ≡ true). cc) (or_cases (is_among names.shorts c) false one),
+)
+
+module _ (known : Known) (plain : known.numbers ≡ false) (names : Names) (words : List (List ℕ))
+  where
+    -- where a word's letters spell items, one of which is a key with one of the names, it is spelled
+    joined_spells : (c d : ℕ) (cs : List ℕ) (items : List Arg)
+        → Contains (words_before words) (codes "-" ++ c ∷ d ∷ cs) → c ≢ dash_char
+        → are_letters (c ∷ d ∷ cs) ≡ true
+        → SpellsJoined known.names (codes "-" ++ c ∷ d ∷ cs) (c ∷ d ∷ cs) (Items items)
+        → HasPassing (is_key_of names) items → WasSpelled known names words
+    joined_spells c d cs items there dash letters spells key = record {
+      word = codes "-" ++ c ∷ d ∷ cs;
+      before = there;
+      spells = record {
+        items = items;
+        spells = by_dash (Items items)
+            (λ number. let wrong : true ≡ false = sym number.0 ∙ plain in cc)
+            (joined c d cs (Items items)
+            (ap (λ bytes. codes "-" ++ bytes) (sym (letters_encoded (c ∷ d ∷ cs) letters))) dash
+            (no_equals (d ∷ cs) (and_parts (is_ascii c && not (c == 61)) _ letters).1) spells);
+        key = key.0;
+        among = key.1;
+        is_key = key.2;
+      };
+    }
+
+    -- Joined flags spell each key that one of the letters names,
+    pub flags_are_spelled : (c d : ℕ) (cs : List ℕ)
+        → Contains (words_before words) (codes "-" ++ c ∷ d ∷ cs) → c ≢ dash_char
+        → are_letters (c ∷ d ∷ cs) ≡ true → are_flags known.names (c ∷ d ∷ cs) ≡ true
+        → list_any (λ c. is_among names.shorts c) (c ∷ d ∷ cs) ≡ true → WasSpelled known names words
+    flags_are_spelled c d cs there dash letters are one =
+        joined_spells c d cs (flags_of (codes "-" ++ c ∷ d ∷ cs) (c ∷ d ∷ cs)) there dash letters
+        (flags (known_flags known.names (c ∷ d ∷ cs) are)) (flag_among names _ (c ∷ d ∷ cs) one)
+
+    -- and so do flags and then an argument with its value, as `-vn1`, or one without a flag, as `-n1`.
+    pub value_is_spelled : (first second : ℕ) (more before : List ℕ) (c : ℕ) (value : List ℕ)
+        → first ∷ second ∷ more ≡ before ++ c ∷ value
+        → Contains (words_before words) (codes "-" ++ first ∷ second ∷ more) → first ≢ dash_char
+        → are_letters (first ∷ second ∷ more) ≡ true → are_flags known.names before ≡ true
+        → is_among known.names.flags c ≡ false → is_among known.names.arguments c ≡ true
+        → list_any (λ c. is_among names.shorts c) (before ++ c ∷ []) ≡ true
+        → WasSpelled known names words
+    value_is_spelled first second more before c value cut there dash letters are no_flag takes one =
+        let text = codes "-" ++ first ∷ second ∷ more in
+        let own = flags_of text before in
+        let with_value = argument_of text c (encode_utf8_all value) in
+        joined_spells first second more (own ++ with_value) there dash letters
+        (argument before c value cut (known_flags known.names before are)
+        (record { as_flag = no_flag; as_argument = takes }))
+        (⊎_elim
+        (λ (here : list_any (λ c. is_among names.shorts c) before ≡ true).
+        let key = flag_among names text before here in
+        (key.0, Contains-append_left own with_value key.0 key.1, key.2))
+        (λ (behind : list_any (λ c. is_among names.shorts c) (c ∷ []) ≡ true).
+        let key = argument_among names text c (encode_utf8_all value) behind in
+        (key.0, Contains-append_right own with_value key.0 key.1, key.2))
+        (or_cases (list_any (λ c. is_among names.shorts c) before) _
+        (sym (list_any-append (λ c. is_among names.shorts c) before (c ∷ [])) ∙ one)))
 
 -- What an answer to words says of one field, by the words.
 
@@ -297,10 +414,10 @@ module _ {known : Known} {words : List (List ℕ)} {key : Names} {os : List Line
   repeat_spelled needs so values same some = grind (arith, key_spelled, repeat_needs)
 
 -- pieces are those of the line of words: those that begin with a key are its own, and where one of
--- the words before the first `--` spells the key, whatever names are known, there is one
+-- the words before the first `--` spells the key, there is one
 pub record AreOfLine (known : Known) (words : List (List ℕ)) (os : List LinePiece) : Type 0 where
   pub own : (key : Names) → OwnOf known words key (keyed (key ∷ []) os)
-  pub spelled : (key : Names) → All IsUtf8 words → IsSpelledByAny known.numbers key words
+  pub spelled : (key : Names) → All IsUtf8 words → WasSpelled known key words
       → keyed (key ∷ []) os ≢ []
 
 -- What a value says of the pieces of the line of words is told of these, by the names that a caller
@@ -322,7 +439,7 @@ told_of_line {T} {known} {g} {given} {v} told flat by is words same so =
       };
       spelled = λ key texts spelled. spelled_has_piece key known given line.context line.on_line _
           cut.cut_into cut.cut (subst (All IsUtf8) (sym same) texts)
-          (subst (λ ws. IsSpelledByAny known.numbers key ws) (sym same) spelled);
+          (subst (WasSpelled known key) (sym same) spelled);
     } in
     so cut.cut_into (subst (λ names. AreOfLine names words cut.cut_into) is own) cut.told
 
@@ -332,15 +449,15 @@ module _ {known : Known} {words : List (List ℕ)} {os : List LinePiece}
   pub of_line : {key : Names} → OwnOf known words key (keyed (key ∷ []) os)
   of_line {key} = line.own key
 
-  -- what follows where a word before the first `--` spells the key, whatever names are known
+  -- what follows where a word before the first `--` spells the key
   abbrev IfKeySpelled : Names → Type 0 → Type 0
   IfKeySpelled key A = (names : Names) → key ≡ names → All IsUtf8 words
-      → IsSpelledByAny known.numbers names words → A
+      → WasSpelled known names words → A
 
   -- A key that was spelled has a piece of its own,
   pub spelled_key : {key : Names} → IfKeySpelled key (keyed (key ∷ []) os ≢ [])
   spelled_key {key} names same texts spelled =
-      line.spelled key texts (subst (λ z. IsSpelledByAny known.numbers z words) (sym same) spelled)
+      line.spelled key texts (subst (λ z. WasSpelled known z words) (sym same) spelled)
 
   -- so its switch is true,
   pub spelled_switch : {key : Names} {present : Bool} {absent : Option Bool} {set : Option (List ℕ)}

@@ -1,32 +1,33 @@
 -- Of what each grammar owns and says: its keys are those with its names, and its values say so.
-use Rattle.std.proofs.Common.{Bool, false, true, not, ◌&&◌, ◌||◌, []}
+use Rattle.std.proofs.Common.{false, Bool, true, ◌&&◌, ◌||◌, not, []}
 use Rattle.std.proofs.lemmas.Bool.{and_parts}
 use Rattle.std.specs.Option.{is_none}
 use Rattle.bpaf_base.specs.Items.{is_key_of}
 use Rattle.bpaf_laws.specs.Combinators.{is_nil}
 use Rattle.bpaf.specs.Positional.{accepts}
 use Rattle.bpaf_exact.proofs.Leaves.{pure_says}
-use Rattle.bpaf_exact.proofs.OwnedKeys.{alone_owns, both_owns, choice_owns, closed_owns, con_owns}
-use Rattle.bpaf_exact.proofs.OwnedKeys.{default_owns, dressed_owns, field_owns, if_owns, key_owns}
-use Rattle.bpaf_exact.proofs.OwnedKeys.{none_owned, only_owns, optional_owns, OwnsKeys, repeat_owns}
+use Rattle.bpaf_exact.proofs.OwnedKeys.{optional_owns, default_owns, dressed_owns, choice_owns}
+use Rattle.bpaf_exact.proofs.OwnedKeys.{closed_owns, repeat_owns, alone_owns, field_owns, both_owns}
+use Rattle.bpaf_exact.proofs.OwnedKeys.{none_owned, only_owns, con_owns, key_owns, OwnsKeys}
+use Rattle.bpaf_exact.proofs.OwnedKeys.{if_owns}
 use Rattle.bpaf_exact.proofs.Places.{test_owns}
-use Rattle.bpaf_exact.proofs.ProgramSays.{alone_says, both_say, field_says, only_says}
-use Rattle.bpaf_exact.proofs.ProgramSays.{program_choice_says, program_closed_says, program_con_says}
+use Rattle.bpaf_exact.proofs.ProgramSays.{program_fallback_says, program_optional_says, alone_says}
 use Rattle.bpaf_exact.proofs.ProgramSays.{program_command_says, program_dressed_says, program_says}
-use Rattle.bpaf_exact.proofs.ProgramSays.{program_fallback_says, program_last_says}
-use Rattle.bpaf_exact.proofs.ProgramSays.{program_optional_says, program_repeat_says}
-use Rattle.bpaf_exact.proofs.Says.{argument_says, flag_says, word_by_says}
-use Rattle.bpaf_exact.specs.Flat.{FallbackValue, LastOf, OwnList, Variables}
-use Rattle.bpaf_exact.specs.Pieces.{Alone, WithNext}
-use Rattle.bpaf_exact.specs.ProgramForm.{are_plain, commands, CommandValue, is_program}
-use Rattle.bpaf_exact.specs.ProgramForm.{program_value}
+use Rattle.bpaf_exact.proofs.ProgramSays.{program_choice_says, program_closed_says, field_says}
+use Rattle.bpaf_exact.proofs.ProgramSays.{program_repeat_says, program_last_says, program_con_says}
+use Rattle.bpaf_exact.proofs.ProgramSays.{only_says, both_say}
+use Rattle.bpaf_exact.proofs.Says.{argument_says, word_by_says, flag_says}
+use Rattle.bpaf_exact.specs.Flat.{FallbackValue, Variables, OwnList, LastOf}
+use Rattle.bpaf_exact.specs.Pieces.{WithNext, Alone}
+use Rattle.bpaf_exact.specs.ProgramForm.{program_value, CommandValue, is_program, are_plain}
+use Rattle.bpaf_exact.specs.ProgramForm.{commands}
 use Rattle.bpaf_laws.specs.Command.{opening_words}
 use Rattle.bpaf_exact.specs.Says.{FieldsSay, IsSaid, Says}
-use Rattle.bpaf_record.specs.Grammar.{alone, argument, are_unusual, both, cells_say, choice, closed}
-use Rattle.bpaf_record.specs.Grammar.{command, command_words, dressed, ends_in_commands, fallback}
-use Rattle.bpaf_record.specs.Grammar.{FieldsGrammar, flag, Grammar, GrammarOf, kept, keys_of, last}
-use Rattle.bpaf_record.specs.Grammar.{only, optional, other, product, program_form, repeat, said_kind}
-use Rattle.bpaf_record.specs.Grammar.{says, scope_says, word}
+use Rattle.bpaf_record.specs.Grammar.{ends_in_commands, command_words, FieldsGrammar, program_form}
+use Rattle.bpaf_record.specs.Grammar.{are_unusual, scope_says, cells_say, GrammarOf, said_kind}
+use Rattle.bpaf_record.specs.Grammar.{argument, fallback, optional, command, dressed, Grammar, both}
+use Rattle.bpaf_record.specs.Grammar.{keys_of, product, choice, closed, repeat, alone, other, flag}
+use Rattle.bpaf_record.specs.Grammar.{kept, last, only, says, word}
 
 -- its own keys are those with its names
 pub grammar_owns : {fields : Bool} {T : Type 0} (g : GrammarOf fields T) (variables : Variables)

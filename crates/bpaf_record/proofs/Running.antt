@@ -12,7 +12,7 @@ use Rattle.std.specs.Option.{option_to_list}
 use Rattle.bpaf_base.specs.{declared.arg.Arg.TheVariants.PosWord, declared.arg.Arg.Arg}
 use Rattle.bpaf_doc.specs.{Names.Names, Shape.Shape}
 use Rattle.bpaf_words.specs.Line.{without_marker, HasNoMarker, with_marker, HasNoLine, SpellAll}
-use Rattle.bpaf_words.specs.{Line.IsLine, Line.Known, Arguments.Given}
+use Rattle.bpaf_words.specs.{Arguments.Given, Line.IsLine, Line.Known}
 use Rattle.bpaf_words.proofs.OneLine.{one_lines}
 use Rattle.bpaf_line.specs.Situation.{is_marker, beginning, Context, item_in}
 use Rattle.bpaf_line.specs.{declared.failure.ParseFailure.ParseFailure, Taking.IsContext}
@@ -26,11 +26,10 @@ use Rattle.bpaf_exact.proofs.Cuts.{cut_holds_together}
 use Rattle.bpaf_exact.specs.Pieces.{LinePiece, argument, is_value, at_end, passed, Cells, Roles}
 use Rattle.bpaf_exact.specs.ProgramForm.{IsAcceptedOrWant, IsSpelledLine, product_roles, is_spelled}
 use Rattle.bpaf_exact.specs.ProgramForm.{whole_program, program_value, ProgramForm, line_cells}
-use Rattle.bpaf_exact.specs.ProgramForm.{is_program, is_dashed, is_record, Accepted}
-use Rattle.bpaf_exact.specs.ProgramForm.{FormLaw}
+use Rattle.bpaf_exact.specs.ProgramForm.{is_program, is_dashed, is_record, Accepted, FormLaw}
 use Rattle.bpaf_exact.specs.Says.{first_item}
-use Rattle.bpaf_exact.specs.{Pieces.flag, Pieces.word, Pieces.Cut, Flat.first_cells}
-use Rattle.bpaf_record.specs.Grammar.{Grammar, keys_of, program_form}
+use Rattle.bpaf_exact.specs.{Flat.first_cells, Pieces.flag, Pieces.word, Pieces.Cut}
+use Rattle.bpaf_record.specs.Grammar.{program_form, Grammar, keys_of}
 use Rattle.bpaf_record.proofs.{GrammarSays.grammar_says_so, Surplus.has_no_surplus}
 use Rattle.bpaf_record.specs.Record.{is_whole_program, AnswersAsProgram, AnswersByFields, answer_of}
 use Rattle.bpaf_record.specs.Record.{is_flat_record, IsValueOrWant, TellsOfWords, PiecesOf}

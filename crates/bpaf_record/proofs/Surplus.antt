@@ -1,45 +1,41 @@
 -- The pieces of an accepted line have no occurrence and no word too many.
-use Rattle.std.proofs.Common.{arith, subst, false, Bool, List, length, refl, true, Some}
-use Rattle.std.proofs.Common.{None, not, sym, ◌&&◌, ◌++◌, ◌+◌, ◌||◌, ◌∙◌, ◌∷◌, ◌≡◌, ◌≤◌}
-use Rattle.std.proofs.Common.{true≢false, filter, Option, [], ap, ℕ}
-use Rattle.std.proofs.lemmas.Bool.{and_parts, or_left, or_right, not-true}
-use Rattle.std.proofs.lemmas.List.{Filters.length-filter_both, Folds.list_any-append}
+use Rattle.std.proofs.Common.{if◌then◌else◌, true≢false, length, filter, Option, arith, subst, Bool}
+use Rattle.std.proofs.Common.{false, List, refl, true, Some, None, ◌&&◌, ◌++◌, ◌||◌, not, sym, ◌+◌}
+use Rattle.std.proofs.Common.{◌∙◌, ◌∷◌, ◌≡◌, ◌≤◌, [], ap, ℕ}
+use Rattle.std.proofs.lemmas.Bool.{and_parts, or_right, not-true, or_left}
+use Rattle.std.proofs.lemmas.List.{Filters.length-filter_both, Folds.list_any-append, length-append}
+use Rattle.std.proofs.lemmas.List.{length-drop, length-take}
 use Rattle.std.proofs.lemmas.List.Elements.{filter-append}
-use Rattle.std.proofs.lemmas.List.{length-append, length-drop, length-take}
 use Rattle.std.specs.Option.{is_none}
 use Rattle.bpaf_base.specs.Items.{is_key_of}
 use Rattle.bpaf_doc.specs.Names.{Names}
 use Rattle.bpaf_laws.specs.Combinators.{is_nil}
-use Rattle.bpaf_exact.proofs.Names.{kept_twice, none_behind, others_both, others_none, others_unkeyed}
-use Rattle.bpaf_exact.proofs.Names.{cut_fit}
-use Rattle.bpaf_exact.proofs.OwnedKeys.{OwnsKeys, whole_owns}
+use Rattle.bpaf_exact.proofs.Names.{others_unkeyed, none_behind, others_both, others_none, cut_fit}
+use Rattle.bpaf_exact.proofs.Names.{kept_twice}
+use Rattle.bpaf_exact.proofs.OwnedKeys.{whole_owns, OwnsKeys}
 use Rattle.bpaf_exact.proofs.ProgramSays.{cut_says}
-use Rattle.bpaf_exact.specs.Flat.{both_reading, ByName, Closure, EachWord, FieldKind, FieldsReading}
-use Rattle.bpaf_exact.specs.Flat.{FallbackValue, Gap, Groups, keys, LastOf, left, OneWord, OwnList}
-use Rattle.bpaf_exact.specs.Flat.{is_behind, portion, repeated, Variables}
+use Rattle.bpaf_exact.specs.Flat.{FieldsReading, FallbackValue, both_reading, FieldKind, is_behind}
+use Rattle.bpaf_exact.specs.Flat.{Variables, EachWord, repeated, Closure, OneWord, OwnList, portion}
+use Rattle.bpaf_exact.specs.Flat.{ByName, Groups, LastOf, keys, left, Gap}
 use Rattle.std.specs.List.{before_first}
-use Rattle.std.proofs.Common.{if◌then◌else◌}
-use Rattle.bpaf_exact.specs.Pieces.{Cells, Cut, either, is_key_of_any, LinePiece, no_roles, others}
-use Rattle.bpaf_exact.specs.Pieces.{are_all_apart, Owns, Roles}
-use Rattle.bpaf_exact.specs.ProgramForm.{FieldThen}
-use Rattle.bpaf_exact.specs.ProgramForm.{choice_only, complete, completed, key_field, last_reading}
-use Rattle.bpaf_exact.specs.ProgramForm.{may_follow, product, product_reading, product_roles}
-use Rattle.bpaf_exact.specs.ProgramForm.{program_alone, program_both, program_choice, program_closed}
-use Rattle.bpaf_exact.specs.ProgramForm.{program_con, program_dressed, program_field, program_if}
-use Rattle.bpaf_exact.specs.ProgramForm.{program_optional, ProgramForm, single, whole_program}
-use Rattle.bpaf_exact.specs.ProgramForm.{commands, before_commands}
-use Rattle.bpaf_exact.specs.Says.{first_item}
-use Rattle.bpaf_exact.specs.Says.{form_kind, repeated_kind, words_after}
-use Rattle.bpaf_exact.specs.Says.{its_pieces, keyed, of_kind, of_rest, SaidKind}
-use Rattle.bpaf_exact.specs.Says.{unkeyed}
-use Rattle.bpaf_record.specs.Grammar.{alone, are_unusual, argument, both, choice, closed, command}
-use Rattle.bpaf_record.specs.Grammar.{command_words, dressed}
-use Rattle.bpaf_exact.specs.ProgramForm.{are_plain, CommandValue, is_program, program_value}
+use Rattle.bpaf_exact.specs.Pieces.{is_key_of_any, are_all_apart, LinePiece, no_roles, either, Owns}
+use Rattle.bpaf_exact.specs.Pieces.{others, Cells, Roles, Cut}
+use Rattle.bpaf_exact.specs.ProgramForm.{program_optional, product_reading, program_dressed, single}
+use Rattle.bpaf_exact.specs.ProgramForm.{before_commands, program_choice, program_closed, FieldThen}
+use Rattle.bpaf_exact.specs.ProgramForm.{product_roles, program_alone, program_field, whole_program}
+use Rattle.bpaf_exact.specs.ProgramForm.{program_value, last_reading, program_both, CommandValue}
+use Rattle.bpaf_exact.specs.ProgramForm.{choice_only, program_con, ProgramForm, may_follow, product}
+use Rattle.bpaf_exact.specs.ProgramForm.{program_if, is_program, completed, key_field, are_plain}
+use Rattle.bpaf_exact.specs.ProgramForm.{complete, commands}
+use Rattle.bpaf_exact.specs.Says.{repeated_kind, words_after, first_item, its_pieces, form_kind}
+use Rattle.bpaf_exact.specs.Says.{SaidKind, of_kind, of_rest, unkeyed, keyed}
+use Rattle.bpaf_record.specs.Grammar.{product as made, repeated_limit, command_words, FieldsGrammar}
+use Rattle.bpaf_record.specs.Grammar.{limit_of_both, HasNoSurplus, HasOneOfEach, program_form, both}
+use Rattle.bpaf_record.specs.Grammar.{are_unusual, word_limit, GrammarOf, said_kind, takes_one}
+use Rattle.bpaf_record.specs.Grammar.{argument, fallback, IsWithin, optional, command, dressed}
+use Rattle.bpaf_record.specs.Grammar.{Grammar, keys_of, choice, closed, repeat, alone, other, flag}
+use Rattle.bpaf_record.specs.Grammar.{kept, last, only, says, word}
 use Rattle.bpaf_laws.specs.Command.{opening_words}
-use Rattle.bpaf_record.specs.Grammar.{fallback, FieldsGrammar, flag, Grammar, GrammarOf, HasNoSurplus}
-use Rattle.bpaf_record.specs.Grammar.{HasOneOfEach, IsWithin, kept, keys_of, last, limit_of_both}
-use Rattle.bpaf_record.specs.Grammar.{only, optional, other, product as made, program_form, repeat}
-use Rattle.bpaf_record.specs.Grammar.{repeated_limit, said_kind, says, takes_one, word, word_limit}
 use Rattle.bpaf_record.proofs.GrammarSays.{grammar_owns, grammar_says}
 
 -- Occurrences.

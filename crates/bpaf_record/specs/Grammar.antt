@@ -1,30 +1,29 @@
 -- The grammar of programs: of which parsers they are made, and by which steps.
-use Rattle.std.specs.Prelude.{if◌then◌else◌, Option, false, Bool, true, List, ◌++◌, not, ◌∷◌, [], ℕ}
-use Rattle.std.specs.Prelude.{length, None, Some, zero, ◌&&◌, ◌+◌, ◌≡◌, ◌≤◌}
+use Rattle.std.specs.Prelude.{if◌then◌else◌, Option, length, false, Bool, true, List, ◌++◌, None, ℕ}
+use Rattle.std.specs.Prelude.{Some, zero, ◌&&◌, not, ◌∷◌, ◌+◌, ◌≡◌, ◌≤◌, []}
 use Rattle.bpaf_doc.specs.Names.{Names}
 use Rattle.bpaf_text.specs.Named.{Named as Key, KeyWithValue}
 use Rattle.bpaf_laws.specs.Choice.{ChoicesOutcome, ChoiceOutcome, Nested}
-use Rattle.bpaf_laws.specs.{Command.opening_words, Command.Called, Reading.Outcome}
+use Rattle.bpaf_laws.specs.{Command.opening_words, Reading.Outcome, Command.Called}
 use Rattle.bpaf_laws.specs.Reading.{first_set}
 use Rattle.bpaf.specs.{declared.leaves.positional.Position.Position, Positional.accepts}
 use Rattle.bpaf.specs.Info.{RunInfo}
 use Rattle.bpaf_exact.proofs.ProgramForm.{program_choice_law, choice_only_law}
-use Rattle.bpaf_exact.specs.Flat.{FallbackValue, Variables, repeated, OneWord, OwnList, Closure}
-use Rattle.bpaf_exact.specs.ProgramForm.{argument_field, program_choice, program_closed, flag_field}
-use Rattle.bpaf_exact.specs.ProgramForm.{choice_only, program_con, pure_field, no_program, word_by}
-use Rattle.bpaf_exact.specs.ProgramForm.{program_alone, program_field, program_both, ProgramForm}
-use Rattle.bpaf_exact.specs.ProgramForm.{program_optional, program_command, program_dressed}
-use Rattle.bpaf_exact.specs.ProgramForm.{program_if, EachAgrees, completed, FormLaw}
-use Rattle.bpaf_exact.specs.ProgramForm.{CellsValue, ChoiceValue, CommandValue, OptionalCommands}
-use Rattle.bpaf_exact.specs.ProgramForm.{product_roles, whole_program}
-use Rattle.bpaf_exact.specs.Flat.{ClosedValue}
-use Rattle.bpaf_exact.specs.Says.{AloneSays, ArgumentSays, BothSay, EitherSays, FallbackSays, FieldsSaid}
-use Rattle.bpaf_exact.specs.Says.{FieldThenSays, FlagSays, form_kind, LastSays, MadeSays, of_kind}
-use Rattle.bpaf_exact.specs.Says.{OptionalSays, RecordSays, repeated_kind, RepeatSays, Said, SaidKind}
-use Rattle.bpaf_exact.specs.Says.{keyed, scope_said, unkeyed, WordSays}
+use Rattle.bpaf_exact.specs.Flat.{FallbackValue, ClosedValue, Variables, repeated, OneWord, OwnList}
+use Rattle.bpaf_exact.specs.Flat.{Closure, ByName, LastOf}
+use Rattle.bpaf_exact.specs.ProgramForm.{program_optional, OptionalCommands, program_command}
+use Rattle.bpaf_exact.specs.ProgramForm.{program_dressed, argument_field, program_choice, completed}
+use Rattle.bpaf_exact.specs.ProgramForm.{program_closed, program_alone, program_field, program_both}
+use Rattle.bpaf_exact.specs.ProgramForm.{product_roles, whole_program, CommandValue, choice_only}
+use Rattle.bpaf_exact.specs.ProgramForm.{program_con, ProgramForm, ChoiceValue, flag_field, word_by}
+use Rattle.bpaf_exact.specs.ProgramForm.{pure_field, no_program, program_if, EachAgrees, CellsValue}
+use Rattle.bpaf_exact.specs.ProgramForm.{FormLaw}
+use Rattle.bpaf_exact.specs.Says.{FieldThenSays, repeated_kind, ArgumentSays, FallbackSays, BothSay}
+use Rattle.bpaf_exact.specs.Says.{OptionalSays, EitherSays, FieldsSaid, RecordSays, RepeatSays}
+use Rattle.bpaf_exact.specs.Says.{scope_said, AloneSays, form_kind, FlagSays, LastSays, MadeSays}
+use Rattle.bpaf_exact.specs.Says.{SaidKind, WordSays, of_kind, unkeyed, keyed, Said}
 use Rattle.bpaf_exact.specs.Pieces.{are_apart, LinePiece}
 use Rattle.std.specs.List.{list_all}
-use Rattle.bpaf_exact.specs.Flat.{ByName, LastOf}
 
 -- what a parser is made of: what it is by itself, or a step and the parsers inside; or of which
 -- parsers the fields of a product are

@@ -1,24 +1,24 @@
 -- Flat records and programs with commands, and their keys and words by the words that spell them.
-use Rattle.std.specs.Prelude.{IsUtf8, Result, Bool, ◌&&◌, IfOk, List, true, ◌≡◌, All, Err, not, Ok}
-use Rattle.std.specs.Prelude.{false, None, Option, Some}
+use Rattle.std.specs.Prelude.{IsUtf8, Result, Option, false, Bool, ◌&&◌, IfOk, List, true, None, Ok}
+use Rattle.std.specs.Prelude.{Some, ◌≡◌, All, Err, not}
 use Rattle.std.specs.Result.{IfErr}
 use Rattle.bpaf.specs.Run.{IsNotWant}
 use Rattle.std.specs.{List.list_all, List.Contains, Prelude.ℕ}
 use Rattle.bpaf_base.specs.Items.{is_text_among, is_key_of, is_among}
 use Rattle.bpaf_base.specs.declared.arg.Arg.{Arg}
 use Rattle.bpaf_doc.specs.Names.{Names}
-use Rattle.bpaf_words.specs.Line.{ShortNames, known_at, Spells, Known, Items}
+use Rattle.bpaf_words.specs.Line.{Spells, Known, Items}
 use Rattle.bpaf_words.specs.Arguments.{Given}
 use Rattle.bpaf_line.specs.{declared.failure.ParseFailure.ParseFailure, Situation.Context}
 use Rattle.bpaf_line.specs.Taking.{IsContext}
 use Rattle.bpaf_laws.specs.Command.{is_one_of}
 use Rattle.bpaf.specs.{Marker.words_before, Info.RunInfo}
 use Rattle.bpaf_exact.specs.ProgramForm.{product_reading, product_roles, HoldsTogether, RecordValue}
-use Rattle.bpaf_exact.specs.ProgramForm.{is_program, RunAnswer, is_record, Accepted}
-use Rattle.bpaf_exact.specs.ProgramForm.{whole_program, program_value, ProgramForm, line_cells}
+use Rattle.bpaf_exact.specs.ProgramForm.{whole_program, program_value, ProgramForm, is_program}
+use Rattle.bpaf_exact.specs.ProgramForm.{line_cells, RunAnswer, is_record, Accepted, NoMemory}
+use Rattle.bpaf_exact.specs.ProgramForm.{Refusal}
 use Rattle.bpaf_exact.specs.Pieces.{LinePiece, Cut}
-use Rattle.bpaf_exact.specs.ProgramForm.{NoMemory, Refusal}
-use Rattle.bpaf_record.specs.Grammar.{are_unusual, Grammar, HasNoSurplus, program_form, scope_says}
+use Rattle.bpaf_record.specs.Grammar.{HasNoSurplus, program_form, are_unusual, scope_says, Grammar}
 use Rattle.bpaf_line.specs.declared.failure.ParseFailure.TheVariants as failure
 
 -- a flat record none of whose keys shares a name with those of help and version
@@ -106,15 +106,16 @@ pub record AnswersAsProgram (T : Type 0) (known : Known) (form : ProgramForm T) 
       → IsValueOrWant (IsProgramValueOf known form given) r
 
 -- all that is said of an answer of a run of a program
-pub record ProgramRan {T : Type 0} (agrees : Type 0) (answers spared exact : Result T ParseFailure → Type 0)
-    (refuses : ParseFailure → Type 0) (deals tells : T → Type 0) (r : Result T ParseFailure) : Type 0
-  where
-    pub outcome : answers r
-    pub named : IfErr r refuses
-    pub dealt : IfOk r deals
-    pub memory_is_never_caught : IsNotWant r → spared r
-    pub fields : agrees → IfOk r tells
-    pub exact : agrees → exact r
+pub record ProgramRan {T : Type 0} (agrees : Type 0)
+    (answers spared answers_exactly : Result T ParseFailure → Type 0)
+    (refuses : ParseFailure → Type 0) (deals tells : T → Type 0) (r : Result T ParseFailure)
+    : Type 0 where
+  pub outcome : answers r
+  pub named : IfErr r refuses
+  pub dealt : IfOk r deals
+  pub memory_is_never_caught : IsNotWant r → spared r
+  pub fields : agrees → IfOk r tells
+  pub exact : agrees → answers_exactly r
 
 -- an answer is None only where it isn't so; else it is, and this is said of the answer
 abbrev pub NoneUnless : {T : Type 0} → Bool → (Result T ParseFailure → Type 0)
@@ -141,11 +142,6 @@ pub record IsSpelledItem (known : Known) (test : Arg → Bool) (words : List (Li
 -- one of them spells a key with one of these names, by what a program knows
 abbrev pub WasSpelled : Known → Names → List (List ℕ) → Type 0
 WasSpelled known names words = IsSpelledItem known (is_key_of names) words
-
--- one of them does whatever short names are known, where a negative number is a word or isn't
-abbrev pub IsSpelledByAny : (numbers : Bool) → Names → List (List ℕ) → Type 0
-IsSpelledByAny numbers names words =
-    (known : ShortNames) → WasSpelled (known_at numbers known) names words
 
 -- one of the words before the first `--` spells a word that opens a command of these words, by what
 -- a program knows

@@ -1,6 +1,6 @@
 //! Fields and commands whose value a closure makes or checks.
 ghost use Rattle.std.specs.{Prelude.◌≡◌, Prelude.true, Fn.FnReturnsAt};
-ghost use Rattle.bpaf_record.specs.Grammar.{command_words, keys_of, program_form, closed};
+ghost use Rattle.bpaf_record.specs.Grammar.{program_form, closed};
 ghost use Rattle.bpaf_exact.specs.Flat.{map_closure, parse_closure, guard_closure, Variables};
 ghost use Rattle.bpaf_exact.specs.ProgramForm.{Agrees};
 ghost use Rattle.bpaf_exact.proofs.ProgramForm.{map_law, parse_law, guard_law};

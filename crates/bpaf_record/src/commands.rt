@@ -1,6 +1,6 @@
 //! Commands of a program.
-ghost use Rattle.std.specs.Prelude.{◌≡◌, ◌&&◌, false, not, true};
-ghost use Rattle.bpaf_record.specs.Grammar.{command_words, keys_of, program_form, command};
+ghost use Rattle.std.specs.Prelude.{◌≡◌, ◌&&◌, false, true};
+ghost use Rattle.bpaf_record.specs.Grammar.{keys_of, command};
 ghost use Rattle.bpaf_record.specs.{Commands.either_command_law, Grammar.are_unusual};
 ghost use Rattle.bpaf_laws.specs.Command.{CommandPart};
 

@@ -1,8 +1,8 @@
 //! Fields that may be missing, and commands that may be left out.
 ghost use Rattle.std.specs.Prelude.{◌≡◌, true, Ok, Err};
-ghost use Rattle.bpaf_record.specs.Grammar.{command_words, keys_of, program_form, optional};
+ghost use Rattle.bpaf_record.specs.Grammar.{optional};
 ghost use Rattle.bpaf_record.specs.Grammar.{fallback};
-ghost use Rattle.bpaf_exact.specs.Flat.{map_closure, answer_closure, parse_closure};
+ghost use Rattle.bpaf_exact.specs.Flat.{map_closure, parse_closure};
 ghost use Rattle.bpaf_exact.proofs.ProgramForm.{optional_law, fallback_law, fallback_with_law};
 
 use crate::field::{FlatField, ProgramField};

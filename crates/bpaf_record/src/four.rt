@@ -1,7 +1,6 @@
 //! Four fields of a program at once.
 
 ghost use Rattle.bpaf_exact.proofs.ProgramForm.{program_both_law, program_field_law};
-ghost use Rattle.std.specs.Prelude.{true};
 
 use crate::field::{FlatField, FlatFields, ProgramField, ProgramFields};
 use crate::keys::KeyTest;

@@ -1,11 +1,9 @@
 //! Flags, arguments and words as fields.
 ghost use Rattle.std.specs.Prelude.{◌≡◌, [], false, true};
-ghost use Rattle.bpaf_exact.proofs.Leaves.{pure_field_law, pure_says, flag_field_law};
+ghost use Rattle.bpaf_exact.proofs.Leaves.{pure_field_law, flag_field_law};
 ghost use Rattle.bpaf_exact.proofs.Leaves.{argument_field_law};
-ghost use Rattle.bpaf_laws.specs.Reading.{first_set};
 ghost use Rattle.bpaf_record.specs.Grammar.{flag, argument, word, kept};
 ghost use Rattle.bpaf_record.specs.Commands.{positional_law};
-ghost use Rattle.bpaf.specs.Positional.{accepts};
 
 use crate::field::{FlatField, ProgramField};
 use crate::keys::KeyTest;

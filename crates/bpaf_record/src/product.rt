@@ -1,6 +1,6 @@
 //! Products of fields.
 ghost use Rattle.std.specs.Prelude.{◌≡◌, true};
-ghost use Rattle.bpaf_record.specs.Grammar.{command_words, keys_of, program_form, alone};
+ghost use Rattle.bpaf_record.specs.Grammar.{alone};
 ghost use Rattle.bpaf_record.specs.Grammar.{both, product};
 ghost use Rattle.bpaf_exact.specs.Flat.{map_closure};
 ghost use Rattle.bpaf_exact.proofs.ProgramForm.{program_alone_law, program_both_law};

@@ -1,6 +1,6 @@
 //! Fields that may be given again and again.
 ghost use Rattle.std.specs.Prelude.{◌≡◌, true, length, false};
-ghost use Rattle.bpaf_record.specs.Grammar.{command_words, keys_of, program_form, repeat, last};
+ghost use Rattle.bpaf_record.specs.Grammar.{repeat, last};
 ghost use Rattle.bpaf_exact.specs.Flat.{list_closure, some_closure, map_closure};
 ghost use Rattle.bpaf_exact.proofs.ProgramForm.{many_law, some_law, collect_law, count_law};
 ghost use Rattle.bpaf_exact.proofs.ProgramForm.{program_last_law};

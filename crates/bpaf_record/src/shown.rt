@@ -1,8 +1,8 @@
 //! What changes only what is shown: a field stays what it is inside, as does a command or a choice
 //! of such. A product of flat fields with such a look round it may stand in a program, but is no
 //! flat record; one that ends in commands is no program then.
-ghost use Rattle.std.specs.Prelude.{◌≡◌, true};
-ghost use Rattle.bpaf_record.specs.Grammar.{command_words, keys_of, program_form, dressed};
+ghost use Rattle.std.specs.Prelude.{◌≡◌};
+ghost use Rattle.bpaf_record.specs.Grammar.{dressed};
 ghost use Rattle.bpaf_exact.proofs.ProgramForm.{program_dressed_law, hide_law};
 
 use crate::field::{FlatField, ProgramField};

@@ -1,24 +1,24 @@
 -- What a run of the program does: which options its words have, what it prints of them, and what
 -- it shows where it is asked for help.
-use Rattle.std.specs.Prelude.{◌≡◌, ℕ, Bool, true, false, List, [], ◌∷◌, Some, codes, Result, ◌++◌}
-use Rattle.std.specs.{Prelude.map, Prelude.string_bytes, Fmt.decimal, Global.Vec}
-use Rattle.bpaf_doc.specs.Shape.{Shape, And, Many, Optional, members}
-use Rattle.bpaf_doc.specs.{Print.TextPieces, Print.printed, declared.doc.Piece.Piece, Names.Names}
+use Rattle.std.specs.Prelude.{Result, false, codes, Bool, true, List, Some, ◌++◌, ◌≡◌, ◌∷◌, [], ℕ}
+use Rattle.std.specs.{Prelude.string_bytes, Prelude.map, Fmt.decimal, Global.Vec}
+use Rattle.bpaf_doc.specs.Shape.{Optional, members, Shape, Many, And}
+use Rattle.bpaf_doc.specs.{declared.doc.Piece.Piece, Print.TextPieces, Print.printed, Names.Names}
 use Rattle.bpaf_text.specs.Meaning.{SpellsUnsigned}
 use Rattle.bpaf_text.specs.Named.{KeyWithValue, key_named, with_help}
-use Rattle.bpaf_words.specs.{Line.Known, Line.knowing, Arguments.Given}
-use Rattle.bpaf_laws.specs.{Combinators.ListReads, Combinators.MapReads, Leaves.ArgumentReads}
-use Rattle.bpaf_laws.specs.{Leaves.argument_shape, Product.BothReads, Reading.Readings}
-use Rattle.bpaf.specs.Positional.{PositionalReads, positional_shape}
+use Rattle.bpaf_words.specs.{Arguments.Given, Line.knowing, Line.Known}
+use Rattle.bpaf_laws.specs.{Combinators.ListReads, Leaves.argument_shape, Combinators.MapReads}
+use Rattle.bpaf_laws.specs.{Leaves.ArgumentReads, Product.BothReads, Reading.Readings}
+use Rattle.bpaf.specs.Positional.{positional_shape, PositionalReads}
 use Rattle.bpaf.specs.declared.leaves.positional.Position.TheVariants.{Unrestricted}
-use Rattle.bpaf.specs.{Asked.IfShown, Asked.WasAsked, Run.IsDealtOut}
-use Rattle.bpaf_program.specs.KnownParser.{MeansText, String, known_con, known_many, known_switch}
-use Rattle.bpaf_program.specs.KnownParser.{IsExactFor, IsValueBy}
+use Rattle.bpaf.specs.{Asked.WasAsked, Run.IsDealtOut, Asked.IfShown}
+use Rattle.bpaf_program.specs.KnownParser.{known_switch, known_many, IsExactFor, MeansText, String}
+use Rattle.bpaf_program.specs.KnownParser.{known_con, IsValueBy}
 use Rattle.bpaf_program.specs.Fields.{NamedSwitchReads, switch_shape}
-use Rattle.bpaf_program.specs.Ending.{line, line_each, truth, AnswersByText, PrintsTextOf, Written}
+use Rattle.bpaf_program.specs.Ending.{AnswersByText, PrintsTextOf, line_each, Written, truth, line}
 use Rattle.example_demo.specs.declared.options.Options.{Options}
 use Rattle.bpaf_line.specs.declared.failure.ParseFailure.{ParseFailure}
-use Rattle.bpaf_record.specs.Grammar.{FieldsGrammar, Grammar, alone, argument, both, word}
+use Rattle.bpaf_record.specs.Grammar.{FieldsGrammar, argument, Grammar, alone, both, word}
 use Rattle.bpaf_keys.specs.Info.{plain_info}
 
 -- the names of the switch

@@ -75,3 +75,5 @@ pub record SaysOf (words : List (List ℕ)) (archive : Archive) : Type 0 where
   pub has_level : IsTyped (codes "--level") words → IsSome archive.level
   pub has_without : IsTyped (codes "--without") words → archive.without.items ≢ []
   pub is_quiet : IsTyped (codes "-q") words → archive.quiet ≡ true
+  pub is_quiet_joined : IsTyped (codes "-vq") words → archive.quiet ≡ true
+  pub has_without_joined : IsTyped (codes "-qx1") words → archive.without.items ≢ []

@@ -1,15 +1,14 @@
 -- The remover: its fields, and what it may print.
-use Rattle.std.specs.Prelude.{ℕ, Bool, List, [], ◌∷◌, Option, Some, codes}
+use Rattle.std.specs.Prelude.{Option, codes, Bool, List, Some, ◌∷◌, [], ℕ}
 use Rattle.std.specs.Global.{Vec}
 use Rattle.bpaf_doc.specs.{declared.doc.Piece.Piece, Names.Names}
 use Rattle.bpaf_text.specs.{Meaning.SpellsUnsigned, Named.KeyWithValue}
 use Rattle.bpaf_words.specs.{Arguments.Given, Line.Known}
 use Rattle.bpaf.specs.declared.leaves.positional.Position.TheVariants.{Unrestricted}
 use Rattle.bpaf.specs.Info.{plain_info}
-use Rattle.bpaf_record.specs.Grammar.{FieldsGrammar, Grammar, alone, argument, both, word}
-use Rattle.bpaf_program.specs.KnownParser.{HasOtherTexts, IsPageOf, MeansText, String}
-use Rattle.bpaf_program.specs.KnownParser.{known_con, known_many, known_optional, known_switch}
-use Rattle.bpaf_program.specs.KnownParser.{program_names}
+use Rattle.bpaf_record.specs.Grammar.{FieldsGrammar, argument, Grammar, alone, both, word}
+use Rattle.bpaf_program.specs.KnownParser.{known_optional, HasOtherTexts, program_names, known_many}
+use Rattle.bpaf_program.specs.KnownParser.{known_switch, MeansText, known_con, IsPageOf, String}
 use Rattle.bpaf_program.specs.Fields.{plain_argument}
 use Rattle.example_guide.specs.{declared.remove.Removal.Removal, Told.TellsFiles}
 

@@ -2,7 +2,7 @@
 use bpaf::params::{ParseArgument, ParseFlag};
 use bpaf::{Args, ParseFailure, Parser, construct, positional};
 use bpaf_program::key;
-use bpaf_record::{FlatField, ProgramField, Record};
+use bpaf_record::Record;
 use std::alloc::{AllocError, Global};
 
 /// What a backup is told.
@@ -54,20 +54,5 @@ pub fn read_backup(alloc: Global, words: &[&str]) -> Result<Option<Backup>, Pars
         from,
         to
     });
-    record_value(alloc, backup, words)
-}
-
-/// The value of a flat record on words; None where the parser is no flat record.
-fn record_value<T: Drop, P: ProgramField<T> + FlatField<T> + Drop>(
-    alloc: Global,
-    parser: P,
-    words: &[&str],
-) -> Result<Option<T>, ParseFailure>
-    requires { P.can_eval parser }
-{
-    let options = parser.to_options(alloc)?;
-    if !options.is_record() {
-        return Ok(None);
-    }
-    Ok(Some(options.run_record(Args::from(words))?))
+    backup.to_options(alloc)?.record_value(Args::from(words))
 }

@@ -1,8 +1,9 @@
-//! A program with commands, each in a function of its own: it is handed the parser of those before
-//! it, and hands on that of all so far. The last function runs it.
-use bpaf::{Args, ParseFailure, Parser, construct, positional, short};
+//! A program with commands, each in a function of its own that answers its parser.
+use bpaf::params::{ParseArgument, ParseFlag, ParsePositional};
+use bpaf::parsers::{ParseCommand, ParseOptional};
+use bpaf::{Args, ParseFailure, ParseTuple2, Parser, construct, positional, short};
 use bpaf_program::plain_command;
-use std::alloc::Global;
+use std::alloc::{AllocError, Global};
 
 /// A command, and whether each step of it is told.
 #[derive(Debug, Drop)]
@@ -26,59 +27,49 @@ pub enum Remote {
     Remove { name: String },
 }
 
-/// A command, or what ends the program without one.
-pub type Asked = Result<Git, ParseFailure>;
+type Word = ParsePositional<String>;
+
+type CloneWords = ParseTuple2<String, Option<String>, Word, ParseOptional<Word>>;
+
+type CommitOptions = ParseTuple2<bool, String, ParseFlag<bool>, ParseArgument<String>>;
+
+type AddWords = ParseTuple2<String, String, Word, Word>;
+
+/// `clone URL [DIR]`; refused only for want of memory.
+fn clone(alloc: Global) -> Result<ParseCommand<(String, Option<String>), CloneWords>, AllocError> {
+    let url = positional::<String>("URL");
+    let dir = positional::<String>("DIR").optional();
+    plain_command(alloc, "clone", construct!(url, dir))
+}
+
+/// `commit [-a] -m MSG`; refused only for want of memory.
+fn commit(alloc: Global) -> Result<ParseCommand<(bool, String), CommitOptions>, AllocError> {
+    let all = short(alloc, 'a')?.switch();
+    let message = short(alloc, 'm')?.argument::<String>("MSG");
+    plain_command(alloc, "commit", construct!(all, message))
+}
+
+/// `add NAME URL`, a command of `remote`; refused only for want of memory.
+fn add(alloc: Global) -> Result<ParseCommand<(String, String), AddWords>, AllocError> {
+    let name = positional::<String>("NAME");
+    let url = positional::<String>("URL");
+    plain_command(alloc, "add", construct!(name, url))
+}
+
+/// `remove NAME`, a command of `remote`; refused only for want of memory.
+fn remove(alloc: Global) -> Result<ParseCommand<String, Word>, AllocError> {
+    plain_command(alloc, "remove", positional::<String>("NAME"))
+}
 
 /// The command that the words give, as `-v clone URL`; refused where they give none, or for want of
 /// memory.
-pub fn read_git(alloc: Global, words: &[String]) -> Asked {
-    let url = positional::<String>("URL");
-    let dir = positional::<String>("DIR").optional();
-    let clone = plain_command(alloc, "clone", construct!(Command::Clone { url, dir }))?;
-    or_commit(alloc, words, clone)
-}
-
-/// A command of those before, or `commit [-a] -m MSG`, and so on.
-fn or_commit<P: Parser<Command> + Drop>(alloc: Global, words: &[String], before: P) -> Asked
-    requires { P.can_eval before }
-{
-    let all = short(alloc, 'a')?.switch();
-    let message = short(alloc, 'm')?.argument::<String>("MSG");
-    let commit = construct!(Command::Commit { all, message });
-    let commit = plain_command(alloc, "commit", commit)?;
-    or_remote(alloc, words, construct!([before, commit]))
-}
-
-/// A command of those before, or `remote add NAME URL`, or `remote remove NAME`.
-fn or_remote<P: Parser<Command> + Drop>(alloc: Global, words: &[String], before: P) -> Asked
-    requires { P.can_eval before }
-{
-    let name = positional::<String>("NAME");
-    let url = positional::<String>("URL");
-    let add = plain_command(alloc, "add", construct!(Remote::Add { name, url }))?;
-    let name = positional::<String>("NAME");
-    let remove = plain_command(alloc, "remove", construct!(Remote::Remove { name }))?;
-    or_one_of_remote(alloc, words, before, construct!([add, remove]))
-}
-
-/// A command of those before, or `remote` and one of its own.
-fn or_one_of_remote<P: Parser<Command> + Drop, R: Parser<Remote> + Drop>(
-    alloc: Global,
-    words: &[String],
-    before: P,
-    remote: R,
-) -> Asked
-    requires before { P.can_eval before }
-    requires remote { R.can_eval remote }
-{
-    let remote = plain_command(alloc, "remote", remote)?.map(Command::Remote);
-    run(alloc, words, construct!([before, remote]))
-}
-
-/// One of the commands, with `-v` in front of it or behind.
-fn run<P: Parser<Command> + Drop>(alloc: Global, words: &[String], command: P) -> Asked
-    requires { P.can_eval command }
-{
+pub fn read_git(alloc: Global, words: &[String]) -> Result<Git, ParseFailure> {
+    let add = add(alloc)?.map(|(name, url)| Remote::Add { name, url });
+    let remove = remove(alloc)?.map(|name| Remote::Remove { name });
+    let remote = plain_command(alloc, "remote", construct!([add, remove]))?.map(Command::Remote);
+    let clone = clone(alloc)?.map(|(url, dir)| Command::Clone { url, dir });
+    let commit = commit(alloc)?.map(|(all, message)| Command::Commit { all, message });
+    let command = construct!([clone, commit, remote]);
     let verbose = short(alloc, 'v')?.switch();
     let git = construct!(Git { verbose, command });
     git.run_once(alloc, Args::from(words).set_name("git"))

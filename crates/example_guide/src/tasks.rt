@@ -22,15 +22,7 @@ pub enum Task {
 struct MakeAdd {}
 
 impl Constructor<(Vec<String>, String), Task> for MakeAdd {
-    ghost use Rattle.std.specs.Prelude.{◌≡◌};
-    ghost use Rattle.example_guide.specs.declared.tasks.Task.TheVariants.{Add};
-
-    ghost can_make = { λ m. Unit {0} };
-
-    ghost makes = { λ m v task. task ≡ Add v.0 v.1 };
-
-    fn make(&self, values: (Vec<String>, String)) -> Task {
-        let (tags, text) = values;
+    fn make(&self, (tags, text): (Vec<String>, String)) -> Task {
         Task::Add { tags, text }
     }
 }
@@ -40,13 +32,6 @@ impl Constructor<(Vec<String>, String), Task> for MakeAdd {
 struct MakeList {}
 
 impl Constructor<bool, Task> for MakeList {
-    ghost use Rattle.std.specs.Prelude.{◌≡◌};
-    ghost use Rattle.example_guide.specs.declared.tasks.Task.TheVariants.{List};
-
-    ghost can_make = { λ m. Unit {0} };
-
-    ghost makes = { λ m all task. task ≡ List all };
-
     fn make(&self, all: bool) -> Task {
         Task::List { all }
     }

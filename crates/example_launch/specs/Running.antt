@@ -1,20 +1,20 @@
 -- What a run of the program answers: the launch that its words ask for, its lines, and what it
 -- shows where it is asked for help.
-use Rattle.std.specs.Prelude.{◌≡◌, ℕ, Bool, List, [], ◌∷◌, Some, codes, map, string_bytes, Contains}
+use Rattle.std.specs.Prelude.{string_bytes, Contains, codes, Bool, List, Some, ◌≡◌, ◌∷◌, map, [], ℕ}
 use Rattle.std.specs.{Prelude.Result, Prelude.◌++◌, Global.Vec}
-use Rattle.bpaf_doc.specs.Shape.{Shape, And, Many, Optional, members}
-use Rattle.bpaf_doc.specs.{Print.TextPieces, Print.printed, declared.doc.Piece.Piece, Names.Names}
-use Rattle.bpaf_words.specs.{Line.Known, Line.knowing, Arguments.Given}
-use Rattle.bpaf_laws.specs.Combinators.{MapReads, ListReads}
+use Rattle.bpaf_doc.specs.Shape.{Optional, members, Shape, Many, And}
+use Rattle.bpaf_doc.specs.{declared.doc.Piece.Piece, Print.TextPieces, Print.printed, Names.Names}
+use Rattle.bpaf_words.specs.{Arguments.Given, Line.knowing, Line.Known}
+use Rattle.bpaf_laws.specs.Combinators.{ListReads, MapReads}
 use Rattle.bpaf_laws.specs.{Product.BothReads, Reading.Readings}
 use Rattle.bpaf.specs.declared.leaves.positional.Position.{Position}
-use Rattle.bpaf.specs.declared.leaves.positional.Position.TheVariants.{Strict, NonStrict}
-use Rattle.bpaf.specs.{Positional.PositionalReads, Positional.positional_shape, Marker.words_before}
-use Rattle.bpaf.specs.{Marker.words_behind, Asked.IfShown, Asked.WasAsked, Run.IsDealtOut}
-use Rattle.bpaf_program.specs.KnownParser.{MeansText, String, known_con, known_many, known_switch}
-use Rattle.bpaf_program.specs.KnownParser.{IsExactFor, IsValueBy}
+use Rattle.bpaf.specs.declared.leaves.positional.Position.TheVariants.{NonStrict, Strict}
+use Rattle.bpaf.specs.{Positional.positional_shape, Positional.PositionalReads, Marker.words_before}
+use Rattle.bpaf.specs.{Marker.words_behind, Asked.WasAsked, Run.IsDealtOut, Asked.IfShown}
+use Rattle.bpaf_program.specs.KnownParser.{known_switch, known_many, IsExactFor, MeansText, String}
+use Rattle.bpaf_program.specs.KnownParser.{known_con, IsValueBy}
 use Rattle.bpaf_program.specs.Fields.{NamedSwitchReads, switch_shape}
-use Rattle.bpaf_program.specs.Ending.{line, line_each, truth, AnswersByText}
+use Rattle.bpaf_program.specs.Ending.{AnswersByText, line_each, truth, line}
 use Rattle.example_launch.specs.declared.options.Launch.{Launch}
 use Rattle.bpaf_line.specs.declared.failure.ParseFailure.{ParseFailure}
 use Rattle.bpaf_record.specs.Grammar.{FieldsGrammar, Grammar, alone, both, word}

@@ -1,23 +1,23 @@
 -- The program: its keys, its commands, its values on words, the lines of these, and what a run
 -- does.
-use Rattle.std.specs.Prelude.{◌≡◌, ℕ, List, [], ◌++◌, Option, Some, None, map, codes, option_map}
-use Rattle.std.specs.Prelude.{string_bytes, Bool, ◌∷◌, Result}
+use Rattle.std.specs.Prelude.{string_bytes, option_map, Option, Result, codes, List, ◌++◌, Some, []}
+use Rattle.std.specs.Prelude.{None, Bool, ◌≡◌, map, ◌∷◌, ℕ}
 use Rattle.std.specs.{Fmt.decimal, Global.Vec}
-use Rattle.bpaf_program.specs.Ending.{line, line_each, truth, AnswersByText, IsTextOf, OrPage}
-use Rattle.bpaf_program.specs.KnownParser.{known_command, known_con, known_default, known_many}
-use Rattle.bpaf_program.specs.KnownParser.{known_map, known_optional, known_switch, IsExactFor}
-use Rattle.bpaf_program.specs.KnownParser.{IsPageOf, IsValueBy, MeansText, String}
+use Rattle.bpaf_program.specs.Ending.{AnswersByText, line_each, IsTextOf, OrPage, truth, line}
+use Rattle.bpaf_program.specs.KnownParser.{known_optional, known_command, known_default, known_many}
+use Rattle.bpaf_program.specs.KnownParser.{known_switch, IsExactFor, known_con, known_map, IsPageOf}
+use Rattle.bpaf_program.specs.KnownParser.{IsValueBy, MeansText, String}
 use Rattle.bpaf_program.specs.Fields.{plain_argument}
 use Rattle.example_notes.specs.declared.options.Notes.{Notes}
-use Rattle.example_notes.specs.{declared.options.Tag.Tag, declared.options.Task.Task}
+use Rattle.example_notes.specs.{declared.options.Task.Task, declared.options.Tag.Tag}
 use Rattle.bpaf_doc.specs.{declared.doc.Piece.Piece, Names.Names}
 use Rattle.std.specs.Result.{IfErr}
-use Rattle.bpaf.specs.{Asked.IfShown, Info.plain_info}
+use Rattle.bpaf.specs.{Info.plain_info, Asked.IfShown}
 use Rattle.bpaf_text.specs.{Meaning.SpellsUnsigned, Named.KeyWithValue}
 use Rattle.bpaf_words.specs.Arguments.{Given}
 use Rattle.bpaf_line.specs.declared.failure.ParseFailure.{ParseFailure}
 use Rattle.bpaf.specs.declared.leaves.positional.Position.TheVariants.{Unrestricted}
-use Rattle.bpaf_record.specs.Grammar.{FieldsGrammar, Grammar, alone, argument, both, choice, word}
+use Rattle.bpaf_record.specs.Grammar.{FieldsGrammar, argument, Grammar, choice, alone, both, word}
 use Rattle.example_notes.specs.declared.options.Tag.TheVariants as tag
 use Rattle.example_notes.specs.declared.options.Task.TheVariants as task
 

@@ -3,6 +3,7 @@ use bpaf::{Doc, Parser, construct, long, positional, short};
 use bpaf_batteries::{
     cargo_helper, get_usage, toggle_flag, verbose_and_quiet_by_number, verbose_by_slice,
 };
+use bpaf_program::key_with_help;
 use std::alloc::{AllocError, Global};
 use std::fmt::{self, Debug};
 use std::test::Fail;
@@ -141,6 +142,20 @@ fn help_of_switch(alloc: Global) -> Result<String, AllocError> {
     page(alloc, long(alloc, "help")?.switch())
 }
 
+/// The help page of a key with a help.
+fn help_of_key(alloc: Global) -> Result<String, AllocError> {
+    page(
+        alloc,
+        key_with_help(alloc, 'v', "verbose", "Print more")?.switch(),
+    )
+}
+
+/// The help page of a key with a help.
+const KEY_PAGE: &str = "Usage: [-v]\n\n\
+    Available options:\n    \
+    -v, --verbose  Print more\n    \
+    -h, --help     Prints help information\n";
+
 /// The help page of a level.
 fn help_of_level(alloc: Global) -> Result<String, AllocError> {
     page(alloc, verbose_and_quiet_by_number(alloc, 0, 0, 1)?)
@@ -160,6 +175,7 @@ fn usage_is_told_where_help_is_shown(rt: HostRuntime) -> Result<(), Fail> {
     reads(help_of_word(a), PAGE)?;
     // usage_of_taken_help_name
     reads(help_of_switch(a), "None")?;
+    reads(help_of_key(a), KEY_PAGE)?;
     // usage_of_verbosity
     reads(help_of_level(a), LEVEL_PAGE)
 }

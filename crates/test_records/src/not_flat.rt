@@ -1,7 +1,7 @@
 //! Which options are no flat record, of switches, numbers and words.
 use bpaf::params::{ParseArgument, ParseFlag, ParsePositional};
-use bpaf::{Doc, Parser, choice, construct, positional, short};
-use bpaf_record::{FlatField, ProgramField, Record};
+use bpaf::{Args, Doc, Parser, choice, construct, positional, short};
+use bpaf_record::{CommandLine, FlatField, ProgramField, Record};
 use std::alloc::{AllocError, Global};
 use std::test::Fail;
 use test_support::{number, switch};
@@ -171,5 +171,14 @@ fn single_fields_are_told(rt: HostRuntime) -> Result<(), Fail> {
 #[test]
 fn products_are_told(rt: HostRuntime) -> Result<(), Fail> {
     assert!(rt; !products(rt.alloc())?);
+    Ok(())
+}
+
+#[test]
+fn no_value_comes_of_what_is_no_record(rt: HostRuntime) -> Result<(), Fail> {
+    let options = switch(rt.alloc(), 'h')?.to_options(rt.alloc())?;
+    let record = options.record_value(Args::from(&["-h"]));
+    let program = options.program_value(Args::from(&["-h"]));
+    assert!(rt; matches!((record, program), (Ok(None), Ok(None))));
     Ok(())
 }

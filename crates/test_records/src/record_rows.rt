@@ -1,8 +1,8 @@
-//! Worked rows through `run_record`, and through `run_program`, which gives the same: each field of
-//! a flat record once, on lines of words, each with its whole answer. Both run as `run_inner` does,
-//! on which rows.txt has them all.
+//! Worked rows through `run_record`, and through `record_value` and `program_value`, which give the
+//! same: each field of a flat record once, on lines of words, each with its whole answer. All run
+//! as `run_inner` does, on which rows.txt has them all.
 use bpaf::params::{ParseArgument, ParsePositional};
-use bpaf::{Args, Doc, OptionParser, Parser, choice, construct, positional, short};
+use bpaf::{Args, Doc, OptionParser, ParseFailure, Parser, choice, construct, positional, short};
 use bpaf_record::{CommandLine, FlatField, ProgramField, Record};
 use std::alloc::{AllocError, Global};
 use std::collections::BTreeSet;
@@ -27,6 +27,17 @@ pub(crate) fn compare<T: Debug + Drop, P: ProgramField<T> + FlatField<T> + Drop>
     compare_options(alloc, &options, rows)
 }
 
+/// The answer of options that are known to be a flat record or a program.
+pub(crate) fn known<T>(
+    answer: Result<Option<T>, ParseFailure>,
+) -> Result<Result<T, ParseFailure>, Fail> {
+    match answer {
+        Ok(Some(value)) => Ok(Ok(value)),
+        Ok(None) => Err(Fail::new("no program")),
+        Err(failure) => Ok(Err(failure)),
+    }
+}
+
 /// The same of options, as a flat record and as a program.
 pub(crate) fn compare_options<T: Debug + Drop, P: ProgramField<T> + FlatField<T> + Drop>(
     alloc: Global,
@@ -44,8 +55,10 @@ pub(crate) fn compare_options<T: Debug + Drop, P: ProgramField<T> + FlatField<T>
     for row in rows_of(alloc, rows)? {
         let answer = options.run_record(Args::from(row.words.as_slice()));
         fits(alloc, answer, row.wanted)?;
-        let answer = options.run_program(Args::from(row.words.as_slice()));
-        fits(alloc, answer, row.wanted)?;
+        let answer = options.record_value(Args::from(row.words.as_slice()));
+        fits(alloc, known(answer)?, row.wanted)?;
+        let answer = options.program_value(Args::from(row.words.as_slice()));
+        fits(alloc, known(answer)?, row.wanted)?;
     }
     Ok(())
 }

@@ -1,10 +1,10 @@
-use Rattle.std.proofs.Common.{arith, rules, codes, map, refl, string_bytes}
+use Rattle.std.proofs.Common.{arith, rules, codes, map, refl, string_bytes, [], ◌∷◌}
 use Rattle.bpaf_exact.proofs.Says.{argument_needs, flag_needs, last_needs, made_needs}
 use Rattle.bpaf_record.proofs.Answered.{answer_says, of_line, argument_spelled, fallback_spelled}
 use Rattle.bpaf_record.proofs.Answered.{flag_spelled, optional_spelled, repeat_spelled}
 use Rattle.bpaf_record.proofs.Answered.{spelled_optional, spelled_repeat, spelled_switch}
 use Rattle.bpaf_record.proofs.Answered.{value_spelled, told_of_line, long_is_spelled}
-use Rattle.bpaf_record.proofs.Answered.{short_is_spelled}
+use Rattle.bpaf_record.proofs.Answered.{flags_are_spelled, short_is_spelled, value_is_spelled}
 use Rattle.bpaf_program.proofs.Running.{are_texts}
 use Rattle.example_guide.specs.Archive as archive
 use Rattle.example_guide.proofs.archive.read_archive.Goals as goal
@@ -45,4 +45,12 @@ returns c =
           (search rules) archive.quiet (search rules) texts
           (short_is_spelled _ (search rules) archive.quiet words 113 typed (omega arith)
           (λ dash. cc) refl);
+      is_quiet_joined = λ typed. spelled_switch line fields.1.1.1.1.1.1.1 (search rules) v.quiet
+          (search rules) archive.quiet (search rules) texts
+          (flags_are_spelled archive.archive_known refl archive.quiet words 118 113 [] typed
+          (λ dash. cc) refl refl refl);
+      has_without_joined = λ typed. spelled_repeat line without.told v.without.items
+          (search rules) archive.without (search rules) texts
+          (value_is_spelled archive.archive_known refl archive.without words 113 120 (49 ∷ [])
+          (113 ∷ []) 120 (49 ∷ []) refl typed (λ dash. cc) refl refl refl refl refl);
     }))
