@@ -1,8 +1,8 @@
 //! A first program: a switch, a number and words, of which it prints how many there are.
 #![tactic(auto)]
 
-use bpaf::{Args, ParseFailure, Parser, construct, positional, short};
-use bpaf_program::{print, words};
+use bpaf::{Args, ParseFailure, Parser, construct, positional};
+use bpaf_program::{key_with_help, print, words};
 use bpaf_record::CommandLine;
 use std::alloc::Global;
 use std::process::ExitCode;
@@ -17,9 +17,11 @@ struct Options {
 
 /// The options that the words give; else what is shown or told in their place.
 fn read_options(alloc: Global, words: &[String]) -> Result<Options, ParseFailure> {
-    let verbose = short(alloc, 'v')?.long("verbose")?.switch();
-    let num = short(alloc, 'n')?.long("num")?.argument::<u64>("NUM");
-    let files = positional::<String>("FILE").many();
+    let verbose = key_with_help(alloc, 'v', "verbose", "Tell more")?.switch();
+    let num = key_with_help(alloc, 'n', "num", "A number")?.argument::<u64>("NUM");
+    let files = positional::<String>("FILE")
+        .help_str(alloc, "Files to count")?
+        .many();
     let options = construct!(Options {
         verbose,
         num,

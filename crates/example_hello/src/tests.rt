@@ -45,3 +45,22 @@ fn refusals_are_told(rt: HostRuntime) -> Result<(), Fail> {
     }
     Ok(())
 }
+
+/// The help page.
+const PAGE: &str = "\
+Usage: hello [--verbose] --num=NUM [FILE]...
+
+Available positional items:
+    FILE           Files to count
+
+Available options:
+    -v, --verbose  Tell more
+    -n, --num=NUM  A number
+    -h, --help     Prints help information
+";
+
+#[test]
+fn help_is_shown(rt: HostRuntime) -> Result<(), Fail> {
+    assert!(rt; ran(rt.alloc(), &Program, "--help")?.is_text(PAGE));
+    Ok(())
+}

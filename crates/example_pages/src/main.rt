@@ -129,6 +129,18 @@ fn tell_shown(rt: &HostRuntime) -> io::Result<()> {
     tell(rt, "with_group_help", shown::titled(alloc, &["3"]))
 }
 
+/// Tells what options read that need or exclude one another.
+fn tell_exclusive(rt: &HostRuntime) -> io::Result<()> {
+    let alloc = rt.alloc();
+    let login = ["--user", "ann", "--password", "x"];
+    tell(rt, "login", shapes::read_login(alloc, &login))?;
+    tell(rt, "login", shapes::read_login(alloc, &login[..2]))?;
+    tell(rt, "login", shapes::read_login(alloc, &[]))?;
+    let chosen = ["--only", "a", "--all"];
+    tell(rt, "chosen", shapes::read_chosen(alloc, &chosen[..2]))?;
+    tell(rt, "chosen", shapes::read_chosen(alloc, &chosen))
+}
+
 /// Tells what usual shapes read.
 fn tell_shapes(rt: &HostRuntime) -> io::Result<()> {
     let alloc = rt.alloc();
@@ -143,6 +155,7 @@ fn tell_shapes(rt: &HostRuntime) -> io::Result<()> {
     tell(rt, "place", shapes::read_place(alloc, &["origin", "main"]))?;
     tell(rt, "search", shapes::read_search(alloc, &["x", "a", "b"]))?;
     tell(rt, "search", shapes::read_search(alloc, &["a", "-e", "x"]))?;
+    tell_exclusive(rt)?;
     tell(rt, "pair", shapes::read_pair(alloc, &["-a", "b"]))?;
     let words = ["--point", "1", "2", "-v", "--point", "3", "4"];
     tell(rt, "points", points::read_points(alloc, &words))?;

@@ -1,6 +1,6 @@
 //! Usual shapes of command lines.
 use bpaf::params::{ParseFlag, ParsePositional};
-use bpaf::{Args, ParseFailure, Parser, command, construct, positional, short};
+use bpaf::{Args, ParseFailure, ParseTuple2, Parser, command, construct, long, positional, short};
 use std::alloc::{AllocError, Global};
 
 /// A command of the command `remote`.
@@ -52,16 +52,39 @@ pub fn read_search(alloc: Global, words: &[&str]) -> Result<Search, ParseFailure
     search.run_once(alloc, Args::from(words))
 }
 
-/// Fields that hold no closure, as a function answers them to a body that joins and runs them.
-pub type SwitchAndWord = (ParseFlag<bool>, ParsePositional<String>);
+/// A name and its password.
+pub type Login = (String, String);
 
-/// A switch and a word.
-fn switch_and_word(alloc: Global) -> Result<SwitchAndWord, AllocError> {
-    Ok((short(alloc, 'a')?.switch(), positional::<String>("WORD")))
+/// Two options that go together, or neither.
+pub fn read_login(alloc: Global, words: &[&str]) -> Result<Option<Login>, ParseFailure> {
+    let user = long(alloc, "user")?.argument::<String>("USER");
+    let password = long(alloc, "password")?.argument::<String>("TEXT");
+    let login = construct!(user, password).optional();
+    login.run_once(alloc, Args::from(words))
+}
+
+/// Whether all files are chosen, or the names of those that are.
+pub type Chosen = (bool, Vec<String>);
+
+/// Two options that exclude one another.
+pub fn read_chosen(alloc: Global, words: &[&str]) -> Result<Chosen, ParseFailure> {
+    let all = long(alloc, "all")?.switch();
+    let only = long(alloc, "only")?.argument::<String>("NAME").many();
+    let chosen = construct!(all, only);
+    let chosen = chosen.guard(|it| !it.0 || it.1.is_empty(), "`--all` excludes `--only`");
+    chosen.run_once(alloc, Args::from(words))
+}
+
+/// A switch and a word, whose parser a function answers.
+fn switch_and_word(
+    alloc: Global,
+) -> Result<ParseTuple2<bool, String, ParseFlag<bool>, ParsePositional<String>>, AllocError> {
+    let all = short(alloc, 'a')?.switch();
+    let word = positional::<String>("WORD");
+    Ok(construct!(all, word))
 }
 
 /// What these read.
 pub fn read_pair(alloc: Global, words: &[&str]) -> Result<(bool, String), ParseFailure> {
-    let (all, word) = switch_and_word(alloc)?;
-    construct!(all, word).run_once(alloc, Args::from(words))
+    switch_and_word(alloc)?.run_once(alloc, Args::from(words))
 }
