@@ -151,7 +151,7 @@ fn help_of_key(alloc: Global) -> Result<String, AllocError> {
 }
 
 /// The help page of a key with a help.
-const KEY_PAGE: &str = "Usage: [-v]\n\n\
+const KEY_PAGE: &str = "Usage: [--verbose]\n\n\
     Available options:\n    \
     -v, --verbose  Print more\n    \
     -h, --help     Prints help information\n";
