@@ -61,7 +61,8 @@ def main():
         if len(added) != 2 or added[0] != added[1]:
             stop("`--add` gives a program other libraries")
         for path in OWN:
-            if text_of(there, "crates", "second", path) != text_of(there, "crates", "first", path).replace('"first"', '"second"'):
+            first = text_of(there, "crates", "first", path).replace('"first"', '"second"')
+            if text_of(there, "crates", "second", path) != first.replace("Usage: first ", "Usage: second "):
                 stop(f"`--add` writes another {path}")
 
 
