@@ -1,6 +1,6 @@
 -- What values of a field, a record and a program say of a line's pieces; values that look alike.
 use Rattle.std.specs.Prelude.{Option, filter, false, Bool, true, List, ◌++◌, Some, None, ◌≡◌, ◌∷◌}
-use Rattle.std.specs.{List.Contains, Prelude.map, Prelude.not, Prelude.[], Prelude.ℕ}
+use Rattle.std.specs.{Prelude.map, Prelude.not, Prelude.[], Prelude.ℕ}
 use Rattle.bpaf_base.specs.{declared.arg.Arg.Arg, Items.item_text}
 use Rattle.bpaf_doc.specs.Names.{Names}
 use Rattle.bpaf_exact.specs.Pieces.{stands_behind, is_key_of_any, LinePiece, is_own, others, Roles}
@@ -98,13 +98,6 @@ pub record WordSays {T : Type 0} (accepts : Bool → Bool) (means : List ℕ →
 pub data EitherSays {T : Type 0} (this that : Said T) (os : List LinePiece) (v : T) : Type 0 where
   says_this : this os v → EitherSays this that os v
   says_that : that os v → EitherSays this that os v
-
--- a choice of any number of parsers: what one of them says
-pub record OneOfSays {P T : Type 0} (says : P → Said T) (ps : List P) (os : List LinePiece)
-    (v : T) : Type 0 where
-  pub parser : P
-  pub among : Contains ps parser
-  pub told : says parser os v
 
 -- with a closure round it: what a value says from which the closure makes this one
 pub record MadeSays {A B : Type 0} (said : Said A) (f : Closure A B) (os : List LinePiece)

@@ -248,7 +248,8 @@ are_flags names letters =
     list_all (λ c. is_among names.flags c && not (is_among names.arguments c)) letters
 
 -- letters are the bytes that spell them
-letters_encoded : (letters : List ℕ) → are_letters letters ≡ true → encode_utf8_all letters ≡ letters
+letters_encoded : (letters : List ℕ) → are_letters letters ≡ true
+    → encode_utf8_all letters ≡ letters
 letters_encoded [] are = refl
 letters_encoded (c ∷ cs) are =
     let each = and_parts (is_ascii c && not (c == 61)) (are_letters cs) are in
@@ -296,7 +297,7 @@ argument_among names text c (b ∷ rest) one = (
 
 module _ (known : Known) (plain : known.numbers ≡ false) (names : Names) (words : List (List ℕ))
   where
-    -- where a word's letters spell items, one of which is a key with one of the names, it is spelled
+    -- where a word's letters spell items, and one is a key with one of the names, that is spelled
     joined_spells : (c d : ℕ) (cs : List ℕ) (items : List Arg)
         → Contains (words_before words) (codes "-" ++ c ∷ d ∷ cs) → c ≢ dash_char
         → are_letters (c ∷ d ∷ cs) ≡ true
@@ -327,7 +328,7 @@ module _ (known : Known) (plain : known.numbers ≡ false) (names : Names) (word
         joined_spells c d cs (flags_of (codes "-" ++ c ∷ d ∷ cs) (c ∷ d ∷ cs)) there dash letters
         (flags (known_flags known.names (c ∷ d ∷ cs) are)) (flag_among names _ (c ∷ d ∷ cs) one)
 
-    -- and so do flags and then an argument with its value, as `-vn1`, or one without a flag, as `-n1`.
+    -- and so do flags and then an argument with its value, as `-vn1`, or one alone, as `-n1`.
     pub value_is_spelled : (first second : ℕ) (more before : List ℕ) (c : ℕ) (value : List ℕ)
         → first ∷ second ∷ more ≡ before ++ c ∷ value
         → Contains (words_before words) (codes "-" ++ first ∷ second ∷ more) → first ≢ dash_char
@@ -360,9 +361,9 @@ pub answer_says : {T : Type 0} {P Q : T → Type 0} (r : Result T ParseFailure) 
 answer_says x holds so = grind arith
 
 -- pieces that are a key's own on the words' line: with one, a word before the first `--` spells it
-pub record OwnOf (known : Known) (words : List (List ℕ)) (key : Names) (os : List LinePiece) : Type 0
-  where
-    pub spelled : os ≢ [] → WasSpelled known key words
+pub record OwnOf (known : Known) (words : List (List ℕ)) (key : Names) (os : List LinePiece)
+    : Type 0 where
+  pub spelled : os ≢ [] → WasSpelled known key words
 
 module _ {known : Known} {words : List (List ℕ)} {key : Names} {os : List LinePiece}
     (own : OwnOf known words key os) where
@@ -567,7 +568,8 @@ pub record LeftOfLine (known : Known) (given : Given) (words : List (List ℕ)) 
 
 -- Of what a value of a program is told, all of the line is left, by the names that a caller knows.
 pub told_line : {T : Type 0} {known : Known} {g : Grammar T} {given : Given} {v : T}
-    → (told : TellsOfWords known g given v) → (by : Known) → known ≡ by → (words : List (List ℕ)) → given.words ≡ words
+    → (told : TellsOfWords known g given v) → (by : Known) → known ≡ by
+    → (words : List (List ℕ)) → given.words ≡ words
     → LeftOfLine by given words (line_cells told.is_value.context)
 told_line {given = given} told by is words are = record {
   are = are;
@@ -601,7 +603,8 @@ module _ {known : Known} {given : Given} {words : List (List ℕ)} {cs : Cells}
   pub command_called : {opens : List (List ℕ)} {behind : Cells} → Opens opens cs behind
       → (names : List (List ℕ)) → opens ≡ names → WasCalled known names words
   command_called {opens} opened names same =
-      subst (WasCalled known names) line.are (subst (λ those. WasCalled known those given.words) same
+      subst (WasCalled known names) line.are
+      (subst (λ those. WasCalled known those given.words) same
       (item_spelled (is_one_of opens) known given line.context line.on_line (none_behind opens)
       (kept_on (is_one_of opens) line.left (opens_on opens opened))))
     where

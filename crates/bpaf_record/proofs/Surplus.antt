@@ -12,14 +12,14 @@ use Rattle.bpaf_doc.specs.Names.{Names}
 use Rattle.bpaf_laws.specs.Combinators.{is_nil}
 use Rattle.bpaf_exact.proofs.Names.{others_unkeyed, none_behind, others_both, others_none, cut_fit}
 use Rattle.bpaf_exact.proofs.Names.{kept_twice}
-use Rattle.bpaf_exact.proofs.OwnedKeys.{whole_owns, OwnsKeys}
+use Rattle.bpaf_exact.proofs.OwnedKeys.{whole_owns, none_owned, OwnsKeys}
 use Rattle.bpaf_exact.proofs.ProgramSays.{cut_says}
 use Rattle.bpaf_exact.specs.Flat.{FieldsReading, FallbackValue, both_reading, FieldKind, is_behind}
 use Rattle.bpaf_exact.specs.Flat.{Variables, EachWord, repeated, Closure, OneWord, OwnList, portion}
 use Rattle.bpaf_exact.specs.Flat.{ByName, Groups, LastOf, keys, left, Gap}
-use Rattle.std.specs.List.{before_first}
-use Rattle.bpaf_exact.specs.Pieces.{is_key_of_any, are_all_apart, LinePiece, no_roles, either, Owns}
-use Rattle.bpaf_exact.specs.Pieces.{others, Cells, Roles, Cut}
+use Rattle.std.specs.List.{before_first, list_all}
+use Rattle.bpaf_exact.specs.Pieces.{is_key_of_any, are_all_apart, is_own_role, LinePiece, no_roles}
+use Rattle.bpaf_exact.specs.Pieces.{either, others, Cells, Roles, Owns, Cut}
 use Rattle.bpaf_exact.specs.ProgramForm.{program_optional, product_reading, program_dressed, single}
 use Rattle.bpaf_exact.specs.ProgramForm.{before_commands, program_choice, program_closed, FieldThen}
 use Rattle.bpaf_exact.specs.ProgramForm.{product_roles, program_alone, program_field, whole_program}
@@ -31,12 +31,13 @@ use Rattle.bpaf_exact.specs.Says.{repeated_kind, words_after, first_item, its_pi
 use Rattle.bpaf_exact.specs.Says.{SaidKind, of_kind, of_rest, unkeyed, keyed}
 use Rattle.bpaf_record.specs.Grammar.{product as made, repeated_limit, command_words, FieldsGrammar}
 use Rattle.bpaf_record.specs.Grammar.{limit_of_both, HasNoSurplus, HasOneOfEach, program_form, both}
-use Rattle.bpaf_record.specs.Grammar.{are_unusual, word_limit, GrammarOf, said_kind, takes_one}
-use Rattle.bpaf_record.specs.Grammar.{argument, fallback, IsWithin, optional, command, dressed}
-use Rattle.bpaf_record.specs.Grammar.{Grammar, keys_of, choice, closed, repeat, alone, other, flag}
-use Rattle.bpaf_record.specs.Grammar.{kept, last, only, says, word}
+use Rattle.bpaf_record.specs.Grammar.{begins_known, are_unusual, word_limit, GrammarOf, said_kind}
+use Rattle.bpaf_record.specs.Grammar.{takes_one, argument, fallback, IsWithin, optional, command}
+use Rattle.bpaf_record.specs.Grammar.{dressed, Grammar, keys_of, choice, closed, repeat, alone}
+use Rattle.bpaf_record.specs.Grammar.{other, flag, kept, last, only, says, word}
 use Rattle.bpaf_laws.specs.Command.{opening_words}
 use Rattle.bpaf_record.proofs.GrammarSays.{grammar_owns, grammar_says}
+use Rattle.bpaf_exact.specs.Pieces as cut
 
 -- Occurrences.
 
@@ -406,18 +407,36 @@ grammar_limit (both g h) variables = both_limit (keys_of g true) (keys_of h true
     (grammar_owns h variables)
 grammar_limit (made f g) variables = con_limit _ (grammar_limit g variables) f
 
+-- a key that begins a piece of a cut line is one of those
+cut_known : {r : Roles} {names : List Names} → Owns r names → {cs : Cells} {os : List LinePiece}
+    → Cut r cs os → list_all (begins_known names) os ≡ true
+cut_known owns cut.at_end = refl
+cut_known owns (cut.passed c) = cut_known owns c
+cut_known owns (cut.flag {k = k} e c) =
+    grind (arith, owns.own k (ap is_own_role e), cut_known owns c)
+cut_known owns (cut.argument {k = k} e v c) =
+    grind (arith, owns.own k (ap is_own_role e), cut_known owns c)
+cut_known owns (cut.word {w = w} h c) = grind (arith, cut_known owns c)
+
 -- The pieces that a line is cut into for a value of a flat record have nothing too much.
-pub has_no_surplus : {T : Type 0} (g : Grammar T) (variables : Variables) {cs : Cells} {os : List LinePiece} (v : T)
+pub has_no_surplus : {T : Type 0} (g : Grammar T) (variables : Variables) {cs : Cells}
+    {os : List LinePiece} (v : T)
     → Cut (product_roles (whole_program (program_form g variables))) cs os
     → (product_reading (whole_program (program_form g variables))).value os v → HasNoSurplus g os
 has_no_surplus {T} g variables {cs} {os} v cut read =
     let form = program_form g variables in
     let owns = grammar_owns g variables in record {
+      keys = by_cut (whole_program form) (whole_owns form owns) cut;
       once = parser_once g variables os v (cut_says form owns (grammar_says g variables) cut read);
       words = by_whole (whole_program form) (whole_owns form owns)
           (whole_limit form (grammar_limit g variables)) cut read;
     }
   where
+    by_cut : (w : ProgramForm T) → OwnsKeys (keys_of g true) w → Cut (product_roles w) cs os
+        → list_all (begins_known (keys_of g true)) os ≡ true
+    by_cut (product wide named q fields) owns cut = cut_known owns.by cut
+    by_cut _ owns cut = cut_known (none_owned (keys_of g true)) cut
+
     by_whole : (w : ProgramForm T) → OwnsKeys (keys_of g true) w → HasLimit (word_limit g) w
         → Cut (product_roles w) cs os → (product_reading w).value os v
         → IsWithin (word_limit g) (length (unkeyed (keys_of g true) os))

@@ -1,6 +1,6 @@
 -- The grammar of programs: of which parsers they are made, and by which steps.
 use Rattle.std.specs.Prelude.{if◌then◌else◌, Option, length, false, Bool, true, List, ◌++◌, None, ℕ}
-use Rattle.std.specs.Prelude.{Some, zero, ◌&&◌, not, ◌∷◌, ◌+◌, ◌≡◌, ◌≤◌, []}
+use Rattle.std.specs.Prelude.{Some, zero, ◌&&◌, ◌||◌, not, ◌∷◌, ◌+◌, ◌≡◌, ◌≤◌, []}
 use Rattle.bpaf_doc.specs.Names.{Names}
 use Rattle.bpaf_text.specs.Named.{Named as Key, KeyWithValue}
 use Rattle.bpaf_laws.specs.Choice.{ChoicesOutcome, ChoiceOutcome, Nested}
@@ -20,10 +20,11 @@ use Rattle.bpaf_exact.specs.ProgramForm.{pure_field, no_program, program_if, Eac
 use Rattle.bpaf_exact.specs.ProgramForm.{FormLaw}
 use Rattle.bpaf_exact.specs.Says.{FieldThenSays, repeated_kind, ArgumentSays, FallbackSays, BothSay}
 use Rattle.bpaf_exact.specs.Says.{OptionalSays, EitherSays, FieldsSaid, RecordSays, RepeatSays}
-use Rattle.bpaf_exact.specs.Says.{scope_said, AloneSays, form_kind, FlagSays, LastSays, MadeSays}
-use Rattle.bpaf_exact.specs.Says.{SaidKind, WordSays, of_kind, unkeyed, keyed, Said}
-use Rattle.bpaf_exact.specs.Pieces.{are_apart, LinePiece}
+use Rattle.bpaf_exact.specs.Says.{scope_said, first_item, AloneSays, form_kind, FlagSays, LastSays}
+use Rattle.bpaf_exact.specs.Says.{MadeSays, SaidKind, WordSays, of_kind, unkeyed, keyed, Said}
+use Rattle.bpaf_exact.specs.Pieces.{is_key_of_any, are_apart, LinePiece}
 use Rattle.std.specs.List.{list_all}
+use Rattle.bpaf_base.specs.Items.{is_key}
 
 -- what a parser is made of: what it is by itself, or a step and the parsers inside; or of which
 -- parsers the fields of a product are
@@ -99,7 +100,8 @@ command_words (command adjacent called info g) = opening_words called
 command_words _ = []
 
 -- what it is to a program where the environment has these variables
-abbrev pub program_form : {fields : Bool} {T : Type 0} → GrammarOf fields T → Variables → ProgramForm T
+abbrev pub program_form : {fields : Bool} {T : Type 0} → GrammarOf fields T → Variables
+    → ProgramForm T
 program_form (flag clones key present absent) variables =
     flag_field clones key present absent variables
 program_form (argument means key) variables = argument_field means key variables
@@ -155,8 +157,8 @@ ends_in_commands (both g h) = ends_in_commands h
 ends_in_commands (product f g) = ends_in_commands g
 ends_in_commands _ = false
 
--- what is said of a parser's own pieces, and of fields of the pieces of a line and of the words that
--- are left to them
+-- what is said of a parser's own pieces, and of fields of the pieces of a line and of the words
+-- that are left to them
 abbrev pub SaidOf : (fields : Bool) → Type 0 → Type 1
 SaidOf false T = Said T
 SaidOf true V = FieldsSaid V
@@ -263,8 +265,13 @@ abbrev pub IsWithin : Option ℕ → ℕ → Type 0
 IsWithin (Some limit) n = n ≤ limit
 IsWithin None n = Unit {0}
 
--- the pieces of a line have no occurrence and no word too many
+-- a piece begins with no key, or with one of these
+abbrev pub begins_known : List Names → LinePiece → Bool
+begins_known names o = not (is_key (first_item o)) || is_key_of_any names (first_item o)
+
+-- the pieces of a line have no key of nobody, and no occurrence and no word too many
 pub record HasNoSurplus {T : Type 0} (g : Grammar T) (os : List LinePiece) : Type 0 where
+  pub keys : list_all (begins_known (keys_of g true)) os ≡ true
   pub once : HasOneOfEach g os
   pub words : IsWithin (word_limit g) (length (unkeyed (keys_of g true) os))
 

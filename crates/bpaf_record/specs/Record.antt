@@ -40,8 +40,8 @@ pub record IsValueOf {T : Type 0} (known : Known) (form : ProgramForm T) (given 
   pub read : RecordValue (product_roles (whole_program form))
       (product_reading (whole_program form)).value context v
 
--- v is a value of the record on words whose line, as it is cut for v, holds together and has no
--- occurrence and no word too many
+-- v is a value of the record on words whose line, as it is cut for v, holds together and has
+-- nothing too much
 pub record HasWholeLine {T : Type 0} (known : Known) (g : Grammar T) (given : Given) (v : T)
     : Type 0 where
   pub is_value : IsValueOf known (program_form g given.env) given v

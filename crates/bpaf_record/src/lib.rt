@@ -10,9 +10,8 @@
 //!   `pure`, products, and commands and choices of them; [`ProgramFields`] for the fields of a
 //!   product. Each says of what it is made (`grammar`), by which definitions tell what it is to a
 //!   program (`program_form`, specs/Grammar.antt) and what its values say (`says`), and proves the
-//!   law of that form: what it answers
-//!   and takes depends on what is its own alone. A parser that has no [`ProgramField`] stands in no
-//!   program: the compiler tells.
+//!   law of that form: what it answers and takes depends on what is its own alone. A parser that
+//!   has no [`ProgramField`] stands in no program: the compiler tells.
 //! - [`FlatField`] and [`FlatFields`], marks without members, are written for those that may stand
 //!   in a flat record: all but commands, `hide` and `pure`. What such a type is to a flat record
 //!   may be told by its value alone: an adjacent argument or a positional word with `strict` is a
