@@ -5,6 +5,7 @@ use bench_values::{
     AsValue, Described, Fault, Keyed, Problem, Tokens, is_combination, is_numbered, is_texted,
     kind_of_key, read_key,
 };
+use bpaf::Doc;
 use bpaf::params::ParsePositional;
 
 /// A leaf of a key, of which the token was read.
@@ -23,7 +24,9 @@ fn read_word<T>(
     tokens: &mut Tokens<'_>,
 ) -> Result<AsValue<T, ParsePositional<T>>, Fault> {
     match tokens.quoted()? {
-        Some(help) => Ok(as_value(word.inner.help_str(tokens.alloc(), help)?)),
+        Some(help) => Ok(as_value(
+            word.inner.help(Doc::from_text(tokens.alloc(), help)?),
+        )),
         None => Ok(word),
     }
 }

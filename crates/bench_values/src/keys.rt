@@ -1,6 +1,7 @@
 //! The keys and the names of commands that stand in a description.
 use crate::tokens::{Fault, Problem, Tokens};
 use bpaf_core::CommandNames;
+use bpaf_doc::Doc;
 use bpaf_text::{NamedArg, env, long, short};
 use std::alloc::{AllocError, Global};
 
@@ -66,7 +67,7 @@ pub fn read_key(tokens: &mut Tokens<'_>) -> Result<NamedArg, Fault> {
     };
     tokens.skip();
     match tokens.quoted()? {
-        Some(help) => Ok(key.help_str(tokens.alloc(), help)?),
+        Some(help) => Ok(key.help(Doc::from_text(tokens.alloc(), help)?)),
         None => Ok(key),
     }
 }

@@ -1,2 +1,2 @@
 //! What texts are made of (bpaf's module `doc`).
-pub use bpaf_doc::{Doc, MetaInfo, Style};
+pub use bpaf_doc::{Doc, Help, MetaInfo, Style};

@@ -37,11 +37,13 @@ pub use bpaf_core::{
     CommandNames, ExtraParams, HelpTexts, Info, OptionParser, Parser, command, earlier_key,
     leftover, read_text, render, render_help, usage_of, value_or_refusal,
 };
-pub use bpaf_doc::{Doc, Item, Meta, MetaInfo, Metavar, Piece, ShortLong, Style, Text};
+pub use bpaf_doc::{Doc, Help, Item, Meta, MetaInfo, Metavar, Piece, ShortLong, Style, Text};
 pub use bpaf_line::{
     ArgsIter, Error, Mark, Message, MissingItem, MissingItems, ParseFailure, State, Steps,
 };
-pub use bpaf_text::{FromList, FromText, NamedArg, TextFault, copy_texts, env, long, short};
+pub use bpaf_text::{
+    FromList, FromText, NamedArg, TextFault, copy_texts, env, key, long, long_key, short, short_key,
+};
 pub use bpaf_words::{
     Arg, Args, Front, LentWord, Line, LineFault, SplitFault, Words, line_of, lines_are_unique,
     spellings_are_unique, split_word,

@@ -1,5 +1,5 @@
 //! Texts, of which short ones take no memory.
-ghost use Rattle.std.specs.Prelude.{◌≡◌, IfOk};
+ghost use Rattle.std.specs.Prelude.{◌≡◌, ◌≤◌, length, IfOk};
 
 use crate::short::{ROOM, ShortText};
 use std::alloc::{AllocError, Global};
@@ -43,12 +43,21 @@ impl Text {
     pub fn new(alloc: Global, text: &str) -> Result<Text, AllocError>
         ensures { IfOk result (λ t. t ≡ text.now) }
     {
-        let kept = if text.len() <= ROOM {
-            Kept::Short(ShortText::new(text))
-        } else {
-            Kept::Long(String::from_str(alloc, text)?)
-        };
+        if text.len() <= ROOM {
+            return Ok(Text::short(text));
+        }
+        let kept = Kept::Long(String::from_str(alloc, text)?);
         Ok(Text { kept })
+    }
+
+    /// A copy of a text of at most 23 bytes. It takes no memory.
+    pub fn short(text: &str) -> Text
+        requires { length text.now ≤ 23 }
+        ensures { result ≡ text.now }
+    {
+        Text {
+            kept: Kept::Short(ShortText::new(text)),
+        }
     }
 
     /// The text itself.

@@ -2,7 +2,7 @@
 -- within bounds.
 use Rattle.std.specs.Prelude.{◌≡◌, ℕ, List, [], Bool, false, ◌&&◌, ◌||◌, None, ℤ, pos, ◌+ℤ◌, ◌-ℤ◌}
 use Rattle.std.specs.Int.{int_max, int_min}
-use Rattle.bpaf_doc.specs.{Print.TextPieces, declared.doc.Piece.Piece}
+use Rattle.bpaf_doc.specs.Print.{text_pieces}
 use Rattle.bpaf_text.specs.Named.{nothing_named, with_help, with_long, with_short}
 use Rattle.bpaf_text.specs.declared.params.ParseFlag.{ParseFlag}
 use Rattle.bpaf_base.specs.{declared.arg.Arg.Arg, Items.is_key_of}
@@ -36,14 +36,13 @@ abbrev pub KeyReads : {T : Type 0} → (T → T → Type 0) → ParseFlag T → 
 KeyReads {T} clones flag = FlagReads T clones flag.named flag.present flag.absent
 
 -- a flag that must stand on the line, of one short and one long name, with this help
-abbrev pub IsCountedKey : ℕ → List ℕ → List ℕ → ParseFlag (Unit {0}) → Type 0
-IsCountedKey name long help flag =
-    (doc : List Piece) × TextPieces help doc
-    × (flag ≡ record {
-      present = tt;
-      absent = None;
-      named = with_help (with_long (with_short nothing_named name) long) doc;
-    })
+abbrev pub counted_key : ℕ → List ℕ → List ℕ → ParseFlag (Unit {0})
+counted_key name long help = record {
+  present = tt;
+  absent = None;
+  named =
+      with_help (key_named (record { shorts = name ∷ []; longs = long ∷ [] })) (text_pieces help);
+}
 
 -- the letter `v`
 abbrev pub letter_v : ℕ

@@ -12,7 +12,7 @@ use Rattle.bpaf_laws.specs.Laws.{newly, WithoutMemory, of_flags, ShowsNames, Law
 use Rattle.bpaf_laws.specs.Combinators.{CountOutcome, ListReads, ManyDescribes, MapReads}
 use Rattle.bpaf_laws.specs.{Reading.Share, Reading.Outcome, Reading.Readings, Leaves.flag_shape}
 use Rattle.bpaf_words.specs.Line.{ShortNames}
-use Rattle.bpaf_batteries.specs.Keys.{IsCountedKey, KeyOutcome, KeyReads, is_flag_key, letter_q}
+use Rattle.bpaf_batteries.specs.Keys.{counted_key, KeyOutcome, KeyReads, is_flag_key, letter_q}
 use Rattle.bpaf_batteries.specs.{declared.pair.KeyCounts.KeyCounts, Keys.letter_v, Keys.IsLevelOf}
 use Rattle.std.proofs.Common.{⊎_elim, inl, inr, subst, sym}
 use Rattle.bpaf_laws.proofs.ShownNames.{both_show, flag_shows, last_shows, many_shows}
@@ -31,10 +31,10 @@ fewer_of keys = keys.fields.rest.last.inner
 -- the keys are `-v`, `--verbose` and `-q`, `--quiet`
 abbrev pub AreVerboseAndQuiet : KeyCounts → Type 0
 AreVerboseAndQuiet keys =
-    IsCountedKey letter_v (codes "verbose")
-    (codes "Increase output verbosity, can be used several times") (more_of keys)
-    × IsCountedKey letter_q (codes "quiet")
-    (codes "Decrease output verbosity, can be used several times") (fewer_of keys)
+    (more_of keys ≡ counted_key letter_v (codes "verbose")
+    (codes "Increase output verbosity, can be used several times"))
+    × (fewer_of keys ≡ counted_key letter_q (codes "quiet")
+    (codes "Decrease output verbosity, can be used several times"))
 
 -- the short names of both
 abbrev pub counted_shorts : KeyCounts → ShortNames

@@ -1,6 +1,6 @@
 //! How often the keys for more and for less are given.
-ghost use Rattle.std.specs.Prelude.{◌≡◌, ◌∷◌, [], IfOk, IsTrue, None};
-ghost use Rattle.bpaf_batteries.specs.Keys.{IsCountedKey};
+ghost use Rattle.std.specs.Prelude.{◌≡◌, ◌≤◌, length, ◌∷◌, [], IfOk, IsTrue, None};
+ghost use Rattle.bpaf_batteries.specs.Keys.{counted_key};
 ghost use Rattle.bpaf_batteries.specs.Verbosity.{AreVerboseAndQuiet, CountsDescribe, CountsOutcome};
 ghost use Rattle.bpaf_batteries.specs.Verbosity.{CountsReads, CountsSpared, KeysAreCounted};
 ghost use Rattle.bpaf_batteries.specs.Verbosity.{counted_shorts, counts_lawful, counts_show};
@@ -8,43 +8,36 @@ ghost use Rattle.bpaf_laws.specs.Laws.{IsNotMemory};
 
 use crate::pair::KeyCounts;
 use bpaf::parsers::{ParseCount, ParseFlag};
-use bpaf::{Both, Doc, Error, Fields, Last, Meta, Parser, State, short};
+use bpaf::{Both, Error, Fields, Last, Meta, Parser, State, key};
 use std::alloc::{AllocError, Global};
 
-/// How often a key of these names and this help stands on the line; refused only for want of
-/// memory.
+/// How often a key of these names and this help stands on the line.
 fn counted(
     alloc: Global,
-    name: char,
-    long: &str,
-    help: &str,
-) -> Result<ParseCount<ParseFlag<()>, ()>, AllocError>
-    ensures { IfOk result (λ p. IsCountedKey name long.now help.now p.inner) }
+    letter: char,
+    name: &str,
+    help: &'static str,
+) -> ParseCount<ParseFlag<()>, ()>
+    requires { length name.now ≤ 23 }
+    ensures { result.inner ≡ counted_key letter name.now help.now }
 {
-    let help = Doc::from_text(alloc, help)?;
-    Ok(
-        short(alloc, name)?
-            .long(long)?
-            .help(help)
-            .req_flag(())
-            .count(),
-    )
+    key(alloc, letter, name).req_flag(()).help(help).count()
 }
 
-/// The keys `-v`, `--verbose` and `-q`, `--quiet`; refused only for want of memory.
-pub(crate) fn verbose_and_quiet(alloc: Global) -> Result<KeyCounts, AllocError>
-    ensures { IfOk result AreVerboseAndQuiet }
+/// The keys `-v`, `--verbose` and `-q`, `--quiet`. They take no memory.
+pub(crate) fn verbose_and_quiet(alloc: Global) -> KeyCounts
+    ensures { AreVerboseAndQuiet result }
 {
     let help = "Increase output verbosity, can be used several times";
-    let first = counted(alloc, 'v', "verbose", help)?;
+    let first = counted(alloc, 'v', "verbose", help);
     let help = "Decrease output verbosity, can be used several times";
-    let last = counted(alloc, 'q', "quiet", help)?;
-    Ok(KeyCounts {
+    let last = counted(alloc, 'q', "quiet", help);
+    KeyCounts {
         fields: Both {
             first,
             rest: Last { last },
         },
-    })
+    }
 }
 
 /// Both counts; then no word is current.

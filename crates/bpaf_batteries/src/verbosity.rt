@@ -50,7 +50,7 @@ pub fn verbose_and_quiet_by_number(
     ensures max { IfOk result (λ p. p.max ≡ max) }
 {
     Ok(VerboseQuiet {
-        counts: verbose_and_quiet(alloc)?,
+        counts: verbose_and_quiet(alloc),
         offset,
         min,
         max,
@@ -138,7 +138,7 @@ pub fn verbose_by_slice<T: Drop, const N: usize>(
     ensures offset { IfOk result (λ p. p.offset ≡ offset) }
     ensures items { IfOk result (λ p. p.items ≡ items) }
 {
-    let counts = verbose_and_quiet(alloc)?;
+    let counts = verbose_and_quiet(alloc);
     Ok(VerboseSlice {
         counts,
         offset,

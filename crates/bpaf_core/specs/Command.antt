@@ -1,8 +1,8 @@
 -- What a command answers, also one that may be adjacent, and then reads the items behind its word
 -- without a gap.
 use Rattle.std.specs.Prelude.{◌≡◌, ◌⊎◌, ℕ, List, Some, None, Result, Ok, Err, ◌+◌, Bool, true}
-use Rattle.std.specs.Prelude.{false}
-use Rattle.bpaf_doc.specs.Shape.{Part, Shape}
+use Rattle.std.specs.Prelude.{false, Option}
+use Rattle.bpaf_doc.specs.{Shape.Part, Shape.Shape, declared.doc.Piece.Piece}
 use Rattle.bpaf_line.specs.declared.failure.ParseFailure.{ParseFailure}
 use Rattle.bpaf_line.specs.Situation.{Situation, with_current, with_scope, IsStretchFrom}
 use Rattle.bpaf_line.specs.{declared.error.Error.Error, declared.error.Message.Message}
@@ -11,6 +11,7 @@ use Rattle.bpaf_laws.specs.Reading.{Outcome, Readings}
 use Rattle.bpaf_laws.specs.Command.{Called, IsNotOpened, IsOpenedAt, inside, opened, opening_words}
 use Rattle.bpaf_laws.specs.Command.{CommandPart, CommandReads}
 use Rattle.bpaf_laws.specs.Adjacent.{AllTaken, IsFirstLeft, StretchReads}
+use Rattle.bpaf_keys.specs.Info.{RunInfo, short_descr}
 use Rattle.bpaf_parts.specs.Failures.{end_message}
 use Rattle.bpaf_core.specs.Ending.{Ending, EndsRun}
 use Rattle.bpaf_core.specs.{Run.Runs, declared.commands.ParseCommand.ParseCommand}
@@ -97,12 +98,22 @@ abbrev pub EitherCommandOutcome : Bool → (T : Type 0) → Outcome T → Ending
 EitherCommandOutcome true T inner ending called shows = AdjacentOutcome T inner ending called shows
 EitherCommandOutcome false T inner ending called shows = CommandOutcome T inner ending called shows
 
+-- what is shown of a command beside its name: a help of its own, or the first line of what its
+-- parser is for
+abbrev pub help_or_descr : Option (List Piece) → RunInfo → Option (List Piece)
+help_or_descr (Some help) info = Some help
+help_or_descr None info = short_descr info
+
+-- that of this command
+abbrev pub shown_help : {T P : Type 0} → ParseCommand T P → Option (List Piece)
+shown_help command = help_or_descr command.help command.info
+
 -- what this command answers, where the parser inside answers so and shows this
 abbrev pub OutcomeOfCommand : {T P : Type 0} → ParseCommand T P → Outcome T → (Shape → Type 0)
     → Outcome T
 OutcomeOfCommand {T} command inner describes =
     EitherCommandOutcome command.adjacent T inner (EndsRun describes command.info) command.names
-    (CommandPart command.names command.help describes)
+    (CommandPart command.names (shown_help command) describes)
 
 -- what is read of it
 abbrev pub EitherCommandReads : Bool → (T : Type 0) → List (List ℕ) → Readings T → Readings T

@@ -1,8 +1,7 @@
 //! Commands: a word that opens a run of its own over the items after it.
-ghost use Rattle.std.specs.Prelude.{◌≡◌, IfOk, Some, List, true, false};
-ghost use Rattle.bpaf_doc.specs.{declared.doc.Piece.Piece, Print.TextPieces};
+ghost use Rattle.std.specs.Prelude.{◌≡◌, ◌≤◌, length, IfOk, Some, None, true, false};
+ghost use Rattle.bpaf_doc.specs.Print.{text_pieces};
 ghost use Rattle.bpaf_laws.specs.Command.{named_only, with_long_name, with_short_name};
-ghost use Rattle.bpaf_keys.specs.Info.{short_descr};
 
 use crate::options::OptionParser;
 use bpaf_doc::Doc;
@@ -18,7 +17,7 @@ mod entering;
 pub struct ParseCommand<T, P> {
     /// The names by which it is called.
     pub names: CommandNames,
-    /// What is shown of it beside its name.
+    /// What is shown of it beside its name; where none is set, the first line of the description.
     pub help: Option<Doc>,
     /// What runs behind it.
     pub inner: P,
@@ -45,28 +44,57 @@ pub fn command<T, P: Drop>(
     subparser: OptionParser<T, P>,
 ) -> Result<ParseCommand<T, P>, AllocError>
     ensures names { IfOk result (λ command. command.names ≡ named_only name.now) }
-    ensures help { IfOk result (λ command. command.help ≡ short_descr subparser.info) }
+    ensures help { IfOk result (λ command. command.help ≡ None) }
     ensures inner { IfOk result (λ command. command.inner ≡ subparser.inner) }
     ensures info { IfOk result (λ command. command.info ≡ subparser.info) }
     ensures adjacent { IfOk result (λ command. command.adjacent ≡ false) }
 {
     let names = CommandNames::new(subparser.alloc, name)?;
-    let help = subparser.info.short_descr()?;
+    Ok(called(names, subparser))
+}
+
+/// The command of these names.
+fn called<T, P>(names: CommandNames, subparser: OptionParser<T, P>) -> ParseCommand<T, P>
+    ensures names { result.names ≡ names }
+    ensures help { result.help ≡ None }
+    ensures inner { result.inner ≡ subparser.inner }
+    ensures info { result.info ≡ subparser.info }
+    ensures adjacent { result.adjacent ≡ false }
+{
     let OptionParser {
         inner,
         info,
         alloc,
         ..
     } = subparser;
-    Ok(ParseCommand {
+    ParseCommand {
         names,
-        help,
+        help: None,
         inner,
         info,
         alloc,
         adjacent: false,
         of: PhantomData,
-    })
+    }
+}
+
+impl<T, P> OptionParser<T, P> {
+    /// The command of this name that runs this parser, as [`command`]. It takes no memory, so the
+    /// name has at most 23 bytes.
+    ///
+    /// ```text
+    /// num.into_options(alloc).into_command("build")
+    /// ```
+    pub fn into_command(self, name: &str) -> ParseCommand<T, P>
+        requires { length name.now ≤ 23 }
+        ensures names { result.names ≡ named_only name.now }
+        ensures help { result.help ≡ None }
+        ensures inner { result.inner ≡ self.inner }
+        ensures info { result.info ≡ self.info }
+        ensures adjacent { result.adjacent ≡ false }
+    {
+        called(CommandNames::plain(self.alloc, name), self)
+    }
 }
 
 impl<T, P: Drop> OptionParser<T, P> {
@@ -78,7 +106,7 @@ impl<T, P: Drop> OptionParser<T, P> {
     /// ```
     pub fn command(self, name: &str) -> Result<ParseCommand<T, P>, AllocError>
         ensures names { IfOk result (λ command. command.names ≡ named_only name.now) }
-        ensures help { IfOk result (λ command. command.help ≡ short_descr self.info) }
+        ensures help { IfOk result (λ command. command.help ≡ None) }
         ensures inner { IfOk result (λ command. command.inner ≡ self.inner) }
         ensures info { IfOk result (λ command. command.info ≡ self.info) }
         ensures adjacent { IfOk result (λ command. command.adjacent ≡ false) }
@@ -100,8 +128,8 @@ impl<T, P: Drop> ParseCommand<T, P> {
     /// The same with a help of this text, as [`Doc::from_text`] makes it; refused only for want of
     /// memory, and then the command is gone.
     pub fn help_str(self, help: &str) -> Result<ParseCommand<T, P>, AllocError>
-        ensures { IfOk result (λ helped. (pieces : List Piece) × TextPieces help.now pieces
-            × (helped ≡ record self { help = Some pieces })) }
+        ensures { IfOk result (λ helped.
+            helped ≡ record self { help = Some (text_pieces help.now) }) }
     {
         let alloc = self.alloc;
         Ok(self.help(Doc::from_text(alloc, help)?))

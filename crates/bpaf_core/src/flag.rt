@@ -7,7 +7,7 @@ ghost use Rattle.bpaf_laws.proofs.{LeafLaws.flag_lawful, ShownNames.flag_shows};
 
 use crate::parser::Parser;
 use bpaf_doc::Meta;
-use bpaf_keys::{absence, is_present};
+use bpaf_keys::{absence, is_flag_present};
 use bpaf_line::{Error, State};
 use bpaf_text::ParseFlag;
 use std::alloc::{AllocError, Global};
@@ -36,7 +36,7 @@ impl<T: Clone> Parser<T> for ParseFlag<T> {
         ensures memory_is_never_caught { IfErr result (ClonesNothing self.now.named
             self.now.absent state.old state.new) }
     {
-        if is_present(&self.named, state) {
+        if is_flag_present(self, state) {
             return Ok(self.present.clone()?);
         }
         match &self.absent {

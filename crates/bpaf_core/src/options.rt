@@ -1,6 +1,6 @@
 //! A parser that can run over words: the texts and keys of its run.
 ghost use Rattle.std.specs.Prelude.{◌≡◌, IfOk, List, Ok, Some, true};
-ghost use Rattle.bpaf_doc.specs.Print.{TextPieces, Prints};
+ghost use Rattle.bpaf_doc.specs.Print.{text_pieces, Prints};
 ghost use Rattle.bpaf_doc.specs.{declared.doc.Piece.Piece, Shape.Shape};
 ghost use Rattle.bpaf_pages.specs.Help.{usage_text};
 ghost use Rattle.bpaf_core.specs.Run.{TellsOrder};
@@ -166,8 +166,8 @@ impl<T, P: Drop> OptionParser<T, P> {
     /// The same with a description of this text, as [`Doc::from_text`] makes it; refused only for
     /// want of memory, and then the parser is gone.
     pub fn descr_str(self, descr: &str) -> Result<OptionParser<T, P>, AllocError>
-        ensures { IfOk result (λ parser. (pieces : List Piece) × TextPieces descr.now pieces
-            × (parser ≡ record self { info = record self.info { descr = Some pieces } })) }
+        ensures { IfOk result (λ parser. parser
+            ≡ record self { info = record self.info { descr = Some (text_pieces descr.now) } }) }
     {
         let alloc = self.alloc;
         Ok(self.descr(Doc::from_text(alloc, descr)?))
@@ -176,8 +176,8 @@ impl<T, P: Drop> OptionParser<T, P> {
     /// The same with a version of this text, as [`Doc::from_text`] makes it; refused only for want
     /// of memory, and then the parser is gone.
     pub fn version_str(self, version: &str) -> Result<OptionParser<T, P>, AllocError>
-        ensures { IfOk result (λ parser. (pieces : List Piece) × TextPieces version.now pieces
-            × (parser ≡ record self { info = record self.info { version = Some pieces } })) }
+        ensures { IfOk result (λ parser. parser
+            ≡ record self { info = record self.info { version = Some (text_pieces version.now) } }) }
     {
         let alloc = self.alloc;
         Ok(self.version(Doc::from_text(alloc, version)?))
@@ -186,8 +186,8 @@ impl<T, P: Drop> OptionParser<T, P> {
     /// The same with a header of this text, as [`Doc::from_text`] makes it; refused only for want
     /// of memory, and then the parser is gone.
     pub fn header_str(self, header: &str) -> Result<OptionParser<T, P>, AllocError>
-        ensures { IfOk result (λ parser. (pieces : List Piece) × TextPieces header.now pieces
-            × (parser ≡ record self { info = record self.info { header = Some pieces } })) }
+        ensures { IfOk result (λ parser. parser
+            ≡ record self { info = record self.info { header = Some (text_pieces header.now) } }) }
     {
         let alloc = self.alloc;
         Ok(self.header(Doc::from_text(alloc, header)?))
@@ -196,8 +196,8 @@ impl<T, P: Drop> OptionParser<T, P> {
     /// The same with a footer of this text, as [`Doc::from_text`] makes it; refused only for want
     /// of memory, and then the parser is gone.
     pub fn footer_str(self, footer: &str) -> Result<OptionParser<T, P>, AllocError>
-        ensures { IfOk result (λ parser. (pieces : List Piece) × TextPieces footer.now pieces
-            × (parser ≡ record self { info = record self.info { footer = Some pieces } })) }
+        ensures { IfOk result (λ parser. parser
+            ≡ record self { info = record self.info { footer = Some (text_pieces footer.now) } }) }
     {
         let alloc = self.alloc;
         Ok(self.footer(Doc::from_text(alloc, footer)?))
@@ -206,8 +206,8 @@ impl<T, P: Drop> OptionParser<T, P> {
     /// The same with a usage paragraph of this text, as [`Doc::from_text`] makes it; refused only
     /// for want of memory, and then the parser is gone.
     pub fn usage_str(self, usage: &str) -> Result<OptionParser<T, P>, AllocError>
-        ensures { IfOk result (λ parser. (pieces : List Piece) × TextPieces usage.now pieces
-            × (parser ≡ record self { info = record self.info { usage = Some pieces } })) }
+        ensures { IfOk result (λ parser. parser
+            ≡ record self { info = record self.info { usage = Some (text_pieces usage.now) } }) }
     {
         let alloc = self.alloc;
         Ok(self.usage(Doc::from_text(alloc, usage)?))

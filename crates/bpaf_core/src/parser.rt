@@ -359,17 +359,25 @@ pub trait Parser<T>: Sized {
         ParseWithGroupHelp { inner: self, f }
     }
 
-    /// A parser that can run over words; refused only for want of memory.
-    final fn to_options(self, alloc: Global) -> Result<OptionParser<T, Self>, AllocError>
-        ensures inner { IfOk result (λ options. options.inner ≡ self) }
-        ensures info { IfOk result (λ options. options.info ≡ plain_info) }
+    /// A parser that can run over words. It takes no memory.
+    final fn into_options(self, alloc: Global) -> OptionParser<T, Self>
+        ensures inner { result.inner ≡ self }
+        ensures info { result.info ≡ plain_info }
     {
-        Ok(OptionParser {
+        OptionParser {
             info: Info::new(),
             inner: self,
             alloc,
             of: PhantomData,
-        })
+        }
+    }
+
+    /// The same, as bpaf's `Parser::to_options` is named; it is never refused.
+    final fn to_options(self, alloc: Global) -> Result<OptionParser<T, Self>, AllocError>
+        ensures inner { IfOk result (λ options. options.inner ≡ self) }
+        ensures info { IfOk result (λ options. options.info ≡ plain_info) }
+    {
+        Ok(self.into_options(alloc))
     }
 
     /// The value that the words give, by a run without texts of its own, and the end of the parser

@@ -2,13 +2,13 @@
 -- a shape.
 use Rattle.std.proofs.Common.{◌≡◌, ℕ, suc, ◌<◌, ◌≤◌, Bool, true, false, not, ◌&&◌, ◌||◌, ◌==◌, List}
 use Rattle.std.proofs.Common.{[], ◌∷◌, ◌++◌, length, drop, if◌then◌else◌, refl, ap, sym, ◌∙◌, arith}
-use Rattle.std.proofs.Common.{append-nil, subst, Some, None, option_map, get_or, drop-cons, ◌≢◌}
+use Rattle.std.proofs.Common.{subst, Some, None, option_map, get_or, drop-cons, ◌≢◌}
 use Rattle.std.proofs.Common.{slice_index, zero, append_assoc, Vec, map, ◌+◌, add-one}
 use Rattle.std.specs.Prelude.{filter, flat_map}
 use Rattle.bpaf_doc.specs.Print.{folded, empty_line, begins_with_empty_line, cut_at_empty_line}
-use Rattle.bpaf_doc.specs.Print.{folded_parts, folded_whole, TextPieces, whole, cut, printed}
+use Rattle.bpaf_doc.specs.Print.{folded_whole, text_pieces, pieces_of_parts, printed}
 use Rattle.bpaf_doc.specs.Print.{is_blank, folded_after, keeps_break, break_or_space, break_between}
-use Rattle.bpaf_doc.specs.Print.{HasNoBreak, detail, whole_pieces, cut_pieces, shown_as}
+use Rattle.bpaf_doc.specs.Print.{HasNoBreak, detail, shown_as}
 use Rattle.bpaf_doc.specs.Shape.{Part, shape_of, Shape, Or, alternatives, members, part_layer}
 use Rattle.bpaf_doc.specs.Shape.{shape_layer, shapes_of, member_shapes, ◌then◌}
 use Rattle.bpaf_doc.specs.declared.doc.Style.TheVariants as style
@@ -52,15 +52,14 @@ cut_here (c ∷ before) after lacks =
     ∙ ap (option_map (λ parts. (c ∷ parts.0, parts.1)))
     (cut_here before after (λ i within. lacks (suc i) (omega arith)))
 
--- what a full print shows of the pieces of a text
-pub folded_pieces : (text : List ℕ) (pieces : List Piece) → TextPieces text pieces
-    → printed true pieces ≡ folded_whole text
-folded_pieces text pieces (whole lacks) =
-    append-nil (folded text) ∙ sym (ap (folded_parts text) (uncut text lacks))
-folded_pieces text pieces (cut before after is lacks) =
-    ap (λ x. folded before ++ 10 ∷ x) (append-nil (folded after))
-    ∙ sym (ap (folded_parts text) (ap cut_at_empty_line is ∙ cut_here before after
-    (subst (λ (x : List ℕ). (i : ℕ) → i < length before → LacksTextAt empty_line x i) is lacks)))
+-- a text around its first empty line is cut there
+cut_text : (text before after : List ℕ) → text ≡ before ++ (empty_line ++ after) → (i : ℕ)
+    → ((k : ℕ) → k < i → LacksTextAt empty_line text k) → length before ≡ i
+    → cut_at_empty_line text ≡ Some (before, after)
+cut_text text before after is i lacks ends =
+    ap cut_at_empty_line is ∙ cut_here before after
+    (subst (λ (x : List ℕ). (k : ℕ) → k < length before → LacksTextAt empty_line x k) is
+    (λ k within. lacks k (omega arith)))
 
 -- what is printed of two lists of pieces, one behind the other
 pub printed_both : (full : Bool) (front back : List Piece)
@@ -71,11 +70,9 @@ printed_both full front back =
     ∙ flat_map-append (λ (piece : Piece). piece.text) (filter shows front) (filter shows back)
 
 -- what a full print shows where the pieces of a text were appended
-pub printed_text : (text : List ℕ) (old new more : List Piece) → TextPieces text more
-    → new ≡ old ++ more → printed true new ≡ printed true old ++ folded_whole text
-printed_text text old new more is put =
-    ap (printed true) put ∙ printed_both true old more
-    ∙ ap (λ x. printed true old ++ x) (folded_pieces text more is)
+pub printed_text : (text : List ℕ) (old new : List Piece) → new ≡ old ++ text_pieces text
+    → printed true new ≡ printed true old ++ folded_whole text
+printed_text text old new put = ap (printed true) put ∙ printed_both true old (text_pieces text)
 
 -- a text before another is not empty where it isn't
 not_nil : (text rest : List ℕ) → (length text == 0) ≡ false → is_blank (text ++ rest) ≡ false
@@ -163,21 +160,19 @@ no_empty_line (c ∷ text) free (suc i) rest is =
 
 -- the one piece of a text without line breaks
 pub text_plain : (text : List ℕ) (pieces : List Piece) → HasNoBreak text
-    → pieces ≡ shown_as style.Text text ∷ [] → TextPieces text pieces
+    → pieces ≡ shown_as style.Text text ∷ [] → pieces ≡ text_pieces text
 text_plain text pieces free are =
-    subst (TextPieces text)
-    (ap (λ x. shown_as style.Text x ∷ []) (folded_plain false text free) ∙ sym are)
-    (whole (λ i within. no_empty_line text free i))
+    are ∙ ap (λ x. shown_as style.Text x ∷ []) (sym (folded_plain false text free))
+    ∙ sym (ap (pieces_of_parts text) (uncut text (λ i within. no_empty_line text free i)))
 
 -- the one piece of a text without an empty line, put into an empty list
 pub text_whole : (text shown : List ℕ) (none pieces : List Piece)
     → ((i : ℕ) → i ≤ length text → LacksTextAt empty_line text i) → shown ≡ folded text → none ≡ []
-    → pieces ≡ none ++ shown_as style.Text shown ∷ [] → TextPieces text pieces
+    → pieces ≡ none ++ shown_as style.Text shown ∷ [] → pieces ≡ text_pieces text
 text_whole text shown none pieces lacks is_folded is_empty put =
-    let are : pieces ≡ whole_pieces text =
     put ∙ ap (λ x. x ++ shown_as style.Text shown ∷ []) is_empty
-    ∙ ap (λ x. shown_as style.Text x ∷ []) is_folded in
-    subst (TextPieces text) (sym are) (whole lacks)
+    ∙ ap (λ x. shown_as style.Text x ∷ []) is_folded
+    ∙ sym (ap (pieces_of_parts text) (uncut text lacks))
 
 -- the two pieces of a text with an empty line, put into an empty list
 pub text_cut :
@@ -185,15 +180,14 @@ pub text_cut :
     → text ≡ before ++ (empty_line ++ after) → ((k : ℕ) → k < i → LacksTextAt empty_line text k)
     → length before ≡ i → shown ≡ folded before → shown_as_detail ≡ 10 ∷ folded after → none ≡ []
     → one ≡ none ++ shown_as style.Text shown ∷ [] → pieces ≡ one ++ detail shown_as_detail ∷ []
-    → TextPieces text pieces
+    → pieces ≡ text_pieces text
 text_cut text before after shown shown_as_detail i none one pieces
     is_cut lacks ends is_folded is_folded_too is_empty put put_detail =
-    let are : pieces ≡ cut_pieces before after =
     put_detail ∙ ap (λ x. x ++ detail shown_as_detail ∷ [])
     (put ∙ ap (λ x. x ++ shown_as style.Text shown ∷ []) is_empty)
     ∙ ap (λ x. shown_as style.Text x ∷ detail shown_as_detail ∷ []) is_folded
-    ∙ ap (λ x. shown_as style.Text (folded before) ∷ detail x ∷ []) is_folded_too in
-    subst (TextPieces text) (sym are) (cut before after is_cut (λ k within. lacks k (omega arith)))
+    ∙ ap (λ x. shown_as style.Text (folded before) ∷ detail x ∷ []) is_folded_too
+    ∙ sym (ap (pieces_of_parts text) (cut_text text before after is_cut i lacks ends))
 
 -- Members of a shape.
 

@@ -1,8 +1,8 @@
 -- What a document prints, in the two prints that it has, and how texts with line breaks are folded.
 use Rattle.std.specs.Prelude.{ℕ, Bool, false, not, ◌||◌, ◌==◌, List, [], ◌∷◌, ◌++◌, Option, Some}
-use Rattle.std.specs.Prelude.{None, filter, ◌≡◌, true, ◌≢◌, ◌<◌, ◌≤◌, ◌&&◌, length, slice_index}
+use Rattle.std.specs.Prelude.{None, filter, ◌≡◌, true, ◌≢◌, ◌<◌, ◌&&◌, length, slice_index}
 use Rattle.std.specs.Prelude.{if◌then◌else◌, drop, option_map}
-use Rattle.std.specs.{List.flat_map, List.before_first, Str.Pattern.LacksTextAt}
+use Rattle.std.specs.{List.flat_map, List.before_first}
 use Rattle.bpaf_doc.specs.{declared.doc.Piece.Piece, declared.doc.Style.Style}
 use Rattle.bpaf_doc.specs.declared.doc.Style.TheVariants as style
 
@@ -102,24 +102,6 @@ empty_line = line_break ∷ line_break ∷ []
 abbrev pub detail : List ℕ → Piece
 detail text = record { text = text; style = style.Text; detail = true }
 
--- the piece of a text without an empty line: all of it, folded
-abbrev pub whole_pieces : List ℕ → List Piece
-whole_pieces text = shown_as style.Text (folded text) ∷ []
-
--- the pieces of a text around an empty line: what stands before it, folded, and as detail a line
--- break and what follows it, folded
-abbrev pub cut_pieces : List ℕ → List ℕ → List Piece
-cut_pieces before after =
-    shown_as style.Text (folded before) ∷ detail (line_break ∷ folded after) ∷ []
-
--- the pieces that a text gives, by whether it has an empty line; the first one counts
-pub data TextPieces (text : List ℕ) : List Piece → Type 0 where
-  whole : ((i : ℕ) → i ≤ length text → LacksTextAt empty_line text i)
-      → TextPieces text (whole_pieces text)
-  cut : (before after : List ℕ) → text ≡ before ++ (empty_line ++ after)
-      → ((i : ℕ) → i < length before → LacksTextAt empty_line text i)
-      → TextPieces text (cut_pieces before after)
-
 -- two line breaks stand first in a text
 abbrev pub begins_with_empty_line : List ℕ → Bool
 begins_with_empty_line [] = false
@@ -133,11 +115,17 @@ cut_at_empty_line (c ∷ rest) =
     if begins_with_empty_line (c ∷ rest) then Some ([], drop 1 rest)
     else option_map (λ parts. (c ∷ parts.0, parts.1)) (cut_at_empty_line rest)
 
--- the parts of a text that was cut, each folded, with one line break between them; or all of it
-abbrev pub folded_parts : List ℕ → Option (List ℕ × List ℕ) → List ℕ
-folded_parts text None = folded text
-folded_parts text (Some parts) = folded parts.0 ++ line_break ∷ folded parts.1
+-- the pieces of a text: all of it, folded; or where it was cut what stands before, folded, and as
+-- detail a line break and what follows, folded
+abbrev pub pieces_of_parts : List ℕ → Option (List ℕ × List ℕ) → List Piece
+pieces_of_parts text None = shown_as style.Text (folded text) ∷ []
+pieces_of_parts text (Some parts) =
+    shown_as style.Text (folded parts.0) ∷ detail (line_break ∷ folded parts.1) ∷ []
 
--- what a full print shows of a text: all of it, folded, and one line break for its first empty line
+-- the pieces that a text gives: it is cut at its first empty line
+abbrev pub text_pieces : List ℕ → List Piece
+text_pieces text = pieces_of_parts text (cut_at_empty_line text)
+
+-- what a full print shows of a text
 abbrev pub folded_whole : List ℕ → List ℕ
-folded_whole text = folded_parts text (cut_at_empty_line text)
+folded_whole text = printed true (text_pieces text)

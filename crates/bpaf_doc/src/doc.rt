@@ -1,7 +1,7 @@
 //! Documents: texts in styles, one after another.
 ghost use Rattle.std.specs.Prelude.{◌≡◌, ◌==◌, Bool, true, IfOk, OnOk, OnErr, List, [], ◌∷◌, ◌++◌};
 ghost use Rattle.bpaf_doc.specs.Print.{prints, is_empty, printed, shown_as, in_backticks};
-ghost use Rattle.bpaf_doc.specs.Print.{first_line, TextPieces, folded_whole};
+ghost use Rattle.bpaf_doc.specs.Print.{first_line, text_pieces, folded_whole};
 ghost use Rattle.std.specs.{Prelude.map, Prelude.string_bytes, List.before_first};
 
 use crate::fold::text_pieces;
@@ -110,7 +110,7 @@ impl Doc {
     /// A document of one text, as `text` appends it (bpaf's `From<&str>`); refused only for want of
     /// memory.
     pub fn from_text(alloc: Global, text: &str) -> Result<Doc, AllocError>
-        ensures { IfOk result (TextPieces text.now) }
+        ensures { IfOk result (λ doc. doc ≡ text_pieces text.now) }
     {
         Ok(Doc {
             pieces: text_pieces(alloc, text)?,
@@ -189,9 +189,7 @@ impl Doc {
     /// appends `Reads each file.`, and as detail a line break and `Files are read in order.`
     #[tactic(auto, using(crate::proofs::Folding::printed_text))]
     pub fn text(&mut self, text: &str) -> Result<(), AllocError>
-        ensures ok { OnOk result ((more : List Piece)
-            × TextPieces text.now more
-            × (self.new ≡ self.old ++ more)) }
+        ensures ok { OnOk result (self.new ≡ self.old ++ text_pieces text.now) }
         ensures printed { OnOk result (
             printed true self.new ≡ printed true self.old ++ folded_whole text.now) }
         ensures err { OnErr result (self.new ≡ self.old) }

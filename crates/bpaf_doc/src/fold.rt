@@ -1,7 +1,7 @@
 //! The lines of a help text, folded into paragraphs.
 ghost use Rattle.std.specs.Prelude.{◌≡◌, ◌++◌, ◌∷◌, [], IfOk, OnOk, MatchOption, string_bytes};
 ghost use Rattle.bpaf_doc.specs.Print.{shown_as, folded, keeps_break, break_between, HasNoBreak};
-ghost use Rattle.bpaf_doc.specs.Print.{TextPieces};
+ghost use Rattle.bpaf_doc.specs.Print.{text_pieces};
 
 use crate::doc::{Piece, Style};
 use bpaf_base::Text;
@@ -81,7 +81,7 @@ fn folded_below(alloc: Global, text: &str) -> Result<Text, AllocError>
 /// one.
 #[tactic(auto, using(crate::proofs::Folding::text_plain))]
 pub(crate) fn text_pieces(alloc: Global, text: &str) -> Result<Vec<Piece>, AllocError>
-    ensures { IfOk result (λ all. TextPieces text.now all.items) }
+    ensures { IfOk result (λ all. all.items ≡ text_pieces text.now) }
 {
     match cut_line(text) {
         None => Ok(one_piece(alloc, text)?),
@@ -104,7 +104,7 @@ fn one_piece(alloc: Global, text: &str) -> Result<Vec<Piece>, AllocError>
 
 /// The pieces of a text of several lines.
 fn pieces_of_lines(alloc: Global, text: &str) -> Result<Vec<Piece>, AllocError>
-    ensures { IfOk result (λ all. TextPieces text.now all.items) }
+    ensures { IfOk result (λ all. all.items ≡ text_pieces text.now) }
 {
     let mut all = Vec::with_capacity(alloc, 2)?;
     match text.split_once("\n\n") {

@@ -6,6 +6,8 @@
 //! - [`Doc`] is a list of pieces, each a text with a [`Style`]. Its contract for the layers above:
 //!   a `Doc` is the list of the pieces that its calls appended, and `monochrome` is their text;
 //!   specs/Print.antt has it, and what a text gives with its line breaks folded.
+//! - [`Help`] is what a program gives to be shown, a text of its own, which takes no memory, or a
+//!   `Doc`.
 //! - [`Item`] is one flag, argument, word or command as it is shown, and [`Meta`] the tree of them
 //!   that a parser shows; [`MetaInfo`] lends one. Contracts see both through `part_of` and
 //!   `shape_of` (specs/Shape.antt), data in which neither addresses nor capacities stand. What is
@@ -22,6 +24,7 @@
 mod copies;
 mod doc;
 mod fold;
+mod help;
 mod item;
 mod meta;
 mod order;
@@ -30,5 +33,6 @@ mod written;
 
 pub use bpaf_base::Text;
 pub use doc::{Doc, Piece, Style};
+pub use help::Help;
 pub use item::{Item, Metavar, ShortLong};
 pub use meta::{Meta, MetaInfo};

@@ -6,7 +6,7 @@ ghost use Rattle.bpaf_laws.specs.Reading.{first_set, IsAbsence};
 
 use bpaf_doc::{Item, Text};
 use bpaf_line::{Error, Message, State};
-use bpaf_text::{NamedArg, ParseArgument};
+use bpaf_text::{NamedArg, ParseArgument, ParseFlag};
 use std::alloc::AllocError;
 
 /// The value of the first of the names that the state's environment has. It takes no memory.
@@ -42,12 +42,21 @@ pub fn absence(state: &State, item: Option<Item>, envs: &[Text]) -> Result<Error
 /// taken; or, where there is none, one of its names in the environment that is set. It takes no
 /// memory.
 ///
-/// It is the one test for flags and for the keys that ask for help and for the version.
+/// It is the test for the keys that ask for help and for the version; [`is_flag_present`] is that
+/// for flags.
 pub fn is_present(named: &NamedArg, state: &mut State) -> bool
     ensures { IsPresent named.now state.old result state.new }
 {
     let found = state.take_flag(named.shorts(), named.longs());
     found || first_set(state, named.envs()).is_some()
+}
+
+/// Whether the key of a flag is, by the same test.
+pub fn is_flag_present<T>(flag: &ParseFlag<T>, state: &mut State) -> bool
+    ensures { IsPresent flag.now.named state.old result state.new }
+{
+    let found = state.take_flag(flag.named.shorts(), flag.named.longs());
+    found || first_set(state, flag.named.envs()).is_some()
 }
 
 /// The text behind the first key of an argument, both of which are taken; None, and nothing

@@ -8,8 +8,9 @@
 //!   version, which [`Info::look`] looks for (specs/Info.antt), and the texts of the help page
 //!   (specs/Info.antt).
 //! - [`CommandNames`] are the names of a command; [`CommandNames::open`] takes its word.
-//! - [`is_present`] is the one test for flags; [`take_argument`] takes the text of an argument;
-//!   [`first_set`] and [`absence`] tell of names in the environment.
+//! - [`is_flag_present`] is the test for flags, and [`is_present`] that for the keys of a run;
+//!   [`take_argument`] takes the text of an argument; [`first_set`] and [`absence`] tell of names in
+//!   the environment.
 //!
 //! The source of the design is bpaf's `info.rs` and `params.rs`.
 #![tactic(auto)]
@@ -18,6 +19,6 @@ mod environment;
 mod info;
 mod names;
 
-pub use environment::{absence, first_set, is_present, take_argument};
+pub use environment::{absence, first_set, is_flag_present, is_present, take_argument};
 pub use info::{ExtraParams, Info, version_page};
 pub use names::CommandNames;

@@ -1,5 +1,5 @@
 //! The names of a command, and its word.
-ghost use Rattle.std.specs.Prelude.{◌≡◌, [], ◌∷◌, map, encode_utf8, slice_get, IfOk};
+ghost use Rattle.std.specs.Prelude.{◌≡◌, ◌≤◌, length, [], ◌∷◌, map, encode_utf8, slice_get, IfOk};
 ghost use Rattle.bpaf_laws.specs.Command.{OpensScope, TakesOpening, named_only, opening_words};
 ghost use Rattle.bpaf_laws.specs.Command.{with_long_name, with_short_name};
 
@@ -69,16 +69,31 @@ fn take_short(state: &mut State, shorts: &[char]) -> Option<usize>
     None
 }
 
+/// One long name.
+fn called(alloc: Global, name: Text) -> CommandNames
+    ensures { result ≡ named_only name }
+{
+    CommandNames {
+        name,
+        longs: Vec::new(alloc),
+        shorts: Vec::new(alloc),
+    }
+}
+
 impl CommandNames {
     /// One long name; refused only for want of memory.
     pub fn new(alloc: Global, name: &str) -> Result<CommandNames, AllocError>
         ensures { IfOk result (λ names. names ≡ named_only name.now) }
     {
-        Ok(CommandNames {
-            name: Text::new(alloc, name)?,
-            longs: Vec::new(alloc),
-            shorts: Vec::new(alloc),
-        })
+        Ok(called(alloc, Text::new(alloc, name)?))
+    }
+
+    /// One long name of at most 23 bytes. It takes no memory.
+    pub fn plain(alloc: Global, name: &str) -> CommandNames
+        requires { length name.now ≤ 23 }
+        ensures { result ≡ named_only name.now }
+    {
+        called(alloc, Text::short(name))
     }
 
     /// The first long name, which is shown and put on the path.

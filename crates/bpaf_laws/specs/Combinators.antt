@@ -7,7 +7,7 @@ use Rattle.std.specs.{declared.alloc.AllocError.AllocError, declared.alloc.Globa
 use Rattle.std.specs.Global.{Vec}
 use Rattle.bpaf_doc.specs.Shape.{CustomUsage, Subsection, Optional, Required, shape_of, Suffix}
 use Rattle.bpaf_doc.specs.{declared.meta.MetaInfo.MetaInfo, declared.doc.Piece.Piece}
-use Rattle.bpaf_doc.specs.{Shape.Shape, Shape.Many, Print.TextPieces}
+use Rattle.bpaf_doc.specs.{Shape.Shape, Shape.Many, Print.text_pieces}
 use Rattle.bpaf_line.specs.declared.error.Message.TheVariants.{ParseFailed, GuardFailed, PureFailed}
 use Rattle.bpaf_line.specs.declared.error.Message.TheVariants.{ParseFail, ParseSome, Missing}
 use Rattle.bpaf_line.specs.Situation.{with_current, open_count, Situation, Context}
@@ -146,8 +146,8 @@ default_text value = codes "[default: " ++ value ++ codes "]"
 
 -- a document of the default that prints this text; of any, where it isn't known what it prints
 abbrev pub IsDefault : Option (List ℕ) → List Piece → Type 0
-IsDefault (Some text) doc = TextPieces (default_text text) doc
-IsDefault None doc = (text : List ℕ) × TextPieces (default_text text) doc
+IsDefault (Some text) doc = doc ≡ text_pieces (default_text text)
+IsDefault None doc = (text : List ℕ) × (doc ≡ text_pieces (default_text text))
 
 -- such a document is shown
 abbrev pub ShowsDefault : Option (List ℕ) → Option (List Piece) → Type 0
@@ -157,7 +157,7 @@ ShowsDefault text shown = (doc : List Piece) × IsDefault text doc × (shown ≡
 abbrev pub IsFormatted : {T : Type 0} → (T → Result (String Global) AllocError → Type 0) → T
     → List Piece → Type 0
 IsFormatted writes v doc =
-    (text : String Global) × writes v (Ok text) × TextPieces (default_text (string_bytes text)) doc
+    (text : String Global) × writes v (Ok text) × (doc ≡ text_pieces (default_text (string_bytes text)))
 
 -- such a document is shown
 abbrev pub ShowsFormatted : {T : Type 0} → (T → Result (String Global) AllocError → Type 0) → T

@@ -1,5 +1,5 @@
 -- What every parser keeps to, whatever it parses: its answers, the names of its refusals and of
--- its keys, counts of places, and want of memory, which is caught nowhere.
+-- its keys, counts of places, and want of memory.
 use Rattle.std.specs.Prelude.{Option, length, Result, false, codes, List, ◌++◌, Bool, Some, None, ⊤}
 use Rattle.std.specs.Prelude.{true, ◌&&◌, ◌≡◌, not, Err, ◌+◌, ◌⊎◌, Ok, [], ℕ}
 use Rattle.std.specs.List.{flat_map}

@@ -1,6 +1,6 @@
 //! Defaults as a help page shows them.
-ghost use Rattle.std.specs.{Prelude.IfOk, Fn.FnReturnsAt};
-ghost use Rattle.bpaf_doc.specs.Print.{TextPieces};
+ghost use Rattle.std.specs.{Prelude.IfOk, Prelude.◌≡◌, Fn.FnReturnsAt};
+ghost use Rattle.bpaf_doc.specs.Print.{text_pieces};
 ghost use Rattle.bpaf_laws.specs.Combinators.{IsDefault, IsFormatted, default_text};
 
 use bpaf_doc::Doc;
@@ -9,7 +9,7 @@ use std::fmt::{Debug, Display};
 
 /// The text of a default, as it is shown; refused only for want of memory.
 fn shown_default(alloc: Global, value: &str) -> Result<Doc, AllocError>
-    ensures { IfOk result (TextPieces (default_text value.now)) }
+    ensures { IfOk result (λ doc. doc ≡ text_pieces (default_text value.now)) }
 {
     let text = format!(in alloc; "[default: {value}]")?;
     Doc::from_text(alloc, text.as_str())

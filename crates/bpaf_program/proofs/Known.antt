@@ -31,12 +31,13 @@ use Rattle.bpaf.proofs.Asked.{many_hands_on, positional_hands_on, product_hands_
 use Rattle.bpaf.proofs.Sides.{all_spelled}
 use Rattle.bpaf.proofs.HandsOn.{behind_also, choice_hands_on, command_hands_on}
 use Rattle.bpaf.proofs.Asked.{answer_shows, asked_at_also, hands_also, words_also}
-use Rattle.bpaf.proofs.LeafLemmas.{argument_without_help, flag_without_help, key_with_help}
+use Rattle.bpaf.proofs.LeafLemmas.{argument_without_help, flag_without_help}
 use Rattle.bpaf_laws.proofs.ProductLaws.{both_lawful, product_lawful}
 use Rattle.bpaf_laws.proofs.{ArgumentLaws.argument_lawful, CombinatorLaws.many_lawful}
 use Rattle.bpaf_laws.proofs.{ChoiceLaws.choice_lawful, LeafLaws.flag_lawful}
 use Rattle.bpaf_program.specs.KnownParser.{IsKept}
-use Rattle.bpaf_program.specs.Fields.{IsArgument, IsSwitch, IsWord, NamedSwitchReads, switch_shape}
+use Rattle.bpaf_program.specs.Fields.{helped_argument, helped_switch, IsWord, NamedSwitchReads, switch_shape}
+use Rattle.bpaf_doc.specs.Print.{text_pieces}
 use Rattle.bpaf_base.specs.declared.arg.Arg.TheVariants.{Word}
 use Rattle.bpaf_base.specs.{declared.arg.Arg.Arg, Items.word_text}
 use Rattle.bpaf_record.proofs.Running.{each_at}
@@ -145,42 +146,41 @@ pub record IsKnown {T S : Type 0} (outcome : Outcome T) (reads : Readings T)
   pub only : (other : S) → describes other → other ≡ shape
 
 -- a switch is known
-pub switch_known : {names : Names} {text : List ℕ} {help : List Piece} {switch : ParseFlag Bool}
-    → IsSwitch names text help switch
+pub switch_known : (names : Names) (text : List ℕ) {switch : ParseFlag Bool}
+    → switch ≡ helped_switch names text
     → IsKnown (FlagOutcome IsKept switch.named switch.present switch.absent)
     (FlagReads Bool IsKept switch.named switch.present switch.absent)
     (λ shape. shape ≡ flag_shape switch.named switch.absent)
-    (NamedSwitchReads names) (switch_shape names help)
-switch_known {names} {text} {help} {switch} is = record {
-  law = flag_lawful Bool IsKept switch.named switch.present switch.absent;
-  nothing = flag_hands_on IsKept switch.named switch.present switch.absent;
-  also = λ context share v read. flag_without_help (key_named names) help
-      (rw (is.named_is, is.present_is, is.absent_is) at read);
-  only = λ shape shown. rw (is.named_is, is.absent_is) at shown;
-}
+    (NamedSwitchReads names) (switch_shape names text)
+switch_known names text is = rw is (record {
+  law = flag_lawful Bool IsKept (helped_switch names text).named true (Some false);
+  nothing = flag_hands_on IsKept (helped_switch names text).named true (Some false);
+  also = λ context share v read. flag_without_help (key_named names) (text_pieces text) read;
+  only = λ shape shown. shown;
+})
 
 -- so is an argument
-pub argument_known : {T : Type 0} (means : List ℕ → T → Type 0) {key : KeyWithValue} {text : List ℕ}
-    {help : List Piece} {argument : KeyWithValue} → IsArgument key text help argument
+pub argument_known : {T : Type 0} (means : List ℕ → T → Type 0) (key : KeyWithValue) (text : List ℕ)
+    {argument : KeyWithValue} → argument ≡ helped_argument key text
     → IsKnown (ArgumentOutcome means argument) (ArgumentReads T means argument)
     (λ shape. shape ≡ argument_shape argument) (ArgumentReads T means key)
-    (argument_shape (key_with_help key help))
-argument_known {T} means {key} {text} {help} {argument} is = record {
-  law = argument_lawful T means argument;
-  nothing = argument_hands_on means argument;
-  also = λ context share v read. argument_without_help means key help context (rw is.key_is at read);
-  only = λ shape shown. rw is.key_is at shown;
-}
+    (argument_shape (helped_argument key text))
+argument_known {T} means key text is = rw is (record {
+  law = argument_lawful T means (helped_argument key text);
+  nothing = argument_hands_on means (helped_argument key text);
+  also = λ context share v read. argument_without_help means key (text_pieces text) context read;
+  only = λ shape shown. shown;
+})
 
 -- so is a word
 pub word_known : {T : Type 0} (means : List ℕ → T → Type 0) {position : Position}
-    {metavar text : List ℕ} {help : List Piece} {word : ParsePositional T}
-    → IsWord position metavar text help word
+    {metavar text : List ℕ} {word : ParsePositional T} → IsWord position metavar text word
     → IsKnown (PositionalOutcome means word.position word.metavar.0.now)
     (PositionalReads T means word.position)
     (λ shape. shape ≡ positional_shape word.position word.metavar.0.now word.help)
-    (PositionalReads T means position) (positional_shape position metavar (Some help))
-word_known {T} means {position} {metavar} {text} {help} {word} is = record {
+    (PositionalReads T means position)
+    (positional_shape position metavar (Some (text_pieces text)))
+word_known {T} means {word = word} is = record {
   law = positional_lawful T means word.position word.metavar.0.now;
   nothing = positional_hands_on means word.position word.metavar.0.now;
   also = word_also means is.position_is;

@@ -18,6 +18,7 @@ use Rattle.bpaf_laws.proofs.{ChoiceLaws.choice_lawful, LeafLaws.flag_lawful}
 use Rattle.bpaf_laws.proofs.ProductLaws.{product_lawful, both_lawful}
 use Rattle.bpaf.specs.Asked.{RunShows, IfShown, Showing}
 use Rattle.bpaf.specs.{declared.leaves.positional.Position.Position, Command.EitherCommandOutcome}
+use Rattle.bpaf.specs.Command.{shown_help}
 use Rattle.bpaf.specs.{AdjacentLaws.either_lawful, Ending.run_ending, Run.known_names, Info.RunInfo}
 use Rattle.bpaf.specs.{Info.plain_info, Ending.EndsRun, Run.RunsWords}
 use Rattle.bpaf.specs.Positional.{positional_lawful, PositionalOutcome}
@@ -72,7 +73,7 @@ pub command_known : {T P : Type 0} (called : List ℕ) (known : Grammar T)
     → IsPlainCommand called parser made → {outcome : Outcome T} {shorts : ShortNames}
     → IsKnownParser known outcome shorts → IsKnownParser (known_command called known)
     (EitherCommandOutcome command.adjacent T outcome (EndsRun describes command.info)
-    command.names (CommandPart command.names command.help describes)) shorts
+    command.names (CommandPart command.names (shown_help command) describes)) shorts
 command_known {T} called known describes {command = command} same plain {outcome} is = rw (
   ap (λ c. c.names) same ∙ plain.names,
   ap (λ c. c.adjacent) same ∙ plain.adjacent,

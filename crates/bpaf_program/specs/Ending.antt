@@ -3,7 +3,7 @@
 use Rattle.std.specs.Prelude.{◌≡◌, ◌≢◌, ℕ, List, ◌∷◌, ◌++◌, length, Option, Result, Ok, Err, true}
 use Rattle.std.specs.Prelude.{[], codes, ◌⊎◌, Bool, String, string_bytes, if◌then◌else◌}
 use Rattle.std.specs.{Io.KnownBytes.Appends, declared.io.Error.Error, declared.alloc.Global.Global}
-use Rattle.bpaf_doc.specs.Print.{printed, line_break, TextPieces}
+use Rattle.bpaf_doc.specs.Print.{printed, line_break, text_pieces}
 use Rattle.bpaf_doc.specs.declared.doc.Piece.{Piece}
 use Rattle.bpaf_line.specs.declared.failure.ParseFailure.{ParseFailure}
 use Rattle.bpaf_line.specs.declared.failure.ParseFailure.TheVariants.{Stdout, Stderr, Memory}
@@ -166,7 +166,7 @@ pub record PrintsTextOf {V : Type 0} (value : V → Type 0) (text_of : V → Lis
 -- memory was wanted, or it is told that one is no text
 abbrev pub IsUnread : ParseFailure → Type 0
 IsUnread (Stdout doc full) = ⊥
-IsUnread (Stderr doc) = TextPieces (codes "a word is no text in UTF-8") doc
+IsUnread (Stderr doc) = doc ≡ text_pieces (codes "a word is no text in UTF-8")
 IsUnread Memory = Unit {0}
 
 -- a text and the end of its line

@@ -14,9 +14,9 @@
 //! - Each takes a [`Sink`], of whose writes a contract can say that the last one failed (`Failed`,
 //!   specs/Ending.antt). Any `Write` is one, of which nothing is known but its bytes.
 //! - [`push_line`] appends a line to a text, and [`push_lines`] one for each of some texts.
-//! - [`key`] is a key of a letter and a name, [`key_with_help`] the same with a help, and
-//!   [`plain_command`] a command over a parser, without help. A parser that is made of these in functions of the program's own runs by
-//!   [`KnownOptions`], exactly for what the program says that it is made of ([`KnownProgram`]).
+//! - [`plain_command`] is a command over a parser, without a help. A parser that is made in functions
+//!   of the program's own runs by [`KnownOptions`], exactly for what the program says that it is
+//!   made of ([`KnownProgram`]).
 //! - [`words`] are the words of the process.
 //! - [`see_texts`] tells a contract that lent words are texts, as a run that is exact asks.
 //!
@@ -48,7 +48,7 @@ pub use ending::{end, print};
 pub use known_options::{KnownOptions, KnownProgram};
 pub use lent::see_texts;
 pub use lines::{push_line, push_lines};
-pub use making::{key, key_with_help, plain_command};
+pub use making::plain_command;
 pub use options::{Program, run_program, run_record};
 pub use process::words;
 pub use sink::Sink;

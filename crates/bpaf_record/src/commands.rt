@@ -3,6 +3,7 @@ ghost use Rattle.std.specs.Prelude.{◌≡◌, ◌&&◌, false, true};
 ghost use Rattle.bpaf_record.specs.Grammar.{keys_of, command};
 ghost use Rattle.bpaf_record.specs.{Commands.either_command_law, Grammar.are_unusual};
 ghost use Rattle.bpaf_laws.specs.Command.{CommandPart};
+ghost use Rattle.bpaf.specs.Command.{shown_help};
 
 use crate::field::ProgramField;
 use crate::keys::KeyTest;
@@ -41,6 +42,6 @@ impl<T: Drop, P: ProgramField<T>> ProgramField<T> for ParseCommand<T, P> {
     }
 
     ghost law = { λ p a variables. either_command_law (P.describes p.inner) p.info p.names
-        (CommandPart p.names p.help (P.describes p.inner)) p.adjacent
+        (CommandPart p.names (shown_help p) (P.describes p.inner)) p.adjacent
         (are_unusual (keys_of (P.grammar p.inner) false) p.info) (P.law p.inner a variables) };
 }

@@ -29,7 +29,7 @@ impl<T: Clone> ProgramField<T> for ParseFlag<T> {
 
     #[tactic(auto, using(crate::proofs::Parts::and_true))]
     fn all_keys<N: KeyTest>(&self, test: &N) -> bool {
-        test.test(&self.named)
+        test.test(self.named.key())
     }
 
     fn all_words<W: WordTest>(&self, _test: &W) -> bool {
@@ -61,7 +61,7 @@ impl<T: FromText> ProgramField<T> for ParseArgument<T> {
 
     #[tactic(auto, using(crate::proofs::Parts::and_true))]
     fn all_keys<N: KeyTest>(&self, test: &N) -> bool {
-        test.test(&self.named)
+        test.test(self.named.key())
     }
 
     fn all_words<W: WordTest>(&self, _test: &W) -> bool {

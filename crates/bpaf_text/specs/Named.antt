@@ -36,6 +36,15 @@ with_env named name = record named { envs = named.envs ++ name ∷ [] }
 abbrev pub with_help : Named → List Piece → Named
 with_help named help = record named { help = Some help }
 
+-- the first help, where there is one, else the other
+abbrev pub help_or : Option (List Piece) → Option (List Piece) → Option (List Piece)
+help_or (Some help) other = Some help
+help_or None other = other
+
+-- the key with a help in place of the one that it has, where there is such
+abbrev pub helped : Named → Option (List Piece) → Named
+helped named help = record named { help = help_or help named.help }
+
 -- the first of some texts
 abbrev pub first_text : List (List ℕ) → Option (List ℕ)
 first_text [] = None

@@ -11,7 +11,8 @@
 //! - [`FromList`] is the trait of what a list of values fills, from front to back: by its ghost
 //!   relation `fills` an implementation says what it holds then. Implementations stand for `Vec`,
 //!   `VecDeque` and `BTreeSet` (specs/Meaning.antt), and a caller writes more.
-//! - [`NamedArg`] is a key with its names, built by [`short()`], [`long()`] and [`env()`].
+//! - [`NamedArg`] is a key with its names, built by [`short()`], [`long()`] and [`env()`],
+//!   or by [`key()`], [`short_key()`] and [`long_key()`], which take no memory.
 //!   Contracts see it as the lists of its names in the order in which they were given, those in the
 //!   environment among them, and its help (specs/Named.antt), so each builder is one equation: it
 //!   appends one name, or sets the help, and keeps the rest.
@@ -32,11 +33,13 @@ mod fault;
 mod few;
 mod from_list;
 mod from_text;
+mod leaf_key;
 mod named;
 mod params;
 
 pub use fault::TextFault;
 pub use from_list::FromList;
 pub use from_text::FromText;
-pub use named::{NamedArg, copy_texts, env, long, short};
+pub use leaf_key::LeafKey;
+pub use named::{NamedArg, copy_texts, env, key, long, long_key, short, short_key};
 pub use params::{ParseArgument, ParseFlag};

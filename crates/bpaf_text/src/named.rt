@@ -1,14 +1,14 @@
 //! Keys by their names, before it is said what they give.
-ghost use Rattle.std.specs.Prelude.{◌≡◌, Some, None, true, false, IfOk, List};
+ghost use Rattle.std.specs.Prelude.{◌≡◌, ◌≤◌, length, Some, None, true, false, IfOk};
+ghost use Rattle.std.specs.Prelude.{[], ◌∷◌};
 ghost use Rattle.std.specs.Option.{option_map};
 ghost use Rattle.bpaf_doc.specs.Shape.{name_of, part_of, shown_name};
-ghost use Rattle.bpaf_doc.specs.{declared.doc.Piece.Piece, Print.TextPieces};
-ghost use Rattle.bpaf_text.specs.Named.{flag_part, argument_part, first_text, key_named};
+ghost use Rattle.bpaf_text.specs.Named.{flag_part, first_text, key_named};
 ghost use Rattle.bpaf_text.specs.Named.{nothing_named, with_short, with_long, with_env, with_help};
 
 use crate::few::Few;
 use crate::params::{ParseArgument, ParseFlag, build_argument, build_flag_parser};
-use bpaf_doc::{Doc, Item, Metavar, ShortLong, Text};
+use bpaf_doc::{Doc, Item, ShortLong, Text};
 use std::alloc::{AllocError, Global};
 use std::marker::Model;
 
@@ -30,7 +30,7 @@ pub struct NamedArg {
     shorts: Few<char>,
     longs: Few<Text>,
     envs: Vec<Text>,
-    help: Option<Doc>,
+    pub(crate) help: Option<Doc>,
 }
 
 impl Model for NamedArg {
@@ -79,7 +79,7 @@ fn build_named(alloc: Global, shorts: Few<char>, longs: Few<Text>) -> NamedArg
 pub fn short(alloc: Global, name: char) -> Result<NamedArg, AllocError>
     ensures { IfOk result (λ named. named ≡ with_short nothing_named name) }
 {
-    Ok(build_named(alloc, Few::one(name), Few::new(alloc)))
+    Ok(short_key(alloc, name))
 }
 
 /// A key with one long name, such as `size` for `--size` (bpaf's `long`, in `lib.rs`); refused
@@ -93,6 +93,44 @@ pub fn long(alloc: Global, name: &str) -> Result<NamedArg, AllocError>
 {
     let name = Text::new(alloc, name)?;
     Ok(build_named(alloc, Few::new(alloc), Few::one(name)))
+}
+
+/// A key with a short and a long name, as `short(alloc, letter)?.long(name)`. It takes no memory,
+/// so the name has at most 23 bytes.
+///
+/// ```text
+/// key(alloc, 'v', "verbose").switch()      true off `-v` and off `--verbose`
+/// ```
+pub fn key(alloc: Global, letter: char, name: &str) -> NamedArg
+    requires { length name.now ≤ 23 }
+    ensures { result
+        ≡ key_named (record { shorts = letter ∷ []; longs = name.now ∷ [] }) }
+{
+    build_named(alloc, Few::one(letter), Few::one(Text::short(name)))
+}
+
+/// A key with one short name, as `short(alloc, letter)`. It takes no memory.
+///
+/// ```text
+/// short_key(alloc, 'v').switch()      true off `-v`
+/// ```
+pub fn short_key(alloc: Global, letter: char) -> NamedArg
+    ensures { result ≡ key_named (record { shorts = letter ∷ []; longs = [] }) }
+{
+    build_named(alloc, Few::one(letter), Few::new(alloc))
+}
+
+/// A key with one long name, as `long(alloc, name)`. It takes no memory, so the name has at most 23
+/// bytes.
+///
+/// ```text
+/// long_key(alloc, "verbose").switch()      true off `--verbose`
+/// ```
+pub fn long_key(alloc: Global, name: &str) -> NamedArg
+    requires { length name.now ≤ 23 }
+    ensures { result ≡ key_named (record { shorts = []; longs = name.now ∷ [] }) }
+{
+    build_named(alloc, Few::new(alloc), Few::one(Text::short(name)))
 }
 
 /// A key with one name in the environment and none on the line (bpaf's `env`, in `lib.rs`); refused
@@ -182,29 +220,16 @@ impl NamedArg {
     /// The key with this help, in place of the one that it has. It takes no memory.
     ///
     /// ```text
-    /// let verbose = short(alloc, 'v')?.long("verbose")?;
-    /// let verbose = verbose.help(Doc::from_text(alloc, "Print more")?).switch();
+    /// key(alloc, 'v', "verbose").help(Doc::from_text(alloc, "Print more")?).switch()
     /// ```
     ///
-    /// The help page has the line `-v, --verbose  Print more` of it.
+    /// The help page has the line `-v, --verbose  Print more` of it. What it becomes takes a text as
+    /// its help, for which no document has to be made: [`ParseFlag::help`], [`ParseArgument::help`].
     pub fn help(mut self, help: Doc) -> NamedArg
         ensures { result ≡ with_help self help }
     {
         self.help = Some(help);
         self
-    }
-
-    /// The key with a help of this text, as [`Doc::from_text`] makes it; refused only for want of
-    /// memory, and then the key is gone.
-    ///
-    /// ```text
-    /// short(alloc, 'v')?.long("verbose")?.help_str(alloc, "Print more")?.switch()
-    /// ```
-    pub fn help_str(self, alloc: Global, help: &str) -> Result<NamedArg, AllocError>
-        ensures { IfOk result (λ helped. (pieces : List Piece) × TextPieces help.now pieces
-            × (helped ≡ with_help self pieces)) }
-    {
-        Ok(self.help(Doc::from_text(alloc, help)?))
     }
 
     /// All short names, in the order in which they were given.
@@ -283,35 +308,24 @@ impl NamedArg {
     pub fn flag_item(&self, alloc: Global) -> Result<Option<Item>, AllocError>
         ensures { IfOk result (λ item. option_map part_of item ≡ flag_part self.now) }
     {
+        self.flag_item_with(alloc, Doc::copy_of(&self.help)?)
+    }
+
+    /// The same with another help.
+    pub(crate) fn flag_item_with(
+        &self,
+        alloc: Global,
+        help: Option<Doc>,
+    ) -> Result<Option<Item>, AllocError>
+        ensures { IfOk result (λ item.
+            option_map part_of item ≡ flag_part (record self.now { help = help })) }
+    {
         match self.shown_name(alloc)? {
             Some(name) => Ok(Some(Item::Flag {
                 name,
                 shorts: Vec::from_slice(alloc, self.shorts())?,
                 env: self.first_env()?,
-                help: Doc::copy_of(&self.help)?,
-            })),
-            None => Ok(None),
-        }
-    }
-
-    /// What the key shows as an argument with this metavar (bpaf's `ParseArgument::item`, in
-    /// `params.rs`): `None` where it has no name; refused only for want of memory.
-    pub fn argument_item(&self, alloc: Global, metavar: Metavar) -> Result<Option<Item>, AllocError>
-        ensures { IfOk result (λ item.
-            option_map part_of item ≡ argument_part (record {
-              named = self.now;
-              metavar = metavar.0.now;
-              adjacent = false;
-              last = false;
-            })) }
-    {
-        match self.shown_name(alloc)? {
-            Some(name) => Ok(Some(Item::Argument {
-                name,
-                shorts: Vec::from_slice(alloc, self.shorts())?,
-                metavar: Text::new(alloc, metavar.0)?,
-                env: self.first_env()?,
-                help: Doc::copy_of(&self.help)?,
+                help,
             })),
             None => Ok(None),
         }
@@ -319,7 +333,7 @@ impl NamedArg {
 
     /// The first short and the first long name, where there are such (bpaf's
     /// `ShortLong::try_from`); refused only for want of memory.
-    fn shown_name(&self, alloc: Global) -> Result<Option<ShortLong>, AllocError>
+    pub(crate) fn shown_name(&self, alloc: Global) -> Result<Option<ShortLong>, AllocError>
         ensures { IfOk result (λ name. option_map name_of name ≡ shown_name self.now.names) }
     {
         match (self.shorts().first(), self.longs().first()) {
@@ -346,7 +360,7 @@ impl NamedArg {
     }
 
     /// The first name in the environment, where there is one; refused only for want of memory.
-    fn first_env(&self) -> Result<Option<Text>, AllocError>
+    pub(crate) fn first_env(&self) -> Result<Option<Text>, AllocError>
         ensures { IfOk result (λ name. name ≡ first_text self.now.envs) }
     {
         match self.envs.first() {

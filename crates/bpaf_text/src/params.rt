@@ -1,10 +1,11 @@
 //! Flags and arguments.
 ghost use Rattle.std.specs.Prelude.{◌≡◌, IfOk, IsSomeAnd, MatchOption, None, false, true, List};
-ghost use Rattle.bpaf_doc.specs.{declared.doc.Piece.Piece, Print.TextPieces};
+ghost use Rattle.bpaf_doc.specs.{declared.doc.Piece.Piece};
 ghost use Rattle.bpaf_text.specs.Named.{with_help};
 
+use crate::leaf_key::LeafKey;
 use crate::named::NamedArg;
-use bpaf_doc::{Doc, Metavar};
+use bpaf_doc::{Help, Metavar};
 use std::alloc::{AllocError, Global};
 use std::marker::{Model, PhantomData};
 
@@ -18,7 +19,7 @@ pub struct ParseFlag<T> {
     /// The value where it does not; `None` where the key must stand there.
     pub absent: Option<T>,
     /// The names of the key.
-    pub named: NamedArg,
+    pub named: LeafKey,
 }
 
 impl<T: Drop> Drop for ParseFlag<T> {
@@ -36,7 +37,7 @@ impl<T: Drop> Drop for ParseFlag<T> {
 /// Made by [`NamedArg::argument`].
 pub struct ParseArgument<T> {
     /// The names of the key.
-    pub named: NamedArg,
+    pub named: LeafKey,
     /// What stands for the value where the key is shown.
     pub metavar: Metavar,
     /// Whether only a key with its value in its own word counts.
@@ -76,8 +77,9 @@ impl<T> Model for ParseArgument<T> {
 impl<T> ParseFlag<T> {
     /// The flag with this help, in place of the one that it has (bpaf's `ParseFlag::help`). It
     /// takes no memory.
-    pub fn help(self, help: Doc) -> ParseFlag<T>
-        ensures { result ≡ record self { named = with_help self.named help } }
+    pub fn help<H: Into<Help>>(self, help: H) -> ParseFlag<T>
+        ensures { (pieces : List Piece) × H.converts help pieces
+            × (result ≡ record self { named = with_help self.named pieces }) }
     {
         let ParseFlag {
             present,
@@ -89,17 +91,6 @@ impl<T> ParseFlag<T> {
             absent,
             named: named.help(help),
         }
-    }
-}
-
-impl<T: Drop> ParseFlag<T> {
-    /// The same with a help of this text, as [`Doc::from_text`] makes it; refused only for want of
-    /// memory, and then the flag is gone.
-    pub fn help_str(self, alloc: Global, help: &str) -> Result<ParseFlag<T>, AllocError>
-        ensures { IfOk result (λ helped. (pieces : List Piece) × TextPieces help.now pieces
-            × (helped ≡ record self { named = with_help self.named pieces })) }
-    {
-        Ok(self.help(Doc::from_text(alloc, help)?))
     }
 }
 
@@ -128,8 +119,9 @@ impl<T: Clone + Drop> ParseFlag<T> {
 impl<T> ParseArgument<T> {
     /// The argument with this help, in place of the one that it has (bpaf's `ParseArgument::help`).
     /// It takes no memory.
-    pub fn help(self, help: Doc) -> ParseArgument<T>
-        ensures { result ≡ record self { named = with_help self.named help } }
+    pub fn help<H: Into<Help>>(self, help: H) -> ParseArgument<T>
+        ensures { (pieces : List Piece) × H.converts help pieces
+            × (result ≡ record self { named = with_help self.named pieces }) }
     {
         let ParseArgument {
             named,
@@ -145,15 +137,6 @@ impl<T> ParseArgument<T> {
             last,
             of,
         }
-    }
-
-    /// The same with a help of this text, as [`Doc::from_text`] makes it; refused only for want of
-    /// memory, and then the argument is gone.
-    pub fn help_str(self, alloc: Global, help: &str) -> Result<ParseArgument<T>, AllocError>
-        ensures { IfOk result (λ helped. (pieces : List Piece) × TextPieces help.now pieces
-            × (helped ≡ record self { named = with_help self.named pieces })) }
-    {
-        Ok(self.help(Doc::from_text(alloc, help)?))
     }
 
     /// The argument whose key counts only with its value in its own word (bpaf's
@@ -206,7 +189,7 @@ pub(crate) fn build_flag_parser<T>(present: T, absent: Option<T>, named: NamedAr
     ParseFlag {
         present,
         absent,
-        named,
+        named: LeafKey::from(named),
     }
 }
 
@@ -220,7 +203,7 @@ pub(crate) fn build_argument<T>(named: NamedArg, metavar: &'static str) -> Parse
     } }
 {
     ParseArgument {
-        named,
+        named: LeafKey::from(named),
         metavar: Metavar(metavar),
         adjacent: false,
         last: false,

@@ -3,7 +3,7 @@
 use Rattle.std.specs.Prelude.{◌≡◌, ℕ, ℤ, Bool, List, [], ◌∷◌, Some, codes, ◌++◌, if◌then◌else◌}
 use Rattle.std.specs.{Fmt.decimal, Fmt.signed_decimal, Prelude.false, Global.Vec}
 use mir.Syntax.{w64}
-use Rattle.bpaf_doc.specs.Print.{TextPieces, printed}
+use Rattle.bpaf_doc.specs.Print.{text_pieces, printed}
 use Rattle.bpaf_doc.specs.{declared.doc.Piece.Piece, Names.Names, Shape.Shape}
 use Rattle.bpaf_text.specs.{Meaning.SpellsSigned, Meaning.SpellsUnsigned, Named.key_named}
 use Rattle.bpaf_words.specs.{Line.Known, Line.knowing, Arguments.Given}
@@ -108,10 +108,8 @@ abbrev pub ShownShapes : Type 1
 ShownShapes = Shape → Type 0
 
 -- a word by this name, with this help
-pub record IsWordShape (name text : List ℕ) (shape : Shape) : Type 0 where
-  pub help : List Piece
-  pub told : TextPieces text help
-  pub is : shape ≡ positional_shape Unrestricted name (Some help)
+abbrev pub IsWordShape : List ℕ → List ℕ → ShownShapes
+IsWordShape name text shape = shape ≡ positional_shape Unrestricted name (Some (text_pieces text))
 
 -- the switch `--left`
 abbrev pub IsLeftShape : ShownShapes
@@ -157,16 +155,13 @@ repeat_title =
     record { name = codes "repeat"; text = codes "Repeats all before it"; shapes = IsRepeatShape }
 
 -- what a run knows beside its parser is this text alone, which describes it
-pub record IsDescribed (text : List ℕ) (info : RunInfo) : Type 0 where
-  pub descr : List Piece
-  pub told : TextPieces text descr
-  pub is : info ≡ record plain_info { descr = Some descr }
+abbrev pub described : List ℕ → RunInfo
+described text = record plain_info { descr = Some (text_pieces text) }
 
 -- what a command shows: its name, the first line of its text, and what is shown behind its name
-pub record IsCommandShape (title : Titled) (shape : Shape) : Type 0 where
-  pub info : RunInfo
-  pub described : IsDescribed title.text info
-  pub is : CommandDescribes (named_only title.name) (short_descr info) title.shapes shape
+abbrev pub IsCommandShape : Titled → ShownShapes
+IsCommandShape title =
+    CommandDescribes (named_only title.name) (short_descr (described title.text)) title.shapes
 
 -- what the program shows: any number of its commands
 abbrev pub IsProgramShape : ShownShapes
@@ -175,11 +170,9 @@ IsProgramShape =
     (IsCommandShape turn_title)) (IsCommandShape repeat_title))
 
 -- the help page of a command, which was asked for behind its name
-pub record IsCommandPage (title : Titled) (s : Situation) (doc : List Piece) (full : Bool) : Type 0
-  where
-    pub info : RunInfo
-    pub described : IsDescribed title.text info
-    pub asked : BehindWord (named_only title.name) (IsAskedAt title.shapes info) s doc full
+abbrev pub IsCommandPage : Titled → Situation → List Piece → Bool → Type 0
+IsCommandPage title =
+    BehindWord (named_only title.name) (IsAskedAt title.shapes (described title.text))
 
 -- a help page that was asked for: that of the program, or of one of its commands
 pub data IsAskedPage (s : Situation) (doc : List Piece) (full : Bool) : Type 0 where

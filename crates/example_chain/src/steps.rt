@@ -1,14 +1,13 @@
 //! The steps of a chain, as adjacent commands.
-ghost use Rattle.std.specs.Prelude.{◌≡◌, IfOk, map, string_bytes, true};
+ghost use Rattle.std.specs.Prelude.{◌≡◌, ◌≤◌, length, IfOk, None, map, string_bytes, true};
 ghost use Rattle.std.specs.Result.{IfErr};
 ghost use Rattle.bpaf_laws.specs.{Command.named_only, Laws.joined_shorts, Laws.no_shorts};
-ghost use Rattle.bpaf_keys.specs.Info.{short_descr};
 ghost use Rattle.bpaf.specs.Asked.{IfShown};
-ghost use Rattle.example_chain.specs.Running.{AreDealt, AreDealtSteps, IsDescribed, IsHelpAsked};
+ghost use Rattle.example_chain.specs.Running.{AreDealt, AreDealtSteps, described, IsHelpAsked};
 ghost use Rattle.example_chain.specs.Running.{IsMoveShape, IsRepeatShape, IsTurnShape, ShowsAs};
 
 use bpaf::parsers::ParseCommand;
-use bpaf::{Args, Doc, ParseFailure, Parser, construct, long, positional};
+use bpaf::{Args, ParseFailure, Parser, construct, long_key, positional};
 use std::alloc::{AllocError, Global};
 
 /// One step.
@@ -28,13 +27,13 @@ pub fn read_steps(alloc: Global, words: &[String]) -> Result<Vec<Step>, ParseFai
     ensures dealt { IfOk result (λ steps. AreDealtSteps (map string_bytes words.now) steps) }
     ensures asked { IfErr result (IfShown (IsHelpAsked (map string_bytes words.now))) }
 {
-    let left = long(alloc, "left")?.switch();
-    let degrees = positional::<u64>("DEGREES").help(Doc::from_text(alloc, "How far to turn")?);
+    let left = long_key(alloc, "left").switch();
+    let degrees = positional::<u64>("DEGREES").help("How far to turn");
     let turn = construct!(Step::Turn { left, degrees });
-    let dx = positional::<i64>("DX").help(Doc::from_text(alloc, "How far to the right")?);
-    let dy = positional::<i64>("DY").help(Doc::from_text(alloc, "How far up")?);
+    let dx = positional::<i64>("DX").help("How far to the right");
+    let dy = positional::<i64>("DY").help("How far up");
     let go = construct!(Step::Move { dx, dy });
-    let times = positional::<u64>("N").help(Doc::from_text(alloc, "How many times")?);
+    let times = positional::<u64>("N").help("How many times");
     let repeat = construct!(Step::Repeat { times });
     read_chain(alloc, go, turn, repeat, words)
 }
@@ -68,7 +67,7 @@ where
     let repeat = chained(alloc, "repeat", "Repeats all before it", repeat)?;
     construct!([go, turn, repeat])
         .many()
-        .to_options(alloc)?
+        .into_options(alloc)
         .run_once(Args::from(words).set_name("chain"))
 }
 
@@ -80,13 +79,13 @@ fn chained<P: Parser<Step> + Drop>(
     descr: &str,
     parser: P,
 ) -> Result<ParseCommand<Step, P>, AllocError>
+    requires { length name.now ≤ 23 }
     ensures inner { IfOk result (λ command. command.inner ≡ parser) }
     ensures names { IfOk result (λ command. command.names ≡ named_only name.now) }
     ensures adjacent { IfOk result (λ command. command.adjacent ≡ true) }
-    ensures help { IfOk result (λ command. command.help ≡ short_descr command.info) }
-    ensures described { IfOk result (λ command. IsDescribed descr.now command.info) }
+    ensures help { IfOk result (λ command. command.help ≡ None) }
+    ensures info { IfOk result (λ command. command.info ≡ described descr.now) }
 {
-    let descr = Doc::from_text(alloc, descr)?;
-    let options = parser.to_options(alloc)?.descr(descr);
-    Ok(options.command(name)?.adjacent())
+    let options = parser.into_options(alloc).descr_str(descr)?;
+    Ok(options.into_command(name).adjacent())
 }

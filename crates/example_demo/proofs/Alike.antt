@@ -5,7 +5,7 @@ use Rattle.bpaf.specs.declared.leaves.positional.Position.TheVariants.{Unrestric
 use Rattle.bpaf.specs.declared.leaves.positional.ParsePositional.{ParsePositional}
 use Rattle.bpaf_exact.specs.{Says.Alike, Flat.Variables, Flat.list_closure, Flat.Closure}
 use Rattle.bpaf_program.specs.Ending.{line, truth}
-use Rattle.bpaf_program.specs.Fields.{IsArgument, IsSwitch, IsWord}
+use Rattle.bpaf_program.specs.Fields.{helped_argument, helped_switch, IsWord}
 use Rattle.bpaf_program.specs.KnownParser.{IsKept, MeansText, String}
 use Rattle.bpaf_program.proofs.LookAlike.{alone_seen, both_seen, con_seen, field_seen, many_seen}
 use Rattle.bpaf_program.proofs.LookAlike.{number_seen, switch_seen, text_word_seen}
@@ -13,7 +13,6 @@ use Rattle.bpaf_program.proofs.LookAlike.{program_looks_one, values_look}
 use Rattle.example_demo.specs.Running.{number_key, options_of, program_given, program_known}
 use Rattle.example_demo.specs.Running.{IsOptionsOf, file_lines, lines, verbose_names, FieldValues}
 use Rattle.example_demo.specs.declared.options.Options.{Options}
-use Rattle.bpaf_doc.specs.declared.doc.Piece.{Piece}
 use Rattle.bpaf_text.specs.Meaning.{SpellsUnsigned}
 use Rattle.bpaf_text.specs.{declared.params.ParseFlag.ParseFlag, Named.KeyWithValue}
 use Rattle.bpaf_keys.specs.Info.{RunInfo, plain_info}
@@ -44,21 +43,13 @@ made makes verbose num files =
     (alone (repeat files.catch (list_closure String) (word MeansText files.inner.position)))))
 
 -- it is a flat record
-pub is_flat : (makes : Closure FieldValues Options) {verbose_help num_help file_help : List Piece}
+pub is_flat : (makes : Closure FieldValues Options)
     {verbose : ParseFlag Bool} {num : KeyWithValue} {files : ParseMany (ParsePositional String)}
-    → IsSwitch verbose_names (codes "Print more") verbose_help verbose
-    → IsArgument number_key (codes "A number") num_help num
-    → IsWord Unrestricted (codes "FILE") (codes "Files to read") file_help files.inner
+    → verbose ≡ helped_switch verbose_names (codes "Print more")
+    → num ≡ helped_argument number_key (codes "A number")
+    → IsWord Unrestricted (codes "FILE") (codes "Files to read") files.inner
     → files.catch ≡ false → {info : RunInfo} → info ≡ plain_info → (variables : Variables)
     → let grammar : Grammar Options = made makes verbose num files in
     is_flat_record (program_form grammar variables) (keys_of grammar false) info ≡ true
 is_flat makes is_verbose is_num is_files no_catch plain variables =
-    rw (
-      is_verbose.absent_is,
-      is_verbose.present_is,
-      is_verbose.named_is,
-      is_num.key_is,
-      no_catch,
-      is_files.position_is,
-      plain,
-    ) refl
+    rw (is_verbose, is_num, no_catch, is_files.position_is, plain) refl

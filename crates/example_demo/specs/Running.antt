@@ -3,9 +3,9 @@
 use Rattle.std.specs.Prelude.{Result, false, codes, Bool, true, List, Some, ◌++◌, ◌≡◌, ◌∷◌, [], ℕ}
 use Rattle.std.specs.{Prelude.string_bytes, Prelude.map, Fmt.decimal, Global.Vec}
 use Rattle.bpaf_doc.specs.Shape.{Optional, members, Shape, Many, And}
-use Rattle.bpaf_doc.specs.{declared.doc.Piece.Piece, Print.TextPieces, Print.printed, Names.Names}
+use Rattle.bpaf_doc.specs.{declared.doc.Piece.Piece, Print.text_pieces, Print.printed, Names.Names}
 use Rattle.bpaf_text.specs.Meaning.{SpellsUnsigned}
-use Rattle.bpaf_text.specs.Named.{KeyWithValue, key_named, with_help}
+use Rattle.bpaf_text.specs.Named.{KeyWithValue, key_named}
 use Rattle.bpaf_words.specs.{Arguments.Given, Line.knowing, Line.Known}
 use Rattle.bpaf_laws.specs.{Combinators.ListReads, Leaves.argument_shape, Combinators.MapReads}
 use Rattle.bpaf_laws.specs.{Leaves.ArgumentReads, Product.BothReads, Reading.Readings}
@@ -14,7 +14,7 @@ use Rattle.bpaf.specs.declared.leaves.positional.Position.TheVariants.{Unrestric
 use Rattle.bpaf.specs.{Asked.WasAsked, Run.IsDealtOut, Asked.IfShown}
 use Rattle.bpaf_program.specs.KnownParser.{known_switch, known_many, IsExactFor, MeansText, String}
 use Rattle.bpaf_program.specs.KnownParser.{known_con, IsValueBy}
-use Rattle.bpaf_program.specs.Fields.{NamedSwitchReads, switch_shape}
+use Rattle.bpaf_program.specs.Fields.{NamedSwitchReads, helped_argument, switch_shape}
 use Rattle.bpaf_program.specs.Ending.{AnswersByText, PrintsTextOf, line_each, Written, truth, line}
 use Rattle.example_demo.specs.declared.options.Options.{Options}
 use Rattle.bpaf_line.specs.declared.failure.ParseFailure.{ParseFailure}
@@ -104,32 +104,19 @@ lines v =
     line (codes "verbose: " ++ truth v.verbose) ++ line (codes "num: " ++ decimal v.num)
     ++ file_lines (file_texts v)
 
--- the number with its help
-abbrev pub number_shown : List Piece → KeyWithValue
-number_shown help = record number_key { named = with_help number_key.named help }
-
 -- what the program shows: the switch, the number and the files, each with its help
-abbrev pub program_shape : (verbose num file : List Piece) → Shape
-program_shape verbose num file =
-    And (members (switch_shape verbose_names verbose
-    ∷ argument_shape (number_shown num)
-    ∷ Many (Optional (positional_shape Unrestricted (codes "FILE") (Some file)))
+abbrev pub program_shape : Shape
+program_shape =
+    And (members (switch_shape verbose_names (codes "Print more")
+    ∷ argument_shape (helped_argument number_key (codes "A number"))
+    ∷ Many (Optional (positional_shape Unrestricted (codes "FILE")
+    (Some (text_pieces (codes "Files to read")))))
     ∷ []))
-
--- a shape is what the program shows, with these helps
-pub record IsProgramShape (shape : Shape) : Type 0 where
-  pub verbose : List Piece
-  pub num : List Piece
-  pub file : List Piece
-  pub verbose_help : TextPieces (codes "Print more") verbose
-  pub num_help : TextPieces (codes "A number") num
-  pub file_help : TextPieces (codes "Files to read") file
-  pub is : shape ≡ program_shape verbose num file
 
 -- the words ask for help, and this is the help page of the program
 abbrev pub IsHelpAsked : List (List ℕ) → List Piece → Bool → Type 0
 IsHelpAsked words doc full =
-    WasAsked IsProgramShape plain_info program_known (program_given words) doc full
+    WasAsked (λ shape. shape ≡ program_shape) plain_info program_known (program_given words) doc full
 
 -- what is shown in place of options is help that the words ask for
 abbrev pub ShowsHelpAsked : List (List ℕ) → ParseFailure → Type 0

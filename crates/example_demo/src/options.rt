@@ -2,15 +2,15 @@
 ghost use Rattle.std.specs.Prelude.{◌≡◌, IfOk, codes, false, map, string_bytes};
 ghost use Rattle.std.specs.Result.{IfErr};
 ghost use Rattle.bpaf.specs.declared.leaves.positional.Position.TheVariants.{Unrestricted};
-ghost use Rattle.bpaf_program.specs.Fields.{HasArgument, HasSwitch, HasWord};
+ghost use Rattle.bpaf_program.specs.Fields.{helped_argument, helped_switch, IsWord};
 ghost use Rattle.example_demo.specs.Running.{AnswersOptionsExactly, IsDealtOptions, number_key};
 ghost use Rattle.example_demo.specs.Running.{verbose_names, ShowsHelpAsked};
 
 use bpaf::params::{ParseArgument, ParseFlag, ParsePositional};
 use bpaf::parsers::ParseMany;
-use bpaf::{Args, Doc, ParseFailure, Parser, construct, positional, short};
+use bpaf::{Args, ParseFailure, Parser, construct, key, positional};
 use bpaf_record::Record;
-use std::alloc::{AllocError, Global};
+use std::alloc::Global;
 
 /// What the program is asked for.
 #[derive(Drop)]
@@ -30,41 +30,37 @@ pub fn read_options(alloc: Global, words: &[String]) -> Result<Options, ParseFai
     ensures asked { IfErr result (λ f. ShowsHelpAsked (map string_bytes words.now) f) }
     ensures exact { AnswersOptionsExactly (map string_bytes words.now) result }
 {
-    let verbose = verbose(alloc)?;
-    let num = num(alloc)?;
-    let files = files(alloc)?;
+    let verbose = verbose(alloc);
+    let num = num(alloc);
+    let files = files();
     let options = construct!(Options {
         verbose,
         num,
         files
     })
-    .to_options(alloc)?;
+    .into_options(alloc);
     options.run_record(Args::from(words).set_name("bpaf_demo"))
 }
 
-/// The switch, `-v` or `--verbose`; refused only for want of memory.
-fn verbose(alloc: Global) -> Result<ParseFlag<bool>, AllocError>
-    ensures { IfOk result (HasSwitch verbose_names (codes "Print more")) }
+/// The switch, `-v` or `--verbose`.
+fn verbose(alloc: Global) -> ParseFlag<bool>
+    ensures { result ≡ helped_switch verbose_names (codes "Print more") }
 {
-    let help = Doc::from_text(alloc, "Print more")?;
-    Ok(short(alloc, 'v')?.long("verbose")?.help(help).switch())
+    key(alloc, 'v', "verbose").switch().help("Print more")
 }
 
-/// The number, behind the last `-n` or `--num`; refused only for want of memory.
-fn num(alloc: Global) -> Result<ParseArgument<u64>, AllocError>
-    ensures { IfOk result (HasArgument number_key (codes "A number")) }
+/// The number, behind the last `-n` or `--num`.
+fn num(alloc: Global) -> ParseArgument<u64>
+    ensures { result ≡ helped_argument number_key (codes "A number") }
 {
-    let help = Doc::from_text(alloc, "A number")?;
-    let named = short(alloc, 'n')?.long("num")?.help(help);
-    Ok(named.argument::<u64>("NUM").take_last())
+    let num = key(alloc, 'n', "num").argument::<u64>("NUM");
+    num.take_last().help("A number")
 }
 
-/// The files, each a word; refused only for want of memory.
-fn files(alloc: Global) -> Result<ParseMany<ParsePositional<String>>, AllocError>
-    ensures word { IfOk result (λ files.
-        HasWord Unrestricted (codes "FILE") (codes "Files to read") files.inner) }
-    ensures catch { IfOk result (λ files. files.catch ≡ false) }
+/// The files, each a word.
+fn files() -> ParseMany<ParsePositional<String>>
+    ensures word { IsWord Unrestricted (codes "FILE") (codes "Files to read") result.inner }
+    ensures catch { result.catch ≡ false }
 {
-    let help = Doc::from_text(alloc, "Files to read")?;
-    Ok(positional::<String>("FILE").help(help).many())
+    positional::<String>("FILE").help("Files to read").many()
 }

@@ -1,9 +1,7 @@
 //! A record of ten fields, of which it is known which lines it accepts.
-use bpaf::params::{ParseArgument, ParseFlag};
-use bpaf::{Args, ParseFailure, Parser, construct, positional};
-use bpaf_program::key;
+use bpaf::{Args, ParseFailure, Parser, construct, key, positional};
 use bpaf_record::Record;
-use std::alloc::{AllocError, Global};
+use std::alloc::Global;
 
 /// What a backup is told.
 #[derive(Debug, Drop)]
@@ -20,26 +18,16 @@ pub struct Backup {
     pub to: Vec<String>,
 }
 
-/// A switch of two names.
-fn switch(alloc: Global, letter: char, name: &str) -> Result<ParseFlag<bool>, AllocError> {
-    Ok(key(alloc, letter, name)?.switch())
-}
-
-/// A number behind a key of two names.
-fn number(alloc: Global, letter: char, name: &str) -> Result<ParseArgument<u64>, AllocError> {
-    Ok(key(alloc, letter, name)?.argument::<u64>("NUM"))
-}
-
 /// What the words tell a backup; None where its parser is no flat record.
 pub fn read_backup(alloc: Global, words: &[&str]) -> Result<Option<Backup>, ParseFailure> {
-    let force = switch(alloc, 'f', "force")?;
-    let update = switch(alloc, 'u', "update")?;
-    let dry_run = switch(alloc, 'd', "dry-run")?;
-    let verbose = switch(alloc, 'v', "verbose")?;
-    let jobs = number(alloc, 'j', "jobs")?;
-    let depth = number(alloc, 'D', "depth")?;
-    let keep = number(alloc, 'k', "keep")?;
-    let sizes = number(alloc, 's', "size")?.many();
+    let force = key(alloc, 'f', "force").switch();
+    let update = key(alloc, 'u', "update").switch();
+    let dry_run = key(alloc, 'd', "dry-run").switch();
+    let verbose = key(alloc, 'v', "verbose").switch();
+    let jobs = key(alloc, 'j', "jobs").argument::<u64>("NUM");
+    let depth = key(alloc, 'D', "depth").argument::<u64>("NUM");
+    let keep = key(alloc, 'k', "keep").argument::<u64>("NUM");
+    let sizes = key(alloc, 's', "size").argument::<u64>("NUM").many();
     let from = positional::<String>("FROM");
     let to = positional::<String>("TO").many();
     let backup = construct!(Backup {
@@ -54,5 +42,5 @@ pub fn read_backup(alloc: Global, words: &[&str]) -> Result<Option<Backup>, Pars
         from,
         to
     });
-    backup.to_options(alloc)?.record_value(Args::from(words))
+    backup.into_options(alloc).record_value(Args::from(words))
 }

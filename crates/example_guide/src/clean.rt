@@ -4,8 +4,8 @@ ghost use Rattle.std.specs.Prelude.{◌≡◌, [], ◌∷◌, true, IfOk, codes,
 ghost use Rattle.bpaf_record.specs.Record.{WasCalled, WasSpelled};
 ghost use Rattle.example_guide.specs.{Clean.IsRemoval, Clean.cleaning_known, Remove.force_names};
 
-use bpaf::{Args, ParseFailure, Parser, construct, positional, short};
-use bpaf_program::{key, plain_command};
+use bpaf::{Args, ParseFailure, Parser, construct, key, positional, short_key};
+use bpaf_program::plain_command;
 use bpaf_record::CommandLine;
 use std::alloc::Global;
 
@@ -34,12 +34,12 @@ pub fn read_cleaning(alloc: Global, words: &[String]) -> Result<Cleaning, ParseF
     ensures called { IfOk result (λ cleaning. IsRemoval cleaning.task
         → WasCalled cleaning_known (codes "remove" ∷ []) (map string_bytes words.now)) }
 {
-    let long = short(alloc, 'l')?.switch();
-    let list = plain_command(alloc, "list", construct!(Task::List { long }))?;
+    let long = short_key(alloc, 'l').switch();
+    let list = plain_command(alloc, "list", construct!(Task::List { long }));
     let files = positional::<String>("FILE").many();
-    let remove = plain_command(alloc, "remove", construct!(Task::Remove { files }))?;
+    let remove = plain_command(alloc, "remove", construct!(Task::Remove { files }));
     let task = construct!([list, remove]);
-    let force = key(alloc, 'f', "force")?.switch();
-    let options = construct!(Cleaning { force, task }).to_options(alloc)?;
+    let force = key(alloc, 'f', "force").switch();
+    let options = construct!(Cleaning { force, task }).into_options(alloc);
     options.run_program(Args::from(words).set_name("clean"))
 }

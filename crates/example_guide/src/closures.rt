@@ -1,11 +1,11 @@
 //! Parsers that hold a closure, each made and run in one body.
-use bpaf::{Args, ParseFailure, Parser, construct, pure, short};
+use bpaf::{Args, ParseFailure, Parser, construct, pure, short_key};
 use std::alloc::Global;
 
 /// A switch, a small number and a constant, where the words give them.
 pub fn limited(alloc: Global, words: &[String]) -> Result<(bool, u64, char), ParseFailure> {
-    let verbose = short(alloc, 'v')?.switch();
-    let num = short(alloc, 'n')?.argument::<u64>("NUM");
+    let verbose = short_key(alloc, 'v').switch();
+    let num = short_key(alloc, 'n').argument::<u64>("NUM");
     let num = num.guard(|n| *n < 10, "below 10");
     let mark = pure('+');
     construct!(verbose, num, mark).run_once(alloc, Args::from(words))
@@ -13,7 +13,7 @@ pub fn limited(alloc: Global, words: &[String]) -> Result<(bool, u64, char), Par
 
 /// A number that is checked in a closure, and has a default.
 pub fn checked(alloc: Global, words: &[String]) -> Result<u64, ParseFailure> {
-    let num = short(alloc, 'n')?.argument::<u64>("NUM");
+    let num = short_key(alloc, 'n').argument::<u64>("NUM");
     let num = num.parse(|n| if n < 10 { Ok(n) } else { Err("too big") });
     num.fallback(7).run_once(alloc, Args::from(words))
 }

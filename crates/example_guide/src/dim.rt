@@ -4,8 +4,7 @@ ghost use Rattle.std.specs.Prelude.{◌<◌, ◌≤◌, IfOk, map, string_bytes}
 ghost use Rattle.bpaf_record.specs.Record.{WasSpelled};
 ghost use Rattle.example_guide.specs.Dim.{dimming_known, percent_names};
 
-use bpaf::{Args, ParseFailure, Parser, construct, short};
-use bpaf_program::key;
+use bpaf::{Args, ParseFailure, Parser, construct, key, short_key};
 use bpaf_record::Record;
 use std::alloc::Global;
 
@@ -23,18 +22,18 @@ pub fn read_dimming(alloc: Global, words: &[String]) -> Result<Dimming, ParseFai
     ensures { IfOk result (λ dimming. WasSpelled dimming_known percent_names (map string_bytes words.now)
         × (0 < dimming.percent) × (dimming.percent ≤ 100)) }
 {
-    let percent = key(alloc, 'p', "percent")?.argument::<u64>("NUM");
+    let percent = key(alloc, 'p', "percent").argument::<u64>("NUM");
     let percent = percent.parse(|n| if n <= 100 { Ok(n) } else { Err("too bright") });
     let percent = percent.guard(|n| *n > 0, "no light");
-    let lamp = short(alloc, 'l')?.argument::<u64>("NUM");
+    let lamp = short_key(alloc, 'l').argument::<u64>("NUM");
     let lamp = lamp.guard(|n| *n < 8, "no such lamp");
-    let seconds = short(alloc, 's')?.argument::<u64>("NUM");
+    let seconds = short_key(alloc, 's').argument::<u64>("NUM");
     let seconds = seconds.fallback_with(|| Ok::<u64, &str>(1));
     let options = construct!(Dimming {
         percent,
         lamp,
         seconds
     });
-    let options = options.to_options(alloc)?;
+    let options = options.into_options(alloc);
     options.run_record(Args::from(words).set_name("dim"))
 }

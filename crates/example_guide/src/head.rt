@@ -5,13 +5,12 @@ ghost use Rattle.std.specs.Result.{IfErr};
 ghost use Rattle.bpaf.specs.Asked.{IfShown};
 ghost use Rattle.bpaf_program.specs.Ending.{OrPage, RunsTo, wrote};
 ghost use Rattle.bpaf_record.specs.Record.{WasSpelled};
-ghost use Rattle.example_guide.specs.Head.{IsHeadPage, IsHeadText, bytes_key, bytes_names, head_known};
+ghost use Rattle.example_guide.specs.Head.{IsHeadPage, IsHeadText, bytes_names, head_known};
 
-use bpaf::params::ParseArgument;
-use bpaf::{Args, ParseFailure, Parser, construct, positional};
-use bpaf_program::{Sink, key, print, push_lines};
+use bpaf::{Args, ParseFailure, Parser, construct, key, positional};
+use bpaf_program::{Sink, print, push_lines};
 use bpaf_record::Record;
-use std::alloc::{AllocError, Global};
+use std::alloc::Global;
 
 /// What a `head` is asked for.
 #[derive(Drop)]
@@ -27,17 +26,10 @@ pub fn read_head(alloc: Global, words: &[String]) -> Result<Head, ParseFailure>
         → WasSpelled head_known bytes_names (map string_bytes words.now)) }
     ensures page { IfErr result (IfShown (IsHeadPage (map string_bytes words.now))) }
 {
-    let bytes = bytes(alloc)?.optional();
+    let bytes = key(alloc, 'c', "bytes").argument::<u64>("N").optional();
     let files = positional::<String>("FILE").many();
-    let options = construct!(Head { bytes, files }).to_options(alloc)?;
+    let options = construct!(Head { bytes, files }).into_options(alloc);
     options.run_record(Args::from(words))
-}
-
-/// The key behind which the number of bytes stands; refused only for want of memory.
-fn bytes(alloc: Global) -> Result<ParseArgument<u64>, AllocError>
-    ensures { IfOk result (λ bytes. bytes ≡ bytes_key) }
-{
-    Ok(key(alloc, 'c', "bytes")?.argument::<u64>("N"))
 }
 
 /// Runs the program on its words and gives its status. Its files are printed a line each, as

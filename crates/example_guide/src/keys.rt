@@ -7,18 +7,18 @@ use bpaf::parsers::{
     ParseChoice, ParseCollect, ParseCount, ParseFallback, ParseLast, ParseMany, ParseOptional,
     ParseOrElse, ParseSome,
 };
-use bpaf::{Error, Parser, State, choice, construct, env, long, positional, short};
+use bpaf::{Error, Parser, State, choice, construct, env, key, long_key, positional, short_key};
 use std::alloc::{AllocError, Global};
 use std::collections::BTreeSet;
 
 /// `-v`, `--verbose`: true or false.
-pub fn verbose(alloc: Global) -> Result<ParseFlag<bool>, AllocError> {
-    Ok(short(alloc, 'v')?.long("verbose")?.switch())
+pub fn verbose(alloc: Global) -> ParseFlag<bool> {
+    key(alloc, 'v', "verbose").switch()
 }
 
 /// `-q`: one value or the other.
-pub fn quiet(alloc: Global) -> Result<ParseFlag<Level>, AllocError> {
-    Ok(short(alloc, 'q')?.flag(Level::Low, Level::High))
+pub fn quiet(alloc: Global) -> ParseFlag<Level> {
+    short_key(alloc, 'q').flag(Level::Low, Level::High)
 }
 
 /// What a flag of levels answers is one of the two that it keeps: clones of levels equal them.
@@ -30,18 +30,18 @@ pub fn level(flag: &ParseFlag<Level>, state: &mut State) -> Result<Level, Error>
 }
 
 /// `--accept`, which must stand there.
-pub fn accept(alloc: Global) -> Result<ParseFlag<()>, AllocError> {
-    Ok(long(alloc, "accept")?.req_flag(()))
+pub fn accept(alloc: Global) -> ParseFlag<()> {
+    long_key(alloc, "accept").req_flag(())
 }
 
 /// `-n 3`, `-n3`, `--num=3`.
-pub fn num(alloc: Global) -> Result<ParseArgument<u64>, AllocError> {
-    Ok(short(alloc, 'n')?.long("num")?.argument::<u64>("NUM"))
+pub fn num(alloc: Global) -> ParseArgument<u64> {
+    key(alloc, 'n', "num").argument::<u64>("NUM")
 }
 
 /// `-s 3`, else the variable `SIZE` of the environment.
 pub fn size(alloc: Global) -> Result<ParseArgument<u32>, AllocError> {
-    Ok(short(alloc, 's')?.env("SIZE")?.argument::<u32>("NUM"))
+    Ok(short_key(alloc, 's').env("SIZE")?.argument::<u32>("NUM"))
 }
 
 /// The variable `HOME` of the environment.
@@ -50,12 +50,8 @@ pub fn home(alloc: Global) -> Result<ParseArgument<String>, AllocError> {
 }
 
 /// A switch with a help.
-pub fn tall(alloc: Global) -> Result<ParseFlag<bool>, AllocError> {
-    Ok(
-        short(alloc, 't')?
-            .help_str(alloc, "Print a tall page")?
-            .switch(),
-    )
+pub fn tall(alloc: Global) -> ParseFlag<bool> {
+    short_key(alloc, 't').switch().help("Print a tall page")
 }
 
 /// A word by itself.
@@ -64,18 +60,18 @@ pub fn file() -> ParsePositional<String> {
 }
 
 /// Some(3), or None where there is no `-n`.
-pub fn maybe(alloc: Global) -> Result<ParseOptional<ParseArgument<u64>>, AllocError> {
-    Ok(num(alloc)?.optional())
+pub fn maybe(alloc: Global) -> ParseOptional<ParseArgument<u64>> {
+    num(alloc).optional()
 }
 
 /// The number, or 7 where there is no `-n`.
-pub fn seven(alloc: Global) -> Result<ParseFallback<ParseArgument<u64>, u64>, AllocError> {
-    Ok(num(alloc)?.fallback(7))
+pub fn seven(alloc: Global) -> ParseFallback<ParseArgument<u64>, u64> {
+    num(alloc).fallback(7)
 }
 
 /// All numbers; none where there is no `-n`.
-pub fn nums(alloc: Global) -> Result<ParseMany<ParseArgument<u64>>, AllocError> {
-    Ok(num(alloc)?.many())
+pub fn nums(alloc: Global) -> ParseMany<ParseArgument<u64>> {
+    num(alloc).many()
 }
 
 /// The files, one at least.
@@ -86,31 +82,31 @@ pub fn files() -> ParseSome<'static, ParsePositional<String>> {
 /// The numbers in order, each once.
 pub fn ordered(
     alloc: Global,
-) -> Result<ParseCollect<ParseArgument<u64>, BTreeSet<u64>, u64>, AllocError> {
-    Ok(num(alloc)?.collect::<BTreeSet<u64>>())
+) -> ParseCollect<ParseArgument<u64>, BTreeSet<u64>, u64> {
+    num(alloc).collect::<BTreeSet<u64>>()
 }
 
 /// 3 for `-vvv`, 0 where there is none.
-pub fn volume(alloc: Global) -> Result<ParseCount<ParseFlag<()>, ()>, AllocError> {
-    Ok(short(alloc, 'v')?.req_flag(()).count())
+pub fn volume(alloc: Global) -> ParseCount<ParseFlag<()>, ()> {
+    short_key(alloc, 'v').req_flag(()).count()
 }
 
 /// The last number.
-pub fn latest(alloc: Global) -> Result<ParseLast<ParseArgument<u64>>, AllocError> {
-    Ok(num(alloc)?.last())
+pub fn latest(alloc: Global) -> ParseLast<ParseArgument<u64>> {
+    num(alloc).last()
 }
 
 /// One of two lengths.
 pub fn distance(
     alloc: Global,
-) -> Result<ParseOrElse<ParseArgument<u64>, ParseArgument<u64>>, AllocError> {
-    let meters = long(alloc, "meters")?.argument::<u64>("NUM");
-    Ok(construct!([meters, miles(long(alloc, "miles")?.argument::<u64>("NUM"))]))
+) -> ParseOrElse<ParseArgument<u64>, ParseArgument<u64>> {
+    let meters = long_key(alloc, "meters").argument::<u64>("NUM");
+    construct!([meters, miles(long_key(alloc, "miles").argument::<u64>("NUM"))])
 }
 
 /// One of any number of parsers of one type.
 pub fn color(alloc: Global) -> Result<ParseChoice<ParseFlag<u8>>, AllocError> {
-    let red = long(alloc, "red")?.req_flag(0);
-    let blue = long(alloc, "blue")?.req_flag(1);
+    let red = long_key(alloc, "red").req_flag(0);
+    let blue = long_key(alloc, "blue").req_flag(1);
     Ok(choice(vec![in alloc; red, blue]?))
 }

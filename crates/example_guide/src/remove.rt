@@ -9,8 +9,8 @@ ghost use Rattle.bpaf_record.specs.Record.{WasSpelled};
 ghost use Rattle.example_guide.specs.Remove.{IsRemovalPage, IsRemovalText, force_names};
 ghost use Rattle.example_guide.specs.Remove.{removal_known};
 
-use bpaf::{Args, OptionParser, ParseFailure, Parser, construct, positional, short};
-use bpaf_program::{Sink, key, print, push_lines};
+use bpaf::{Args, OptionParser, ParseFailure, Parser, construct, key, positional, short_key};
+use bpaf_program::{Sink, print, push_lines};
 use bpaf_record::Record;
 use std::alloc::{AllocError, Global};
 
@@ -29,15 +29,15 @@ pub fn read_removal(alloc: Global, words: &[String]) -> Result<Removal, ParseFai
         → WasSpelled removal_known force_names (map string_bytes words.now)) }
     ensures page { IfErr result (IfShown (IsRemovalPage (map string_bytes words.now))) }
 {
-    let depth = short(alloc, 'd')?.argument::<u64>("N").optional();
-    let force = key(alloc, 'f', "force")?.switch();
+    let depth = short_key(alloc, 'd').argument::<u64>("N").optional();
+    let force = key(alloc, 'f', "force").switch();
     let files = positional::<String>("FILE").many();
     let options = construct!(Removal {
         depth,
         force,
         files
     })
-    .to_options(alloc)?;
+    .into_options(alloc);
     let options = with_texts(options)?;
     options.run_record(Args::from(words).set_name("remove"))
 }

@@ -5,7 +5,7 @@ ghost use Rattle.bpaf.specs.Run.{known_names};
 ghost use Rattle.bpaf_record.specs.Grammar.{keys_of, program_form};
 ghost use Rattle.bpaf_record.specs.Record.{IsProgramValueOf, is_whole_program, IsValueOrWant};
 
-use bpaf::{Args, OptionParser, ParseFailure, Parser, short};
+use bpaf::{Args, OptionParser, ParseFailure, Parser, short_key};
 use bpaf_program::see_texts;
 use bpaf_record::{CommandLine, ProgramField};
 use std::alloc::Global;
@@ -31,6 +31,6 @@ pub fn answer_row<T: Drop, P: ProgramField<T>>(
 
 /// The seconds that the words of a row tell.
 pub fn read_seconds(alloc: Global, words: &[&str]) -> Result<u64, ParseFailure> {
-    let seconds = short(alloc, 's')?.argument::<u64>("NUM");
-    answer_row(&seconds.to_options(alloc)?, Args::from(words))
+    let seconds = short_key(alloc, 's').argument::<u64>("NUM");
+    answer_row(&seconds.into_options(alloc), Args::from(words))
 }

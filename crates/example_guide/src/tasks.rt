@@ -3,10 +3,10 @@
 use bpaf::params::{ParseArgument, ParseFlag, ParsePositional};
 use bpaf::parsers::{ParseCommand, ParseCon, ParseMany};
 use bpaf::{
-    Args, Constructor, Fields1, Fields2, ParseFailure, Parser, construct, positional, short,
+    Args, Constructor, Fields1, Fields2, ParseFailure, Parser, construct, positional, short_key,
 };
 use bpaf_program::plain_command;
-use std::alloc::{AllocError, Global};
+use std::alloc::Global;
 
 /// What is to be done.
 #[derive(Debug, Drop)]
@@ -43,22 +43,22 @@ type AddCommand = ParseCommand<Task, ParseCon<(Vec<String>, String), AddFields, 
 
 type ListCommand = ParseCommand<Task, ParseCon<bool, Fields1<ParseFlag<bool>>, MakeList>>;
 
-/// `add [-t TAG].. TEXT`; refused only for want of memory.
-fn add(alloc: Global) -> Result<AddCommand, AllocError> {
-    let tags = short(alloc, 't')?.argument::<String>("TAG").many();
+/// `add [-t TAG].. TEXT`.
+fn add(alloc: Global) -> AddCommand {
+    let tags = short_key(alloc, 't').argument::<String>("TAG").many();
     let text = positional::<String>("TEXT");
     plain_command(alloc, "add", construct!(MakeAdd {}; tags, text))
 }
 
-/// `list [-a]`; refused only for want of memory.
-fn list(alloc: Global) -> Result<ListCommand, AllocError> {
-    let all = short(alloc, 'a')?.switch();
+/// `list [-a]`.
+fn list(alloc: Global) -> ListCommand {
+    let all = short_key(alloc, 'a').switch();
     plain_command(alloc, "list", construct!(MakeList {}; all))
 }
 
 /// The task that the words give, as `add -t home TEXT`; refused where they give none, or for want
 /// of memory.
 pub fn read_task(alloc: Global, words: &[String]) -> Result<Task, ParseFailure> {
-    let task = construct!([add(add(alloc)?), list(list(alloc)?)]);
+    let task = construct!([add(add(alloc)), list(list(alloc))]);
     task.run_once(alloc, Args::from(words).set_name("tasks"))
 }

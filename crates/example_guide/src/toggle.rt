@@ -1,5 +1,5 @@
 //! A parser of one's own.
-use bpaf::{Args, Error, Meta, NamedArg, ParseFailure, Parser, State, long};
+use bpaf::{Args, Error, Meta, NamedArg, ParseFailure, Parser, State, long_key};
 use std::alloc::{AllocError, Global};
 
 /// Two keys, such as `--color` and `--no-color`: Some(true) for the one, Some(false) for the other,
@@ -54,8 +54,8 @@ impl Parser<Option<bool>> for Toggle {
 /// Whether the words turn the colour on or off, by `--color` and `--no-color`.
 pub fn read_color(alloc: Global, words: &[&str]) -> Result<Option<bool>, ParseFailure> {
     let color = Toggle {
-        on: long(alloc, "color")?,
-        off: long(alloc, "no-color")?,
+        on: long_key(alloc, "color"),
+        off: long_key(alloc, "no-color"),
     };
     color.run_once(alloc, Args::from(words).set_name("color"))
 }

@@ -1,8 +1,8 @@
 //! A first program: a switch, a number and words, of which it prints how many there are.
 #![tactic(auto)]
 
-use bpaf::{Args, ParseFailure, Parser, construct, positional};
-use bpaf_program::{key_with_help, print, words};
+use bpaf::{Args, ParseFailure, Parser, construct, key, positional};
+use bpaf_program::{print, words};
 use bpaf_record::CommandLine;
 use std::alloc::Global;
 use std::process::ExitCode;
@@ -17,17 +17,15 @@ struct Options {
 
 /// The options that the words give; else what is shown or told in their place.
 fn read_options(alloc: Global, words: &[String]) -> Result<Options, ParseFailure> {
-    let verbose = key_with_help(alloc, 'v', "verbose", "Tell more")?.switch();
-    let num = key_with_help(alloc, 'n', "num", "A number")?.argument::<u64>("NUM");
-    let files = positional::<String>("FILE")
-        .help_str(alloc, "Files to count")?
-        .many();
+    let verbose = key(alloc, 'v', "verbose").switch().help("Tell more");
+    let num = key(alloc, 'n', "num").argument::<u64>("NUM").help("A number");
+    let files = positional::<String>("FILE").help("Files to count").many();
     let options = construct!(Options {
         verbose,
         num,
         files
     });
-    let options = options.to_options(alloc)?;
+    let options = options.into_options(alloc);
     options.run_program(Args::from(words).set_name("hello"))
 }
 

@@ -3,7 +3,7 @@
 use Rattle.std.specs.Prelude.{string_bytes, Contains, codes, Bool, List, Some, ◌≡◌, ◌∷◌, map, [], ℕ}
 use Rattle.std.specs.{Prelude.Result, Prelude.◌++◌, Global.Vec}
 use Rattle.bpaf_doc.specs.Shape.{Optional, members, Shape, Many, And}
-use Rattle.bpaf_doc.specs.{declared.doc.Piece.Piece, Print.TextPieces, Print.printed, Names.Names}
+use Rattle.bpaf_doc.specs.{declared.doc.Piece.Piece, Print.text_pieces, Print.printed, Names.Names}
 use Rattle.bpaf_words.specs.{Arguments.Given, Line.knowing, Line.Known}
 use Rattle.bpaf_laws.specs.Combinators.{ListReads, MapReads}
 use Rattle.bpaf_laws.specs.{Product.BothReads, Reading.Readings}
@@ -100,32 +100,22 @@ lines launch =
     ++ line (codes "name: " ++ string_bytes launch.name)
     ++ line_each (codes "word: ") (map string_bytes launch.words.items)
 
--- what the program's name shows
-abbrev pub name_shape : List Piece → Shape
-name_shape help = positional_shape NonStrict (codes "NAME") (Some help)
+-- what a word at this position shows, with a help of this text
+abbrev pub word_shape : Position → List ℕ → List ℕ → Shape
+word_shape position metavar text = positional_shape position metavar (Some (text_pieces text))
 
--- what the words that are passed on show
-abbrev pub words_shape : List Piece → Shape
-words_shape help = Many (Optional (positional_shape Strict (codes "WORD") (Some help)))
-
--- a shape is what the program shows: the two switches, the name and the words, each with its help
-pub record IsProgramShape (shape : Shape) : Type 0 where
-  pub verbose : List Piece
-  pub dry_run : List Piece
-  pub name : List Piece
-  pub words : List Piece
-  pub verbose_help : TextPieces (codes "Print more") verbose
-  pub dry_run_help : TextPieces (codes "Start nothing") dry_run
-  pub name_help : TextPieces (codes "Program to start") name
-  pub words_help : TextPieces (codes "Words to pass on") words
-  pub is : shape
-      ≡ And (members (switch_shape verbose_names verbose ∷ switch_shape dry_run_names dry_run
-      ∷ name_shape name ∷ words_shape words ∷ []))
+-- what the program shows: the two switches, the name and the words, each with its help
+abbrev pub program_shape : Shape
+program_shape =
+    And (members (switch_shape verbose_names (codes "Print more")
+    ∷ switch_shape dry_run_names (codes "Start nothing")
+    ∷ word_shape NonStrict (codes "NAME") (codes "Program to start")
+    ∷ Many (Optional (word_shape Strict (codes "WORD") (codes "Words to pass on"))) ∷ []))
 
 -- the words ask for help, and this is the help page of the program
 abbrev pub IsHelpAsked : List (List ℕ) → List Piece → Bool → Type 0
 IsHelpAsked words doc full =
-    WasAsked IsProgramShape plain_info program_known (program_given words) doc full
+    WasAsked (λ shape. shape ≡ program_shape) plain_info program_known (program_given words) doc full
 
 -- what is shown in place of a launch is help that the words ask for
 abbrev pub ShowsHelpAsked : List (List ℕ) → ParseFailure → Type 0

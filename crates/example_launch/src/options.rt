@@ -2,14 +2,14 @@
 ghost use Rattle.std.specs.Prelude.{◌≡◌, IfOk, codes, false, map, string_bytes};
 ghost use Rattle.std.specs.Result.{IfErr};
 ghost use Rattle.bpaf.specs.declared.leaves.positional.Position.TheVariants.{NonStrict, Strict};
-ghost use Rattle.bpaf_program.specs.Fields.{HasSwitch, HasWord};
+ghost use Rattle.bpaf_program.specs.Fields.{helped_switch, IsWord};
 ghost use Rattle.example_launch.specs.Running.{IsLaunchOf, dry_run_names, verbose_names};
 ghost use Rattle.example_launch.specs.Running.{AnswersLaunch, ShowsHelpAsked};
 
 use bpaf::params::{ParseFlag, ParsePositional};
 use bpaf::parsers::ParseMany;
-use bpaf::{Args, Doc, ParseFailure, Parser, construct, long, positional, short};
-use std::alloc::{AllocError, Global};
+use bpaf::{Args, ParseFailure, Parser, construct, key, long_key, positional};
+use std::alloc::Global;
 
 /// What is to be started, and how.
 #[derive(Drop)]
@@ -32,10 +32,10 @@ pub fn read_launch(alloc: Global, words: &[String]) -> Result<Launch, ParseFailu
     ensures launch { IfOk result (λ launch. IsLaunchOf (map string_bytes words.now) launch) }
     ensures asked { IfErr result (λ f. ShowsHelpAsked (map string_bytes words.now) f) }
 {
-    let verbose = verbose(alloc)?;
-    let dry_run = dry_run(alloc)?;
-    let name = name(alloc)?;
-    let passed = passed(alloc)?;
+    let verbose = verbose(alloc);
+    let dry_run = dry_run(alloc);
+    let name = name();
+    let passed = passed();
     let launch = construct!(Launch {
         verbose,
         dry_run,
@@ -45,36 +45,34 @@ pub fn read_launch(alloc: Global, words: &[String]) -> Result<Launch, ParseFailu
     launch.run_once(alloc, Args::from(words).set_name("launch"))
 }
 
-/// The switch, `-v` or `--verbose`; refused only for want of memory.
-fn verbose(alloc: Global) -> Result<ParseFlag<bool>, AllocError>
-    ensures { IfOk result (HasSwitch verbose_names (codes "Print more")) }
+/// The switch, `-v` or `--verbose`.
+fn verbose(alloc: Global) -> ParseFlag<bool>
+    ensures { result ≡ helped_switch verbose_names (codes "Print more") }
 {
-    let help = Doc::from_text(alloc, "Print more")?;
-    Ok(short(alloc, 'v')?.long("verbose")?.help(help).switch())
+    key(alloc, 'v', "verbose").switch().help("Print more")
 }
 
-/// The switch `--dry-run`; refused only for want of memory.
-fn dry_run(alloc: Global) -> Result<ParseFlag<bool>, AllocError>
-    ensures { IfOk result (HasSwitch dry_run_names (codes "Start nothing")) }
+/// The switch `--dry-run`.
+fn dry_run(alloc: Global) -> ParseFlag<bool>
+    ensures { result ≡ helped_switch dry_run_names (codes "Start nothing") }
 {
-    let help = Doc::from_text(alloc, "Start nothing")?;
-    Ok(long(alloc, "dry-run")?.help(help).switch())
+    long_key(alloc, "dry-run").switch().help("Start nothing")
 }
 
-/// The program, a word before `--`; refused only for want of memory.
-fn name(alloc: Global) -> Result<ParsePositional<String>, AllocError>
-    ensures { IfOk result (HasWord NonStrict (codes "NAME") (codes "Program to start")) }
+/// The program, a word before `--`.
+fn name() -> ParsePositional<String>
+    ensures { IsWord NonStrict (codes "NAME") (codes "Program to start") result }
 {
-    let help = Doc::from_text(alloc, "Program to start")?;
-    Ok(positional::<String>("NAME").non_strict().help(help))
+    positional::<String>("NAME")
+        .non_strict()
+        .help("Program to start")
 }
 
-/// The words behind `--`; refused only for want of memory.
-fn passed(alloc: Global) -> Result<ParseMany<ParsePositional<String>>, AllocError>
-    ensures word { IfOk result (λ words.
-        HasWord Strict (codes "WORD") (codes "Words to pass on") words.inner) }
-    ensures catch { IfOk result (λ words. words.catch ≡ false) }
+/// The words behind `--`.
+fn passed() -> ParseMany<ParsePositional<String>>
+    ensures word { IsWord Strict (codes "WORD") (codes "Words to pass on") result.inner }
+    ensures catch { result.catch ≡ false }
 {
-    let help = Doc::from_text(alloc, "Words to pass on")?;
-    Ok(positional::<String>("WORD").strict().help(help).many())
+    let word = positional::<String>("WORD").strict();
+    word.help("Words to pass on").many()
 }

@@ -5,8 +5,8 @@ ghost use Rattle.bpaf_program.specs.KnownParser.{IsKnownParser};
 ghost use Rattle.example_notes.specs.Notes.{AnswersNotes, commands, notes_parser, other_commands};
 ghost use Rattle.example_notes.specs.Notes.{tag_commands};
 
-use bpaf::{Args, ParseFailure, Parser, construct, positional};
-use bpaf_program::{KnownOptions, KnownProgram, key, plain_command};
+use bpaf::{Args, ParseFailure, Parser, construct, key, positional};
+use bpaf_program::{KnownOptions, KnownProgram, plain_command};
 use bpaf_record::CommandLine;
 use std::alloc::Global;
 
@@ -75,7 +75,7 @@ fn with_tag<P: Parser<Tag> + Drop>(
     requires tag { IsKnownParser tag_commands (P.outcome tag) (P.shorts tag) }
     ensures { AnswersNotes (map string_bytes words.now) result }
 {
-    let max = key(alloc, 'n', "max")?.argument::<u64>("NUM").fallback(10);
+    let max = key(alloc, 'n', "max").argument::<u64>("NUM").fallback(10);
     let list = plain_command(alloc, "list", construct!(Task::List { max }))?;
     let tag = plain_command(alloc, "tag", tag)?.map(Task::Tag);
     with_others(alloc, words, construct!([list, tag]))
@@ -91,7 +91,7 @@ fn with_others<P: Parser<Task> + Drop>(
     requires others { IsKnownParser other_commands (P.outcome others) (P.shorts others) }
     ensures { AnswersNotes (map string_bytes words.now) result }
 {
-    let tags = key(alloc, 't', "tag")?.argument::<String>("TAG").many();
+    let tags = key(alloc, 't', "tag").argument::<String>("TAG").many();
     let texts = positional::<String>("TEXT").many();
     let add = plain_command(alloc, "add", construct!(Task::Add { tags, texts }))?;
     with_task(alloc, words, construct!([add, others]))
@@ -107,8 +107,8 @@ fn with_task<P: Parser<Task> + Drop>(
     requires task { IsKnownParser commands (P.outcome task) (P.shorts task) }
     ensures { AnswersNotes (map string_bytes words.now) result }
 {
-    let verbose = key(alloc, 'v', "verbose")?.switch();
-    let dir = key(alloc, 'd', "dir")?.argument::<String>("DIR").optional();
+    let verbose = key(alloc, 'v', "verbose").switch();
+    let dir = key(alloc, 'd', "dir").argument::<String>("DIR").optional();
     run_notes(alloc, words, construct!(Notes { verbose, dir, task }))
 }
 
@@ -123,7 +123,7 @@ fn run_notes<P: Parser<Notes> + Drop>(
     ensures { AnswersNotes (map string_bytes words.now) result }
 {
     let notes = KnownOptions {
-        options: notes.to_options(alloc)?,
+        options: notes.into_options(alloc),
         program: NotesProgram {},
     };
     notes.run_program(Args::from(words).set_name("notes"))

@@ -1,5 +1,5 @@
 //! The first lines of files, or of standard input where none is named.
-use bpaf::{Args, ParseFailure, Parser, construct, positional, short};
+use bpaf::{Args, ParseFailure, Parser, construct, positional, short_key};
 use std::alloc::Global;
 use std::io::{BufRead, BufReader};
 use std::{fs, io};
@@ -13,7 +13,7 @@ pub struct Options {
 
 /// The options that the words give.
 pub fn read_options(alloc: Global, words: &[&str]) -> Result<Options, ParseFailure> {
-    let num = short(alloc, 'n')?.argument::<usize>("NUM").fallback(10);
+    let num = short_key(alloc, 'n').argument::<usize>("NUM").fallback(10);
     let files = positional::<String>("FILE").many();
     construct!(Options { num, files }).run_once(alloc, Args::from(words))
 }

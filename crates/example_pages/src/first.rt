@@ -1,8 +1,8 @@
 //! A first record, and a run of it over two writers.
 use bpaf::params::{ParseArgument, ParseFlag};
-use bpaf::{Args, OptionParser, ParseFailure, Parser, construct, positional, short};
+use bpaf::{Args, OptionParser, ParseFailure, Parser, construct, key, positional, short_key};
 use bpaf_program::{Program, Sink};
-use std::alloc::{AllocError, Global};
+use std::alloc::Global;
 
 /// A switch, a number and words.
 #[derive(Debug, Drop)]
@@ -14,8 +14,8 @@ pub struct Options {
 
 /// The record that the words tell.
 pub fn read_options(alloc: Global, words: &[&str]) -> Result<Options, ParseFailure> {
-    let verbose = short(alloc, 'v')?.long("verbose")?.switch();
-    let num = short(alloc, 'n')?.long("num")?.argument::<u64>("NUM");
+    let verbose = key(alloc, 'v', "verbose").switch();
+    let num = key(alloc, 'n', "num").argument::<u64>("NUM");
     let files = positional::<String>("FILE").many();
     construct!(Options {
         verbose,
@@ -27,9 +27,9 @@ pub fn read_options(alloc: Global, words: &[&str]) -> Result<Options, ParseFailu
 
 /// The same with a text of the help page, which is set of the options.
 pub fn read_described(alloc: Global, words: &[&str]) -> Result<bool, ParseFailure> {
-    let record = verbose(alloc)?;
+    let record = verbose(alloc);
     record
-        .to_options(alloc)?
+        .into_options(alloc)
         .descr_str("Tells more")?
         .run_once(Args::from(words))
 }
@@ -49,11 +49,11 @@ pub fn run_over<T: Drop, P: Parser<T>, S: Sink, E: Sink>(
 }
 
 /// `-v`: true or false.
-pub fn verbose(alloc: Global) -> Result<ParseFlag<bool>, AllocError> {
-    Ok(short(alloc, 'v')?.switch())
+pub fn verbose(alloc: Global) -> ParseFlag<bool> {
+    short_key(alloc, 'v').switch()
 }
 
 /// `-n 3`.
-pub fn number(alloc: Global) -> Result<ParseArgument<u64>, AllocError> {
-    Ok(short(alloc, 'n')?.argument::<u64>("NUM"))
+pub fn number(alloc: Global) -> ParseArgument<u64> {
+    short_key(alloc, 'n').argument::<u64>("NUM")
 }

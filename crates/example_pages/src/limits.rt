@@ -1,5 +1,5 @@
 //! Two options that exclude each other, which is told in a message of the program's own.
-use bpaf::{Args, Doc, ParseFailure, Parser, construct, short};
+use bpaf::{Args, Doc, ParseFailure, Parser, construct, short_key};
 use std::alloc::Global;
 
 /// How much is shown.
@@ -11,8 +11,8 @@ pub struct Limits {
 
 /// The limits that the words tell, not both.
 pub fn read_limits(alloc: Global, words: &[&str]) -> Result<Limits, ParseFailure> {
-    let bytes = short(alloc, 'c')?.argument::<u64>("N").optional();
-    let lines = short(alloc, 'n')?.argument::<u64>("N").optional();
+    let bytes = short_key(alloc, 'c').argument::<u64>("N").optional();
+    let lines = short_key(alloc, 'n').argument::<u64>("N").optional();
     let limits = construct!(Limits { bytes, lines }).run_once(alloc, Args::from(words))?;
     if limits.bytes.is_some() && limits.lines.is_some() {
         let message = Doc::from_text(alloc, "`-c` and `-n` exclude each other")?;

@@ -57,7 +57,7 @@ fn tell_first(rt: &HostRuntime) -> io::Result<()> {
     let words = ["a", "-vn3", "b"];
     tell(rt, "first", first::read_options(alloc, &words))?;
     tell(rt, "described", first::read_described(alloc, &["-v"]))?;
-    let options = first::number(alloc)?.to_options(alloc)?;
+    let options = first::number(alloc).into_options(alloc);
     match first::run_over(&options, &["-n", "3"], &mut rt.stdout(), &mut rt.stderr()) {
         Ok(num) => println!(rt; "over writers: {num}")?,
         Err(status) => println!(rt; "over writers: status {status}")?,

@@ -1,7 +1,8 @@
 //! Usual shapes of command lines.
 use bpaf::params::{ParseFlag, ParsePositional};
-use bpaf::{Args, ParseFailure, ParseTuple2, Parser, command, construct, long, positional, short};
-use std::alloc::{AllocError, Global};
+use bpaf::{Args, ParseFailure, ParseTuple2, Parser, construct, long_key, positional, short_key};
+use bpaf_program::plain_command;
+use std::alloc::Global;
 
 /// A command of the command `remote`.
 #[derive(Debug, Drop)]
@@ -14,15 +15,12 @@ pub enum Remote {
 pub fn read_remote(alloc: Global, words: &[&str]) -> Result<(bool, Remote), ParseFailure> {
     let name = positional::<String>("NAME");
     let url = positional::<String>("URL");
-    let add = command("add", construct!(Remote::Add(name, url)).to_options(alloc)?)?;
+    let add = plain_command(alloc, "add", construct!(Remote::Add(name, url)));
     let name = positional::<String>("NAME");
-    let remove = command(
-        "remove",
-        construct!(Remote::Remove(name)).to_options(alloc)?,
-    )?;
-    let remote = command("remote", construct!([add, remove]).to_options(alloc)?)?;
-    let verbose = short(alloc, 'v')?.switch();
-    let options = construct!(verbose, remote).to_options(alloc)?;
+    let remove = plain_command(alloc, "remove", construct!(Remote::Remove(name)));
+    let remote = plain_command(alloc, "remote", construct!([add, remove]));
+    let verbose = short_key(alloc, 'v').switch();
+    let options = construct!(verbose, remote).into_options(alloc);
     options.run_once(Args::from(words))
 }
 
@@ -42,7 +40,7 @@ pub type Search = (String, Vec<String>);
 
 /// A word unless there is a key.
 pub fn read_search(alloc: Global, words: &[&str]) -> Result<Search, ParseFailure> {
-    let pattern = short(alloc, 'e')?.argument::<String>("PATTERN");
+    let pattern = short_key(alloc, 'e').argument::<String>("PATTERN");
     let files = positional::<String>("FILE").many();
     let by_key = construct!(pattern, files);
     let pattern = positional::<String>("PATTERN");
@@ -57,8 +55,8 @@ pub type Login = (String, String);
 
 /// Two options that go together, or neither.
 pub fn read_login(alloc: Global, words: &[&str]) -> Result<Option<Login>, ParseFailure> {
-    let user = long(alloc, "user")?.argument::<String>("USER");
-    let password = long(alloc, "password")?.argument::<String>("TEXT");
+    let user = long_key(alloc, "user").argument::<String>("USER");
+    let password = long_key(alloc, "password").argument::<String>("TEXT");
     let login = construct!(user, password).optional();
     login.run_once(alloc, Args::from(words))
 }
@@ -68,8 +66,8 @@ pub type Chosen = (bool, Vec<String>);
 
 /// Two options that exclude one another.
 pub fn read_chosen(alloc: Global, words: &[&str]) -> Result<Chosen, ParseFailure> {
-    let all = long(alloc, "all")?.switch();
-    let only = long(alloc, "only")?.argument::<String>("NAME").many();
+    let all = long_key(alloc, "all").switch();
+    let only = long_key(alloc, "only").argument::<String>("NAME").many();
     let chosen = construct!(all, only);
     let chosen = chosen.guard(|it| !it.0 || it.1.is_empty(), "`--all` excludes `--only`");
     chosen.run_once(alloc, Args::from(words))
@@ -78,13 +76,13 @@ pub fn read_chosen(alloc: Global, words: &[&str]) -> Result<Chosen, ParseFailure
 /// A switch and a word, whose parser a function answers.
 fn switch_and_word(
     alloc: Global,
-) -> Result<ParseTuple2<bool, String, ParseFlag<bool>, ParsePositional<String>>, AllocError> {
-    let all = short(alloc, 'a')?.switch();
+) -> ParseTuple2<bool, String, ParseFlag<bool>, ParsePositional<String>> {
+    let all = short_key(alloc, 'a').switch();
     let word = positional::<String>("WORD");
-    Ok(construct!(all, word))
+    construct!(all, word)
 }
 
 /// What these read.
 pub fn read_pair(alloc: Global, words: &[&str]) -> Result<(bool, String), ParseFailure> {
-    switch_and_word(alloc)?.run_once(alloc, Args::from(words))
+    switch_and_word(alloc).run_once(alloc, Args::from(words))
 }

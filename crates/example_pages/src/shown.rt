@@ -6,21 +6,21 @@ use std::alloc::{AllocError, Global};
 
 /// A number that isn't shown.
 pub fn hidden(alloc: Global, words: &[&str]) -> Result<u64, ParseFailure> {
-    let num = number(alloc)?;
+    let num = number(alloc);
     let hidden = num.hide();
     hidden.run_once(alloc, Args::from(words))
 }
 
 /// A number that isn't shown in the usage.
 pub fn without_usage(alloc: Global, words: &[&str]) -> Result<u64, ParseFailure> {
-    let num = number(alloc)?;
+    let num = number(alloc);
     let hidden = num.hide_usage();
     hidden.run_once(alloc, Args::from(words))
 }
 
 /// A number with a usage of its own.
 pub fn with_usage(alloc: Global, words: &[&str]) -> Result<u64, ParseFailure> {
-    let num = number(alloc)?;
+    let num = number(alloc);
     let shown = num.custom_usage(Doc::from_text(alloc, "FROM..TO")?);
     shown.run_once(alloc, Args::from(words))
 }

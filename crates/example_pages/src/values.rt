@@ -5,42 +5,42 @@ use std::alloc::Global;
 
 /// So many times 1,024.
 pub fn mapped(alloc: Global, words: &[&str]) -> Result<u128, ParseFailure> {
-    let num = number(alloc)?;
+    let num = number(alloc);
     let bytes = num.map(|n| u128::from(n) * 1024);
     bytes.run_once(alloc, Args::from(words))
 }
 
 /// A small number, which a closure checks.
 pub fn parsed(alloc: Global, words: &[&str]) -> Result<u64, ParseFailure> {
-    let num = number(alloc)?;
+    let num = number(alloc);
     let small = num.parse(|n| if n < 10 { Ok(n) } else { Err("too big") });
     small.run_once(alloc, Args::from(words))
 }
 
 /// A small number, of which a closure tells that it is one.
 pub fn guarded(alloc: Global, words: &[&str]) -> Result<u64, ParseFailure> {
-    let num = number(alloc)?;
+    let num = number(alloc);
     let small = num.guard(|n| *n < 10, "below 10");
     small.run_once(alloc, Args::from(words))
 }
 
 /// A number, or None.
 pub fn optional(alloc: Global, words: &[&str]) -> Result<Option<u64>, ParseFailure> {
-    let num = number(alloc)?;
+    let num = number(alloc);
     let perhaps = num.optional();
     perhaps.run_once(alloc, Args::from(words))
 }
 
 /// A number, or 7.
 pub fn or_seven(alloc: Global, words: &[&str]) -> Result<u64, ParseFailure> {
-    let num = number(alloc)?;
+    let num = number(alloc);
     let number = num.fallback(7);
     number.run_once(alloc, Args::from(words))
 }
 
 /// A number, or what a function answers.
 pub fn or_default(alloc: Global, words: &[&str]) -> Result<u64, ParseFailure> {
-    let num = number(alloc)?;
+    let num = number(alloc);
     let number = num.fallback_with(|| read_default());
     number.run_once(alloc, Args::from(words))
 }
@@ -69,7 +69,7 @@ pub fn refused(alloc: Global, words: &[&str]) -> Result<(), ParseFailure> {
 
 /// A number that can be read, or None.
 pub fn readable(alloc: Global, words: &[&str]) -> Result<Option<u64>, ParseFailure> {
-    let num = number(alloc)?;
+    let num = number(alloc);
     let perhaps = num.optional().catch();
     perhaps.run_once(alloc, Args::from(words))
 }

@@ -133,7 +133,7 @@ fn a_type_of_the_callers_own_is_read(rt: HostRuntime) {
 const SIZE: &str = "NamedArg { shorts: ['s', 'n'], \
     longs: [\"size\", \"number\"], \
     envs: [\"SIZE\", \"WIDTH\"], \
-    help: Some(Doc { pieces: [Piece { text: \"how wide\", \
+    help: Some(Help { kept: Doc(Doc { pieces: [Piece { text: \"how wide\", \
     style: Text, detail: false }] }) }";
 
 // The key that `SIZE` prints.

@@ -70,8 +70,8 @@ fn a_closure_makes_the_usage(rt: HostRuntime) -> Result<(), Fail> {
 
 /// Leaves with helps that are texts.
 fn leaves_with_helps(alloc: Global) -> Result<String, AllocError> {
-    let verbose = verbose(alloc)?.help_str(alloc, "Print more")?;
-    let num = num(alloc)?.help_str(alloc, "A number")?;
+    let verbose = verbose(alloc)?.help("Print more");
+    let num = num(alloc)?.help("A number");
     let go = literal(alloc, "go")?.help_str(alloc, "Begins")?;
     let word = any::<String, bool, _>(alloc, "ANY", |word| match word.as_str() {
         "x" => Some(true),

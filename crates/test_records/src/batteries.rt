@@ -1,9 +1,8 @@
 //! The batteries on worked lines.
-use bpaf::{Doc, Parser, construct, long, positional, short};
+use bpaf::{Doc, Parser, construct, key, long, positional, short};
 use bpaf_batteries::{
     cargo_helper, get_usage, toggle_flag, verbose_and_quiet_by_number, verbose_by_slice,
 };
-use bpaf_program::key_with_help;
 use std::alloc::{AllocError, Global};
 use std::fmt::{self, Debug};
 use std::test::Fail;
@@ -144,10 +143,7 @@ fn help_of_switch(alloc: Global) -> Result<String, AllocError> {
 
 /// The help page of a key with a help.
 fn help_of_key(alloc: Global) -> Result<String, AllocError> {
-    page(
-        alloc,
-        key_with_help(alloc, 'v', "verbose", "Print more")?.switch(),
-    )
+    page(alloc, key(alloc, 'v', "verbose").switch().help("Print more"))
 }
 
 /// The help page of a key with a help.

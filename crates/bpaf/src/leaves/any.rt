@@ -1,7 +1,7 @@
 //! An item of any kind, as far as a check takes it.
 ghost use Rattle.std.specs.Prelude.{◌≡◌, ◌∷◌, [], IfOk, Some, None, true, false, List, refl};
 ghost use Rattle.std.specs.Result.{IfErr};
-ghost use Rattle.bpaf_doc.specs.Print.{TextPieces, shown_as};
+ghost use Rattle.bpaf_doc.specs.Print.{text_pieces, shown_as};
 ghost use Rattle.bpaf_doc.specs.{declared.doc.Piece.Piece, Shape.Shown, Shape.Any};
 ghost use Rattle.bpaf_laws.specs.Leaves.{ChecksText, AnyOutcome, AnyReads};
 ghost use Rattle.bpaf_laws.specs.Laws.{no_shorts};
@@ -103,8 +103,8 @@ impl<I, T, F: Drop> ParseAny<I, T, F> {
     /// The same with a help of this text, as [`Doc::from_text`] makes it; refused only for want of
     /// memory, and then the parser is gone.
     pub fn help_str(self, alloc: Global, help: &str) -> Result<ParseAny<I, T, F>, AllocError>
-        ensures { IfOk result (λ helped. (pieces : List Piece) × TextPieces help.now pieces
-            × (helped ≡ record self { help = Some pieces })) }
+        ensures { IfOk result (λ helped.
+            helped ≡ record self { help = Some (text_pieces help.now) }) }
     {
         Ok(self.help(Doc::from_text(alloc, help)?))
     }

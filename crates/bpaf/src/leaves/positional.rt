@@ -1,14 +1,14 @@
 //! A word of the line, by its place and not by a name.
 ghost use Rattle.std.specs.Prelude.{◌≡◌, IfOk, Some, None, List};
 ghost use Rattle.std.specs.Result.{IfErr};
-ghost use Rattle.bpaf_doc.specs.{declared.doc.Piece.Piece, Print.TextPieces};
+ghost use Rattle.bpaf_doc.specs.{declared.doc.Piece.Piece};
 ghost use Rattle.bpaf.specs.Positional.{accepts, misplaced, PositionalOutcome, PositionalReads};
 ghost use Rattle.bpaf.specs.Positional.{positional_shape, FaultsWordAlone, positional_lawful};
 ghost use Rattle.bpaf.specs.Positional.{positional_shows};
 ghost use Rattle.bpaf_laws.specs.Laws.{no_shorts};
 
 use bpaf_core::{Parser, value_or_refusal};
-use bpaf_doc::{Doc, Item, Meta, Metavar, Text};
+use bpaf_doc::{Help, Item, Meta, Metavar, Text};
 use bpaf_line::{Error, Message, State};
 use bpaf_text::FromText;
 use std::alloc::{AllocError, Global};
@@ -45,7 +45,7 @@ pub struct ParsePositional<T> {
     /// On which side of `--` it may stand.
     pub position: Position,
     /// What is shown of it beside its metavar.
-    pub help: Option<Doc>,
+    pub help: Option<Help>,
     /// The type of the value.
     pub of: PhantomData<T>,
 }
@@ -84,22 +84,14 @@ impl<T> ParsePositional<T> {
     /// It takes no memory.
     ///
     /// ```text
-    /// positional::<String>("FILE").help(Doc::from_text(alloc, "File to process")?)
+    /// positional::<String>("FILE").help("File to process")
     /// ```
-    pub fn help(mut self, help: Doc) -> ParsePositional<T>
-        ensures { result ≡ record self { help = Some help } }
+    pub fn help<H: Into<Help>>(mut self, help: H) -> ParsePositional<T>
+        ensures { (pieces : List Piece) × H.converts help pieces
+            × (result ≡ record self { help = Some pieces }) }
     {
-        self.help = Some(help);
+        self.help = Some(help.into());
         self
-    }
-
-    /// The same with a help of this text, as [`Doc::from_text`] makes it; refused only for want of
-    /// memory, and then the word is gone.
-    pub fn help_str(self, alloc: Global, help: &str) -> Result<ParsePositional<T>, AllocError>
-        ensures { IfOk result (λ helped. (pieces : List Piece) × TextPieces help.now pieces
-            × (helped ≡ record self { help = Some pieces })) }
-    {
-        Ok(self.help(Doc::from_text(alloc, help)?))
     }
 
     /// An equal word; refused only for want of memory.
@@ -109,7 +101,7 @@ impl<T> ParsePositional<T> {
         Ok(ParsePositional {
             metavar: self.metavar,
             position: self.position,
-            help: Doc::copy_of(&self.help)?,
+            help: Help::copy_of(&self.help)?,
             of: PhantomData,
         })
     }
@@ -193,7 +185,7 @@ impl<T: FromText> Parser<T> for ParsePositional<T> {
 
     fn meta(&self, alloc: Global) -> Result<Meta, AllocError> {
         let metavar = Text::new(alloc, self.metavar.0)?;
-        let help = Doc::copy_of(&self.help)?;
+        let help = Help::doc_of(alloc, &self.help)?;
         let item = Meta::Item(Item::Positional { metavar, help });
         match self.position {
             Position::Strict => Ok(Meta::Strict(Box::new(alloc, item)?)),

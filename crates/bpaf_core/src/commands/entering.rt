@@ -7,7 +7,8 @@ ghost use Rattle.bpaf_laws.specs.{Command.CommandPart, Command.CommandDescribes}
 ghost use Rattle.bpaf_laws.specs.{Command.LeavesNothing, Command.opening_words, Laws.newly};
 ghost use Rattle.bpaf_laws.specs.{Laws.IsNotMemory, Laws.WithoutMemory, Adjacent.IsStretch};
 ghost use Rattle.bpaf_core.specs.Command.{Enters, RunsInside, OutcomeOfCommand, EitherCommandReads};
-ghost use Rattle.bpaf_core.specs.{Command.IsMissingPart, Refusals.NamesInside};
+ghost use Rattle.bpaf_core.specs.Command.{IsMissingPart, shown_help};
+ghost use Rattle.bpaf_core.specs.{Refusals.NamesInside};
 ghost use Rattle.bpaf_core.specs.{AdjacentLaws.either_lawful, Ending.EndsRun, Ending.run_ending};
 ghost use Rattle.bpaf_laws.proofs.ShownNames.{command_shows};
 
@@ -21,16 +22,26 @@ use std::alloc::{AllocError, Global};
 use std::marker::PhantomData;
 
 impl<T: Drop, P: Parser<T>> ParseCommand<T, P> {
+    /// What is shown of it beside its name; refused only for want of memory.
+    fn shown_help(&self) -> Result<Option<Doc>, AllocError>
+        ensures { IfOk result (λ help. help ≡ shown_help self.now) }
+    {
+        match &self.help {
+            Some(help) => Ok(Some(help.copy()?)),
+            None => self.info.short_descr(),
+        }
+    }
+
     /// What it shows; refused only for want of memory.
     fn item(&self, alloc: Global) -> Result<Item, AllocError>
         requires { P.can_eval self.now.inner }
-        ensures { IfOk result (λ item. CommandPart self.now.names self.now.help
+        ensures { IfOk result (λ item. CommandPart self.now.names (shown_help self.now)
             (P.describes self.now.inner) (part_of item)) }
     {
         Ok(Item::Command {
             name: Text::new(alloc, self.names.name())?,
             short: self.names.first_short(),
-            help: Doc::copy_of(&self.help)?,
+            help: self.shown_help()?,
             meta: Box::new(alloc, self.inner.meta(alloc)?)?,
         })
     }
@@ -38,7 +49,7 @@ impl<T: Drop, P: Parser<T>> ParseCommand<T, P> {
     /// That its word isn't there; also the refusal where memory for that is wanted.
     fn missing(&self, state: &State) -> Error
         requires { P.can_eval self.now.inner }
-        ensures { IsMissingPart (CommandPart self.now.names self.now.help
+        ensures { IsMissingPart (CommandPart self.now.names (shown_help self.now)
             (P.describes self.now.inner)) state.now result.0 }
     {
         match self.item(state.alloc()) {
@@ -54,7 +65,7 @@ impl<T: Drop, P: Parser<T>> ParseCommand<T, P> {
     /// Refused where the word isn't there, and for want of memory.
     fn enter(&self, state: &mut State) -> Result<(), Error>
         requires { P.can_eval self.now.inner }
-        ensures { Enters self.now.names (CommandPart self.now.names self.now.help
+        ensures { Enters self.now.names (CommandPart self.now.names (shown_help self.now)
             (P.describes self.now.inner)) state.old result state.new }
     {
         if !self.names.open(state) {
@@ -99,7 +110,7 @@ impl<T: Drop, P: Parser<T>> ParseCommand<T, P> {
 impl<T: Drop, P: Parser<T>> Parser<T> for ParseCommand<T, P> {
     ghost can_eval = { λ p. P.can_eval p.inner };
 
-    ghost describes = { λ p. CommandDescribes p.names p.help (P.describes p.inner) };
+    ghost describes = { λ p. CommandDescribes p.names (shown_help p) (P.describes p.inner) };
 
     ghost shorts = { λ p. P.shorts p.inner };
 
@@ -136,7 +147,7 @@ impl<T: Drop, P: Parser<T>> Parser<T> for ParseCommand<T, P> {
 
     ghost lawful = { λ p. either_lawful (P.lawful p.inner)
         (run_ending (P.describes p.inner) p.info) p.names
-        (CommandPart p.names p.help (P.describes p.inner)) p.adjacent };
+        (CommandPart p.names (shown_help p) (P.describes p.inner)) p.adjacent };
 
-    ghost shows = { λ p. command_shows (P.shows p.inner) p.names p.help };
+    ghost shows = { λ p. command_shows (P.shows p.inner) p.names (shown_help p) };
 }

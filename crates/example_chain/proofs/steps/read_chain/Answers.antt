@@ -11,7 +11,7 @@ use Rattle.example_chain.proofs.steps.read_chain.Goals as goal
 
 pub returns : goal.returns
 returns g c =
-    let options = c.in_ok-to_options.field-0 in
+    let options = c.into_options.result in
     let the_go = options.inner.inner.this.this in
     let the_turn = options.inner.inner.this.that in
     let the_repeat = options.inner.inner.that in
