@@ -24,9 +24,7 @@ fn read_word<T>(
     tokens: &mut Tokens<'_>,
 ) -> Result<AsValue<T, ParsePositional<T>>, Fault> {
     match tokens.quoted()? {
-        Some(help) => Ok(as_value(
-            word.inner.help(Doc::from_text(tokens.alloc(), help)?),
-        )),
+        Some(help) => Ok(as_value(word.inner.help(Doc::from_text(tokens.alloc(), help)?))),
         None => Ok(word),
     }
 }

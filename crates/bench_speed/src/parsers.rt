@@ -14,9 +14,7 @@ pub struct Options {
 pub fn record(alloc: Global, line: &[String]) -> Result<u64, ParseFailure> {
     let verbose = key(alloc, 'v', "verbose").switch();
     let num = key(alloc, 'n', "num").argument::<u64>("NUM");
-    let files = positional::<String>("FILE")
-        .help("Files to read")
-        .many();
+    let files = positional::<String>("FILE").help("Files to read").many();
     let options = construct!(Options {
         verbose,
         num,

@@ -1,9 +1,9 @@
 -- Required flags as the batteries have them, of which only keys on the line count; and a level
 -- within bounds.
-use Rattle.std.specs.Prelude.{◌≡◌, ℕ, List, [], Bool, false, ◌&&◌, ◌||◌, None, ℤ, pos, ◌+ℤ◌, ◌-ℤ◌}
+use Rattle.std.specs.Prelude.{◌∷◌, ◌≡◌, ℕ, List, [], Bool, false, ◌&&◌, ◌||◌, None, ℤ, pos, ◌+ℤ◌, ◌-ℤ◌}
 use Rattle.std.specs.Int.{int_max, int_min}
 use Rattle.bpaf_doc.specs.Print.{text_pieces}
-use Rattle.bpaf_text.specs.Named.{nothing_named, with_help, with_long, with_short}
+use Rattle.bpaf_text.specs.Named.{key_named, with_help}
 use Rattle.bpaf_text.specs.declared.params.ParseFlag.{ParseFlag}
 use Rattle.bpaf_base.specs.{declared.arg.Arg.Arg, Items.is_key_of}
 use Rattle.bpaf_laws.specs.{Leaves.FlagOutcome, Leaves.FlagReads, Reading.Outcome, Reading.Readings}

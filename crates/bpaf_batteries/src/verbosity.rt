@@ -108,14 +108,14 @@ impl Parser<isize> for VerboseQuiet {
 /// A level of verbosity as the item of an array (bpaf's `verbose_by_slice` answers an
 /// `impl Parser`).
 #[derive(Drop)]
-pub struct VerboseSlice<T, const N: usize> {
+pub struct VerboseSlice<T> {
     /// The keys that raise and lower it, counted.
     pub counts: KeyCounts,
     /// The place of the item without any key.
     pub offset: usize,
     /// The items, the lowest level first.
-    pub items: [T; N],
-    pub ghost some: { 1 ≤ length items },
+    pub items: Vec<T>,
+    pub ghost some: { 1 ≤ length items.items },
 }
 
 /// The item of an array at a level that `-v`, `--verbose` raises and `-q`, `--quiet` lowers (bpaf's
@@ -132,17 +132,17 @@ pub fn verbose_by_slice<T: Drop, const N: usize>(
     alloc: Global,
     offset: usize,
     items: [T; N],
-) -> Result<VerboseSlice<T, N>, AllocError>
+) -> Result<VerboseSlice<T>, AllocError>
     requires { 1 ≤ N }
     ensures keys { IfOk result (λ p. AreVerboseAndQuiet p.counts) }
     ensures offset { IfOk result (λ p. p.offset ≡ offset) }
-    ensures items { IfOk result (λ p. p.items ≡ items) }
+    ensures items { IfOk result (λ p. p.items.items ≡ items) }
 {
     let counts = verbose_and_quiet(alloc);
     Ok(VerboseSlice {
         counts,
         offset,
-        items,
+        items: Vec::from_array(alloc, items)?,
     })
 }
 
@@ -172,7 +172,7 @@ fn item_at<T: Clone + Drop>(
 
 /// The item at the level of both counts; a refusal of the keys is passed on, and memory for the
 /// item may be wanted.
-impl<T: Clone + Drop, const N: usize> Parser<T> for VerboseSlice<T, N> {
+impl<T: Clone + Drop> Parser<T> for VerboseSlice<T> {
     ghost can_eval = { λ p. Unit {0} };
 
     ghost describes = { λ p. CountsDescribe p.counts };
@@ -180,19 +180,19 @@ impl<T: Clone + Drop, const N: usize> Parser<T> for VerboseSlice<T, N> {
     ghost shorts = { λ p. counted_shorts p.counts };
 
     ghost reads = { λ p. MapReads (ℕ × ℕ) T (CountsReads ⟦<() as Clone>⟧.is_clone p.counts)
-        (PicksItem T.is_clone p.offset p.items) };
+        (PicksItem T.is_clone p.offset p.items.items) };
 
     ghost outcome = { λ p. PickOutcome (CountsOutcome ⟦<() as Clone>⟧.is_clone p.counts)
-        (PicksItem T.is_clone p.offset p.items) };
+        (PicksItem T.is_clone p.offset p.items.items) };
 
     fn eval(&self, state: &mut State) -> Result<T, Error>
         ensures outcome { PickOutcome (CountsOutcome ⟦<() as Clone>⟧.is_clone self.now.counts)
-            (PicksItem T.is_clone self.now.offset self.now.items) state.old result state.new }
+            (PicksItem T.is_clone self.now.offset self.now.items.items) state.old result state.new }
         ensures verbosity_counts { IfOk result (VerbosityPicks self.now.counts T.is_clone
-            self.now.offset self.now.items state.old state.new) }
+            self.now.offset self.now.items.items state.old state.new) }
         ensures memory_is_never_caught { IsNotMemory result → PickOutcome (CountsSpared
             ⟦<() as Clone>⟧.is_clone self.now.counts)
-            (PicksItem T.is_clone self.now.offset self.now.items) state.old result state.new }
+            (PicksItem T.is_clone self.now.offset self.now.items.items) state.old result state.new }
     {
         match self.counts.eval(state) {
             Ok((more, fewer)) => Ok(item_at(&self.items, self.offset, more, fewer)?),
@@ -205,7 +205,7 @@ impl<T: Clone + Drop, const N: usize> Parser<T> for VerboseSlice<T, N> {
     }
 
     ghost lawful = { λ p. pick_lawful (counts_lawful ⟦<() as Clone>⟧.is_clone p.counts)
-        (PicksItem T.is_clone p.offset p.items) };
+        (PicksItem T.is_clone p.offset p.items.items) };
 
     ghost shows = { λ p. counts_show p.counts };
 }

@@ -69,12 +69,13 @@ module _ {A B : Type 0} (inner : Outcome A) {answers wanted : A → B → Type 0
 
 -- a command over a program, which is one that was made by its word alone
 pub command_known : {T P : Type 0} (called : List ℕ) (known : Grammar T)
-    (describes : Shape → Type 0) {parser : P} {command made : ParseCommand T P} → command ≡ made
-    → IsPlainCommand called parser made → {outcome : Outcome T} {shorts : ShortNames}
+    (describes : Shape → Type 0) {parser : P} {command made : ParseCommand T P}
+    → IsPlainCommand called parser made → command ≡ made → {outcome : Outcome T}
+    {shorts : ShortNames}
     → IsKnownParser known outcome shorts → IsKnownParser (known_command called known)
     (EitherCommandOutcome command.adjacent T outcome (EndsRun describes command.info)
     command.names (CommandPart command.names (shown_help command) describes)) shorts
-command_known {T} called known describes {command = command} same plain {outcome} is = rw (
+command_known {T} called known describes {command = command} plain same {outcome} is = rw (
   ap (λ c. c.names) same ∙ plain.names,
   ap (λ c. c.adjacent) same ∙ plain.adjacent,
   ap (λ c. c.info) same ∙ plain.info,

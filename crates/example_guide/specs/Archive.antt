@@ -1,12 +1,11 @@
 -- The keys of an archiver, and what an archive says of the words that it was read off.
-use Rattle.std.specs.Prelude.{◌≡◌, ◌≢◌, true, ℕ, List, [], ◌∷◌, codes, IsSome, None}
+use Rattle.std.specs.Prelude.{◌≡◌, ◌≢◌, true, ℕ, List, [], ◌∷◌, codes, IsSome}
 use Rattle.std.specs.List.{Contains}
 use Rattle.bpaf_doc.specs.Names.{Names}
 use Rattle.bpaf_words.specs.Line.{Known, knowing}
 use Rattle.bpaf.specs.Marker.{words_before}
 use Rattle.bpaf_record.specs.Record.{WasSpelled}
-use Rattle.bpaf_program.specs.Fields.{plain_argument, plain_flag, plain_switch}
-use Rattle.example_guide.specs.{declared.archive.Archive.Archive, declared.archive.Keys.Keys}
+use Rattle.example_guide.specs.declared.archive.Archive.{Archive}
 
 -- a key of one letter and this name
 abbrev pub key : List ℕ → List ℕ → Names
@@ -43,17 +42,6 @@ verbose = key (codes "v") (codes "verbose")
 -- `-q` and `--quiet`
 abbrev pub quiet : Names
 quiet = key (codes "q") (codes "quiet")
-
--- what each of the keys is
-pub record AreKnown (keys : Keys) : Type 0 where
-  pub agreed : keys.agreed ≡ plain_flag agree true None
-  pub out : keys.out ≡ plain_argument out (codes "FILE")
-  pub root : keys.root ≡ plain_argument root (codes "DIR")
-  pub level : keys.level ≡ plain_argument level (codes "N")
-  pub jobs : keys.jobs ≡ plain_argument jobs (codes "N")
-  pub without : keys.without ≡ plain_argument without (codes "NAME")
-  pub verbose : keys.verbose ≡ plain_flag verbose tt None
-  pub quiet : keys.quiet ≡ plain_switch quiet
 
 -- the names by which words are read: those of its keys, of help and of the version
 abbrev pub archive_known : Known

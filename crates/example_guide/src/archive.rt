@@ -1,6 +1,6 @@
 //! What an archiver is told, of which is known, option by option, what it says of the words.
 ghost use Rattle.std.specs.Prelude.{IfOk, map, string_bytes};
-ghost use Rattle.example_guide.specs.Archive.{AreKnown, SaysOf};
+ghost use Rattle.example_guide.specs.Archive.{SaysOf};
 
 use bpaf::{Args, ParseFailure, Parser, construct, key};
 use bpaf_record::Record;

@@ -80,9 +80,7 @@ pub fn files() -> ParseSome<'static, ParsePositional<String>> {
 }
 
 /// The numbers in order, each once.
-pub fn ordered(
-    alloc: Global,
-) -> ParseCollect<ParseArgument<u64>, BTreeSet<u64>, u64> {
+pub fn ordered(alloc: Global) -> ParseCollect<ParseArgument<u64>, BTreeSet<u64>, u64> {
     num(alloc).collect::<BTreeSet<u64>>()
 }
 
@@ -97,11 +95,12 @@ pub fn latest(alloc: Global) -> ParseLast<ParseArgument<u64>> {
 }
 
 /// One of two lengths.
-pub fn distance(
-    alloc: Global,
-) -> ParseOrElse<ParseArgument<u64>, ParseArgument<u64>> {
+pub fn distance(alloc: Global) -> ParseOrElse<ParseArgument<u64>, ParseArgument<u64>> {
     let meters = long_key(alloc, "meters").argument::<u64>("NUM");
-    construct!([meters, miles(long_key(alloc, "miles").argument::<u64>("NUM"))])
+    construct!([
+        meters,
+        miles(long_key(alloc, "miles").argument::<u64>("NUM"))
+    ])
 }
 
 /// One of any number of parsers of one type.

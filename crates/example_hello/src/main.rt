@@ -18,7 +18,9 @@ struct Options {
 /// The options that the words give; else what is shown or told in their place.
 fn read_options(alloc: Global, words: &[String]) -> Result<Options, ParseFailure> {
     let verbose = key(alloc, 'v', "verbose").switch().help("Tell more");
-    let num = key(alloc, 'n', "num").argument::<u64>("NUM").help("A number");
+    let num = key(alloc, 'n', "num")
+        .argument::<u64>("NUM")
+        .help("A number");
     let files = positional::<String>("FILE").help("Files to count").many();
     let options = construct!(Options {
         verbose,

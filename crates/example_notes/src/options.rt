@@ -1,9 +1,7 @@
-//! The options of the program. They are made in several functions, each of which is handed a parser
-//! of what was made before; the last one runs all.
+//! The options of the program.
 ghost use Rattle.std.specs.Prelude.{map, string_bytes};
 ghost use Rattle.bpaf_program.specs.KnownParser.{IsKnownParser};
-ghost use Rattle.example_notes.specs.Notes.{AnswersNotes, commands, notes_parser, other_commands};
-ghost use Rattle.example_notes.specs.Notes.{tag_commands};
+ghost use Rattle.example_notes.specs.Notes.{AnswersNotes, notes_parser};
 
 use bpaf::{Args, ParseFailure, Parser, construct, key, positional};
 use bpaf_program::{KnownOptions, KnownProgram, plain_command};
@@ -59,60 +57,23 @@ pub fn read_notes(alloc: Global, words: &[String]) -> Result<Notes, ParseFailure
     ensures { AnswersNotes (map string_bytes words.now) result }
 {
     let name = positional::<String>("NAME");
-    let add = plain_command(alloc, "add", construct!(Tag::Add { name }))?;
+    let add_tag = plain_command(alloc, "add", construct!(Tag::Add { name }));
     let name = positional::<String>("NAME");
-    let remove = plain_command(alloc, "remove", construct!(Tag::Remove { name }))?;
-    with_tag(alloc, words, construct!([add, remove]))
-}
-
-/// The same by `tag add NAME` and `tag remove NAME`, and `list [-n NUM]`.
-fn with_tag<P: Parser<Tag> + Drop>(
-    alloc: Global,
-    words: &[String],
-    tag: P,
-) -> Result<Notes, ParseFailure>
-    requires can { P.can_eval tag }
-    requires tag { IsKnownParser tag_commands (P.outcome tag) (P.shorts tag) }
-    ensures { AnswersNotes (map string_bytes words.now) result }
-{
+    let remove_tag = plain_command(alloc, "remove", construct!(Tag::Remove { name }));
+    let tag = plain_command(alloc, "tag", construct!([add_tag, remove_tag])).map(Task::Tag);
     let max = key(alloc, 'n', "max").argument::<u64>("NUM").fallback(10);
-    let list = plain_command(alloc, "list", construct!(Task::List { max }))?;
-    let tag = plain_command(alloc, "tag", tag)?.map(Task::Tag);
-    with_others(alloc, words, construct!([list, tag]))
-}
-
-/// The same by these, and `add [-t TAG].. [TEXT]..`.
-fn with_others<P: Parser<Task> + Drop>(
-    alloc: Global,
-    words: &[String],
-    others: P,
-) -> Result<Notes, ParseFailure>
-    requires can { P.can_eval others }
-    requires others { IsKnownParser other_commands (P.outcome others) (P.shorts others) }
-    ensures { AnswersNotes (map string_bytes words.now) result }
-{
+    let list = plain_command(alloc, "list", construct!(Task::List { max }));
+    let others = construct!([list, tag]);
     let tags = key(alloc, 't', "tag").argument::<String>("TAG").many();
     let texts = positional::<String>("TEXT").many();
-    let add = plain_command(alloc, "add", construct!(Task::Add { tags, texts }))?;
-    with_task(alloc, words, construct!([add, others]))
-}
-
-/// The same by a task, with the switch and the argument in front of it or behind.
-fn with_task<P: Parser<Task> + Drop>(
-    alloc: Global,
-    words: &[String],
-    task: P,
-) -> Result<Notes, ParseFailure>
-    requires can { P.can_eval task }
-    requires task { IsKnownParser commands (P.outcome task) (P.shorts task) }
-    ensures { AnswersNotes (map string_bytes words.now) result }
-{
+    let add = plain_command(alloc, "add", construct!(Task::Add { tags, texts }));
+    let task = construct!([add, others]);
     let verbose = key(alloc, 'v', "verbose").switch();
     let dir = key(alloc, 'd', "dir").argument::<String>("DIR").optional();
     run_notes(alloc, words, construct!(Notes { verbose, dir, task }))
 }
 
-/// The same by all that is asked for.
+/// The same by a parser that is made as the program says.
 fn run_notes<P: Parser<Notes> + Drop>(
     alloc: Global,
     words: &[String],

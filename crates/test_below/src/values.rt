@@ -2,9 +2,10 @@
 ghost use Rattle.std.specs.Prelude.{◌≡◌, codes};
 ghost use Rattle.bpaf_text.specs.Meaning.{ReadsText};
 
-use bpaf_doc::{Doc, Item, Metavar, ShortLong};
+use bpaf_doc::{Doc, Item, ShortLong};
 use bpaf_text::{
-    FromList, FromText, NamedArg, ParseArgument, ParseFlag, TextFault, env, long, short,
+    FromList, FromText, NamedArg, ParseArgument, ParseFlag, TextFault, env, key, long, long_key,
+    short, short_key,
 };
 use std::alloc::{AllocError, Global};
 use std::collections::{BTreeSet, VecDeque};
@@ -133,8 +134,22 @@ fn a_type_of_the_callers_own_is_read(rt: HostRuntime) {
 const SIZE: &str = "NamedArg { shorts: ['s', 'n'], \
     longs: [\"size\", \"number\"], \
     envs: [\"SIZE\", \"WIDTH\"], \
-    help: Some(Help { kept: Doc(Doc { pieces: [Piece { text: \"how wide\", \
+    help: Some(Doc { pieces: [Piece { text: \"how wide\", \
     style: Text, detail: false }] }) }";
+
+// The same as the key of a flag, with a text as its help.
+const LEAF: &str = "{ named: NamedArg { shorts: ['s', 'n'], \
+    longs: [\"size\", \"number\"], \
+    envs: [\"SIZE\", \"WIDTH\"], \
+    help: Some(Doc { pieces: [Piece { text: \"how wide\", \
+    style: Text, detail: false }] }) }, help: Some(Help { kept: Text(\"how tall\") }) }";
+
+// The same as the key of an argument, with a document as its help.
+const DOC_LEAF: &str = "{ named: NamedArg { shorts: ['s', 'n'], \
+    longs: [\"size\", \"number\"], \
+    envs: [\"SIZE\", \"WIDTH\"], \
+    help: Some(Doc { pieces: [Piece { text: \"how wide\", \
+    style: Text, detail: false }] }) }, help: Some(Help { kept: Doc(Doc { pieces: [] }) }) }";
 
 // The key that `SIZE` prints.
 fn size(alloc: Global) -> Result<NamedArg, AllocError> {
@@ -206,9 +221,20 @@ fn flag_item_printed(alloc: Global, named: &NamedArg) -> Result<String, AllocErr
     item_printed(alloc, &named.flag_item(alloc)?)
 }
 
-// What a key shows as an argument.
-fn argument_item_printed(alloc: Global, named: &NamedArg) -> Result<String, AllocError> {
-    item_printed(alloc, &named.argument_item(alloc, Metavar("NUM"))?)
+// What the key of a flag shows.
+fn helped_item_printed(alloc: Global, flag: &ParseFlag<u32>) -> Result<String, AllocError> {
+    item_printed(alloc, &flag.named.flag_item(alloc)?)
+}
+
+// What the key of an argument shows.
+fn argument_item_printed(
+    alloc: Global,
+    argument: &ParseArgument<u32>,
+) -> Result<String, AllocError> {
+    item_printed(
+        alloc,
+        &argument.named.argument_item(alloc, argument.metavar)?,
+    )
 }
 
 // What the copy of a flag holds.
@@ -231,10 +257,11 @@ fn argument_copy_printed(
 fn size_tells(alloc: Global, what: &str) -> Result<String, AllocError> {
     let named = size(alloc)?;
     match what {
-        "flag" => flag_copy_printed(alloc, &named.flag(3, 4)),
-        "argument" => argument_copy_printed(alloc, &named.argument("NUM")),
+        "flag" => flag_copy_printed(alloc, &named.flag(3, 4).help("how tall")),
+        "argument" => { argument_copy_printed(alloc, &named.argument("NUM").help(Doc::new(alloc))) }
         "flag item" => flag_item_printed(alloc, &named),
-        "argument item" => argument_item_printed(alloc, &named),
+        "helped item" => helped_item_printed(alloc, &named.flag(3, 4).help("how\ntall")),
+        "argument item" => argument_item_printed(alloc, &named.argument("NUM")),
         _ => copy_printed(alloc, &named),
     }
 }
@@ -244,6 +271,9 @@ fn tells(alloc: Global, what: &str) -> Result<String, AllocError> {
     match what {
         "short" => printed(alloc, short(alloc, 'v')?),
         "long" => printed(alloc, long(alloc, "all")?),
+        "short key" => printed(alloc, short_key(alloc, 'v')),
+        "long key" => printed(alloc, long_key(alloc, "all")),
+        "both" => printed(alloc, key(alloc, 'v', "all")),
         _ => size_tells(alloc, what),
     }
 }
@@ -260,13 +290,33 @@ const TOLD: &[(&str, &str, &str)] = &[
         "NamedArg { shorts: [], longs: [\"all\"], ",
         "envs: [], help: None }",
     ),
+    (
+        "short key",
+        "NamedArg { shorts: ['v'], ",
+        "longs: [], envs: [], help: None }",
+    ),
+    (
+        "long key",
+        "NamedArg { shorts: [], longs: [\"all\"], ",
+        "envs: [], help: None }",
+    ),
+    (
+        "both",
+        "NamedArg { shorts: ['v'], longs: [\"all\"], ",
+        "envs: [], help: None }",
+    ),
     ("key", "", SIZE),
-    ("flag", "3 Some(4) ", SIZE),
-    ("argument", "NUM false ", SIZE),
+    ("flag", "3 Some(4) LeafKey ", LEAF),
+    ("argument", "NUM false LeafKey ", DOC_LEAF),
     (
         "flag item",
         "flag s and size ['s', 'n'] Some(\"SIZE\") Some(Doc { pieces: [Piece { text: ",
         "\"how wide\", style: Text, detail: false }] })",
+    ),
+    (
+        "helped item",
+        "flag s and size ['s', 'n'] Some(\"SIZE\") Some(Doc { pieces: [Piece { text: ",
+        "\"how tall\", style: Text, detail: false }] })",
     ),
     (
         "argument item",

@@ -143,7 +143,10 @@ fn help_of_switch(alloc: Global) -> Result<String, AllocError> {
 
 /// The help page of a key with a help.
 fn help_of_key(alloc: Global) -> Result<String, AllocError> {
-    page(alloc, key(alloc, 'v', "verbose").switch().help("Print more"))
+    page(
+        alloc,
+        key(alloc, 'v', "verbose").switch().help("Print more"),
+    )
 }
 
 /// The help page of a key with a help.

@@ -16,7 +16,7 @@ use Rattle.example_demo.proofs.options.read_options.Goals as goal
 
 pub run_record-requires-clause-record : goal.run_record-requires-clause-record
 run_record-requires-clause-record c =
-    let options = c.into_options.result in
+    let options = c.into_options-options.result in
     let fields = options.inner.fields in
     let verbose : fields.first ≡ helped_switch verbose_names (codes "Print more") = search rules in
     let num : fields.rest.first ≡ helped_argument number_key (codes "A number") = search rules in
@@ -28,7 +28,7 @@ run_record-requires-clause-record c =
 
 pub returns : goal.returns
 returns c =
-    let options = c.into_options.result in
+    let options = c.into_options-options.result in
     let fields = options.inner.fields in
     let verbose : fields.first ≡ helped_switch verbose_names (codes "Print more") = search rules in
     let num : fields.rest.first ≡ helped_argument number_key (codes "A number") = search rules in

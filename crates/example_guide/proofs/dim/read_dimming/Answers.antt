@@ -7,7 +7,7 @@ use Rattle.example_guide.proofs.dim.read_dimming.Goals as goal
 
 pub returns : goal.returns
 returns c =
-    let fields = c.in_ok-options.options.inner.fields in
+    let fields = c.into_options-options.result.inner.fields in
     answer_says c.run_record.result (c.run_record.ensures.fields (
       (
         (

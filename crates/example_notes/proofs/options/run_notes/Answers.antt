@@ -6,13 +6,13 @@ use Rattle.example_notes.proofs.options.run_notes.Goals as goal
 
 pub run_program-requires-clause-can : goal.run_program-requires-clause-can
 run_program-requires-clause-can g c = (
-  rw (← c.in_ok-to_options.ensures.inner) at c.requires.can,
-  rw (← c.in_ok-to_options.ensures.inner) at c.requires.known,
+  rw (← c.into_options.ensures.inner) at c.requires.can,
+  rw (← c.into_options.ensures.inner) at c.requires.known,
 )
 
 pub returns : goal.returns
 returns g c =
-    let made = c.in_ok-to_options.ensures in (
+    let made = c.into_options.ensures in (
       of.exact_for notes_parser (c.run_program.ensures.exact tt) made.info (search rules)
           (of.are_texts c.args.words.now),
       of.asks_for_page notes_parser _ c.run_program.ensures.outcome
