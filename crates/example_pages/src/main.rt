@@ -13,6 +13,7 @@ mod items;
 mod joined;
 mod limits;
 mod points;
+mod ranges;
 mod repeats;
 mod shapes;
 mod shown;
@@ -28,6 +29,7 @@ fn main(rt: HostRuntime) -> io::Result<()> {
     tell_values(&rt)?;
     tell_others(&rt)?;
     tell_repeats(&rt)?;
+    tell_ranges(&rt)?;
     tell_shown(&rt)?;
     tell_shapes(&rt)?;
     tell_batteries(&rt)?;
@@ -101,6 +103,19 @@ fn tell_others(rt: &HostRuntime) -> io::Result<()> {
     tell(rt, "pure", values::kept(alloc, &[]))?;
     tell(rt, "pure_with", values::answered(alloc, &[]))?;
     tell(rt, "fail", values::refused(alloc, &[]))
+}
+
+/// Tells what types of one's own read.
+fn tell_ranges(rt: &HostRuntime) -> io::Result<()> {
+    let alloc = rt.alloc();
+    tell(rt, "cut", ranges::read_cut(alloc, &["-f1,3-5,7-"]))?;
+    tell(
+        rt,
+        "cut",
+        ranges::read_cut(alloc, &["-f", "-3", "--color=never"]),
+    )?;
+    tell(rt, "cut", ranges::read_cut(alloc, &["-f1,,2"]))?;
+    tell(rt, "cut", ranges::read_cut(alloc, &["-f1", "--color=red"]))
 }
 
 /// Tells what repeats read.

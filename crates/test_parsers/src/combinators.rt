@@ -2,7 +2,7 @@
 //! its own and what these fill.
 use crate::shared::file;
 use bpaf::params::ParsePositional;
-use bpaf::{Doc, FromList, Parser, fail, positional, pure_with};
+use bpaf::{Doc, FromList, Help, Parser, fail, positional, pure_with};
 use std::alloc::{AllocError, Global};
 use std::collections::BTreeSet;
 use std::test::Fail;
@@ -54,7 +54,7 @@ fn helped(alloc: Global) -> Result<ParsePositional<String>, AllocError> {
 
 /// The help of a copy.
 fn copied_help(alloc: Global) -> Result<Option<Doc>, AllocError> {
-    Doc::copy_of(&helped(alloc)?.copy()?.help)
+    Help::doc_of(alloc, &helped(alloc)?.copy()?.help)
 }
 
 /// How Rust's Debug prints it.

@@ -1,6 +1,6 @@
 //! Commands as a program writes them.
 use bpaf_core::{ParseCommand, Parser, command};
-use bpaf_doc::Doc;
+use bpaf_doc::{Doc, Item, Meta};
 use bpaf_text::ParseArgument;
 use std::alloc::{AllocError, Global};
 use std::test::Fail;
@@ -24,15 +24,30 @@ fn either(alloc: Global, words: &[&str]) -> Result<Option<u64>, AllocError> {
     value(alloc, build(alloc)?.or_else(run(alloc)?), words)
 }
 
-/// The help of a command as text.
+/// What is shown of a command beside its name, as text.
 fn help_of(
-    made: Result<ParseCommand<u64, ParseArgument<u64>>, AllocError>,
+    alloc: Global,
+    command: &ParseCommand<u64, ParseArgument<u64>>,
 ) -> Result<Option<String>, AllocError> {
-    let command = made?;
-    match &command.help {
-        Some(help) => Ok(Some(help.monochrome(true)?)),
-        None => Ok(None),
+    match &command.meta(alloc)? {
+        Meta::Item(
+            Item::Command {
+                help: Some(help),
+                ..
+            },
+        ) => Ok(Some(help.monochrome(true)?)),
+        _ => Ok(None),
     }
+}
+
+/// That of `build`, the first line of its description.
+fn help_of_build(alloc: Global) -> Result<Option<String>, AllocError> {
+    help_of(alloc, &build(alloc)?)
+}
+
+/// That of `run`, its own.
+fn help_of_run(alloc: Global) -> Result<Option<String>, AllocError> {
+    help_of(alloc, &run(alloc)?)
 }
 
 #[test]
@@ -43,6 +58,6 @@ fn commands_are_called(rt: HostRuntime) -> Result<(), Fail> {
     prints(a, either(a, &["make", "-n", "3"]), "Some(3)")?;
     prints(a, either(a, &["run", "-n", "4"]), "Some(4)")?;
     prints(a, either(a, &["-b", "-n", "3"]), "None")?;
-    prints(a, help_of(build(a)), "Some(\"Builds it\")")?;
-    prints(a, help_of(run(a)), "Some(\"Runs it\")")
+    prints(a, help_of_build(a), "Some(\"Builds it\")")?;
+    prints(a, help_of_run(a), "Some(\"Runs it\")")
 }
