@@ -1,9 +1,9 @@
 -- A list of ranges, part by part.
-use Rattle.std.proofs.Common.{ℕ, suc, Bool, true, false, List, [], ◌∷◌, ◌++◌, length, ◌==◌, ◌&&◌, not}
+use Rattle.std.proofs.Common.{ℕ, suc, true, false, List, [], ◌∷◌, ◌++◌, length, ◌==◌, ◌&&◌}
 use Rattle.std.proofs.Common.{◌≡◌, ◌≢◌, ◌<◌, if◌then◌else◌, ap, refl, ◌∙◌, get_or, arith}
 use Rattle.std.proofs.lemmas.Bool.Decides.{nat_tests}
 use Rattle.std.specs.List.{list_all}
-use Rattle.example_pages.specs.Ranges.{are_digits, are_ranges, ends, in_front, is_range, parts}
+use Rattle.example_pages.specs.Ranges.{are_ranges, ends, in_front, is_range, parts}
 
 -- a text without this character
 abbrev pub Lacks : ℕ → List ℕ → Type 0

@@ -112,7 +112,7 @@ fn tell_ranges(rt: &HostRuntime) -> io::Result<()> {
     tell(
         rt,
         "cut",
-        ranges::read_cut(alloc, &["-f", "-3", "--color=never"]),
+        ranges::read_cut(alloc, &["-f=-3", "--color=never"]),
     )?;
     tell(rt, "cut", ranges::read_cut(alloc, &["-f1,,2"]))?;
     tell(rt, "cut", ranges::read_cut(alloc, &["-f1", "--color=red"]))
