@@ -72,7 +72,7 @@ impl<'p, V, T, P: Fields<V>, M: Constructor<V, T>> Parser<T> for FailFast<'p, Pa
     ghost shows = { λ p. product_shows (P.shows p.product.now.fields) };
 }
 
-/// What a parser shows, as what stands together; refused only for want of memory.
+/// What a parser shows, as items that stand side by side; refused only for want of memory.
 fn adjacent_meta<T, P: Parser<T>>(parser: &P, alloc: Global) -> Result<Meta, AllocError>
     requires { P.can_eval parser.now }
     ensures { IfOk result (λ meta. GroupDescribes (P.describes parser.now) (shape_of meta)) }

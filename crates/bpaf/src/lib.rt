@@ -1,4 +1,4 @@
-//! Command line parsers from small ones: the crate that a program uses.
+//! Command line parsers from small ones: the crate that a program uses, version 0.1.0.
 //!
 //! It stands on the crates below it and hands on what a program needs of them: a program lists
 //! `bpaf` alone. Of its own it has positional words ([`positional`]), items by their text

@@ -242,7 +242,7 @@ pub type Fields3<A, B, C> = Both<A, Fields2<B, C>>;
 pub type Fields4<A, B, C, D> = Both<A, Fields3<B, C, D>>;
 
 /// The error of a product whose first field has failed: the fields behind it are evaluated too,
-/// unless it wanted memory, and theirs is told where they do.
+/// unless it wanted memory, and the error is theirs where they want memory.
 fn error_before<V, R: Fields<V>>(error: Error, rest: &R, state: &mut State) -> Error
     requires { R.can_eval rest.now }
     ensures { IsErrorBefore (R.outcome rest.now) error state.old result state.new }

@@ -17,7 +17,7 @@ pub enum Arg {
     Short(char, bool, Text),
     /// `--name`: the name, whether it is attached, and its word.
     Long(Text, bool, Text),
-    /// What stands behind the `=` of an attached key.
+    /// The value behind an attached key, as `3` of `-n=3`.
     ArgWord(Text),
     /// A word that is no key.
     Word(Text),

@@ -9,8 +9,8 @@
 //! its construction (specs/Verbosity.antt, specs/Toggle.antt), and each keeps to the laws of
 //! `Parser`. Where a type is known its `eval` says more, by named clauses: a level is that of the
 //! keys that were newly taken (`verbosity_counts`), and a toggle gives the value of the rightmost
-//! of its keys that is present in scope (`last_toggle_wins`). What help shows is told over the
-//! outcome of a run (specs/Usage.antt).
+//! of its keys that is present in scope (`last_toggle_wins`). [`get_usage`] answers the help page
+//! of a run (specs/Usage.antt).
 //!
 //! The source of the design is bpaf's `batteries.rs`.
 #![tactic(auto)]

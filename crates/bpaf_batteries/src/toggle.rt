@@ -17,7 +17,7 @@ pub struct ToggleFlag<T> {
     pub toggles: ParseMany<ParseOrElse<ParseFlag<T>, ParseFlag<T>>>,
 }
 
-/// The value of the last of two keys on the line, None where neither is there (bpaf's
+/// The value of the last of two keys on the line, None where the line has neither (bpaf's
 /// `toggle_flag`, in `batteries.rs`): the last value of a repeat over a choice of two required
 /// flags.
 ///

@@ -1,4 +1,4 @@
-//! How much a program tells, as a number or as a member of a list.
+//! Levels of verbosity, as a number or as a member of a list.
 ghost use Rattle.std.specs.Prelude.{◌≡◌, ◌<◌, ◌≤◌, ◌≤ℤ◌, ◌-ℤ◌, IfOk, length, pos, ℕ, ℤ};
 ghost use Rattle.bpaf_batteries.specs.Verbosity.{AreVerboseAndQuiet, CountsDescribe, CountsOutcome};
 ghost use Rattle.bpaf_batteries.specs.Verbosity.{CountsReads, CountsSpared, PickOutcome, PicksItem};

@@ -11,8 +11,8 @@ use bpaf_parts::{Branch, Start, is_want, or_meta, this_or_that};
 use std::alloc::{AllocError, Global};
 
 /// The answer of a choice of which the first branch answered this, from a start that lies behind
-/// the state, and whose second one is a parser; [`this_or_that`] tells which answer stands. Want of
-/// memory in either is refused at once, with the state as at the start.
+/// the state, and whose second one is a parser; [`this_or_that`] decides whose answer counts. Want
+/// of memory in either is refused at once, with the state as at the start.
 ///
 /// It is public for choices in the crates of this repository, not for callers.
 pub fn or_parser<T: Drop, P: Parser<T>>(

@@ -14,7 +14,7 @@ use bpaf_text::FromList;
 use std::alloc::{AllocError, Global};
 use std::marker::PhantomData;
 
-/// What is filled from the values of turns, until one stops; refused also where it wants memory.
+/// The list of the values of turns, until one stops; refused also where the list wants memory.
 fn collect_values<T: Drop, C: FromList<T>, P: Parser<T>>(
     parser: &P,
     state: &mut State,

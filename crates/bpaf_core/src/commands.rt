@@ -17,7 +17,7 @@ mod entering;
 pub struct ParseCommand<T, P> {
     /// The names by which it is called.
     pub names: CommandNames,
-    /// What is shown of it beside its name; where none is set, the first line of the description.
+    /// Its help, shown beside its name; where none is set, the first line of the description.
     pub help: Option<Doc>,
     /// What runs behind it.
     pub inner: P,
@@ -79,8 +79,8 @@ fn called<T, P>(names: CommandNames, subparser: OptionParser<T, P>) -> ParseComm
 }
 
 impl<T, P> OptionParser<T, P> {
-    /// The command of this name that runs this parser, as [`command`]. It takes no memory, so the
-    /// name has at most 23 bytes.
+    /// Makes the command of this name that runs these options, as [`command`]. It takes no memory,
+    /// so the name has at most 23 bytes.
     ///
     /// ```text
     /// num.into_options(alloc).into_command("build")
@@ -98,7 +98,7 @@ impl<T, P> OptionParser<T, P> {
 }
 
 impl<T, P: Drop> OptionParser<T, P> {
-    /// The command of this name that runs this parser, as [`command`] (bpaf's
+    /// Makes the command of this name that runs these options, as [`command`] (bpaf's
     /// `OptionParser::command`).
     ///
     /// ```text
@@ -116,8 +116,7 @@ impl<T, P: Drop> OptionParser<T, P> {
 }
 
 impl<T, P: Drop> ParseCommand<T, P> {
-    /// The command with this help, in place of the one that it has (bpaf's `ParseCommand::help`).
-    /// It takes no memory.
+    /// Sets the help (bpaf's `ParseCommand::help`). It takes no memory.
     pub fn help(mut self, help: Doc) -> ParseCommand<T, P>
         ensures { result ≡ record self { help = Some help } }
     {
@@ -125,8 +124,8 @@ impl<T, P: Drop> ParseCommand<T, P> {
         self
     }
 
-    /// The same with a help of this text, as [`Doc::from_text`] makes it; refused only for want of
-    /// memory, and then the command is gone.
+    /// Sets the help to this text, as [`Doc::from_text`] makes it; refused only for want of memory,
+    /// and then the command is gone.
     pub fn help_str(self, help: &str) -> Result<ParseCommand<T, P>, AllocError>
         ensures { IfOk result (λ helped.
             helped ≡ record self { help = Some (text_pieces help.now) }) }
@@ -135,8 +134,8 @@ impl<T, P: Drop> ParseCommand<T, P> {
         Ok(self.help(Doc::from_text(alloc, help)?))
     }
 
-    /// The command over the items that stand behind its word without a gap, so that other commands
-    /// may follow it (bpaf's `ParseCommand::adjacent`). It takes no memory.
+    /// Reads only the items behind the word without a gap, so that other commands may follow
+    /// (bpaf's `ParseCommand::adjacent`). It takes no memory.
     ///
     /// The parser runs over the unbroken stretch of present items behind the word. Where that
     /// fails, it runs once more, over those before the first one that it left; where this fails
@@ -153,8 +152,8 @@ impl<T, P: Drop> ParseCommand<T, P> {
         self
     }
 
-    /// The command with one more short name, which is typed as a word of one character (bpaf's
-    /// `ParseCommand::short`). The first one is shown.
+    /// Adds a short name, which is typed as a word of one character (bpaf's `ParseCommand::short`).
+    /// The first one is shown.
     ///
     /// Refused only for want of memory, and then the command is gone.
     ///
@@ -176,7 +175,7 @@ impl<T, P: Drop> ParseCommand<T, P> {
         })
     }
 
-    /// The command with one more long name, which isn't shown (bpaf's `ParseCommand::long`).
+    /// Adds a long name, which isn't shown (bpaf's `ParseCommand::long`).
     ///
     /// Refused only for want of memory, and then the command is gone.
     ///

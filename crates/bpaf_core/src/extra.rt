@@ -14,8 +14,7 @@ use std::alloc::{AllocError, Global};
 /// What the run is asked for beside its value, as [`Info::look`] tells it (bpaf's `Info`, in
 /// `info.rs`).
 ///
-/// Refused with ParseFail, where neither help nor the version is asked for; and for want of memory,
-/// which is told as nothing else.
+/// Refused with ParseFail, where neither help nor the version is asked for; and for want of memory.
 impl Parser<ExtraParams> for Info {
     ghost can_eval = { λ info. Unit {0} };
 

@@ -47,7 +47,7 @@ pub struct ParseFallback<P, T> {
 }
 
 impl<T: Drop, P: Drop> ParseFallback<P, T> {
-    /// The value is shown in the help page, as Display prints it (bpaf's `display_fallback`).
+    /// Shows the value on the help page, as Display prints it (bpaf's `display_fallback`).
     /// Refused only for want of memory, and then the parser is gone.
     ///
     /// ```text
@@ -64,8 +64,8 @@ impl<T: Drop, P: Drop> ParseFallback<P, T> {
         Ok(self)
     }
 
-    /// The value is shown in the help page, as Debug prints it (bpaf's `debug_fallback`). Refused
-    /// only for want of memory, and then the parser is gone.
+    /// Shows the value on the help page, as Debug prints it (bpaf's `debug_fallback`). Refused only
+    /// for want of memory, and then the parser is gone.
     pub fn debug_fallback(mut self, alloc: Global) -> Result<ParseFallback<P, T>, AllocError>
     where
         T: Debug,
@@ -77,7 +77,7 @@ impl<T: Drop, P: Drop> ParseFallback<P, T> {
         Ok(self)
     }
 
-    /// The value is shown in the help page, as a closure writes it (bpaf's `format_fallback`, whose
+    /// Shows the value on the help page, as a closure writes it (bpaf's `format_fallback`, whose
     /// closure writes to a formatter). Refused only for want of memory, which the closure may want
     /// too, and then the parser is gone.
     ///
@@ -154,7 +154,7 @@ pub struct ParseFallbackWith<T, P, F, E> {
 }
 
 impl<T: Drop, P: Drop, F: Fn() -> Result<T, E> + Drop, E: Drop> ParseFallbackWith<T, P, F, E> {
-    /// The closure's value is shown in the help page, as Display prints it; the closure is called
+    /// Shows the closure's value on the help page, as Display prints it; the closure is called
     /// once, and where it has none what was shown stays (bpaf's `display_fallback`). Refused only
     /// for want of memory, and then the parser is gone.
     pub fn display_fallback(
@@ -175,7 +175,7 @@ impl<T: Drop, P: Drop, F: Fn() -> Result<T, E> + Drop, E: Drop> ParseFallbackWit
         Ok(self)
     }
 
-    /// The closure's value is shown in the help page, as Debug prints it; the closure is called
+    /// Shows the closure's value on the help page, as Debug prints it; the closure is called
     /// once, and where it has none what was shown stays (bpaf's `debug_fallback`). Refused only for
     /// want of memory, and then the parser is gone.
     pub fn debug_fallback(
@@ -196,7 +196,7 @@ impl<T: Drop, P: Drop, F: Fn() -> Result<T, E> + Drop, E: Drop> ParseFallbackWit
         Ok(self)
     }
 
-    /// The closure's value is shown in the help page, as another closure writes it; the first one
+    /// Shows the closure's value on the help page, as another closure writes it; the first one
     /// is called once, and where it has none what was shown stays (bpaf's `format_fallback`).
     /// Refused only for want of memory, and then the parser is gone.
     pub fn format_fallback<G: Fn(&T) -> Result<String, AllocError>>(

@@ -17,7 +17,7 @@ use std::alloc::{AllocError, Global};
 ///
 /// A required flag, which has no absent value, answers Missing where it is absent, or NoEnv where
 /// it has names in the environment alone. The value is a clone of the kept one, which may be
-/// refused for memory; that is told as nothing else.
+/// refused for want of memory.
 impl<T: Clone> Parser<T> for ParseFlag<T> {
     ghost can_eval = { λ p. Unit {0} };
 

@@ -1,4 +1,4 @@
-//! Parsers that are not shown.
+//! Hidden parsers.
 ghost use Rattle.std.specs.Prelude.{◌≡◌, refl};
 ghost use Rattle.bpaf_doc.specs.Shape.{Skip};
 ghost use Rattle.bpaf_laws.specs.Laws.{IsNotMemory, WithoutMemory, no_shorts};
@@ -11,7 +11,7 @@ use bpaf_line::{Error, State};
 use bpaf_parts::hide;
 use std::alloc::{AllocError, Global};
 
-/// A parser that isn't shown (bpaf's `ParseHide`, in `structs.rs`).
+/// A hidden parser (bpaf's `ParseHide`, in `structs.rs`).
 #[derive(Drop)]
 pub struct ParseHide<P> {
     pub inner: P,

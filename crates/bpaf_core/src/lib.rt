@@ -16,14 +16,14 @@
 //!   key isn't on the line, the first of their names in the environment that is set counts.
 //! - [`ParseMap`], [`ParseWith`] and [`ParseGuard`] change or check a value; [`ParseOptional`],
 //!   [`ParseFallback`] and [`ParseFallbackWith`] stand in for one that isn't there. By clauses of
-//!   their `eval` none of these catches want of memory, and what stands in takes nothing.
+//!   their `eval` none of these catches want of memory, and a value that stands in takes no item.
 //! - [`ParseMany`], [`ParseSome`], [`ParseCollect`], [`ParseCount`] and [`ParseLast`] take turns of
 //!   one parser until one stops; [`bpaf_text::FromList`] is what a list of values fills. Each turn
 //!   but the first takes an item, so there are no more values than items present at the start and
 //!   one (clause `repeat_is_bounded`), and none catches want of memory (clause
 //!   `memory_is_never_caught`).
 //! - [`ParseOrElse`] is one of two parsers, both evaluated from the same state: the table of
-//!   [`bpaf_parts::this_or_that`] tells which answer stands. [`or_parser`], [`Start`] and
+//!   [`bpaf_parts::this_or_that`] decides whose answer counts. [`or_parser`], [`Start`] and
 //!   [`or_meta`] are for the crates of this repository, not for callers. The branch that took the
 //!   leftmost place taken by only one of them wins (clause `leftmost_wins`).
 //! - [`ParseHide`] names no missing item in its refusals; [`ParseUsage`], [`ParseGroupHelp`] and

@@ -13,8 +13,8 @@ use std::alloc::{AllocError, Global};
 /// One turn of an optional value or a repeat (bpaf's `parse_option`, in `structs.rs`): Some of a
 /// value, or None where it stops.
 ///
-/// `catches` tells that it stops at every error but those of wrong input and want of memory,
-/// `first` that no value came before it.
+/// With `catches` it stops at every error but those of wrong input and want of memory; `first` is
+/// true where no value came before it.
 pub(crate) fn parse_option<T: Drop, P: Parser<T>>(
     parser: &P,
     state: &mut State,

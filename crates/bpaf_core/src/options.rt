@@ -1,4 +1,4 @@
-//! A parser that can run over words: the texts and keys of its run.
+//! Options: a parser, and the texts and keys of its run.
 ghost use Rattle.std.specs.Prelude.{◌≡◌, IfOk, List, Ok, Some, true};
 ghost use Rattle.bpaf_doc.specs.Print.{text_pieces, Prints};
 ghost use Rattle.bpaf_doc.specs.{declared.doc.Piece.Piece, Shape.Shape};
@@ -15,7 +15,8 @@ use std::marker::PhantomData;
 
 mod running;
 
-/// A parser that can run over words (bpaf's `OptionParser`, in `info.rs`).
+/// Options: a parser that can run over words, with the texts and keys of its run (bpaf's
+/// `OptionParser`, in `info.rs`).
 #[derive(Drop)]
 pub struct OptionParser<T, P> {
     pub inner: P,
@@ -25,10 +26,9 @@ pub struct OptionParser<T, P> {
 }
 
 impl<T, P> OptionParser<T, P> {
-    /// The parser with this description, in place of the one that it has (bpaf's
-    /// `OptionParser::descr`). It takes no memory.
+    /// Sets the description (bpaf's `OptionParser::descr`). It takes no memory.
     ///
-    /// A command made of it shows the first line, where it is given no help of its own.
+    /// A command made of these options shows its first line, where no other help is set.
     ///
     /// ```text
     /// num.to_options(alloc)?.descr(Doc::from_text(alloc, "Builds the program")?)
@@ -40,8 +40,8 @@ impl<T, P> OptionParser<T, P> {
         self
     }
 
-    /// The parser with this version, which its key shows (bpaf's `OptionParser::version`). It takes
-    /// no memory. Without one the key is an item like others.
+    /// Sets the version, which `-V` and `--version` print (bpaf's `OptionParser::version`). It takes
+    /// no memory. Without a version these keys are unknown.
     ///
     /// ```text
     /// num.to_options(alloc)?.version(Doc::from_text(alloc, "1.2")?)
@@ -53,8 +53,7 @@ impl<T, P> OptionParser<T, P> {
         self
     }
 
-    /// The parser with this text behind the usage (bpaf's `OptionParser::header`). It takes no
-    /// memory.
+    /// Sets the text behind the usage line (bpaf's `OptionParser::header`). It takes no memory.
     ///
     /// ```text
     /// switch.to_options(alloc)?.header(Doc::from_text(alloc, "This is a header")?)
@@ -68,8 +67,8 @@ impl<T, P> OptionParser<T, P> {
         self
     }
 
-    /// The parser with this text at the end of the help page (bpaf's `OptionParser::footer`). It
-    /// takes no memory.
+    /// Sets the text at the end of the help page (bpaf's `OptionParser::footer`). It takes no
+    /// memory.
     ///
     /// ```text
     /// switch.to_options(alloc)?.footer(Doc::from_text(alloc, "This is a footer")?)
@@ -83,8 +82,7 @@ impl<T, P> OptionParser<T, P> {
         self
     }
 
-    /// The parser with this text as the whole usage paragraph, in place of the one that is made
-    /// (bpaf's `OptionParser::usage`). It takes no memory.
+    /// Replaces the whole usage paragraph (bpaf's `OptionParser::usage`). It takes no memory.
     ///
     /// ```text
     /// switch.to_options(alloc)?.usage(Doc::from_text(alloc, "Use it")?)
@@ -98,8 +96,8 @@ impl<T, P> OptionParser<T, P> {
         self
     }
 
-    /// The parser with this key for help, in place of `-h`, `--help` (bpaf's
-    /// `OptionParser::help_parser`). It takes no memory.
+    /// Sets the key of help, in place of `-h` and `--help` (bpaf's `OptionParser::help_parser`). It
+    /// takes no memory.
     ///
     /// ```text
     /// let key = long(alloc, "usage")?.help(Doc::from_text(alloc, "Tells how")?);
@@ -112,7 +110,7 @@ impl<T, P> OptionParser<T, P> {
         self
     }
 
-    /// The parser with this key for the version, in place of `-V`, `--version` (bpaf's
+    /// Sets the key of the version, in place of `-V` and `--version` (bpaf's
     /// `OptionParser::version_parser`). It takes no memory.
     pub fn version_parser(mut self, key: NamedArg) -> OptionParser<T, P>
         ensures { result ≡ record self { info = record self.info { version_arg = key } } }
@@ -121,7 +119,7 @@ impl<T, P> OptionParser<T, P> {
         self
     }
 
-    /// The parser which shows help, where there is nothing to read and it would refuse (bpaf's
+    /// Shows the help page where the line is empty and would be refused (bpaf's
     /// `OptionParser::fallback_to_usage`). It takes no memory.
     ///
     /// ```text
@@ -134,8 +132,8 @@ impl<T, P> OptionParser<T, P> {
         self
     }
 
-    /// The parser with this many columns for a page, which are kept and not used: nothing is
-    /// wrapped (bpaf's `OptionParser::max_width`). It takes no memory.
+    /// Sets how many columns a page may have (bpaf's `OptionParser::max_width`). The number is kept
+    /// and not used: nothing is wrapped. It takes no memory.
     pub fn max_width(mut self, width: usize) -> OptionParser<T, P>
         ensures { result ≡ record self { info = record self.info { max_width = width } } }
     {
@@ -143,12 +141,12 @@ impl<T, P> OptionParser<T, P> {
         self
     }
 
-    /// The parser by which a negative number is a word: before the first `--` a word of `-` and one
-    /// or more ASCII digits, and nothing else, is read as `5` is, so that users need no `=` for it.
-    /// It takes no memory. bpaf has no such call.
+    /// Reads negative numbers as words: before the first `--` a word of `-` and one or more ASCII
+    /// digits, and nothing else, is read as `5` is, so that users need no `=` for it. It takes no
+    /// memory. bpaf has no such call.
     ///
-    /// The setting of the parser that runs over the words counts alone: it holds behind the words
-    /// of commands too, and that of a command's own parser has no effect. A flag or an argument
+    /// Only the setting of the options that run over the words counts: it holds behind the words of
+    /// commands too, and the setting of a command's own options has no effect. A flag or an argument
     /// whose short name is a digit can then no longer be given as `-1`.
     ///
     /// ```text
@@ -163,8 +161,8 @@ impl<T, P> OptionParser<T, P> {
 }
 
 impl<T, P: Drop> OptionParser<T, P> {
-    /// The same with a description of this text, as [`Doc::from_text`] makes it; refused only for
-    /// want of memory, and then the parser is gone.
+    /// Sets the description to this text, as [`Doc::from_text`] makes it; refused only for want of
+    /// memory, and then the options are gone.
     pub fn descr_str(self, descr: &str) -> Result<OptionParser<T, P>, AllocError>
         ensures { IfOk result (λ parser. parser
             ≡ record self { info = record self.info { descr = Some (text_pieces descr.now) } }) }
@@ -173,8 +171,8 @@ impl<T, P: Drop> OptionParser<T, P> {
         Ok(self.descr(Doc::from_text(alloc, descr)?))
     }
 
-    /// The same with a version of this text, as [`Doc::from_text`] makes it; refused only for want
-    /// of memory, and then the parser is gone.
+    /// Sets the version to this text, as [`Doc::from_text`] makes it; refused only for want of
+    /// memory, and then the options are gone.
     pub fn version_str(self, version: &str) -> Result<OptionParser<T, P>, AllocError>
         ensures { IfOk result (λ parser. parser
             ≡ record self { info = record self.info { version = Some (text_pieces version.now) } }) }
@@ -183,8 +181,8 @@ impl<T, P: Drop> OptionParser<T, P> {
         Ok(self.version(Doc::from_text(alloc, version)?))
     }
 
-    /// The same with a header of this text, as [`Doc::from_text`] makes it; refused only for want
-    /// of memory, and then the parser is gone.
+    /// Sets the header to this text, as [`Doc::from_text`] makes it; refused only for want of
+    /// memory, and then the options are gone.
     pub fn header_str(self, header: &str) -> Result<OptionParser<T, P>, AllocError>
         ensures { IfOk result (λ parser. parser
             ≡ record self { info = record self.info { header = Some (text_pieces header.now) } }) }
@@ -193,8 +191,8 @@ impl<T, P: Drop> OptionParser<T, P> {
         Ok(self.header(Doc::from_text(alloc, header)?))
     }
 
-    /// The same with a footer of this text, as [`Doc::from_text`] makes it; refused only for want
-    /// of memory, and then the parser is gone.
+    /// Sets the footer to this text, as [`Doc::from_text`] makes it; refused only for want of
+    /// memory, and then the options are gone.
     pub fn footer_str(self, footer: &str) -> Result<OptionParser<T, P>, AllocError>
         ensures { IfOk result (λ parser. parser
             ≡ record self { info = record self.info { footer = Some (text_pieces footer.now) } }) }
@@ -203,8 +201,8 @@ impl<T, P: Drop> OptionParser<T, P> {
         Ok(self.footer(Doc::from_text(alloc, footer)?))
     }
 
-    /// The same with a usage paragraph of this text, as [`Doc::from_text`] makes it; refused only
-    /// for want of memory, and then the parser is gone.
+    /// Sets the usage paragraph to this text, as [`Doc::from_text`] makes it; refused only for want
+    /// of memory, and then the options are gone.
     pub fn usage_str(self, usage: &str) -> Result<OptionParser<T, P>, AllocError>
         ensures { IfOk result (λ parser. parser
             ≡ record self { info = record self.info { usage = Some (text_pieces usage.now) } }) }
@@ -215,11 +213,11 @@ impl<T, P: Drop> OptionParser<T, P> {
 }
 
 impl<T: Drop, P: Parser<T>> OptionParser<T, P> {
-    /// The parser with what a closure makes of the usage text as the whole usage paragraph (bpaf's
-    /// `OptionParser::with_usage`). The closure gets the text that the parser shows, without the
-    /// path; an Err of it is want of memory.
+    /// Replaces the whole usage paragraph by what the closure makes of the usage text (bpaf's
+    /// `OptionParser::with_usage`). The closure gets the text without the path; its Err is want of
+    /// memory.
     ///
-    /// Refused only for want of memory, and then the parser is gone.
+    /// Refused only for want of memory, and then the options are gone.
     ///
     /// ```text
     /// num.to_options(alloc)?.with_usage(|usage| {
@@ -246,7 +244,7 @@ impl<T: Drop, P: Parser<T>> OptionParser<T, P> {
         Ok(self.usage(usage))
     }
 
-    /// Whether no key stands behind a word or a command in what the parser shows (bpaf's
+    /// Whether each word and command stands behind all keys in the parser's shape (bpaf's
     /// `OptionParser::check_invariants`, which panics in place of the answer `false`).
     ///
     /// The flag isn't used, nor is it in bpaf. Refused only for want of memory.

@@ -28,7 +28,7 @@ use std::alloc::{AllocError, Global};
 use std::fmt::Display;
 use std::marker::PhantomData;
 
-/// What reads a value off a line (bpaf's `Parser`).
+/// A parser: it reads a value off a line (bpaf's `Parser`).
 pub trait Parser<T>: Sized {
     /// Whether it may be evaluated: its closures may be called on every value. `eval`, `meta` and a
     /// run ask for it; the combinators below don't, so a function that only joins parsers needs
@@ -55,12 +55,12 @@ pub trait Parser<T>: Sized {
         requires { can_eval self.now }
         ensures { outcome self.now state.old result state.new };
 
-    /// What it shows of itself; refused only for want of memory.
+    /// Its shape on the help page and in usage; refused only for want of memory.
     fn meta(&self, alloc: Global) -> Result<Meta, AllocError>
         requires { can_eval self.now }
         ensures { IfOk result (λ meta. describes self.now (shape_of meta)) };
 
-    /// The closure's value in place of the one read (bpaf's `Parser::map`).
+    /// Applies a closure to the value (bpaf's `Parser::map`).
     ///
     /// ```text
     /// long(alloc, "size")?.argument::<u64>("KB").map(|kilobytes| Size(kilobytes))
@@ -78,8 +78,8 @@ pub trait Parser<T>: Sized {
         }
     }
 
-    /// The closure's value in place of the one read, or its fault as a refusal (bpaf's
-    /// `Parser::parse`).
+    /// Applies a closure to the value; where that answers a fault, the value is refused with it
+    /// (bpaf's `Parser::parse`).
     ///
     /// ```text
     /// long(alloc, "size")?.argument::<u64>("KB").parse(|size| {
@@ -103,8 +103,7 @@ pub trait Parser<T>: Sized {
         }
     }
 
-    /// The value read, refused with the message where the check is false of it (bpaf's
-    /// `Parser::guard`).
+    /// Refuses a value of which the check is false, with the message (bpaf's `Parser::guard`).
     ///
     /// ```text
     /// long(alloc, "size")?.argument::<u64>("KB").guard(|size| *size < 10, "below 10")
@@ -126,9 +125,9 @@ pub trait Parser<T>: Sized {
         }
     }
 
-    /// None where there is nothing to read (bpaf's `Parser::optional`).
+    /// Makes the value optional: `None` where there is nothing to read (bpaf's `Parser::optional`).
     ///
-    /// A value that stands there and can't be read is refused as before.
+    /// A value that is there and can't be read is still refused.
     ///
     /// ```text
     /// long(alloc, "size")?.argument::<u64>("KB").optional()
@@ -143,10 +142,10 @@ pub trait Parser<T>: Sized {
         }
     }
 
-    /// A kept value where there is nothing to read (bpaf's `Parser::fallback`); it is cloned when
-    /// it is given out.
+    /// Answers this value where there is nothing to read (bpaf's `Parser::fallback`). It is cloned
+    /// each time.
     ///
-    /// A value that stands there and can't be read is refused as before.
+    /// A value that is there and can't be read is still refused.
     ///
     /// ```text
     /// long(alloc, "jobs")?.argument::<u64>("N").fallback(1)
@@ -163,10 +162,10 @@ pub trait Parser<T>: Sized {
         }
     }
 
-    /// The closure's value where there is nothing to read, or its fault as a refusal (bpaf's
-    /// `Parser::fallback_with`).
+    /// Answers the closure's value where there is nothing to read, or refuses with its fault
+    /// (bpaf's `Parser::fallback_with`).
     ///
-    /// A value that stands there and can't be read is refused as before; the closure isn't called.
+    /// A value that is there and can't be read is still refused, without a call of the closure.
     ///
     /// ```text
     /// long(alloc, "version")?.argument::<u64>("N").fallback_with(|| newest_version())
@@ -189,10 +188,10 @@ pub trait Parser<T>: Sized {
         }
     }
 
-    /// All values, as often as there is one to read (bpaf's `Parser::many`); each but the first
+    /// Reads all values, perhaps none, into a `Vec` (bpaf's `Parser::many`). Each but the first
     /// takes an item.
     ///
-    /// A value that stands there and can't be read is refused as before.
+    /// A value that is there and can't be read is still refused.
     ///
     /// ```text
     /// positional::<String>("FILE").many()
@@ -207,8 +206,8 @@ pub trait Parser<T>: Sized {
         }
     }
 
-    /// All values, of which there has to be one (bpaf's `Parser::some`): without one the message is
-    /// the refusal.
+    /// Reads all values, at least one, into a `Vec`; without one it refuses with the message
+    /// (bpaf's `Parser::some`).
     ///
     /// ```text
     /// positional::<String>("FILE").some("name a file")
@@ -225,7 +224,7 @@ pub trait Parser<T>: Sized {
         }
     }
 
-    /// All values in a collection, filled from front to back (bpaf's `Parser::collect`).
+    /// Reads all values into a collection, in line order (bpaf's `Parser::collect`).
     ///
     /// ```text
     /// short(alloc, 'n')?.argument::<u64>("NUM").collect::<BTreeSet<u64>>()
@@ -242,8 +241,8 @@ pub trait Parser<T>: Sized {
         }
     }
 
-    /// How many values there are (bpaf's `Parser::count`); one that takes no item is counted and
-    /// ends it.
+    /// Counts the values (bpaf's `Parser::count`); one that takes no item is counted and is the
+    /// last.
     ///
     /// ```text
     /// short(alloc, 'v')?.req_flag(()).count()
@@ -257,7 +256,8 @@ pub trait Parser<T>: Sized {
         }
     }
 
-    /// The last value (bpaf's `Parser::last`). Where there is none it is refused as without `last`.
+    /// Reads all values and answers the last one (bpaf's `Parser::last`). Where there is none it
+    /// refuses as the parser alone does.
     ///
     /// ```text
     /// short(alloc, 'n')?.argument::<u64>("NUM").last()
@@ -268,10 +268,10 @@ pub trait Parser<T>: Sized {
         ParseLast { inner: self }
     }
 
-    /// What one of two parsers reads (bpaf's `Parser::or_else`).
+    /// Reads what one of two parsers reads (bpaf's `Parser::or_else`).
     ///
-    /// Both are evaluated from the same state. Of two values that of the parser which took the
-    /// leftmost item counts, and what only the other one took stays on the line, in conflict with
+    /// Both are evaluated from the same state. Of two values the one of the parser that took the
+    /// leftmost item counts. Items that only the other one took stay on the line, in conflict with
     /// that item.
     ///
     /// ```text
@@ -284,8 +284,8 @@ pub trait Parser<T>: Sized {
         ParseOrElse { this: self, that }
     }
 
-    /// This parser, which is not shown (bpaf's `Parser::hide`); where it is missing, a message
-    /// names no item of it.
+    /// Hides the parser from help and usage (bpaf's `Parser::hide`). Messages name no missing item
+    /// of it.
     ///
     /// ```text
     /// long(alloc, "trace")?.switch().hide()
@@ -296,8 +296,7 @@ pub trait Parser<T>: Sized {
         ParseHide { inner: self }
     }
 
-    /// This parser, of which nothing stands in the usage (bpaf's `Parser::hide_usage`); help shows
-    /// it.
+    /// Hides the parser from the usage line (bpaf's `Parser::hide_usage`). The help page lists it.
     ///
     /// ```text
     /// short(alloc, 'v')?.switch().hide_usage()
@@ -312,7 +311,7 @@ pub trait Parser<T>: Sized {
         }
     }
 
-    /// This parser, for which the text stands in the usage (bpaf's `Parser::custom_usage`).
+    /// Sets the parser's text in the usage line (bpaf's `Parser::custom_usage`).
     ///
     /// ```text
     /// dates.custom_usage(Doc::from_text(alloc, "FROM..TO")?)
@@ -327,7 +326,8 @@ pub trait Parser<T>: Sized {
         }
     }
 
-    /// This parser, which help shows in a section below the text (bpaf's `Parser::group_help`).
+    /// Lists the parser in a section of the help page with this title (bpaf's
+    /// `Parser::group_help`).
     ///
     /// ```text
     /// construct!(width, height).group_help(Doc::from_text(alloc, "Size of the page")?)
@@ -342,8 +342,8 @@ pub trait Parser<T>: Sized {
         }
     }
 
-    /// This parser, which help shows in a section below what the closure makes of what the parser
-    /// shows (bpaf's `Parser::with_group_help`).
+    /// Lists the parser in a section of the help page whose title the closure makes of the parser's
+    /// shape (bpaf's `Parser::with_group_help`).
     ///
     /// ```text
     /// page.with_group_help(|shown| title_of(alloc, shown.first_item()))
@@ -359,7 +359,7 @@ pub trait Parser<T>: Sized {
         ParseWithGroupHelp { inner: self, f }
     }
 
-    /// A parser that can run over words. It takes no memory.
+    /// Makes options of the parser, which can run over words. It takes no memory.
     final fn into_options(self, alloc: Global) -> OptionParser<T, Self>
         ensures inner { result.inner ≡ self }
         ensures info { result.info ≡ plain_info }
@@ -372,7 +372,7 @@ pub trait Parser<T>: Sized {
         }
     }
 
-    /// The same, as bpaf's `Parser::to_options` is named; it is never refused.
+    /// The same under the name that bpaf has for it; it is never refused.
     final fn to_options(self, alloc: Global) -> Result<OptionParser<T, Self>, AllocError>
         ensures inner { IfOk result (λ options. options.inner ≡ self) }
         ensures info { IfOk result (λ options. options.info ≡ plain_info) }
@@ -380,8 +380,8 @@ pub trait Parser<T>: Sized {
         Ok(self.into_options(alloc))
     }
 
-    /// The value that the words give, by a run without texts of its own, and the end of the parser
-    /// (bpaf's `Parser::run`): [`Parser::to_options`] and [`OptionParser::run_once`] in one.
+    /// Runs the parser over words, without texts of the program's own, and drops it (bpaf's
+    /// `Parser::run`): [`Parser::into_options`] and [`OptionParser::run_once`] in one.
     ///
     /// ```text
     /// construct!(Options { verbose, num }).run_once(alloc, Args::from(words))

@@ -47,7 +47,7 @@ impl<T: Drop, P: Parser<T>> Run<'_, T, P> {
         }
     }
 
-    /// How a run ends whose parser refused; the flag tells whether help is shown in place of a
+    /// How a run ends whose parser refused; with `usage` the help page is shown in place of a
     /// message.
     #[tactic(auto, using(crate::proofs::Running::memory_ends, crate::proofs::Running::others_end, crate::proofs::Running::usage_ends))]
     fn end_refused(&self, usage: bool, message: Message, state: &mut State) -> ParseFailure
@@ -66,7 +66,7 @@ impl<T: Drop, P: Parser<T>> Run<'_, T, P> {
         self.answer(message, state)
     }
 
-    /// The answer of an inner run as it is, and what is told of any other message.
+    /// The answer of an inner run as it is, and the text of any other message.
     fn answer(&self, message: Message, state: &mut State) -> ParseFailure
         requires { P.can_eval self.now.inner.now }
         ensures { PassesOrTells (P.describes self.now.inner.now) self.now.info.now message
@@ -78,7 +78,7 @@ impl<T: Drop, P: Parser<T>> Run<'_, T, P> {
         }
     }
 
-    /// What is told of a message: help, or the version, where it is asked for; else the message.
+    /// The help page or the version, where the words ask for it; else the text of the message.
     fn tell(&self, message: Message, state: &mut State) -> ParseFailure
         requires { P.can_eval self.now.inner.now }
         ensures { Tells (P.describes self.now.inner.now) self.now.info.now message

@@ -14,11 +14,11 @@ use std::marker::Model;
 pub enum Style {
     /// Plain words.
     Text,
-    /// What is typed as it stands, such as a name.
+    /// Text to type literally, such as a name.
     Literal,
     /// A name that stands for a value.
     Metavar,
-    /// What was typed and does not fit.
+    /// Text that was typed and does not fit.
     Invalid,
 }
 

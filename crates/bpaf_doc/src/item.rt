@@ -1,9 +1,9 @@
-//! What a parser of one item shows.
+//! One item on a help page: a flag, an argument, a word or a command.
 use crate::doc::Doc;
 use crate::meta::Meta;
 use bpaf_base::Text;
 
-/// What stands for a value in usage and messages, such as `NUM`.
+/// The name of a value in usage and messages, such as `NUM`.
 #[derive(Clone, Copy)]
 pub struct Metavar(pub &'static str);
 

@@ -10,10 +10,10 @@
 //!   `Doc`.
 //! - [`Item`] is one flag, argument, word or command as it is shown, and [`Meta`] the tree of them
 //!   that a parser shows; [`MetaInfo`] lends one. Contracts see both through `part_of` and
-//!   `shape_of` (specs/Shape.antt), data in which neither addresses nor capacities stand. What is
-//!   written for an item inside messages and usage is its `part_text` (specs/Shape.antt). The
-//!   walks over a tree, and over one that is lent, gather short names and find the first item
-//!   (specs/Shape.antt), and tell whether words stand behind keys (specs/Shape.antt).
+//!   `shape_of` (specs/Shape.antt), data without addresses and capacities. Messages and
+//!   usage write an item as its `part_text`. The walks over a tree, and over one that is lent,
+//!   gather short names, find the first item, and check that words stand behind keys (all in
+//!   specs/Shape.antt).
 //!
 //! What a whole tree is printed as, its usage text and its help page, stands beside this crate, in
 //! `bpaf_pages`.

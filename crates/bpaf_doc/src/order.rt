@@ -7,7 +7,7 @@ ghost use Rattle.bpaf_doc.specs.Shape.{takes_word};
 use crate::item::Item;
 use crate::meta::{Meta, MetaInfo};
 
-/// Whether all members of an And are in order; `seen` tells whether a word was asked for before
+/// Whether all members of an And are in order; `seen` is whether a word was asked for before
 /// them, and then whether one was in them too.
 #[cycle(order)]
 fn all_in_order(all: &[Meta], seen: &mut bool) -> bool

@@ -20,7 +20,7 @@ impl ShortLong {
 }
 
 impl Item {
-    /// What is written for it, by itself.
+    /// Its text in messages and usage, by itself.
     fn text(&self, alloc: Global) -> Result<Doc, AllocError>
         ensures { IfOk result (λ doc. (full : Bool) →
             printed full doc ≡ part_text (part_of self.now)) }
@@ -42,7 +42,7 @@ impl Item {
         Ok(doc)
     }
 
-    /// Appends what is written for it inside messages and usage; refused only for want of memory.
+    /// Appends its text in messages and usage; refused only for want of memory.
     ///
     /// A flag is `--long`, or `-s` where it has no long name; an argument the same with `=METAVAR`;
     /// a word its metavar; a command `COMMAND ...`; an item with a text of its own that text, which

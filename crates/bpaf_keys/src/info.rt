@@ -29,9 +29,9 @@ pub struct Info {
     pub version: Option<Doc>,
     /// What the parser is for, before the usage.
     pub descr: Option<Doc>,
-    /// What stands behind the usage.
+    /// The text behind the usage.
     pub header: Option<Doc>,
-    /// What stands at the end.
+    /// The text at the end of the page.
     pub footer: Option<Doc>,
     /// The whole usage paragraph, in place of the one that is made.
     pub usage: Option<Doc>,
@@ -39,7 +39,7 @@ pub struct Info {
     pub help_arg: Option<NamedArg>,
     /// The key that asks for the version; where none is set, `-V` and `--version`.
     pub version_arg: Option<NamedArg>,
-    /// Whether help is shown where nothing is there to read and the parser refuses.
+    /// Whether the help page is shown where the line is empty and the parser refuses it.
     pub help_if_no_args: bool,
     /// How many columns a page may have. It is kept, and not used.
     pub max_width: usize,
@@ -320,7 +320,7 @@ impl Info {
     /// taken, and once more where it is present again; else the version, where one is set and its
     /// key is present (bpaf's `Info`, in `info.rs`).
     ///
-    /// Refused with ParseFail, where neither is there; and for want of memory.
+    /// Refused with ParseFail, where the scope has neither; and for want of memory.
     pub fn look(&self, state: &mut State) -> Result<ExtraParams, Error>
         ensures { ExtraOutcome self.now state.old result state.new }
     {

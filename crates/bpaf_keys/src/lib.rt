@@ -9,8 +9,8 @@
 //!   (specs/Info.antt).
 //! - [`CommandNames`] are the names of a command; [`CommandNames::open`] takes its word.
 //! - [`is_flag_present`] is the test for flags, and [`is_present`] that for the keys of a run;
-//!   [`take_argument`] takes the text of an argument; [`first_set`] and [`absence`] tell of names in
-//!   the environment.
+//!   [`take_argument`] takes the text of an argument; [`first_set`] and [`absence`] are for names
+//!   in the environment.
 //!
 //! The source of the design is bpaf's `info.rs` and `params.rs`.
 #![tactic(auto)]

@@ -42,7 +42,7 @@ pub enum Message {
     /// A value that a check refused: the place of its word, where it came from the line, and what
     /// the check says.
     GuardFailed(Option<usize>, Text),
-    /// The place of a key without a value, and what stands for the value.
+    /// The place of a key without a value, and the metavar of the value.
     NoArgument(usize, Text),
     /// The place of an item that no parser took.
     Unconsumed(usize),

@@ -13,7 +13,7 @@
 //!   `--`, is taken from the start and is the item of no place.
 //! - The take calls meet their relation of specs/Taking.antt for every answer, over the whole
 //!   state. [`State::items_iter`] walks the `open_items` (specs/Taking.antt).
-//! - Of two branches that went on from one mark [`State::pick_winner`] tells which took the
+//! - Of two branches that went on from one mark [`State::pick_winner`] says which took the
 //!   leftmost place that only one took; [`State::save_conflicts`] notes what the other took, and
 //!   [`State::conflict`] answers such a note (specs/Taking.antt; `conflict_at` is the accessor).
 //!   What is noted is present.
@@ -25,7 +25,7 @@
 //!   (`can_catch`), one for which the words are at fault (`is_wrong_input`; specs/Messages.antt),
 //!   or none of these. Of two there is one by `Combines`. Its text is `message_text`, made of what
 //!   the line shows and of the items that were looked for furthest on (specs/Rendering.antt);
-//!   `bpaf_messages` tells it.
+//!   `bpaf_messages` makes its text.
 //!
 //! The source of the design is bpaf's `args.rs` and `error.rs`.
 #![tactic(auto)]

@@ -1,4 +1,4 @@
-//! What is told of items that no parser took.
+//! The message for items that no parser took.
 ghost use Rattle.std.specs.Prelude.{◌≡◌, MatchOption};
 ghost use Rattle.bpaf_messages.specs.Leftover.{IsLeftover};
 ghost use Rattle.bpaf_line.specs.Situation.{IsNextOpen, open_count};

@@ -1,13 +1,13 @@
-//! What is told of a refusal: the texts of messages, and the message of what is left over.
+//! The texts of messages, and the message for items that are left over.
 //!
 //! It stands on `bpaf_line`, whose states and messages it reads. For the layers above:
 //!
-//! - [`render`] tells a [`Message`](bpaf_line::Message) in the state that the refusing parser left:
-//!   its text is the `message_text` of `bpaf_line`.
+//! - [`render`] makes the text of a [`Message`](bpaf_line::Message) in the state that the refusing
+//!   parser left: the `message_text` of `bpaf_line`.
 //! - [`leftover`] is the message of the first item that is left (specs/Leftover.antt): what
 //!   excludes it; else the last earlier key of its kind and name, which [`earlier_key`] finds
 //!   (specs/Leftover.antt); else that it isn't expected.
-//! - [`tell_fault`] tells a message of words that have no line (specs/Leftover.antt).
+//! - [`tell_fault`] makes the message for words that have no line (specs/Leftover.antt).
 //!
 //! The source of the design is bpaf's `error.rs`.
 #![tactic(auto)]

@@ -52,7 +52,7 @@ fn furthest<'a>(first: &'a MissingItem, more: &'a [MissingItem]) -> &'a MissingI
     far
 }
 
-/// What is written for an item.
+/// The text of an item.
 fn item_doc(alloc: Global, item: &Item) -> Result<Doc, AllocError>
     ensures { IfOk result (λ doc. printed true doc ≡ part_text (part_of item.now)) }
 {
@@ -83,7 +83,7 @@ fn told_items(
     Ok(docs)
 }
 
-/// What is written for each of some items.
+/// The text of each of some items.
 fn item_docs(alloc: Global, items: &[Item]) -> Result<Vec<Doc>, AllocError>
     ensures { IfOk result (λ docs.
         map (printed true) docs.items ≡ map part_text (map part_of items.now)) }

@@ -238,7 +238,7 @@ fn refusal(message: &Message, state: &State) -> ParseFailure
     }
 }
 
-/// What is told of a message, where the state is that which the refusing parser left (bpaf's
+/// The text of a message, where the state is the one that the refusing parser left (bpaf's
 /// `Message::render`, which takes what the parser shows too).
 ///
 /// Want of memory stays that, and the answer of an inner run is passed on. Every other message is

@@ -17,13 +17,13 @@ use std::alloc::{AllocError, Global};
 /// The texts of a help page that a program gives; each may be missing (bpaf's `Info`).
 #[derive(Clone, Copy)]
 pub struct HelpTexts<'a> {
-    /// What stands in place of the usage line.
+    /// The text in place of the usage line.
     pub usage: Option<&'a Doc>,
-    /// What stands first.
+    /// The text at the top of the page.
     pub descr: Option<&'a Doc>,
-    /// What stands before the lists.
+    /// The text before the lists.
     pub header: Option<&'a Doc>,
-    /// What stands last.
+    /// The text at the end of the page.
     pub footer: Option<&'a Doc>,
 }
 

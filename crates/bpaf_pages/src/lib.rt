@@ -3,9 +3,8 @@
 //! It stands on `bpaf_doc`, beside the crates that read lines. For the layers above:
 //!
 //! - [`usage_of`] writes the usage text of a tree (specs/Help.antt), and [`render_help`] its help
-//!   page (specs/Help.antt), for which a program gives [`HelpTexts`]. Both are said as texts in two
-//!   prints, with the detail and without it; whether a text is empty, and so left out, is told by
-//!   its full print (specs/Help.antt).
+//!   page (specs/Help.antt), for which a program gives [`HelpTexts`]. Both have two prints, with
+//!   the detail and without it; a text is left out where its full print is empty (specs/Help.antt).
 //! - The lines of a page are those of the items that a tree shows, in order, each with the place
 //!   where it stands (specs/Help.antt).
 //!

@@ -105,7 +105,7 @@ fn list_name(alloc: Global, item: &Item) -> Result<String, AllocError>
     }
 }
 
-/// What is said of an item.
+/// The help of an item.
 fn help_of(item: &Item) -> Option<&Doc>
     ensures { MatchOption result
         (help_of (part_of item.now) ≡ None)

@@ -1,4 +1,4 @@
-//! How what went wrong inside is told to those around it.
+//! How a combinator hands on the error of the parser inside it.
 ghost use Rattle.std.specs.Prelude.{◌≡◌, ◌⊎◌, ◌&&◌, not};
 ghost use Rattle.bpaf_laws.specs.Combinators.{hidden, stops_step};
 ghost use Rattle.bpaf_line.specs.Messages.{is_memory};

@@ -5,7 +5,7 @@
 //! programs need of it:
 //!
 //! - [`Start`] and [`Branch`] are where branches of a choice begin and where one led to
-//!   (specs/Branches.antt); the table of [`this_or_that`] tells which of two answers stands, and
+//!   (specs/Branches.antt); the table of [`this_or_that`] says which of two answers counts, and
 //!   [`or_meta`] what a choice shows.
 //! - [`read_text`] reads the value of a taken text; [`displayed`], [`debugged`] and [`formatted`]
 //!   write a default, and [`given_by`] is the value of a closure that takes nothing.

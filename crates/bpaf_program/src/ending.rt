@@ -8,10 +8,10 @@ use crate::sink::Sink;
 use crate::writing::{write_doc, write_message, write_text};
 use bpaf::{Doc, ParseFailure};
 
-/// The value of an answer; or, where it has none, what it shows on `out` or tells on `err`, and the
-/// status with which the program is to end: 0 after a text that was asked for, else 1.
+/// The value of an answer; or, where it has none, its text on `out` or its message on `err`, and
+/// the status with which the program is to end: 0 after a text that was asked for, else 1.
 ///
-/// A message stands behind `Error: ` on a line of its own; want of memory is told as
+/// A message is printed behind `Error: ` on a line of its own; want of memory as
 /// `Error: out of memory`. No memory is wanted for that. No write follows one that failed. With a
 /// value nothing is written.
 ///
@@ -50,7 +50,7 @@ pub fn print<S: Sink, E: Sink>(answer: Result<String, ParseFailure>, out: &mut S
     }
 }
 
-/// Shows what was asked for on `out`, or tells a refusal on `err`, and gives the status.
+/// Prints the text that was asked for on `out`, or a message on `err`, and gives the status.
 fn tell<S: Sink, E: Sink>(failure: ParseFailure, out: &mut S, err: &mut E) -> u8
     ensures { TellsFailure (wrote S.known out.old out.new) (wrote E.known err.old err.new) failure
         result }

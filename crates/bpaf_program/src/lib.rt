@@ -1,5 +1,5 @@
-//! The end of a program: the value that the words give, or what is shown or told in its place, and
-//! the status with which the program ends.
+//! The end of a program: the value that the words give, or the text that is printed in its place,
+//! and the status with which the program ends.
 //!
 //! It stands on all crates below. For the programs above:
 //!

@@ -26,7 +26,7 @@ pub trait Program<T> {
     /// Status 0: the text that was asked for stands on `out`, and nothing new on `err`. Status 1:
     /// on `out` is nothing, or after a failed write a beginning of that text; on `err` stands
     /// `Error: `, the message and a line break, or a beginning of that where a write failed. Want
-    /// of memory is told as `Error: out of memory`. No write follows one that failed.
+    /// of memory prints `Error: out of memory`. No write follows one that failed.
     ///
     /// ```text
     /// let options = options.run(Args::from(words), out, err)?;

@@ -13,8 +13,8 @@ use std::{env, io};
 /// The words that the process is called with, without its own name; refused for want of memory, and
 /// where one is no text in UTF-8.
 ///
-/// Which words a process is called with is told by no contract of the standard library, so this one
-/// says of its refusals alone.
+/// No contract of the standard library says which words a process is called with, so this contract
+/// covers refusals alone.
 pub fn words(rt: &HostRuntime) -> Result<Vec<String>, ParseFailure>
     ensures { IfErr result IsUnread }
 {
@@ -33,7 +33,7 @@ fn behind_the_first(alloc: Global, mut all: env::Args) -> Result<Vec<String>, Al
     all.collect(alloc)
 }
 
-/// What is told of words that can't be had: want of memory where the error is one, else a message,
+/// The refusal where the words can't be had: want of memory where the error is one, else a message,
 /// or want of memory for it.
 fn unread(alloc: Global, kind: io::ErrorKind) -> ParseFailure
     ensures told { IsUnread result }

@@ -46,7 +46,7 @@ fn is_shown(piece: &Piece, full: bool) -> bool
     full || !piece.detail
 }
 
-/// Writes the line that tells a message, as [`write_text`].
+/// Writes the line of a message, as [`write_text`].
 pub(crate) fn write_message<E: Sink>(doc: &Doc, err: &mut E) -> io::Result<()>
     ensures whole { OnOk result
         (Writes (wrote E.known err.old err.new) (error_line (printed true doc.now))) }

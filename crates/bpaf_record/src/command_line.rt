@@ -91,8 +91,8 @@ pub trait CommandLine<T> {
             → answers self.now (given_of args.entry) r
             → answers_as_program self.now (given_of args.entry) r };
 
-    /// The same where these options are a program; None where they are none, as `is_program` tells.
-    /// A caller shows nothing of them, so a check costs less than one of `run_program` where they
+    /// The same where these options are a program, by `is_program`; None where they are none.
+    /// A caller proves nothing of them, so a check costs less than one of `run_program` where they
     /// have many fields.
     ///
     /// ```text

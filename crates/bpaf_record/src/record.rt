@@ -70,8 +70,8 @@ pub trait Record<T>: CommandLine<T> {
             → Self.answers self.now (given_of args.entry) r
             → answers_by_fields self.now (given_of args.entry) r };
 
-    /// The same where these options are a flat record; None where they are none, as `is_record`
-    /// tells. A caller shows nothing of them, as with [`CommandLine::program_value`].
+    /// The same where these options are a flat record, by `is_record`; None where they are none.
+    /// A caller proves nothing of them, as with [`CommandLine::program_value`].
     final fn record_value(&self, args: Args<'_>) -> Result<Option<T>, ParseFailure>
         requires { Self.can_run self.now }
         ensures { NoneUnless (is_flat self.now (given_of args.entry).env)

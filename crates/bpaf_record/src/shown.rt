@@ -57,7 +57,7 @@ impl<T, P: ProgramField<T>> ProgramField<T> for ParseGroupHelp<P> {
 
 impl<T, P: FlatField<T>> FlatField<T> for ParseGroupHelp<P> {}
 
-/// What isn't shown may stand in a program, with the values that it has, but in no flat record: its
+/// A hidden parser may stand in a program, with the values that it has, but in no flat record: its
 /// short names aren't known in joined words.
 impl<T, P: ProgramField<T>> ProgramField<T> for ParseHide<P> {
     ghost grammar = { λ p. dressed (P.grammar p.inner) };

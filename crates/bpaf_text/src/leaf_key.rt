@@ -83,7 +83,7 @@ impl LeafKey {
         self.named.envs()
     }
 
-    /// What is shown beside the key, where there is such; refused only for want of memory.
+    /// The help that is shown beside the key, where one is set; refused only for want of memory.
     fn shown(&self, alloc: Global) -> Result<Option<Doc>, AllocError>
         ensures { IfOk result (λ help. help ≡ self.now.help) }
     {

@@ -16,9 +16,11 @@
 //!   Contracts see it as the lists of its names in the order in which they were given, those in the
 //!   environment among them, and its help (specs/Named.antt), so each builder is one equation: it
 //!   appends one name, or sets the help, and keeps the rest.
-//! - [`ParseFlag`] and [`ParseArgument`] are what a key becomes: the key as it was, and what it
-//!   gives. Their fields are public, since the layers above look for the key on a line by them.
-//!   Contracts see an argument as one record (`KeyWithValue`, specs/Named.antt).
+//! - [`ParseFlag`] and [`ParseArgument`] are what a key becomes: its names, and what it gives.
+//!   They keep the key as a [`LeafKey`], whose help may be a text of the program; contracts see it
+//!   as the key with that help (`helped`, specs/Named.antt). Their fields are public, since the
+//!   layers above look for the key on a line by them. Contracts see an argument as one record
+//!   (`KeyWithValue`, specs/Named.antt).
 //! - `flag_item` and `argument_item` say what a key shows, as a part of specs/Shape.antt in
 //!   `bpaf_doc`: the first short and the first long name, all short names, and no item where the
 //!   key has no name.

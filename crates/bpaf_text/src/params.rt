@@ -38,7 +38,7 @@ impl<T: Drop> Drop for ParseFlag<T> {
 pub struct ParseArgument<T> {
     /// The names of the key.
     pub named: LeafKey,
-    /// What stands for the value where the key is shown.
+    /// The value's name on the help page and in usage.
     pub metavar: Metavar,
     /// Whether only a key with its value in its own word counts.
     pub adjacent: bool,

@@ -105,7 +105,7 @@ fn split_behind_dash<'a>(
     split_dashed(alloc, word, rest, items)
 }
 
-/// What stands behind the dash of a word, where it begins with one. Of any other word its first
+/// The part behind the dash of a word, where it begins with one. Of any other word its first
 /// byte alone is looked at.
 fn after_dash(word: &str) -> Option<&str>
     ensures { MatchOption result ((rest : List ℕ) → word.now ≢ codes "-" ++ rest)
@@ -117,7 +117,7 @@ fn after_dash(word: &str) -> Option<&str>
     }
 }
 
-/// Whether what stands behind the dash of a word is one or more ASCII digits, and nothing else.
+/// Whether the part behind the dash of a word is one or more ASCII digits, and nothing else.
 fn is_number(rest: &str) -> bool
     ensures { MatchBool result (IsNumber (codes "-" ++ rest.now))
         (¬ (IsNumber (codes "-" ++ rest.now))) }

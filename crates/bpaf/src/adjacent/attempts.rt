@@ -35,7 +35,7 @@ pub(super) fn count_present(state: &mut State, start: usize, end: usize) -> usiz
     count
 }
 
-/// What is known of an evaluation, where its answer isn't want of memory; else that.
+/// `known`, unless the evaluation wanted memory; then that error.
 fn spared<T: Drop>(answer: Result<T, Error>, known: bool) -> Result<bool, Error>
     ensures { MatchResult result (λ known'. (known' ≡ known) × IsNotMemory answer)
         (λ error. is_memory error.0 ≡ true) }

@@ -1,4 +1,4 @@
-//! The failure of a group that is told where none gives a value.
+//! The error of an adjacent group that gives no value.
 ghost use Rattle.std.specs.Prelude.{◌≡◌, true, false, None, Some, Ok, Err, OnOk, OnErr};
 ghost use Rattle.std.specs.Prelude.{MatchResult};
 ghost use Rattle.bpaf_doc.specs.Shape.{part_of};

@@ -19,13 +19,13 @@ use std::marker::PhantomData;
 /// What a check makes of an item (bpaf's `ParseAny`, in `params.rs`).
 #[derive(Drop)]
 pub struct ParseAny<I, T, F> {
-    /// What stands for the item where it is shown.
+    /// The item's name on the help page and in usage.
     pub metavar: Doc,
-    /// What is shown of it beside its metavar.
+    /// Its help, shown beside its metavar.
     pub help: Option<Doc>,
-    /// Some of a value, where the item is one that is wanted.
+    /// Gives `Some` value for an item that it accepts.
     pub check: F,
-    /// Whether later items are looked at, where the first one isn't wanted.
+    /// Whether it looks at later items, where it doesn't accept the first one.
     pub anywhere: bool,
     /// The type as which the item's text is read.
     pub from: PhantomData<I>,

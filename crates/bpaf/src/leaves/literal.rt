@@ -19,9 +19,9 @@ use std::alloc::{AllocError, Global};
 pub struct ParseLiteral {
     /// The text.
     pub text: Text,
-    /// What stands for the item where it is shown.
+    /// The item's name on the help page and in usage.
     pub metavar: Doc,
-    /// What is shown of it beside its metavar.
+    /// Its help, shown beside its metavar.
     pub help: Option<Doc>,
     /// Whether later items are looked at, where the first one has another text.
     pub anywhere: bool,

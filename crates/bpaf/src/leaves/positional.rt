@@ -26,7 +26,7 @@ pub enum Position {
 }
 
 impl Position {
-    /// Whether a word may stand there; `strict` tells that it stands on the right side of `--`.
+    /// Whether a word may stand there; `strict` is true for the right side of `--`.
     fn accepts(self, strict: bool) -> bool
         ensures { result ≡ accepts self strict }
     {
@@ -38,13 +38,13 @@ impl Position {
     }
 }
 
-/// What the first word that is no option means (bpaf's `ParsePositional`, in `params.rs`).
+/// A positional word: the first one that is no option (bpaf's `ParsePositional`, in `params.rs`).
 pub struct ParsePositional<T> {
-    /// What stands for the word where it is shown.
+    /// The word's name on the help page and in usage.
     pub metavar: Metavar,
     /// On which side of `--` it may stand.
     pub position: Position,
-    /// What is shown of it beside its metavar.
+    /// Its help, shown beside its metavar.
     pub help: Option<Help>,
     /// The type of the value.
     pub of: PhantomData<T>,

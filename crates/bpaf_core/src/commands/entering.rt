@@ -22,7 +22,7 @@ use std::alloc::{AllocError, Global};
 use std::marker::PhantomData;
 
 impl<T: Drop, P: Parser<T>> ParseCommand<T, P> {
-    /// What is shown of it beside its name; refused only for want of memory.
+    /// The help that is shown beside its name; refused only for want of memory.
     fn shown_help(&self) -> Result<Option<Doc>, AllocError>
         ensures { IfOk result (λ help. help ≡ shown_help self.now) }
     {
@@ -46,7 +46,7 @@ impl<T: Drop, P: Parser<T>> ParseCommand<T, P> {
         })
     }
 
-    /// That its word isn't there; also the refusal where memory for that is wanted.
+    /// The error of a missing word, or want of memory for it.
     fn missing(&self, state: &State) -> Error
         requires { P.can_eval self.now.inner }
         ensures { IsMissingPart (CommandPart self.now.names (shown_help self.now)
@@ -104,9 +104,10 @@ impl<T: Drop, P: Parser<T>> ParseCommand<T, P> {
 ///
 /// Where the first present item in scope isn't its word, its item is missing. A refusal of the
 /// inner run is ParseFailure, which nothing but `catch` catches, and has its name in that run: it
-/// is the message of the inner parser, told behind the word, or a page of that parser by its own
-/// texts (clause `named_inside`). Want of memory stays that. An adjacent command runs over the unbroken stretch of present items behind its word, or over a part
-/// of it, and leaves what follows to others.
+/// is the message of the inner parser behind the word, or a page of that parser with its own texts
+/// (clause `named_inside`). Want of memory stays that. An adjacent command runs over the unbroken
+/// stretch of present items behind its word, or over a part of it, and leaves what follows to
+/// others.
 impl<T: Drop, P: Parser<T>> Parser<T> for ParseCommand<T, P> {
     ghost can_eval = { λ p. P.can_eval p.inner };
 

@@ -16,22 +16,21 @@ use std::alloc::{AllocError, Global};
 use std::marker::PhantomData;
 
 impl<T: Drop, P: Parser<T>> OptionParser<T, P> {
-    /// The value that the words give (bpaf's `run_inner`).
+    /// Runs the parser over words (bpaf's `run_inner`).
     ///
     /// Ok(v) comes only where v is dealt out of the words: read off all items of their line but the
     /// first `--`, each used once. The parser is unchanged, and may run again.
     ///
     /// Each refusal has one of twelve names (specs/Refusals.antt): want of memory; a word of
-    /// letters with two readings; help or the version, which is shown; nothing there of what a
+    /// letters with two readings; help or the version, which is shown; no item of those that a
     /// parser looks for; a key without its value; a word on the wrong side of `--`; a text that
     /// means no value; a value that a check refused; no value of what looks at no item, or of a
     /// repeat that wants one; an item that another excludes; a key once more than it may stand; an
     /// item that no parser took. So has one that a run inside the parser ended with, on this line;
     /// of a command's the clause `named_inside` of its `eval` says in which run.
     ///
-    /// Want of memory of the parser is told as nothing else: where the answer isn't want of memory,
-    /// nor was that of the parser. That no parser of this library catches it inside is a clause of
-    /// its `eval`.
+    /// Where the parser wants memory, the answer is want of memory. No parser of this library
+    /// catches it inside, by a clause of its `eval`.
     ///
     /// ```text
     /// let options = construct!(verbose, num).to_options(alloc)?;
@@ -95,10 +94,10 @@ impl<T: Drop, P: Parser<T>> OptionParser<T, P> {
 }
 
 impl<T: Drop, P: Parser<T> + Drop> OptionParser<T, P> {
-    /// The value that the words give, and the end of the parser: [`OptionParser::run_inner`] for a
-    /// parser that runs once. bpaf has no such call.
+    /// Runs the parser over words and drops it: [`OptionParser::run_inner`] for a parser that runs
+    /// once. bpaf has no such call.
     ///
-    /// The parser is handed over, so a function may end in this call also where the parser borrows.
+    /// The options are handed over, so a function may end in this call also where they borrow.
     ///
     /// ```text
     /// construct!(Options { verbose, num }).to_options(alloc)?.run_once(Args::from(words))
