@@ -3,7 +3,8 @@
 don't see, says which of three kinds it is:
 
 code: PATH; ITEM; ITEM       a file, or items of one, as they stand there
-calls: PATH, PATH; NAME      each call stands by itself in these files, or in these functions of them
+calls: PATH, PATH; NAME      each call stands by itself in these files or folders, or in these functions; of a table, each
+                             call in code of its second column
 output: PATH                 the lines stand in this file, with which a run or a test compares what is printed
 output: rt, output: checker  what `rt` prints where nothing compares it; a message of the checker
 
@@ -16,7 +17,7 @@ import re
 import sys
 import textwrap
 
-PAGES = ["README.md", "CONTRIBUTING.md", "CHANGELOG.md", *sorted({*glob.glob("docs/*.md")} - {"docs/STATEMENT.md"})]
+PAGES = ["README.md", "CONTRIBUTING.md", "CHANGELOG.md", *sorted({*glob.glob("docs/*.md")} - {"docs/STATEMENT.md", "docs/TABLES.md"})]
 FENCE = re.compile(r"( *)```\w*$")
 MARK = re.compile(r" *<!-- (code|calls|output): (.+) -->$")
 LISTED = re.compile(r" *(?:[-*]|\d+\.) +")
@@ -74,9 +75,10 @@ def calls_of(text):
 
 def look_for_calls(paths, names, text):
     """Refuses a call that stands nowhere in these files, or functions of them."""
-    there = folded("\n".join([item_of(path, f"fn {name}") for path in paths for name in names] or map(text_of, paths)))
+    files = [it for path in paths for it in (sorted(glob.glob(f"{path}/*.rt")) or [path])]
+    there = folded("\n".join([item_of(path, f"fn {name}") for path in paths for name in names] or map(text_of, files)))
     for call in filter(None, calls_of(text)):
-        end = "" if call.endswith((";", "}")) else r"(?![\w.?])"
+        end = "" if call.endswith((";", "}")) else r"(?!(?!else\{)[\w.?])"
         if not re.search(rf"(?<![\w.]){re.escape(call)}{end}", there):
             raise Fault(f"the call `{call}` stands nowhere in {' '.join([*paths, *names])}")
 
@@ -105,6 +107,14 @@ def wanted(kind, said, text):
     return text
 
 
+def table_calls(lines, number):
+    """The calls of the second column of the table that begins at a line."""
+    while lines[number].startswith("|"):
+        cells = re.split(r"(?<!\\)\|", lines[number])
+        yield from (it.replace("\\|", "|") for it in re.findall(r"`(.+)`", cells[2]))
+        number += 1
+
+
 def faults_of(page, write):
     """What is wrong with the blocks of a page, whose code is copied anew where that is asked for."""
     lines, made, found, number, inside = text_of(page).split("\n"), [], [], 0, 0
@@ -127,6 +137,11 @@ def faults_of(page, write):
                 found.append(f"{at}: {it}")
             made += [*textwrap.indent(block, fence[1]).split("\n"), lines[end]]
             number = end
+        elif mark and mark[1] == "calls" and line.startswith("|"):
+            try:
+                wanted(*mark.groups(), "\n".join(table_calls(lines, number)))
+            except Fault as it:
+                found.append(f"{at}: {it}")
         elif mark:
             found.append(f"{at}: a mark without a block")
         elif re.match(" " * (inside + 4) + r"\S", line) and made[-2:-1] == [""]:

@@ -91,7 +91,7 @@ def definitions():
 
 def files():
     """The names of a page that no crate defines in the file behind them; in docs/LAYERS.md the crate of the row."""
-    for page in [*sorted({*glob.glob("docs/*.md")} - {"docs/STATEMENT.md"}), "README.md", "CONTRIBUTING.md"]:
+    for page in [*sorted({*glob.glob("docs/*.md")} - {"docs/STATEMENT.md", "docs/TABLES.md"}), "README.md", "CONTRIBUTING.md"]:
         row = ""
         for line in re.split(r"\n(?=\|)|\n\s*\n", text_of(page)):
             row = (re.match(r"\| (`\w+`)", line) or [row, row])[1] if page.endswith("LAYERS.md") else ""

@@ -1,6 +1,7 @@
 #!/usr/bin/env python3
-"""Makes docs/STATEMENT.md: the clauses of the two halves of what is proved, and each definition that they rest on, copied
-out of the specs. It stops at std and at what the kit's Prelude has.
+"""Makes docs/STATEMENT.md, the theorem, and docs/TABLES.md, the tables of runs and parsers: the clauses of what is proved
+of every line, and each definition that they rest on, copied out of the specs, top down. It stops at std and at what the
+kit's Prelude has.
 """
 import glob
 import itertools
@@ -12,86 +13,114 @@ sys.dont_write_bytecode = True
 from places import text_of
 from specs import LIBRARIES, RustType, all_cited, cited, of_path, uses_of
 
-PAGE = "docs/STATEMENT.md"
-HEAD = """# What is proved, whole
+THEOREM = """# What is proved
 
-Both halves of what is proved of every command line, as they stand in the contracts, and each definition that they rest on, down to std and
-to the kit's Prelude, whose names (as `List`, `map` and `Result`) aren't told here. All code is copied out of the crates by
-`tools/statement.py`, and `tools/check_docs.py` refuses a page that differs from them.
+The theorem on every command line, as it stands in the contracts, and each definition that it rests on, down to std and to the kit's Prelude.
+Names of the Prelude (as `List`, `map` and `Result`) aren't explained here. All code is copied out of the crates by `tools/statement.py`, and
+`tools/check_docs.py` refuses a page that differs from them. [TABLES](TABLES.md) adds what each parser may answer, message by message.
 
-A definition stands below those that it is made of, with its crate and its file, where none above has it. A type of Rust stands as it is
-declared, and its specs are made of that; one that has a model, as a `Doc` has the list of its pieces, is to all specs what its `view` gives.
-`x.now` is the value of `x` when a call is made, `x.entry` that of a parameter, and `P.reads` what the type `P` gives by its own impl.
+Read it from the top: each part has its clauses first, and below them each word that they use, before the words that it is made of. A type of
+Rust stands as it is declared, and its specs are made of that; one that has a model, as a `Doc` has the list of its pieces, is to all specs what its
+`view` gives. `x.now` is the value of `x` when a call is made, `x.entry` that of a parameter, and `P.reads` what the type `P` gives by its own impl.
+[EXACTNESS](EXACTNESS.md) says the same in words, with lines worked through.
 
-| Part | definitions | their lines of code | types of Rust | lines |
+"""
+REST = """# The tables
+
+What a run and each parser may answer, message by message: the rest of what the clauses of [STATEMENT](STATEMENT.md) speak of. Definitions that
+stand there aren't repeated. The code is copied out of the crates by `tools/statement.py`, top down.
+
+"""
+TABLE = """| Part | definitions | their lines of code | types of Rust | lines |
 |---|---|---|---|---|
 """
 KINDS_OF = ("Parser", "Fields", "ProgramField", "ProgramFields", "FromText", "FromList")
 FIRST = """ParseFlag FromText ParseArgument ParsePositional ParseMap ParseWith ParseGuard ParseOptional ParseFallback
-    ParseFallbackWith ParseMany ParseSome FromList ParseCollect ParseCount ParseLast ParseOrElse ParseChoice Last Both
+    ParseFallbackWith ParseMany ParseSome FromList ParseCollect ParseCount ParseLast ParseOrElse ParseChoice Last Both Four
     ParseCon ParseCommand""".split()
 MEANINGS = "can_eval shorts reads grammar agrees means fills"
 TABLES = "describes outcome fast_outcome"
-PARTS = (
-    (
-        "Each item of the line is used once",
-        """Where a run answers Ok(v), v is read off all places of the words' line but that of the first `--` (clause `dealt`), whatever the parser
-is. What each kind of parser proves for it, its law, is told in the last part.""",
-        """bpaf_core/src/options/running.rt; impl<T: Drop, P: Parser<T>> OptionParser; run_inner dealt
-        bpaf_core/src/options/running.rt; impl<T: Drop, P: Parser<T> + Drop> OptionParser; run_once dealt
-        bpaf_core/src/parser.rt; pub trait Parser; ; can_eval shorts reads
-        bpaf_keys/src/info.rt; impl Model for Info; ; Value view
-        bpaf_text/src/named.rt; impl Model for NamedArg; ; Value view
-        bpaf_doc/src/doc.rt; impl Model for Doc; ; Value view
-        bpaf_base/src/text.rt; impl Model for Text; ; Value view""",
-        "",
-        "",
-    ),
-    (
-        "A flat record and a program with commands are exact",
-        """Where the parser says that it is a flat record or a program, each answer is exact, for closures that keep to the premise `agrees`
-(clauses `exact` and `each_exact`, the same of both). Of what a parser is made (`grammar`), whether it is a flat record or a program by that, and
-which values it has then on what stands on the line (`program_form`, `is_record`, `is_program`, `program_value`), is told in the next part, and
-what `answers` allows in the last.""",
-        """bpaf_record/src/record.rt; pub trait Record; run_record exact each_exact; is_flat
-        bpaf_record/src/record.rt; impl<T: Drop, P: ProgramField<T> + FlatField<T>> Record; ; is_flat
-        bpaf_record/src/command_line.rt; pub trait CommandLine; run_program exact each_exact; \
-is_whole can_run agrees answers answers_as_program
-        bpaf_record/src/command_line.rt; impl<T: Drop, P: ProgramField<T>> CommandLine; ; \
-is_whole can_run agrees answers_as_program
-        bpaf_record/src/field.rt; pub trait ProgramField; ; grammar agrees""",
-        "",
-        "bpaf_record.specs.Grammar bpaf_exact.specs.ProgramForm",
-    ),
-    (
-        "Each kind of parser",
-        """What a program is by what its parsers are made of, and which values it has. And what the members are that the parts above take as given: which
-values each kind reads off which places, what it shows, and of what it is made. A kind without `grammar` stands in no program.""",
-        f"""bpaf/src/product.rt; pub trait Fields; ; {MEANINGS}
-        bpaf_record/src/field.rt; pub trait ProgramFields; ; {MEANINGS}
-        bpaf_text/src/from_text.rt; pub trait FromText; ; {MEANINGS}
-        bpaf_text/src/from_list.rt; pub trait FromList; ; {MEANINGS}
-        bpaf_text/src/params.rt; impl<T> Model for ParseArgument; ; Value view
-        bpaf_keys/src/names.rt; impl Model for CommandNames; ; Value view""",
-        MEANINGS,
-        "",
-    ),
-    (
-        "The tables: what a run and each kind of parser may answer",
-        """The rest of what `each_exact` and `lawful` speak of: every answer that a run may give, its pages and messages byte for byte, and every one
-that a parser may give inside it; that the places which an evaluation newly takes are a reading of the value that it answers (`lawful`); and
-that each refusal has one of twelve names (clause `named`), also one that a run inside the parser ended with, by that law. `dealt` and `exact`
-say what they do without these.""",
-        f"""bpaf_core/src/parser.rt; pub trait Parser; ; outcome lawful
-        bpaf_core/src/options/running.rt; impl<T: Drop, P: Parser<T>> OptionParser; run_inner named
-        bpaf_record/src/command_line.rt; impl<T: Drop, P: ProgramField<T>> CommandLine; ; answers
-        bpaf/src/product.rt; pub trait Fields; ; {TABLES}
-        bpaf_line/src/state.rt; impl Model for State; ; Value view
-        bpaf_line/src/missing.rt; impl Model for MissingItems; ; Value view""",
-        TABLES,
-        "",
-    ),
+DEALT = (
+    "No word is ignored or used twice",
+    """Where a run answers Ok(v), v is read off all places of the words' line but that of the first `--`, each used once (clause `dealt`). That
+holds of every parser; which values a kind reads off which places (`reads`) comes in the last two parts.""",
+    """bpaf_core/src/options/running.rt; impl<T: Drop, P: Parser<T>> OptionParser; run_inner dealt
+    bpaf_core/src/options/running.rt; impl<T: Drop, P: Parser<T> + Drop> OptionParser; run_once dealt
+    bpaf_core/src/parser.rt; pub trait Parser; ; can_eval shorts reads
+    bpaf_keys/src/info.rt; impl Model for Info; ; Value view
+    bpaf_text/src/named.rt; impl Model for NamedArg; ; Value view
+    bpaf_doc/src/doc.rt; impl Model for Doc; ; Value view
+    bpaf_base/src/text.rt; impl Model for Text; ; Value view""",
+    "",
+    "",
 )
+EXACT = (
+    "A flat record and a program with commands are exact",
+    """Where the options are a flat record or a program, each answer is exact, for closures that keep to the premise `agrees`: a value comes only
+where it is one of the program on the words' line, and where the program has a value there, the answer is one of these, or want of memory (clauses
+`exact` and `each_exact`). Of a flat record it is said field by field too (`by_fields`), and of both what each field says of the words (`fields`).
+
+What a parser is to a program is its form (`program_form`), made of its grammar; the form has the values on what is present (`program_value`). Whether
+options are a program or a flat record is a Bool, made of the form, the names and the texts: `is_program` of commands and of fields, `is_record` of
+fields alone.
+
+A form may be wide (`wide`): that of a field with a variable of the environment, an adjacent argument, a word with `strict` or `non_strict`, a kept
+value, and of a product with another look round it or inside another one. A program may hold wide forms, a flat record none: beside
+that there are no commands it is all that `is_record` asks.""",
+    """bpaf_record/src/command_line.rt; pub trait CommandLine; run_program exact each_exact fields; \
+is_whole can_run agrees answers tells answers_as_program
+    bpaf_record/src/command_line.rt; impl<T: Drop, P: ProgramField<T>> CommandLine; ; \
+is_whole can_run agrees tells answers_as_program
+    bpaf_record/src/record.rt; pub trait Record; run_record exact each_exact fields by_fields; is_flat answers_by_fields
+    bpaf_record/src/record.rt; impl<T: Drop, P: ProgramField<T> + FlatField<T>> Record; ; is_flat answers_by_fields
+    bpaf_record/src/field.rt; pub trait ProgramField; ; grammar agrees""",
+    "",
+    "",
+)
+FLAT_KINDS = (
+    "The kinds of parsers of a flat record",
+    """Of each kind that a flat record may have: which values it reads off which places (`reads`), of what it is made (`grammar`), and what its
+closures promise (`agrees`). The traits that they share come first.""",
+    f"""bpaf/src/product.rt; pub trait Fields; ; {MEANINGS}
+    bpaf_record/src/field.rt; pub trait ProgramFields; ; {MEANINGS}
+    bpaf_text/src/from_text.rt; pub trait FromText; ; {MEANINGS}
+    bpaf_text/src/from_list.rt; pub trait FromList; ; {MEANINGS}
+    bpaf_text/src/params.rt; impl<T> Model for ParseArgument; ; Value view""",
+    MEANINGS,
+    "flat",
+)
+OTHER_KINDS = (
+    "The other kinds of parsers",
+    """The same of commands and of all others. A kind without `grammar` stands in no program; it has readings, as all kinds have, so the first
+part holds of it.""",
+    "bpaf_keys/src/names.rt; impl Model for CommandNames; ; Value view",
+    MEANINGS,
+    "other",
+)
+ANSWERS = (
+    "What a run may answer",
+    """Every answer that a run may give, its pages and messages byte for byte (`answers`, of which `each_exact` speaks); and that each refusal has one
+of twelve names (clause `named`).""",
+    """bpaf_core/src/options/running.rt; impl<T: Drop, P: Parser<T>> OptionParser; run_inner named
+    bpaf_record/src/command_line.rt; impl<T: Drop, P: ProgramField<T>> CommandLine; ; answers
+    bpaf_core/src/parser.rt; pub trait Parser; ; outcome lawful
+    bpaf_line/src/state.rt; impl Model for State; ; Value view
+    bpaf_line/src/missing.rt; impl Model for MissingItems; ; Value view""",
+    "",
+    "",
+)
+OUTCOMES = (
+    "What each kind of parser may answer",
+    """Of each kind what one evaluation may answer, and which situation it leaves (`outcome`); and which shapes it may show (`describes`). Its law
+(`lawful`) ties the outcome to the readings: the newly taken places are a reading of the value.""",
+    f"bpaf/src/product.rt; pub trait Fields; ; {TABLES}",
+    TABLES,
+    "all",
+)
+PAGES = {
+    "docs/STATEMENT.md": (THEOREM, (DEALT, EXACT, FLAT_KINDS, OTHER_KINDS)),
+    "docs/TABLES.md": (REST, (ANSWERS, OUTCOMES)),
+}
 
 
 class Quote:
@@ -115,18 +144,31 @@ class Quote:
         return cited(re.sub("///.*", "", self.text), self.uses)
 
 
-def kinds(members):
-    """The impls of each kind of parser, of text and of collection, with these ghost members."""
+def of_flat_records():
+    """The types that a flat record may have."""
+    sources = "\n".join(map(text_of, glob.glob("crates/bpaf_record/src/*.rt")))
+    return {"FromText", "FromList", *re.findall(r"FlatFields?<(?:[^<>]|<[^<>]*>)*>\s+for (\w+)", sources)}
+
+
+def kinds(members, which):
+    """The impls of each kind of parser, of text and of collection, with these ghost members: of those of flat records, the others, or all."""
     sources = [it for crate in LIBRARIES for it in sorted(glob.glob(f"crates/{crate}/src/**/*.rt", recursive=True))]
     public = {*re.findall(r"(?m)^pub struct (\w+)", "\n".join(map(text_of, sources)))}
-    found = {}
+    found, flat = {}, of_flat_records()
     for path in sources:
         for head in re.findall(r"(?m)^impl\b[^{]*\{\n", text_of(path)):
             trait, of = (re.findall(r"(\w+)(?:<(?:[^<>]|<[^<>]*>)*>)?\s+for (\w+)", head) or [("", "")])[0]
-            if trait in KINDS_OF and (trait.startswith("From") or of in public):
+            kind = trait if trait.startswith("From") else of
+            if trait in KINDS_OF and (kind == trait or of in public) and which in ("all", "flat" if kind in flat else "other"):
                 quote = Quote(path.removeprefix("crates/"), head, "", members)
-                found.setdefault(trait if trait.startswith("From") else of, []).extend([quote] if quote.text else [])
+                found.setdefault(kind, []).extend([quote] if quote.text else [])
     return sorted(found.items(), key=lambda it: (FIRST.index(it[0]) if it[0] in FIRST else len(FIRST), it[0]))
+
+
+def from_the_top(found):
+    """Definitions, those that use others first: the highest crate first, and of a file the last one."""
+    place = {it: it.place[:3] + (0 if isinstance(it, RustType) else it.place[3],) for it in found}
+    return sorted(found, key=lambda it: (-place[it][0], -place[it][1], place[it][2], -place[it][3]))
 
 
 def shown(found):
@@ -141,45 +183,43 @@ def lines_of_code(definition):
     return 0 if isinstance(definition, RustType) else len(re.findall(r"(?m)^\s*(?!--)\S", definition.text))
 
 
-def part(told, members, left, known):
-    """The texts of a part and what it newly tells, by what is quoted; and what it leaves to the next part."""
-    later = {it for path in left.split() for it in of_path(path).names.values()}
-    known |= later
-    texts, counted, met = [], [], []
-    for kind, quotes, rest in [*told, *((kind, quotes, []) for kind, quotes in (kinds(members) if members else ()))]:
-        found = [*rest, *(it for quote in quotes for it in quote.cited())]
-        new = all_cited(found, known)
+def part(quoted, members, which, known):
+    """The texts of a part and what it newly tells, by what is quoted."""
+    own = [Quote(*line.strip().split("; ")) for line in quoted.split("\n")]
+    texts, counted = [], []
+    for kind, quotes in [("What the kinds share" if members else "", own), *(kinds(members, which) if members else ())]:
+        new = all_cited([it for quote in quotes for it in quote.cited()], known)
         texts += [f"### {kind}\n"] if kind and (quotes or new) else []
-        texts += [*shown(quotes), *shown(new)]
+        texts += [*shown(quotes), *shown(from_the_top(new))]
         counted += new
-        met += [*found, *(it for one in new for it in one.cited())]
-    known -= later
-    return texts, counted, [it for it in dict.fromkeys(met) if it in later]
+    return texts, counted
 
 
-def page():
-    """The page, whose table counts what stands below it."""
-    known, rows, below, handed = set(), [], [], []
-    for number, (title, said, quoted, members, left) in enumerate(PARTS, 1):
-        own = [Quote(*line.strip().split("; ")) for line in quoted.split("\n")]
-        told = [("What a program is, and which values it has", [], handed), ("What the kinds share", own, [])] if handed else [("", own, [])]
-        texts, counted, handed = part(told, members, left, known)
-        lines = sum(it.count("\n") - 4 for it in texts if "```" in it)
-        types = sum(isinstance(it, RustType) for it in counted)
-        heads, code = sum(len(it.heads) for it in counted), sum(map(lines_of_code, counted))
-        rows.append((f"{number}. {title}", heads, code, types, lines))
-        below += [f"## {number}. {title}\n", said + "\n", *texts]
-    rows.append(("all", *(sum(it) for it in [*zip(*rows)][1:])))
-    table = "".join("| " + " | ".join(f"{it:,}" if isinstance(it, int) else it for it in row) + " |\n" for row in rows)
-    return HEAD + table + "\n" + "\n".join(below)
+def pages():
+    """Each page, whose table counts what stands below it."""
+    known = set()
+    for path, (head, parts) in PAGES.items():
+        rows, below = [], []
+        for number, (title, said, quoted, members, which) in enumerate(parts, 1):
+            texts, counted = part(quoted, members, which, known)
+            lines = sum(it.count("\n") - 4 for it in texts if "```" in it)
+            types = sum(isinstance(it, RustType) for it in counted)
+            heads, code = sum(len(it.heads) for it in counted), sum(map(lines_of_code, counted))
+            rows.append((f"{number}. {title}", heads, code, types, lines))
+            below += [f"## {number}. {title}\n", said + "\n", *texts]
+        rows.append(("all", *(sum(it) for it in [*zip(*rows)][1:])))
+        table = "".join("| " + " | ".join(f"{it:,}" if isinstance(it, int) else it for it in row) + " |\n" for row in rows)
+        yield path, head + TABLE + table + "\n" + "\n".join(below)
 
 
 def faults():
-    """Whether the page differs from what stands in the code."""
-    if not os.path.isfile(PAGE) or text_of(PAGE) != page():
-        yield f"{PAGE}: it differs from what stands in the code; tools/statement.py writes it"
+    """Which page differs from what stands in the code."""
+    for path, page in pages():
+        if not os.path.isfile(path) or text_of(path) != page:
+            yield f"{path}: it differs from what stands in the code; tools/statement.py writes it"
 
 
 if __name__ == "__main__":
-    with open(PAGE, "w", encoding="utf-8") as it:
-        it.write(page())
+    for path, page in pages():
+        with open(path, "w", encoding="utf-8") as it:
+            it.write(page)

@@ -1,21 +1,21 @@
 -- What a run of the program answers: the steps that its words have, a line for each, and what it
 -- shows where it is asked for help.
 use Rattle.std.specs.Prelude.{◌≡◌, ℕ, ℤ, Bool, List, [], ◌∷◌, Some, codes, ◌++◌, if◌then◌else◌}
-use Rattle.std.specs.{Fmt.decimal, Fmt.signed_decimal, Prelude.false, Global.Vec}
+use Rattle.std.specs.{Fmt.decimal, Fmt.signed_decimal, Global.Vec}
 use mir.Syntax.{w64}
 use Rattle.bpaf_doc.specs.Print.{text_pieces, printed}
-use Rattle.bpaf_doc.specs.{declared.doc.Piece.Piece, Names.Names, Shape.Shape}
-use Rattle.bpaf_text.specs.{Meaning.SpellsSigned, Meaning.SpellsUnsigned, Named.key_named}
+use Rattle.bpaf_doc.specs.{declared.doc.Piece.Piece, Names.Names}
+use Rattle.bpaf_doc.specs.Shape.{And, Shape, members}
+use Rattle.bpaf_text.specs.Meaning.{SpellsSigned, SpellsUnsigned}
 use Rattle.bpaf_words.specs.{Line.Known, Line.knowing, Arguments.Given}
 use Rattle.bpaf_laws.specs.Combinators.{ListReads, MapReads, ManyDescribes}
 use Rattle.bpaf_laws.specs.Command.{CommandReads, CommandDescribes, named_only}
-use Rattle.bpaf_laws.specs.Product.{BothReads, BothDescribes, LastDescribes, ProductDescribes}
-use Rattle.bpaf_laws.specs.{Choice.ChoiceReads, Choice.ChoiceDescribes, Reading.Readings}
-use Rattle.bpaf_laws.specs.{Reading.Outcome, Adjacent.StretchReads, Leaves.flag_shape}
-use Rattle.bpaf.specs.Asked.{BehindWord, IsAskedAt, ShowsNothing, WordsShow}
+use Rattle.bpaf_laws.specs.{Choice.ChoiceReads, Choice.ChoiceDescribes, Product.BothReads}
+use Rattle.bpaf_laws.specs.{Reading.Readings, Adjacent.StretchReads}
+use Rattle.bpaf.specs.Asked.{BehindWord, IsAskedAt, WordsShow}
 use Rattle.bpaf.specs.declared.leaves.positional.Position.TheVariants.{Unrestricted}
 use Rattle.bpaf.specs.{Positional.PositionalReads, Positional.positional_shape, Run.IsDealtOut}
-use Rattle.bpaf_program.specs.{Fields.NamedSwitchReads, Ending.line}
+use Rattle.bpaf_program.specs.{Fields.NamedSwitchReads, Fields.switch_shape, Ending.line}
 use Rattle.example_chain.specs.declared.steps.Step.{Step}
 use Rattle.example_chain.specs.declared.steps.Step.TheVariants.{Move, Turn, Repeat}
 use Rattle.bpaf_line.specs.Situation.{Situation}
@@ -65,25 +65,20 @@ RepeatReads = PartsRead {V = ℕ} NumberReads (λ n. Repeat n)
 abbrev pub ChainedReads : List ℕ → Readings Step → Readings Step
 ChainedReads word inner = StretchReads Step (CommandReads Step (word ∷ []) inner)
 
--- one of the three commands, by what is read behind their names
-abbrev pub StepReads : (move turn repeat : Readings Step) → Readings Step
-StepReads move turn repeat =
-    ChoiceReads (ChoiceReads (ChainedReads (codes "move") move)
-    (ChainedReads (codes "turn") turn)) (ChainedReads (codes "repeat") repeat)
+-- one of the three commands
+abbrev pub StepReads : Readings Step
+StepReads =
+    ChoiceReads (ChoiceReads (ChainedReads (codes "move") MoveReads)
+    (ChainedReads (codes "turn") TurnReads)) (ChainedReads (codes "repeat") RepeatReads)
 
 -- some steps, each of which is one of three kinds
-abbrev pub StepsRead : (move turn repeat : Readings Step) → Readings (Vec Step)
-StepsRead move turn repeat = MapReads (List Step) (Vec Step)
-    (ListReads (StepReads move turn repeat)) (λ values v. v.items ≡ values)
+abbrev pub StepsRead : Readings (Vec Step)
+StepsRead =
+    MapReads (List Step) (Vec Step) (ListReads StepReads) (λ values v. v.items ≡ values)
 
 -- all places of the words' line but the first `--` are dealt out to the steps, each used once
-abbrev pub AreDealt : (move turn repeat : Readings Step) → List (List ℕ) → Vec Step → Type 0
-AreDealt move turn repeat words =
-    IsDealtOut (Vec Step) (StepsRead move turn repeat) program_known (program_given words)
-
--- so are the steps of the program, each made of its own parts
 abbrev pub AreDealtSteps : List (List ℕ) → Vec Step → Type 0
-AreDealtSteps = AreDealt MoveReads TurnReads RepeatReads
+AreDealtSteps words = IsDealtOut (Vec Step) StepsRead program_known (program_given words)
 
 -- the line of a turn
 abbrev pub turn_line : Bool → ℕ → List ℕ
@@ -103,68 +98,55 @@ step_lines (step ∷ steps) = step_line step ++ step_lines steps
 
 -- What the program shows where it is asked for help.
 
--- what shapes may be shown
-abbrev pub ShownShapes : Type 1
-ShownShapes = Shape → Type 0
-
 -- a word by this name, with this help
-abbrev pub IsWordShape : List ℕ → List ℕ → ShownShapes
-IsWordShape name text shape = shape ≡ positional_shape Unrestricted name (Some (text_pieces text))
-
--- the switch `--left`
-abbrev pub IsLeftShape : ShownShapes
-IsLeftShape shape = shape ≡ flag_shape (key_named left_names) (Some false)
+abbrev pub word_shape : List ℕ → List ℕ → Shape
+word_shape name text = positional_shape Unrestricted name (Some (text_pieces text))
 
 -- `DX DY`
-abbrev pub IsMoveShape : ShownShapes
-IsMoveShape =
-    ProductDescribes (BothDescribes (IsWordShape (codes "DX") (codes "How far to the right"))
-    (LastDescribes (IsWordShape (codes "DY") (codes "How far up"))))
+abbrev pub move_shape : Shape
+move_shape =
+    And (members (word_shape (codes "DX") (codes "How far to the right")
+    ∷ word_shape (codes "DY") (codes "How far up") ∷ []))
 
 -- `[--left] DEGREES`
-abbrev pub IsTurnShape : ShownShapes
-IsTurnShape =
-    ProductDescribes (BothDescribes IsLeftShape
-    (LastDescribes (IsWordShape (codes "DEGREES") (codes "How far to turn"))))
+abbrev pub turn_shape : Shape
+turn_shape =
+    And (members (switch_shape left_names (codes "To the left")
+    ∷ word_shape (codes "DEGREES") (codes "How far to turn") ∷ []))
 
 -- `N`
-abbrev pub IsRepeatShape : ShownShapes
-IsRepeatShape = ProductDescribes (LastDescribes (IsWordShape (codes "N") (codes "How many times")))
-
--- a parser shows nothing by itself, and these shapes alone
-pub record ShowsAs (shapes describes : ShownShapes) (outcome : Outcome Step) : Type 0 where
-  pub nothing : ShowsNothing outcome
-  pub shapes_are : (shape : Shape) → describes shape → shapes shape
+abbrev pub repeat_shape : Shape
+repeat_shape = And (members (word_shape (codes "N") (codes "How many times") ∷ []))
 
 -- a command by its name, the text that describes it, and what is shown behind its name
-pub record Titled : Type 1 where
+pub record Titled : Type 0 where
   pub name : List ℕ
   pub text : List ℕ
-  pub shapes : ShownShapes
+  pub shape : Shape
 
 -- the commands of the program
 abbrev pub move_title : Titled
-move_title = record { name = codes "move"; text = codes "Moves by so far"; shapes = IsMoveShape }
+move_title = record { name = codes "move"; text = codes "Moves by so far"; shape = move_shape }
 
 abbrev pub turn_title : Titled
-turn_title =
-    record { name = codes "turn"; text = codes "Turns where it stands"; shapes = IsTurnShape }
+turn_title = record { name = codes "turn"; text = codes "Turns where it stands"; shape = turn_shape }
 
 abbrev pub repeat_title : Titled
 repeat_title =
-    record { name = codes "repeat"; text = codes "Repeats all before it"; shapes = IsRepeatShape }
+    record { name = codes "repeat"; text = codes "Repeats all before it"; shape = repeat_shape }
 
 -- what a run knows beside its parser is this text alone, which describes it
 abbrev pub described : List ℕ → RunInfo
 described text = record plain_info { descr = Some (text_pieces text) }
 
 -- what a command shows: its name, the first line of its text, and what is shown behind its name
-abbrev pub IsCommandShape : Titled → ShownShapes
+abbrev pub IsCommandShape : Titled → Shape → Type 0
 IsCommandShape title =
-    CommandDescribes (named_only title.name) (short_descr (described title.text)) title.shapes
+    CommandDescribes (named_only title.name) (short_descr (described title.text))
+    (λ shape. shape ≡ title.shape)
 
 -- what the program shows: any number of its commands
-abbrev pub IsProgramShape : ShownShapes
+abbrev pub IsProgramShape : Shape → Type 0
 IsProgramShape =
     ManyDescribes (ChoiceDescribes (ChoiceDescribes (IsCommandShape move_title)
     (IsCommandShape turn_title)) (IsCommandShape repeat_title))
@@ -172,7 +154,8 @@ IsProgramShape =
 -- the help page of a command, which was asked for behind its name
 abbrev pub IsCommandPage : Titled → Situation → List Piece → Bool → Type 0
 IsCommandPage title =
-    BehindWord (named_only title.name) (IsAskedAt title.shapes (described title.text))
+    BehindWord (named_only title.name)
+    (IsAskedAt (λ shape. shape ≡ title.shape) (described title.text))
 
 -- a help page that was asked for: that of the program, or of one of its commands
 pub data IsAskedPage (s : Situation) (doc : List Piece) (full : Bool) : Type 0 where

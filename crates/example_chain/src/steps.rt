@@ -1,10 +1,9 @@
 //! The steps of a chain, as adjacent commands.
 ghost use Rattle.std.specs.Prelude.{◌≡◌, ◌≤◌, length, IfOk, None, map, string_bytes, true};
 ghost use Rattle.std.specs.Result.{IfErr};
-ghost use Rattle.bpaf_laws.specs.{Command.named_only, Laws.joined_shorts, Laws.no_shorts};
+ghost use Rattle.bpaf_laws.specs.Command.{named_only};
 ghost use Rattle.bpaf.specs.Asked.{IfShown};
-ghost use Rattle.example_chain.specs.Running.{AreDealt, AreDealtSteps, described, IsHelpAsked};
-ghost use Rattle.example_chain.specs.Running.{IsMoveShape, IsRepeatShape, IsTurnShape, ShowsAs};
+ghost use Rattle.example_chain.specs.Running.{AreDealtSteps, described, IsHelpAsked};
 
 use bpaf::parsers::ParseCommand;
 use bpaf::{Args, ParseFailure, Parser, construct, long_key, positional};
@@ -27,48 +26,19 @@ pub fn read_steps(alloc: Global, words: &[String]) -> Result<Vec<Step>, ParseFai
     ensures dealt { IfOk result (λ steps. AreDealtSteps (map string_bytes words.now) steps) }
     ensures asked { IfErr result (IfShown (IsHelpAsked (map string_bytes words.now))) }
 {
-    let left = long_key(alloc, "left").switch();
-    let degrees = positional::<u64>("DEGREES").help("How far to turn");
-    let turn = construct!(Step::Turn { left, degrees });
     let dx = positional::<i64>("DX").help("How far to the right");
     let dy = positional::<i64>("DY").help("How far up");
     let go = construct!(Step::Move { dx, dy });
+    let go = chained(alloc, "move", "Moves by so far", go)?;
+    let left = long_key(alloc, "left").switch().help("To the left");
+    let degrees = positional::<u64>("DEGREES").help("How far to turn");
+    let turn = construct!(Step::Turn { left, degrees });
+    let turn = chained(alloc, "turn", "Turns where it stands", turn)?;
     let times = positional::<u64>("N").help("How many times");
     let repeat = construct!(Step::Repeat { times });
-    read_chain(alloc, go, turn, repeat, words)
-}
-
-/// The steps that the words ask for by three commands; refused where they ask for none, or for want
-/// of memory. What a refusal shows is a help page that the words ask for.
-fn read_chain<M, T, R>(
-    alloc: Global,
-    go: M,
-    turn: T,
-    repeat: R,
-    words: &[String],
-) -> Result<Vec<Step>, ParseFailure>
-where
-    M: Parser<Step> + Drop,
-    T: Parser<Step> + Drop,
-    R: Parser<Step> + Drop,
-    requires go { M.can_eval go }
-    requires turn { T.can_eval turn }
-    requires repeat { R.can_eval repeat }
-    requires go_shows { ShowsAs IsMoveShape (M.describes go) (M.outcome go) }
-    requires turn_shows { ShowsAs IsTurnShape (T.describes turn) (T.outcome turn) }
-    requires repeat_shows { ShowsAs IsRepeatShape (R.describes repeat) (R.outcome repeat) }
-    requires no_names { joined_shorts (joined_shorts (M.shorts go) (T.shorts turn)) (R.shorts repeat) ≡ no_shorts }
-    ensures dealt { IfOk result (λ steps. AreDealt (M.reads go) (T.reads turn) (R.reads repeat)
-        (map string_bytes words.now) steps) }
-    ensures asked { IfErr result (IfShown (IsHelpAsked (map string_bytes words.now))) }
-{
-    let go = chained(alloc, "move", "Moves by so far", go)?;
-    let turn = chained(alloc, "turn", "Turns where it stands", turn)?;
     let repeat = chained(alloc, "repeat", "Repeats all before it", repeat)?;
-    construct!([go, turn, repeat])
-        .many()
-        .into_options(alloc)
-        .run_once(Args::from(words).set_name("chain"))
+    let steps = construct!([go, turn, repeat]).many().into_options(alloc);
+    steps.run_once(Args::from(words).set_name("chain"))
 }
 
 /// The adjacent command of this name and description over a parser; refused only for want of

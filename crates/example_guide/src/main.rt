@@ -1,6 +1,6 @@
-//! The code of docs/USERS.md: its parsers, a parser, a value and a collection of a caller's own;
-//! and its programs, a backup, a remover, a `head`, an archiver, a dimmer, a program with commands
-//! and a row of a test. `main` runs them.
+//! The programs of docs/GUIDE.md and docs/FACTS.md: a parser, a value and a collection of a caller's
+//! own, a backup, a remover, a `head`, an archiver, a dimmer, programs with commands and a row of a
+//! test. `main` runs them.
 //!
 //! It stands on `bpaf`, `bpaf_record` and `bpaf_program`, and its definitions also cite those of
 //! the crates below. It has no contract for a layer above: it is the top.

@@ -7,7 +7,7 @@ use bpaf_record::CommandLine;
 use std::alloc::Global;
 use std::process::ExitCode;
 
-/// What the program is asked for.
+/// The options.
 #[derive(Drop)]
 struct Options {
     verbose: bool,
@@ -15,7 +15,7 @@ struct Options {
     files: Vec<String>,
 }
 
-/// The options that the words give; else what is shown or told in their place.
+/// Reads the options off the words; refused with a text that was asked for, or a message.
 fn read_options(alloc: Global, words: &[String]) -> Result<Options, ParseFailure> {
     let verbose = key(alloc, 'v', "verbose").switch().help("Tell more");
     let num = key(alloc, 'n', "num")
@@ -31,7 +31,7 @@ fn read_options(alloc: Global, words: &[String]) -> Result<Options, ParseFailure
     options.run_program(Args::from(words).set_name("hello"))
 }
 
-/// The line that the program prints.
+/// The line that the program prints; refused as [`read_options`].
 fn text_of(alloc: Global, words: &[String]) -> Result<String, ParseFailure> {
     let it = read_options(alloc, words)?;
     Ok(format!(in alloc; "{}, {}, {} files\n", it.verbose, it.num, it.files.len())?)

@@ -1,5 +1,5 @@
-//! The code of docs/USERS.md that is no program by itself: each call of its lists, files and
-//! standard input, a message of the program's own, and usual shapes of command lines. `main` tells
+//! The code of docs/GUIDE.md that is no program by itself: each call of its lists, files and
+//! standard input, a message of the program's own, and usual shapes of command lines. `main` prints
 //! what each reads off words of its own.
 //!
 //! It stands on `bpaf`, `bpaf_batteries` and `bpaf_program`. It has no contract for a layer above:
@@ -12,6 +12,7 @@ mod first;
 mod items;
 mod joined;
 mod limits;
+mod often;
 mod points;
 mod ranges;
 mod repeats;
@@ -32,6 +33,7 @@ fn main(rt: HostRuntime) -> io::Result<()> {
     tell_ranges(&rt)?;
     tell_shown(&rt)?;
     tell_shapes(&rt)?;
+    tell_often(&rt)?;
     tell_batteries(&rt)?;
     show_files(&rt, &["-n1", "two.txt", "one.txt"])?;
     show_files(&rt, &["-n", "2"])
@@ -179,6 +181,18 @@ fn tell_shapes(rt: &HostRuntime) -> io::Result<()> {
         "points",
         points::read_points(alloc, &["--point", "1", "-v", "2"]),
     )
+}
+
+/// Tells what programs often read.
+fn tell_often(rt: &HostRuntime) -> io::Result<()> {
+    let alloc = rt.alloc();
+    tell(rt, "aliased", often::aliased(alloc, &["--colour=red"]))?;
+    let words = ["-Da=1", "-D", "b=2"];
+    tell(rt, "settings", often::settings(alloc, &words))?;
+    tell(rt, "settings", often::settings(alloc, &["-D", "a"]))?;
+    tell(rt, "defaulted", often::defaulted(alloc, &[]))?;
+    tell(rt, "helped", often::helped(alloc, &[]))?;
+    tell(rt, "passed", often::passed(alloc, &["--", "-x", "y"]))
 }
 
 /// Tells what batteries read.
