@@ -194,6 +194,24 @@ asks_for_page {T} known own {outcome} {describes} {info = info} {r = r} runs is 
     asks (Err failure.Memory) runs = tt
     asks (Ok v) runs = tt
 
+-- a refusal is so, and where there is a premise it shows so
+pub refused_so : {T : Type 0} (P Q : ParseFailure → Type 0) {plain : Type 0}
+    (r : Result T ParseFailure) → IfErr r P → (plain → IfErr r Q)
+    → IfErr r (λ f. P f × (plain → Q f))
+refused_so P Q (Ok v) so shows = tt
+refused_so P Q (Err f) so shows = (so, shows)
+
+-- what such a refusal of a program without texts of its own shows is a page that its words ask for
+pub page_asked : {T : Type 0} (P : ParseFailure → Type 0) (known : Grammar T) (own : Given)
+    {info : RunInfo} {given : Given} (r : Result T ParseFailure)
+    → IfErr r (λ f. P f × (info.help_if_no_args ≡ false
+    → IfShown (IsPageOf known (λ other. other ≡ info) given) f))
+    → info ≡ plain_info → given ≡ own
+    → IfErr r (IfShown (IsPageOf known (λ other. other ≡ plain_info) own))
+page_asked P known own (Ok v) named info_is given_is = tt
+page_asked P known own (Err f) named info_is given_is =
+    rw (info_is, given_is) at (named.1 (ap (λ info. info.help_if_no_args) info_is))
+
 -- The fields of a program are known where what they are made of is.
 
 -- a switch, with some help or none

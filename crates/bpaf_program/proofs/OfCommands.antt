@@ -8,6 +8,7 @@ pub use Rattle.bpaf_program.proofs.KnownParser.{argument_known, default_known, m
 pub use Rattle.bpaf_program.proofs.KnownParser.{optional_known, switch_known, word_known}
 pub use Rattle.bpaf_program.proofs.KnownParser.{both_known, choice_known, command_known, con_known}
 pub use Rattle.bpaf_program.proofs.KnownParser.{asks_for_page, exact_for, last_known, map_known}
+pub use Rattle.bpaf_program.proofs.KnownParser.{page_asked}
 pub use Rattle.bpaf_program.proofs.Running.{are_texts, given_text, prints_text, refused_page}
 pub use Rattle.bpaf_program.proofs.Running.{runs_to}
 pub use Rattle.bpaf_program.proofs.LookAlike.{default_seen, field_seen, many_seen, number_seen}

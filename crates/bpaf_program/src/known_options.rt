@@ -1,12 +1,12 @@
 //! A run of options whose parser is made in functions of the program's own.
-ghost use Rattle.std.specs.Prelude.{◌≡◌, true};
+ghost use Rattle.std.specs.Prelude.{◌≡◌, false, true};
 ghost use Rattle.bpaf_exact.specs.{Flat.Variables, ProgramForm.is_program};
 ghost use Rattle.bpaf_record.specs.Grammar.{Grammar, program_form};
 ghost use Rattle.bpaf_record.specs.Record.{AnswersAsProgram, TellsOfWords};
-ghost use Rattle.bpaf.specs.Refusals.{IsOneOfTwelve};
+ghost use Rattle.bpaf.specs.{Asked.IfShown, Refusals.IsOneOfTwelve};
 ghost use Rattle.bpaf.specs.Run.{IsDealtOut, known_names, RunsWords};
 ghost use Rattle.bpaf_laws.specs.Laws.{WithoutMemory};
-ghost use Rattle.bpaf_program.specs.KnownParser.{IsKnownParser, shown_shorts};
+ghost use Rattle.bpaf_program.specs.KnownParser.{IsKnownParser, IsPageOf, shown_shorts};
 
 use bpaf::{Args, OptionParser, ParseFailure, Parser};
 use bpaf_record::CommandLine;
@@ -28,8 +28,10 @@ pub trait KnownProgram<T> {
 /// tells of itself, and what was made before may be any parser to the function that it is handed
 /// to.
 ///
-/// `is_program` is true, since the grammar is proved to be a program ([`KnownProgram`]); and the
-/// clause `fields` says of its fields what the grammar tells.
+/// `is_program` is true, since the grammar is proved to be a program ([`KnownProgram`]); the clause
+/// `fields` says of its fields what the grammar tells; and by the clause `named` a page that is
+/// shown is one that the words ask for, the program's own or a command's, where no help is shown
+/// for an empty line.
 ///
 /// ```text
 /// let notes = KnownOptions { options: notes.to_options(alloc)?, program: NotesProgram {} };
@@ -59,9 +61,11 @@ impl<T: Drop, P: Parser<T>, K: KnownProgram<T>> CommandLine<T> for KnownOptions<
         (P.describes p.options.inner) p.options.info
         (known_names p.options.info (P.shorts p.options.inner)) given };
 
-    ghost refuses = { λ p given. IsOneOfTwelve (P.outcome p.options.inner)
+    ghost refuses = { λ p given f. IsOneOfTwelve (P.outcome p.options.inner)
         (P.describes p.options.inner) p.options.info
-        (known_names p.options.info (P.shorts p.options.inner)) given };
+        (known_names p.options.info (P.shorts p.options.inner)) given f
+        × (p.options.info.help_if_no_args ≡ false
+        → IfShown (IsPageOf K.grammar (λ info. info ≡ p.options.info) given) f) };
 
     ghost deals = { λ p given. IsDealtOut T (P.reads p.options.inner)
         (known_names p.options.info (P.shorts p.options.inner)) given };

@@ -1,6 +1,5 @@
 //! The options of the program.
 ghost use Rattle.std.specs.Prelude.{map, string_bytes};
-ghost use Rattle.bpaf_program.specs.KnownParser.{IsKnownParser};
 ghost use Rattle.example_notes.specs.Notes.{AnswersNotes, notes_parser};
 
 use bpaf::{Args, ParseFailure, Parser, construct, key, positional};
@@ -70,19 +69,7 @@ pub fn read_notes(alloc: Global, words: &[String]) -> Result<Notes, ParseFailure
     let task = construct!([add, others]);
     let verbose = key(alloc, 'v', "verbose").switch();
     let dir = key(alloc, 'd', "dir").argument::<String>("DIR").optional();
-    run_notes(alloc, words, construct!(Notes { verbose, dir, task }))
-}
-
-/// The same by a parser that is made as the program says.
-fn run_notes<P: Parser<Notes> + Drop>(
-    alloc: Global,
-    words: &[String],
-    notes: P,
-) -> Result<Notes, ParseFailure>
-    requires can { P.can_eval notes }
-    requires known { IsKnownParser notes_parser (P.outcome notes) (P.shorts notes) }
-    ensures { AnswersNotes (map string_bytes words.now) result }
-{
+    let notes = construct!(Notes { verbose, dir, task });
     let notes = KnownOptions {
         options: notes.into_options(alloc),
         program: NotesProgram {},

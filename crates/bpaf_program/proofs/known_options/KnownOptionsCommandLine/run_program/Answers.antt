@@ -1,7 +1,9 @@
+use Rattle.std.proofs.Common.{◌≡◌, refl}
 use Rattle.bpaf_words.specs.Arguments.{given_of}
 use Rattle.bpaf.specs.Run.{known_names}
 use Rattle.bpaf_record.proofs.Running.{answers_as_program, tells_of_words}
 use Rattle.bpaf_program.specs.KnownParser.{shown_shorts}
+use Rattle.bpaf_program.proofs.KnownParser.{asks_for_page, refused_so}
 use Rattle.bpaf_program.proofs.known_options.KnownOptionsCommandLine.run_program.Goals as goal
 
 pub returns-clause-each_exact : goal.returns-clause-each_exact
@@ -21,3 +23,10 @@ pub returns-clause-fields : goal.returns-clause-fields
 returns-clause-fields g c agrees =
     tells_of_words (known_names c.args.self.now.options.info (shown_shorts g.K.KnownProgram.grammar))
     g.K.KnownProgram.grammar (given_of c.args.args) _ (returns-clause-exact g c agrees)
+
+pub returns-clause-named : goal.returns-clause-named
+returns-clause-named g c =
+    let info = c.args.self.now.options.info in
+    refused_so _ _ _ c.run_inner.ensures.named (λ plain. asks_for_page g.K.KnownProgram.grammar
+    (given_of c.args.args) c.run_inner.ensures.outcome c.requires.can.1 (λ other. other ≡ info) refl
+    plain refl)
