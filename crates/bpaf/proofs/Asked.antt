@@ -17,8 +17,8 @@ use Rattle.bpaf_laws.proofs.Keeping.{keeps_same, keeps_trans}
 use Rattle.bpaf_core.specs.Ending.{EndsRun, Tells, leftover, passed_on, refused, shown, told, usage}
 use Rattle.bpaf_core.specs.{Ending.Shows, Ending.shows_help_page, Ending.leftover_is_told, Run.Runs}
 use Rattle.bpaf_core.specs.{Run.RunsWords, ExtraParams.ExtraParams, Rendering.Renders, Info.RunInfo}
-use Rattle.bpaf.specs.Asked.{CameTo, HandsOn, IfShown, IsAskedAt, RunShows, Showing, ShowsNothing}
-use Rattle.bpaf.specs.Asked.{WasAsked, WordsShow, inner_answer}
+use Rattle.bpaf.specs.Asked.{CameTo, HandsOn, IfShown, IsAskedAt, RunShows, Showing}
+use Rattle.bpaf.specs.Asked.{WordsShow, inner_answer}
 use Rattle.bpaf.specs.{declared.leaves.positional.Position.Position, Positional.PositionalOutcome}
 use Rattle.bpaf_line.specs.declared.error.Message.TheVariants as message
 use Rattle.bpaf_line.specs.declared.failure.ParseFailure.TheVariants as failure
@@ -254,17 +254,3 @@ pub words_also : {known : Known} {given : Given} {showing wider : Showing}
     → WordsShow known given showing doc full → WordsShow known given wider doc full
 words_also more was =
     record { context = was.context; on_line = was.on_line; run = came_also more was.run }
-
--- what a run shows of a parser that shows nothing by itself is help that its words ask for
-pub answer_asked : {describes others : Shape → Type 0} {info : RunInfo} {known : Known}
-    {given : Given} {T : Type 0} {inner : Outcome T} {reads : Readings T} → Lawful T inner reads
-    → ShowsNothing inner → info.help_if_no_args ≡ false
-    → ((shape : Shape) → describes shape → others shape) → (r : Result T ParseFailure)
-    → RunsWords T inner describes info known given r
-    → IfErr r (IfShown (WasAsked others info known given))
-answer_asked law nothing plain also (Err (failure.Stdout doc full)) runs =
-    words_also (λ s d u. ⊎_elim (asked_at_also also s d u) (λ none. absurd none))
-    (answer_shows law nothing plain (Err (failure.Stdout doc full)) runs)
-answer_asked law nothing plain also (Ok v) runs = tt
-answer_asked law nothing plain also (Err (failure.Stderr doc)) runs = tt
-answer_asked law nothing plain also (Err failure.Memory) runs = tt

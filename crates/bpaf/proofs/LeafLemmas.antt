@@ -4,12 +4,11 @@ use Rattle.std.proofs.Common.{◌≡◌, ℕ, Bool, true, false, List, Result, O
 use Rattle.std.proofs.Common.{Option, true≢false, ◌∙◌, ap, inl, [], ◌∷◌, ◌++◌, append_assoc, None}
 use Rattle.std.proofs.lemmas.List.Elements.{All-push}
 use Rattle.bpaf_line.specs.declared.error.Message.TheVariants.{Memory, ParseFailed, Missing}
-use Rattle.bpaf_line.specs.Situation.{Situation, Context}
+use Rattle.bpaf_line.specs.Situation.{Situation}
 use Rattle.bpaf_line.specs.{declared.error.Message.Message, declared.error.Error.Error}
 use Rattle.bpaf_line.specs.{Taking.TakesText, Taking.open_items, Messages.is_memory}
-use Rattle.bpaf_laws.specs.Reading.{ReadsValue, FaultsText, Share}
-use Rattle.bpaf_laws.specs.Leaves.{AnyFails, AnyOutcome, ArePassed, Looks, looked_at, IsKeyBefore}
-use Rattle.bpaf_laws.specs.Leaves.{IsOwnText, ArgumentReads, FlagReads, at_key, nowhere}
+use Rattle.bpaf_laws.specs.Reading.{ReadsValue, FaultsText}
+use Rattle.bpaf_laws.specs.Leaves.{AnyFails, AnyOutcome, ArePassed, Looks, looked_at}
 use Rattle.bpaf_laws.specs.Combinators.{GivesAnswer, GivesRefusal}
 use Rattle.bpaf.specs.Positional.{PositionalOutcome, PositionalFails, accepts, misplaced}
 use Rattle.bpaf.specs.Positional.{FaultsWordAlone, PassesAll, TellsAnswer, TellsWhole}
@@ -17,7 +16,7 @@ use Rattle.bpaf.specs.{declared.leaves.positional.Position.Position}
 use Rattle.std.specs.Result.{IfErr}
 use Rattle.bpaf_doc.specs.{Shape.Part, declared.doc.Piece.Piece}
 use Rattle.bpaf_base.specs.{declared.arg.Arg.Arg, Items.item_text}
-use Rattle.bpaf_text.specs.Named.{Named, KeyWithValue, with_help}
+use Rattle.bpaf_text.specs.Named.{KeyWithValue, with_help}
 
 module _ {T : Type 0} (means : List ℕ → T → Type 0) (position : Position) (metavar : List ℕ)
     {s t : Situation} {place : ℕ} {strict : Bool} {text : List ℕ}
@@ -110,42 +109,6 @@ module _ {T : Type 0} (looks : Looks T) (s : Situation) (anywhere : Bool) where
     alone = λ first. absurd (true≢false (sym all ∙ first));
   }
 
--- what a flag with a help reads it reads without
-pub flag_without_help : {T : Type 0} {clones : T → T → Type 0} (named : Named) (help : List Piece)
-    {present : T} {absent : Option T} {context : Context} {share : Share} {v : T}
-    → FlagReads T clones (with_help named help) present absent context share v
-    → FlagReads T clones named present absent context share v
-flag_without_help named help (at_key key has alone is) = at_key key has alone is
-flag_without_help named help (nowhere none is) = nowhere none is
-
 -- the key with this help
 abbrev pub key_with_help : KeyWithValue → List Piece → KeyWithValue
 key_with_help key help = record key { named = with_help key.named help }
-
--- so it is of an argument
-pub argument_without_help : {T : Type 0} (means : List ℕ → T → Type 0) (key : KeyWithValue)
-    (help : List Piece) (context : Context) {share : Share} {v : T}
-    → ArgumentReads T means (key_with_help key help) context share v
-    → ArgumentReads T means key context share v
-argument_without_help means key help context {share} (inl read) =
-    inl (read.0, own key.last read.0 read.1, read.2)
-  where
-    -- a key with a text behind it is one without the help
-    before : {place : ℕ} {text : List ℕ} → IsKeyBefore (key_with_help key help) context place text
-        → IsKeyBefore key context place text
-    before is = record { is_key = is.is_key; behind_it = is.behind_it }
-
-    -- its text is that of the key with a help
-    own : (last : Bool) (text : List ℕ) → IsOwnText last (key_with_help key help) context share text
-        → IsOwnText last key context share text
-    own false text is = (is.0, before is.1, is.2)
-    own true text is = record {
-      keys = is.keys;
-      are_keys = λ p one. let that = is.are_keys p one in (that.0, before that.1);
-      places = is.places;
-      greatest = is.greatest;
-      is_key = is.is_key;
-      no_greater = is.no_greater;
-      before = before is.before;
-    }
-argument_without_help means key help context (inr read) = inr read

@@ -52,11 +52,6 @@ pub record WordsShow (known : Known) (given : Given) (showing : Showing) (doc : 
   pub on_line : IsContext known given context
   pub run : CameTo showing (beginning context) doc full
 
--- a run over words was asked itself for what it shows
-abbrev pub WasAsked : (Shape → Type 0) → RunInfo → Known → Given → List Piece → Bool → Type 0
-WasAsked describes info known given doc full =
-    WordsShow known given (IsAskedAt describes info) doc full
-
 -- what a run answers that has no value is this, if it shows something
 abbrev pub IfShown : (List Piece → Bool → Type 0) → ParseFailure → Type 0
 IfShown shown (failure.Stdout doc full) = shown doc full
@@ -74,7 +69,3 @@ pub record HandsOn {T : Type 0} (showing : Showing) (inner : Outcome T) : Type 0
 -- nothing may be shown
 abbrev pub nothing_shown : Showing
 nothing_shown s doc full = ⊥
-
--- a parser shows nothing by itself
-abbrev pub ShowsNothing : {T : Type 0} → Outcome T → Type 0
-ShowsNothing inner = HandsOn nothing_shown inner

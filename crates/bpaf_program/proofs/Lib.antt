@@ -1,4 +1,4 @@
-pub mod Known
+pub mod WordsBefore
 pub mod Running
 pub mod LookAlike
 pub mod KnownParser

@@ -1,15 +1,13 @@
 -- All that a field is which a function of a program makes: without a help, or with one of some
 -- text.
 use Rattle.std.specs.Prelude.{◌≡◌, Bool, true, false, ℕ, List, Option, Some, None}
-use Rattle.bpaf_doc.specs.{Print.text_pieces, Names.Names, Shape.Shape}
+use Rattle.bpaf_doc.specs.{Print.text_pieces, Names.Names}
 use Rattle.bpaf_text.specs.declared.params.ParseFlag.{ParseFlag}
 use Rattle.bpaf_text.specs.Named.{KeyWithValue, key_named, with_help}
-use Rattle.bpaf_laws.specs.Leaves.{FlagReads, flag_shape}
-use Rattle.bpaf_laws.specs.{Command.named_only, Reading.Readings}
+use Rattle.bpaf_laws.specs.{Command.named_only}
 use Rattle.bpaf_core.specs.declared.commands.ParseCommand.{ParseCommand}
 use Rattle.bpaf.specs.declared.leaves.positional.ParsePositional.{ParsePositional}
 use Rattle.bpaf.specs.{Info.plain_info, declared.leaves.positional.Position.Position}
-use Rattle.bpaf_program.specs.KnownParser.{IsKept}
 use Rattle.bpaf.proofs.LeafLemmas.{key_with_help}
 
 -- a flag with these names, its present value and perhaps an absent one, and no help
@@ -26,10 +24,6 @@ abbrev pub plain_argument : Names → List ℕ → KeyWithValue
 plain_argument names metavar =
     record { named = key_named names; metavar = metavar; adjacent = false; last = false }
 
--- what a switch with these names reads
-abbrev pub NamedSwitchReads : Names → Readings Bool
-NamedSwitchReads names = FlagReads Bool IsKept (key_named names) true (Some false)
-
 -- a switch with these names, and a help of this text
 abbrev pub helped_switch : Names → List ℕ → ParseFlag Bool
 helped_switch names text = record {
@@ -37,10 +31,6 @@ helped_switch names text = record {
   present = true;
   absent = Some false;
 }
-
--- what it shows
-abbrev pub switch_shape : Names → List ℕ → Shape
-switch_shape names text = flag_shape (with_help (key_named names) (text_pieces text)) (Some false)
 
 -- an argument of this key, with a help of this text
 abbrev pub helped_argument : KeyWithValue → List ℕ → KeyWithValue

@@ -1,7 +1,7 @@
 //! A run of options whose parser is made in functions of the program's own.
 ghost use Rattle.std.specs.Prelude.{◌≡◌, false, true};
 ghost use Rattle.bpaf_exact.specs.{Flat.Variables, ProgramForm.is_program};
-ghost use Rattle.bpaf_record.specs.Grammar.{Grammar, program_form};
+ghost use Rattle.bpaf_record.specs.Grammar.{Grammar, program_form, reads_of};
 ghost use Rattle.bpaf_record.specs.Record.{AnswersAsProgram, TellsOfWords};
 ghost use Rattle.bpaf.specs.{Asked.IfShown, Refusals.IsOneOfTwelve};
 ghost use Rattle.bpaf.specs.Run.{IsDealtOut, known_names, RunsWords};
@@ -28,10 +28,10 @@ pub trait KnownProgram<T> {
 /// tells of itself, and what was made before may be any parser to the function that it is handed
 /// to.
 ///
-/// `is_program` is true, since the grammar is proved to be a program ([`KnownProgram`]); the clause
-/// `fields` says of its fields what the grammar tells; and by the clause `named` a page that is
-/// shown is one that the words ask for, the program's own or a command's, where no help is shown
-/// for an empty line.
+/// `is_program` is true, since the grammar is proved to be a program ([`KnownProgram`]). All that a
+/// run says is said of the grammar: what its fields say (clause `fields`), that a value is dealt
+/// out of the words (`dealt`), and that a page that is shown is one that the words ask for, the
+/// program's own or a command's, where no help is shown for an empty line (`named`).
 ///
 /// ```text
 /// let notes = KnownOptions { options: notes.to_options(alloc)?, program: NotesProgram {} };
@@ -53,7 +53,8 @@ impl<T: Drop, P: Parser<T>, K: KnownProgram<T>> CommandLine<T> for KnownOptions<
     }
 
     ghost can_run = { λ p. P.can_eval p.options.inner
-        × IsKnownParser K.grammar (P.outcome p.options.inner) (P.shorts p.options.inner) };
+        × IsKnownParser K.grammar (P.outcome p.options.inner) (P.reads p.options.inner)
+        (P.describes p.options.inner) (P.shorts p.options.inner) };
 
     ghost agrees = { λ p. Unit {0} };
 
@@ -67,8 +68,10 @@ impl<T: Drop, P: Parser<T>, K: KnownProgram<T>> CommandLine<T> for KnownOptions<
         × (p.options.info.help_if_no_args ≡ false
         → IfShown (IsPageOf K.grammar (λ info. info ≡ p.options.info) given) f) };
 
-    ghost deals = { λ p given. IsDealtOut T (P.reads p.options.inner)
-        (known_names p.options.info (P.shorts p.options.inner)) given };
+    ghost deals = { λ p given v. IsDealtOut T (P.reads p.options.inner)
+        (known_names p.options.info (P.shorts p.options.inner)) given v
+        × IsDealtOut T (reads_of K.grammar)
+        (known_names p.options.info (shown_shorts K.grammar)) given v };
 
     ghost tells = { λ p given.
         TellsOfWords (known_names p.options.info (shown_shorts K.grammar)) K.grammar given };

@@ -39,22 +39,22 @@ grammar_owns (argument means key) variables =
     key_owns (key.adjacent || not (is_nil key.named.envs))
     (is_nil key.named.envs && not key.last) _ _ _
     (test_owns WithNext (λ k e. (and_parts (is_key_of key.named.names k) _ e).0))
-grammar_owns (word means position) variables = record { by = none_owned [] }
+grammar_owns (word means position metavar help) variables = record { by = none_owned [] }
 grammar_owns (kept given) variables = record { by = none_owned [] }
 grammar_owns other variables = record { by = tt }
 grammar_owns (closed f g) variables = closed_owns f _ (grammar_owns g variables)
-grammar_owns (dressed g) variables = dressed_owns _ (grammar_owns g variables)
+grammar_owns (dressed look g) variables = dressed_owns _ (grammar_owns g variables)
 grammar_owns (optional catch g) variables =
     if_owns (not catch) (optional_owns _ (grammar_owns g variables))
-grammar_owns (fallback {T = T} f g) variables =
+grammar_owns (fallback {T = T} shown f g) variables =
     default_owns _ (grammar_owns g variables) (λ group gap. FallbackValue T group gap f)
-grammar_owns (repeat {A = A} catch f g) variables =
+grammar_owns (repeat {A = A} catch needed f g) variables =
     if_owns (not catch) (closed_owns f _ (repeat_owns _ (grammar_owns g variables) (OwnList A)))
 grammar_owns (last {T = T} g) variables = repeat_owns _ (grammar_owns g variables) (LastOf T)
 grammar_owns (choice g h) variables = choice_owns (command_words g) (command_words h) _ _
     (grammar_owns g variables) (grammar_owns h variables)
 grammar_owns (only g) variables = only_owns _ (grammar_owns g variables)
-grammar_owns (command {T = T} adjacent called info g) variables = if_owns
+grammar_owns (command {T = T} adjacent called info help g) variables = if_owns
     (((not adjacent && are_unusual (keys_of g false) info) && are_plain (opening_words called))
     && is_program (program_form g variables))
     {s = commands false (CommandValue T (opening_words called)
@@ -72,21 +72,21 @@ mutual
   grammar_says (flag clones key present absent) variables =
       flag_says clones present key absent variables
   grammar_says (argument means key) variables = argument_says means key variables
-  grammar_says (word means position) variables = word_by_says (accepts position) means
+  grammar_says (word means position metavar help) variables = word_by_says (accepts position) means
   grammar_says (kept given) variables = pure_says given
   grammar_says other variables = record { by = tt }
   grammar_says (closed f g) variables = program_closed_says f (grammar_says g variables)
-  grammar_says (dressed g) variables = program_dressed_says (grammar_says g variables)
+  grammar_says (dressed look g) variables = program_dressed_says (grammar_says g variables)
   grammar_says (optional catch g) variables =
       program_optional_says (grammar_says g variables) catch
-  grammar_says (fallback f g) variables = program_fallback_says (grammar_says g variables) f
-  grammar_says (repeat catch f g) variables =
+  grammar_says (fallback shown f g) variables = program_fallback_says (grammar_says g variables) f
+  grammar_says (repeat catch needed f g) variables =
       program_repeat_says (grammar_says g variables) catch f
   grammar_says (last g) variables = program_last_says (grammar_says g variables)
   grammar_says (choice g h) variables = program_choice_says (keys_of g true) (keys_of h true)
       (command_words g) (command_words h) (grammar_says g variables) (grammar_says h variables)
   grammar_says (only g) variables = only_says (grammar_says g variables)
-  grammar_says (command adjacent called info g) variables = program_command_says adjacent
+  grammar_says (command adjacent called info help g) variables = program_command_says adjacent
       (are_unusual (keys_of g false) info) called (grammar_owns g variables)
       (grammar_says g variables)
   grammar_says (product f g) variables = program_con_says f (fields_say g variables)

@@ -50,20 +50,20 @@ one_piece : {T : Type 0} (g : Grammar T) (variables : Variables) → takes_one g
     → (os : List LinePiece) (v : T) → says g variables os v → length os ≤ 1
 one_piece (flag clones key present absent) variables one os v x = grind arith
 one_piece (argument means key) variables one os v x = grind (arith, not-true)
-one_piece (word means position) variables one os v x = grind arith
+one_piece (word means position metavar help) variables one os v x = grind arith
 one_piece (kept given) variables one os v x = absurd cc
 one_piece other variables one os v x = absurd cc
 one_piece (closed f g) variables one os v x = one_piece g variables one os x.from x.told
-one_piece (dressed g) variables one os v x = one_piece g variables one os v x
+one_piece (dressed look g) variables one os v x = one_piece g variables one os v x
 one_piece (optional catch g) variables one os v x = grind (arith, one_piece g variables one os)
-one_piece (fallback f g) variables one os v x = grind (arith, one_piece g variables one os)
-one_piece (repeat catch f g) variables one os v x = absurd cc
+one_piece (fallback shown f g) variables one os v x = grind (arith, one_piece g variables one os)
+one_piece (repeat catch needed f g) variables one os v x = absurd cc
 one_piece (last g) variables one os v x = absurd cc
 one_piece (choice g h) variables one os v x =
     let each = and_parts (takes_one g) (takes_one h) one in
     grind (arith, one_piece g variables each.0 os, one_piece h variables each.1 os)
 one_piece (only g) variables one os v x = one_piece g variables one os v x
-one_piece (command adjacent called info g) variables one os v x = absurd cc
+one_piece (command adjacent called info help g) variables one os v x = absurd cc
 one_piece (made f g) variables one os v x = absurd cc
 
 -- a test passes only what begins with a key with one of these names
@@ -94,7 +94,7 @@ of_others own behind test is = record {
 -- of pieces with no more keys there is no more than one either
 one_of_fewer : {fields : Bool} {T : Type 0} (g : GrammarOf fields T) (os more : List LinePiece)
     → KeepsNoMore (keys_of g true) os more → HasOneOfEach g more → HasOneOfEach g os
-one_of_fewer (dressed g) os more fewer has = one_of_fewer g os more fewer has
+one_of_fewer (dressed look g) os more fewer has = one_of_fewer g os more fewer has
 one_of_fewer (alone g) os more fewer has = one_of_fewer g os more fewer has
 one_of_fewer (both g h) os more fewer has = (
   one_of_fewer g os more
@@ -130,14 +130,14 @@ product_takes _ = refl
 -- what takes words has no keys
 no_keys_of_words : {T : Type 0} (g : Grammar T) (variables : Variables)
     → takes_words (said_kind g variables) ≡ true → keys_of g true ≡ []
-no_keys_of_words (word means position) variables is = refl
+no_keys_of_words (word means position metavar help) variables is = refl
 no_keys_of_words (kept given) variables is = refl
 no_keys_of_words other variables is = refl
 no_keys_of_words (closed f g) variables is = no_keys_of_words g variables is
-no_keys_of_words (dressed g) variables is = no_keys_of_words g variables is
+no_keys_of_words (dressed look g) variables is = no_keys_of_words g variables is
 no_keys_of_words (optional catch g) variables is = no_keys_of_words g variables is
-no_keys_of_words (fallback f g) variables is = no_keys_of_words g variables is
-no_keys_of_words (repeat catch f g) variables is =
+no_keys_of_words (fallback shown f g) variables is = no_keys_of_words g variables is
+no_keys_of_words (repeat catch needed f g) variables is =
     no_keys_of_words g variables (sym (repeated_takes (said_kind g variables)) ∙ is)
 no_keys_of_words (last g) variables is =
     no_keys_of_words g variables (sym (repeated_takes (said_kind g variables)) ∙ is)
@@ -175,7 +175,7 @@ mutual
   -- the pieces of a parser have one of each at most
   parser_once : {T : Type 0} (g : Grammar T) (variables : Variables) (os : List LinePiece) (v : T)
       → says g variables os v → HasOneOfEach g os
-  parser_once (dressed g) variables os v x = parser_once g variables os v x
+  parser_once (dressed look g) variables os v x = parser_once g variables os v x
   parser_once (made f g) variables os v x =
       fields_once g variables os (unkeyed (keys_of g true) os) x.from x.fields
   parser_once g variables os v x = λ one.
@@ -381,22 +381,22 @@ grammar_limit (flag clones key present absent) variables =
 grammar_limit (argument means key) variables =
     key_limit _ (key.adjacent || not (is_nil key.named.envs))
     (is_nil key.named.envs && not key.last) _ _ _ _
-grammar_limit (word means position) variables = record { by = omega arith }
+grammar_limit (word means position metavar help) variables = record { by = omega arith }
 grammar_limit (kept given) variables = record { by = tt }
 grammar_limit other variables = record { by = tt }
 grammar_limit (closed f g) variables = closed_limit _ (grammar_limit g variables) f
-grammar_limit (dressed g) variables = dressed_limit _ (grammar_limit g variables)
+grammar_limit (dressed look g) variables = dressed_limit _ (grammar_limit g variables)
 grammar_limit (optional catch g) variables =
     if_limit (not catch) (optional_limit _ (grammar_limit g variables))
-grammar_limit (fallback {T = T} f g) variables =
+grammar_limit (fallback {T = T} shown f g) variables =
     default_limit _ (grammar_limit g variables) (λ group gap. FallbackValue T group gap f)
-grammar_limit (repeat {A = A} catch f g) variables =
+grammar_limit (repeat {A = A} catch needed f g) variables =
     if_limit (not catch) (closed_limit _ (repeat_limit _ (grammar_limit g variables) (OwnList A)) f)
 grammar_limit (last {T = T} g) variables = repeat_limit _ (grammar_limit g variables) (LastOf T)
 grammar_limit (choice g h) variables = choice_limit _ (keys_of g true) (keys_of h true)
     (command_words g) (command_words h) (program_form g variables) (program_form h variables)
 grammar_limit (only g) variables = only_limit _ (program_form g variables)
-grammar_limit (command {T = T} adjacent called info g) variables = if_limit
+grammar_limit (command {T = T} adjacent called info help g) variables = if_limit
     (((not adjacent && are_unusual (keys_of g false) info) && are_plain (opening_words called))
     && is_program (program_form g variables))
     {s = commands false (CommandValue T (opening_words called)

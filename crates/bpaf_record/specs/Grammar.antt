@@ -1,11 +1,19 @@
 -- The grammar of programs: of which parsers they are made, and by which steps.
 use Rattle.std.specs.Prelude.{if◌then◌else◌, Option, length, false, Bool, true, List, ◌++◌, None, ℕ}
 use Rattle.std.specs.Prelude.{Some, zero, ◌&&◌, ◌||◌, not, ◌∷◌, ◌+◌, ◌≡◌, ◌≤◌, []}
-use Rattle.bpaf_doc.specs.Names.{Names}
+use Rattle.bpaf_doc.specs.{declared.doc.Piece.Piece, Names.Names}
+use Rattle.bpaf_doc.specs.Shape.{Shape, Skip}
 use Rattle.bpaf_text.specs.Named.{Named as Key, KeyWithValue}
 use Rattle.bpaf_laws.specs.Choice.{ChoicesOutcome, ChoiceOutcome, Nested}
 use Rattle.bpaf_laws.specs.{Command.opening_words, Reading.Outcome, Command.Called}
-use Rattle.bpaf_laws.specs.Reading.{first_set}
+use Rattle.bpaf_laws.specs.{Reading.first_set, Reading.Readings, Choice.ChoiceReads}
+use Rattle.bpaf_laws.specs.Combinators.{DefaultDescribes, ListReads, ManyDescribes, MapReads}
+use Rattle.bpaf_laws.specs.Combinators.{OptionalDescribes, OptionalReads, PureReads, SomeDescribes}
+use Rattle.bpaf_laws.specs.Leaves.{ArgumentReads, FlagReads, argument_shape, flag_shape}
+use Rattle.bpaf_laws.specs.Product.{BothDescribes, BothReads, LastDescribes, ProductDescribes}
+use Rattle.bpaf_laws.specs.{Choice.ChoiceDescribes, Command.CommandDescribes}
+use Rattle.bpaf.specs.Command.{EitherCommandReads}
+use Rattle.bpaf.specs.Positional.{PositionalReads, positional_shape}
 use Rattle.bpaf.specs.{declared.leaves.positional.Position.Position, Positional.accepts}
 use Rattle.bpaf.specs.Info.{RunInfo}
 use Rattle.bpaf_exact.proofs.ProgramForm.{program_choice_law, choice_only_law}
@@ -32,23 +40,27 @@ pub data GrammarOf : (fields : Bool) → Type 0 → Type 1 where
   flag : {T : Type 0} → (clones : T → T → Type 0) → Key → (present : T) → (absent : Option T)
       → GrammarOf false T
   argument : {T : Type 0} → (means : List ℕ → T → Type 0) → KeyWithValue → GrammarOf false T
-  word : {T : Type 0} → (means : List ℕ → T → Type 0) → Position → GrammarOf false T
+  word : {T : Type 0} → (means : List ℕ → T → Type 0) → Position → (metavar : List ℕ)
+      → (help : Option (List Piece)) → GrammarOf false T
   kept : {T : Type 0} → (given : T → Type 0) → GrammarOf false T
   -- a parser of a caller's own, which is nothing to a program
   other : {T : Type 0} → GrammarOf false T
   closed : {A B : Type 0} → Closure A B → GrammarOf false A → GrammarOf false B
-  -- what has another look, or isn't shown
-  dressed : {T : Type 0} → GrammarOf false T → GrammarOf false T
+  -- what has another look, by what is shown inside
+  dressed : {T : Type 0} → (look : (Shape → Type 0) → Shape → Type 0) → GrammarOf false T
+      → GrammarOf false T
   optional : {T : Type 0} → (catch : Bool) → GrammarOf false T → GrammarOf false (Option T)
-  fallback : {T : Type 0} → Closure (Unit {0}) T → GrammarOf false T → GrammarOf false T
-  repeat : {A B : Type 0} → (catch : Bool) → Closure (List A) B → GrammarOf false A
+  fallback : {T : Type 0} → (shown : Option (List Piece)) → Closure (Unit {0}) T
+      → GrammarOf false T → GrammarOf false T
+  -- by whether it is shown as what must stand there
+  repeat : {A B : Type 0} → (catch needed : Bool) → Closure (List A) B → GrammarOf false A
       → GrammarOf false B
   last : {T : Type 0} → GrammarOf false T → GrammarOf false T
   choice : {T : Type 0} → GrammarOf false T → GrammarOf false T → GrammarOf false T
   -- a choice of any number
   only : {T : Type 0} → GrammarOf false T → GrammarOf false T
-  command : {T : Type 0} → (adjacent : Bool) → Called → RunInfo → GrammarOf false T
-      → GrammarOf false T
+  command : {T : Type 0} → (adjacent : Bool) → Called → RunInfo → (help : Option (List Piece))
+      → GrammarOf false T → GrammarOf false T
   -- the fields of a product, of which the last stands alone, and what makes a value of theirs
   alone : {T : Type 0} → GrammarOf false T → GrammarOf true T
   both : {A B : Type 0} → GrammarOf false A → GrammarOf true B → GrammarOf true (A × B)
@@ -77,14 +89,14 @@ abbrev pub keys_of : {fields : Bool} {T : Type 0} → GrammarOf fields T → Boo
 keys_of (flag clones key present absent) deep = key.names ∷ []
 keys_of (argument means key) deep = key.named.names ∷ []
 keys_of (closed f g) deep = keys_of g deep
-keys_of (dressed g) deep = keys_of g deep
+keys_of (dressed look g) deep = keys_of g deep
 keys_of (optional catch g) deep = keys_of g deep
-keys_of (fallback f g) deep = keys_of g deep
-keys_of (repeat catch f g) deep = keys_of g deep
+keys_of (fallback shown f g) deep = keys_of g deep
+keys_of (repeat catch needed f g) deep = keys_of g deep
 keys_of (last g) deep = keys_of g deep
 keys_of (choice g h) deep = keys_of g deep ++ keys_of h deep
 keys_of (only g) deep = keys_of g deep
-keys_of (command adjacent called info g) deep = if deep then keys_of g deep else []
+keys_of (command adjacent called info help g) deep = if deep then keys_of g deep else []
 keys_of (alone g) deep = keys_of g deep
 keys_of (both g h) deep = keys_of g deep ++ keys_of h deep
 keys_of (product f g) deep = keys_of g deep
@@ -93,10 +105,10 @@ keys_of _ deep = []
 -- the words of its commands, where it is a command or a choice of such
 abbrev pub command_words : {fields : Bool} {T : Type 0} → GrammarOf fields T → List (List ℕ)
 command_words (closed f g) = command_words g
-command_words (dressed g) = command_words g
+command_words (dressed look g) = command_words g
 command_words (choice g h) = command_words g ++ command_words h
 command_words (only g) = command_words g
-command_words (command adjacent called info g) = opening_words called
+command_words (command adjacent called info help g) = opening_words called
 command_words _ = []
 
 -- what it is to a program where the environment has these variables
@@ -105,36 +117,90 @@ abbrev pub program_form : {fields : Bool} {T : Type 0} → GrammarOf fields T �
 program_form (flag clones key present absent) variables =
     flag_field clones key present absent variables
 program_form (argument means key) variables = argument_field means key variables
-program_form (word means position) variables = word_by (accepts position) means
+program_form (word means position metavar help) variables = word_by (accepts position) means
 program_form (kept given) variables = pure_field given
 program_form other variables = no_program
 program_form (closed f g) variables = program_closed f (program_form g variables)
-program_form (dressed g) variables = program_dressed (program_form g variables)
+program_form (dressed look g) variables = program_dressed (program_form g variables)
 program_form (optional catch g) variables =
     program_if (not catch) (program_optional (program_form g variables))
-program_form (fallback {T = T} f g) variables =
+program_form (fallback {T = T} shown f g) variables =
     completed (λ k. k) (λ group gap. FallbackValue T group gap f) (program_form g variables)
-program_form (repeat {A = A} catch f g) variables = program_if (not catch)
+program_form (repeat {A = A} catch needed f g) variables = program_if (not catch)
     (program_closed f (completed repeated (OwnList A) (program_form g variables)))
 program_form (last {T = T} g) variables = completed repeated (LastOf T) (program_form g variables)
 program_form (choice g h) variables = program_choice (keys_of g true) (keys_of h true)
     (command_words g) (command_words h) (program_form g variables) (program_form h variables)
 program_form (only g) variables = choice_only (program_form g variables)
-program_form (command adjacent called info g) variables =
+program_form (command adjacent called info help g) variables =
     program_command adjacent (are_unusual (keys_of g false) info) called (program_form g variables)
 program_form (alone g) variables = program_alone (program_field (program_form g variables))
 program_form (both g h) variables = program_both (keys_of g true) (keys_of h true)
     (program_field (program_form g variables)) (program_form h variables)
 program_form (product f g) variables = program_con f (program_form g variables)
 
+-- which values it reads off which places; of a parser of a caller's own nothing is said
+abbrev pub reads_of : {fields : Bool} {T : Type 0} → GrammarOf fields T → Readings T
+reads_of (flag {T = T} clones key present absent) = FlagReads T clones key present absent
+reads_of (argument {T = T} means key) = ArgumentReads T means key
+reads_of (word {T = T} means position metavar help) = PositionalReads T means position
+reads_of (kept given) = PureReads given
+reads_of (closed {A = A} {B = B} f g) = MapReads A B (reads_of g) f.yes
+reads_of (dressed look g) = reads_of g
+reads_of (optional catch g) = OptionalReads (reads_of g)
+reads_of (fallback shown f g) = ChoiceReads (reads_of g) (PureReads (f.yes tt))
+reads_of (repeat {A = A} {B = B} catch needed f g) =
+    MapReads (List A) B (ListReads (reads_of g)) f.yes
+reads_of (last {T = T} g) = MapReads (List T) T (ListReads (reads_of g))
+    (λ values v. (before : List T) × (values ≡ before ++ v ∷ []))
+reads_of (choice g h) = ChoiceReads (reads_of g) (reads_of h)
+reads_of (only g) = reads_of g
+reads_of (command {T = T} adjacent called info help g) =
+    EitherCommandReads adjacent T (opening_words called) (reads_of g)
+reads_of (alone g) = reads_of g
+reads_of (both {A = A} {B = B} g h) = BothReads A B (reads_of g) (reads_of h)
+reads_of (product {A = A} {B = B} f g) = MapReads A B (reads_of g) f.yes
+reads_of other = λ context share v. Unit {0}
+
+-- what a parser may show of itself, and what the fields of a product may
+abbrev pub Described : (fields : Bool) → Type 1
+Described false = Shape → Type 0
+Described true = List Shape → Type 0
+
+-- what a repeat shows, by whether it must stand there
+abbrev pub repeat_describes : (needed : Bool) → (Shape → Type 0) → Shape → Type 0
+repeat_describes true inner = SomeDescribes inner
+repeat_describes false inner = ManyDescribes inner
+
+-- what it shows; of a parser of a caller's own nothing is said
+abbrev pub describes_of : {fields : Bool} {T : Type 0} → GrammarOf fields T → Described fields
+describes_of (flag clones key present absent) = λ shape. shape ≡ flag_shape key absent
+describes_of (argument means key) = λ shape. shape ≡ argument_shape key
+describes_of (word means position metavar help) =
+    λ shape. shape ≡ positional_shape position metavar help
+describes_of (kept given) = λ shape. shape ≡ Skip
+describes_of other = λ shape. Unit {0}
+describes_of (closed f g) = describes_of g
+describes_of (dressed look g) = look (describes_of g)
+describes_of (optional catch g) = OptionalDescribes (describes_of g)
+describes_of (fallback shown f g) = DefaultDescribes (describes_of g) shown
+describes_of (repeat catch needed f g) = repeat_describes needed (describes_of g)
+describes_of (last g) = SomeDescribes (describes_of g)
+describes_of (choice g h) = ChoiceDescribes (describes_of g) (describes_of h)
+describes_of (only g) = describes_of g
+describes_of (command adjacent called info help g) = CommandDescribes called help (describes_of g)
+describes_of (alone g) = LastDescribes (describes_of g)
+describes_of (both g h) = BothDescribes (describes_of g) (describes_of h)
+describes_of (product f g) = ProductDescribes (describes_of g)
+
 -- whether its pieces are keys or words, and how many of the words it takes
 abbrev pub said_kind : {fields : Bool} {T : Type 0} → GrammarOf fields T → Variables → SaidKind
-said_kind (word means position) variables = of_kind (OneWord (not (accepts position true)))
+said_kind (word means position metavar help) variables = of_kind (OneWord (not (accepts position true)))
 said_kind (closed f g) variables = said_kind g variables
-said_kind (dressed g) variables = said_kind g variables
+said_kind (dressed look g) variables = said_kind g variables
 said_kind (optional catch g) variables = said_kind g variables
-said_kind (fallback f g) variables = said_kind g variables
-said_kind (repeat catch f g) variables = repeated_kind (said_kind g variables)
+said_kind (fallback shown f g) variables = said_kind g variables
+said_kind (repeat catch needed f g) variables = repeated_kind (said_kind g variables)
 said_kind (last g) variables = repeated_kind (said_kind g variables)
 said_kind (product f g) variables = form_kind (program_form g variables)
 said_kind _ variables = of_kind ByName
@@ -144,14 +210,14 @@ said_kind _ variables = of_kind ByName
 -- it ends in commands
 abbrev pub ends_in_commands : {fields : Bool} {T : Type 0} → GrammarOf fields T → Bool
 ends_in_commands (closed f g) = ends_in_commands g
-ends_in_commands (dressed g) = ends_in_commands g
+ends_in_commands (dressed look g) = ends_in_commands g
 ends_in_commands (optional catch g) = ends_in_commands g
-ends_in_commands (fallback f g) = ends_in_commands g
-ends_in_commands (repeat catch f g) = ends_in_commands g
+ends_in_commands (fallback shown f g) = ends_in_commands g
+ends_in_commands (repeat catch needed f g) = ends_in_commands g
 ends_in_commands (last g) = ends_in_commands g
 ends_in_commands (choice g h) = ends_in_commands g
 ends_in_commands (only g) = ends_in_commands g
-ends_in_commands (command adjacent called info g) = true
+ends_in_commands (command adjacent called info help g) = true
 ends_in_commands (alone g) = ends_in_commands g
 ends_in_commands (both g h) = ends_in_commands h
 ends_in_commands (product f g) = ends_in_commands g
@@ -169,18 +235,18 @@ says (flag clones key present absent) variables =
     FlagSays clones present absent (first_set variables key.envs)
 says (argument means key) variables =
     ArgumentSays means key.last (first_set variables key.named.envs)
-says (word means position) variables = WordSays (accepts position) means
+says (word means position metavar help) variables = WordSays (accepts position) means
 says (kept given) variables = λ os v. given v
 says other variables = λ os v. ⊥
 says (closed f g) variables = MadeSays (says g variables) f
-says (dressed g) variables = says g variables
+says (dressed look g) variables = says g variables
 says (optional catch g) variables = OptionalSays (says g variables)
-says (fallback f g) variables = FallbackSays (says g variables) (f.yes tt)
-says (repeat catch f g) variables = MadeSays (RepeatSays (says g variables)) f
+says (fallback shown f g) variables = FallbackSays (says g variables) (f.yes tt)
+says (repeat catch needed f g) variables = MadeSays (RepeatSays (says g variables)) f
 says (last g) variables = LastSays (says g variables)
 says (choice g h) variables = EitherSays (says g variables) (says h variables)
 says (only g) variables = says g variables
-says (command adjacent called info g) variables = λ os v. ⊥
+says (command adjacent called info help g) variables = λ os v. ⊥
 says (alone g) variables = AloneSays (said_kind g variables) (keys_of g true) (says g variables)
 says (both g h) variables =
     BothSay (said_kind g variables) (keys_of g true) (says g variables) (says h variables)
@@ -190,12 +256,12 @@ says (product f g) variables = RecordSays (says g variables) (keys_of g true) f
 abbrev pub cells_say : {fields : Bool} {T : Type 0} → GrammarOf fields T → Variables
     → CellsValue T
 cells_say (closed f g) variables = ClosedValue (cells_say g variables) f
-cells_say (dressed g) variables = cells_say g variables
+cells_say (dressed look g) variables = cells_say g variables
 cells_say (optional {T = T} catch g) variables = OptionalCommands T (cells_say g variables)
 cells_say (choice {T = T} g h) variables =
     ChoiceValue T (cells_say g variables) (cells_say h variables)
 cells_say (only g) variables = cells_say g variables
-cells_say (command {T = T} adjacent called info g) variables =
+cells_say (command {T = T} adjacent called info help g) variables =
     CommandValue T (opening_words called) (scope_said (ends_in_commands g)
     (product_roles (whole_program (program_form g variables))) (says g variables)
     (cells_say g variables))
@@ -217,11 +283,11 @@ scope_says g variables = scope_said (ends_in_commands g)
 abbrev pub takes_one : {fields : Bool} {T : Type 0} → GrammarOf fields T → Bool
 takes_one (flag clones key present absent) = true
 takes_one (argument means key) = not key.last
-takes_one (word means position) = true
+takes_one (word means position metavar help) = true
 takes_one (closed f g) = takes_one g
-takes_one (dressed g) = takes_one g
+takes_one (dressed look g) = takes_one g
 takes_one (optional catch g) = takes_one g
-takes_one (fallback f g) = takes_one g
+takes_one (fallback shown f g) = takes_one g
 takes_one (choice g h) = takes_one g && takes_one h
 takes_one (only g) = takes_one g
 takes_one _ = false
@@ -230,7 +296,7 @@ takes_one _ = false
 -- field: the keys of all its alternatives count together.
 abbrev pub HasOneOfEach : {fields : Bool} {T : Type 0} → GrammarOf fields T → List LinePiece
     → Type 0
-HasOneOfEach (dressed g) os = HasOneOfEach g os
+HasOneOfEach (dressed look g) os = HasOneOfEach g os
 HasOneOfEach (alone g) os = HasOneOfEach g os
 HasOneOfEach (both g h) os = HasOneOfEach g os × HasOneOfEach h os
 HasOneOfEach (product f g) os = HasOneOfEach g os
@@ -248,12 +314,12 @@ limit_of_both _ _ = None
 
 -- how many positional words it takes at most, if there is a limit
 abbrev pub word_limit : {fields : Bool} {T : Type 0} → GrammarOf fields T → Option ℕ
-word_limit (word means position) = Some 1
+word_limit (word means position metavar help) = Some 1
 word_limit (closed f g) = word_limit g
-word_limit (dressed g) = word_limit g
+word_limit (dressed look g) = word_limit g
 word_limit (optional catch g) = word_limit g
-word_limit (fallback f g) = word_limit g
-word_limit (repeat catch f g) = repeated_limit (word_limit g)
+word_limit (fallback shown f g) = word_limit g
+word_limit (repeat catch needed f g) = repeated_limit (word_limit g)
 word_limit (last g) = repeated_limit (word_limit g)
 word_limit (alone g) = word_limit g
 word_limit (both g h) = limit_of_both (word_limit g) (word_limit h)

@@ -15,7 +15,8 @@ use bpaf::parsers::ParseCommand;
 /// A plain command over a program whose own keys are apart from those of its help and version. Its
 /// words aren't empty, and none begins with a dash. An adjacent command is nothing to a program.
 impl<T: Drop, P: ProgramField<T>> ProgramField<T> for ParseCommand<T, P> {
-    ghost grammar = { λ p. command p.adjacent p.names p.info (P.grammar p.inner) };
+    ghost grammar = { λ p.
+        command p.adjacent p.names p.info (shown_help p) (P.grammar p.inner) };
 
     ghost agrees = { λ p. P.agrees p.inner };
 

@@ -37,7 +37,8 @@ impl<T: Drop, P: ProgramField<T>> ProgramField<Option<T>> for ParseOptional<P> {
 impl<T: Drop, P: FlatField<T>> FlatField<Option<T>> for ParseOptional<P> {}
 
 impl<T: Clone, P: ProgramField<T>> ProgramField<T> for ParseFallback<P, T> {
-    ghost grammar = { λ p. fallback (map_closure (λ u. T.is_clone p.value)) (P.grammar p.inner) };
+    ghost grammar = { λ p.
+        fallback p.shown (map_closure (λ u. T.is_clone p.value)) (P.grammar p.inner) };
 
     ghost agrees = { λ p. P.agrees p.inner };
 
@@ -63,7 +64,7 @@ impl<T: Clone, P: FlatField<T>> FlatField<T> for ParseFallback<P, T> {}
 impl<T, E: Display + Drop, P: ProgramField<T>, F: Fn() -> Result<T, E>> ProgramField<T>
     for ParseFallbackWith<T, P, F, E> {
     ghost grammar = { λ p.
-        fallback (parse_closure (λ u r. F.post p.fallback r)) (P.grammar p.inner) };
+        fallback p.shown (parse_closure (λ u r. F.post p.fallback r)) (P.grammar p.inner) };
 
     ghost agrees = { λ p. P.agrees p.inner × ((v : T) (fault : E) → F.post p.fallback (Ok v)
         → F.post p.fallback (Err fault) → ⊥) };

@@ -76,7 +76,7 @@ impl<T: FromText> FlatField<T> for ParseArgument<T> {}
 /// With `strict` or `non_strict` it may stand in a program, but in no flat record. A repeat or a
 /// default of it with `non_strict` leaves words behind `--` to the fields after it.
 impl<T: FromText> ProgramField<T> for ParsePositional<T> {
-    ghost grammar = { λ p. word T.means p.position };
+    ghost grammar = { λ p. word T.means p.position p.metavar.0.now p.help };
 
     ghost agrees = { λ p. Unit {0} };
 

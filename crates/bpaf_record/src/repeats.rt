@@ -14,7 +14,7 @@ use bpaf::parsers::{ParseCollect, ParseCount, ParseLast, ParseMany, ParseSome};
 
 /// With `catch` it is no flat field, nor round another repeat or a default.
 impl<T: Drop, P: ProgramField<T>> ProgramField<Vec<T>> for ParseMany<P> {
-    ghost grammar = { λ p. repeat p.catch (list_closure T) (P.grammar p.inner) };
+    ghost grammar = { λ p. repeat p.catch false (list_closure T) (P.grammar p.inner) };
 
     ghost agrees = { λ p. P.agrees p.inner };
 
@@ -38,7 +38,7 @@ impl<T: Drop, P: FlatField<T>> FlatField<Vec<T>> for ParseMany<P> {}
 
 /// As `many`.
 impl<'m, T: Drop, P: ProgramField<T>> ProgramField<Vec<T>> for ParseSome<'m, P> {
-    ghost grammar = { λ p. repeat p.catch (some_closure T) (P.grammar p.inner) };
+    ghost grammar = { λ p. repeat p.catch true (some_closure T) (P.grammar p.inner) };
 
     ghost agrees = { λ p. P.agrees p.inner };
 
@@ -62,7 +62,7 @@ impl<'m, T: Drop, P: FlatField<T>> FlatField<Vec<T>> for ParseSome<'m, P> {}
 
 /// As `many`.
 impl<T: Drop, C: FromList<T> + Drop, P: ProgramField<T>> ProgramField<C> for ParseCollect<P, C, T> {
-    ghost grammar = { λ p. repeat p.catch (map_closure C.fills) (P.grammar p.inner) };
+    ghost grammar = { λ p. repeat p.catch false (map_closure C.fills) (P.grammar p.inner) };
 
     ghost agrees = { λ p. P.agrees p.inner };
 
@@ -86,7 +86,7 @@ impl<T: Drop, C: FromList<T> + Drop, P: FlatField<T>> FlatField<C> for ParseColl
 
 impl<T: Drop, P: ProgramField<T>> ProgramField<usize> for ParseCount<P, T> {
     ghost grammar = { λ p.
-        repeat false (map_closure (λ values n. n ≡ length values)) (P.grammar p.inner) };
+        repeat false false (map_closure (λ values n. n ≡ length values)) (P.grammar p.inner) };
 
     ghost agrees = { λ p. P.agrees p.inner };
 

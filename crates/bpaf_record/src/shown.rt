@@ -2,6 +2,8 @@
 //! of such. A product of flat fields with such a look round it may stand in a program, but is no
 //! flat record; one that ends in commands is no program then.
 ghost use Rattle.std.specs.Prelude.{◌≡◌};
+ghost use Rattle.bpaf_doc.specs.Shape.{Skip};
+ghost use Rattle.bpaf_laws.specs.Combinators.{SectionDescribes, UsageDescribes};
 ghost use Rattle.bpaf_record.specs.Grammar.{dressed};
 ghost use Rattle.bpaf_exact.proofs.ProgramForm.{program_dressed_law, hide_law};
 
@@ -12,7 +14,8 @@ use crate::words::WordTest;
 use bpaf::parsers::{ParseGroupHelp, ParseHide, ParseUsage};
 
 impl<T, P: ProgramField<T>> ProgramField<T> for ParseUsage<P> {
-    ghost grammar = { λ p. dressed (P.grammar p.inner) };
+    ghost grammar = { λ p.
+        dressed (λ inner. UsageDescribes inner p.usage) (P.grammar p.inner) };
 
     ghost agrees = { λ p. P.agrees p.inner };
 
@@ -35,7 +38,8 @@ impl<T, P: ProgramField<T>> ProgramField<T> for ParseUsage<P> {
 impl<T, P: FlatField<T>> FlatField<T> for ParseUsage<P> {}
 
 impl<T, P: ProgramField<T>> ProgramField<T> for ParseGroupHelp<P> {
-    ghost grammar = { λ p. dressed (P.grammar p.inner) };
+    ghost grammar = { λ p.
+        dressed (λ inner. SectionDescribes inner p.message) (P.grammar p.inner) };
 
     ghost agrees = { λ p. P.agrees p.inner };
 
@@ -60,7 +64,7 @@ impl<T, P: FlatField<T>> FlatField<T> for ParseGroupHelp<P> {}
 /// A hidden parser may stand in a program, with the values that it has, but in no flat record: its
 /// short names aren't known in joined words.
 impl<T, P: ProgramField<T>> ProgramField<T> for ParseHide<P> {
-    ghost grammar = { λ p. dressed (P.grammar p.inner) };
+    ghost grammar = { λ p. dressed (λ inner shape. shape ≡ Skip) (P.grammar p.inner) };
 
     ghost agrees = { λ p. P.agrees p.inner };
 

@@ -3,10 +3,13 @@ ghost use Rattle.std.specs.Prelude.{◌≡◌, ◌≤◌, length, IfOk, None, ma
 ghost use Rattle.std.specs.Result.{IfErr};
 ghost use Rattle.bpaf_laws.specs.Command.{named_only};
 ghost use Rattle.bpaf.specs.Asked.{IfShown};
+ghost use Rattle.bpaf_program.specs.KnownParser.{IsKnownParser};
 ghost use Rattle.example_chain.specs.Running.{AreDealtSteps, described, IsHelpAsked};
+ghost use Rattle.example_chain.specs.Running.{go_parser, repeat_parser, turn_parser};
 
+use bpaf::params::{ParseFlag, ParsePositional};
 use bpaf::parsers::ParseCommand;
-use bpaf::{Args, ParseFailure, Parser, construct, long_key, positional};
+use bpaf::{Args, ParseFailure, ParseTuple2, Parser, construct, long_key, positional};
 use std::alloc::{AllocError, Global};
 
 /// One step.
@@ -20,35 +23,80 @@ pub enum Step {
     Repeat { times: u64 },
 }
 
+type Integer = ParsePositional<i64>;
+
+type Number = ParsePositional<u64>;
+
+type Go = ParseCommand<(i64, i64), ParseTuple2<i64, i64, Integer, Integer>>;
+
+type Turn = ParseCommand<(bool, u64), ParseTuple2<bool, u64, ParseFlag<bool>, Number>>;
+
+type Repeat = ParseCommand<u64, Number>;
+
+/// `move DX DY`; refused only for want of memory.
+fn go(alloc: Global) -> Result<Go, AllocError>
+    ensures { IfOk result (λ command. IsKnownParser go_parser
+        (⟦<Go as Parser<(i64, i64)>>⟧.outcome command) (⟦<Go as Parser<(i64, i64)>>⟧.reads command)
+        (⟦<Go as Parser<(i64, i64)>>⟧.describes command)
+        (⟦<Go as Parser<(i64, i64)>>⟧.shorts command)) }
+{
+    let dx = positional::<i64>("DX").help("How far to the right");
+    let dy = positional::<i64>("DY").help("How far up");
+    let command = chained(alloc, "move", "Moves by so far", construct!(dx, dy))?;
+    Ok(command)
+}
+
+/// `turn [--left] DEGREES`; refused only for want of memory.
+fn turn(alloc: Global) -> Result<Turn, AllocError>
+    ensures { IfOk result (λ command. IsKnownParser turn_parser
+        (⟦<Turn as Parser<(bool, u64)>>⟧.outcome command)
+        (⟦<Turn as Parser<(bool, u64)>>⟧.reads command)
+        (⟦<Turn as Parser<(bool, u64)>>⟧.describes command)
+        (⟦<Turn as Parser<(bool, u64)>>⟧.shorts command)) }
+{
+    let left = long_key(alloc, "left").switch().help("To the left");
+    let degrees = positional::<u64>("DEGREES").help("How far to turn");
+    let parser = construct!(left, degrees);
+    let command = chained(alloc, "turn", "Turns where it stands", parser)?;
+    Ok(command)
+}
+
+/// `repeat N`; refused only for want of memory.
+fn repeat(alloc: Global) -> Result<Repeat, AllocError>
+    ensures { IfOk result (λ command. IsKnownParser repeat_parser
+        (⟦<Repeat as Parser<u64>>⟧.outcome command) (⟦<Repeat as Parser<u64>>⟧.reads command)
+        (⟦<Repeat as Parser<u64>>⟧.describes command)
+        (⟦<Repeat as Parser<u64>>⟧.shorts command)) }
+{
+    let times = positional::<u64>("N").help("How many times");
+    let command = chained(alloc, "repeat", "Repeats all before it", times)?;
+    Ok(command)
+}
+
 /// The steps that the words ask for, in order; refused where they ask for none, or for want of
 /// memory. Help is answered as a refusal that shows it, and only where the words ask for it.
 pub fn read_steps(alloc: Global, words: &[String]) -> Result<Vec<Step>, ParseFailure>
     ensures dealt { IfOk result (λ steps. AreDealtSteps (map string_bytes words.now) steps) }
     ensures asked { IfErr result (IfShown (IsHelpAsked (map string_bytes words.now))) }
 {
-    let dx = positional::<i64>("DX").help("How far to the right");
-    let dy = positional::<i64>("DY").help("How far up");
-    let go = construct!(Step::Move { dx, dy });
-    let go = chained(alloc, "move", "Moves by so far", go)?;
-    let left = long_key(alloc, "left").switch().help("To the left");
-    let degrees = positional::<u64>("DEGREES").help("How far to turn");
-    let turn = construct!(Step::Turn { left, degrees });
-    let turn = chained(alloc, "turn", "Turns where it stands", turn)?;
-    let times = positional::<u64>("N").help("How many times");
-    let repeat = construct!(Step::Repeat { times });
-    let repeat = chained(alloc, "repeat", "Repeats all before it", repeat)?;
+    let go = go(alloc)?;
+    let turn = turn(alloc)?;
+    let repeat = repeat(alloc)?;
+    let go = go.map(|(dx, dy)| Step::Move { dx, dy });
+    let turn = turn.map(|(left, degrees)| Step::Turn { left, degrees });
+    let repeat = repeat.map(|times| Step::Repeat { times });
     let steps = construct!([go, turn, repeat]).many().into_options(alloc);
     steps.run_once(Args::from(words).set_name("chain"))
 }
 
 /// The adjacent command of this name and description over a parser; refused only for want of
 /// memory.
-fn chained<P: Parser<Step> + Drop>(
+fn chained<T: Drop, P: Parser<T> + Drop>(
     alloc: Global,
     name: &str,
     descr: &str,
     parser: P,
-) -> Result<ParseCommand<Step, P>, AllocError>
+) -> Result<ParseCommand<T, P>, AllocError>
     requires { length name.now ≤ 23 }
     ensures inner { IfOk result (λ command. command.inner ≡ parser) }
     ensures names { IfOk result (λ command. command.names ≡ named_only name.now) }

@@ -1,25 +1,21 @@
 -- What a run of the program does: which options its words have, what it prints of them, and what
 -- it shows where it is asked for help.
-use Rattle.std.specs.Prelude.{Result, false, codes, Bool, true, List, Some, ◌++◌, ◌≡◌, ◌∷◌, [], ℕ}
+use Rattle.std.specs.Prelude.{Result, false, codes, Bool, true, List, Some, ◌++◌, ◌≡◌, ◌∷◌, ℕ, []}
 use Rattle.std.specs.{Prelude.string_bytes, Prelude.map, Fmt.decimal, Global.Vec}
-use Rattle.bpaf_doc.specs.Shape.{Optional, members, Shape, Many, And}
-use Rattle.bpaf_doc.specs.{declared.doc.Piece.Piece, Print.text_pieces, Print.printed, Names.Names}
+use Rattle.bpaf_doc.specs.{declared.doc.Piece.Piece, Print.printed, Names.Names}
 use Rattle.bpaf_text.specs.Meaning.{SpellsUnsigned}
 use Rattle.bpaf_text.specs.Named.{KeyWithValue, key_named}
-use Rattle.bpaf_words.specs.{Arguments.Given, Line.knowing, Line.Known}
-use Rattle.bpaf_laws.specs.{Combinators.ListReads, Leaves.argument_shape, Combinators.MapReads}
-use Rattle.bpaf_laws.specs.{Leaves.ArgumentReads, Product.BothReads, Reading.Readings}
-use Rattle.bpaf.specs.Positional.{positional_shape, PositionalReads}
+use Rattle.bpaf_words.specs.Arguments.{Given}
+use Rattle.bpaf_line.specs.declared.failure.ParseFailure.{ParseFailure}
+use Rattle.bpaf_keys.specs.Info.{plain_info}
 use Rattle.bpaf.specs.declared.leaves.positional.Position.TheVariants.{Unrestricted}
-use Rattle.bpaf.specs.{Asked.WasAsked, Run.IsDealtOut, Asked.IfShown}
+use Rattle.bpaf.specs.Asked.{IfShown}
+use Rattle.bpaf_record.specs.Grammar.{FieldsGrammar, argument, Grammar, alone, both, word}
 use Rattle.bpaf_program.specs.KnownParser.{known_switch, known_many, IsExactFor, MeansText, String}
-use Rattle.bpaf_program.specs.KnownParser.{known_con, IsValueBy}
-use Rattle.bpaf_program.specs.Fields.{NamedSwitchReads, helped_argument, switch_shape}
+use Rattle.bpaf_program.specs.KnownParser.{known_con, IsDealtBy, IsPageOf, IsValueBy, help_of}
+use Rattle.bpaf_program.specs.Fields.{helped_argument}
 use Rattle.bpaf_program.specs.Ending.{AnswersByText, PrintsTextOf, line_each, Written, truth, line}
 use Rattle.example_demo.specs.declared.options.Options.{Options}
-use Rattle.bpaf_line.specs.declared.failure.ParseFailure.{ParseFailure}
-use Rattle.bpaf_record.specs.Grammar.{FieldsGrammar, argument, Grammar, alone, both, word}
-use Rattle.bpaf_keys.specs.Info.{plain_info}
 
 -- the names of the switch
 abbrev pub verbose_names : Names
@@ -34,10 +30,6 @@ number_key = record {
   last = true;
 }
 
--- the known short names: the switch's, help's and version's as flags, and the number's
-abbrev pub program_known : Known
-program_known = knowing (record { flags = codes "vhV"; arguments = codes "n" })
-
 -- what the program is given
 abbrev pub program_given : List (List ℕ) → Given
 program_given words = record { words = words; env = []; name = Some (codes "bpaf_demo") }
@@ -50,36 +42,21 @@ FieldValues = Bool × (ℕ × Vec String)
 abbrev pub options_of : FieldValues → Options
 options_of x = record { verbose = x.0; num = x.1.0; files = x.1.1 }
 
--- what the number reads
-abbrev pub NumReads : Readings ℕ
-NumReads = ArgumentReads ℕ (SpellsUnsigned 64) number_key
-
--- what the files read: a word each
-abbrev pub FilesReads : Readings (Vec String)
-FilesReads =
-    MapReads (List String) (Vec String)
-    (ListReads (PositionalReads String MeansText Unrestricted)) (λ values v. v.items ≡ values)
-
--- what the options read: the switch, the number and the files, each place once
-abbrev pub OptionsReads : Readings Options
-OptionsReads =
-    MapReads FieldValues Options
-    (BothReads Bool (ℕ × Vec String) (NamedSwitchReads verbose_names)
-    (BothReads ℕ (Vec String) NumReads FilesReads)) (λ x v. v ≡ options_of x)
-
--- all places of the words' line but the first `--` are dealt out to the fields, each used once
-abbrev pub IsDealtOptions : List (List ℕ) → Options → Type 0
-IsDealtOptions words = IsDealtOut Options OptionsReads program_known (program_given words)
-
 -- a switch, the number that the text behind the last of its keys spells, and all words
 abbrev pub fields : FieldsGrammar FieldValues
 fields =
-    both (known_switch verbose_names) (both (argument (SpellsUnsigned 64) number_key)
-    (alone (known_many (word MeansText Unrestricted))))
+    both (known_switch verbose_names (help_of (codes "Print more")))
+    (both (argument (SpellsUnsigned 64) (helped_argument number_key (codes "A number")))
+    (alone (known_many
+    (word MeansText Unrestricted (codes "FILE") (help_of (codes "Files to read"))))))
 
 -- the program's record: options that are made of them
 abbrev pub record_of : Grammar Options
 record_of = known_con options_of fields
+
+-- all places of the words' line but the first `--` are dealt out to the fields, each used once
+abbrev pub IsDealtOptions : List (List ℕ) → Options → Type 0
+IsDealtOptions words = IsDealtBy record_of (program_given words)
 
 -- v is a value of the program's record on words
 abbrev pub IsOptionsOf : List (List ℕ) → Options → Type 0
@@ -104,19 +81,9 @@ lines v =
     line (codes "verbose: " ++ truth v.verbose) ++ line (codes "num: " ++ decimal v.num)
     ++ file_lines (file_texts v)
 
--- what the program shows: the switch, the number and the files, each with its help
-abbrev pub program_shape : Shape
-program_shape =
-    And (members (switch_shape verbose_names (codes "Print more")
-    ∷ argument_shape (helped_argument number_key (codes "A number"))
-    ∷ Many (Optional (positional_shape Unrestricted (codes "FILE")
-    (Some (text_pieces (codes "Files to read")))))
-    ∷ []))
-
 -- the words ask for help, and this is the help page of the program
 abbrev pub IsHelpAsked : List (List ℕ) → List Piece → Bool → Type 0
-IsHelpAsked words doc full =
-    WasAsked (λ shape. shape ≡ program_shape) plain_info program_known (program_given words) doc full
+IsHelpAsked words = IsPageOf record_of (λ info. info ≡ plain_info) (program_given words)
 
 -- what is shown in place of options is help that the words ask for
 abbrev pub ShowsHelpAsked : List (List ℕ) → ParseFailure → Type 0

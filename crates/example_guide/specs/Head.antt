@@ -24,7 +24,7 @@ bytes_key = plain_argument bytes_names (codes "N")
 abbrev pub fields : FieldsGrammar (Option ℕ × Vec String)
 fields =
     both (known_optional (argument (SpellsUnsigned 64) bytes_key))
-    (alone (known_many (word MeansText Unrestricted)))
+    (alone (known_many (word MeansText Unrestricted (codes "FILE") None)))
 
 -- what is asked for of these
 abbrev pub head_of : Option ℕ × Vec String → Head

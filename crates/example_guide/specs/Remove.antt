@@ -1,5 +1,5 @@
 -- The remover: its fields, and what it may print.
-use Rattle.std.specs.Prelude.{Option, codes, Bool, List, Some, ◌∷◌, [], ℕ}
+use Rattle.std.specs.Prelude.{Option, codes, Bool, List, None, Some, ◌∷◌, [], ℕ}
 use Rattle.std.specs.Global.{Vec}
 use Rattle.bpaf_doc.specs.{declared.doc.Piece.Piece, Names.Names}
 use Rattle.bpaf_text.specs.{Meaning.SpellsUnsigned, Named.KeyWithValue}
@@ -23,8 +23,8 @@ depth_key = plain_argument (record { shorts = codes "d"; longs = [] }) (codes "N
 -- `[-d N] [-f] [FILE]..`
 abbrev pub fields : FieldsGrammar (Option ℕ × (Bool × Vec String))
 fields =
-    both (known_optional (argument (SpellsUnsigned 64) depth_key)) (both (known_switch force_names)
-    (alone (known_many (word MeansText Unrestricted))))
+    both (known_optional (argument (SpellsUnsigned 64) depth_key)) (both (known_switch force_names None)
+    (alone (known_many (word MeansText Unrestricted (codes "FILE") None))))
 
 -- a removal of these
 abbrev pub removal_of : Option ℕ × (Bool × Vec String) → Removal

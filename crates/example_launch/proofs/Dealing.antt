@@ -8,11 +8,11 @@ use Rattle.bpaf_exact.specs.ProgramForm.{WordValue, flag_roles}
 use Rattle.bpaf_exact.specs.Flat.{FrontOf, SingleValue, gap_of}
 use Rattle.bpaf_exact.specs.{Pieces.LinePiece, Pieces.others, Says.Alike, Says.WordSays}
 use Rattle.bpaf_program.specs.Ending.{line, line_each, truth}
-use Rattle.bpaf_program.specs.KnownParser.{MeansText, String}
+use Rattle.bpaf_program.specs.KnownParser.{MeansText, String, program_names}
 use Rattle.bpaf_program.proofs.LookAlike.{alone_seen, both_seen, con_seen, field_seen, many_seen}
 use Rattle.bpaf_program.proofs.LookAlike.{switch_seen, text_word_seen, program_looks_one}
-use Rattle.bpaf_program.proofs.{LookAlike.values_look, Known.word_before, Texts.texts_are}
-use Rattle.example_launch.specs.Running.{dry_run_names, launch_of, program_given, program_known}
+use Rattle.bpaf_program.proofs.{LookAlike.values_look, WordsBefore.word_before, Texts.texts_are}
+use Rattle.example_launch.specs.Running.{dry_run_names, launch_of, launcher, program_given}
 use Rattle.example_launch.specs.Running.{verbose_names, IsLaunchValue, lines, IsDealtLaunch}
 use Rattle.example_launch.specs.declared.options.Launch.{Launch}
 use Rattle.example_launch.specs.Running.{IsLaunchOf, AnswersLaunch}
@@ -33,7 +33,7 @@ same_lines words =
     (λ x y same. ap (λ (seen : Bool × (Bool × (List ℕ × List (List ℕ)))).
     line (codes "verbose: " ++ truth seen.0) ++ line (codes "dry run: " ++ truth seen.1.0)
     ++ line (codes "name: " ++ seen.1.1.0) ++ line_each (codes "word: ") seen.1.1.1) same)))
-    program_known (program_given words)
+    (program_names launcher) (program_given words)
 
 -- what the name says of its piece
 name_says : (os : List LinePiece) (v : String)
@@ -72,7 +72,7 @@ launch_asked own (Ok v) dealt exact =
       named = subst (λ launch. Contains (words_before own) (string_bytes launch.name))
           (sym dealt.read.made)
           (subst (Contains (words_before own)) (sym found.meant)
-          (word_before program_known (λ c is. absurd (true≢false (sym is.as_argument)))
+          (word_before (program_names launcher) (λ c is. absurd (true≢false (sym is.as_argument)))
           (program_given own) dealt.is_context found));
       passed = launch_passes own v exact.sound;
     }

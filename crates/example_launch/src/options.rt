@@ -4,11 +4,13 @@ ghost use Rattle.std.specs.Result.{IfErr};
 ghost use Rattle.bpaf.specs.declared.leaves.positional.Position.TheVariants.{NonStrict, Strict};
 ghost use Rattle.bpaf_program.specs.Fields.{helped_switch, IsWord};
 ghost use Rattle.example_launch.specs.Running.{IsLaunchOf, dry_run_names, verbose_names};
-ghost use Rattle.example_launch.specs.Running.{AnswersLaunch, ShowsHelpAsked};
+ghost use Rattle.example_launch.specs.Running.{AnswersLaunch, ShowsHelpAsked, launcher};
 
 use bpaf::params::{ParseFlag, ParsePositional};
 use bpaf::parsers::ParseMany;
 use bpaf::{Args, ParseFailure, Parser, construct, key, long_key, positional};
+use bpaf_program::{KnownOptions, KnownProgram};
+use bpaf_record::CommandLine;
 use std::alloc::Global;
 
 /// What is to be started, and how.
@@ -22,6 +24,18 @@ pub struct Launch {
     pub name: String,
     /// The words that are passed on to it.
     pub words: Vec<String>,
+}
+
+/// What is known of the program: of what its parser is made, and that this is a program.
+#[derive(Drop)]
+struct LaunchProgram {}
+
+impl KnownProgram<Launch> for LaunchProgram {
+    ghost use Rattle.std.specs.Prelude.{refl};
+
+    ghost grammar = { launcher };
+
+    ghost whole = { λ variables. refl };
 }
 
 /// The launch that the words ask for; refused where they ask for none, or for want of memory. The
@@ -42,7 +56,11 @@ pub fn read_launch(alloc: Global, words: &[String]) -> Result<Launch, ParseFailu
         name,
         words(passed)
     });
-    launch.run_once(alloc, Args::from(words).set_name("launch"))
+    let launch = KnownOptions {
+        options: launch.into_options(alloc),
+        program: LaunchProgram {},
+    };
+    launch.run_program(Args::from(words).set_name("launch"))
 }
 
 /// The switch, `-v` or `--verbose`.

@@ -67,83 +67,40 @@ tag_key = plain_argument (key (codes "t") (codes "tag")) (codes "TAG")
 abbrev pub max_key : KeyWithValue
 max_key = plain_argument (key (codes "n") (codes "max")) (codes "NUM")
 
--- the texts behind each `-t`, and all words
-abbrev pub add_fields : FieldsGrammar (Vec String × Vec String)
-add_fields =
-    both (known_many (argument MeansText tag_key))
-    (alone (known_many (word MeansText Unrestricted)))
-
 -- a note of these
 abbrev pub add_of : Vec String × Vec String → Task
 add_of x = task.Add x.0 x.1
 
--- `[-t TAG].. [TEXT]..`
-abbrev pub add_record : Grammar Task
-add_record = known_con add_of add_fields
-
--- the number behind `-n`, or 10
-abbrev pub max : FieldsGrammar ℕ
-max = alone (known_default 10 (argument (SpellsUnsigned 64) max_key))
-
--- `[-n NUM]`
-abbrev pub list_record : Grammar Task
-list_record = known_con task.List max
-
--- one word
-abbrev pub name : FieldsGrammar String
-name = alone (word MeansText Unrestricted)
-
--- `NAME`, of which this is made
-abbrev pub name_record : (String → Tag) → Grammar Tag
-name_record make = known_con make name
-
 -- `add [-t TAG].. [TEXT]..`
 abbrev pub add_command : Grammar Task
-add_command = known_command (codes "add") add_record
+add_command = known_command (codes "add") (known_con add_of
+    (both (known_many (argument MeansText tag_key))
+    (alone (known_many (word MeansText Unrestricted (codes "TEXT") None)))))
 
 -- `list [-n NUM]`
 abbrev pub list_command : Grammar Task
-list_command = known_command (codes "list") list_record
+list_command = known_command (codes "list") (known_con task.List
+    (alone (known_default 10 (argument (SpellsUnsigned 64) max_key))))
 
--- `add NAME`
-abbrev pub add_name : Grammar Tag
-add_name = known_command (codes "add") (name_record tag.Add)
+-- this word and `NAME`, of which a tag is made
+abbrev pub tag_command : List ℕ → (String → Tag) → Grammar Tag
+tag_command called make = known_command called
+    (known_con make (alone (word MeansText Unrestricted (codes "NAME") None)))
 
--- `remove NAME`
-abbrev pub remove_name : Grammar Tag
-remove_name = known_command (codes "remove") (name_record tag.Remove)
-
--- one of these two
-abbrev pub tag_commands : Grammar Tag
-tag_commands = choice add_name remove_name
-
--- `tag` and one of these
+-- `tag`, and one of two commands
 abbrev pub on_tag : Grammar Tag
-on_tag = known_command (codes "tag") tag_commands
+on_tag = known_command (codes "tag")
+    (choice (tag_command (codes "add") tag.Add) (tag_command (codes "remove") tag.Remove))
 
--- `list`, or this
-abbrev pub other_commands : Grammar Task
-other_commands = choice list_command (known_map task.Tag on_tag)
-
--- one of all three
+-- one of three commands
 abbrev pub commands : Grammar Task
-commands = choice add_command other_commands
+commands = choice add_command (choice list_command (known_map task.Tag on_tag))
 
--- true where the switch stands, else false
-abbrev pub verbose : Grammar Bool
-verbose = known_switch verbose_names
-
--- the directory, or None
-abbrev pub dir : Grammar (Option String)
-dir = known_optional (argument MeansText dir_key)
-
--- the argument and a command
-abbrev pub dir_fields : FieldsGrammar (Option String × Task)
-dir_fields = both dir (alone commands)
-
--- the switch and these
+-- the switch, the directory or None, and a command
 abbrev pub fields : FieldsGrammar (Bool × (Option String × Task))
-fields = both verbose dir_fields
+fields =
+    both (known_switch verbose_names None)
+    (both (known_optional (argument MeansText dir_key)) (alone commands))
 
 -- what is asked for of these
 abbrev pub notes_of : Bool × (Option String × Task) → Notes

@@ -10,10 +10,10 @@ use test_support::fits;
 struct Verbose {}
 
 impl KnownProgram<bool> for Verbose {
-    ghost use Rattle.std.specs.Prelude.{[], codes, refl};
+    ghost use Rattle.std.specs.Prelude.{None, [], codes, refl};
     ghost use Rattle.bpaf_program.specs.KnownParser.{known_switch};
 
-    ghost grammar = { known_switch (record { shorts = codes "v"; longs = [] }) };
+    ghost grammar = { known_switch (record { shorts = codes "v"; longs = [] }) None };
 
     ghost whole = { λ variables. refl };
 }

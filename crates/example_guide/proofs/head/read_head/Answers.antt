@@ -1,4 +1,4 @@
-use Rattle.std.proofs.Common.{refl, None, rules, map, string_bytes, ◌≡◌}
+use Rattle.std.proofs.Common.{refl, None, codes, rules, map, string_bytes, ◌≡◌}
 use Rattle.bpaf.specs.Info.{plain_info}
 use Rattle.bpaf_exact.proofs.Says.{argument_needs}
 use Rattle.bpaf_record.proofs.Answered.{answer_says, of_line, optional_spelled, told_of_line}
@@ -16,7 +16,7 @@ returns-clause-by_bytes c =
 pub returns-clause-page : goal.returns-clause-page
 returns-clause-page c = of.asks_for_page spec.head_parser _ c.run_record.ensures.outcome
     (of.con_known spec.head_of spec.fields (of.both_known _ _ (of.optional_known
-    (of.argument_known (of.SpellsUnsigned 64) spec.bytes_key None (search rules)) (search rules))
-    (of.last_known _ (of.many_known (of.word_known of.MeansText of.Unrestricted (search rules))
+    (of.argument_known (of.SpellsUnsigned 64) spec.bytes_key (search rules)) (search rules))
+    (of.last_known _ (of.many_known (of.word_known of.MeansText of.Unrestricted (codes "FILE") None (search rules) (search rules) (search rules))
     (search rules)))) (λ x v e. search rules)) (λ info. info ≡ plain_info) (search rules)
     (search rules) (search rules)

@@ -15,34 +15,37 @@ run_program-requires-clause-can c =
     ∙ c.map-tag.ensures.inner in
     let tags = ap (λ x. x.inner) on_tag ∙ c.plain_command.ensures.inner in (
       search rules,
-      of.con_known notes.notes_of notes.fields (of.both_known notes.verbose notes.dir_fields
+      of.con_known notes.notes_of notes.fields (of.both_known _ _
           (of.switch_known notes.verbose_names None (search rules) (search rules) (search rules))
-          (of.both_known notes.dir (of.alone notes.commands)
-          (of.optional_known (of.argument_known of.MeansText notes.dir_key None (search rules))
-          (search rules))
-          (of.last_known notes.commands (of.choice_known notes.add_command notes.other_commands
-          (of.command_known (codes "add") notes.add_record _ c.plain_command-add.ensures
+          (of.both_known _ _ (of.optional_known
+          (of.argument_known of.MeansText notes.dir_key (search rules)) (search rules))
+          (of.last_known _ (of.choice_known notes.add_command _
+          (of.command_known (codes "add") _ _ c.plain_command-add.ensures
           (ap (λ x. x.this) commands ∙ c.construct-task.ensures.this)
-          (of.con_known notes.add_of notes.add_fields (of.both_known _ _ (of.many_known
-          (of.argument_known of.MeansText notes.tag_key None (search rules)) (search rules))
-          (of.last_known _ (of.many_known (of.word_known of.MeansText of.Unrestricted (search rules))
-          (search rules)))) (λ x v e. search rules)))
+          (of.con_known notes.add_of _ (of.both_known _ _ (of.many_known
+          (of.argument_known of.MeansText notes.tag_key (search rules)) (search rules))
+          (of.last_known _ (of.many_known (of.word_known of.MeansText of.Unrestricted
+          (codes "TEXT") None (search rules) (search rules) (search rules)) (search rules))))
+          (λ x v e. search rules)))
           (of.choice_known notes.list_command (of.known_map task.Tag notes.on_tag)
-          (of.command_known (codes "list") notes.list_record _ c.plain_command-list.ensures
+          (of.command_known (codes "list") _ _ c.plain_command-list.ensures
           (ap (λ x. x.this) others ∙ c.construct-others.ensures.this)
-          (of.con_known task.List notes.max (of.last_known _
-          (of.default_known (of.argument_known (of.SpellsUnsigned 64) notes.max_key None (search rules))
-          (λ own v same. same) 10 (search rules))) (λ x v e. search rules)))
-          (of.map_known task.Tag notes.on_tag (of.command_known (codes "tag") notes.tag_commands _
-          c.plain_command.ensures on_tag (of.choice_known notes.add_name notes.remove_name
-          (of.command_known (codes "add") (notes.name_record tag.Add) _ c.plain_command-add_tag.ensures
+          (of.con_known task.List _ (of.last_known _
+          (of.default_known (of.argument_known (of.SpellsUnsigned 64) notes.max_key (search rules))
+          (λ own v same. same) 10 (search rules) (search rules))) (λ x v e. search rules)))
+          (of.map_known task.Tag notes.on_tag (of.command_known (codes "tag") _ _
+          c.plain_command.ensures on_tag (of.choice_known
+          (notes.tag_command (codes "add") tag.Add) (notes.tag_command (codes "remove") tag.Remove)
+          (of.command_known (codes "add") _ _ c.plain_command-add_tag.ensures
           (ap (λ x. x.this) tags ∙ c.construct-3.ensures.this)
-          (of.con_known tag.Add notes.name (of.last_known _
-          (of.word_known of.MeansText of.Unrestricted (search rules))) (λ x v e. search rules)))
-          (of.command_known (codes "remove") (notes.name_record tag.Remove) _
-          c.plain_command-remove_tag.ensures (ap (λ x. x.that) tags ∙ c.construct-3.ensures.that)
-          (of.con_known tag.Remove notes.name (of.last_known _
-          (of.word_known of.MeansText of.Unrestricted (search rules))) (λ x v e. search rules)))))
+          (of.con_known tag.Add _ (of.last_known _ (of.word_known of.MeansText of.Unrestricted
+          (codes "NAME") None (search rules) (search rules) (search rules)))
+          (λ x v e. search rules)))
+          (of.command_known (codes "remove") _ _ c.plain_command-remove_tag.ensures
+          (ap (λ x. x.that) tags ∙ c.construct-3.ensures.that)
+          (of.con_known tag.Remove _ (of.last_known _ (of.word_known of.MeansText of.Unrestricted
+          (codes "NAME") None (search rules) (search rules) (search rules)))
+          (λ x v e. search rules)))))
           (λ x v e. search rules))))))) (λ x v e. search rules),
     )
 

@@ -1,9 +1,9 @@
-use Rattle.std.proofs.Common.{◌≡◌, refl}
+use Rattle.std.proofs.Common.{◌≡◌, ap, refl}
 use Rattle.bpaf_words.specs.Arguments.{given_of}
 use Rattle.bpaf.specs.Run.{known_names}
 use Rattle.bpaf_record.proofs.Running.{answers_as_program, tells_of_words}
 use Rattle.bpaf_program.specs.KnownParser.{shown_shorts}
-use Rattle.bpaf_program.proofs.KnownParser.{asks_for_page, refused_so}
+use Rattle.bpaf_program.proofs.KnownParser.{also_dealt, also_said, asks_for_page, refused_so}
 use Rattle.bpaf_program.proofs.known_options.KnownOptionsCommandLine.run_program.Goals as goal
 
 pub returns-clause-each_exact : goal.returns-clause-each_exact
@@ -30,3 +30,9 @@ returns-clause-named g c =
     refused_so _ _ _ c.run_inner.ensures.named (λ plain. asks_for_page g.K.KnownProgram.grammar
     (given_of c.args.args) c.run_inner.ensures.outcome c.requires.can.1 (λ other. other ≡ info) refl
     plain refl)
+
+pub returns-clause-dealt : goal.returns-clause-dealt
+returns-clause-dealt g c =
+    let known = c.requires.can.1 in
+    also_said _ _ _ c.run_inner.ensures.dealt (also_dealt known.also _ c.run_inner.ensures.dealt
+    (ap (known_names c.args.self.now.options.info) known.shown) refl)
