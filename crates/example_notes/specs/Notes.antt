@@ -72,29 +72,30 @@ abbrev pub add_of : Vec String × Vec String → Task
 add_of x = task.Add x.0 x.1
 
 -- `add [-t TAG].. [TEXT]..`
-abbrev pub add_command : Grammar Task
-add_command = known_command (codes "add") (known_con add_of
+abbrev pub add_command : Grammar (Vec String × Vec String)
+add_command = known_command (codes "add") (known_con (λ values. values)
     (both (known_many (argument MeansText tag_key))
     (alone (known_many (word MeansText Unrestricted (codes "TEXT") None)))))
 
 -- `list [-n NUM]`
-abbrev pub list_command : Grammar Task
-list_command = known_command (codes "list") (known_con task.List
-    (alone (known_default 10 (argument (SpellsUnsigned 64) max_key))))
+abbrev pub list_command : Grammar ℕ
+list_command =
+    known_command (codes "list") (known_default 10 (argument (SpellsUnsigned 64) max_key))
 
--- this word and `NAME`, of which a tag is made
-abbrev pub tag_command : List ℕ → (String → Tag) → Grammar Tag
-tag_command called make = known_command called
-    (known_con make (alone (word MeansText Unrestricted (codes "NAME") None)))
+-- this word and `NAME`
+abbrev pub name_command : List ℕ → Grammar String
+name_command called =
+    known_command called (word MeansText Unrestricted (codes "NAME") None)
 
 -- `tag`, and one of two commands
 abbrev pub on_tag : Grammar Tag
-on_tag = known_command (codes "tag")
-    (choice (tag_command (codes "add") tag.Add) (tag_command (codes "remove") tag.Remove))
+on_tag = known_command (codes "tag") (choice (known_map tag.Add (name_command (codes "add")))
+    (known_map tag.Remove (name_command (codes "remove"))))
 
 -- one of three commands
 abbrev pub commands : Grammar Task
-commands = choice add_command (choice list_command (known_map task.Tag on_tag))
+commands = choice (known_map add_of add_command)
+    (choice (known_map task.List list_command) (known_map task.Tag on_tag))
 
 -- the switch, the directory or None, and a command
 abbrev pub fields : FieldsGrammar (Bool × (Option String × Task))

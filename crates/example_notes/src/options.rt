@@ -1,8 +1,12 @@
 //! The options of the program.
-ghost use Rattle.std.specs.Prelude.{map, string_bytes};
-ghost use Rattle.example_notes.specs.Notes.{AnswersNotes, notes_parser};
+ghost use Rattle.std.specs.Prelude.{◌≤◌, length, map, string_bytes};
+ghost use Rattle.bpaf_program.specs.KnownParser.{IsKnownParser};
+ghost use Rattle.example_notes.specs.Notes.{AnswersNotes, add_command, list_command, name_command};
+ghost use Rattle.example_notes.specs.Notes.{notes_parser};
 
-use bpaf::{Args, ParseFailure, Parser, construct, key, positional};
+use bpaf::params::{ParseArgument, ParsePositional};
+use bpaf::parsers::{ParseCommand, ParseFallback, ParseMany};
+use bpaf::{Args, ParseFailure, ParseTuple2, Parser, construct, key, positional};
 use bpaf_program::{KnownOptions, KnownProgram, plain_command};
 use bpaf_record::CommandLine;
 use std::alloc::Global;
@@ -50,22 +54,68 @@ impl KnownProgram<Notes> for NotesProgram {
     ghost whole = { λ variables. refl };
 }
 
+/// Tags, each behind its key, and words.
+type Texts = (Vec<String>, Vec<String>);
+
+type AddTexts = ParseTuple2<
+    Vec<String>,
+    Vec<String>,
+    ParseMany<ParseArgument<String>>,
+    ParseMany<ParsePositional<String>>,
+>;
+
+type AddCommand = ParseCommand<Texts, AddTexts>;
+
+type ListCommand = ParseCommand<u64, ParseFallback<ParseArgument<u64>, u64>>;
+
+type NameCommand = ParseCommand<String, ParsePositional<String>>;
+
+/// `add [-t TAG].. [TEXT]..`.
+fn add(alloc: Global) -> AddCommand
+    ensures { IsKnownParser add_command (⟦<AddCommand as Parser<Texts>>⟧.outcome result)
+        (⟦<AddCommand as Parser<Texts>>⟧.reads result)
+        (⟦<AddCommand as Parser<Texts>>⟧.describes result)
+        (⟦<AddCommand as Parser<Texts>>⟧.shorts result) }
+{
+    let tags = key(alloc, 't', "tag").argument::<String>("TAG").many();
+    let texts = positional::<String>("TEXT").many();
+    plain_command(alloc, "add", construct!(tags, texts))
+}
+
+/// `list [-n NUM]`.
+fn list(alloc: Global) -> ListCommand
+    ensures { IsKnownParser list_command (⟦<ListCommand as Parser<u64>>⟧.outcome result)
+        (⟦<ListCommand as Parser<u64>>⟧.reads result)
+        (⟦<ListCommand as Parser<u64>>⟧.describes result)
+        (⟦<ListCommand as Parser<u64>>⟧.shorts result) }
+{
+    let max = key(alloc, 'n', "max").argument::<u64>("NUM").fallback(10);
+    plain_command(alloc, "list", max)
+}
+
+/// This word and `NAME`.
+fn named(alloc: Global, word: &str) -> NameCommand
+    requires { length word.now ≤ 23 }
+    ensures { IsKnownParser (name_command word.now)
+        (⟦<NameCommand as Parser<String>>⟧.outcome result)
+        (⟦<NameCommand as Parser<String>>⟧.reads result)
+        (⟦<NameCommand as Parser<String>>⟧.describes result)
+        (⟦<NameCommand as Parser<String>>⟧.shorts result) }
+{
+    plain_command(alloc, word, positional::<String>("NAME"))
+}
+
 /// What the words ask for; refused where they ask for nothing, or for want of memory. The options
 /// are a program with commands, so each answer is exact.
 pub fn read_notes(alloc: Global, words: &[String]) -> Result<Notes, ParseFailure>
     ensures { AnswersNotes (map string_bytes words.now) result }
 {
-    let name = positional::<String>("NAME");
-    let add_tag = plain_command(alloc, "add", construct!(Tag::Add { name }));
-    let name = positional::<String>("NAME");
-    let remove_tag = plain_command(alloc, "remove", construct!(Tag::Remove { name }));
+    let add_tag = named(alloc, "add").map(|name| Tag::Add { name });
+    let remove_tag = named(alloc, "remove").map(|name| Tag::Remove { name });
     let tag = plain_command(alloc, "tag", construct!([add_tag, remove_tag])).map(Task::Tag);
-    let max = key(alloc, 'n', "max").argument::<u64>("NUM").fallback(10);
-    let list = plain_command(alloc, "list", construct!(Task::List { max }));
+    let list = list(alloc).map(|max| Task::List { max });
+    let add = add(alloc).map(|(tags, texts)| Task::Add { tags, texts });
     let others = construct!([list, tag]);
-    let tags = key(alloc, 't', "tag").argument::<String>("TAG").many();
-    let texts = positional::<String>("TEXT").many();
-    let add = plain_command(alloc, "add", construct!(Task::Add { tags, texts }));
     let task = construct!([add, others]);
     let verbose = key(alloc, 'v', "verbose").switch();
     let dir = key(alloc, 'd', "dir").argument::<String>("DIR").optional();

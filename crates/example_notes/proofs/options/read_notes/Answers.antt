@@ -7,46 +7,34 @@ use Rattle.example_notes.proofs.options.read_notes.Goals as goal
 
 pub run_program-requires-clause-can : goal.run_program-requires-clause-can
 run_program-requires-clause-can c =
-    let made = c.into_options.ensures.inner in
-    let commands = ap (λ x. x.fields.rest.rest.last) made
+    let commands = ap (λ x. x.fields.rest.rest.last) c.into_options.ensures.inner
     ∙ ap (λ x. x.rest.rest.last) c.construct-notes.ensures.fields in
     let others = ap (λ x. x.that) commands ∙ c.construct-task.ensures.that in
     let on_tag = ap (λ x. x.that.inner) others ∙ ap (λ x. x.inner) c.construct-others.ensures.that
     ∙ c.map-tag.ensures.inner in
-    let tags = ap (λ x. x.inner) on_tag ∙ c.plain_command.ensures.inner in (
+    let tags = ap (λ x. x.inner) on_tag ∙ c.plain_command.ensures.inner in
+    let add = ap (λ x. x.this.inner) commands ∙ ap (λ x. x.inner) c.construct-task.ensures.this
+    ∙ c.map-add.ensures.inner in
+    let list = ap (λ x. x.this.inner) others ∙ ap (λ x. x.inner) c.construct-others.ensures.this
+    ∙ c.map-list.ensures.inner in
+    let add_tag = ap (λ x. x.this.inner) tags ∙ ap (λ x. x.inner) c.construct.ensures.this
+    ∙ c.map-add_tag.ensures.inner in
+    let remove_tag = ap (λ x. x.that.inner) tags ∙ ap (λ x. x.inner) c.construct.ensures.that
+    ∙ c.map-remove_tag.ensures.inner in (
       search rules,
       of.con_known notes.notes_of notes.fields (of.both_known _ _
           (of.switch_known notes.verbose_names None (search rules) (search rules) (search rules))
           (of.both_known _ _ (of.optional_known
           (of.argument_known of.MeansText notes.dir_key (search rules)) (search rules))
-          (of.last_known _ (of.choice_known notes.add_command _
-          (of.command_known (codes "add") _ _ c.plain_command-add.ensures
-          (ap (λ x. x.this) commands ∙ c.construct-task.ensures.this)
-          (of.con_known notes.add_of _ (of.both_known _ _ (of.many_known
-          (of.argument_known of.MeansText notes.tag_key (search rules)) (search rules))
-          (of.last_known _ (of.many_known (of.word_known of.MeansText of.Unrestricted
-          (codes "TEXT") None (search rules) (search rules) (search rules)) (search rules))))
-          (λ x v e. search rules)))
-          (of.choice_known notes.list_command (of.known_map task.Tag notes.on_tag)
-          (of.command_known (codes "list") _ _ c.plain_command-list.ensures
-          (ap (λ x. x.this) others ∙ c.construct-others.ensures.this)
-          (of.con_known task.List _ (of.last_known _
-          (of.default_known (of.argument_known (of.SpellsUnsigned 64) notes.max_key (search rules))
-          (λ own v same. same) 10 (search rules) (search rules))) (λ x v e. search rules)))
+          (of.last_known _ (of.choice_known _ _
+          (of.map_known notes.add_of _ (rw (← add) at c.add.ensures) (λ x v e. search rules))
+          (of.choice_known _ _
+          (of.map_known task.List _ (rw (← list) at c.list.ensures) (λ x v e. search rules))
           (of.map_known task.Tag notes.on_tag (of.command_known (codes "tag") _ _
-          c.plain_command.ensures on_tag (of.choice_known
-          (notes.tag_command (codes "add") tag.Add) (notes.tag_command (codes "remove") tag.Remove)
-          (of.command_known (codes "add") _ _ c.plain_command-add_tag.ensures
-          (ap (λ x. x.this) tags ∙ c.construct-3.ensures.this)
-          (of.con_known tag.Add _ (of.last_known _ (of.word_known of.MeansText of.Unrestricted
-          (codes "NAME") None (search rules) (search rules) (search rules)))
-          (λ x v e. search rules)))
-          (of.command_known (codes "remove") _ _ c.plain_command-remove_tag.ensures
-          (ap (λ x. x.that) tags ∙ c.construct-3.ensures.that)
-          (of.con_known tag.Remove _ (of.last_known _ (of.word_known of.MeansText of.Unrestricted
-          (codes "NAME") None (search rules) (search rules) (search rules)))
-          (λ x v e. search rules)))))
-          (λ x v e. search rules))))))) (λ x v e. search rules),
+          c.plain_command.ensures on_tag (of.choice_known _ _
+          (of.map_known tag.Add _ (rw (← add_tag) at c.named.ensures) (λ x v e. search rules))
+          (of.map_known tag.Remove _ (rw (← remove_tag) at c.named-2.ensures)
+          (λ x v e. search rules)))) (λ x v e. search rules))))))) (λ x v e. search rules),
     )
 
 pub returns : goal.returns
